@@ -1,0 +1,2 @@
+// Kore's syntax as data.
+#![tactic(auto)]
