@@ -1,6 +1,5 @@
 -- What \left-assoc and \right-assoc mean: an application of many members is the nested one of two.
 -- Source: the K framework's Kore language, "associative applications".
-use Rattle.std.specs.Prelude.{ℕ}
 use Rattle.kp_kore.specs.Syntax.{Text, KoreSorts, KorePattern, KorePatterns, application, no_patterns, next_pattern}
 
 -- an application of two
