@@ -1,0 +1,2 @@
+// The meaning of Kore.
+#![tactic(auto)]
