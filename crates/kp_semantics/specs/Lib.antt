@@ -1,11 +1,10 @@
 pub mod Claims
 pub mod Foreign
+pub mod Forms
 pub mod Instance
 pub mod Interpretation
 pub mod Replies
 pub mod Rules
 pub mod Steps
 pub mod Theory
-pub mod Toys
-pub mod ToysTheory
 pub mod Value

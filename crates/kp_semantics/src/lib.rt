@@ -1,2 +1,6 @@
-// The meaning of Kore.
+// What Kore means: values, instances, truth, rules, steps, runs, claims, and when a reply is right.
+// The definitions stand in specs/, to be read in the order Value, Interpretation, Instance, Rules, Foreign,
+// Theory, Steps, Claims, Replies. The functions here have no bodies: each carries laws of those definitions.
 #![tactic(auto)]
+
+pub mod laws;

@@ -1,0 +1,3 @@
+pub mod InstanceLemmas
+pub mod SameLemmas
+pub mod TurnLemmas

@@ -1,0 +1,2 @@
+// The example definition as data.
+#![tactic(auto)]
