@@ -78,3 +78,6 @@ pub different_call : (u v : Value) → (truth (not (values_same u v)) ≡ truth 
 different_call u v =
   ( (λ h. (values_same-Decides u v).0 (not_false_is_true (values_same u v) (truth_inside (not (values_same u v)) false h)))
   , (λ e. ap (λ b. truth (not b)) ((values_same-Decides u v).1 e)) )
+
+pub same_sorts_decide : (s t : KoreSort) → Decides (sorts_equal s t) (s ≡ t)
+same_sorts_decide = sorts_equal-Decides

@@ -18,7 +18,7 @@ Valuation = Text → Value
 
 -- the valuation with u for x
 abbrev pub assigned : Valuation → Text → Value → Valuation
-assigned v x u = λ y. if bytes_eq y x then u else v y
+assigned v x u = λ y. if bytes_eq x y then u else v y
 
 -- each of these variables stands for a value of its sort
 abbrev pub GivesSorts : KoreSignature → Valuation → List SortedName → Type 0

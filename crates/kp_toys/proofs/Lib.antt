@@ -1,1 +1,3 @@
+pub mod Choosing
 pub mod Matching
+pub mod Sorts

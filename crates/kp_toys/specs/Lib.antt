@@ -1,2 +1,4 @@
+pub mod SmallTheories
 pub mod Toys
 pub mod ToysTheory
+pub mod ToysValues

@@ -1,2 +1,6 @@
-// The example definition as data.
+// The example definition examples/toys/toys.kore as data (specs/Toys), the rules that it means (specs/ToysTheory),
+// and what the definitions of kp_semantics say of it: each function here has no body and carries examples.
 #![tactic(auto)]
+
+pub mod reading;
+pub mod stepping;

@@ -1,0 +1,35 @@
+-- Theories of one or two rules over the example's signature, each for one question.
+use Rattle.std.specs.Prelude.{ℕ, List, [], ◌∷◌, codes}
+use Rattle.kp_kore.specs.Syntax.{Text, KorePattern, bottom}
+use Rattle.kp_semantics.specs.Rules.{rewrite, RewriteRule}
+use Rattle.kp_semantics.specs.Theory.{Theory}
+use Rattle.kp_toys.specs.Toys.{sort_int, sort_s, call, n}
+use Rattle.kp_toys.specs.ToysTheory.{toys_signature, vh_of, y, done}
+
+abbrev pub lone : KorePattern
+lone = call (codes "Lbllone") []
+
+abbrev pub goal_of_lone : KorePattern
+goal_of_lone = call (codes "Lblgoal") []
+
+-- a rule from lone, of some priority, without condition
+abbrev pub from_lone : ℕ → KorePattern → List KorePattern → RewriteRule
+from_lone priority right ensured = record {
+  id = codes "S.lone";
+  priority = priority;
+  body = rewrite (record { left = lone; condition = []; new_variables = []; right = right; ensured = ensured }) }
+
+-- two rules fire on lone, of priorities 50 and 20
+abbrev pub two_priorities : Theory
+two_priorities = record { signature = toys_signature; rules = from_lone 50 done [] ∷ from_lone 20 goal_of_lone [] ∷ [] }
+
+-- no choice meets the ensured condition
+abbrev pub blocked : Theory
+blocked = record { signature = toys_signature; rules = from_lone 50 goal_of_lone (bottom sort_s ∷ []) ∷ [] }
+
+-- vh(N) goes to vh(Y), Y being new
+abbrev pub choosing : Theory
+choosing = record { signature = toys_signature; rules = record {
+  id = codes "S.choose";
+  priority = 50;
+  body = rewrite (record { left = vh_of n; condition = []; new_variables = record { name = codes "Y"; sort = sort_int } ∷ []; right = vh_of y; ensured = [] }) } ∷ [] }
