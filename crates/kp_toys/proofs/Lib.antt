@@ -1,3 +1,5 @@
 pub mod Choosing
+pub mod Claimed
 pub mod Matching
+pub mod Means
 pub mod Sorts

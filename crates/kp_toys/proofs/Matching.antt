@@ -26,7 +26,7 @@ false_true e = cc
 pub differ : (u v : Value) → values_same u v ≡ false → u ≡ v → ⊥
 differ u v h e = false_true (sym h ∙ (same_values_decide u v).1 e)
 
-texts_differ : (x y : Text) → bytes_eq x y ≡ false → x ≡ y → ⊥
+pub texts_differ : (x y : Text) → bytes_eq x y ≡ false → x ≡ y → ⊥
 texts_differ x y h e = false_true (sym h ∙ (bytes_eq-Decides x y).1 e)
 
 -- ---- rules that don't fire

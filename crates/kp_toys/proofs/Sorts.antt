@@ -21,7 +21,7 @@ sorts_differ : (s t : KoreSort) → sorts_equal s t ≡ false → s ≡ t → �
 sorts_differ s t h e = false_true (sym h ∙ (same_sorts_decide s t).1 e)
 
 -- the one pair of the example: SortInt below SortE
-the_pair : (a b : KoreSort) → Contains toys_signature.subsorts (a, b) → (a ≡ sort_int) × (b ≡ sort_e)
+pub the_pair : (a b : KoreSort) → Contains toys_signature.subsorts (a, b) → (a ≡ sort_int) × (b ≡ sort_e)
 the_pair a b c = of_member (λ (p : KoreSort × KoreSort). (p.0 ≡ sort_int) × (p.1 ≡ sort_e)) toys_signature.subsorts (a, b) ((refl, refl), tt) c
 
 -- nothing is below a sort other than SortE but itself
@@ -98,3 +98,19 @@ pub int_is_expression : (k : ℤ) → HasSort toys_signature sort_e (whole k)
 int_is_expression k = (sort_int, refl, through sort_int sort_e sort_e (0, omega arith, refl) (itself sort_e))
 
 -- nothing has a sort that isn't declared
+
+pub undeclared_has_none : (u : Value) → ¬ HasSort toys_signature (plain_sort (codes "SortNope")) u
+undeclared_has_none (whole k) h = sorts_differ sort_int (plain_sort (codes "SortNope")) refl (int_inside h.0 h.1 ∙ below_itself h.0 (plain_sort (codes "SortNope")) refl h.2)
+  where
+    int_inside : (t : KoreSort) → integer_sort toys_signature ≡ Some t → sort_int ≡ t
+    int_inside t e = cc
+undeclared_has_none (truth b) h = sorts_differ sort_bool (plain_sort (codes "SortNope")) refl (bool_inside h.0 h.1 ∙ below_itself h.0 (plain_sort (codes "SortNope")) refl h.2)
+  where
+    bool_inside : (t : KoreSort) → boolean_sort toys_signature ≡ Some t → sort_bool ≡ t
+    bool_inside t e = cc
+undeclared_has_none (token t x) h = false_true (subst (λ s. is_token_sort toys_signature s ≡ true) (below_itself h.0 (plain_sort (codes "SortNope")) refl h.2) h.1.1)
+undeclared_has_none (constructed c us) h =
+  not_both (is_construction (symbol_meaning toys_signature h.0.1.0)) (sorts_equal h.0.1.0.result (plain_sort (codes "SortNope")))
+    (found_passes (makes_no (plain_sort (codes "SortNope"))) (λ e. bytes_eq e.name c) toys_signature.symbols h.0.1.0 refl h.0.1.1)
+    (ap is_construction h.0.1.2)
+    ((same_sorts_decide h.0.1.0.result (plain_sort (codes "SortNope"))).1 (h.0.1.3 ∙ below_itself h.0.0 (plain_sort (codes "SortNope")) refl h.0.2))

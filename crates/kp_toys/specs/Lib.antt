@@ -1,4 +1,5 @@
 pub mod SmallTheories
 pub mod Toys
+pub mod ToysClaims
 pub mod ToysTheory
 pub mod ToysValues

@@ -60,9 +60,9 @@ hooked_function name result hook = symbol_sentence (record { hooked = true; name
 abbrev pub constructor : Text → List KoreSort → KoreSort → KoreSentence
 constructor name arguments result = symbol_sentence (record { hooked = false; name = name; parameters = []; arguments = sorts arguments; result = result; attributes = patterns (mark (codes "constructor") ∷ []) })
 
--- axiom{} \rewrites{SortS{}}(left, right) [label{}("label")]
-abbrev pub rewrite_axiom : KorePattern → KorePattern → Text → KoreSentence
-rewrite_axiom left right label = axiom_sentence (record { parameters = []; pattern = rewriting sort_s left right; attributes = patterns (marked (codes "label") label ∷ []) })
+-- axiom{} pattern [label{}("label")]
+abbrev pub rewrite_axiom : KorePattern → Text → KoreSentence
+rewrite_axiom pattern label = axiom_sentence (record { parameters = []; pattern = pattern; attributes = patterns (marked (codes "label") label ∷ []) })
 
 -- ---- the modules
 
@@ -102,6 +102,40 @@ subsort_axiom = axiom_sentence (record {
   pattern = exists (sort_variable (codes "R")) (codes "Val") sort_e (equals sort_e (sort_variable (codes "R")) (variable (codes "Val") sort_e) (injected (variable (codes "From") sort_int)));
   attributes = patterns (application (codes "subsort") (sorts (sort_int ∷ sort_e ∷ [])) no_patterns ∷ []) })
 
+-- ---- the rewrite axioms
+
+abbrev pub dec_axiom : KorePattern
+dec_axiom = rewriting sort_s (where_true (call (codes "Lblcount") (n ∷ [])) (call (codes "Lblgt") (n ∷ integer (codes "0") ∷ []))) (call (codes "Lblcount") (call (codes "Lblsub") (n ∷ integer (codes "1") ∷ []) ∷ []))
+
+abbrev pub stop_axiom : KorePattern
+stop_axiom = rewriting sort_s (where_true (call (codes "Lblcount") (n ∷ [])) (call (codes "Lbleq") (n ∷ integer (codes "0") ∷ []))) (call (codes "Lbldone") [])
+
+abbrev pub pick_axiom : KorePattern
+pick_axiom = rewriting sort_s (call (codes "Lblpick") (call (codes "Lblpa") [] ∷ [])) (call (codes "Lbldone") [])
+
+abbrev pub num_axiom : KorePattern
+num_axiom = rewriting sort_s (call (codes "Lblnum") (injected n ∷ [])) (call (codes "Lbldone") [])
+
+abbrev pub sq_axiom : KorePattern
+sq_axiom = rewriting sort_s (where_true (call (codes "Lblsq") (n ∷ [])) (call (codes "Lbllt") (call (codes "Lblmul") (n ∷ n ∷ []) ∷ integer (codes "0") ∷ []))) (call (codes "Lbldone") [])
+
+abbrev pub up_axiom : KorePattern
+up_axiom = rewriting sort_s (call (codes "Lblup") (n ∷ [])) (call (codes "Lblup") (call (codes "Lbladd") (n ∷ integer (codes "1") ∷ []) ∷ []))
+
+abbrev pub odd_axiom : KorePattern
+odd_axiom = rewriting sort_s (call (codes "Lblodd") (n ∷ [])) (call (codes "Lblodd") (call (codes "Lblother") (n ∷ []) ∷ []))
+
+abbrev pub spin_axiom : KorePattern
+spin_axiom = rewriting sort_s (call (codes "Lblloop") []) (call (codes "Lblloop") [])
+
+abbrev pub van_axiom : KorePattern
+van_axiom = rewriting sort_s (call (codes "Lblvf") (n ∷ [])) (call (codes "Lblvg") [])
+
+abbrev pub back_axiom : KorePattern
+back_axiom = rewriting sort_s (call (codes "Lblvg") []) (call (codes "Lblvh") (variable (codes "Y") sort_int ∷ []))
+
+-- ---- the main module
+
 abbrev pub toys_sentences : List KoreSentence
 toys_sentences =
   import_sentence (codes "BASIC") no_patterns ∷
@@ -127,16 +161,16 @@ toys_sentences =
   constructor (codes "Lblvh") (sort_int ∷ []) sort_s ∷
   symbol_sentence (record { hooked = false; name = codes "Lblother"; parameters = []; arguments = sorts (sort_int ∷ []); result = sort_int; attributes = patterns (mark (codes "function") ∷ []) }) ∷
   subsort_axiom ∷
-  rewrite_axiom (where_true (call (codes "Lblcount") (n ∷ [])) (call (codes "Lblgt") (n ∷ integer (codes "0") ∷ []))) (call (codes "Lblcount") (call (codes "Lblsub") (n ∷ integer (codes "1") ∷ []) ∷ [])) (codes "TOYS.dec") ∷
-  rewrite_axiom (where_true (call (codes "Lblcount") (n ∷ [])) (call (codes "Lbleq") (n ∷ integer (codes "0") ∷ []))) (call (codes "Lbldone") []) (codes "TOYS.stop") ∷
-  rewrite_axiom (call (codes "Lblpick") (call (codes "Lblpa") [] ∷ [])) (call (codes "Lbldone") []) (codes "TOYS.pick") ∷
-  rewrite_axiom (call (codes "Lblnum") (injected n ∷ [])) (call (codes "Lbldone") []) (codes "TOYS.num") ∷
-  rewrite_axiom (where_true (call (codes "Lblsq") (n ∷ [])) (call (codes "Lbllt") (call (codes "Lblmul") (n ∷ n ∷ []) ∷ integer (codes "0") ∷ []))) (call (codes "Lbldone") []) (codes "TOYS.sq") ∷
-  rewrite_axiom (call (codes "Lblup") (n ∷ [])) (call (codes "Lblup") (call (codes "Lbladd") (n ∷ integer (codes "1") ∷ []) ∷ [])) (codes "TOYS.up") ∷
-  rewrite_axiom (call (codes "Lblodd") (n ∷ [])) (call (codes "Lblodd") (call (codes "Lblother") (n ∷ []) ∷ [])) (codes "TOYS.odd") ∷
-  rewrite_axiom (call (codes "Lblloop") []) (call (codes "Lblloop") []) (codes "TOYS.spin") ∷
-  rewrite_axiom (call (codes "Lblvf") (n ∷ [])) (call (codes "Lblvg") []) (codes "TOYS.van") ∷
-  rewrite_axiom (call (codes "Lblvg") []) (call (codes "Lblvh") (variable (codes "Y") sort_int ∷ [])) (codes "TOYS.back") ∷ []
+  rewrite_axiom dec_axiom (codes "TOYS.dec") ∷
+  rewrite_axiom stop_axiom (codes "TOYS.stop") ∷
+  rewrite_axiom pick_axiom (codes "TOYS.pick") ∷
+  rewrite_axiom num_axiom (codes "TOYS.num") ∷
+  rewrite_axiom sq_axiom (codes "TOYS.sq") ∷
+  rewrite_axiom up_axiom (codes "TOYS.up") ∷
+  rewrite_axiom odd_axiom (codes "TOYS.odd") ∷
+  rewrite_axiom spin_axiom (codes "TOYS.spin") ∷
+  rewrite_axiom van_axiom (codes "TOYS.van") ∷
+  rewrite_axiom back_axiom (codes "TOYS.back") ∷ []
 
 abbrev pub toys_definition : KoreDefinition
 toys_definition = record {
