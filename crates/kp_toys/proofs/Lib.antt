@@ -2,4 +2,5 @@ pub mod Choosing
 pub mod Claimed
 pub mod Matching
 pub mod Means
+pub mod Replied
 pub mod Sorts

@@ -142,6 +142,28 @@ count_two next =
       | inr a ↦ absurd (falsehood (stop_condition (pos 2) (a.rewrites.0, a.rewrites.1))) ])
   , (λ e. dec_steps (pos 2) next refl e) )
 
+-- count(1) steps to count(0) alone
+pub count_one : (next : Value) → Steps toys (count (pos 1)) next ↔ (next ≡ count (pos 0))
+unfolding minus_one
+count_one next =
+  ( (λ s. elim (count_steps (pos 1) next s) [
+        inl a ↦ dec_leads (pos 1) next a
+      | inr a ↦ absurd (falsehood (stop_condition (pos 1) (a.rewrites.0, a.rewrites.1))) ])
+  , (λ e. dec_steps (pos 1) next refl e) )
+
+-- count(k) isn't final where a rule fires
+dec_fires : (k : ℤ) → interpreted (whole_comparison greater) (next_value (whole k) (next_value (whole (pos 0)) no_values)) ≡ truth true → Fires toys_signature dec_rule.body (count k)
+dec_fires k positive = ((λ x. whole k), record { sorts = (int_has_sort k, tt); matches = refl; condition = (positive, tt) })
+
+stop_fires : Fires toys_signature stop_rule.body (count (pos 0))
+stop_fires = ((λ x. whole (pos 0)), record { sorts = (int_has_sort (pos 0), tt); matches = refl; condition = (refl, tt) })
+
+pub positive_not_final : (k : ℤ) → interpreted (whole_comparison greater) (next_value (whole k) (next_value (whole (pos 0)) no_values)) ≡ truth true → ¬ IsFinal toys (count k)
+positive_not_final k positive f = elim f [ inl u ↦ count_known k u | inr n ↦ n.0 (dec_fires k positive) ]
+
+pub zero_not_final : ¬ IsFinal toys (count (pos 0))
+zero_not_final f = elim f [ inl u ↦ count_known (pos 0) u | inr n ↦ n.1.0 stop_fires ]
+
 -- count(0) steps to done alone
 pub count_zero : (next : Value) → Steps toys (count (pos 0)) next ↔ (next ≡ done_value)
 count_zero next =

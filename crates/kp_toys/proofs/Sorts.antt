@@ -78,6 +78,9 @@ int_values (constructed c us) h =
     (ap is_construction h.0.1.2)
     ((same_sorts_decide d.result sort_int).1 (h.0.1.3 ∙ below_itself own sort_int refl h.0.2)))
 
+pub int_values_exactly : (u : Value) → HasSort toys_signature sort_int u ↔ ((k : ℤ) × (u ≡ whole k))
+int_values_exactly u = (int_values u, (λ p. subst (HasSort toys_signature sort_int) (sym p.1) (sort_int, refl, itself sort_int)))
+
 -- ---- what a value hasn't
 
 -- a whole number is no SortS, and done no SortInt

@@ -3,4 +3,5 @@
 #![tactic(auto)]
 
 pub mod reading;
+pub mod running;
 pub mod stepping;
