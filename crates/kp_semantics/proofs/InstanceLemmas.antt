@@ -1,10 +1,10 @@
 -- Instances of terms and of conjunctions.
-use Rattle.std.proofs.Common.{◌≡◌, refl, sym, ◌∙◌, ap, ap₂, subst, Bool, true, false, ◌&&◌, List, [], ◌∷◌, ◌++◌, ◌↔◌, IsTrue}
+use Rattle.std.proofs.Common.{◌≡◌, refl, sym, ◌∙◌, ap, ap₂, subst, Bool, true, false, ◌&&◌, List, [], ◌∷◌, ◌++◌, ◌↔◌}
 use Rattle.std.specs.List.{AllByRecursion}
-use Rattle.kp_kore.specs.Syntax.{Text, KoreSort, KoreSorts, KorePattern, KorePatterns, variable, application, literal, no_patterns, next_pattern, next_sort, no_sorts, exists}
+use Rattle.kp_kore.specs.Syntax.{Text, KoreSort, KoreSorts, KorePattern, KorePatterns, variable, application, literal, no_patterns, next_pattern}
 use Rattle.kp_kore.specs.Parts.{SortedName, is_term, are_terms, free_variables, all_free_variables}
 use Rattle.kp_kore.specs.Signature.{KoreSignature, injection, meaning_of}
-use Rattle.kp_semantics.specs.Value.{Value, Values, next_value}
+use Rattle.kp_semantics.specs.Value.{Value, next_value}
 use Rattle.kp_semantics.specs.Forms.{injected}
 use Rattle.kp_semantics.specs.Instance.{Valuation, AgreesOn, instance, instances, applied, IsInstance, IsConjunctionInstance, IsInstanceOfOne, conjoined_terms, conjoined_predicates, IsTrueUnder}
 
@@ -22,11 +22,13 @@ second_true false b h = cc
 
 -- where a conjunction has this term and no predicates
 one_of_lists : (g : KoreSignature) (v : Valuation) (p t : KorePattern) (u : Value) → conjoined_terms p ≡ t ∷ [] → conjoined_predicates p ≡ [] → IsConjunctionInstance g v p u ↔ (u ≡ instance g v t)
-one_of_lists g v p t u e f =
-  ( (λ i. subst (λ ts. IsInstanceOfOne g v ts u) e i.term)
-  , (λ h. record {
-      term = subst (λ ts. IsInstanceOfOne g v ts u) (sym e) h;
-      predicates = subst (AllByRecursion (IsTrueUnder g v)) (sym f) tt }) )
+one_of_lists g v p t u e f = (
+  (λ i. subst (λ ts. IsInstanceOfOne g v ts u) e i.term),
+  (λ h. record {
+    term = subst (λ ts. IsInstanceOfOne g v ts u) (sym e) h;
+    predicates = subst (AllByRecursion (IsTrueUnder g v)) (sym f) tt;
+  }),
+)
 
 pub one_instance : (g : KoreSignature) (v : Valuation) (t : KorePattern) (u : Value) → is_term t ≡ true → IsInstance g v t u ↔ (u ≡ instance g v t)
 one_instance g v (variable x s) u h = (λ i. i.term, λ e. record { term = e; predicates = tt })
@@ -64,7 +66,7 @@ mutual
   pub same_instances : (g : KoreSignature) (v w : Valuation) (ps : KorePatterns) → are_terms ps ≡ true → AgreesOn (all_free_variables ps) v w → instances g w ps ≡ instances g v ps
   same_instances g v w no_patterns h a = refl
   same_instances g v w (next_pattern p ps) h a =
-    ap₂ next_value
+      ap₂ next_value
       (same_instance g v w p (first_true (is_term p) (are_terms ps) h) (agrees_first (free_variables p) (all_free_variables ps) v w a))
       (same_instances g v w ps (second_true (is_term p) (are_terms ps) h) (agrees_second (free_variables p) (all_free_variables ps) v w a))
 

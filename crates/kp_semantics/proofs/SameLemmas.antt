@@ -1,8 +1,7 @@
 -- The tests whether two sorts or two values are the same decide it.
-use Rattle.std.proofs.Common.{◌≡◌, refl, Bool, true, false, not, ◌&&◌, ◌↔◌, List, ℕ, ap}
-use Rattle.std.specs.Bool.{Decides, beq}
+use Rattle.std.proofs.Common.{◌≡◌, refl, Bool, true, false, not, ◌&&◌, ◌↔◌, ap}
+use Rattle.std.specs.Bool.{Decides}
 use Rattle.std.specs.Cmp.{booleans_Decides}
-use Rattle.std.specs.Ordering.{int_eq}
 use Rattle.std.specs.Str.{bytes_eq}
 use Rattle.std.proofs.lemmas.Slice.Eq.{bytes_eq-Decides}
 use Rattle.std.proofs.lemmas.Bool.Decides.{Decides-int_eq}
@@ -70,14 +69,16 @@ not_false_is_true true e = refl
 not_false_is_true false e = absurd (cc)
 
 pub equal_call : (u v : Value) → (truth (values_same u v) ≡ truth true) ↔ (u ≡ v)
-equal_call u v =
-  ( (λ h. (values_same-Decides u v).0 (truth_inside (values_same u v) true h))
-  , (λ e. ap truth ((values_same-Decides u v).1 e)) )
+equal_call u v = (
+  (λ h. (values_same-Decides u v).0 (truth_inside (values_same u v) true h)),
+  (λ e. ap truth ((values_same-Decides u v).1 e)),
+)
 
 pub different_call : (u v : Value) → (truth (not (values_same u v)) ≡ truth false) ↔ (u ≡ v)
-different_call u v =
-  ( (λ h. (values_same-Decides u v).0 (not_false_is_true (values_same u v) (truth_inside (not (values_same u v)) false h)))
-  , (λ e. ap (λ b. truth (not b)) ((values_same-Decides u v).1 e)) )
+different_call u v = (
+  (λ h. (values_same-Decides u v).0 (not_false_is_true (values_same u v) (truth_inside (not (values_same u v)) false h))),
+  (λ e. ap (λ b. truth (not b)) ((values_same-Decides u v).1 e)),
+)
 
 pub same_sorts_decide : (s t : KoreSort) → Decides (sorts_equal s t) (s ≡ t)
 same_sorts_decide = sorts_equal-Decides

@@ -24,12 +24,12 @@ pub record IsReached (g : KoreSignature) (claim : ReachabilityClaim) (v : Valuat
 -- each complete run of at most n steps from the left side's instance has a member that is reached
 abbrev pub HoldsUpTo : Theory → ℕ → ReachabilityClaim → Type 0
 HoldsUpTo t n claim =
-  (v : Valuation) (c : Value) (more : List Value) →
-  GivesSorts t.signature v (free_variables claim.left) →
-  IsInstance t.signature v claim.left c →
-  IsCompleteRun t c more →
-  length more ≤ n →
-  AnyByRecursion (IsReached t.signature claim v) (c ∷ more)
+    (v : Valuation) (c : Value) (more : List Value) →
+    GivesSorts t.signature v (free_variables claim.left) →
+    IsInstance t.signature v claim.left c →
+    IsCompleteRun t c more →
+    length more ≤ n →
+    AnyByRecursion (IsReached t.signature claim v) (c ∷ more)
 
 abbrev pub Holds : Theory → ReachabilityClaim → Type 0
 Holds t claim = (n : ℕ) → HoldsUpTo t n claim

@@ -138,9 +138,9 @@ abbrev mutual
   MayBe g v (suc n) (variable x s) u = MatchBool (has_literals g s) ((u ≡ v x) × IsAnyOf g s u) (IsAnyOf g s u)
   MayBe g v (suc n) (literal s text) u = MatchBool (is_wide_literal g (literal s text)) (IsAnyOf g s u) (u ≡ literal_value g s text)
   MayBe g v (suc n) (application f ss ps) u = by_meaning (meaning_of g f)
-    (IsConstructedBy f (MayBeAll g v n ps) u)
-    ((InjectionsSplit g (application f ss ps) × MayBeOnly g v n ps u) ⊎ ((¬ InjectionsSplit g (application f ss ps)) × IsAnyOfMaybe g (result_sort g f ss) u))
-    (IsAnyOfMaybe g (result_sort g f ss) u)
+      (IsConstructedBy f (MayBeAll g v n ps) u)
+      ((InjectionsSplit g (application f ss ps) × MayBeOnly g v n ps u) ⊎ ((¬ InjectionsSplit g (application f ss ps)) × IsAnyOfMaybe g (result_sort g f ss) u))
+      (IsAnyOfMaybe g (result_sort g f ss) u)
   MayBe g v (suc n) p u = IsAnyOfMaybe g (sort_of_term g p) u
 
   pub MayBeAll : KoreSignature → Valuation → ℕ → KorePatterns → Values → Type 0

@@ -40,9 +40,9 @@ AgreesOn xs v w = AllByRecursion (λ x. w x.name ≡ v x.name) xs
 -- the value that a literal of a sort writes
 abbrev pub literal_value : KoreSignature → KoreSort → Text → Value
 literal_value g s text =
-  if is_integer_sort g s then whole (signed_digits_value 10 text)
-  else if is_boolean_sort g s then truth (bytes_eq text (codes "true"))
-  else token s text
+    if is_integer_sort g s then whole (signed_digits_value 10 text)
+    else if is_boolean_sort g s then truth (bytes_eq text (codes "true"))
+    else token s text
 
 -- inj is the identity on values
 abbrev pub only_value : Values → Value

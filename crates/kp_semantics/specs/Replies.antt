@@ -42,9 +42,9 @@ NoneListed t ids c = AllByRecursion (λ r. is_listed ids r ≡ true → ¬ HasTu
 -- listed rule has its turn
 pub record After (t : Theory) (listed : List Text) (s s' : KorePattern) (d : ℕ) : Type 0 where
   pub found : (v : Valuation) (later : Value) → GivesSorts t.signature v (free_variables s) → IsAfter t s v d later →
-    (w : Valuation) × AgreesOff (variables_beyond s s') v w × GivesSorts t.signature w (free_variables s') × IsInstance t.signature w s' later
+      (w : Valuation) × AgreesOff (variables_beyond s s') v w × GivesSorts t.signature w (free_variables s') × IsInstance t.signature w s' later
   pub only : (v w : Valuation) (later : Value) → GivesSorts t.signature v (free_variables s) → AgreesOff (variables_beyond s s') v w → GivesSorts t.signature w (free_variables s') → IsInstance t.signature w s' later →
-    IsAfter t s v d later
+      IsAfter t s v d later
   pub not_final : (v : Valuation) (n : ℕ) (c : Value) → GivesSorts t.signature v (free_variables s) → n < d → IsAfter t s v n c → ¬ IsFinal t c
   pub none_listed : (v : Valuation) (n : ℕ) (c : Value) → GivesSorts t.signature v (free_variables s) → n < d → IsAfter t s v n c → NoneListed t listed c
   pub names : AllByRecursion (λ x. IsFreshName x.name) (variables_beyond s s')
@@ -68,10 +68,10 @@ HasInstance g p = (v : Valuation) × (c : Value) × GivesSorts g v (free_variabl
 -- depth-bound: at the bound; a state without predicates has an instance.
 abbrev pub IsRightReason : Theory → ℕ → ℕ → KorePattern → Reason → Type 0
 IsRightReason t bound d s' stuck =
-  (d < bound) × HasInstance t.signature s' ×
-  ((v : Valuation) (c : Value) → GivesSorts t.signature v (free_variables s') → IsInstance t.signature v s' c → NoneFires t c × ¬ IsUnknown t c)
+    (d < bound) × HasInstance t.signature s' ×
+    ((v : Valuation) (c : Value) → GivesSorts t.signature v (free_variables s') → IsInstance t.signature v s' c → NoneFires t c × ¬ IsUnknown t c)
 IsRightReason t bound d s' depth_bound =
-  (d ≡ bound) × (conjoined_predicates s' ≡ [] → HasInstance t.signature s')
+    (d ≡ bound) × (conjoined_predicates s' ≡ [] → HasInstance t.signature s')
 
 -- an interpreted call with literals alone for arguments
 abbrev pub are_literals : KorePatterns → Bool

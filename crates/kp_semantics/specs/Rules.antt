@@ -66,7 +66,8 @@ joined l r (Some left) (Some right) = Some (record {
   condition = conjoined_predicates l;
   new_variables = new_variables_of left r;
   right = right;
-  ensured = conjoined_predicates (under_binders r) })
+  ensured = conjoined_predicates (under_binders r);
+})
 joined l r _ _ = None
 
 -- each side is a constrained term, the right one maybe under \exists of different names

@@ -56,9 +56,9 @@ pub record NumberedAxiom : Type 0 where
 abbrev pub rewrite_axioms_from : Text → ℕ → List KoreSentence → List NumberedAxiom
 rewrite_axioms_from key n [] = []
 rewrite_axioms_from key n (axiom_sentence a ∷ rest) =
-  if is_rewriting a.pattern
-  then record { key = key; number = n; axiom_of = a } ∷ rewrite_axioms_from key (n + 1) rest
-  else rewrite_axioms_from key (n + 1) rest
+    if is_rewriting a.pattern
+    then record { key = key; number = n; axiom_of = a } ∷ rewrite_axioms_from key (n + 1) rest
+    else rewrite_axioms_from key (n + 1) rest
 rewrite_axioms_from key n (_ ∷ rest) = rewrite_axioms_from key n rest
 
 abbrev pub rewrite_axioms : List KoreModule → List NumberedAxiom
@@ -79,6 +79,7 @@ rule_id labels a = labelled_or_numbered (label_of a.axiom_of)
   where
     numbered : Text
     numbered = a.key ++ codes "#" ++ decimal a.number
+
     labelled_or_numbered : Option Text → Text
     labelled_or_numbered (Some label) = if count_by (bytes_eq label) labels == 1 then label else numbered
     labelled_or_numbered None = numbered

@@ -18,32 +18,28 @@ ghost use Rattle.kp_semantics.specs.Steps.{Fires, HasTurn};
 pub fn each_term_has_one_instance()
     ensures { (g : KoreSignature) (v : Valuation) (t : KorePattern) (u : Value) →
         is_term t ≡ true → IsInstance g v t u ↔ (u ≡ instance g v t) }
-{
-}
+{}
 
 /// A conjunction of one term and predicates has at most one.
 #[tactic(auto, using(crate::proofs::InstanceLemmas::at_most_one_instance))]
 pub fn each_conjunction_has_at_most_one_instance()
     ensures { (g : KoreSignature) (v : Valuation) (p : KorePattern) (u w : Value) →
         IsConjunctionInstance g v p u → IsConjunctionInstance g v p w → u ≡ w }
-{
-}
+{}
 
 /// Valuations that agree on a term's variables give it the same instance.
 #[tactic(auto, using(crate::proofs::InstanceLemmas::same_instance))]
 pub fn instances_depend_on_the_variables_alone()
     ensures { (g : KoreSignature) (v w : Valuation) (t : KorePattern) →
         is_term t ≡ true → AgreesOn (free_variables t) v w → instance g w t ≡ instance g v t }
-{
-}
+{}
 
 /// The instance of a term without variables doesn't depend on the valuation.
 #[tactic(auto, using(crate::proofs::InstanceLemmas::closed_instance))]
 pub fn closed_terms_have_one_instance_everywhere()
     ensures { (g : KoreSignature) (v w : Valuation) (t : KorePattern) →
         is_term t ≡ true → free_variables t ≡ [] → instance g w t ≡ instance g v t }
-{
-}
+{}
 
 /// inj is the identity on values, so inj through two sorts is inj through one.
 #[tactic(auto, using(crate::proofs::InstanceLemmas::instance_under_inj, crate::proofs::InstanceLemmas::instance_under_two_inj))]
@@ -54,8 +50,7 @@ pub fn inj_is_the_identity_on_values()
     ensures two_are_one { (g : KoreSignature) (v : Valuation) (f : Text) (a b c : KoreSort) (t : KorePattern) →
         meaning_of g f ≡ injection →
         instance g v (injected f b c (injected f a b t)) ≡ instance g v (injected f a c t) }
-{
-}
+{}
 
 /// The conjunction of none is true, that of one is its member; the disjunction of none is false, that of one is
 /// its member.
@@ -68,8 +63,7 @@ pub fn connectives_of_none_and_of_one()
         IsTrueUnder g v (disjunction s no_patterns) ↔ IsTrueUnder g v (bottom s) }
     ensures one_disjoined { (g : KoreSignature) (v : Valuation) (s : KoreSort) (p : KorePattern) →
         IsTrueUnder g v (disjunction s (next_pattern p no_patterns)) ↔ IsTrueUnder g v p }
-{
-}
+{}
 
 /// Over a sort without values, what exists is false and what holds for all is true.
 pub fn quantifiers_over_a_sort_without_values()
@@ -77,23 +71,20 @@ pub fn quantifiers_over_a_sort_without_values()
         ((u : Value) → ¬ HasSort g t u) → ¬ IsTrueUnder g v (exists s x t p) }
     ensures holds_for_all { (g : KoreSignature) (v : Valuation) (s t : KoreSort) (x : Text) (p : KorePattern) →
         ((u : Value) → ¬ HasSort g t u) → IsTrueUnder g v (forall s x t p) }
-{
-}
+{}
 
 /// The test whether two values are the same decides it.
 #[tactic(auto, using(crate::proofs::SameLemmas::same_values_decide))]
 pub fn the_test_of_values_decides()
     ensures { (u v : Value) → (values_same u v ≡ true) ↔ (u ≡ v) }
-{
-}
+{}
 
 /// Of the rules of a theory that fire, only those of the smallest priority number have their turn.
 #[tactic(auto, using(crate::proofs::TurnLemmas::no_later_turn))]
 pub fn a_smaller_priority_number_goes_first()
     ensures { (t : Theory) (r q : RewriteRule) (c : Value) →
         Contains t.rules r → Fires t.signature r.body c → r.priority < q.priority → ¬ HasTurn t q c }
-{
-}
+{}
 
 /// owise goes behind the usual 50 and before 201.
 pub fn owise_goes_late()
@@ -101,8 +92,7 @@ pub fn owise_goes_late()
     ensures owise { priority_of (next_pattern (marked (codes "owise")) no_patterns) ≡ Some 200 }
     ensures stated { priority_of (next_pattern (marked_by (codes "priority") (codes "201")) no_patterns) ≡ Some 201 }
     ensures behind_and_before { (50 < 200) × (200 < 201) }
-{
-}
+{}
 
 /// Whole numbers are of any size: nothing wraps at 128 bits.
 pub fn numbers_have_no_end()
@@ -116,8 +106,7 @@ pub fn numbers_have_no_end()
     ensures at_least { interpreted (whole_comparison at_least) (wholes (negsuc 0) (pos 0)) ≡ truth false }
     ensures equal { interpreted (whole_comparison equal) (wholes (pos 2) (pos 2)) ≡ truth true }
     ensures different { interpreted (whole_comparison different) (wholes (pos 2) (pos 2)) ≡ truth false }
-{
-}
+{}
 
 /// The functions on truth values, at each row that tells one from another.
 pub fn truth_values_connect()
@@ -134,16 +123,14 @@ pub fn truth_values_connect()
         × (interpreted (truth_connective other) (truths false true) ≡ truth true) }
     ensures negation { (interpreted truth_negation (next_value (truth true) no_values) ≡ truth false)
         × (interpreted truth_negation (next_value (truth false) no_values) ≡ truth true) }
-{
-}
+{}
 
 /// KEQUAL compares any two values.
 #[tactic(auto, using(crate::proofs::SameLemmas::equal_call, crate::proofs::SameLemmas::different_call))]
 pub fn values_compare()
     ensures equal { (u v : Value) → (interpreted values_equal (two u v) ≡ truth true) ↔ (u ≡ v) }
     ensures different { (u v : Value) → (interpreted values_different (two u v) ≡ truth false) ↔ (u ≡ v) }
-{
-}
+{}
 
 /// The names of hooks that have a meaning: nineteen, and no other.
 pub fn hooks_have_names()
@@ -158,5 +145,4 @@ pub fn hooks_have_names()
         × (hook_named (codes "INT.gt") ≡ Some (whole_comparison greater))
         × (hook_named (codes "INT.ge") ≡ Some (whole_comparison at_least)) }
     ensures division { hook_named (codes "INT.tdiv") ≡ None }
-{
-}
+{}

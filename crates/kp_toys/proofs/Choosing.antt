@@ -1,16 +1,15 @@
 -- New variables, ensured conditions and priorities.
-use Rattle.std.proofs.Common.{◌≡◌, refl, sym, ◌∙◌, ap, subst, ◌⊎◌, inl, inr, Bool, true, false, List, [], ◌∷◌, ℤ, pos, ◌↔◌, ℕ, ◌<◌, arith}
+use Rattle.std.proofs.Common.{◌≡◌, refl, sym, ◌∙◌, ap, subst, inl, inr, Bool, true, false, [], ℤ, ◌↔◌, arith}
 use Rattle.std.specs.Prelude.{codes}
-use Rattle.kp_semantics.specs.Value.{Value, whole, constructed, Values, no_values, next_value, HasSort}
+use Rattle.kp_semantics.specs.Value.{Value, whole, constructed, no_values, next_value}
 use Rattle.std.specs.Prelude.{◌||◌}
 use Rattle.std.specs.Str.{bytes_eq}
 use Rattle.kp_kore.specs.Syntax.{Text}
 use Rattle.kp_semantics.specs.Instance.{Valuation, assigned}
-use Rattle.kp_semantics.specs.Steps.{Steps, StepsBy, LeadsTo, IsFinal, IsUnknown, Fires, HasTurn}
-use Rattle.kp_toys.specs.Toys.{sort_int}
+use Rattle.kp_semantics.specs.Steps.{Steps, StepsBy, IsFinal, IsUnknown, Fires, HasTurn}
 use Rattle.kp_toys.specs.ToysTheory.{toys, toys_signature, back_rule}
-use Rattle.kp_toys.specs.ToysValues.{vg_value, vh_value, lone_value, done_value, goal_value}
-use Rattle.kp_toys.specs.SmallTheories.{two_priorities, blocked, choosing, from_lone, lone, goal_of_lone}
+use Rattle.kp_toys.specs.ToysValues.{vg_value, vh_value, lone_value, goal_value}
+use Rattle.kp_toys.specs.SmallTheories.{two_priorities, blocked, choosing, from_lone, goal_of_lone}
 use Rattle.kp_toys.specs.ToysTheory.{done}
 use Rattle.kp_toys.proofs.Matching.{not_by, int_has_sort, vg_steps}
 use Rattle.kp_toys.proofs.Sorts.{int_values}
@@ -19,28 +18,48 @@ use Rattle.kp_toys.proofs.Sorts.{int_values}
 
 vg_steps_by_back : (next : Value) → Steps toys vg_value next → StepsBy toys back_rule vg_value next
 vg_steps_by_back next s = elim s [
-    inl a ↦ absurd (not_by _ _ _ vg_value next (λ v. refl) a)
-  | inr s ↦ elim s [ inl a ↦ absurd (not_by _ _ _ vg_value next (λ v. refl) a)
-  | inr s ↦ elim s [ inl a ↦ absurd (not_by _ _ _ vg_value next (λ v. refl) a)
-  | inr s ↦ elim s [ inl a ↦ absurd (not_by _ _ _ vg_value next (λ v. refl) a)
-  | inr s ↦ elim s [ inl a ↦ absurd (not_by _ _ _ vg_value next (λ v. refl) a)
-  | inr s ↦ elim s [ inl a ↦ absurd (not_by _ _ _ vg_value next (λ v. refl) a)
-  | inr s ↦ elim s [ inl a ↦ absurd (a.rewrites)
-  | inr s ↦ elim s [ inl a ↦ absurd (not_by _ _ _ vg_value next (λ v. refl) a)
-  | inr s ↦ elim s [ inl a ↦ absurd (not_by _ _ _ vg_value next (λ v. refl) a)
-  | inr s ↦ elim s [ inl a ↦ a
-  | inr s ↦ absurd s ] ] ] ] ] ] ] ] ] ]
+  | inl a ↦ absurd (not_by _ _ _ vg_value next (λ v. refl) a)
+  | inr s ↦ elim s [
+    | inl a ↦ absurd (not_by _ _ _ vg_value next (λ v. refl) a)
+    | inr s ↦ elim s [
+      | inl a ↦ absurd (not_by _ _ _ vg_value next (λ v. refl) a)
+      | inr s ↦ elim s [
+        | inl a ↦ absurd (not_by _ _ _ vg_value next (λ v. refl) a)
+        | inr s ↦ elim s [
+          | inl a ↦ absurd (not_by _ _ _ vg_value next (λ v. refl) a)
+          | inr s ↦ elim s [
+            | inl a ↦ absurd (not_by _ _ _ vg_value next (λ v. refl) a)
+            | inr s ↦ elim s [
+              | inl a ↦ absurd (a.rewrites)
+              | inr s ↦ elim s [
+                | inl a ↦ absurd (not_by _ _ _ vg_value next (λ v. refl) a)
+                | inr s ↦ elim s [
+                  | inl a ↦ absurd (not_by _ _ _ vg_value next (λ v. refl) a)
+                  | inr s ↦ elim s [
+                    | inl a ↦ a
+                    | inr s ↦ absurd s
+                  ]
+                ]
+              ]
+            ]
+          ]
+        ]
+      ]
+    ]
+  ]
+]
 
 -- the value chosen for Y is a whole number
 back_leads : (next : Value) → StepsBy toys back_rule vg_value next → (k : ℤ) × (next ≡ vh_value k)
 back_leads next s =
-  let chosen : (k : ℤ) × (s.rewrites.2.chosen (codes "Y") ≡ whole k) = int_values (s.rewrites.2.chosen (codes "Y")) s.rewrites.2.sorts.0 in
-  (chosen.0, s.rewrites.2.result ∙ ap (λ u. constructed (codes "Lblvh") (next_value u no_values)) chosen.1)
+    let chosen : (k : ℤ) × (s.rewrites.2.chosen (codes "Y") ≡ whole k) = int_values (s.rewrites.2.chosen (codes "Y")) s.rewrites.2.sorts.0 in
+    (chosen.0, s.rewrites.2.result ∙ ap (λ u. constructed (codes "Lblvh") (next_value u no_values)) chosen.1)
 
 pub vg_steps_exactly : (next : Value) → Steps toys vg_value next ↔ ((k : ℤ) × (next ≡ vh_value k))
-vg_steps_exactly next =
-  ( (λ s. back_leads next (vg_steps_by_back next s))
-  , (λ p. subst (Steps toys vg_value) (sym p.1) (vg_steps p.0)) )
+vg_steps_exactly next = (
+  (λ s. back_leads next (vg_steps_by_back next s)),
+  (λ p. subst (Steps toys vg_value) (sym p.1) (vg_steps p.0)),
+)
 
 -- ---- priorities
 
@@ -52,21 +71,27 @@ late_fires = ((λ x. lone_value), record { sorts = tt; matches = refl; condition
 
 -- the rule of 20 steps, the rule of 50 doesn't
 pub smaller_number_steps : (next : Value) → Steps two_priorities lone_value next ↔ (next ≡ goal_value)
-smaller_number_steps next =
-  ( (λ s. elim s [
-      inl a ↦ absurd (a.none_before.1.0 (omega arith) late_fires)
-    | inr s ↦ elim s [ inl a ↦ a.rewrites.2.result | inr a ↦ absurd a ] ])
-  , (λ e. inr (inl (record {
-      known = none_unknown_here;
-      none_before = ((λ lt f. omega arith), ((λ lt f. omega arith), tt));
-      rewrites = ((λ x. lone_value)
-        , record { sorts = tt; matches = refl; condition = tt }
-        , record { chosen = λ x. lone_value; agrees = λ x _. refl; sorts = tt; ensured = tt; result = e }) }))) )
+smaller_number_steps next = (
+  (λ s. elim s [
+    | inl a ↦ absurd (a.none_before.1.0 (omega arith) late_fires)
+    | inr s ↦ elim s [ inl a ↦ a.rewrites.2.result | inr a ↦ absurd a ]
+  ]),
+  (λ e. inr (inl (record {
+    known = none_unknown_here;
+    none_before = ((λ lt f. omega arith), ((λ lt f. omega arith), tt));
+    rewrites = (
+      (λ x. lone_value),
+      record { sorts = tt; matches = refl; condition = tt },
+      record { chosen = λ x. lone_value; agrees = λ x _. refl; sorts = tt; ensured = tt; result = e },
+    );
+  }))),
+)
 
 pub only_the_smaller_has_its_turn : HasTurn two_priorities (from_lone 20 goal_of_lone []) lone_value × ¬ HasTurn two_priorities (from_lone 50 done []) lone_value
-only_the_smaller_has_its_turn =
-  ( record { fires = late_fires; none_before = ((λ lt f. omega arith), ((λ lt f. omega arith), tt)) }
-  , (λ h. h.none_before.1.0 (omega arith) late_fires) )
+only_the_smaller_has_its_turn = (
+  record { fires = late_fires; none_before = ((λ lt f. omega arith), ((λ lt f. omega arith), tt)) },
+  (λ h. h.none_before.1.0 (omega arith) late_fires),
+)
 
 -- ---- an ensured condition that no choice meets
 
@@ -75,8 +100,9 @@ blocked_leads_nowhere next s = elim s [ inl a ↦ a.rewrites.2.ensured.0 | inr a
 
 pub blocked_is_not_final : ¬ IsFinal blocked lone_value
 blocked_is_not_final f = elim f [
-    inl u ↦ elim u [ inl a ↦ a | inr a ↦ a ]
-  | inr n ↦ n.0 ((λ x. lone_value), record { sorts = tt; matches = refl; condition = tt }) ]
+  | inl u ↦ elim u [ inl a ↦ a | inr a ↦ a ]
+  | inr n ↦ n.0 ((λ x. lone_value), record { sorts = tt; matches = refl; condition = tt })
+]
 
 -- ---- two steps by one rule
 
@@ -91,6 +117,9 @@ pub chooses : (k m : ℤ) → Steps choosing (vh_value k) (vh_value m)
 chooses k m = inl (record {
   known = λ u. elim u [ inl a ↦ a | inr a ↦ a ];
   none_before = ((λ lt f. omega arith), tt);
-  rewrites = ((λ x. whole k)
-    , record { sorts = (int_has_sort k, tt); matches = refl; condition = tt }
-    , record { chosen = assigned (λ x. whole k) (codes "Y") (whole m); agrees = λ x h. off_one (codes "Y") x (whole m) (λ x. whole k) h; sorts = (int_has_sort m, tt); ensured = tt; result = refl }) })
+  rewrites = (
+    (λ x. whole k),
+    record { sorts = (int_has_sort k, tt); matches = refl; condition = tt },
+    record { chosen = assigned (λ x. whole k) (codes "Y") (whole m); agrees = λ x h. off_one (codes "Y") x (whole m) (λ x. whole k) h; sorts = (int_has_sort m, tt); ensured = tt; result = refl },
+  );
+})

@@ -1,13 +1,10 @@
 -- A claim that holds and one that doesn't.
-use Rattle.std.proofs.Common.{◌≡◌, refl, sym, ◌∙◌, ap, subst, ◌⊎◌, inl, inr, Bool, true, false, List, [], ◌∷◌, ℤ, pos, ◌↔◌, ℕ, ◌<◌, ◌≤◌, length, arith}
+use Rattle.std.proofs.Common.{◌≡◌, refl, sym, ◌∙◌, ap, subst, inl, inr, List, [], ◌∷◌, ℤ, pos, arith}
 use Rattle.std.specs.Prelude.{codes}
-use Rattle.std.specs.Str.{bytes_eq}
-use Rattle.kp_kore.specs.Syntax.{Text}
-use Rattle.kp_semantics.specs.Value.{Value, whole, constructed, Values, no_values, next_value, HasSort, values_same}
+use Rattle.kp_semantics.specs.Value.{Value, whole, constructed, no_values, next_value}
 use Rattle.kp_semantics.specs.Instance.{Valuation, assigned, instance}
-use Rattle.kp_semantics.specs.Steps.{Steps, StepsBy, IsFinal, IsUnknown, Fires, NoneFires, IsCompleteRun, AnyByRecursion}
-use Rattle.kp_semantics.specs.Claims.{Holds, HoldsUpTo, IsReached}
-use Rattle.kp_toys.specs.Toys.{sort_int}
+use Rattle.kp_semantics.specs.Steps.{Steps, IsFinal, IsUnknown, Fires, IsCompleteRun, AnyByRecursion}
+use Rattle.kp_semantics.specs.Claims.{Holds, IsReached}
 use Rattle.kp_toys.specs.ToysTheory.{toys, toys_signature, van_rule}
 use Rattle.kp_toys.specs.ToysValues.{vf_value, vg_value, vh_value}
 use Rattle.kp_toys.specs.ToysClaims.{back_to_start, back_somewhere}
@@ -27,23 +24,45 @@ vf_steps : (k : ℤ) → Steps toys (vf_value k) vg_value
 vf_steps k = inr (inr (inr (inr (inr (inr (inr (inr (inl (record {
   known = vf_known k;
   none_before = none_before (vf_value k);
-  rewrites = ((λ x. whole k)
-    , record { sorts = (int_has_sort k, tt); matches = refl; condition = tt }
-    , record { chosen = λ x. whole k; agrees = λ x _. refl; sorts = tt; ensured = tt; result = refl }) })))))))))
+  rewrites = (
+    (λ x. whole k),
+    record { sorts = (int_has_sort k, tt); matches = refl; condition = tt },
+    record { chosen = λ x. whole k; agrees = λ x _. refl; sorts = tt; ensured = tt; result = refl },
+  );
+})))))))))
 
 vf_steps_to : (k : ℤ) (next : Value) → Steps toys (vf_value k) next → next ≡ vg_value
 vf_steps_to k next s = elim s [
-    inl a ↦ absurd (not_by _ _ _ (vf_value k) next (λ v. refl) a)
-  | inr s ↦ elim s [ inl a ↦ absurd (not_by _ _ _ (vf_value k) next (λ v. refl) a)
-  | inr s ↦ elim s [ inl a ↦ absurd (not_by _ _ _ (vf_value k) next (λ v. refl) a)
-  | inr s ↦ elim s [ inl a ↦ absurd (not_by _ _ _ (vf_value k) next (λ v. refl) a)
-  | inr s ↦ elim s [ inl a ↦ absurd (not_by _ _ _ (vf_value k) next (λ v. refl) a)
-  | inr s ↦ elim s [ inl a ↦ absurd (not_by _ _ _ (vf_value k) next (λ v. refl) a)
-  | inr s ↦ elim s [ inl a ↦ absurd (a.rewrites)
-  | inr s ↦ elim s [ inl a ↦ absurd (not_by _ _ _ (vf_value k) next (λ v. refl) a)
-  | inr s ↦ elim s [ inl a ↦ a.rewrites.2.result
-  | inr s ↦ elim s [ inl a ↦ absurd (not_by _ _ _ (vf_value k) next (λ v. refl) a)
-  | inr s ↦ absurd s ] ] ] ] ] ] ] ] ] ]
+  | inl a ↦ absurd (not_by _ _ _ (vf_value k) next (λ v. refl) a)
+  | inr s ↦ elim s [
+    | inl a ↦ absurd (not_by _ _ _ (vf_value k) next (λ v. refl) a)
+    | inr s ↦ elim s [
+      | inl a ↦ absurd (not_by _ _ _ (vf_value k) next (λ v. refl) a)
+      | inr s ↦ elim s [
+        | inl a ↦ absurd (not_by _ _ _ (vf_value k) next (λ v. refl) a)
+        | inr s ↦ elim s [
+          | inl a ↦ absurd (not_by _ _ _ (vf_value k) next (λ v. refl) a)
+          | inr s ↦ elim s [
+            | inl a ↦ absurd (not_by _ _ _ (vf_value k) next (λ v. refl) a)
+            | inr s ↦ elim s [
+              | inl a ↦ absurd (a.rewrites)
+              | inr s ↦ elim s [
+                | inl a ↦ absurd (not_by _ _ _ (vf_value k) next (λ v. refl) a)
+                | inr s ↦ elim s [
+                  | inl a ↦ a.rewrites.2.result
+                  | inr s ↦ elim s [
+                    | inl a ↦ absurd (not_by _ _ _ (vf_value k) next (λ v. refl) a)
+                    | inr s ↦ absurd s
+                  ]
+                ]
+              ]
+            ]
+          ]
+        ]
+      ]
+    ]
+  ]
+]
 
 vf_not_final : (k : ℤ) → ¬ IsFinal toys (vf_value k)
 vf_not_final k f = elim f [ inl u ↦ vf_known k u | inr n ↦ n.1.1.1.1.1.1.1.1.0 (vf_fires k) ]
@@ -56,33 +75,53 @@ vg_not_final f = elim f [ inl u ↦ vg_known u | inr n ↦ n.1.1.1.1.1.1.1.1.1.0
 
 -- no rule fires on vh(k)
 vh_final : (k : ℤ) → IsFinal toys (vh_value k)
-vh_final k = inr
-  ( (λ f. other_head _ (vh_value k) (λ v. refl) f)
-  , ((λ f. other_head _ (vh_value k) (λ v. refl) f)
-  , ((λ f. other_head _ (vh_value k) (λ v. refl) f)
-  , ((λ f. other_head _ (vh_value k) (λ v. refl) f)
-  , ((λ f. other_head _ (vh_value k) (λ v. refl) f)
-  , ((λ f. other_head _ (vh_value k) (λ v. refl) f)
-  , ((λ f. f)
-  , ((λ f. other_head _ (vh_value k) (λ v. refl) f)
-  , ((λ f. other_head _ (vh_value k) (λ v. refl) f)
-  , ((λ f. other_head _ (vh_value k) (λ v. refl) f), tt))))))))) )
+vh_final k = inr (
+  (λ f. other_head _ (vh_value k) (λ v. refl) f),
+  (
+    (λ f. other_head _ (vh_value k) (λ v. refl) f),
+    (
+      (λ f. other_head _ (vh_value k) (λ v. refl) f),
+      (
+        (λ f. other_head _ (vh_value k) (λ v. refl) f),
+        (
+          (λ f. other_head _ (vh_value k) (λ v. refl) f),
+          (
+            (λ f. other_head _ (vh_value k) (λ v. refl) f),
+            (
+              (λ f. f),
+              (
+                (λ f. other_head _ (vh_value k) (λ v. refl) f),
+                (
+                  (λ f. other_head _ (vh_value k) (λ v. refl) f),
+                  ((λ f. other_head _ (vh_value k) (λ v. refl) f), tt),
+                ),
+              ),
+            ),
+          ),
+        ),
+      ),
+    ),
+  ),
+)
 
 -- ---- vf(X) to vh(X) doesn't hold: from vf(0) a run ends at vh(1)
 
 pub not_back_to_start : ¬ Holds toys back_to_start
 not_back_to_start holds =
-  elim (holds 2 (λ x. whole (pos 0)) (vf_value (pos 0)) (vg_value ∷ vh_value (pos 1) ∷ [])
-      (int_has_sort (pos 0), tt)
-      (record { term = refl; predicates = tt })
-      (vf_steps (pos 0), (vg_steps (pos 1), vh_final (pos 1)))
-      (omega arith)) [
-    inl r ↦ differ (vf_value (pos 0)) (instance toys_signature r.chosen back_to_start.right) refl r.met.term
-  | inr s ↦ elim s [
-    inl r ↦ differ vg_value (instance toys_signature r.chosen back_to_start.right) refl r.met.term
-  | inr s ↦ elim s [
-    inl r ↦ differ (vh_value (pos 1)) (vh_value (pos 0)) refl (r.met.term ∙ ap (λ u. constructed (codes "Lblvh") (next_value u no_values)) r.agrees.0)
-  | inr s ↦ s ] ] ]
+    elim (holds 2 (λ x. whole (pos 0)) (vf_value (pos 0)) (vg_value ∷ vh_value (pos 1) ∷ [])
+    (int_has_sort (pos 0), tt)
+    (record { term = refl; predicates = tt })
+    (vf_steps (pos 0), (vg_steps (pos 1), vh_final (pos 1)))
+    (omega arith)) [
+      | inl r ↦ differ (vf_value (pos 0)) (instance toys_signature r.chosen back_to_start.right) refl r.met.term
+      | inr s ↦ elim s [
+        | inl r ↦ differ vg_value (instance toys_signature r.chosen back_to_start.right) refl r.met.term
+        | inr s ↦ elim s [
+          | inl r ↦ differ (vh_value (pos 1)) (vh_value (pos 0)) refl (r.met.term ∙ ap (λ u. constructed (codes "Lblvh") (next_value u no_values)) r.agrees.0)
+          | inr s ↦ s
+        ]
+      ]
+    ]
 
 -- ---- vf(X) to vh(Y) holds
 
@@ -95,14 +134,15 @@ reached_at v k = record {
   chosen = assigned v (codes "Y") (whole k);
   agrees = (refl, tt);
   sorts = (int_has_sort k, tt);
-  met = record { term = refl; predicates = tt } }
+  met = record { term = refl; predicates = tt };
+}
 
 -- from vg each complete run reaches vh
 from_vg : (v : Valuation) (c : Value) (more : List Value) → c ≡ vg_value → IsCompleteRun toys c more → AnyByRecursion (IsReached toys_signature back_somewhere v) (c ∷ more)
 from_vg v c [] e f = absurd (vg_not_final (subst (IsFinal toys) e f))
 from_vg v c (next ∷ more) e run =
-  let p : (k : ℤ) × (next ≡ vh_value k) = (vg_steps_exactly next).0 (subst (λ c. Steps toys c next) e run.0) in
-  inr (inl (subst (IsReached toys_signature back_somewhere v) (sym p.1) (reached_at v p.0)))
+    let p : (k : ℤ) × (next ≡ vh_value k) = (vg_steps_exactly next).0 (subst (λ c. Steps toys c next) e run.0) in
+    inr (inl (subst (IsReached toys_signature back_somewhere v) (sym p.1) (reached_at v p.0)))
 
 from_vf : (v : Valuation) (k : ℤ) (c : Value) (more : List Value) → c ≡ vf_value k → IsCompleteRun toys c more → AnyByRecursion (IsReached toys_signature back_somewhere v) (c ∷ more)
 from_vf v k c [] e f = absurd (vf_not_final k (subst (IsFinal toys) e f))
@@ -110,5 +150,5 @@ from_vf v k c (next ∷ more) e run = inr (from_vg v next more (vf_steps_to k ne
 
 pub back_somewhere_holds : Holds toys back_somewhere
 back_somewhere_holds n v c more sorts met run within =
-  let p : (k : ℤ) × (v (codes "X") ≡ whole k) = int_values (v (codes "X")) sorts.0 in
-  from_vf v p.0 c more (met.term ∙ under_vf v p.0 p.1) run
+    let p : (k : ℤ) × (v (codes "X") ≡ whole k) = int_values (v (codes "X")) sorts.0 in
+    from_vf v p.0 c more (met.term ∙ under_vf v p.0 p.1) run

@@ -1,22 +1,20 @@
 -- What the rules of the example do at given configurations.
-use Rattle.std.proofs.Common.{◌≡◌, refl, sym, ◌∙◌, ap, subst, ◌⊎◌, inl, inr, Bool, true, false, List, [], ◌∷◌, ℤ, pos, ◌↔◌, ℕ, ◌<◌, arith}
+use Rattle.std.proofs.Common.{◌≡◌, refl, sym, ◌∙◌, ap, subst, ◌⊎◌, inl, inr, true, false, List, [], ◌∷◌, ℤ, pos, ◌↔◌, ℕ, ◌<◌, arith}
 use Rattle.std.specs.Prelude.{codes, Some}
-use Rattle.std.specs.List.{AllByRecursion}
 use Rattle.std.specs.Str.{bytes_eq}
 use Rattle.std.proofs.lemmas.Slice.Eq.{bytes_eq-Decides}
-use Rattle.kp_kore.specs.Syntax.{Text, KorePattern}
+use Rattle.kp_kore.specs.Syntax.{Text}
 use Rattle.kp_kore.specs.Signature.{itself}
 use Rattle.kp_kore.specs.Hooks.{whole_arithmetic, subtraction, whole_comparison, equal, greater}
-use Rattle.kp_kore.specs.Parts.{free_variables}
-use Rattle.kp_semantics.specs.Value.{Value, whole, truth, constructed, Values, no_values, next_value, values_same, HasSort}
+use Rattle.kp_semantics.specs.Value.{Value, whole, truth, constructed, no_values, next_value, values_same, HasSort}
 use Rattle.kp_semantics.specs.Interpretation.{interpreted}
-use Rattle.kp_semantics.specs.Instance.{Valuation, instance, GivesSorts, assigned}
+use Rattle.kp_semantics.specs.Instance.{Valuation, instance}
 use Rattle.kp_semantics.specs.Foreign.{IsSkeletonInstance}
 use Rattle.kp_semantics.specs.Rules.{Rewrite, RewriteRule, RuleBody, rewrite, foreign_rule}
-use Rattle.kp_semantics.specs.Steps.{Fires, FiresUnder, IsUnknown, Steps, StepsBy, LeadsTo, NoneBefore, Rewrites, IsFinal, NoneFires, AnyByRecursion}
+use Rattle.kp_semantics.specs.Steps.{Fires, IsUnknown, Steps, StepsBy, NoneBefore, Rewrites, IsFinal, NoneFires, AnyByRecursion}
 use Rattle.kp_semantics.proofs.SameLemmas.{same_values_decide}
 use Rattle.kp_toys.specs.Toys.{n, sort_int, sort_s, call}
-use Rattle.kp_toys.specs.ToysTheory.{toys, toys_signature, dec_rule, stop_rule, back_rule, count_of}
+use Rattle.kp_toys.specs.ToysTheory.{toys, toys_signature, dec_rule, stop_rule}
 use Rattle.kp_toys.specs.ToysValues.{count, done_value, odd, vg_value, vh_value}
 
 false_true : false ≡ true → ⊥
@@ -78,20 +76,20 @@ minus_one u = interpreted (whole_arithmetic subtraction) (next_value u (next_val
 dec_leads : (k : ℤ) (next : Value) → StepsBy toys dec_rule (count k) next → next ≡ counted (minus_one (whole k))
 unfolding minus_one
 dec_leads k next s =
-  let u : s.rewrites.0 (codes "N") ≡ whole k = under_count (s.rewrites.0 (codes "N")) k s.rewrites.1.matches in
-  let w : s.rewrites.2.chosen (codes "N") ≡ whole k = s.rewrites.2.agrees (codes "N") refl ∙ u in
-  s.rewrites.2.result ∙ ap (λ x. counted (interpreted (whole_arithmetic subtraction) (next_value x (next_value (whole (pos 1)) no_values)))) w
+    let u : s.rewrites.0 (codes "N") ≡ whole k = under_count (s.rewrites.0 (codes "N")) k s.rewrites.1.matches in
+    let w : s.rewrites.2.chosen (codes "N") ≡ whole k = s.rewrites.2.agrees (codes "N") refl ∙ u in
+    s.rewrites.2.result ∙ ap (λ x. counted (interpreted (whole_arithmetic subtraction) (next_value x (next_value (whole (pos 1)) no_values)))) w
 
 -- dec fires on count(k) only where k > 0, stop only where k = 0
 dec_condition : (k : ℤ) → Fires toys_signature dec_rule.body (count k) → interpreted (whole_comparison greater) (next_value (whole k) (next_value (whole (pos 0)) no_values)) ≡ truth true
 dec_condition k f =
-  let u : f.0 (codes "N") ≡ whole k = under_count (f.0 (codes "N")) k f.1.matches in
-  subst (λ x. interpreted (whole_comparison greater) (next_value x (next_value (whole (pos 0)) no_values)) ≡ truth true) u f.1.condition.0
+    let u : f.0 (codes "N") ≡ whole k = under_count (f.0 (codes "N")) k f.1.matches in
+    subst (λ x. interpreted (whole_comparison greater) (next_value x (next_value (whole (pos 0)) no_values)) ≡ truth true) u f.1.condition.0
 
 stop_condition : (k : ℤ) → Fires toys_signature stop_rule.body (count k) → interpreted (whole_comparison equal) (next_value (whole k) (next_value (whole (pos 0)) no_values)) ≡ truth true
 stop_condition k f =
-  let u : f.0 (codes "N") ≡ whole k = under_count (f.0 (codes "N")) k f.1.matches in
-  subst (λ x. interpreted (whole_comparison equal) (next_value x (next_value (whole (pos 0)) no_values)) ≡ truth true) u f.1.condition.0
+    let u : f.0 (codes "N") ≡ whole k = under_count (f.0 (codes "N")) k f.1.matches in
+    subst (λ x. interpreted (whole_comparison equal) (next_value x (next_value (whole (pos 0)) no_values)) ≡ truth true) u f.1.condition.0
 
 falsehood : truth false ≡ truth true → ⊥
 falsehood e = cc
@@ -103,17 +101,36 @@ not_by r id priority c next h s = other_head r c h (s.rewrites.0, s.rewrites.1)
 -- the rules but dec and stop don't fire on count(k)
 count_steps : (k : ℤ) (next : Value) → Steps toys (count k) next → StepsBy toys dec_rule (count k) next ⊎ StepsBy toys stop_rule (count k) next
 count_steps k next s = elim s [
-    inl a ↦ inl a
-  | inr s ↦ elim s [ inl a ↦ inr a
-  | inr s ↦ elim s [ inl a ↦ absurd (not_by _ _ _ (count k) next (λ v. refl) a)
-  | inr s ↦ elim s [ inl a ↦ absurd (not_by _ _ _ (count k) next (λ v. refl) a)
-  | inr s ↦ elim s [ inl a ↦ absurd (not_by _ _ _ (count k) next (λ v. refl) a)
-  | inr s ↦ elim s [ inl a ↦ absurd (not_by _ _ _ (count k) next (λ v. refl) a)
-  | inr s ↦ elim s [ inl a ↦ absurd (a.rewrites)
-  | inr s ↦ elim s [ inl a ↦ absurd (not_by _ _ _ (count k) next (λ v. refl) a)
-  | inr s ↦ elim s [ inl a ↦ absurd (not_by _ _ _ (count k) next (λ v. refl) a)
-  | inr s ↦ elim s [ inl a ↦ absurd (not_by _ _ _ (count k) next (λ v. refl) a)
-  | inr s ↦ absurd s ] ] ] ] ] ] ] ] ] ]
+  | inl a ↦ inl a
+  | inr s ↦ elim s [
+    | inl a ↦ inr a
+    | inr s ↦ elim s [
+      | inl a ↦ absurd (not_by _ _ _ (count k) next (λ v. refl) a)
+      | inr s ↦ elim s [
+        | inl a ↦ absurd (not_by _ _ _ (count k) next (λ v. refl) a)
+        | inr s ↦ elim s [
+          | inl a ↦ absurd (not_by _ _ _ (count k) next (λ v. refl) a)
+          | inr s ↦ elim s [
+            | inl a ↦ absurd (not_by _ _ _ (count k) next (λ v. refl) a)
+            | inr s ↦ elim s [
+              | inl a ↦ absurd (a.rewrites)
+              | inr s ↦ elim s [
+                | inl a ↦ absurd (not_by _ _ _ (count k) next (λ v. refl) a)
+                | inr s ↦ elim s [
+                  | inl a ↦ absurd (not_by _ _ _ (count k) next (λ v. refl) a)
+                  | inr s ↦ elim s [
+                    | inl a ↦ absurd (not_by _ _ _ (count k) next (λ v. refl) a)
+                    | inr s ↦ absurd s
+                  ]
+                ]
+              ]
+            ]
+          ]
+        ]
+      ]
+    ]
+  ]
+]
 
 -- dec steps from count(k) where k > 0, stop where k = 0
 dec_steps : (k : ℤ) (next : Value) → interpreted (whole_comparison greater) (next_value (whole k) (next_value (whole (pos 0)) no_values)) ≡ truth true → next ≡ counted (minus_one (whole k)) → Steps toys (count k) next
@@ -121,35 +138,45 @@ unfolding minus_one
 dec_steps k next positive e = inl (record {
   known = count_known k;
   none_before = none_before (count k);
-  rewrites = ((λ x. whole k)
-    , record { sorts = (int_has_sort k, tt); matches = refl; condition = (positive, tt) }
-    , record { chosen = λ x. whole k; agrees = λ x _. refl; sorts = tt; ensured = tt; result = e }) })
+  rewrites = (
+    (λ x. whole k),
+    record { sorts = (int_has_sort k, tt); matches = refl; condition = (positive, tt) },
+    record { chosen = λ x. whole k; agrees = λ x _. refl; sorts = tt; ensured = tt; result = e },
+  );
+})
 
 stop_steps : (next : Value) → next ≡ done_value → Steps toys (count (pos 0)) next
 stop_steps next e = inr (inl (record {
   known = count_known (pos 0);
   none_before = none_before (count (pos 0));
-  rewrites = ((λ x. whole (pos 0))
-    , record { sorts = (int_has_sort (pos 0), tt); matches = refl; condition = (refl, tt) }
-    , record { chosen = λ x. whole (pos 0); agrees = λ x _. refl; sorts = tt; ensured = tt; result = e }) }))
+  rewrites = (
+    (λ x. whole (pos 0)),
+    record { sorts = (int_has_sort (pos 0), tt); matches = refl; condition = (refl, tt) },
+    record { chosen = λ x. whole (pos 0); agrees = λ x _. refl; sorts = tt; ensured = tt; result = e },
+  );
+}))
 
 -- count(2) steps to count(1) alone
 pub count_two : (next : Value) → Steps toys (count (pos 2)) next ↔ (next ≡ count (pos 1))
 unfolding minus_one
-count_two next =
-  ( (λ s. elim (count_steps (pos 2) next s) [
-        inl a ↦ dec_leads (pos 2) next a
-      | inr a ↦ absurd (falsehood (stop_condition (pos 2) (a.rewrites.0, a.rewrites.1))) ])
-  , (λ e. dec_steps (pos 2) next refl e) )
+count_two next = (
+  (λ s. elim (count_steps (pos 2) next s) [
+    | inl a ↦ dec_leads (pos 2) next a
+    | inr a ↦ absurd (falsehood (stop_condition (pos 2) (a.rewrites.0, a.rewrites.1)))
+  ]),
+  (λ e. dec_steps (pos 2) next refl e),
+)
 
 -- count(1) steps to count(0) alone
 pub count_one : (next : Value) → Steps toys (count (pos 1)) next ↔ (next ≡ count (pos 0))
 unfolding minus_one
-count_one next =
-  ( (λ s. elim (count_steps (pos 1) next s) [
-        inl a ↦ dec_leads (pos 1) next a
-      | inr a ↦ absurd (falsehood (stop_condition (pos 1) (a.rewrites.0, a.rewrites.1))) ])
-  , (λ e. dec_steps (pos 1) next refl e) )
+count_one next = (
+  (λ s. elim (count_steps (pos 1) next s) [
+    | inl a ↦ dec_leads (pos 1) next a
+    | inr a ↦ absurd (falsehood (stop_condition (pos 1) (a.rewrites.0, a.rewrites.1)))
+  ]),
+  (λ e. dec_steps (pos 1) next refl e),
+)
 
 -- count(k) isn't final where a rule fires
 dec_fires : (k : ℤ) → interpreted (whole_comparison greater) (next_value (whole k) (next_value (whole (pos 0)) no_values)) ≡ truth true → Fires toys_signature dec_rule.body (count k)
@@ -166,25 +193,44 @@ zero_not_final f = elim f [ inl u ↦ count_known (pos 0) u | inr n ↦ n.1.0 st
 
 -- count(0) steps to done alone
 pub count_zero : (next : Value) → Steps toys (count (pos 0)) next ↔ (next ≡ done_value)
-count_zero next =
-  ( (λ s. elim (count_steps (pos 0) next s) [
-        inl a ↦ absurd (falsehood (dec_condition (pos 0) (a.rewrites.0, a.rewrites.1)))
-      | inr a ↦ a.rewrites.2.result ])
-  , (λ e. stop_steps next e) )
+count_zero next = (
+  (λ s. elim (count_steps (pos 0) next s) [
+    | inl a ↦ absurd (falsehood (dec_condition (pos 0) (a.rewrites.0, a.rewrites.1)))
+    | inr a ↦ a.rewrites.2.result
+  ]),
+  (λ e. stop_steps next e),
+)
 
 -- no rule fires on done
 pub done_fires_none : NoneFires toys done_value
-done_fires_none =
-  ( (λ f. other_head _ done_value (λ v. refl) f)
-  , ((λ f. other_head _ done_value (λ v. refl) f)
-  , ((λ f. other_head _ done_value (λ v. refl) f)
-  , ((λ f. other_head _ done_value (λ v. refl) f)
-  , ((λ f. other_head _ done_value (λ v. refl) f)
-  , ((λ f. other_head _ done_value (λ v. refl) f)
-  , ((λ f. f)
-  , ((λ f. other_head _ done_value (λ v. refl) f)
-  , ((λ f. other_head _ done_value (λ v. refl) f)
-  , ((λ f. other_head _ done_value (λ v. refl) f), tt))))))))) )
+done_fires_none = (
+  (λ f. other_head _ done_value (λ v. refl) f),
+  (
+    (λ f. other_head _ done_value (λ v. refl) f),
+    (
+      (λ f. other_head _ done_value (λ v. refl) f),
+      (
+        (λ f. other_head _ done_value (λ v. refl) f),
+        (
+          (λ f. other_head _ done_value (λ v. refl) f),
+          (
+            (λ f. other_head _ done_value (λ v. refl) f),
+            (
+              (λ f. f),
+              (
+                (λ f. other_head _ done_value (λ v. refl) f),
+                (
+                  (λ f. other_head _ done_value (λ v. refl) f),
+                  ((λ f. other_head _ done_value (λ v. refl) f), tt),
+                ),
+              ),
+            ),
+          ),
+        ),
+      ),
+    ),
+  ),
+)
 
 pub done_known : ¬ IsUnknown toys done_value
 done_known = known done_value (λ s. texts_differ (codes "Lbldone") (codes "Lblodd") refl s.1.0)
@@ -202,9 +248,12 @@ pub vg_steps : (k : ℤ) → Steps toys vg_value (vh_value k)
 vg_steps k = inr (inr (inr (inr (inr (inr (inr (inr (inr (inl (record {
   known = vg_known;
   none_before = none_before vg_value;
-  rewrites = ((λ x. whole k)
-    , record { sorts = tt; matches = refl; condition = tt }
-    , record { chosen = λ x. whole k; agrees = λ x _. refl; sorts = (int_has_sort k, tt); ensured = tt; result = refl }) }))))))))))
+  rewrites = (
+    (λ x. whole k),
+    record { sorts = tt; matches = refl; condition = tt },
+    record { chosen = λ x. whole k; agrees = λ x _. refl; sorts = (int_has_sort k, tt); ensured = tt; result = refl },
+  );
+}))))))))))
 
 pub done_final : IsFinal toys done_value
 done_final = inr done_fires_none

@@ -1,13 +1,12 @@
 -- The example definition means the example's theory.
-use Rattle.std.proofs.Common.{◌≡◌, refl, sym, ◌∙◌, ap, subst, Bool, true, false, not, ◌&&◌, List, [], ◌∷◌, ◌↔◌, ℕ, ◌<◌, arith}
-use Rattle.std.specs.Prelude.{codes, Some, ⊤}
+use Rattle.std.proofs.Common.{◌≡◌, refl, sym, subst, Bool, true, false, not, List, [], ◌∷◌, arith}
+use Rattle.std.specs.Prelude.{codes}
 use Rattle.std.specs.List.{AllByRecursion, list_all}
-use Rattle.kp_kore.specs.Syntax.{Text, KoreSort, KoreSorts, no_sorts, next_sort, KorePattern, KorePatterns, variable, application, no_patterns, next_pattern}
-use Rattle.kp_kore.specs.Signature.{KoreSignature, IsBelow, itself, through, Head, IsHeadOf}
+use Rattle.kp_kore.specs.Syntax.{KoreSort, no_sorts, next_sort, KorePattern, application}
+use Rattle.kp_kore.specs.Signature.{KoreSignature, IsBelow, itself, through}
 use Rattle.kp_kore.specs.Parts.{subpatterns}
-use Rattle.kp_semantics.specs.Foreign.{InjectionsSplit, Meet, SplitsByHeads, IsCommonHead, IsRead, Reads}
-use Rattle.kp_semantics.specs.Rules.{Rewrite, rewrite, foreign_rule}
-use Rattle.kp_semantics.specs.Theory.{IsTheoryOf, IsRuleOf}
+use Rattle.kp_semantics.specs.Foreign.{InjectionsSplit, Meet, SplitsByHeads}
+use Rattle.kp_semantics.specs.Theory.{IsTheoryOf}
 use Rattle.kp_semantics.proofs.InstanceLemmas.{first_true, second_true}
 use Rattle.kp_toys.specs.Toys.{toys_definition, sort_int, sort_e, dec_axiom, stop_axiom, pick_axiom, sq_axiom, up_axiom, spin_axiom, van_axiom, back_axiom}
 use Rattle.kp_toys.specs.ToysTheory.{toys, toys_signature}
@@ -42,7 +41,8 @@ meet_of_lower g a t below = record {
   sort = t;
   below_first = below;
   below_second = itself t;
-  heads = λ h. ((λ i. ((i.0, i.1, below_through g.subsorts i.0 t a i.2 below), i)), (λ c. c.1)) }
+  heads = λ h. ((λ i. ((i.0, i.1, below_through g.subsorts i.0 t a i.2 below), i)), (λ c. c.1));
+}
 
 int_below_expression : IsBelow toys_signature.subsorts sort_int sort_e
 int_below_expression = through sort_int sort_e sort_e (0, omega arith, refl) (itself sort_e)
@@ -63,15 +63,35 @@ false_true e = cc
 pub toys_means : IsTheoryOf toys_definition (codes "TOYS") toys
 toys_means = record {
   signature = refl;
-  rules =
-    ( record { id = refl; priority = refl; body = record { shape = refl; no_parameters = refl; no_foreign_symbol = refl; left_repeats = refl; left_uninterpreted = refl; condition_variables = ((refl), tt); condition_quantifiers = ((refl), tt); literals = refl; depths = refl; priority = refl; no_set_variable = refl; injections = all_split_without (subpatterns dec_axiom) refl } },
-    ( record { id = refl; priority = refl; body = record { shape = refl; no_parameters = refl; no_foreign_symbol = refl; left_repeats = refl; left_uninterpreted = refl; condition_variables = ((refl), tt); condition_quantifiers = ((refl), tt); literals = refl; depths = refl; priority = refl; no_set_variable = refl; injections = all_split_without (subpatterns stop_axiom) refl } },
-    ( record { id = refl; priority = refl; body = record { shape = refl; no_parameters = refl; no_foreign_symbol = refl; left_repeats = refl; left_uninterpreted = refl; condition_variables = tt; condition_quantifiers = tt; literals = refl; depths = refl; priority = refl; no_set_variable = refl; injections = all_split_without (subpatterns pick_axiom) refl } },
-    ( record { id = refl; priority = refl; body = record { shape = refl; no_parameters = refl; no_foreign_symbol = refl; left_repeats = refl; left_uninterpreted = refl; condition_variables = tt; condition_quantifiers = tt; literals = refl; depths = refl; priority = refl; no_set_variable = refl; injections = (tt, (tt, ((λ e. int_splits), (tt, (tt, tt))))) } },
-    ( record { id = refl; priority = refl; body = record { shape = refl; no_parameters = refl; no_foreign_symbol = refl; left_repeats = refl; left_uninterpreted = refl; condition_variables = ((refl), tt); condition_quantifiers = ((refl), tt); literals = refl; depths = refl; priority = refl; no_set_variable = refl; injections = all_split_without (subpatterns sq_axiom) refl } },
-    ( record { id = refl; priority = refl; body = record { shape = refl; no_parameters = refl; no_foreign_symbol = refl; left_repeats = refl; left_uninterpreted = refl; condition_variables = tt; condition_quantifiers = tt; literals = refl; depths = refl; priority = refl; no_set_variable = refl; injections = all_split_without (subpatterns up_axiom) refl } },
-    ( record { id = refl; priority = refl; body = (refl, (λ r i. false_true i.no_foreign_symbol)) },
-    ( record { id = refl; priority = refl; body = record { shape = refl; no_parameters = refl; no_foreign_symbol = refl; left_repeats = refl; left_uninterpreted = refl; condition_variables = tt; condition_quantifiers = tt; literals = refl; depths = refl; priority = refl; no_set_variable = refl; injections = all_split_without (subpatterns spin_axiom) refl } },
-    ( record { id = refl; priority = refl; body = record { shape = refl; no_parameters = refl; no_foreign_symbol = refl; left_repeats = refl; left_uninterpreted = refl; condition_variables = tt; condition_quantifiers = tt; literals = refl; depths = refl; priority = refl; no_set_variable = refl; injections = all_split_without (subpatterns van_axiom) refl } },
-    ( record { id = refl; priority = refl; body = record { shape = refl; no_parameters = refl; no_foreign_symbol = refl; left_repeats = refl; left_uninterpreted = refl; condition_variables = tt; condition_quantifiers = tt; literals = refl; depths = refl; priority = refl; no_set_variable = refl; injections = all_split_without (subpatterns back_axiom) refl } },
-    tt )))))))))) }
+  rules = (
+    record { id = refl; priority = refl; body = record { shape = refl; no_parameters = refl; no_foreign_symbol = refl; left_repeats = refl; left_uninterpreted = refl; condition_variables = ((refl), tt); condition_quantifiers = ((refl), tt); literals = refl; depths = refl; priority = refl; no_set_variable = refl; injections = all_split_without (subpatterns dec_axiom) refl } },
+    (
+      record { id = refl; priority = refl; body = record { shape = refl; no_parameters = refl; no_foreign_symbol = refl; left_repeats = refl; left_uninterpreted = refl; condition_variables = ((refl), tt); condition_quantifiers = ((refl), tt); literals = refl; depths = refl; priority = refl; no_set_variable = refl; injections = all_split_without (subpatterns stop_axiom) refl } },
+      (
+        record { id = refl; priority = refl; body = record { shape = refl; no_parameters = refl; no_foreign_symbol = refl; left_repeats = refl; left_uninterpreted = refl; condition_variables = tt; condition_quantifiers = tt; literals = refl; depths = refl; priority = refl; no_set_variable = refl; injections = all_split_without (subpatterns pick_axiom) refl } },
+        (
+          record { id = refl; priority = refl; body = record { shape = refl; no_parameters = refl; no_foreign_symbol = refl; left_repeats = refl; left_uninterpreted = refl; condition_variables = tt; condition_quantifiers = tt; literals = refl; depths = refl; priority = refl; no_set_variable = refl; injections = (tt, (tt, ((λ e. int_splits), (tt, (tt, tt))))) } },
+          (
+            record { id = refl; priority = refl; body = record { shape = refl; no_parameters = refl; no_foreign_symbol = refl; left_repeats = refl; left_uninterpreted = refl; condition_variables = ((refl), tt); condition_quantifiers = ((refl), tt); literals = refl; depths = refl; priority = refl; no_set_variable = refl; injections = all_split_without (subpatterns sq_axiom) refl } },
+            (
+              record { id = refl; priority = refl; body = record { shape = refl; no_parameters = refl; no_foreign_symbol = refl; left_repeats = refl; left_uninterpreted = refl; condition_variables = tt; condition_quantifiers = tt; literals = refl; depths = refl; priority = refl; no_set_variable = refl; injections = all_split_without (subpatterns up_axiom) refl } },
+              (
+                record { id = refl; priority = refl; body = (refl, (λ r i. false_true i.no_foreign_symbol)) },
+                (
+                  record { id = refl; priority = refl; body = record { shape = refl; no_parameters = refl; no_foreign_symbol = refl; left_repeats = refl; left_uninterpreted = refl; condition_variables = tt; condition_quantifiers = tt; literals = refl; depths = refl; priority = refl; no_set_variable = refl; injections = all_split_without (subpatterns spin_axiom) refl } },
+                  (
+                    record { id = refl; priority = refl; body = record { shape = refl; no_parameters = refl; no_foreign_symbol = refl; left_repeats = refl; left_uninterpreted = refl; condition_variables = tt; condition_quantifiers = tt; literals = refl; depths = refl; priority = refl; no_set_variable = refl; injections = all_split_without (subpatterns van_axiom) refl } },
+                    (
+                      record { id = refl; priority = refl; body = record { shape = refl; no_parameters = refl; no_foreign_symbol = refl; left_repeats = refl; left_uninterpreted = refl; condition_variables = tt; condition_quantifiers = tt; literals = refl; depths = refl; priority = refl; no_set_variable = refl; injections = all_split_without (subpatterns back_axiom) refl } },
+                      tt,
+                    ),
+                  ),
+                ),
+              ),
+            ),
+          ),
+        ),
+      ),
+    ),
+  );
+}

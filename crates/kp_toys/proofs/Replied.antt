@@ -1,12 +1,12 @@
 -- The reply to execute of count(2): done, stuck, after three steps.
-use Rattle.std.proofs.Common.{◌≡◌, refl, sym, ◌∙◌, ap, subst, ◌⊎◌, inl, inr, Bool, true, false, List, [], ◌∷◌, ℤ, pos, ◌↔◌, ℕ, zero, suc, ◌<◌, ◌≤◌, ◌+◌, arith}
+use Rattle.std.proofs.Common.{◌≡◌, refl, sym, ◌∙◌, subst, true, false, [], pos, ℕ, zero, suc, ◌<◌, arith}
 use Rattle.std.specs.Prelude.{codes}
 use Rattle.kp_semantics.specs.Value.{Value, whole}
-use Rattle.kp_semantics.specs.Instance.{Valuation, IsInstance}
+use Rattle.kp_semantics.specs.Instance.{Valuation}
 use Rattle.kp_semantics.specs.Steps.{Steps, StepsIn, IsFinal, IsUnknown, NoneFires}
-use Rattle.kp_semantics.specs.Replies.{After, IsAfter, IsRightExecuted, Executed, stuck, depth_bound, NoneListed}
+use Rattle.kp_semantics.specs.Replies.{After, IsAfter, IsRightExecuted, stuck, depth_bound, NoneListed}
 use Rattle.kp_toys.specs.Toys.{integer}
-use Rattle.kp_toys.specs.ToysTheory.{toys, toys_signature, count_of, done}
+use Rattle.kp_toys.specs.ToysTheory.{toys, count_of, done}
 use Rattle.kp_toys.specs.ToysValues.{count, done_value}
 use Rattle.kp_toys.proofs.Matching.{count_two, count_one, count_zero, positive_not_final, zero_not_final, done_fires_none, done_known}
 
@@ -19,14 +19,14 @@ after_one c later e s = s.2 ∙ (count_two s.0).0 (subst (λ c. Steps toys c s.0
 
 after_two : (c later : Value) → c ≡ count (pos 2) → StepsIn toys 2 c later → later ≡ count (pos 0)
 after_two c later e s =
-  let first : s.0 ≡ count (pos 1) = (count_two s.0).0 (subst (λ c. Steps toys c s.0) e s.1) in
-  s.2.2 ∙ (count_one s.2.0).0 (subst (λ c. Steps toys c s.2.0) first s.2.1)
+    let first : s.0 ≡ count (pos 1) = (count_two s.0).0 (subst (λ c. Steps toys c s.0) e s.1) in
+    s.2.2 ∙ (count_one s.2.0).0 (subst (λ c. Steps toys c s.2.0) first s.2.1)
 
 after_three : (c later : Value) → c ≡ count (pos 2) → StepsIn toys 3 c later → later ≡ done_value
 after_three c later e s =
-  let first : s.0 ≡ count (pos 1) = (count_two s.0).0 (subst (λ c. Steps toys c s.0) e s.1) in
-  let second : s.2.0 ≡ count (pos 0) = (count_one s.2.0).0 (subst (λ c. Steps toys c s.2.0) first s.2.1) in
-  s.2.2.2 ∙ (count_zero s.2.2.0).0 (subst (λ c. Steps toys c s.2.2.0) second s.2.2.1)
+    let first : s.0 ≡ count (pos 1) = (count_two s.0).0 (subst (λ c. Steps toys c s.0) e s.1) in
+    let second : s.2.0 ≡ count (pos 0) = (count_one s.2.0).0 (subst (λ c. Steps toys c s.2.0) first s.2.1) in
+    s.2.2.2 ∙ (count_zero s.2.2.0).0 (subst (λ c. Steps toys c s.2.2.0) second s.2.2.1)
 
 to_zero : (v : Valuation) → IsAfter toys (count_of (integer (codes "2"))) v 2 (count (pos 0))
 to_zero v = (count (pos 2), record { term = refl; predicates = tt }, (count (pos 1), (count_two _).1 refl, (count (pos 0), (count_one _).1 refl, refl)))
@@ -50,7 +50,8 @@ three_steps = record {
   only = λ v w later sorts agrees given met. to_done v later met.term;
   not_final = λ v n c sorts lt a. on_the_way v n c lt a;
   none_listed = λ v n c sorts lt a. none_listed c;
-  names = tt }
+  names = tt;
+}
 
 two_before : (n : ℕ) → 3 ≡ suc n → n ≡ 2
 two_before n e = omega arith
@@ -61,8 +62,12 @@ right_reply = record {
   after = three_steps;
   reached = λ n e. ((λ x. whole (pos 0)), count (pos 0), tt, subst (λ m. IsAfter toys (count_of (integer (codes "2"))) (λ x. whole (pos 0)) m (count (pos 0))) (sym (two_before n e)) (to_zero _));
   computed = ((λ e. absurd (false_true e)), tt);
-  reason = (omega arith, ((λ x. done_value), done_value, tt, record { term = refl; predicates = tt }),
-    (λ v c sorts met. (subst (NoneFires toys) (sym met.term) done_fires_none, subst (λ c. ¬ IsUnknown toys c) (sym met.term) done_known))) }
+  reason = (
+    omega arith,
+    ((λ x. done_value), done_value, tt, record { term = refl; predicates = tt }),
+    (λ v c sorts met. (subst (NoneFires toys) (sym met.term) done_fires_none, subst (λ c. ¬ IsUnknown toys c) (sym met.term) done_known)),
+  );
+}
 
 no_steps : After toys [] (count_of (integer (codes "2"))) (count_of (integer (codes "2"))) 0
 no_steps = record {
@@ -70,7 +75,8 @@ no_steps = record {
   only = λ v w later sorts agrees given met. (count (pos 2), record { term = refl; predicates = tt }, met.term);
   not_final = λ v n c sorts lt a. absurd (omega arith);
   none_listed = λ v n c sorts lt a. absurd (omega arith);
-  names = tt }
+  names = tt;
+}
 
 pub right_at_bound : IsRightExecuted toys [] 0 (count_of (integer (codes "2"))) (record { depth = 0; reason = depth_bound; state = count_of (integer (codes "2")) })
 right_at_bound = record {
@@ -78,4 +84,5 @@ right_at_bound = record {
   after = no_steps;
   reached = λ n e. absurd (omega arith);
   computed = ((λ e. absurd (false_true e)), ((λ e. absurd (false_true e)), tt));
-  reason = (refl, (λ none. ((λ x. done_value), count (pos 2), tt, record { term = refl; predicates = tt }))) }
+  reason = (refl, (λ none. ((λ x. done_value), count (pos 2), tt, record { term = refl; predicates = tt })));
+}

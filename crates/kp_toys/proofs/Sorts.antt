@@ -1,11 +1,11 @@
 -- Which values have which sorts in the example.
-use Rattle.std.proofs.Common.{◌≡◌, refl, sym, ◌∙◌, ap, subst, ◌⊎◌, inl, inr, Bool, true, false, not, ◌&&◌, List, [], ◌∷◌, ℤ, pos, ◌↔◌, ℕ, ◌<◌, suc, zero, length, arith}
-use Rattle.std.specs.Prelude.{codes, Some, None, Option, slice_index_or}
-use Rattle.std.specs.List.{AllByRecursion, Contains, find, list_all}
+use Rattle.std.proofs.Common.{◌≡◌, refl, sym, ◌∙◌, ap, subst, Bool, true, false, not, ◌&&◌, List, [], ◌∷◌, ℤ, ◌↔◌, arith}
+use Rattle.std.specs.Prelude.{codes, Some}
+use Rattle.std.specs.List.{Contains, find, list_all}
 use Rattle.std.specs.Str.{bytes_eq}
-use Rattle.kp_kore.specs.Syntax.{Text, KoreSort, KoreSorts, SymbolDeclaration}
+use Rattle.kp_kore.specs.Syntax.{Text, KoreSort, SymbolDeclaration}
 use Rattle.kp_kore.specs.Attributes.{sorts_equal}
-use Rattle.kp_kore.specs.Signature.{KoreSignature, IsBelow, itself, through, SymbolMeaning, symbol_meaning, construction, symbol_declared, IsSortOfHead, constructor_of, integer_sort, boolean_sort, is_token_sort}
+use Rattle.kp_kore.specs.Signature.{IsBelow, itself, through, SymbolMeaning, symbol_meaning, construction, integer_sort, boolean_sort, is_token_sort}
 use Rattle.kp_semantics.specs.Value.{Value, whole, truth, token, constructed, Values, HasSort}
 use Rattle.kp_semantics.proofs.SameLemmas.{same_sorts_decide}
 use Rattle.kp_semantics.proofs.InstanceLemmas.{first_true, second_true}
@@ -28,8 +28,8 @@ the_pair a b c = of_member (λ (p : KoreSort × KoreSort). (p.0 ≡ sort_int) ×
 below_itself : (a b : KoreSort) → sorts_equal b sort_e ≡ false → IsBelow toys_signature.subsorts a b → a ≡ b
 below_itself a b h (itself s) = refl
 below_itself a b h (through s c u pair rest) =
-  let e : c ≡ u = below_itself c u h rest in
-  absurd (sorts_differ u sort_e h (sym e ∙ (the_pair s c pair).1))
+    let e : c ≡ u = below_itself c u h rest in
+    absurd (sorts_differ u sort_e h (sym e ∙ (the_pair s c pair).1))
 
 -- ---- what a search found
 
@@ -71,9 +71,9 @@ int_values (truth b) h = absurd (sorts_differ sort_bool sort_int refl (some_insi
     some_inside s t e = cc
 int_values (token t x) h = absurd (false_true (subst (λ s. is_token_sort toys_signature s ≡ true) (below_itself h.0 sort_int refl h.2) h.1.1))
 int_values (constructed c us) h =
-  let own : KoreSort = h.0.0 in
-  let d : SymbolDeclaration = h.0.1.0 in
-  absurd (not_both (is_construction (symbol_meaning toys_signature d)) (sorts_equal d.result sort_int)
+    let own : KoreSort = h.0.0 in
+    let d : SymbolDeclaration = h.0.1.0 in
+    absurd (not_both (is_construction (symbol_meaning toys_signature d)) (sorts_equal d.result sort_int)
     (found_passes (makes_no sort_int) (λ e. bytes_eq e.name c) toys_signature.symbols d none_makes_int h.0.1.1)
     (ap is_construction h.0.1.2)
     ((same_sorts_decide d.result sort_int).1 (h.0.1.3 ∙ below_itself own sort_int refl h.0.2)))
@@ -113,7 +113,7 @@ undeclared_has_none (truth b) h = sorts_differ sort_bool (plain_sort (codes "Sor
     bool_inside t e = cc
 undeclared_has_none (token t x) h = false_true (subst (λ s. is_token_sort toys_signature s ≡ true) (below_itself h.0 (plain_sort (codes "SortNope")) refl h.2) h.1.1)
 undeclared_has_none (constructed c us) h =
-  not_both (is_construction (symbol_meaning toys_signature h.0.1.0)) (sorts_equal h.0.1.0.result (plain_sort (codes "SortNope")))
+    not_both (is_construction (symbol_meaning toys_signature h.0.1.0)) (sorts_equal h.0.1.0.result (plain_sort (codes "SortNope")))
     (found_passes (makes_no (plain_sort (codes "SortNope"))) (λ e. bytes_eq e.name c) toys_signature.symbols h.0.1.0 refl h.0.1.1)
     (ap is_construction h.0.1.2)
     ((same_sorts_decide h.0.1.0.result (plain_sort (codes "SortNope"))).1 (h.0.1.3 ∙ below_itself h.0.0 (plain_sort (codes "SortNope")) refl h.0.2))

@@ -1,6 +1,6 @@
 -- Theories of one or two rules over the example's signature, each for one question.
 use Rattle.std.specs.Prelude.{ℕ, List, [], ◌∷◌, codes}
-use Rattle.kp_kore.specs.Syntax.{Text, KorePattern, bottom}
+use Rattle.kp_kore.specs.Syntax.{KorePattern, bottom}
 use Rattle.kp_semantics.specs.Rules.{rewrite, RewriteRule}
 use Rattle.kp_semantics.specs.Theory.{Theory}
 use Rattle.kp_toys.specs.Toys.{sort_int, sort_s, call, n}
@@ -17,7 +17,8 @@ abbrev pub from_lone : ℕ → KorePattern → List KorePattern → RewriteRule
 from_lone priority right ensured = record {
   id = codes "S.lone";
   priority = priority;
-  body = rewrite (record { left = lone; condition = []; new_variables = []; right = right; ensured = ensured }) }
+  body = rewrite (record { left = lone; condition = []; new_variables = []; right = right; ensured = ensured });
+}
 
 -- two rules fire on lone, of priorities 50 and 20
 abbrev pub two_priorities : Theory
@@ -29,7 +30,11 @@ blocked = record { signature = toys_signature; rules = from_lone 50 goal_of_lone
 
 -- vh(N) goes to vh(Y), Y being new
 abbrev pub choosing : Theory
-choosing = record { signature = toys_signature; rules = record {
-  id = codes "S.choose";
-  priority = 50;
-  body = rewrite (record { left = vh_of n; condition = []; new_variables = record { name = codes "Y"; sort = sort_int } ∷ []; right = vh_of y; ensured = [] }) } ∷ [] }
+choosing = record {
+  signature = toys_signature;
+  rules = record {
+    id = codes "S.choose";
+    priority = 50;
+    body = rewrite (record { left = vh_of n; condition = []; new_variables = record { name = codes "Y"; sort = sort_int } ∷ []; right = vh_of y; ensured = [] });
+  } ∷ [];
+}

@@ -70,18 +70,19 @@ abbrev pub basic : KoreModule
 basic = record {
   name = codes "BASIC";
   sentences =
-    hooked_sort (codes "SortBool") (codes "BOOL.Bool") ∷
-    hooked_sort (codes "SortInt") (codes "INT.Int") ∷
-    symbol_sentence (record { hooked = false; name = codes "inj"; parameters = codes "From" ∷ codes "To" ∷ []; arguments = sorts (sort_variable (codes "From") ∷ []); result = sort_variable (codes "To"); attributes = patterns (mark (codes "sortInjection") ∷ []) }) ∷
-    hooked_function (codes "Lbladd") sort_int (codes "INT.add") ∷
-    hooked_function (codes "Lblsub") sort_int (codes "INT.sub") ∷
-    hooked_function (codes "Lblmul") sort_int (codes "INT.mul") ∷
-    hooked_function (codes "Lbleq") sort_bool (codes "INT.eq") ∷
-    hooked_function (codes "Lblgt") sort_bool (codes "INT.gt") ∷
-    hooked_function (codes "Lblge") sort_bool (codes "INT.ge") ∷
-    hooked_function (codes "Lbllt") sort_bool (codes "INT.lt") ∷
-    hooked_function (codes "Lblle") sort_bool (codes "INT.le") ∷ [];
-  attributes = no_patterns }
+      hooked_sort (codes "SortBool") (codes "BOOL.Bool") ∷
+      hooked_sort (codes "SortInt") (codes "INT.Int") ∷
+      symbol_sentence (record { hooked = false; name = codes "inj"; parameters = codes "From" ∷ codes "To" ∷ []; arguments = sorts (sort_variable (codes "From") ∷ []); result = sort_variable (codes "To"); attributes = patterns (mark (codes "sortInjection") ∷ []) }) ∷
+      hooked_function (codes "Lbladd") sort_int (codes "INT.add") ∷
+      hooked_function (codes "Lblsub") sort_int (codes "INT.sub") ∷
+      hooked_function (codes "Lblmul") sort_int (codes "INT.mul") ∷
+      hooked_function (codes "Lbleq") sort_bool (codes "INT.eq") ∷
+      hooked_function (codes "Lblgt") sort_bool (codes "INT.gt") ∷
+      hooked_function (codes "Lblge") sort_bool (codes "INT.ge") ∷
+      hooked_function (codes "Lbllt") sort_bool (codes "INT.lt") ∷
+      hooked_function (codes "Lblle") sort_bool (codes "INT.le") ∷ [];
+  attributes = no_patterns;
+}
 
 -- N:SortInt{}
 abbrev pub n : KorePattern
@@ -100,7 +101,8 @@ abbrev pub subsort_axiom : KoreSentence
 subsort_axiom = axiom_sentence (record {
   parameters = codes "R" ∷ [];
   pattern = exists (sort_variable (codes "R")) (codes "Val") sort_e (equals sort_e (sort_variable (codes "R")) (variable (codes "Val") sort_e) (injected (variable (codes "From") sort_int)));
-  attributes = patterns (application (codes "subsort") (sorts (sort_int ∷ sort_e ∷ [])) no_patterns ∷ []) })
+  attributes = patterns (application (codes "subsort") (sorts (sort_int ∷ sort_e ∷ [])) no_patterns ∷ []);
+})
 
 -- ---- the rewrite axioms
 
@@ -138,41 +140,42 @@ back_axiom = rewriting sort_s (call (codes "Lblvg") []) (call (codes "Lblvh") (v
 
 abbrev pub toys_sentences : List KoreSentence
 toys_sentences =
-  import_sentence (codes "BASIC") no_patterns ∷
-  declared (codes "SortS") ∷
-  declared (codes "SortP") ∷
-  declared (codes "SortE") ∷
-  constructor (codes "Lblpa") [] sort_p ∷
-  constructor (codes "Lblpb") [] sort_p ∷
-  constructor (codes "Lblpc") [] sort_p ∷
-  constructor (codes "Lblnil") [] sort_e ∷
-  constructor (codes "Lblcount") (sort_int ∷ []) sort_s ∷
-  constructor (codes "Lbldone") [] sort_s ∷
-  constructor (codes "Lblpick") (sort_p ∷ []) sort_s ∷
-  constructor (codes "Lblnum") (sort_e ∷ []) sort_s ∷
-  constructor (codes "Lblsq") (sort_int ∷ []) sort_s ∷
-  constructor (codes "Lblup") (sort_int ∷ []) sort_s ∷
-  constructor (codes "Lblodd") (sort_int ∷ []) sort_s ∷
-  constructor (codes "Lbllone") [] sort_s ∷
-  constructor (codes "Lblgoal") [] sort_s ∷
-  constructor (codes "Lblloop") [] sort_s ∷
-  constructor (codes "Lblvf") (sort_int ∷ []) sort_s ∷
-  constructor (codes "Lblvg") [] sort_s ∷
-  constructor (codes "Lblvh") (sort_int ∷ []) sort_s ∷
-  symbol_sentence (record { hooked = false; name = codes "Lblother"; parameters = []; arguments = sorts (sort_int ∷ []); result = sort_int; attributes = patterns (mark (codes "function") ∷ []) }) ∷
-  subsort_axiom ∷
-  rewrite_axiom dec_axiom (codes "TOYS.dec") ∷
-  rewrite_axiom stop_axiom (codes "TOYS.stop") ∷
-  rewrite_axiom pick_axiom (codes "TOYS.pick") ∷
-  rewrite_axiom num_axiom (codes "TOYS.num") ∷
-  rewrite_axiom sq_axiom (codes "TOYS.sq") ∷
-  rewrite_axiom up_axiom (codes "TOYS.up") ∷
-  rewrite_axiom odd_axiom (codes "TOYS.odd") ∷
-  rewrite_axiom spin_axiom (codes "TOYS.spin") ∷
-  rewrite_axiom van_axiom (codes "TOYS.van") ∷
-  rewrite_axiom back_axiom (codes "TOYS.back") ∷ []
+    import_sentence (codes "BASIC") no_patterns ∷
+    declared (codes "SortS") ∷
+    declared (codes "SortP") ∷
+    declared (codes "SortE") ∷
+    constructor (codes "Lblpa") [] sort_p ∷
+    constructor (codes "Lblpb") [] sort_p ∷
+    constructor (codes "Lblpc") [] sort_p ∷
+    constructor (codes "Lblnil") [] sort_e ∷
+    constructor (codes "Lblcount") (sort_int ∷ []) sort_s ∷
+    constructor (codes "Lbldone") [] sort_s ∷
+    constructor (codes "Lblpick") (sort_p ∷ []) sort_s ∷
+    constructor (codes "Lblnum") (sort_e ∷ []) sort_s ∷
+    constructor (codes "Lblsq") (sort_int ∷ []) sort_s ∷
+    constructor (codes "Lblup") (sort_int ∷ []) sort_s ∷
+    constructor (codes "Lblodd") (sort_int ∷ []) sort_s ∷
+    constructor (codes "Lbllone") [] sort_s ∷
+    constructor (codes "Lblgoal") [] sort_s ∷
+    constructor (codes "Lblloop") [] sort_s ∷
+    constructor (codes "Lblvf") (sort_int ∷ []) sort_s ∷
+    constructor (codes "Lblvg") [] sort_s ∷
+    constructor (codes "Lblvh") (sort_int ∷ []) sort_s ∷
+    symbol_sentence (record { hooked = false; name = codes "Lblother"; parameters = []; arguments = sorts (sort_int ∷ []); result = sort_int; attributes = patterns (mark (codes "function") ∷ []) }) ∷
+    subsort_axiom ∷
+    rewrite_axiom dec_axiom (codes "TOYS.dec") ∷
+    rewrite_axiom stop_axiom (codes "TOYS.stop") ∷
+    rewrite_axiom pick_axiom (codes "TOYS.pick") ∷
+    rewrite_axiom num_axiom (codes "TOYS.num") ∷
+    rewrite_axiom sq_axiom (codes "TOYS.sq") ∷
+    rewrite_axiom up_axiom (codes "TOYS.up") ∷
+    rewrite_axiom odd_axiom (codes "TOYS.odd") ∷
+    rewrite_axiom spin_axiom (codes "TOYS.spin") ∷
+    rewrite_axiom van_axiom (codes "TOYS.van") ∷
+    rewrite_axiom back_axiom (codes "TOYS.back") ∷ []
 
 abbrev pub toys_definition : KoreDefinition
 toys_definition = record {
   attributes = no_patterns;
-  modules = basic ∷ record { name = codes "TOYS"; sentences = toys_sentences; attributes = no_patterns } ∷ [] }
+  modules = basic ∷ record { name = codes "TOYS"; sentences = toys_sentences; attributes = no_patterns } ∷ [];
+}

@@ -19,7 +19,8 @@ abbrev pub plain_rule : Text → KorePattern → List KorePattern → KorePatter
 plain_rule id left condition right = record {
   id = id;
   priority = usual_priority;
-  body = rewrite (record { left = left; condition = condition; new_variables = []; right = right; ensured = [] }) }
+  body = rewrite (record { left = left; condition = condition; new_variables = []; right = right; ensured = [] });
+}
 
 abbrev pub count_of : KorePattern → KorePattern
 count_of p = call (codes "Lblcount") (p ∷ [])
@@ -59,7 +60,8 @@ abbrev pub odd_rule : RewriteRule
 odd_rule = record {
   id = codes "TOYS.odd";
   priority = usual_priority;
-  body = foreign_rule (record { sort = sort_s; term = Some (call (codes "Lblodd") (n ∷ [])) }) }
+  body = foreign_rule (record { sort = sort_s; term = Some (call (codes "Lblodd") (n ∷ [])) });
+}
 
 abbrev pub spin_rule : RewriteRule
 spin_rule = plain_rule (codes "TOYS.spin") (call (codes "Lblloop") []) [] (call (codes "Lblloop") [])
@@ -71,9 +73,11 @@ abbrev pub back_rule : RewriteRule
 back_rule = record {
   id = codes "TOYS.back";
   priority = usual_priority;
-  body = rewrite (record { left = vg; condition = []; new_variables = record { name = codes "Y"; sort = sort_int } ∷ []; right = vh_of y; ensured = [] }) }
+  body = rewrite (record { left = vg; condition = []; new_variables = record { name = codes "Y"; sort = sort_int } ∷ []; right = vh_of y; ensured = [] });
+}
 
 abbrev pub toys : Theory
 toys = record {
   signature = toys_signature;
-  rules = dec_rule ∷ stop_rule ∷ pick_rule ∷ num_rule ∷ sq_rule ∷ up_rule ∷ odd_rule ∷ spin_rule ∷ van_rule ∷ back_rule ∷ [] }
+  rules = dec_rule ∷ stop_rule ∷ pick_rule ∷ num_rule ∷ sq_rule ∷ up_rule ∷ odd_rule ∷ spin_rule ∷ van_rule ∷ back_rule ∷ [];
+}

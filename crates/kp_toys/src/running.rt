@@ -10,12 +10,10 @@ ghost use Rattle.kp_toys.specs.ToysClaims.{back_to_start, back_somewhere};
 pub fn claims_keep_the_variables_of_the_left()
     ensures somewhere { Holds toys back_somewhere }
     ensures start { ¬ Holds toys back_to_start }
-{
-}
+{}
 
 /// The reply to execute of count(2) is done, stuck at depth 3; at the bound 0 it is count(2) itself.
 pub fn the_reply_to_count_two_is_right()
     ensures stuck { IsRightExecuted toys [] 10000 (count_of (integer (codes "2"))) (record { depth = 3; reason = stuck; state = done }) }
     ensures bound { IsRightExecuted toys [] 0 (count_of (integer (codes "2"))) (record { depth = 0; reason = depth_bound; state = count_of (integer (codes "2")) }) }
-{
-}
+{}
