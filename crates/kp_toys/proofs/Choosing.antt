@@ -106,7 +106,7 @@ blocked_is_not_final f = elim f [
 
 -- ---- two steps by one rule
 
-off_one : (x y : Text) (u : Value) (v : Valuation) → (bytes_eq x y || false) ≡ false → assigned v x u y ≡ v y
+pub off_one : (x y : Text) (u : Value) (v : Valuation) → (bytes_eq x y || false) ≡ false → assigned v x u y ≡ v y
 off_one x y u v h = by_test (bytes_eq x y) refl h
   where
     by_test : (b : Bool) → bytes_eq x y ≡ b → (b || false) ≡ false → assigned v x u y ≡ v y

@@ -1,5 +1,6 @@
 pub mod Choosing
 pub mod Claimed
+pub mod Keeping
 pub mod Matching
 pub mod Means
 pub mod Replied

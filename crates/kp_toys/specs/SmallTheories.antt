@@ -38,3 +38,14 @@ choosing = record {
     body = rewrite (record { left = vh_of n; condition = []; new_variables = record { name = codes "Y"; sort = sort_int } ∷ []; right = vh_of y; ensured = [] });
   } ∷ [];
 }
+
+-- vf(N) goes to vh(N): the number is kept
+abbrev pub keeping : Theory
+keeping = record {
+  signature = toys_signature;
+  rules = record {
+    id = codes "S.keep";
+    priority = 50;
+    body = rewrite (record { left = call (codes "Lblvf") (n ∷ []); condition = []; new_variables = []; right = vh_of n; ensured = [] });
+  } ∷ [];
+}

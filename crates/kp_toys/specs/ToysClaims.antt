@@ -19,3 +19,7 @@ back_to_start = record { left = vf_of x; right = vh_of x }
 -- vf(X) to vh(Y), for some Y
 abbrev pub back_somewhere : ReachabilityClaim
 back_somewhere = record { left = vf_of x; right = vh_of y }
+
+-- Fresh1:SortInt{}
+abbrev pub fresh : KorePattern
+fresh = variable (codes "Fresh1") sort_int
