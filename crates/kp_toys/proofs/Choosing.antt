@@ -1,17 +1,17 @@
 -- New variables, ensured conditions and priorities.
-use Rattle.std.proofs.Common.{◌≡◌, refl, sym, ◌∙◌, ap, subst, inl, inr, Bool, true, false, [], ℤ, ◌↔◌, arith}
+use Rattle.std.proofs.Common.{◌≡◌, refl, sym, ◌∙◌, ap, subst, inl, inr, Bool, true, false, [], ℤ, ◌↔◌, arith, pos, ◌∷◌}
 use Rattle.std.specs.Prelude.{codes}
 use Rattle.kp_semantics.specs.Value.{Value, whole, constructed, no_values, next_value}
 use Rattle.std.specs.Prelude.{◌||◌}
 use Rattle.std.specs.Str.{bytes_eq}
 use Rattle.kp_kore.specs.Syntax.{Text}
 use Rattle.kp_semantics.specs.Instance.{Valuation, assigned}
-use Rattle.kp_semantics.specs.Steps.{Steps, StepsBy, IsFinal, IsUnknown, Fires, HasTurn}
+use Rattle.kp_semantics.specs.Steps.{StepsIn, Steps, StepsBy, IsFinal, IsUnknown, Fires, HasTurn}
 use Rattle.kp_toys.specs.ToysTheory.{toys, toys_signature, back_rule}
-use Rattle.kp_toys.specs.ToysValues.{vg_value, vh_value, lone_value, goal_value}
-use Rattle.kp_toys.specs.SmallTheories.{two_priorities, blocked, choosing, from_lone, goal_of_lone}
+use Rattle.kp_toys.specs.ToysValues.{vg_value, vh_value, lone_value, goal_value, made}
+use Rattle.kp_toys.specs.SmallTheories.{two_priorities, blocked, choosing, shadowed, from_call, from_lone, goal_of_lone}
 use Rattle.kp_toys.specs.ToysTheory.{done}
-use Rattle.kp_toys.proofs.Matching.{not_by, int_has_sort, vg_steps}
+use Rattle.kp_toys.proofs.Matching.{texts_differ, not_by, int_has_sort, vg_steps}
 use Rattle.kp_toys.proofs.Sorts.{int_values}
 
 -- ---- vg
@@ -123,3 +123,24 @@ chooses k m = inl (record {
     record { chosen = assigned (λ x. whole k) (codes "Y") (whole m); agrees = λ x h. off_one (codes "Y") x (whole m) (λ x. whole k) h; sorts = (int_has_sort m, tt); ensured = tt; result = refl },
   );
 })
+
+pub two_choices : StepsIn choosing 2 (vh_value (pos 0)) (vh_value (pos 2))
+two_choices = (vh_value (pos 1), chooses (pos 0) (pos 1), (vh_value (pos 2), chooses (pos 1) (pos 2), refl))
+
+-- ---- foreign rules
+
+lone_unknown : IsUnknown shadowed lone_value
+lone_unknown = inl ((λ x. lone_value), (refl, tt))
+
+pub shadowed_steps_nowhere : (next : Value) → ¬ Steps shadowed lone_value next
+shadowed_steps_nowhere next s = elim s [ inl a ↦ a.known lone_unknown | inr s ↦ elim s [ inl a ↦ a.known lone_unknown | inr a ↦ a ] ]
+
+pub shadowed_is_final : IsFinal shadowed lone_value
+shadowed_is_final = inl lone_unknown
+
+-- whatever stands for the call
+pub call_is_any_number : (k : ℤ) → IsUnknown from_call (made (codes "Lblcount") (whole k ∷ []))
+call_is_any_number k = inl ((λ x. whole k), (refl, (int_has_sort k, tt)))
+
+pub call_is_no_other_head : ¬ IsUnknown from_call lone_value
+call_is_no_other_head u = elim u [ inl a ↦ texts_differ (codes "Lbllone") (codes "Lblcount") refl a.1.0 | inr a ↦ a ]

@@ -6,11 +6,15 @@ use Rattle.std.specs.Str.{bytes_eq}
 use Rattle.kp_kore.specs.Syntax.{Text, KoreSort, SymbolDeclaration}
 use Rattle.kp_kore.specs.Attributes.{sorts_equal}
 use Rattle.kp_kore.specs.Signature.{IsBelow, itself, through, SymbolMeaning, symbol_meaning, construction, integer_sort, boolean_sort, is_token_sort}
-use Rattle.kp_semantics.specs.Value.{Value, whole, truth, token, constructed, Values, HasSort}
+use Rattle.kp_semantics.specs.Value.{no_values, next_value, Value, whole, truth, token, constructed, Values, HasSort}
 use Rattle.kp_semantics.proofs.SameLemmas.{same_sorts_decide}
 use Rattle.kp_semantics.proofs.InstanceLemmas.{first_true, second_true}
 use Rattle.kp_semantics.proofs.TurnLemmas.{of_member}
-use Rattle.kp_toys.proofs.Matching.{differ}
+use Rattle.kp_semantics.specs.Instance.{Valuation}
+use Rattle.kp_semantics.specs.Steps.{Fires, NoneFires}
+use Rattle.kp_toys.specs.ToysTheory.{toys, num_rule}
+use Rattle.kp_toys.specs.ToysValues.{num_value, nil_value}
+use Rattle.kp_toys.proofs.Matching.{differ, other_head}
 use Rattle.kp_toys.specs.Toys.{sort_int, sort_s, sort_e, sort_bool, plain_sort}
 use Rattle.kp_toys.specs.ToysTheory.{toys_signature}
 
@@ -117,3 +121,44 @@ undeclared_has_none (constructed c us) h =
     (found_passes (makes_no (plain_sort (codes "SortNope"))) (λ e. bytes_eq e.name c) toys_signature.symbols h.0.1.0 refl h.0.1.1)
     (ap is_construction h.0.1.2)
     ((same_sorts_decide h.0.1.0.result (plain_sort (codes "SortNope"))).1 (h.0.1.3 ∙ below_itself h.0.0 (plain_sort (codes "SortNope")) refl h.0.2))
+
+-- ---- num fires on whole numbers alone
+
+pub num_keeps_nil : NoneFires toys (num_value nil_value)
+num_keeps_nil = (
+  (λ f. other_head _ (num_value nil_value) (λ v. refl) f),
+  (
+    (λ f. other_head _ (num_value nil_value) (λ v. refl) f),
+    (
+      (λ f. other_head _ (num_value nil_value) (λ v. refl) f),
+      (
+        (λ f. no_number f.0 (f.0 (codes "N")) f.1.sorts.0 f.1.matches),
+        (
+          (λ f. other_head _ (num_value nil_value) (λ v. refl) f),
+          (
+            (λ f. other_head _ (num_value nil_value) (λ v. refl) f),
+            (
+              (λ f. f),
+              (
+                (λ f. other_head _ (num_value nil_value) (λ v. refl) f),
+                (
+                  (λ f. other_head _ (num_value nil_value) (λ v. refl) f),
+                  ((λ f. other_head _ (num_value nil_value) (λ v. refl) f), tt),
+                ),
+              ),
+            ),
+          ),
+        ),
+      ),
+    ),
+  ),
+)
+  where
+    under_num : (u : Value) → constructed (codes "Lblnum") (next_value u no_values) ≡ num_value nil_value → u ≡ nil_value
+    under_num u e = cc
+
+    no_number : (v : Valuation) (u : Value) → HasSort toys_signature sort_int u → constructed (codes "Lblnum") (next_value u no_values) ≡ num_value nil_value → ⊥
+    no_number v u h e = made_is_no_int (codes "Lblnil") no_values (subst (HasSort toys_signature sort_int) (under_num u e) h)
+
+pub num_fires_on_numbers : (k : ℤ) → Fires toys_signature num_rule.body (num_value (whole k))
+num_fires_on_numbers k = ((λ x. whole k), record { sorts = ((sort_int, refl, itself sort_int), tt); matches = refl; condition = tt })

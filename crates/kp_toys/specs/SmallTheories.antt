@@ -1,10 +1,10 @@
 -- Theories of one or two rules over the example's signature, each for one question.
-use Rattle.std.specs.Prelude.{ℕ, List, [], ◌∷◌, codes}
+use Rattle.std.specs.Prelude.{Some, ℕ, List, [], ◌∷◌, codes}
 use Rattle.kp_kore.specs.Syntax.{KorePattern, bottom}
-use Rattle.kp_semantics.specs.Rules.{rewrite, RewriteRule}
+use Rattle.kp_semantics.specs.Rules.{rewrite, foreign_rule, RewriteRule}
 use Rattle.kp_semantics.specs.Theory.{Theory}
-use Rattle.kp_toys.specs.Toys.{sort_int, sort_s, call, n}
-use Rattle.kp_toys.specs.ToysTheory.{toys_signature, vh_of, y, done}
+use Rattle.kp_toys.specs.Toys.{integer, sort_int, sort_s, call, n}
+use Rattle.kp_toys.specs.ToysTheory.{toys_signature, count_of, vh_of, y, done}
 
 abbrev pub lone : KorePattern
 lone = call (codes "Lbllone") []
@@ -19,6 +19,10 @@ from_lone priority right ensured = record {
   priority = priority;
   body = rewrite (record { left = lone; condition = []; new_variables = []; right = right; ensured = ensured });
 }
+
+-- a foreign rule of which the left term is known
+abbrev pub foreign_from : KorePattern → RewriteRule
+foreign_from left = record { id = codes "S.foreign"; priority = 50; body = foreign_rule (record { sort = sort_s; term = Some left }) }
 
 -- two rules fire on lone, of priorities 50 and 20
 abbrev pub two_priorities : Theory
@@ -49,3 +53,11 @@ keeping = record {
     body = rewrite (record { left = call (codes "Lblvf") (n ∷ []); condition = []; new_variables = []; right = vh_of n; ensured = [] });
   } ∷ [];
 }
+
+-- a foreign rule and a rule that fires, both from lone
+abbrev pub shadowed : Theory
+shadowed = record { signature = toys_signature; rules = foreign_from lone ∷ from_lone 50 goal_of_lone [] ∷ [] }
+
+-- a foreign rule from count(N - 1): what stands for the call may be any whole number
+abbrev pub from_call : Theory
+from_call = record { signature = toys_signature; rules = foreign_from (count_of (call (codes "Lblsub") (n ∷ integer (codes "1") ∷ []))) ∷ [] }

@@ -34,3 +34,9 @@ vh_value k = made (codes "Lblvh") (whole k ∷ [])
 
 abbrev pub goal_value : Value
 goal_value = made (codes "Lblgoal") []
+
+abbrev pub num_value : Value → Value
+num_value u = made (codes "Lblnum") (u ∷ [])
+
+abbrev pub nil_value : Value
+nil_value = made (codes "Lblnil") []

@@ -1,10 +1,10 @@
 // Steps of the example.
 ghost use Rattle.std.specs.Prelude.{◌≡◌, ◌↔◌, ℤ, pos, [], List};
 ghost use Rattle.kp_semantics.specs.Value.{Value, whole};
-ghost use Rattle.kp_semantics.specs.Steps.{Steps, IsFinal, IsUnknown, HasTurn};
-ghost use Rattle.kp_toys.specs.ToysTheory.{toys, done};
-ghost use Rattle.kp_toys.specs.ToysValues.{count, done_value, odd, vg_value, vh_value, lone_value, goal_value};
-ghost use Rattle.kp_toys.specs.SmallTheories.{two_priorities, blocked, choosing, from_lone, goal_of_lone};
+ghost use Rattle.kp_semantics.specs.Steps.{Steps, StepsIn, IsFinal, IsUnknown, HasTurn, Fires, NoneFires};
+ghost use Rattle.kp_toys.specs.ToysTheory.{toys, toys_signature, num_rule, done};
+ghost use Rattle.kp_toys.specs.ToysValues.{count, done_value, odd, vg_value, vh_value, lone_value, goal_value, num_value, nil_value};
+ghost use Rattle.kp_toys.specs.SmallTheories.{two_priorities, blocked, choosing, shadowed, from_call, from_lone, goal_of_lone};
 
 /// count(2) steps to count(1) and to nothing else.
 pub fn count_two_steps_to_count_one()
@@ -52,5 +52,24 @@ pub fn an_ensured_condition_that_fails_ends_the_run()
 
 /// Two steps by one rule may choose different values for its new variable.
 pub fn each_step_chooses_anew()
-    ensures { (Steps choosing (vh_value (pos 0)) (vh_value (pos 1))) × (Steps choosing (vh_value (pos 1)) (vh_value (pos 2))) }
+    ensures { StepsIn choosing 2 (vh_value (pos 0)) (vh_value (pos 2)) }
+{}
+
+/// What a foreign rule might rewrite steps nowhere and is final, also where another rule fires.
+#[tactic(auto, using(crate::proofs::Choosing::shadowed_steps_nowhere, crate::proofs::Choosing::shadowed_is_final))]
+pub fn a_foreign_rule_stops_the_others()
+    ensures nowhere { (next : Value) → ¬ Steps shadowed lone_value next }
+    ensures is_final { IsFinal shadowed lone_value }
+{}
+
+/// In a foreign rule's left term a call stands for any value of its sort; its constructors still have to match.
+pub fn a_call_in_a_foreign_left_is_any_value()
+    ensures any { (k : ℤ) → IsUnknown from_call (count k) }
+    ensures other_head { ¬ IsUnknown from_call lone_value }
+{}
+
+/// num(inj(N)) fires on each whole number, and on nothing else of its sort: a variable has values of its sort alone.
+pub fn a_rule_fires_on_values_of_its_sorts()
+    ensures number { (k : ℤ) → Fires toys_signature num_rule.body (num_value (whole k)) }
+    ensures nil { NoneFires toys (num_value nil_value) }
 {}

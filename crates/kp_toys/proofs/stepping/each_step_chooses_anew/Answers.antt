@@ -1,5 +1,5 @@
-use Rattle.kp_toys.proofs.Choosing.{chooses}
+use Rattle.kp_toys.proofs.Choosing.{two_choices}
 use Rattle.kp_toys.proofs.stepping.each_step_chooses_anew.Goals as goal
 
 pub returns : goal.returns
-returns c = (chooses _ _, chooses _ _)
+returns c = two_choices
