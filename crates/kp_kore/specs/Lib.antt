@@ -5,3 +5,4 @@ pub mod Parts
 pub mod Signature
 pub mod Sorting
 pub mod Syntax
+pub mod View
