@@ -4,6 +4,7 @@
 #![tactic(auto)]
 
 pub mod pattern;
+mod pattern_copy;
 pub mod sentence;
 pub mod sort;
 
