@@ -2,7 +2,7 @@
 use Rattle.std.proofs.Common.{◌≡◌, refl, sym, ◌∙◌, ap, ap₂, subst, Bool, true, false, ◌&&◌, List, [], ◌∷◌, ◌++◌, ◌↔◌}
 use Rattle.std.specs.List.{AllByRecursion}
 use Rattle.kp_kore.specs.Syntax.{Text, KoreSort, KoreSorts, KorePattern, KorePatterns, variable, application, literal, no_patterns, next_pattern}
-use Rattle.kp_kore.specs.Parts.{SortedName, is_term, are_terms, free_variables, all_free_variables}
+use Rattle.kp_kore.specs.Parts.{SortedName, is_term, free_variables, all_free_variables}
 use Rattle.kp_kore.specs.Signature.{KoreSignature, injection, meaning_of}
 use Rattle.kp_semantics.specs.Value.{Value, next_value}
 use Rattle.kp_semantics.specs.Forms.{injected}
@@ -57,22 +57,21 @@ agrees_second [] ys v w h = h
 agrees_second (x ∷ xs) ys v w h = agrees_second xs ys v w h.1
 
 mutual
-  pub same_instance : (g : KoreSignature) (v w : Valuation) (t : KorePattern) → is_term t ≡ true → AgreesOn (free_variables t) v w → instance g w t ≡ instance g v t
-  same_instance g v w (variable x s) h a = a.0
-  same_instance g v w (literal s text) h a = refl
-  same_instance g v w (application f ss ps) h a = ap (applied (meaning_of g f) f) (same_instances g v w ps h a)
-  same_instance g v w _ h a = cc
+  pub same_instance : (g : KoreSignature) (v w : Valuation) (t : KorePattern) → AgreesOn (free_variables t) v w → instance g w t ≡ instance g v t
+  same_instance g v w (variable x s) a = a.0
+  same_instance g v w (application f ss ps) a = ap (applied (meaning_of g f) f) (same_instances g v w ps a)
+  same_instance g v w _ a = refl
 
-  pub same_instances : (g : KoreSignature) (v w : Valuation) (ps : KorePatterns) → are_terms ps ≡ true → AgreesOn (all_free_variables ps) v w → instances g w ps ≡ instances g v ps
-  same_instances g v w no_patterns h a = refl
-  same_instances g v w (next_pattern p ps) h a =
+  pub same_instances : (g : KoreSignature) (v w : Valuation) (ps : KorePatterns) → AgreesOn (all_free_variables ps) v w → instances g w ps ≡ instances g v ps
+  same_instances g v w no_patterns a = refl
+  same_instances g v w (next_pattern p ps) a =
       ap₂ next_value
-      (same_instance g v w p (first_true (is_term p) (are_terms ps) h) (agrees_first (free_variables p) (all_free_variables ps) v w a))
-      (same_instances g v w ps (second_true (is_term p) (are_terms ps) h) (agrees_second (free_variables p) (all_free_variables ps) v w a))
+      (same_instance g v w p (agrees_first (free_variables p) (all_free_variables ps) v w a))
+      (same_instances g v w ps (agrees_second (free_variables p) (all_free_variables ps) v w a))
 
 -- a term without variables has one instance, whatever the valuation
-pub closed_instance : (g : KoreSignature) (v w : Valuation) (t : KorePattern) → is_term t ≡ true → free_variables t ≡ [] → instance g w t ≡ instance g v t
-closed_instance g v w t h none = same_instance g v w t h (agrees_on_none (free_variables t) none)
+pub closed_instance : (g : KoreSignature) (v w : Valuation) (t : KorePattern) → free_variables t ≡ [] → instance g w t ≡ instance g v t
+closed_instance g v w t none = same_instance g v w t (agrees_on_none (free_variables t) none)
   where
     agrees_on_none : (xs : List SortedName) → xs ≡ [] → AgreesOn xs v w
     agrees_on_none [] e = tt

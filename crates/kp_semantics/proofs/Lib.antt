@@ -1,3 +1,4 @@
 pub mod InstanceLemmas
 pub mod SameLemmas
+pub mod TruthLemmas
 pub mod TurnLemmas

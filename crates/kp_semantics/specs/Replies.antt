@@ -5,7 +5,7 @@ use Rattle.std.specs.List.{AllByRecursion, filter, list_any}
 use Rattle.std.specs.Fmt.{decimal}
 use Rattle.std.specs.Str.{bytes_eq}
 use Rattle.kp_kore.specs.Syntax.{Text, KorePattern, KorePatterns, application, literal, no_patterns, next_pattern}
-use Rattle.kp_kore.specs.Parts.{SortedName, subpatterns, free_variables}
+use Rattle.kp_kore.specs.Parts.{SortedName, subpatterns, free_variables, variable_names}
 use Rattle.kp_kore.specs.Signature.{KoreSignature, meaning_of}
 use Rattle.kp_semantics.specs.Value.{Value, whole}
 use Rattle.kp_semantics.specs.Instance.{Valuation, instance, GivesSorts, AgreesOff, IsInstance, is_named, conjoined_predicates}
@@ -16,8 +16,13 @@ use Rattle.kp_semantics.specs.Steps.{HasTurn, IsUnknown, StepsIn, IsFinal, NoneF
 
 -- ---- new variables
 
+-- Fresh and a number from 1
 abbrev pub IsFreshName : Text → Type 0
 IsFreshName x = (n : ℕ) × (1 ≤ n) × (x ≡ codes "Fresh" ++ decimal n)
+
+-- the name doesn't stand in the pattern
+abbrev pub IsAbsent : Text → KorePattern → Type 0
+IsAbsent x p = list_any (bytes_eq x) (variable_names p) ≡ false
 
 -- the variables of t that s hasn't
 abbrev pub variables_beyond : KorePattern → KorePattern → List SortedName
@@ -47,7 +52,7 @@ pub record After (t : Theory) (listed : List Text) (s s' : KorePattern) (d : ℕ
       IsAfter t s v d later
   pub not_final : (v : Valuation) (n : ℕ) (c : Value) → GivesSorts t.signature v (free_variables s) → n < d → IsAfter t s v n c → ¬ IsFinal t c
   pub none_listed : (v : Valuation) (n : ℕ) (c : Value) → GivesSorts t.signature v (free_variables s) → n < d → IsAfter t s v n c → NoneListed t listed c
-  pub names : AllByRecursion (λ x. IsFreshName x.name) (variables_beyond s s')
+  pub names : AllByRecursion (λ x. IsFreshName x.name × IsAbsent x.name s) (variables_beyond s s')
 
 -- ---- results
 

@@ -31,14 +31,14 @@ pub fn each_conjunction_has_at_most_one_instance()
 #[tactic(auto, using(crate::proofs::InstanceLemmas::same_instance))]
 pub fn instances_depend_on_the_variables_alone()
     ensures { (g : KoreSignature) (v w : Valuation) (t : KorePattern) →
-        is_term t ≡ true → AgreesOn (free_variables t) v w → instance g w t ≡ instance g v t }
+        AgreesOn (free_variables t) v w → instance g w t ≡ instance g v t }
 {}
 
 /// The instance of a term without variables doesn't depend on the valuation.
 #[tactic(auto, using(crate::proofs::InstanceLemmas::closed_instance))]
 pub fn closed_terms_have_one_instance_everywhere()
     ensures { (g : KoreSignature) (v w : Valuation) (t : KorePattern) →
-        is_term t ≡ true → free_variables t ≡ [] → instance g w t ≡ instance g v t }
+        free_variables t ≡ [] → instance g w t ≡ instance g v t }
 {}
 
 /// inj is the identity on values, so inj through two sorts is inj through one.
@@ -145,4 +145,11 @@ pub fn hooks_have_names()
         × (hook_named (codes "INT.gt") ≡ Some (whole_comparison greater))
         × (hook_named (codes "INT.ge") ≡ Some (whole_comparison at_least)) }
     ensures division { hook_named (codes "INT.tdiv") ≡ None }
+{}
+
+/// Valuations that agree on a predicate's free variables give it the same truth: binders hide their names.
+#[tactic(auto, using(crate::proofs::TruthLemmas::same_truth))]
+pub fn truth_depends_on_the_free_variables_alone()
+    ensures { (g : KoreSignature) (p : KorePattern) (v w : Valuation) →
+        AgreesOn (free_variables p) v w → IsTrueUnder g v p ↔ IsTrueUnder g w p }
 {}
