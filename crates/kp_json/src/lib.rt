@@ -1,0 +1,2 @@
+// Kore JSON.
+#![tactic(auto)]
