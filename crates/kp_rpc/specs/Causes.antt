@@ -1,0 +1,22 @@
+-- Which error a frame is answered with, in order, as far as the frame and the request alone tell it.
+-- Source: JSON-RPC 2.0 (error codes).
+use Rattle.std.specs.Prelude.{◌≡◌, ◌≢◌, ℕ, List}
+use Rattle.serde_json.specs.Data.{Data, object, Members}
+use Rattle.kp_kore.specs.Syntax.{Text}
+use Rattle.kp_rpc.specs.Frame.{IsFrame}
+use Rattle.kp_rpc.specs.Request.{RequestId, id_null, IsRequest, EchoesId, execute_method, ExecuteOptions, HasParams}
+use Rattle.kp_rpc.specs.Reply.{RequestError, parse_error, invalid_request, method_not_found, invalid_params}
+
+-- an object that is a request, of whatever id and method
+abbrev pub IsSomeRequest : Data → Type 0
+IsSomeRequest (object o) = (id : RequestId) × (method : Text) × IsRequest o id method
+IsSomeRequest _ = ⊥
+
+-- the first cause in this order: the bytes are no frame; the tree is no request; the method is another; the params
+-- aren't those of execute
+abbrev pub IsRefused : List ℕ → RequestId → RequestError → Type 0
+IsRefused bytes id parse_error = ((d : Data) → ¬ IsFrame bytes d) × (id ≡ id_null)
+IsRefused bytes id invalid_request = (d : Data) × IsFrame bytes d × ¬ IsSomeRequest d × EchoesId d id
+IsRefused bytes id method_not_found = (o : Members) × (method : Text) × IsFrame bytes (object o) × IsRequest o id method × (method ≢ execute_method)
+IsRefused bytes id invalid_params = (o : Members) × IsFrame bytes (object o) × IsRequest o id execute_method × ((state : Members) (options : ExecuteOptions) → ¬ HasParams o state options)
+IsRefused bytes id _ = ⊥

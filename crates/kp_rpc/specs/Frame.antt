@@ -1,0 +1,31 @@
+-- What one frame is, and which JSON it holds.
+-- Source: JSON-RPC 2.0; JSON (RFC 8259) as serde_json reads it, nested at most 127 deep.
+use Rattle.std.specs.Prelude.{◌≡◌, ◌≤◌, ℕ, List, length, Some, IsUtf8, true, ◌==◌, ◌||◌, Bool}
+use Rattle.std.specs.List.{list_all}
+use Rattle.serde_json.specs.Data.{Data, array, object}
+use Rattle.serde_json.specs.Read.{read}
+
+-- space, tab, carriage return, line feed
+abbrev pub is_white : ℕ → Bool
+is_white b = ((b == 32) || (b == 9)) || ((b == 13) || (b == 10))
+
+-- nothing but white space, which asks for no reply
+abbrev pub IsWhite : List ℕ → Type 0
+IsWhite bytes = list_all is_white bytes ≡ true
+
+-- the most bytes of a frame
+abbrev pub most_frame : ℕ
+most_frame = 4194304
+
+-- one JSON object or array
+abbrev pub IsFrameData : Data → Type 0
+IsFrameData (object o) = Unit {0}
+IsFrameData (array ds) = Unit {0}
+IsFrameData _ = ⊥
+
+-- the bytes are the text of one object or array, with or without white space around it
+pub record IsFrame (bytes : List ℕ) (d : Data) : Type 0 where
+  pub fits : length bytes ≤ most_frame
+  pub utf8 : IsUtf8 bytes
+  pub reads : read bytes ≡ Some d
+  pub brackets : IsFrameData d
