@@ -1,3 +1,4 @@
+pub mod ArcLemmas
 pub mod InstanceLemmas
 pub mod SameLemmas
 pub mod TruthLemmas

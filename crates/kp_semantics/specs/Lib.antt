@@ -1,3 +1,4 @@
+pub mod Arcs
 pub mod Claims
 pub mod Foreign
 pub mod Forms

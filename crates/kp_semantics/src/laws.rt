@@ -10,6 +10,8 @@ ghost use Rattle.kp_semantics.specs.Forms.{injected, marked, marked_by, two, who
 ghost use Rattle.kp_semantics.specs.Interpretation.{interpreted};
 ghost use Rattle.kp_semantics.specs.Instance.{Valuation, AgreesOn, instance, IsInstance, IsConjunctionInstance, IsTrueUnder};
 ghost use Rattle.kp_semantics.specs.Rules.{RewriteRule, priority_of};
+ghost use Rattle.kp_semantics.specs.Arcs.{PlainProof, HasNoFreshName};
+ghost use Rattle.kp_semantics.specs.Claims.{ReachabilityClaim, Holds};
 ghost use Rattle.kp_semantics.specs.Theory.{Theory};
 ghost use Rattle.kp_semantics.specs.Steps.{Fires, HasTurn};
 
@@ -152,4 +154,9 @@ pub fn hooks_have_names()
 pub fn truth_depends_on_the_free_variables_alone()
     ensures { (g : KoreSignature) (p : KorePattern) (v w : Valuation) →
         AgreesOn (free_variables p) v w → IsTrueUnder g v p ↔ IsTrueUnder g w p }
+{}
+
+/// A tree of edges and splits from a claim's left side, whose leaves are covers or vacuous, makes the claim hold.
+pub fn a_plain_proof_is_sound()
+    ensures { (t : Theory) (claim : ReachabilityClaim) → HasNoFreshName claim → PlainProof t claim claim.left → Holds t claim }
 {}
