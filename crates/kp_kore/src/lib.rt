@@ -5,6 +5,7 @@
 
 pub mod pattern;
 mod pattern_copy;
+mod pattern_equal;
 pub mod sentence;
 pub mod sort;
 
