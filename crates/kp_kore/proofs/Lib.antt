@@ -1,1 +1,2 @@
+pub mod FreeVariables
 pub mod Views
