@@ -1,0 +1,16 @@
+// The outside: sources, sinks and shelves as traits, whose clauses say what a call does to what is told, and that a
+// call fails only where a count of faults rose. In memory all is told; over std's files and streams nothing more is
+// told than std tells.
+#![tactic(auto)]
+
+pub mod calls;
+pub mod fault;
+pub mod shelf;
+pub mod sink;
+pub mod source;
+
+pub use calls::Calls;
+pub use fault::{Failed, LoadFault, OutsideFault};
+pub use shelf::{LOAD_LIMIT, Shelf};
+pub use sink::Sink;
+pub use source::Source;
