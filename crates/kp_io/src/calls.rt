@@ -1,4 +1,5 @@
 ghost use Rattle.std.specs.Prelude.{◌≡◌, ◌↔◌, ◌+◌, ◌-◌, ◌^◌, IsTrue, Contains, min, if◌then◌else◌};
+ghost use Rattle.kp_io.specs.Outside.{CountsFault};
 
 /// Which calls on something in memory fail: the first call has the number 1.
 #[derive(Drop)]
@@ -34,7 +35,8 @@ impl Calls {
         ensures fails { IsTrue result ↔ Contains self.old.failing.items self.new.made }
         ensures made { self.new.made ≡ min (self.old.made + 1) (2 ^ 64 - 1) }
         ensures failing { self.new.failing ≡ self.old.failing }
-        ensures faults { self.new.faults ≡ (if result then min (self.old.faults + 1) (2 ^ 64 - 1) else self.old.faults) }
+        ensures faults { CountsFault self.old.faults self.new.faults (IsTrue result) }
+        ensures count { self.new.faults ≡ (if result then min (self.old.faults + 1) (2 ^ 64 - 1) else self.old.faults) }
     {
         self.made = self.made.saturating_add(1);
         let fails = self.failing.contains(&self.made);

@@ -3,14 +3,20 @@
 // told than std tells.
 #![tactic(auto)]
 
+pub mod bytes;
 pub mod calls;
+pub mod drain;
 pub mod fault;
 pub mod shelf;
 pub mod sink;
 pub mod source;
+pub mod stream;
 
+pub use bytes::{Bytes, SureBytes};
 pub use calls::Calls;
+pub use drain::{Drain, SureDrain};
 pub use fault::{Failed, LoadFault, OutsideFault};
 pub use shelf::{LOAD_LIMIT, Shelf};
 pub use sink::Sink;
 pub use source::Source;
+pub use stream::{Incoming, Outgoing};
