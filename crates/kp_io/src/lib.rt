@@ -11,6 +11,7 @@ pub mod shelf;
 pub mod sink;
 pub mod source;
 pub mod stream;
+pub mod whole;
 
 pub use bytes::{Bytes, SureBytes};
 pub use calls::Calls;
@@ -20,3 +21,4 @@ pub use shelf::{LOAD_LIMIT, Shelf};
 pub use sink::Sink;
 pub use source::Source;
 pub use stream::{Incoming, Outgoing};
+pub use whole::{put_all, read_all};
