@@ -28,7 +28,7 @@ HoldsMore limit (Some bytes) = limit < length bytes
 abbrev pub Stores : Option Names → Option Names → List ℕ → List ℕ → Type 0
 Stores None new name bytes = ⊤
 Stores (Some old) None name bytes = ⊥
-Stores (Some old) (Some new) name bytes = (x : List ℕ) → new x ≡ (if bytes_eq x name then Some bytes else old x)
+Stores (Some old) (Some new) name bytes = (x : List ℕ) → new x ≡ (if bytes_eq name x then Some bytes else old x)
 
 -- all names but this one hold what they held
 abbrev pub OthersStay : Option Names → Option Names → List ℕ → Type 0

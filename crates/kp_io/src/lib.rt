@@ -5,8 +5,10 @@
 
 pub mod bytes;
 pub mod calls;
+pub mod disk;
 pub mod drain;
 pub mod fault;
+pub mod files;
 pub mod shelf;
 pub mod sink;
 pub mod source;
@@ -15,8 +17,10 @@ pub mod whole;
 
 pub use bytes::{Bytes, SureBytes};
 pub use calls::Calls;
+pub use disk::Disk;
 pub use drain::{Drain, SureDrain};
 pub use fault::{Failed, LoadFault, OutsideFault};
+pub use files::Files;
 pub use shelf::{LOAD_LIMIT, Shelf};
 pub use sink::Sink;
 pub use source::Source;
