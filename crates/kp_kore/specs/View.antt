@@ -6,6 +6,8 @@ use Rattle.kp_kore.specs.declared.sort.Sort.{Sort, fold-Sort}
 use Rattle.kp_kore.specs.declared.sort.Sort.TheOpen.{Sort-F}
 use Rattle.kp_kore.specs.declared.pattern.Pattern.{Pattern, fold-Pattern}
 use Rattle.kp_kore.specs.declared.pattern.Pattern.TheOpen.{Pattern-F}
+use Rattle.kp_kore.specs.Parts.{SortedName}
+use Rattle.kp_kore.specs.declared.pattern_free.SortedVariable.{SortedVariable}
 use Rattle.kp_kore.specs.declared.sentence.SortSentence.{SortSentence}
 use Rattle.kp_kore.specs.declared.sentence.SymbolSentence.{SymbolSentence}
 use Rattle.kp_kore.specs.declared.sentence.AliasSentence.{AliasSentence}
@@ -65,6 +67,9 @@ view = fold-Pattern KorePattern pattern_step
 
 abbrev pub patterns_view : List Pattern → KorePatterns
 patterns_view ps = patterns_of (map view ps)
+
+abbrev pub sorted_variable_view : SortedVariable → SortedName
+sorted_variable_view v = record { name = string_bytes v.name; sort = sort_view v.sort }
 
 -- the names of a list, each as its bytes
 abbrev pub names_view : List (String Global) → List Text

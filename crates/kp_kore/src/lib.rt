@@ -5,10 +5,13 @@
 
 pub mod pattern;
 mod pattern_copy;
+mod pattern_equal;
+mod pattern_free;
 pub mod sentence;
 pub mod sort;
 
 pub use pattern::Pattern;
+pub use pattern_free::SortedVariable;
 pub use sentence::{
     AliasSentence, AxiomSentence, Definition, Module, Sentence, SortSentence, SymbolSentence,
 };

@@ -1,0 +1,2 @@
+pub mod FreeVariables
+pub mod Views
