@@ -1,0 +1,49 @@
+-- Terms of rules as the code keeps them: inj is seen through, symbols have their meaning, what doesn't depend on the
+-- valuation is a value.
+use Rattle.std.specs.Prelude.{◌≡◌, ℕ, Bool, true, false, not, ◌&&◌, List, [], ◌∷◌, IsTrue}
+use Rattle.kp_kore.specs.Syntax.{Text}
+use Rattle.kp_kore.specs.Hooks.{Hook}
+use Rattle.kp_semantics.specs.Value.{Value, whole, truth, token, constructed, Values, no_values, next_value}
+use Rattle.kp_semantics.specs.Interpretation.{interpreted}
+use Rattle.kp_semantics.specs.Instance.{Valuation}
+use Rattle.kp_semantics.specs.Foreign.{fits_number}
+
+mutual
+  pub data RuleTerm : Type 0 where
+    bound : Text → RuleTerm
+    fixed : Value → RuleTerm
+    built : Text → RuleTerms → RuleTerm
+    call : Hook → RuleTerms → RuleTerm
+
+  pub data RuleTerms : Type 0 where
+    no_terms : RuleTerms
+    next_term : RuleTerm → RuleTerms → RuleTerms
+
+-- the instance under a valuation
+abbrev mutual
+  pub term_value : Valuation → RuleTerm → Value
+  term_value v (bound x) = v x
+  term_value v (fixed u) = u
+  term_value v (built c ts) = constructed c (term_values v ts)
+  term_value v (call h ts) = interpreted h (term_values v ts)
+
+  pub term_values : Valuation → RuleTerms → Values
+  term_values v no_terms = no_values
+  term_values v (next_term t ts) = next_value (term_value v t) (term_values v ts)
+
+-- a whole number is within signed 128 bits
+abbrev pub is_narrow : Value → Bool
+is_narrow (whole n) = fits_number n
+is_narrow _ = true
+
+-- no call computes a number beyond signed 128 bits
+abbrev mutual
+  pub stays_narrow : Valuation → RuleTerm → Bool
+  stays_narrow v (bound x) = true
+  stays_narrow v (fixed u) = true
+  stays_narrow v (built c ts) = all_stay_narrow v ts
+  stays_narrow v (call h ts) = all_stay_narrow v ts && is_narrow (interpreted h (term_values v ts))
+
+  pub all_stay_narrow : Valuation → RuleTerms → Bool
+  all_stay_narrow v no_terms = true
+  all_stay_narrow v (next_term t ts) = stays_narrow v t && all_stay_narrow v ts
