@@ -33,6 +33,5 @@ abbrev pub hook_view : Hook → model.Hook
 hook_view (hook.Arithmetic a) = model.whole_arithmetic (arithmetic_view a)
 hook_view (hook.Comparison c) = model.whole_comparison (comparison_view c)
 hook_view (hook.Connective c) = model.truth_connective (connective_view c)
-hook_view hook.Negation = model.truth_negation
 hook_view hook.Equal = model.values_equal
 hook_view hook.Different = model.values_different

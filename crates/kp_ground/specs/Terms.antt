@@ -2,8 +2,9 @@
 -- valuation is a value.
 use Rattle.std.specs.Prelude.{◌≡◌, ℕ, Bool, true, false, not, ◌&&◌, List, [], ◌∷◌, IsTrue}
 use Rattle.kp_kore.specs.Syntax.{Text}
-use Rattle.kp_kore.specs.Hooks.{Hook}
+use Rattle.kp_kore.specs.Hooks.{Hook, truth_negation}
 use Rattle.kp_semantics.specs.Value.{Value, whole, truth, token, constructed, Values, no_values, next_value}
+use Rattle.kp_semantics.specs.Forms.{two}
 use Rattle.kp_semantics.specs.Interpretation.{interpreted}
 use Rattle.kp_semantics.specs.Instance.{Valuation}
 use Rattle.kp_semantics.specs.Foreign.{fits_number}
@@ -13,7 +14,9 @@ mutual
     bound : Text → RuleTerm
     fixed : Value → RuleTerm
     built : Text → RuleTerms → RuleTerm
-    call : Hook → RuleTerms → RuleTerm
+    -- a call of two terms, and the opposite of a truth value
+    call : Hook → RuleTerm → RuleTerm → RuleTerm
+    opposite : RuleTerm → RuleTerm
 
   pub data RuleTerms : Type 0 where
     no_terms : RuleTerms
@@ -25,7 +28,8 @@ abbrev mutual
   term_value v (bound x) = v x
   term_value v (fixed u) = u
   term_value v (built c ts) = constructed c (term_values v ts)
-  term_value v (call h ts) = interpreted h (term_values v ts)
+  term_value v (call h t s) = interpreted h (two (term_value v t) (term_value v s))
+  term_value v (opposite t) = interpreted truth_negation (next_value (term_value v t) no_values)
 
   pub term_values : Valuation → RuleTerms → Values
   term_values v no_terms = no_values
@@ -42,7 +46,8 @@ abbrev mutual
   stays_narrow v (bound x) = true
   stays_narrow v (fixed u) = true
   stays_narrow v (built c ts) = all_stay_narrow v ts
-  stays_narrow v (call h ts) = all_stay_narrow v ts && is_narrow (interpreted h (term_values v ts))
+  stays_narrow v (call h t s) = stays_narrow v t && (stays_narrow v s && is_narrow (interpreted h (two (term_value v t) (term_value v s))))
+  stays_narrow v (opposite t) = stays_narrow v t
 
   pub all_stay_narrow : Valuation → RuleTerms → Bool
   all_stay_narrow v no_terms = true

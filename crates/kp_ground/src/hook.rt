@@ -29,13 +29,12 @@ pub enum Connective {
     Other,
 }
 
-/// The functions that have a meaning. `hook_view` in specs/View.antt says which.
+/// The functions of two values that have a meaning. `hook_view` in specs/HookView.antt says which.
 #[derive(Clone, Copy, Debug, PartialEq, Eq)]
 pub enum Hook {
     Arithmetic(Arithmetic),
     Comparison(Comparison),
     Connective(Connective),
-    Negation,
     /// Whether two values are the same, or differ.
     Equal,
     Different,

@@ -1,8 +1,13 @@
 // Ground values and terms: what closed terms compute to, and which left terms they match.
 #![tactic(auto)]
 
+pub mod binding;
+pub mod evaluate;
 pub mod hook;
+pub mod term;
 pub mod value;
 
+pub use binding::Binding;
 pub use hook::{Arithmetic, Comparison, Connective, Hook};
+pub use term::Term;
 pub use value::Value;

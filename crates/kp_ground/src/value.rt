@@ -1,14 +1,22 @@
 use kp_kore::Sort;
+use std::alloc::{AllocError, Global};
 use std::rc::Rc;
 
 /// What a closed term means. `value_view` in specs/View.antt says which value of the model it is.
 #[derive(Drop)]
 pub enum Value {
     /// A whole number of 128 bits.
-    Whole { number: i128 },
-    Truth { holds: bool },
+    Whole {
+        number: i128,
+    },
+    Truth {
+        holds: bool,
+    },
     /// A token of a sort, by its text.
-    Token { sort: Sort, text: String },
+    Token {
+        sort: Sort,
+        text: String,
+    },
     /// A constructor and its arguments, which values share.
     Constructed {
         constructor: Rc<String>,
@@ -17,8 +25,29 @@ pub enum Value {
 }
 
 impl Value {
-    ghost use Rattle.std.specs.Prelude.{◌≡◌, ◌↔◌, IsTrue, map};
+    ghost use Rattle.std.specs.Prelude.{◌≡◌, ◌↔◌, IfOk, IsTrue, map};
     ghost use Rattle.kp_ground.specs.View.{value_view, values_of};
+
+    /// The same value, sharing its arguments.
+    pub fn share(&self, alloc: Global) -> Result<Value, AllocError>
+        ensures { IfOk result (λ u. value_view u ≡ value_view self.now) }
+    {
+        match self {
+            Value::Whole { number } => Ok(Value::Whole { number: *number }),
+            Value::Truth { holds } => Ok(Value::Truth { holds: *holds }),
+            Value::Token { sort, text } => Ok(Value::Token {
+                sort: sort.copy(alloc)?,
+                text: text.clone()?,
+            }),
+            Value::Constructed {
+                constructor,
+                arguments,
+            } => Ok(Value::Constructed {
+                constructor: constructor.clone()?,
+                arguments: arguments.clone()?,
+            }),
+        }
+    }
 
     /// Whether both are the same value.
     #[cycle(equal)]

@@ -1,0 +1,28 @@
+use crate::hook::Hook;
+use crate::value::Value;
+use std::rc::Rc;
+
+/// A term of a rule. `term_view` in specs/TermView.antt says which term of specs/Terms.antt it is.
+#[derive(Drop)]
+pub enum Term {
+    Variable {
+        name: String,
+    },
+    /// What is the same under every valuation.
+    Fixed {
+        value: Value,
+    },
+    Built {
+        constructor: Rc<String>,
+        arguments: Vec<Term>,
+    },
+    Call {
+        hook: Hook,
+        left: Box<Term>,
+        right: Box<Term>,
+    },
+    /// The opposite of a truth value.
+    Opposite {
+        term: Box<Term>,
+    },
+}
