@@ -1,2 +1,3 @@
+pub mod MatchLemmas
 pub mod TermLemmas
 pub mod ValueLists

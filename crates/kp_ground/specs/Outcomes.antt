@@ -3,12 +3,12 @@ use Rattle.std.specs.Prelude.{◌≡◌, true, false, Result, Ok, Err, map, List
 use Rattle.std.specs.declared.alloc.Global.{Global}
 use Rattle.kp_semantics.specs.Value as model
 use Rattle.kp_semantics.specs.Instance.{Valuation}
-use Rattle.kp_ground.specs.Terms.{RuleTerm, RuleTerms, is_narrow, stays_narrow, all_stay_narrow, term_value, term_values}
+use Rattle.kp_ground.specs.Terms.{RuleTerm, is_narrow, stays_narrow, term_value}
 use Rattle.std.specs.List.{list_all}
 use Rattle.kp_ground.specs.TermView.{term_view}
 use Rattle.kp_ground.specs.declared.term.Term.{Term}
 use Rattle.kp_ground.specs.Solves.{Solves}
-use Rattle.kp_ground.specs.View.{value_view, values_of}
+use Rattle.kp_ground.specs.View.{value_view}
 use Rattle.kp_ground.specs.declared.binding.Binding.{Binding}
 use Rattle.kp_ground.specs.declared.value.Value.{Value}
 use Rattle.kp_ground.specs.declared.evaluate.EvaluationError.{EvaluationError}

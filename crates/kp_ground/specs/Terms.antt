@@ -1,9 +1,9 @@
 -- Terms of rules as the code keeps them: inj is seen through, symbols have their meaning, what doesn't depend on the
 -- valuation is a value.
-use Rattle.std.specs.Prelude.{◌≡◌, ℕ, Bool, true, false, not, ◌&&◌, List, [], ◌∷◌, IsTrue}
+use Rattle.std.specs.Prelude.{Bool, true, ◌&&◌}
 use Rattle.kp_kore.specs.Syntax.{Text}
 use Rattle.kp_kore.specs.Hooks.{Hook, truth_negation}
-use Rattle.kp_semantics.specs.Value.{Value, whole, truth, token, constructed, Values, no_values, next_value}
+use Rattle.kp_semantics.specs.Value.{Value, whole, constructed, Values, no_values, next_value}
 use Rattle.kp_semantics.specs.Forms.{two}
 use Rattle.kp_semantics.specs.Interpretation.{interpreted}
 use Rattle.kp_semantics.specs.Instance.{Valuation}
@@ -52,3 +52,25 @@ abbrev mutual
   pub all_stay_narrow : Valuation → RuleTerms → Bool
   all_stay_narrow v no_terms = true
   all_stay_narrow v (next_term t ts) = stays_narrow v t && all_stay_narrow v ts
+
+-- ---- left terms: they have no calls
+
+mutual
+  pub data LeftTerm : Type 0 where
+    left_bound : Text → LeftTerm
+    left_fixed : Value → LeftTerm
+    left_built : Text → LeftTerms → LeftTerm
+
+  pub data LeftTerms : Type 0 where
+    no_lefts : LeftTerms
+    next_left : LeftTerm → LeftTerms → LeftTerms
+
+abbrev mutual
+  pub left_value : Valuation → LeftTerm → Value
+  left_value v (left_bound x) = v x
+  left_value v (left_fixed u) = u
+  left_value v (left_built c ts) = constructed c (left_values v ts)
+
+  pub left_values : Valuation → LeftTerms → Values
+  left_values v no_lefts = no_values
+  left_values v (next_left t ts) = next_value (left_value v t) (left_values v ts)

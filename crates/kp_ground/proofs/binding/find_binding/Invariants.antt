@@ -1,4 +1,4 @@
-use Rattle.std.proofs.Common.{◌≡◌, take, string_bytes}
+use Rattle.std.proofs.Common.{take, string_bytes}
 use Rattle.std.specs.Prelude.{All, ◌≢◌}
 use Rattle.kp_ground.proofs.binding.find_binding.Given as goal
 

@@ -1,4 +1,4 @@
-use Rattle.std.proofs.Common.{◌≡◌, ◌∙◌, ap, refl, not, Bool, true}
+use Rattle.std.proofs.Common.{◌≡◌, ◌∙◌, ap, refl, not}
 use Rattle.kp_semantics.specs.Value.{truth, values_same}
 use Rattle.kp_ground.specs.View.{value_view}
 use Rattle.kp_ground.proofs.ValueLists.{same_answer}

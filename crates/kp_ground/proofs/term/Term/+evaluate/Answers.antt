@@ -4,7 +4,6 @@ use Rattle.kp_ground.proofs.TermLemmas.{err_of_arguments, term_values-terms_of, 
 use Rattle.std.specs.List.{list_all}
 use Rattle.kp_semantics.specs.Value.{constructed}
 use Rattle.kp_ground.specs.View.{value_view, values_of}
-use Rattle.kp_semantics.specs.Instance.{Valuation}
 use Rattle.kp_ground.specs.Terms.{bound, built, term_value, stays_narrow}
 use Rattle.kp_ground.specs.TermView.{term_view, terms_of}
 use Rattle.kp_ground.specs.declared.term.Term.{the_lemmas}

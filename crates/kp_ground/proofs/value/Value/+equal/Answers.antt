@@ -1,6 +1,6 @@
 use Rattle.std.proofs.Common.{◌≡◌, map, arith}
 use Rattle.kp_kore.proofs.Views.{same_length, same_at, no_is_right}
-use Rattle.kp_ground.specs.View.{value_view, values_of}
+use Rattle.kp_ground.specs.View.{value_view}
 use Rattle.kp_ground.proofs.ValueLists.{same_values}
 use Rattle.kp_ground.proofs.value.Value.+equal.Goals as goal
 

@@ -1,0 +1,26 @@
+-- What a match answers: a match is found exactly where a valuation that solves the old bindings makes the left term's
+-- instance the value, and the new bindings are solved by exactly those valuations.
+use Rattle.std.specs.Prelude.{◌≡◌, ◌↔◌, Result, Ok, Err, Option, Some, None, List, Vec, map}
+use Rattle.std.specs.declared.alloc.Global.{Global}
+use Rattle.kp_semantics.specs.Value as model
+use Rattle.kp_semantics.specs.Instance.{Valuation}
+use Rattle.kp_ground.specs.Terms.{LeftTerm, left_value}
+use Rattle.kp_ground.specs.LeftView.{left_view}
+use Rattle.kp_ground.specs.View.{value_view}
+use Rattle.kp_ground.specs.Solves.{Solves}
+use Rattle.kp_ground.specs.declared.binding.Binding.{Binding}
+use Rattle.kp_ground.specs.declared.left.Left.{Left}
+use Rattle.kp_ground.specs.declared.value.Value.{Value}
+
+abbrev pub Matches : {E : Type 0} → Result (Option (Vec Binding Global)) E → List Binding → (Valuation → Type 0) → Type 0
+Matches (Ok (Some new)) old Same = (v : Valuation) → Solves v new.items ↔ (Solves v old × Same v)
+Matches (Ok None) old Same = (v : Valuation) → Solves v old → ¬ Same v
+Matches (Err e) old Same = Unit {0}
+
+-- the left term's instance is the value
+abbrev pub IsSame : LeftTerm → model.Value → Valuation → Type 0
+IsSame t u v = left_value v t ≡ u
+
+-- the same of lists, one by one
+abbrev pub AreSame : List Left → List Value → Valuation → Type 0
+AreSame ts us v = map (λ t. left_value v (left_view t)) ts ≡ map value_view us
