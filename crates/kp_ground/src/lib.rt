@@ -1,4 +1,7 @@
-// Ground values and terms: what closed terms compute to, and which left terms they match.
+// Ground values and the terms of rules, exact to the definitions of kp_semantics. A term's value is its instance under
+// every valuation that the bindings allow, or it is told that a number leaves 128 bits. A match is found exactly where
+// a valuation that solves the old bindings makes the left term's instance the value, and the new bindings are solved by
+// exactly those valuations.
 #![tactic(auto)]
 
 pub mod binding;
@@ -10,7 +13,11 @@ pub mod term;
 pub mod value;
 
 pub use binding::Binding;
+pub use evaluate::EvaluationError;
 pub use hook::{Arithmetic, Comparison, Connective, Hook};
 pub use left::Left;
 pub use term::Term;
 pub use value::Value;
+
+#[cfg(test)]
+mod tests;

@@ -1,0 +1,82 @@
+use crate::binding::Binding;
+use crate::evaluate::EvaluationError;
+use crate::hook::{Arithmetic, Hook};
+use crate::left::Left;
+use crate::term::Term;
+use crate::value::Value;
+use std::alloc::{AllocError, Global};
+use std::rc::Rc;
+use std::test::Fail;
+
+/// N - number
+fn less(alloc: Global, number: i128) -> Result<Term, Fail> {
+    let left = Term::Variable {
+        name: String::from_str(alloc, "N")?,
+    };
+    let right = Term::Fixed {
+        value: Value::Whole { number },
+    };
+    Ok(Term::Call {
+        hook: Hook::Arithmetic(Arithmetic::Subtraction),
+        left: Box::new(alloc, left)?,
+        right: Box::new(alloc, right)?,
+    })
+}
+
+/// f(N)
+fn of_variable(alloc: Global) -> Result<Left, Fail> {
+    let mut arguments = Vec::new(alloc);
+    arguments.push(Left::Variable {
+        name: String::from_str(alloc, "N")?,
+    })?;
+    Ok(Left::Built {
+        constructor: Rc::new(alloc, String::from_str(alloc, "f")?)?,
+        arguments,
+    })
+}
+
+/// name(number)
+fn of_number(alloc: Global, name: &str, number: i128) -> Result<Value, Fail> {
+    let mut arguments = Vec::new(alloc);
+    arguments.push(Value::Whole { number })?;
+    Ok(Value::Constructed {
+        constructor: Rc::new(alloc, String::from_str(alloc, name)?)?,
+        arguments: Rc::new(alloc, arguments)?,
+    })
+}
+
+#[test]
+fn a_match_binds_what_the_right_side_counts_with(rt: HostRuntime) -> Result<(), Fail> {
+    let alloc = rt.alloc();
+    let value = of_number(alloc, "f", 2)?;
+    let found = of_variable(alloc)?.match_value(alloc, &value, Vec::new(alloc))?;
+    let bindings = found.ok_or("no match")?;
+    let answer = less(alloc, 1)?.evaluate(alloc, &bindings)?;
+    assert!(rt; answer.equal(&Value::Whole { number: 1 }));
+    Ok(())
+}
+
+#[test]
+fn another_constructor_matches_nothing(rt: HostRuntime) -> Result<(), Fail> {
+    let alloc = rt.alloc();
+    let value = of_number(alloc, "g", 2)?;
+    let found = of_variable(alloc)?.match_value(alloc, &value, Vec::new(alloc))?;
+    assert!(rt; found.is_none());
+    Ok(())
+}
+
+#[test]
+fn a_number_beyond_128_bits_is_told(rt: HostRuntime) -> Result<(), Fail> {
+    let alloc = rt.alloc();
+    let mut bindings = Vec::new(alloc);
+    bindings.push(Binding {
+        name: String::from_str(alloc, "N")?,
+        value: Value::Whole { number: i128::MIN },
+    })?;
+    let failed = matches!(
+        less(alloc, 1)?.evaluate(alloc, &bindings),
+        Err(EvaluationError::Number)
+    );
+    assert!(rt; failed);
+    Ok(())
+}
