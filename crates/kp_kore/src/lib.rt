@@ -8,6 +8,7 @@ mod pattern_copy;
 mod pattern_equal;
 mod pattern_free;
 pub mod sentence;
+mod sentence_copy;
 pub mod sort;
 
 pub use pattern::Pattern;

@@ -1,25 +1,25 @@
+ghost use Rattle.std.specs.Prelude.{◌≡◌, IfOk, map, string_bytes};
+ghost use Rattle.kp_kore.specs.View.{sort_view, view};
+
 use crate::pattern::Pattern;
-use crate::sort::Sort;
+use crate::sort::{Name, Sort};
 use std::alloc::{AllocError, Global};
 
 impl Pattern {
-    ghost use Rattle.std.specs.Prelude.{◌≡◌, IfOk, map};
-    ghost use Rattle.kp_kore.specs.View.{view};
-
     /// A pattern that is seen as the same data.
     #[cycle(copy)]
     pub fn copy(&self, alloc: Global) -> Result<Pattern, AllocError>
         ensures { IfOk result (λ p. view p ≡ view self.now) }
     {
         match self {
-            Pattern::Variable { name, sort } => Ok(Pattern::Variable {
-                name: name.clone()?,
-                sort: sort.copy(alloc)?,
-            }),
-            Pattern::SetVariable { name, sort } => Ok(Pattern::SetVariable {
-                name: name.clone()?,
-                sort: sort.copy(alloc)?,
-            }),
+            Pattern::Variable { name, sort } => {
+                let (name, sort) = copy_name(alloc, name, sort)?;
+                Ok(Pattern::Variable { name, sort })
+            }
+            Pattern::SetVariable { name, sort } => {
+                let (name, sort) = copy_name(alloc, name, sort)?;
+                Ok(Pattern::SetVariable { name, sort })
+            }
             Pattern::Application {
                 symbol,
                 sorts,
@@ -32,10 +32,10 @@ impl Pattern {
             Pattern::StringLiteral { text } => Ok(Pattern::StringLiteral {
                 text: text.clone()?,
             }),
-            Pattern::Literal { sort, text } => Ok(Pattern::Literal {
-                sort: sort.copy(alloc)?,
-                text: text.clone()?,
-            }),
+            Pattern::Literal { sort, text } => {
+                let (text, sort) = copy_name(alloc, text, sort)?;
+                Ok(Pattern::Literal { sort, text })
+            }
             Pattern::Top { sort } => Ok(Pattern::Top {
                 sort: sort.copy(alloc)?,
             }),
@@ -78,81 +78,105 @@ impl Pattern {
                 name,
                 name_sort,
                 pattern,
-            } => Ok(Pattern::Exists {
-                sort: sort.copy(alloc)?,
-                name: name.clone()?,
-                name_sort: name_sort.copy(alloc)?,
-                pattern: pattern.copy_box(alloc)?,
-            }),
+            } => {
+                let (name, name_sort) = copy_name(alloc, name, name_sort)?;
+                Ok(Pattern::Exists {
+                    sort: sort.copy(alloc)?,
+                    name,
+                    name_sort,
+                    pattern: pattern.copy_box(alloc)?,
+                })
+            }
             Pattern::Forall {
                 sort,
                 name,
                 name_sort,
                 pattern,
-            } => Ok(Pattern::Forall {
-                sort: sort.copy(alloc)?,
-                name: name.clone()?,
-                name_sort: name_sort.copy(alloc)?,
-                pattern: pattern.copy_box(alloc)?,
-            }),
+            } => {
+                let (name, name_sort) = copy_name(alloc, name, name_sort)?;
+                Ok(Pattern::Forall {
+                    sort: sort.copy(alloc)?,
+                    name,
+                    name_sort,
+                    pattern: pattern.copy_box(alloc)?,
+                })
+            }
             Pattern::Ceil {
                 argument_sort,
                 sort,
                 pattern,
-            } => Ok(Pattern::Ceil {
-                argument_sort: argument_sort.copy(alloc)?,
-                sort: sort.copy(alloc)?,
-                pattern: pattern.copy_box(alloc)?,
-            }),
+            } => {
+                let (argument_sort, sort) = copy_sorts(alloc, argument_sort, sort)?;
+                Ok(Pattern::Ceil {
+                    argument_sort,
+                    sort,
+                    pattern: pattern.copy_box(alloc)?,
+                })
+            }
             Pattern::Floor {
                 argument_sort,
                 sort,
                 pattern,
-            } => Ok(Pattern::Floor {
-                argument_sort: argument_sort.copy(alloc)?,
-                sort: sort.copy(alloc)?,
-                pattern: pattern.copy_box(alloc)?,
-            }),
+            } => {
+                let (argument_sort, sort) = copy_sorts(alloc, argument_sort, sort)?;
+                Ok(Pattern::Floor {
+                    argument_sort,
+                    sort,
+                    pattern: pattern.copy_box(alloc)?,
+                })
+            }
             Pattern::Equals {
                 argument_sort,
                 sort,
                 left,
                 right,
-            } => Ok(Pattern::Equals {
-                argument_sort: argument_sort.copy(alloc)?,
-                sort: sort.copy(alloc)?,
-                left: left.copy_box(alloc)?,
-                right: right.copy_box(alloc)?,
-            }),
+            } => {
+                let (argument_sort, sort) = copy_sorts(alloc, argument_sort, sort)?;
+                Ok(Pattern::Equals {
+                    argument_sort,
+                    sort,
+                    left: left.copy_box(alloc)?,
+                    right: right.copy_box(alloc)?,
+                })
+            }
             Pattern::In {
                 argument_sort,
                 sort,
                 left,
                 right,
-            } => Ok(Pattern::In {
-                argument_sort: argument_sort.copy(alloc)?,
-                sort: sort.copy(alloc)?,
-                left: left.copy_box(alloc)?,
-                right: right.copy_box(alloc)?,
-            }),
+            } => {
+                let (argument_sort, sort) = copy_sorts(alloc, argument_sort, sort)?;
+                Ok(Pattern::In {
+                    argument_sort,
+                    sort,
+                    left: left.copy_box(alloc)?,
+                    right: right.copy_box(alloc)?,
+                })
+            }
             Pattern::Mu {
                 name,
                 sort,
                 pattern,
-            } => Ok(Pattern::Mu {
-                name: name.clone()?,
-                sort: sort.copy(alloc)?,
-                pattern: pattern.copy_box(alloc)?,
-            }),
+            } => {
+                let (name, sort) = copy_name(alloc, name, sort)?;
+                Ok(Pattern::Mu {
+                    name,
+                    sort,
+                    pattern: pattern.copy_box(alloc)?,
+                })
+            }
             Pattern::Nu {
                 name,
                 sort,
                 pattern,
-            } => Ok(Pattern::Nu {
-                name: name.clone()?,
-                sort: sort.copy(alloc)?,
-                pattern: pattern.copy_box(alloc)?,
-            }),
+            } => {
+                let (name, sort) = copy_name(alloc, name, sort)?;
+                Ok(Pattern::Nu {
+                    name,
+                    sort,
+                    pattern: pattern.copy_box(alloc)?,
+                })
+            }
         }
     }
 
@@ -174,4 +198,20 @@ impl Pattern {
     {
         Ok(Box::new(alloc, self.copy(alloc)?)?)
     }
+}
+
+// A name with its sort.
+fn copy_name(alloc: Global, name: &Name, sort: &Sort) -> Result<(Name, Sort), AllocError>
+    ensures name { IfOk result (λ r. string_bytes r.0 ≡ string_bytes name.now) }
+    ensures sort { IfOk result (λ r. sort_view r.1 ≡ sort_view sort.now) }
+{
+    Ok((name.clone()?, sort.copy(alloc)?))
+}
+
+// Two sorts.
+fn copy_sorts(alloc: Global, first: &Sort, second: &Sort) -> Result<(Sort, Sort), AllocError>
+    ensures first { IfOk result (λ r. sort_view r.0 ≡ sort_view first.now) }
+    ensures second { IfOk result (λ r. sort_view r.1 ≡ sort_view second.now) }
+{
+    Ok((first.copy(alloc)?, second.copy(alloc)?))
 }

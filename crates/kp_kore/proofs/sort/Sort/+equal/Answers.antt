@@ -1,4 +1,4 @@
-use Rattle.std.proofs.Common.{◌≡◌, ◌∙◌, sym, map, arith}
+use Rattle.std.proofs.Common.{◌≡◌, map, arith}
 use Rattle.kp_kore.specs.View.{sort_view}
 use Rattle.kp_kore.proofs.Views.{same_length, same_at, same_sorts, no_is_right}
 use Rattle.kp_kore.proofs.sort.Sort.+equal.Goals as goal
