@@ -1,11 +1,13 @@
 // Ground values and the terms of rules, exact to the definitions of kp_semantics. A term's value is its instance under
 // every valuation that the bindings allow, or it is told that a number leaves 128 bits. A match is found exactly where
 // a valuation that solves the old bindings makes the left term's instance the value, and the new bindings are solved by
-// exactly those valuations.
+// exactly those valuations. A condition holds, or doesn't, under every valuation that the bindings allow.
 #![tactic(auto)]
 
 pub mod binding;
+pub mod condition;
 pub mod evaluate;
+pub mod holds;
 pub mod hook;
 pub mod left;
 pub mod matching;
@@ -13,6 +15,7 @@ pub mod term;
 pub mod value;
 
 pub use binding::Binding;
+pub use condition::Condition;
 pub use evaluate::EvaluationError;
 pub use hook::{Arithmetic, Comparison, Connective, Hook};
 pub use left::Left;
