@@ -13,7 +13,7 @@ pub enum Sort {
 }
 
 impl Sort {
-    ghost use Rattle.std.specs.Prelude.{◌≡◌, IfOk, map};
+    ghost use Rattle.std.specs.Prelude.{◌≡◌, ◌↔◌, IfOk, IsTrue, map};
     ghost use Rattle.kp_kore.specs.View.{sort_view, sorts_view};
 
     /// A sort that is seen as the same data.
@@ -42,5 +42,41 @@ impl Sort {
             copies.push(sort.copy(alloc)?)?;
         }
         Ok(copies)
+    }
+
+    /// Whether two sorts are seen as the same data.
+    #[cycle(equal)]
+    pub fn equal(&self, other: &Sort) -> bool
+        ensures { IsTrue result ↔ (sort_view self.now ≡ sort_view other.now) }
+    {
+        match self {
+            Sort::App { name, arguments } => match other {
+                Sort::App {
+                    name: n,
+                    arguments: ss,
+                } => name == n && Sort::all_equal(arguments, ss),
+                _ => false,
+            },
+            Sort::Variable { name } => match other {
+                Sort::Variable { name: n } => name == n,
+                _ => false,
+            },
+        }
+    }
+
+    /// Whether two lists of sorts are seen as the same data.
+    #[cycle(equal)]
+    pub fn all_equal(sorts: &[Sort], others: &[Sort]) -> bool
+        ensures { IsTrue result ↔ (sorts_view sorts.now ≡ sorts_view others.now) }
+    {
+        if sorts.len() != others.len() {
+            return false;
+        }
+        for i in 0..sorts.len() {
+            if !sorts[i].equal(&others[i]) {
+                return false;
+            }
+        }
+        true
     }
 }
