@@ -1,0 +1,4 @@
+pub mod Examples
+pub mod Grammar
+pub mod Spelling
+pub mod Tokens

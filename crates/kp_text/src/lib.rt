@@ -1,0 +1,9 @@
+// Kore text: exactly the grammar of Kore is read, and a text that isn't of it is answered with its first fault.
+#![tactic(auto)]
+
+mod fault;
+mod keyword;
+pub mod laws;
+mod tail;
+
+pub use fault::{FaultKind, TextFault};
