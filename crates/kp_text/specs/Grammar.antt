@@ -4,6 +4,7 @@
 -- Source: the K framework's Kore language.
 use Rattle.std.specs.Prelude.{ℕ, suc, pred, ◌+◌, max, Bool, true, false, List, [], ◌∷◌, ◌++◌, map, length, codes}
 use Rattle.kp_kore.specs.Syntax.{Text, KoreSort, sort_of, sort_variable, KoreSorts, no_sorts, next_sort, KorePattern, KorePatterns, variable, set_variable, application, string_literal, literal, top, bottom, negation, next, conjunction, disjunction, implication, equivalence, rewriting, exists, forall, ceil, floor, equals, membership, mu, nu, no_patterns, next_pattern, KoreSentence, import_sentence, sort_sentence, symbol_sentence, alias_sentence, axiom_sentence, claim_sentence, KoreModule, KoreDefinition}
+use Rattle.kp_kore.specs.View.{patterns_of}
 use Rattle.kp_kore.specs.Folds.{left_nested, right_nested}
 use Rattle.kp_kore.specs.Parts.{nesting}
 use Rattle.kp_text.specs.Tokens.{KoreToken, identifier, backslashed, string_token, mark, defined_as}
@@ -36,11 +37,6 @@ at_level n t more = record { token = t; level = n } ∷ more
 
 abbrev pub plain : KoreToken → List Leveled → List Leveled
 plain t more = at_level 0 t more
-
--- a list of patterns as Kore's list of them
-abbrev pub patterns_of : List KorePattern → KorePatterns
-patterns_of [] = no_patterns
-patterns_of (p ∷ ps) = next_pattern p (patterns_of ps)
 
 -- the words of the grammar, and what they mean of a sort and of the patterns that they stand before
 abbrev pub constant_word : Constant → Text

@@ -1,3 +1,4 @@
+pub mod Ahead
 pub mod Examples
 pub mod Grammar
 pub mod Spelling

@@ -4,6 +4,8 @@
 mod fault;
 mod keyword;
 pub mod laws;
+mod lexer;
+mod strings;
 mod tail;
 
 pub use fault::{FaultKind, TextFault};

@@ -1,0 +1,4 @@
+pub mod Characters
+pub mod Comments
+pub mod InStrings
+pub mod Numbers
