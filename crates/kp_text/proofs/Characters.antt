@@ -8,7 +8,7 @@ use Rattle.std.proofs.lemmas.Bool.Decides.{nat_tests}
 use Rattle.std.proofs.lemmas.Str.{encode_ascii}
 use Rattle.std.proofs.lemmas.List.{append-nil}
 use Rattle.kp_kore.specs.Syntax.{Text}
-use Rattle.kp_text.specs.Tokens.{Lexing, between, after_slash, in_line_comment, in_comment, after_star, in_identifier, after_backslash, in_backslashed, after_colon, in_string, after_escape, in_number, Lexemes, lexeme, identifier, backslashed, string_token, mark, broken, broken_string, begun, further, lexed, is_white, is_mark, is_identifier_byte}
+use Rattle.kp_text.specs.Tokens.{Lexing, between, after_slash, in_line_comment, in_comment, after_star, in_identifier, after_backslash, in_backslashed, after_colon, in_string, after_escape, in_number, Lexemes, lexeme, identifier, backslashed, mark, broken, broken_string, begun, further, lexed, is_identifier_byte}
 use Rattle.kp_text.specs.declared.tail.Tail.{Tail}
 use Rattle.kp_text.specs.declared.fault.FaultKind.TheVariants as kind
 
@@ -50,13 +50,13 @@ wide_answer (in_string quote t) left = None
 wide_answer (after_escape quote t) left = Some (broken_string quote quote kind.String)
 wide_answer (in_number quote t more n) left = Some (broken_string quote quote kind.String)
 
-no_identifier : (b : ℕ) → 128 ≤ b → is_identifier_byte b ≡ false
+pub no_identifier : (b : ℕ) → 128 ≤ b → is_identifier_byte b ≡ false
 no_identifier b h = grind (arith, nat_tests)
 
 no_digit : (b : ℕ) → 128 ≤ b → is_digit b 16 ≡ false
 no_digit b h = grind (arith, nat_tests)
 
-no_letter : (b : ℕ) → 128 ≤ b → is_ascii_alphabetic b ≡ false
+pub no_letter : (b : ℕ) → 128 ≤ b → is_ascii_alphabetic b ≡ false
 no_letter b h = grind (arith, nat_tests)
 
 other : (b n : ℕ) → n < 128 → 128 ≤ b → eqb b n ≡ false
@@ -85,8 +85,8 @@ ascii_further tail text after c s h is =
 -- one character further where one beyond ASCII is a fault
 pub further_character : (tail : Tail) (text after : List ℕ) (c : ℕ) (s : Lexing) (a : Lexemes) → text ≡ encode_utf8 c ++ after → wide_answer s (length text) ≡ Some a → lexed tail text s ≡ further (lexed tail after) s c (length text)
 further_character tail text after c s a is fault = elim (cases_lt c 128) [
-    | inl h ↦ ascii_further tail text after c s h is
-    | inr h ↦
+  | inl h ↦ ascii_further tail text after c s h is
+  | inr h ↦
       let w = wide_character c h in
       let e : text ≡ w.first ∷ (w.others ++ after) = is ∙ ap (λ (x : List ℕ). x ++ after) w.is in
       let there : wide_answer s (suc (length (w.others ++ after))) ≡ Some a = subst (λ (x : List ℕ). wide_answer s (length x) ≡ Some a) e fault in
@@ -109,8 +109,8 @@ wide_string tail (w ∷ ws) bs quote t h = rw (other w 34 (omega arith) h.0, oth
 
 pub line_character : (tail : Tail) (text after : List ℕ) (c : ℕ) → text ≡ encode_utf8 c ++ after → lexed tail text in_line_comment ≡ further (lexed tail after) in_line_comment c (length text)
 line_character tail text after c is = elim (cases_lt c 128) [
-    | inl h ↦ ascii_further tail text after c in_line_comment h is
-    | inr h ↦
+  | inl h ↦ ascii_further tail text after c in_line_comment h is
+  | inr h ↦
       let w = wide_character c h in
       let e : text ≡ w.first ∷ (w.others ++ after) = is ∙ ap (λ (x : List ℕ). x ++ after) w.is in
       rw (e, other w.first 10 (omega arith) w.first_wide, other c 10 (omega arith) h) (wide_line tail w.others after w.others_wide)
@@ -118,8 +118,8 @@ line_character tail text after c is = elim (cases_lt c 128) [
 
 pub comment_character : (tail : Tail) (text after : List ℕ) (c : ℕ) → text ≡ encode_utf8 c ++ after → lexed tail text in_comment ≡ further (lexed tail after) in_comment c (length text)
 comment_character tail text after c is = elim (cases_lt c 128) [
-    | inl h ↦ ascii_further tail text after c in_comment h is
-    | inr h ↦
+  | inl h ↦ ascii_further tail text after c in_comment h is
+  | inr h ↦
       let w = wide_character c h in
       let e : text ≡ w.first ∷ (w.others ++ after) = is ∙ ap (λ (x : List ℕ). x ++ after) w.is in
       rw (e, other w.first 42 (omega arith) w.first_wide, other c 42 (omega arith) h) (wide_comment tail w.others after w.others_wide)
@@ -127,8 +127,8 @@ comment_character tail text after c is = elim (cases_lt c 128) [
 
 pub star_character : (tail : Tail) (text after : List ℕ) (c : ℕ) → text ≡ encode_utf8 c ++ after → lexed tail text after_star ≡ further (lexed tail after) after_star c (length text)
 star_character tail text after c is = elim (cases_lt c 128) [
-    | inl h ↦ ascii_further tail text after c after_star h is
-    | inr h ↦
+  | inl h ↦ ascii_further tail text after c after_star h is
+  | inr h ↦
       let w = wide_character c h in
       let e : text ≡ w.first ∷ (w.others ++ after) = is ∙ ap (λ (x : List ℕ). x ++ after) w.is in
       rw (e, other w.first 47 (omega arith) w.first_wide, other w.first 42 (omega arith) w.first_wide, other c 47 (omega arith) h, other c 42 (omega arith) h) (wide_comment tail w.others after w.others_wide)
@@ -137,8 +137,8 @@ star_character tail text after c is = elim (cases_lt c 128) [
 -- a character of a string that stands for itself
 pub string_character : (tail : Tail) (text after : List ℕ) (c quote : ℕ) (t : Text) → text ≡ encode_utf8 c ++ after → eqb c 34 ≡ false → eqb c 92 ≡ false → eqb c 10 ≡ false → lexed tail text (in_string quote t) ≡ lexed tail after (in_string quote (t ++ encode_utf8 c))
 string_character tail text after c quote t is no_quote no_backslash no_line = elim (cases_lt c 128) [
-    | inl h ↦ ascii_further tail text after c (in_string quote t) h is ∙ rw (no_quote, no_backslash, no_line, encode_ascii c h) refl
-    | inr h ↦
+  | inl h ↦ ascii_further tail text after c (in_string quote t) h is ∙ rw (no_quote, no_backslash, no_line, encode_ascii c h) refl
+  | inr h ↦
       let w = wide_character c h in
       let e : text ≡ w.first ∷ (w.others ++ after) = is ∙ ap (λ (x : List ℕ). x ++ after) w.is in
       let all : AllByRecursion (λ b. 128 ≤ b) (w.first ∷ w.others) = (w.first_wide, w.others_wide) in

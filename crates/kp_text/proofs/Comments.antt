@@ -1,5 +1,5 @@
 -- The characters of comments.
-use Rattle.std.proofs.Common.{◌≡◌, ℕ, ◌<◌, Bool, true, false, cond, eqb, List, ◌∷◌, [], ◌++◌, length, refl, ◌∙◌, arith}
+use Rattle.std.proofs.Common.{◌≡◌, ℕ, Bool, true, false, cond, eqb, List, ◌++◌, refl, ◌∙◌}
 use Rattle.std.specs.Char.{encode_utf8}
 use Rattle.kp_text.specs.Tokens.{Lexing, between, in_line_comment, in_comment, after_star, after_slash, lexed, broken}
 use Rattle.kp_text.specs.declared.tail.Tail.{Tail}

@@ -1,9 +1,8 @@
 -- The characters of strings.
-use Rattle.std.proofs.Common.{◌≡◌, ℕ, ◌<◌, ◌≤◌, Bool, true, false, cond, eqb, List, ◌∷◌, [], ◌++◌, length, refl, sym, ap, ◌∙◌, arith}
+use Rattle.std.proofs.Common.{◌≡◌, ℕ, true, false, eqb, List, ◌++◌, refl, ◌∙◌, arith}
 use Rattle.std.specs.Char.{encode_utf8}
-use Rattle.std.proofs.lemmas.Str.{encode_ascii}
 use Rattle.kp_kore.specs.Syntax.{Text}
-use Rattle.kp_text.specs.Tokens.{Lexing, between, in_string, after_escape, Lexemes, lexed, escaped_at, lexeme, string_token, broken_string}
+use Rattle.kp_text.specs.Tokens.{between, in_string, after_escape, lexed, escaped_at, lexeme, string_token, broken_string}
 use Rattle.kp_text.specs.declared.tail.Tail.{Tail}
 use Rattle.kp_text.specs.declared.fault.FaultKind.TheVariants as kind
 use Rattle.kp_text.proofs.Characters as characters

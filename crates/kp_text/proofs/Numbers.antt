@@ -1,12 +1,12 @@
 -- The digits of a number in a string.
-use Rattle.std.proofs.Common.{◌≡◌, ℕ, zero, suc, ◌+◌, ◌*◌, ◌-◌, ◌^◌, ◌<◌, ◌≤◌, Bool, true, false, cond, eqb, ltb, List, ◌∷◌, [], ◌++◌, length, refl, sym, ap, ◌∙◌, arith}
+use Rattle.std.proofs.Common.{◌≡◌, ℕ, zero, suc, ◌+◌, ◌*◌, ◌-◌, ◌^◌, ◌<◌, true, false, cond, ltb, List, ◌∷◌, [], ◌++◌, refl, sym, ◌∙◌, arith}
 use Rattle.std.specs.Char.{encode_utf8, digit_value, is_digit}
 use Rattle.std.specs.Str.{all_scalars}
 use Rattle.std.proofs.lemmas.Bool.Decides.{nat_tests}
 use Rattle.std.proofs.Common.{add-one}
 use Rattle.std.proofs.Math.Nat.{pow-suc}
 use Rattle.kp_kore.specs.Syntax.{Text}
-use Rattle.kp_text.specs.Tokens.{Lexing, in_string, in_number, Lexemes, lexed, broken_string}
+use Rattle.kp_text.specs.Tokens.{in_string, in_number, Lexemes, lexed, broken_string}
 use Rattle.kp_text.specs.declared.tail.Tail.{Tail}
 use Rattle.kp_text.specs.declared.fault.FaultKind.TheVariants as kind
 use Rattle.kp_text.proofs.Characters.{further_character}

@@ -1,5 +1,5 @@
 -- What the lexer's answers say of a text.
-use Rattle.std.specs.Prelude.{ℕ, ◌<◌, ◌≤◌, List, ◌++◌, length, IsUtf8, encode_utf8, string_bytes}
+use Rattle.std.specs.Prelude.{ℕ, ◌<◌, ◌≤◌, ◌++◌, length, IsUtf8, encode_utf8, string_bytes}
 use Rattle.kp_text.specs.Tokens.{KoreToken, identifier, backslashed, string_token, mark, defined_as, Lexemes, finished, lexeme, broken, broken_string, lexed, between, in_string}
 use Rattle.kp_kore.specs.Syntax.{Text}
 use Rattle.kp_text.specs.declared.tail.Tail.{Tail}

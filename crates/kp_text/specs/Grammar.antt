@@ -3,7 +3,7 @@
 -- Beside each token stands the level of nesting that it reaches, 0 where it begins neither a pattern nor a sort.
 -- Source: the K framework's Kore language.
 use Rattle.std.specs.Prelude.{ℕ, suc, pred, ◌+◌, max, Bool, true, false, List, [], ◌∷◌, ◌++◌, map, length, codes}
-use Rattle.kp_kore.specs.Syntax.{Text, KoreSort, sort_of, sort_variable, KoreSorts, no_sorts, next_sort, KorePattern, KorePatterns, variable, set_variable, application, string_literal, literal, top, bottom, negation, next, conjunction, disjunction, implication, equivalence, rewriting, exists, forall, ceil, floor, equals, membership, mu, nu, no_patterns, next_pattern, KoreSentence, import_sentence, sort_sentence, symbol_sentence, alias_sentence, axiom_sentence, claim_sentence, KoreModule, KoreDefinition}
+use Rattle.kp_kore.specs.Syntax.{Text, KoreSort, sort_of, sort_variable, KoreSorts, no_sorts, next_sort, KorePattern, KorePatterns, variable, set_variable, application, string_literal, literal, top, bottom, negation, next, conjunction, disjunction, implication, equivalence, rewriting, exists, forall, ceil, floor, equals, membership, mu, nu, next_pattern, KoreSentence, import_sentence, sort_sentence, symbol_sentence, alias_sentence, axiom_sentence, claim_sentence, KoreModule, KoreDefinition}
 use Rattle.kp_kore.specs.View.{patterns_of}
 use Rattle.kp_kore.specs.Folds.{left_nested, right_nested}
 use Rattle.kp_kore.specs.Parts.{nesting}

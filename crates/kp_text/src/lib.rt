@@ -2,6 +2,7 @@
 #![tactic(auto)]
 
 mod fault;
+mod input;
 mod keyword;
 pub mod laws;
 mod lexer;

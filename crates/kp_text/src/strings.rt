@@ -4,7 +4,7 @@ ghost use Rattle.kp_text.specs.Tokens.{lexed, in_string, after_escape, in_number
 ghost use Rattle.kp_text.specs.Ahead.{ahead_view, piece_view, IsPieceWithin, IsRestWithin};
 
 use crate::fault::FaultKind;
-use crate::lexer::{first_character, Ahead, Token};
+use crate::lexer::{Ahead, Token, first_character};
 use crate::tail::Tail;
 use std::alloc::{AllocError, Global};
 

@@ -1,4 +1,4 @@
-use Rattle.std.proofs.Common.{arith, rules}
+use Rattle.std.proofs.Common.{arith}
 use Rattle.kp_text.proofs.Numbers.{digit_turn, digit_fault, number_fits, number_grows}
 use Rattle.kp_text.proofs.strings.number.Goals as goal
 
@@ -13,8 +13,8 @@ overflow_add-value c = let h = number_fits c.loop-i.i c.loop-i.value c.in-Some-t
 
 pub loop-i-preserved : goal.loop-i-preserved
 loop-i-preserved c = record {
-    text = c.in-Some.ensures.2;
-    small = number_grows c.loop-i.i c.loop-i.value c.in-Some-to_digit.digit c.loop-i.invariant.small (let d = c.in-Some-to_digit.ensures.value in omega arith);
-    shorter = omega (arith, c.in-Some.ensures.1);
-    same = λ t. digit_turn _ _ _ c.in-Some.c c.in-Some-to_digit.digit c.args.quote c.args.digits c.loop-i.i c.loop-i.value t _ c.in-Some.ensures.0 c.in-Some-to_digit.ensures.value.0 c.in-Some-to_digit.ensures.value.1 c.loop-i-test.true (c.loop-i.invariant.same t);
+  text = c.in-Some.ensures.2;
+  small = number_grows c.loop-i.i c.loop-i.value c.in-Some-to_digit.digit c.loop-i.invariant.small (let d = c.in-Some-to_digit.ensures.value in omega arith);
+  shorter = omega (arith, c.in-Some.ensures.1);
+  same = λ t. digit_turn _ _ _ c.in-Some.c c.in-Some-to_digit.digit c.args.quote c.args.digits c.loop-i.i c.loop-i.value t _ c.in-Some.ensures.0 c.in-Some-to_digit.ensures.value.0 c.in-Some-to_digit.ensures.value.1 c.loop-i-test.true (c.loop-i.invariant.same t);
 }
