@@ -1,6 +1,9 @@
 pub mod Characters
 pub mod Comments
+pub mod Exits
 pub mod Fronts
+pub mod InSorts
 pub mod InStrings
+pub mod Marks
 pub mod Numbers
 pub mod Words
