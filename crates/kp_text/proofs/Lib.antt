@@ -5,5 +5,6 @@ pub mod Fronts
 pub mod InSorts
 pub mod InStrings
 pub mod Marks
+pub mod Members
 pub mod Numbers
 pub mod Words

@@ -24,6 +24,7 @@ use Rattle.kp_text.specs.declared.keyword.Comparison.{Comparison}
 use Rattle.kp_text.specs.declared.keyword.Comparison.TheVariants.{Equals, In}
 use Rattle.kp_text.specs.declared.keyword.FixedPoint.{FixedPoint}
 use Rattle.kp_text.specs.declared.keyword.FixedPoint.TheVariants.{Mu, Nu}
+use Rattle.kp_text.specs.declared.level.Level.{Level}
 use Rattle.kp_text.specs.declared.keyword.Side.{Side}
 use Rattle.kp_text.specs.declared.keyword.Side.TheVariants.{Left, Right}
 
@@ -214,11 +215,6 @@ variable_tokens n x s more = at_level n (identifier x) (plain (mark 58) (sort_to
 -- Where a pattern stands: at which level as written, and at which as meant. A fold means a nest of applications, so
 -- its members stand deeper as meant than as written; else what stands in a pattern is one level deeper in both.
 -- reached is the level that the pattern reaches by beginning.
-pub record Level : Type 0 where
-  pub written : ℕ
-  pub meant : ℕ
-  pub reached : ℕ
-
 abbrev pub first_level : Level
 first_level = record { written = 1; meant = 1; reached = 1 }
 

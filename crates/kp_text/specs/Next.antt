@@ -4,7 +4,7 @@ use Rattle.std.specs.Prelude.{ℕ, suc, Bool, true, false, List, [], ◌∷◌, 
 use Rattle.kp_kore.specs.Syntax.{Text, KoreSort, sort_of, sort_variable, KorePattern, KorePatterns, variable, set_variable, application, string_literal, literal, KoreSorts, KoreSentence, import_sentence, sort_sentence, symbol_sentence, alias_sentence, KoreModule, KoreDefinition}
 use Rattle.kp_kore.specs.View.{sorts_of, patterns_of}
 use Rattle.kp_text.specs.Tokens.{KoreToken, identifier, backslashed, string_token, mark, defined_as, Lexemes, finished, lexeme, broken, broken_string}
-use Rattle.kp_text.specs.Grammar.{Level, first_level, below, in_fold, first_in_fold, next_in_fold, constant_word, constant_meaning, unary_word, unary_meaning, variadic_word, variadic_meaning, binary_word, binary_meaning, quantifier_word, quantifier_meaning, rounding_word, rounding_meaning, comparison_word, comparison_meaning, fixed_point_word, fixed_point_meaning, side_word, fold_meaning, statement_meaning}
+use Rattle.kp_text.specs.Grammar.{first_level, below, in_fold, first_in_fold, next_in_fold, constant_word, constant_meaning, unary_word, unary_meaning, variadic_word, variadic_meaning, binary_word, binary_meaning, quantifier_word, quantifier_meaning, rounding_word, rounding_meaning, comparison_word, comparison_meaning, fixed_point_word, fixed_point_meaning, side_word, fold_meaning, statement_meaning}
 use Rattle.kp_text.specs.declared.fault.FaultKind.{FaultKind}
 use Rattle.kp_text.specs.declared.fault.FaultKind.TheVariants as kind
 use Rattle.kp_text.specs.declared.keyword.Constant.TheVariants.{Top, Bottom}
@@ -16,6 +16,7 @@ use Rattle.kp_text.specs.declared.keyword.Quantifier.TheVariants.{Exists, Forall
 use Rattle.kp_text.specs.declared.keyword.Rounding.TheVariants.{Ceil, Floor}
 use Rattle.kp_text.specs.declared.keyword.Comparison.TheVariants.{Equals, In}
 use Rattle.kp_text.specs.declared.keyword.FixedPoint.TheVariants.{Mu, Nu}
+use Rattle.kp_text.specs.declared.level.Level.{Level}
 use Rattle.kp_text.specs.declared.keyword.Side.{Side}
 use Rattle.kp_text.specs.declared.keyword.Side.TheVariants.{Left, Right}
 use Rattle.kp_text.specs.declared.keyword.Keyword.{Keyword}

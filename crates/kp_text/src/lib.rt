@@ -3,9 +3,11 @@
 
 mod expected;
 mod fault;
+mod forms;
 mod input;
 mod keyword;
 pub mod laws;
+mod level;
 mod lexer;
 mod sorts;
 mod strings;
