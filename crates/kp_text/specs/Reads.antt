@@ -3,7 +3,8 @@
 use Rattle.std.specs.Prelude.{◌≡◌, ◌≢◌, ℕ, ◌<◌, ◌≤◌, Bool, true, false, ◌==◌, List, [], length, Option, Some, None, IsUtf8}
 use Rattle.std.specs.Borrow.{Bor}
 use Rattle.kp_text.specs.Tokens.{KoreToken, identifier, backslashed, mark, defined_as, Lexemes, finished, lexeme, broken, broken_string, lexed, between, string_token}
-use Rattle.kp_text.specs.Next.{Place, Outcome, faulty, run, step, Step, refused, goes, at_end}
+use Rattle.kp_kore.specs.Syntax.{Text, KoreSort}
+use Rattle.kp_text.specs.Next.{two_braced, a_variable, Place, Outcome, faulty, run, step, Step, refused, goes, at_end}
 use Rattle.kp_text.specs.declared.tail.Tail.{Tail}
 use Rattle.kp_text.specs.declared.fault.FaultKind.{FaultKind}
 use Rattle.kp_text.specs.declared.fault.FaultKind.TheVariants as kind
@@ -72,3 +73,10 @@ IsSeparator tail text close (separator.Close rest) = ((left : ℕ) × (lexed tai
 pub record IsSeparated (close : ℕ) (g : Place) : Type 0 where
   pub ends : at_end g ≡ faulty 0 kind.End
   pub others : (t : KoreToken) → is_that_mark close t ≡ false → is_that_mark 44 t ≡ false → step g t ≡ refused
+
+-- places after which two values, or three, are known
+abbrev pub two_sorts : (KoreSort × KoreSort → Place) → Place
+two_sorts k = two_braced (λ a s. k (a, s))
+
+abbrev pub variable_of : (Text × KoreSort → Place) → Place
+variable_of k = a_variable (λ x s. k (x, s))

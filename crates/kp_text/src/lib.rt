@@ -9,6 +9,7 @@ mod keyword;
 pub mod laws;
 mod level;
 mod lexer;
+mod parts;
 mod sorts;
 mod strings;
 mod tail;
