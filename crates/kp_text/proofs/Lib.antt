@@ -2,6 +2,7 @@ pub mod Characters
 pub mod Comments
 pub mod Exits
 pub mod Fronts
+pub mod InPatterns
 pub mod InSorts
 pub mod InStrings
 pub mod Marks

@@ -1,13 +1,17 @@
 -- What it says that a part of a text was read, or that a fault was met in it: whatever may follow that part, the
 -- text is read on from its place as what comes behind the part is read on from the place after it.
-use Rattle.std.specs.Prelude.{◌≡◌, ◌≢◌, ℕ, ◌<◌, ◌≤◌, Bool, true, false, ◌==◌, List, [], length, Option, Some, None, IsUtf8}
+use Rattle.std.specs.Prelude.{◌≡◌, ◌≢◌, ℕ, ◌<◌, ◌≤◌, Bool, true, false, ◌==◌, List, [], length, Option, Some, None, IsUtf8, string_bytes}
 use Rattle.std.specs.Borrow.{Bor}
 use Rattle.kp_text.specs.Tokens.{KoreToken, identifier, backslashed, mark, defined_as, Lexemes, finished, lexeme, broken, broken_string, lexed, between, string_token}
-use Rattle.kp_kore.specs.Syntax.{Text, KoreSort}
-use Rattle.kp_text.specs.Next.{two_braced, a_variable, Place, Outcome, faulty, run, step, Step, refused, goes, at_end}
+use Rattle.kp_kore.specs.Syntax.{Text, KoreSort, KorePattern, set_variable, string_literal}
+use Rattle.kp_text.specs.Next.{a_variable, after_name, after_keyword, a_mark, a_pattern, Place, Outcome, faulty, run, step, Step, refused, goes, at_end}
 use Rattle.kp_text.specs.declared.tail.Tail.{Tail}
 use Rattle.kp_text.specs.declared.fault.FaultKind.{FaultKind}
 use Rattle.kp_text.specs.declared.fault.FaultKind.TheVariants as kind
+use Rattle.kp_text.specs.Grammar.{below}
+use Rattle.kp_text.specs.declared.level.Level.{Level}
+use Rattle.kp_text.specs.declared.patterns.Beginning.{Beginning}
+use Rattle.kp_text.specs.declared.patterns.Beginning.TheVariants as beginning
 use Rattle.kp_text.specs.declared.expected.Separator.{Separator}
 use Rattle.kp_text.specs.declared.expected.Separator.TheVariants as separator
 use Rattle.kp_text.specs.declared.fault.Failure.{Failure}
@@ -74,9 +78,34 @@ pub record IsSeparated (close : ℕ) (g : Place) : Type 0 where
   pub ends : at_end g ≡ faulty 0 kind.End
   pub others : (t : KoreToken) → is_that_mark close t ≡ false → is_that_mark 44 t ≡ false → step g t ≡ refused
 
--- places after which two values, or three, are known
-abbrev pub two_sorts : (KoreSort × KoreSort → Place) → Place
-two_sorts k = two_braced (λ a s. k (a, s))
+-- the same of two and of three values
+abbrev pub Finds2 : {V W : Type 0} → Tail → List ℕ → ((V → W → Place) → Place) → V → W → List ℕ → Type 0
+Finds2 {V} {W} tail text place v w rest = (k : V → W → Place) → run_text tail rest (k v w) ≡ run_text tail text (place k)
 
-abbrev pub variable_of : (Text × KoreSort → Place) → Place
-variable_of k = a_variable (λ x s. k (x, s))
+abbrev pub Stops2 : {V W : Type 0} → Tail → List ℕ → ((V → W → Place) → Place) → Failure → Type 0
+Stops2 {V} {W} tail text place e = (k : V → W → Place) → run_text tail text (place k) ≡ failed e (run_text tail text (place k))
+
+abbrev pub Finds3 : {U V W : Type 0} → Tail → List ℕ → ((U → V → W → Place) → Place) → U → V → W → List ℕ → Type 0
+Finds3 {U} {V} {W} tail text place u v w rest = (k : U → V → W → Place) → run_text tail rest (k u v w) ≡ run_text tail text (place k)
+
+abbrev pub Stops3 : {U V W : Type 0} → Tail → List ℕ → ((U → V → W → Place) → Place) → Failure → Type 0
+Stops3 {U} {V} {W} tail text place e = (k : U → V → W → Place) → run_text tail text (place k) ≡ failed e (run_text tail text (place k))
+
+-- how a pattern begins, and the place behind that
+abbrev pub begun_place : Level → (KorePattern → Place) → Beginning → Place
+begun_place l k (beginning.Name x) = after_name l (string_bytes x) k
+begun_place l k beginning.SetVariable = a_variable (λ x s. k (set_variable x s))
+begun_place l k (beginning.Text t) = k (string_literal (string_bytes t))
+begun_place l k (beginning.Keyword w) = after_keyword l k w
+
+abbrev pub begun_step : Level → (KorePattern → Place) → Option Beginning → Step
+begun_step l k None = refused
+begun_step l k (Some b) = goes l.reached (begun_place l k b)
+
+-- a variable, a comma, a pattern and a closing parenthesis
+abbrev pub bound_argument : Level → (Text → KoreSort → KorePattern → Place) → Place
+bound_argument l k = a_variable (λ x t. a_mark 44 (a_pattern (below l) (λ p. a_mark 41 (k x t p))))
+
+-- a level at which no number is great
+abbrev pub IsSmall : Level → Type 0
+IsSmall l = (l.written ≤ 256) × (l.meant ≤ 256)

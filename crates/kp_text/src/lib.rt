@@ -10,6 +10,7 @@ pub mod laws;
 mod level;
 mod lexer;
 mod parts;
+mod patterns;
 mod sorts;
 mod strings;
 mod tail;

@@ -1,7 +1,7 @@
 ghost use Rattle.std.specs.Prelude.{◌≡◌, ℕ, List, [], map, length, IfOk, IfErr, string_bytes};
 ghost use Rattle.kp_kore.specs.View.{sort_view};
-ghost use Rattle.kp_text.specs.Next.{a_braced_sort, no_braced, a_string, a_mark, keyword_of};
-ghost use Rattle.kp_text.specs.Reads.{run_text, failed, Leads, StopsAt, Finds, Stops, IsBehind, two_sorts, variable_of};
+ghost use Rattle.kp_text.specs.Next.{a_braced_sort, two_braced, a_variable, no_braced, a_string, a_mark, keyword_of};
+ghost use Rattle.kp_text.specs.Reads.{run_text, failed, Leads, StopsAt, Finds, Stops, Finds2, Stops2, IsBehind};
 
 use crate::expected::{mark, name};
 use crate::fault::{Failure, FaultKind};
@@ -32,8 +32,8 @@ pub fn two_braced_sorts(
     text: &str,
     tail: Tail,
 ) -> Result<(Sort, Sort, &str), Failure>
-    ensures found { IfOk result (λ x. Finds tail text.now two_sorts (sort_view x.0, sort_view x.1) x.2.now) }
-    ensures fault { IfErr result (Stops tail text.now two_sorts) }
+    ensures found { IfOk result (λ x. Finds2 tail text.now two_braced (sort_view x.0) (sort_view x.1) x.2.now) }
+    ensures fault { IfErr result (Stops2 tail text.now two_braced) }
     ensures behind { IfOk result (λ x. IsBehind x.2.now text.now) }
 {
     let rest = mark(alloc, '{', text, tail)?;
@@ -56,8 +56,8 @@ pub fn no_braces(alloc: Global, text: &str, tail: Tail) -> Result<&str, Failure>
 
 /// `x:S`.
 pub fn variable(alloc: Global, text: &str, tail: Tail) -> Result<(String, Sort, &str), Failure>
-    ensures found { IfOk result (λ x. Finds tail text.now variable_of (string_bytes x.0, sort_view x.1) x.2.now) }
-    ensures fault { IfErr result (Stops tail text.now variable_of) }
+    ensures found { IfOk result (λ x. Finds2 tail text.now a_variable (string_bytes x.0) (sort_view x.1) x.2.now) }
+    ensures fault { IfErr result (Stops2 tail text.now a_variable) }
     ensures behind { IfOk result (λ x. IsBehind x.2.now text.now) }
 {
     let (name, rest) = name(alloc, text, tail)?;
