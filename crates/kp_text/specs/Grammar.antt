@@ -3,7 +3,8 @@
 -- Beside each token stands the level of nesting that it reaches, 0 where it begins neither a pattern nor a sort.
 -- Source: the K framework's Kore language.
 use Rattle.std.specs.Prelude.{ℕ, suc, pred, ◌+◌, max, Bool, true, false, List, [], ◌∷◌, ◌++◌, map, length, codes}
-use Rattle.kp_kore.specs.Syntax.{Text, KoreSort, sort_of, sort_variable, KoreSorts, no_sorts, next_sort, KorePattern, KorePatterns, variable, set_variable, application, string_literal, literal, top, bottom, negation, next, conjunction, disjunction, implication, equivalence, rewriting, exists, forall, ceil, floor, equals, membership, mu, nu, no_patterns, next_pattern, KoreSentence, import_sentence, sort_sentence, symbol_sentence, alias_sentence, axiom_sentence, claim_sentence, KoreModule, KoreDefinition}
+use Rattle.kp_kore.specs.Syntax.{Text, KoreSort, sort_of, sort_variable, KoreSorts, no_sorts, next_sort, KorePattern, KorePatterns, variable, set_variable, application, string_literal, literal, top, bottom, negation, next, conjunction, disjunction, implication, equivalence, rewriting, exists, forall, ceil, floor, equals, membership, mu, nu, next_pattern, KoreSentence, import_sentence, sort_sentence, symbol_sentence, alias_sentence, axiom_sentence, claim_sentence, KoreModule, KoreDefinition}
+use Rattle.kp_kore.specs.View.{patterns_of}
 use Rattle.kp_kore.specs.Folds.{left_nested, right_nested}
 use Rattle.kp_kore.specs.Parts.{nesting}
 use Rattle.kp_text.specs.Tokens.{KoreToken, identifier, backslashed, string_token, mark, defined_as}
@@ -23,6 +24,7 @@ use Rattle.kp_text.specs.declared.keyword.Comparison.{Comparison}
 use Rattle.kp_text.specs.declared.keyword.Comparison.TheVariants.{Equals, In}
 use Rattle.kp_text.specs.declared.keyword.FixedPoint.{FixedPoint}
 use Rattle.kp_text.specs.declared.keyword.FixedPoint.TheVariants.{Mu, Nu}
+use Rattle.kp_text.specs.declared.level.Level.{Level}
 use Rattle.kp_text.specs.declared.keyword.Side.{Side}
 use Rattle.kp_text.specs.declared.keyword.Side.TheVariants.{Left, Right}
 
@@ -36,11 +38,6 @@ at_level n t more = record { token = t; level = n } ∷ more
 
 abbrev pub plain : KoreToken → List Leveled → List Leveled
 plain t more = at_level 0 t more
-
--- a list of patterns as Kore's list of them
-abbrev pub patterns_of : List KorePattern → KorePatterns
-patterns_of [] = no_patterns
-patterns_of (p ∷ ps) = next_pattern p (patterns_of ps)
 
 -- the words of the grammar, and what they mean of a sort and of the patterns that they stand before
 abbrev pub constant_word : Constant → Text
@@ -218,11 +215,6 @@ variable_tokens n x s more = at_level n (identifier x) (plain (mark 58) (sort_to
 -- Where a pattern stands: at which level as written, and at which as meant. A fold means a nest of applications, so
 -- its members stand deeper as meant than as written; else what stands in a pattern is one level deeper in both.
 -- reached is the level that the pattern reaches by beginning.
-pub record Level : Type 0 where
-  pub written : ℕ
-  pub meant : ℕ
-  pub reached : ℕ
-
 abbrev pub first_level : Level
 first_level = record { written = 1; meant = 1; reached = 1 }
 

@@ -2,7 +2,7 @@
 -- A place in a text is told by how many bytes are left there.
 -- Source: the K framework's Kore language, lexical syntax; UTF-8 as Unicode has it.
 use Rattle.std.specs.Prelude.{ℕ, suc, ◌+◌, ◌*◌, ◌-◌, Bool, ◌||◌, List, [], ◌∷◌, ◌++◌, length, take, drop, Option, Some, None, ◌==◌, nat_lt, if◌then◌else◌, encode_utf8}
-use Rattle.std.specs.Char.{is_ascii_alphabetic, is_ascii_digit, is_ascii_hexdigit, digit_value}
+use Rattle.std.specs.Char.{is_ascii_alphabetic, is_ascii_digit, is_digit, digit_value}
 use Rattle.std.specs.Str.{all_scalars}
 use Rattle.std.specs.Str.Lossy.{utf8_valid_len, utf8_error_len}
 use Rattle.kp_kore.specs.Syntax.{Text}
@@ -103,7 +103,7 @@ escaped_at on quote t b =
 -- the byte b where a number has more digits to come: with the last one it names a character
 abbrev pub digit_at : (Lexing → Lexemes) → ℕ → Text → ℕ → ℕ → ℕ → Lexemes
 digit_at on quote t more n b =
-    if is_ascii_hexdigit b then
+    if is_digit b 16 then
     (if nat_lt 1 more then on (in_number quote t (more - 1) (n * 16 + digit_value b))
     else if all_scalars ((n * 16 + digit_value b) ∷ []) then on (in_string quote (t ++ encode_utf8 (n * 16 + digit_value b)))
     else broken_string quote quote kind.String)

@@ -1,3 +1,8 @@
+ghost use Rattle.std.specs.Prelude.{◌≡◌};
+ghost use Rattle.kp_text.specs.declared.fault.Failure.TheVariants.{Memory};
+
+use std::alloc::{AllocError, AllocFailed};
+
 /// What is wrong with a text.
 #[derive(Clone, Copy, Debug, PartialEq, Eq)]
 pub enum FaultKind {
@@ -18,4 +23,27 @@ pub enum FaultKind {
 pub struct TextFault {
     pub at: usize,
     pub kind: FaultKind,
+}
+
+/// Why a part of a text wasn't read: for want of memory, or for a fault where so many bytes are left.
+#[derive(Clone, Copy, Debug, PartialEq, Eq)]
+pub enum Failure {
+    Memory,
+    Fault { left: usize, kind: FaultKind },
+}
+
+impl From<AllocError> for Failure {
+    ghost from_gives = { λ _ e. e ≡ Memory };
+
+    fn from(_e: AllocError) -> Failure {
+        Failure::Memory
+    }
+}
+
+impl<T: Drop> From<AllocFailed<T>> for Failure {
+    ghost from_gives = { λ _ e. e ≡ Memory };
+
+    fn from(_e: AllocFailed<T>) -> Failure {
+        Failure::Memory
+    }
 }

@@ -1,0 +1,11 @@
+pub mod Characters
+pub mod Comments
+pub mod Exits
+pub mod Fronts
+pub mod InPatterns
+pub mod InSorts
+pub mod InStrings
+pub mod Marks
+pub mod Members
+pub mod Numbers
+pub mod Words

@@ -1,0 +1,139 @@
+ghost use Rattle.std.specs.Prelude.{◌≡◌, ℕ, List, [], map, length, IfOk, IfErr, string_bytes};
+ghost use Rattle.kp_kore.specs.View.{sort_view};
+ghost use Rattle.kp_text.specs.Next.{a_braced_sort, two_braced, a_variable, no_braced, a_string, a_mark, keyword_of};
+ghost use Rattle.kp_text.specs.Reads.{run_text, failed, Leads, StopsAt, Finds, Stops, Finds2, Stops2, IsBehind};
+
+use crate::expected::{mark, name};
+use crate::fault::{Failure, FaultKind};
+use crate::keyword::{
+    Binary, Comparison, Constant, FixedPoint, Keyword, Quantifier, Rounding, Side, Unary, Variadic,
+};
+use crate::lexer::{look_ahead, Ahead, Token};
+use crate::sorts::a_sort;
+use crate::tail::Tail;
+use kp_kore::Sort;
+use std::alloc::Global;
+
+/// `{S}`.
+pub fn braced_sort(alloc: Global, text: &str, tail: Tail) -> Result<(Sort, &str), Failure>
+    ensures found { IfOk result (λ x. Finds tail text.now a_braced_sort (sort_view x.0) x.1.now) }
+    ensures fault { IfErr result (Stops tail text.now a_braced_sort) }
+    ensures behind { IfOk result (λ x. IsBehind x.1.now text.now) }
+{
+    let rest = mark(alloc, '{', text, tail)?;
+    let (sort, rest) = a_sort(alloc, 1, rest, tail)?;
+    let rest = mark(alloc, '}', rest, tail)?;
+    Ok((sort, rest))
+}
+
+/// `{A,S}`.
+pub fn two_braced_sorts(
+    alloc: Global,
+    text: &str,
+    tail: Tail,
+) -> Result<(Sort, Sort, &str), Failure>
+    ensures found { IfOk result (λ x. Finds2 tail text.now two_braced (sort_view x.0) (sort_view x.1) x.2.now) }
+    ensures fault { IfErr result (Stops2 tail text.now two_braced) }
+    ensures behind { IfOk result (λ x. IsBehind x.2.now text.now) }
+{
+    let rest = mark(alloc, '{', text, tail)?;
+    let (argument_sort, rest) = a_sort(alloc, 1, rest, tail)?;
+    let rest = mark(alloc, ',', rest, tail)?;
+    let (sort, rest) = a_sort(alloc, 1, rest, tail)?;
+    let rest = mark(alloc, '}', rest, tail)?;
+    Ok((argument_sort, sort, rest))
+}
+
+/// `{}`.
+pub fn no_braces(alloc: Global, text: &str, tail: Tail) -> Result<&str, Failure>
+    ensures found { IfOk result (λ rest. Leads tail text.now no_braced rest.now) }
+    ensures fault { IfErr result (StopsAt tail text.now no_braced) }
+    ensures behind { IfOk result (λ rest. IsBehind rest.now text.now) }
+{
+    let rest = mark(alloc, '{', text, tail)?;
+    Ok(mark(alloc, '}', rest, tail)?)
+}
+
+/// `x:S`.
+pub fn variable(alloc: Global, text: &str, tail: Tail) -> Result<(String, Sort, &str), Failure>
+    ensures found { IfOk result (λ x. Finds2 tail text.now a_variable (string_bytes x.0) (sort_view x.1) x.2.now) }
+    ensures fault { IfErr result (Stops2 tail text.now a_variable) }
+    ensures behind { IfOk result (λ x. IsBehind x.2.now text.now) }
+{
+    let (name, rest) = name(alloc, text, tail)?;
+    let rest = mark(alloc, ':', rest, tail)?;
+    let (sort, rest) = a_sort(alloc, 1, rest, tail)?;
+    Ok((name, sort, rest))
+}
+
+/// A string, and what comes behind it.
+pub fn string_literal(alloc: Global, text: &str, tail: Tail) -> Result<(String, &str), Failure>
+    ensures found { IfOk result (λ x. Finds tail text.now a_string (string_bytes x.0) x.1.now) }
+    ensures fault { IfErr result (Stops tail text.now a_string) }
+    ensures behind { IfOk result (λ x. IsBehind x.1.now text.now) }
+{
+    match look_ahead(alloc, text, tail)? {
+        Ahead::Token { left, token, rest } => match token {
+            Token::Text(characters) => Ok((characters, rest)),
+            _ => Err(Failure::Fault {
+                left,
+                kind: FaultKind::Token,
+            }),
+        },
+        Ahead::Finished => Err(Failure::Fault {
+            left: 0,
+            kind: FaultKind::End,
+        }),
+        Ahead::Broken { left, kind } => Err(Failure::Fault { left, kind }),
+        Ahead::BrokenString { left, kind, .. } => Err(Failure::Fault { left, kind }),
+    }
+}
+
+/// The word behind a backslash.
+pub fn keyword(word: &str) -> Option<Keyword>
+    ensures { result ≡ keyword_of word.now }
+{
+    if word == "top" {
+        Some(Keyword::Constant(Constant::Top))
+    } else if word == "bottom" {
+        Some(Keyword::Constant(Constant::Bottom))
+    } else if word == "not" {
+        Some(Keyword::Unary(Unary::Not))
+    } else if word == "next" {
+        Some(Keyword::Unary(Unary::Next))
+    } else if word == "and" {
+        Some(Keyword::Variadic(Variadic::And))
+    } else if word == "or" {
+        Some(Keyword::Variadic(Variadic::Or))
+    } else if word == "implies" {
+        Some(Keyword::Binary(Binary::Implies))
+    } else if word == "iff" {
+        Some(Keyword::Binary(Binary::Iff))
+    } else if word == "rewrites" {
+        Some(Keyword::Binary(Binary::Rewrites))
+    } else if word == "exists" {
+        Some(Keyword::Quantifier(Quantifier::Exists))
+    } else if word == "forall" {
+        Some(Keyword::Quantifier(Quantifier::Forall))
+    } else if word == "ceil" {
+        Some(Keyword::Rounding(Rounding::Ceil))
+    } else if word == "floor" {
+        Some(Keyword::Rounding(Rounding::Floor))
+    } else if word == "equals" {
+        Some(Keyword::Comparison(Comparison::Equals))
+    } else if word == "in" {
+        Some(Keyword::Comparison(Comparison::In))
+    } else if word == "dv" {
+        Some(Keyword::Literal)
+    } else if word == "mu" {
+        Some(Keyword::FixedPoint(FixedPoint::Mu))
+    } else if word == "nu" {
+        Some(Keyword::FixedPoint(FixedPoint::Nu))
+    } else if word == "left-assoc" {
+        Some(Keyword::Fold(Side::Left))
+    } else if word == "right-assoc" {
+        Some(Keyword::Fold(Side::Right))
+    } else {
+        None
+    }
+}

@@ -1,0 +1,122 @@
+ghost use Rattle.std.specs.Prelude.{◌≡◌, ℕ, ◌+◌, ◌≤◌, List, [], ◌∷◌, map, length, IfOk, IfErr, string_bytes};
+ghost use Rattle.kp_kore.specs.View.{sort_view};
+ghost use Rattle.kp_text.specs.Next.{a_sort, after_sort_name, sorts, more_sorts};
+ghost use Rattle.kp_text.specs.Reads.{Finds, Stops, IsBehind, IsNotBefore};
+
+use crate::expected::{Separator, mark_ahead, next_separator, next_token};
+use crate::fault::{Failure, FaultKind};
+use crate::lexer::Token;
+use crate::tail::Tail;
+use kp_kore::Sort;
+use std::alloc::Global;
+
+/// A sort at a level of its own, and what comes behind it.
+#[cycle(sort)]
+#[tactic(auto, using(crate::proofs::InSorts::sort_named))]
+pub fn a_sort<'a>(
+    alloc: Global,
+    level: usize,
+    text: &'a str,
+    tail: Tail,
+) -> Result<(Sort, &'a str), Failure>
+    requires { level ≤ 257 }
+    ensures found { IfOk result (λ x. Finds tail text.now (a_sort level) (sort_view x.0) x.1.now) }
+    ensures fault { IfErr result (Stops tail text.now (a_sort level)) }
+    ensures behind { IfOk result (λ x. IsBehind x.1.now text.now) }
+{
+    let (left, token, rest) = next_token(alloc, text, tail)?;
+    match token {
+        Token::Identifier(name) => {
+            if level > 256 {
+                return Err(Failure::Fault {
+                    left,
+                    kind: FaultKind::Deep,
+                });
+            }
+            Ok(named_sort(alloc, level, name, rest, tail)?)
+        }
+        _ => Err(Failure::Fault {
+            left,
+            kind: FaultKind::Token,
+        }),
+    }
+}
+
+/// A sort whose name was read.
+#[cycle(sort)]
+#[tactic(auto, using(crate::proofs::InSorts::sort_opens, crate::proofs::InSorts::sort_is_variable))]
+fn named_sort<'a>(
+    alloc: Global,
+    level: usize,
+    name: String,
+    text: &'a str,
+    tail: Tail,
+) -> Result<(Sort, &'a str), Failure>
+    requires { level ≤ 256 }
+    ensures found { IfOk result (λ x. Finds tail text.now (after_sort_name level (string_bytes name)) (sort_view x.0) x.1.now) }
+    ensures fault { IfErr result (Stops tail text.now (after_sort_name level (string_bytes name))) }
+    ensures behind { IfOk result (λ x. IsNotBefore x.1.now text.now) }
+{
+    match mark_ahead(alloc, '{', text, tail)? {
+        None => Ok((Sort::Variable { name }, text)),
+        Some(rest) => {
+            let (arguments, rest) = sorts(alloc, level + 1, '}', rest, tail)?;
+            Ok((Sort::App { name, arguments }, rest))
+        }
+    }
+}
+
+/// Sorts with commas between them, and what comes behind the mark that closes them.
+#[cycle(sort)]
+#[tactic(auto, using(crate::proofs::InSorts::sorts_are_none, crate::proofs::InSorts::sorts_begin))]
+pub fn sorts<'a>(
+    alloc: Global,
+    level: usize,
+    close: char,
+    text: &'a str,
+    tail: Tail,
+) -> Result<(Vec<Sort>, &'a str), Failure>
+    requires { level ≤ 257 }
+    ensures found { IfOk result (λ x. Finds tail text.now (sorts level close) (map sort_view x.0.items) x.1.now) }
+    ensures fault { IfErr result (Stops tail text.now (sorts level close)) }
+    ensures behind { IfOk result (λ x. IsBehind x.1.now text.now) }
+{
+    match mark_ahead(alloc, close, text, tail)? {
+        Some(rest) => Ok((Vec::new(alloc), rest)),
+        None => {
+            let (first, rest) = a_sort(alloc, level, text, tail)?;
+            Ok(more_sorts(alloc, level, close, first, rest, tail)?)
+        }
+    }
+}
+
+/// Sorts of which the first was read.
+#[cycle(sort)]
+#[tactic(auto, using(crate::proofs::InSorts::sorts_close, crate::proofs::InSorts::sorts_go_on, crate::proofs::InSorts::sorts_separated))]
+fn more_sorts<'a>(
+    alloc: Global,
+    level: usize,
+    close: char,
+    first: Sort,
+    text: &'a str,
+    tail: Tail,
+) -> Result<(Vec<Sort>, &'a str), Failure>
+    requires { level ≤ 257 }
+    ensures found { IfOk result (λ x. Finds tail text.now (more_sorts level close (sort_view first ∷ [])) (map sort_view x.0.items) x.1.now) }
+    ensures fault { IfErr result (Stops tail text.now (more_sorts level close (sort_view first ∷ []))) }
+    ensures behind { IfOk result (λ x. IsBehind x.1.now text.now) }
+{
+    let mut sorts = Vec::new(alloc);
+    sorts.push(first)?;
+    let mut rest = text;
+    loop {
+        match next_separator(alloc, close, rest, tail)? {
+            Separator::Close(behind) => return Ok((sorts, behind)),
+            Separator::Comma(behind) => {
+                let (sort, after) = a_sort(alloc, level, behind, tail)?;
+                sorts.push(sort)?;
+                rest = after;
+            }
+        }
+    }
+}
