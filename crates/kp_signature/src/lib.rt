@@ -1,0 +1,5 @@
+// The signature of a definition, and the sort of a pattern over it or its first fault. specs/Verify.antt says which
+// fault of which node comes first; the functions of `examples` have no body: each carries computed examples.
+#![tactic(auto)]
+
+pub mod examples;
