@@ -1,2 +1,3 @@
 pub mod Below
+pub mod FirstPlaces
 pub mod Same
