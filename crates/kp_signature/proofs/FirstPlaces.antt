@@ -5,7 +5,7 @@ use Rattle.std.specs.Str.{bytes_eq}
 use Rattle.std.proofs.lemmas.Slice.Eq.{bytes_eq-Decides}
 use Rattle.kp_kore.specs.Syntax.{Text}
 use Rattle.kp_signature.specs.Places.{earlier}
-use Rattle.kp_signature.specs.Table.{first_place}
+use Rattle.kp_signature.specs.Names.{first_place}
 
 one_later : (o : Option ℕ) (b : Bool) (k : ℕ) → option_map suc (earlier o (cond b (Some k) None)) ≡ earlier (option_map suc o) (cond b (Some (suc k)) None)
 one_later (Some i) b k = refl

@@ -1,4 +1,5 @@
 pub mod Examples
+pub mod Names
 pub mod Places
 pub mod Table
 pub mod Verify

@@ -1,16 +1,39 @@
 -- How the code keeps a signature: the declarations in order, and for each name its first place among them.
-use Rattle.std.specs.Prelude.{◌≡◌, ℕ, suc, List, [], ◌∷◌, String, Option, Some, None, if◌then◌else◌}
-use Rattle.std.specs.Option.{option_map}
-use Rattle.std.specs.Str.{bytes_eq}
-use Rattle.std.specs.declared.alloc.Global.{Global}
-use Rattle.indexmap.specs.IndexMap.{IndexMap, get_by_text}
-use Rattle.kp_kore.specs.Syntax.{Text}
+use Rattle.std.specs.Prelude.{◌≡◌, List, map}
+use Rattle.kp_kore.specs.Syntax.{Text, KoreSort, KoreSentence, SortDeclaration, SymbolDeclaration, AliasDeclaration}
+use Rattle.kp_kore.specs.Signature.{KoreSignature, sorts_in, symbols_in, aliases_in, subsorts_in}
+use Rattle.kp_kore.specs.View.{sort_view, sort_sentence_view, symbol_sentence_view, alias_sentence_view}
+use Rattle.kp_signature.specs.Names.{Indexes}
+use Rattle.kp_signature.specs.declared.table.Subsort.{Subsort}
+use Rattle.kp_signature.specs.declared.table.Table.{Table}
 
--- the first place of a name in a list of names
-abbrev pub first_place : Text → List Text → Option ℕ
-first_place n [] = None
-first_place n (m ∷ ms) = if bytes_eq m n then Some 0 else option_map suc (first_place n ms)
+abbrev pub sort_names : List SortDeclaration → List Text
+sort_names = map (λ d. d.name)
 
--- the map has for each name its first place
-abbrev pub Indexes : {S : Type 0} → List Text → IndexMap (String Global) ℕ S → Type 0
-Indexes names places = (n : Text) → get_by_text places n ≡ first_place n names
+abbrev pub symbol_names : List SymbolDeclaration → List Text
+symbol_names = map (λ d. d.name)
+
+abbrev pub alias_names : List AliasDeclaration → List Text
+alias_names = map (λ d. d.name)
+
+abbrev pub subsort_view : Subsort → KoreSort × KoreSort
+subsort_view p = (sort_view p.lower, sort_view p.upper)
+
+-- the table has what the sentences declare
+pub record IsTableOf (t : Table) (sentences : List KoreSentence) : Type 0 where
+  pub sorts : map sort_sentence_view t.sorts.items ≡ sorts_in sentences
+  pub symbols : map symbol_sentence_view t.symbols.items ≡ symbols_in sentences
+  pub aliases : map alias_sentence_view t.aliases.items ≡ aliases_in sentences
+  pub subsorts : map subsort_view t.subsorts.items ≡ subsorts_in sentences
+  pub sort_places : Indexes (sort_names (sorts_in sentences)) t.sort_places
+  pub symbol_places : Indexes (symbol_names (symbols_in sentences)) t.symbol_places
+  pub alias_places : Indexes (alias_names (aliases_in sentences)) t.alias_places
+
+-- the signature that the table is seen as
+abbrev pub table_view : Table → KoreSignature
+table_view t = record {
+  sorts = map sort_sentence_view t.sorts.items;
+  symbols = map symbol_sentence_view t.symbols.items;
+  aliases = map alias_sentence_view t.aliases.items;
+  subsorts = map subsort_view t.subsorts.items;
+}

@@ -7,3 +7,5 @@ mod copies;
 pub mod examples;
 pub mod laws;
 mod names;
+mod subsorts;
+pub mod table;

@@ -1,6 +1,6 @@
 // Where names stand first in a list.
 ghost use Rattle.std.specs.Prelude.{◌≡◌, OnOk, length, string_bytes, ◌++◌, ◌∷◌, []};
-ghost use Rattle.kp_signature.specs.Table.{Indexes};
+ghost use Rattle.kp_signature.specs.Names.{Indexes};
 ghost use Rattle.kp_kore.specs.Syntax.{Text};
 ghost use Rattle.std.specs.Prelude.{List};
 
