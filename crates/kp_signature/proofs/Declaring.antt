@@ -4,6 +4,9 @@ use Rattle.std.proofs.lemmas.List.{append_assoc, append-nil, map-append, length-
 use Rattle.kp_kore.specs.Syntax.{Text, KoreSort, KoreSentence, import_sentence, sort_sentence, symbol_sentence, alias_sentence, axiom_sentence, claim_sentence}
 use Rattle.indexmap.specs.IndexMap.{IndexMap}
 use Rattle.kp_signature.specs.Names.{Indexes}
+use Rattle.kp_signature.specs.Table.{IsTableOf, subsort_view}
+use Rattle.kp_signature.specs.declared.table.Table.{Table}
+use Rattle.kp_kore.specs.View.{sort_sentence_view, symbol_sentence_view, alias_sentence_view}
 use Rattle.kp_kore.specs.Signature.{sorts_in, symbols_in, aliases_in, subsorts_in, subsorts_among}
 
 pub sorts_in-append : (ss ts : List KoreSentence) → sorts_in (ss ++ ts) ≡ sorts_in ss ++ sorts_in ts
@@ -59,3 +62,16 @@ pub pushed_places : {A B S : Type 0} (f : A → B) (items : List A) (name : B �
 pushed_places f items name before after old all y place step i e m h =
     subst (λ l. Indexes l after) (sym (ap (map name) h ∙ map-append name old (y ∷ [])))
     (step (map name old) i (e ∙ sym (length-map items f) ∙ ap length m ∙ sym (length-map old name)))
+
+-- a sentence that declares nothing
+pub nothing_more : (t : Table) (ss : List KoreSentence) (s : KoreSentence) → sorts_in (s ∷ []) ≡ [] → symbols_in (s ∷ []) ≡ [] → aliases_in (s ∷ []) ≡ [] → subsorts_in (s ∷ []) ≡ [] →
+    IsTableOf t ss → IsTableOf t (ss ++ s ∷ [])
+nothing_more t ss s a b c d is = record {
+  sorts = kept sort_sentence_view t.sorts.items (sorts_in ss) (sorts_in (ss ++ s ∷ [])) is.sorts (sorts_in-append ss (s ∷ []) ∙ ap (λ l. sorts_in ss ++ l) a);
+  symbols = kept symbol_sentence_view t.symbols.items (symbols_in ss) (symbols_in (ss ++ s ∷ [])) is.symbols (symbols_in-append ss (s ∷ []) ∙ ap (λ l. symbols_in ss ++ l) b);
+  aliases = kept alias_sentence_view t.aliases.items (aliases_in ss) (aliases_in (ss ++ s ∷ [])) is.aliases (aliases_in-append ss (s ∷ []) ∙ ap (λ l. aliases_in ss ++ l) c);
+  subsorts = kept subsort_view t.subsorts.items (subsorts_in ss) (subsorts_in (ss ++ s ∷ [])) is.subsorts (subsorts_in-append ss (s ∷ []) ∙ ap (λ l. subsorts_in ss ++ l) d);
+  sort_places = kept_places (λ d. d.name) t.sort_places (sorts_in ss) (sorts_in (ss ++ s ∷ [])) is.sort_places (sorts_in-append ss (s ∷ []) ∙ ap (λ l. sorts_in ss ++ l) a);
+  symbol_places = kept_places (λ d. d.name) t.symbol_places (symbols_in ss) (symbols_in (ss ++ s ∷ [])) is.symbol_places (symbols_in-append ss (s ∷ []) ∙ ap (λ l. symbols_in ss ++ l) b);
+  alias_places = kept_places (λ d. d.name) t.alias_places (aliases_in ss) (aliases_in (ss ++ s ∷ [])) is.alias_places (aliases_in-append ss (s ∷ []) ∙ ap (λ l. aliases_in ss ++ l) c);
+}

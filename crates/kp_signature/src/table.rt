@@ -53,7 +53,11 @@ impl Table {
             Sentence::Sort(declaration) => self.add_sort(alloc, declaration),
             Sentence::Symbol(declaration) => self.add_symbol(alloc, declaration),
             Sentence::Alias(declaration) => self.add_alias(alloc, declaration),
-            Sentence::Axiom(axiom) => add_subsorts(&mut self.subsorts, alloc, &axiom.attributes),
+            Sentence::Axiom(axiom) => Ok(add_subsorts(
+                &mut self.subsorts,
+                alloc,
+                &axiom.attributes,
+            )?),
             Sentence::Import { .. } | Sentence::Claim(_) => Ok(()),
         }
     }

@@ -1,4 +1,4 @@
-use Rattle.std.proofs.Common.{List, [], ◌∷◌, ◌++◌}
+use Rattle.std.proofs.Common.{rules, List, [], ◌∷◌, ◌++◌}
 use Rattle.kp_kore.specs.Syntax.{sort_sentence, symbol_sentence, alias_sentence, import_sentence, claim_sentence, axiom_sentence}
 use Rattle.kp_kore.specs.Signature.{sorts_in, symbols_in, aliases_in, subsorts_in}
 use Rattle.kp_kore.specs.View.{sort_sentence_view, symbol_sentence_view, alias_sentence_view, axiom_sentence_view}
@@ -14,5 +14,5 @@ returns c sentences t = record {
   subsorts = kept subsort_view c.args.self.now.subsorts.items (subsorts_in sentences) (subsorts_in (sentences ++ alias_sentence (alias_sentence_view c.args.declaration.now) ∷ [])) t.subsorts (subsorts_in-append sentences (alias_sentence (alias_sentence_view c.args.declaration.now) ∷ []));
   sort_places = kept_places (λ d. d.name) c.args.self.now.sort_places (sorts_in sentences) (sorts_in (sentences ++ alias_sentence (alias_sentence_view c.args.declaration.now) ∷ [])) t.sort_places (sorts_in-append sentences (alias_sentence (alias_sentence_view c.args.declaration.now) ∷ []));
   symbol_places = kept_places (λ d. d.name) c.args.self.now.symbol_places (symbols_in sentences) (symbols_in (sentences ++ alias_sentence (alias_sentence_view c.args.declaration.now) ∷ [])) t.symbol_places (symbols_in-append sentences (alias_sentence (alias_sentence_view c.args.declaration.now) ∷ []));
-  alias_places = pushed_places alias_sentence_view c.args.self.now.aliases.items (λ d. d.name) c.args.self.now.alias_places c.note_name.new.places (aliases_in sentences) (aliases_in (sentences ++ alias_sentence (alias_sentence_view c.args.declaration.now) ∷ [])) (alias_sentence_view c.args.declaration.now) c.len.result c.in_ok-note_name.ensures t.alias_places c.len.ensures t.aliases (aliases_in-append sentences (alias_sentence (alias_sentence_view c.args.declaration.now) ∷ []));
+  alias_places = pushed_places alias_sentence_view c.args.self.now.aliases.items (λ d. d.name) c.args.self.now.alias_places c.note_name.new.places (aliases_in sentences) (aliases_in (sentences ++ alias_sentence (alias_sentence_view c.args.declaration.now) ∷ [])) (alias_sentence_view c.args.declaration.now) c.len.result c.in_ok-note_name.ensures t.alias_places (search rules) t.aliases (aliases_in-append sentences (alias_sentence (alias_sentence_view c.args.declaration.now) ∷ []));
 }

@@ -1,4 +1,4 @@
-use Rattle.std.proofs.Common.{List, [], ◌∷◌, ◌++◌}
+use Rattle.std.proofs.Common.{rules, List, [], ◌∷◌, ◌++◌}
 use Rattle.kp_kore.specs.Syntax.{sort_sentence, symbol_sentence, alias_sentence, import_sentence, claim_sentence, axiom_sentence}
 use Rattle.kp_kore.specs.Signature.{sorts_in, symbols_in, aliases_in, subsorts_in}
 use Rattle.kp_kore.specs.View.{sort_sentence_view, symbol_sentence_view, alias_sentence_view, axiom_sentence_view}
@@ -12,7 +12,7 @@ returns c sentences t = record {
   symbols = kept symbol_sentence_view c.args.self.now.symbols.items (symbols_in sentences) (symbols_in (sentences ++ sort_sentence (sort_sentence_view c.args.declaration.now) ∷ [])) t.symbols (symbols_in-append sentences (sort_sentence (sort_sentence_view c.args.declaration.now) ∷ []));
   aliases = kept alias_sentence_view c.args.self.now.aliases.items (aliases_in sentences) (aliases_in (sentences ++ sort_sentence (sort_sentence_view c.args.declaration.now) ∷ [])) t.aliases (aliases_in-append sentences (sort_sentence (sort_sentence_view c.args.declaration.now) ∷ []));
   subsorts = kept subsort_view c.args.self.now.subsorts.items (subsorts_in sentences) (subsorts_in (sentences ++ sort_sentence (sort_sentence_view c.args.declaration.now) ∷ [])) t.subsorts (subsorts_in-append sentences (sort_sentence (sort_sentence_view c.args.declaration.now) ∷ []));
-  sort_places = pushed_places sort_sentence_view c.args.self.now.sorts.items (λ d. d.name) c.args.self.now.sort_places c.note_name.new.places (sorts_in sentences) (sorts_in (sentences ++ sort_sentence (sort_sentence_view c.args.declaration.now) ∷ [])) (sort_sentence_view c.args.declaration.now) c.len.result c.in_ok-note_name.ensures t.sort_places c.len.ensures t.sorts (sorts_in-append sentences (sort_sentence (sort_sentence_view c.args.declaration.now) ∷ []));
+  sort_places = pushed_places sort_sentence_view c.args.self.now.sorts.items (λ d. d.name) c.args.self.now.sort_places c.note_name.new.places (sorts_in sentences) (sorts_in (sentences ++ sort_sentence (sort_sentence_view c.args.declaration.now) ∷ [])) (sort_sentence_view c.args.declaration.now) c.len.result c.in_ok-note_name.ensures t.sort_places (search rules) t.sorts (sorts_in-append sentences (sort_sentence (sort_sentence_view c.args.declaration.now) ∷ []));
   symbol_places = kept_places (λ d. d.name) c.args.self.now.symbol_places (symbols_in sentences) (symbols_in (sentences ++ sort_sentence (sort_sentence_view c.args.declaration.now) ∷ [])) t.symbol_places (symbols_in-append sentences (sort_sentence (sort_sentence_view c.args.declaration.now) ∷ []));
   alias_places = kept_places (λ d. d.name) c.args.self.now.alias_places (aliases_in sentences) (aliases_in (sentences ++ sort_sentence (sort_sentence_view c.args.declaration.now) ∷ [])) t.alias_places (aliases_in-append sentences (sort_sentence (sort_sentence_view c.args.declaration.now) ∷ []));
 }

@@ -1,4 +1,4 @@
-use Rattle.std.proofs.Common.{List, [], ◌∷◌, ◌++◌}
+use Rattle.std.proofs.Common.{rules, List, [], ◌∷◌, ◌++◌}
 use Rattle.kp_kore.specs.Syntax.{sort_sentence, symbol_sentence, alias_sentence, import_sentence, claim_sentence, axiom_sentence}
 use Rattle.kp_kore.specs.Signature.{sorts_in, symbols_in, aliases_in, subsorts_in}
 use Rattle.kp_kore.specs.View.{sort_sentence_view, symbol_sentence_view, alias_sentence_view, axiom_sentence_view}
@@ -13,6 +13,6 @@ returns c sentences t = record {
   aliases = kept alias_sentence_view c.args.self.now.aliases.items (aliases_in sentences) (aliases_in (sentences ++ symbol_sentence (symbol_sentence_view c.args.declaration.now) ∷ [])) t.aliases (aliases_in-append sentences (symbol_sentence (symbol_sentence_view c.args.declaration.now) ∷ []));
   subsorts = kept subsort_view c.args.self.now.subsorts.items (subsorts_in sentences) (subsorts_in (sentences ++ symbol_sentence (symbol_sentence_view c.args.declaration.now) ∷ [])) t.subsorts (subsorts_in-append sentences (symbol_sentence (symbol_sentence_view c.args.declaration.now) ∷ []));
   sort_places = kept_places (λ d. d.name) c.args.self.now.sort_places (sorts_in sentences) (sorts_in (sentences ++ symbol_sentence (symbol_sentence_view c.args.declaration.now) ∷ [])) t.sort_places (sorts_in-append sentences (symbol_sentence (symbol_sentence_view c.args.declaration.now) ∷ []));
-  symbol_places = pushed_places symbol_sentence_view c.args.self.now.symbols.items (λ d. d.name) c.args.self.now.symbol_places c.note_name.new.places (symbols_in sentences) (symbols_in (sentences ++ symbol_sentence (symbol_sentence_view c.args.declaration.now) ∷ [])) (symbol_sentence_view c.args.declaration.now) c.len.result c.in_ok-note_name.ensures t.symbol_places c.len.ensures t.symbols (symbols_in-append sentences (symbol_sentence (symbol_sentence_view c.args.declaration.now) ∷ []));
+  symbol_places = pushed_places symbol_sentence_view c.args.self.now.symbols.items (λ d. d.name) c.args.self.now.symbol_places c.note_name.new.places (symbols_in sentences) (symbols_in (sentences ++ symbol_sentence (symbol_sentence_view c.args.declaration.now) ∷ [])) (symbol_sentence_view c.args.declaration.now) c.len.result c.in_ok-note_name.ensures t.symbol_places (search rules) t.symbols (symbols_in-append sentences (symbol_sentence (symbol_sentence_view c.args.declaration.now) ∷ []));
   alias_places = kept_places (λ d. d.name) c.args.self.now.alias_places (aliases_in sentences) (aliases_in (sentences ++ symbol_sentence (symbol_sentence_view c.args.declaration.now) ∷ [])) t.alias_places (aliases_in-append sentences (symbol_sentence (symbol_sentence_view c.args.declaration.now) ∷ []));
 }
