@@ -1,7 +1,7 @@
 -- What the sentences declare, once one more stands after the others.
 use Rattle.std.proofs.Common.{◌≡◌, refl, sym, ap, subst, ◌∙◌, ℕ, List, [], ◌∷◌, ◌++◌, map, length, String, Global}
 use Rattle.std.proofs.lemmas.List.{append_assoc, append-nil, map-append, length-map}
-use Rattle.kp_kore.specs.Syntax.{Text, KoreSort, KoreSentence, import_sentence, sort_sentence, symbol_sentence, alias_sentence, axiom_sentence, claim_sentence}
+use Rattle.kp_kore.specs.Syntax.{Text, KoreSentence, import_sentence, sort_sentence, symbol_sentence, alias_sentence, axiom_sentence, claim_sentence}
 use Rattle.indexmap.specs.IndexMap.{IndexMap}
 use Rattle.kp_signature.specs.Names.{Indexes}
 use Rattle.kp_signature.specs.Table.{IsTableOf, subsort_view}

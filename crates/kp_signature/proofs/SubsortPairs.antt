@@ -1,6 +1,6 @@
 -- What the attribute subsort{A,B}() marks, by the numbers of its sorts and arguments; and the pairs of more attributes.
-use Rattle.std.proofs.Common.{◌≡◌, refl, sym, ap, ◌∙◌, ℕ, zero, suc, ◌+◌, ◌<◌, Bool, true, false, cond, List, [], ◌∷◌, ◌++◌, map, length, take, get_or, Option, Some, None, arith, codes}
-use Rattle.std.proofs.lemmas.List.{map_more, append_assoc, append-nil}
+use Rattle.std.proofs.Common.{◌≡◌, refl, sym, ap, ◌∙◌, ℕ, ◌+◌, ◌<◌, true, false, cond, List, [], ◌∷◌, ◌++◌, map, length, take, get_or, Option, Some, None, codes}
+use Rattle.std.proofs.lemmas.List.{map_more, append_assoc}
 use Rattle.std.specs.Str.{bytes_eq}
 use Rattle.kp_kore.specs.Syntax.{Text, KoreSort, KorePattern, application, next_pattern, no_patterns}
 use Rattle.kp_kore.specs.Attributes.{marked_sorts}

@@ -3,3 +3,4 @@ pub mod Names
 pub mod Places
 pub mod Table
 pub mod Verify
+pub mod View

@@ -37,3 +37,10 @@ table_view t = record {
   aliases = map alias_sentence_view t.aliases.items;
   subsorts = map subsort_view t.subsorts.items;
 }
+
+-- the maps have for each name its first place among the declarations
+abbrev pub IsIndexed : Table → Type 0
+IsIndexed t =
+    Indexes (sort_names (table_view t).sorts) t.sort_places
+    × Indexes (symbol_names (table_view t).symbols) t.symbol_places
+    × Indexes (alias_names (table_view t).aliases) t.alias_places

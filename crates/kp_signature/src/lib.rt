@@ -7,5 +7,8 @@ mod copies;
 pub mod examples;
 pub mod laws;
 mod names;
+pub mod signature;
 mod subsorts;
-pub mod table;
+mod table;
+
+pub use signature::Signature;

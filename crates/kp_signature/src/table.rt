@@ -25,7 +25,7 @@ pub struct Table {
 }
 
 impl Table {
-    ghost use Rattle.std.specs.Prelude.{◌++◌, ◌∷◌, [], List, OnOk};
+    ghost use Rattle.std.specs.Prelude.{◌++◌, ◌∷◌, [], List, OnOk, map};
     ghost use Rattle.kp_kore.specs.Syntax.{KoreSentence, sort_sentence, symbol_sentence, alias_sentence};
     ghost use Rattle.kp_kore.specs.View.{sentence_view, sort_sentence_view, symbol_sentence_view, alias_sentence_view};
     ghost use Rattle.kp_signature.specs.Table.{IsTableOf};
@@ -45,6 +45,16 @@ impl Table {
         }
     }
 
+    /// Adds what more sentences declare.
+    pub fn add_all(&mut self, alloc: Global, sentences: &[Sentence]) -> Result<(), AllocError>
+        ensures { (before : List KoreSentence) → IsTableOf self.old before → OnOk result (IsTableOf self.new (before ++ map sentence_view sentences.now)) }
+    {
+        for sentence in sentences {
+            self.add(alloc, sentence)?;
+        }
+        Ok(())
+    }
+
     /// Adds what one more sentence declares.
     pub fn add(&mut self, alloc: Global, sentence: &Sentence) -> Result<(), AllocError>
         ensures { (sentences : List KoreSentence) → IsTableOf self.old sentences → OnOk result (IsTableOf self.new (sentences ++ sentence_view sentence.now ∷ [])) }
@@ -58,7 +68,8 @@ impl Table {
                 alloc,
                 &axiom.attributes,
             )?),
-            Sentence::Import { .. } | Sentence::Claim(_) => Ok(()),
+            Sentence::Import { .. } => Ok(()),
+            Sentence::Claim(_) => Ok(()),
         }
     }
 

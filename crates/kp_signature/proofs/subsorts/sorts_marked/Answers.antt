@@ -1,4 +1,4 @@
-use Rattle.std.proofs.Common.{◌≡◌, sym, ◌∙◌, codes}
+use Rattle.std.proofs.Common.{sym, ◌∙◌, codes}
 use Rattle.kp_signature.proofs.SubsortPairs.{other_name, other_sorts, other_arguments}
 use Rattle.kp_signature.proofs.subsorts.sorts_marked.Goals as goal
 use Rattle.kp_signature.proofs.subsorts.sorts_marked.Goals.{else-eq-via-then-eq+then-sorts-eq2+else-arguments-eq0, else-eq-via-then-eq+else-sorts-eq2, else-eq-via-else-eq}
