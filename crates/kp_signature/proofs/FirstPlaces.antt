@@ -1,7 +1,10 @@
 -- The first places of names, once one more name stands after the others.
-use Rattle.std.proofs.Common.{◌≡◌, refl, sym, ap, ◌∙◌, ℕ, suc, Bool, true, false, cond, List, [], ◌∷◌, ◌++◌, length, Option, Some, None, is_some}
-use Rattle.std.specs.Option.{option_map}
+use Rattle.std.proofs.Common.{◌≡◌, refl, sym, ap, ◌∙◌, ℕ, suc, Bool, true, false, cond, List, [], ◌∷◌, ◌++◌, length, Option, Some, None, is_some, map, slice_get, Bor, IfSome, get_or, nat_lt}
+use Rattle.std.specs.Option.{option_map, option_and_then, option_copied}
+use Rattle.std.specs.List.{find}
 use Rattle.std.specs.Str.{bytes_eq}
+use Rattle.std.proofs.lemmas.Option.{slice_get_read, slice_get_past}
+use Rattle.std.proofs.lemmas.Bool.{ltb-true, ltb-false}
 use Rattle.std.proofs.lemmas.Slice.Eq.{bytes_eq-Decides}
 use Rattle.kp_kore.specs.Syntax.{Text}
 use Rattle.kp_signature.specs.Places.{earlier}
@@ -54,3 +57,34 @@ known_name names x f is there n = is n ∙ by (bytes_eq x n) refl ∙ sym (place
 pub nothing_there : (o : Option ℕ) → is_some o ≡ false → o ≡ None
 nothing_there None h = refl
 nothing_there (Some i) h = absurd (cc)
+
+-- what stands at a name's first place is what is found by the name
+pub looked_up : {A B : Type 0} (f : A → B) (name : B → Text) (n : Text) (rows : List A) →
+    option_and_then (λ i. option_map f (slice_get rows i)) (first_place n (map name (map f rows))) ≡ find (λ d. bytes_eq (name d) n) (map f rows)
+looked_up f name n [] = refl
+looked_up f name n (r ∷ rows) = by (bytes_eq (name (f r)) n) (first_place n (map name (map f rows))) (looked_up f name n rows)
+  where
+    further : (o : Option ℕ) → option_and_then (λ i. option_map f (slice_get (r ∷ rows) i)) (option_map suc o) ≡ option_and_then (λ i. option_map f (slice_get rows i)) o
+    further (Some i) = refl
+    further None = refl
+
+    by : (b : Bool) (o : Option ℕ) → option_and_then (λ i. option_map f (slice_get rows i)) o ≡ find (λ d. bytes_eq (name d) n) (map f rows) →
+        option_and_then (λ i. option_map f (slice_get (r ∷ rows) i)) (cond b (Some 0) (option_map suc o)) ≡ cond b (Some (f r)) (find (λ d. bytes_eq (name d) n) (map f rows))
+    by true o rest = refl
+    by false o rest = further o ∙ rest
+
+-- what `get` lends of a list is what stands there
+pub lent : {A : Type 0} (rows : List A) (place : ℕ) (r : Option (Bor A)) → is_some r ≡ nat_lt place (length rows) → IfSome r (λ x. x.now ≡ get_or rows place x.now) → option_copied r ≡ slice_get rows place
+lent rows place (Some d) t h = sym (slice_get_read rows (length rows) place d.now refl (ltb-true place (length rows) (sym t)) h)
+lent rows place None t h = sym (slice_get_past rows place (ltb-false place (length rows) (sym t)))
+
+pub some_row : {A B : Type 0} (f : A → B) (name : B → Text) (n : Text) (rows : List A) (place : ℕ) (r : Option (Bor A)) →
+    Some place ≡ first_place n (map name (map f rows)) → option_copied r ≡ slice_get rows place → option_map (λ d. f d.now) r ≡ find (λ d. bytes_eq (name d) n) (map f rows)
+some_row {A = A} f name n rows place r at is = by r ∙ ap (option_map f) is ∙ ap (λ o. option_and_then (λ i. option_map f (slice_get rows i)) o) at ∙ looked_up f name n rows
+  where
+    by : (o : Option (Bor A)) → option_map (λ d. f d.now) o ≡ option_map f (option_copied o)
+    by (Some d) = refl
+    by None = refl
+
+pub no_row : {A B : Type 0} (f : A → B) (name : B → Text) (n : Text) (rows : List A) → None ≡ first_place n (map name (map f rows)) → None ≡ find (λ d. bytes_eq (name d) n) (map f rows)
+no_row f name n rows at = ap (λ o. option_and_then (λ i. option_map f (slice_get rows i)) o) at ∙ looked_up f name n rows
