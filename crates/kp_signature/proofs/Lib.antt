@@ -1,0 +1,5 @@
+pub mod Below
+pub mod Declaring
+pub mod FirstPlaces
+pub mod Same
+pub mod SubsortPairs

@@ -1,0 +1,18 @@
+use Rattle.std.proofs.Common.{rules, [], ◌∷◌, ◌++◌}
+use Rattle.kp_kore.specs.Syntax.{alias_sentence}
+use Rattle.kp_kore.specs.Signature.{sorts_in, symbols_in, aliases_in, subsorts_in}
+use Rattle.kp_kore.specs.View.{sort_sentence_view, symbol_sentence_view, alias_sentence_view}
+use Rattle.kp_signature.specs.Table.{subsort_view}
+use Rattle.kp_signature.proofs.Declaring.{sorts_in-append, symbols_in-append, aliases_in-append, subsorts_in-append, kept, kept_places, pushed, pushed_places}
+use Rattle.kp_signature.proofs.table.Table.add_alias.Goals as goal
+
+pub returns : goal.returns
+returns c sentences t = record {
+  sorts = kept sort_sentence_view c.args.self.now.sorts.items (sorts_in sentences) (sorts_in (sentences ++ alias_sentence (alias_sentence_view c.args.declaration.now) ∷ [])) t.sorts (sorts_in-append sentences (alias_sentence (alias_sentence_view c.args.declaration.now) ∷ []));
+  symbols = kept symbol_sentence_view c.args.self.now.symbols.items (symbols_in sentences) (symbols_in (sentences ++ alias_sentence (alias_sentence_view c.args.declaration.now) ∷ [])) t.symbols (symbols_in-append sentences (alias_sentence (alias_sentence_view c.args.declaration.now) ∷ []));
+  aliases = pushed alias_sentence_view c.args.self.now.aliases.items c.push.new.self.items c.in_ok-copy_alias_sentence.field-0 (aliases_in sentences) (aliases_in (sentences ++ alias_sentence (alias_sentence_view c.args.declaration.now) ∷ [])) (alias_sentence_view c.args.declaration.now) t.aliases c.in_ok-push.ensures.items c.in_ok-copy_alias_sentence.ensures (aliases_in-append sentences (alias_sentence (alias_sentence_view c.args.declaration.now) ∷ []));
+  subsorts = kept subsort_view c.args.self.now.subsorts.items (subsorts_in sentences) (subsorts_in (sentences ++ alias_sentence (alias_sentence_view c.args.declaration.now) ∷ [])) t.subsorts (subsorts_in-append sentences (alias_sentence (alias_sentence_view c.args.declaration.now) ∷ []));
+  sort_places = kept_places (λ d. d.name) c.args.self.now.sort_places (sorts_in sentences) (sorts_in (sentences ++ alias_sentence (alias_sentence_view c.args.declaration.now) ∷ [])) t.sort_places (sorts_in-append sentences (alias_sentence (alias_sentence_view c.args.declaration.now) ∷ []));
+  symbol_places = kept_places (λ d. d.name) c.args.self.now.symbol_places (symbols_in sentences) (symbols_in (sentences ++ alias_sentence (alias_sentence_view c.args.declaration.now) ∷ [])) t.symbol_places (symbols_in-append sentences (alias_sentence (alias_sentence_view c.args.declaration.now) ∷ []));
+  alias_places = pushed_places alias_sentence_view c.args.self.now.aliases.items (λ d. d.name) c.args.self.now.alias_places c.note_name.new.places (aliases_in sentences) (aliases_in (sentences ++ alias_sentence (alias_sentence_view c.args.declaration.now) ∷ [])) (alias_sentence_view c.args.declaration.now) c.len.result c.in_ok-note_name.ensures t.alias_places (search rules) t.aliases (aliases_in-append sentences (alias_sentence (alias_sentence_view c.args.declaration.now) ∷ []));
+}

@@ -1,0 +1,6 @@
+pub mod Examples
+pub mod Names
+pub mod Places
+pub mod Table
+pub mod Verify
+pub mod View

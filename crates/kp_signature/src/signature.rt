@@ -1,0 +1,62 @@
+ghost use Rattle.kp_signature.specs.Table.{IsIndexed};
+
+use crate::table::Table;
+use kp_kore::{AliasSentence, Module, SortSentence, SymbolSentence};
+use std::alloc::{AllocError, Global};
+
+/// The signature of a definition: what the sentences of its modules declare.
+pub struct Signature {
+    table: Table,
+    ghost indexed: { IsIndexed table },
+}
+
+impl Signature {
+    ghost use Rattle.std.specs.Prelude.{◌≡◌, IfOk};
+    ghost use Rattle.kp_kore.specs.Signature.{signature_of, symbol_declared, alias_declared};
+    ghost use Rattle.kp_kore.specs.View.{sort_sentence_view, symbol_sentence_view, alias_sentence_view};
+    ghost use Rattle.std.specs.List.{find};
+    ghost use Rattle.std.specs.Option.{option_map};
+    ghost use Rattle.std.specs.Str.{bytes_eq};
+    ghost use Rattle.kp_signature.specs.View.{signature_view, sentences_of};
+
+    /// What the sentences of these modules declare, in order.
+    pub fn new(alloc: Global, modules: &[&Module]) -> Result<Signature, AllocError>
+        ensures { IfOk result (λ g. signature_view g ≡ signature_of (sentences_of modules.now)) }
+    {
+        let mut table = Table::new(alloc);
+        for module in modules {
+            table.add_all(alloc, &module.sentences)?;
+        }
+        Ok(Signature { table })
+    }
+
+    /// The first declaration of a sort of this name.
+    pub fn sort_named(&self, name: &str) -> Option<&SortSentence>
+        ensures { option_map (λ d. sort_sentence_view d.now) result ≡ find (λ d. bytes_eq d.name name.now) (signature_view self.now).sorts }
+    {
+        match self.table.sort_places.get(name) {
+            Some(place) => self.table.sorts.get(*place),
+            None => None,
+        }
+    }
+
+    /// The first declaration of a symbol of this name.
+    pub fn symbol(&self, name: &str) -> Option<&SymbolSentence>
+        ensures { option_map (λ d. symbol_sentence_view d.now) result ≡ symbol_declared (signature_view self.now) name.now }
+    {
+        match self.table.symbol_places.get(name) {
+            Some(place) => self.table.symbols.get(*place),
+            None => None,
+        }
+    }
+
+    /// The first declaration of an alias of this name.
+    pub fn alias(&self, name: &str) -> Option<&AliasSentence>
+        ensures { option_map (λ d. alias_sentence_view d.now) result ≡ alias_declared (signature_view self.now) name.now }
+    {
+        match self.table.alias_places.get(name) {
+            Some(place) => self.table.aliases.get(*place),
+            None => None,
+        }
+    }
+}
