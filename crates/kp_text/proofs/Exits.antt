@@ -1,8 +1,7 @@
 -- Leaving by a failure that a part of a text gave.
-use Rattle.std.proofs.Common.{◌≡◌, ℕ, List, refl, sym, ap, subst, ◌∙◌, Result, Ok, Err, Option, Some, None}
+use Rattle.std.proofs.Common.{◌≡◌, ℕ, List, sym, ap, subst, ◌∙◌, Result, Ok, Err}
 use Rattle.std.specs.Prelude.{IsErr, IsErrAnd, IfErr}
-use Rattle.std.specs.Borrow.{Bor}
-use Rattle.kp_text.specs.Next.{Place, Outcome}
+use Rattle.kp_text.specs.Next.{Place}
 use Rattle.kp_text.specs.Reads.{run_text, failed, Stops}
 use Rattle.kp_text.specs.declared.tail.Tail.{Tail}
 use Rattle.kp_text.specs.declared.fault.Failure.{Failure}

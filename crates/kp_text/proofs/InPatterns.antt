@@ -1,17 +1,15 @@
 -- What may come next in patterns.
-use Rattle.std.proofs.Common.{◌≡◌, ℕ, suc, ◌+◌, ◌≤◌, ◌<◌, Bool, true, false, cond, eqb, leb, List, ◌∷◌, [], ◌++◌, length, refl, sym, ap, ◌∙◌, arith, Option, Some, None, add-one}
+use Rattle.std.proofs.Common.{◌≡◌, ℕ, ◌≤◌, ◌<◌, false, leb, List, refl, arith, Some, None}
 use Rattle.std.proofs.lemmas.Bool.Decides.{nat_tests}
-use Rattle.kp_kore.specs.Syntax.{Text, KoreSort, KorePattern, application, variable, sort_of, sort_variable}
-use Rattle.kp_kore.specs.View.{sorts_of, patterns_of}
-use Rattle.kp_text.specs.Tokens.{KoreToken, identifier, backslashed, string_token, mark, defined_as, Lexemes, finished, lexeme, broken, broken_string, lexed, between}
-use Rattle.kp_text.specs.Next.{Place, Step, goes, refused, by_mark, step, stepped, run, a_pattern, after_name, patterns, more_patterns, by_pattern, arguments, sorts, a_sort, faulty}
-use Rattle.kp_text.specs.Reads.{run_text, failed, is_that_mark, IsNoMark, IsSeparated, begun_place, begun_step}
+use Rattle.kp_kore.specs.Syntax.{KorePattern}
+use Rattle.kp_text.specs.Tokens.{KoreToken, lexeme, lexed, between}
+use Rattle.kp_text.specs.Next.{Place, a_pattern, by_pattern, faulty}
+use Rattle.kp_text.specs.Reads.{run_text, begun_place, begun_step}
 use Rattle.kp_text.specs.declared.tail.Tail.{Tail}
 use Rattle.kp_text.specs.declared.level.Level.{Level}
 use Rattle.kp_text.specs.declared.patterns.Beginning.{Beginning}
 use Rattle.kp_text.specs.declared.fault.FaultKind.TheVariants as kind
-use Rattle.kp_text.proofs.Characters.{equal, unequal}
-use Rattle.kp_text.proofs.Marks.{le_test, other_step, same_mark}
+use Rattle.kp_text.proofs.Marks.{le_test}
 
 gt_test : (n m : ℕ) → m < n → leb n m ≡ false
 gt_test n m h = grind (arith, nat_tests)

@@ -1,17 +1,15 @@
 -- What may come next in sorts.
-use Rattle.std.proofs.Common.{◌≡◌, ℕ, suc, ◌+◌, ◌≤◌, Bool, true, false, cond, eqb, leb, List, ◌∷◌, [], ◌++◌, length, refl, sym, ap, ◌∙◌, arith}
+use Rattle.std.proofs.Common.{◌≡◌, ℕ, suc, ◌+◌, ◌≤◌, List, ◌∷◌, [], ◌++◌, refl, ◌∙◌}
 use Rattle.std.proofs.Common.{add-one}
-use Rattle.std.proofs.lemmas.Bool.Decides.{nat_tests}
-use Rattle.kp_text.proofs.Characters.{equal, unequal}
+use Rattle.kp_text.proofs.Characters.{unequal}
 use Rattle.kp_text.proofs.Marks.{le_test, other_step, same_mark}
 use Rattle.kp_text.specs.Reads.{IsSeparated}
 use Rattle.kp_kore.specs.Syntax.{Text, KoreSort, sort_of, sort_variable}
 use Rattle.kp_kore.specs.View.{sorts_of}
-use Rattle.kp_text.specs.Tokens.{KoreToken, identifier, backslashed, string_token, mark, defined_as, Lexemes, finished, lexeme, broken, broken_string, lexed, between}
-use Rattle.kp_text.specs.Next.{Place, Step, goes, refused, by_mark, step, stepped, run, a_sort, after_sort_name, sorts, more_sorts, by_sort, faulty}
-use Rattle.kp_text.specs.Reads.{run_text, is_that_mark, IsNoMark}
+use Rattle.kp_text.specs.Tokens.{identifier, mark, Lexemes, finished, lexeme, broken, broken_string, lexed, between}
+use Rattle.kp_text.specs.Next.{Place, goes, refused, by_mark, step, run, a_sort, after_sort_name, sorts, more_sorts, by_sort}
+use Rattle.kp_text.specs.Reads.{run_text, IsNoMark}
 use Rattle.kp_text.specs.declared.tail.Tail.{Tail}
-use Rattle.kp_text.specs.declared.fault.FaultKind.TheVariants as kind
 
 -- Each lemma says of a place that the text is read on from it as from another place, or as the rest from another.
 variable_runs : (n : ℕ) (x : Text) (k : KoreSort → Place) (ls : Lexemes) → IsNoMark 123 ls → run ls (after_sort_name n x k) ≡ run ls (k (sort_variable x))

@@ -1,12 +1,12 @@
 -- Tokens that are expected, and others.
-use Rattle.std.proofs.Common.{◌≡◌, ℕ, suc, ◌+◌, ◌≤◌, Bool, true, false, cond, eqb, leb, List, ◌∷◌, [], ◌++◌, length, refl, sym, ap, ◌∙◌, arith}
+use Rattle.std.proofs.Common.{◌≡◌, ℕ, ◌≤◌, true, false, eqb, leb, List, refl, arith}
 use Rattle.std.proofs.lemmas.Bool.Decides.{nat_tests}
-use Rattle.kp_text.specs.Tokens.{KoreToken, identifier, backslashed, string_token, mark, defined_as, Lexemes, finished, lexeme, broken, broken_string, lexed, between}
-use Rattle.kp_text.specs.Next.{Place, Step, goes, refused, by_mark, step, stepped, run, faulty}
+use Rattle.kp_text.specs.Tokens.{KoreToken, identifier, backslashed, string_token, mark, defined_as, lexeme, lexed, between}
+use Rattle.kp_text.specs.Next.{Place, Step, by_mark, faulty}
 use Rattle.kp_text.specs.Reads.{run_text, is_that_mark, IsSeparated}
 use Rattle.kp_text.specs.declared.tail.Tail.{Tail}
 use Rattle.kp_text.specs.declared.fault.FaultKind.TheVariants as kind
-use Rattle.kp_text.proofs.Characters.{equal, unequal}
+use Rattle.kp_text.proofs.Characters.{equal}
 
 pub le_test : (n m : ℕ) → n ≤ m → leb n m ≡ true
 le_test n m h = grind (arith, nat_tests)

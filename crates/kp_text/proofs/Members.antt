@@ -1,6 +1,5 @@
 -- What \and and \or mean, by how many members they have.
-use Rattle.std.proofs.Common.{◌≡◌, ℕ, suc, ◌≤◌, List, ◌∷◌, [], map, length, refl, ap, arith}
-use Rattle.std.proofs.lemmas.List.{length-map}
+use Rattle.std.proofs.Common.{◌≡◌, ◌≤◌, List, ◌∷◌, [], map, length, refl, arith}
 use Rattle.kp_kore.specs.Syntax.{KoreSort, KorePattern, top, bottom, conjunction, disjunction}
 use Rattle.kp_kore.specs.View.{patterns_of}
 use Rattle.kp_text.specs.Grammar.{variadic_meaning}

@@ -9,7 +9,6 @@ use Rattle.kp_text.specs.declared.fault.FaultKind.{FaultKind}
 use Rattle.kp_text.specs.declared.fault.FaultKind.TheVariants as kind
 use Rattle.kp_text.specs.declared.keyword.Constant.TheVariants.{Top, Bottom}
 use Rattle.kp_text.specs.declared.keyword.Unary.TheVariants.{Not, Next}
-use Rattle.kp_text.specs.declared.keyword.Variadic.{Variadic}
 use Rattle.kp_text.specs.declared.keyword.Variadic.TheVariants.{And, Or}
 use Rattle.kp_text.specs.declared.keyword.Binary.TheVariants.{Implies, Iff, Rewrites}
 use Rattle.kp_text.specs.declared.keyword.Quantifier.TheVariants.{Exists, Forall}

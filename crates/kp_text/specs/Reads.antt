@@ -1,12 +1,11 @@
 -- What it says that a part of a text was read, or that a fault was met in it: whatever may follow that part, the
 -- text is read on from its place as what comes behind the part is read on from the place after it.
-use Rattle.std.specs.Prelude.{◌≡◌, ◌≢◌, ℕ, ◌<◌, ◌≤◌, Bool, true, false, ◌==◌, List, [], length, Option, Some, None, IsUtf8, string_bytes}
+use Rattle.std.specs.Prelude.{◌≡◌, ◌≢◌, ℕ, ◌<◌, ◌≤◌, Bool, false, ◌==◌, List, length, Option, Some, None, IsUtf8, string_bytes}
 use Rattle.std.specs.Borrow.{Bor}
 use Rattle.kp_text.specs.Tokens.{KoreToken, identifier, backslashed, mark, defined_as, Lexemes, finished, lexeme, broken, broken_string, lexed, between, string_token}
 use Rattle.kp_kore.specs.Syntax.{Text, KoreSort, KorePattern, set_variable, string_literal}
 use Rattle.kp_text.specs.Next.{a_variable, after_name, after_keyword, a_mark, a_pattern, Place, Outcome, faulty, run, step, Step, refused, goes, at_end}
 use Rattle.kp_text.specs.declared.tail.Tail.{Tail}
-use Rattle.kp_text.specs.declared.fault.FaultKind.{FaultKind}
 use Rattle.kp_text.specs.declared.fault.FaultKind.TheVariants as kind
 use Rattle.kp_text.specs.Grammar.{below}
 use Rattle.kp_text.specs.declared.level.Level.{Level}

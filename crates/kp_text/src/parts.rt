@@ -8,7 +8,7 @@ use crate::fault::{Failure, FaultKind};
 use crate::keyword::{
     Binary, Comparison, Constant, FixedPoint, Keyword, Quantifier, Rounding, Side, Unary, Variadic,
 };
-use crate::lexer::{look_ahead, Ahead, Token};
+use crate::lexer::{Ahead, Token, look_ahead};
 use crate::sorts::a_sort;
 use crate::tail::Tail;
 use kp_kore::Sort;

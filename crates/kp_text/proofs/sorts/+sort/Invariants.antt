@@ -3,7 +3,7 @@ use denote.Text.{Utf8}
 use denote.Shadow.{shadow}
 use Rattle.kp_kore.specs.Syntax.{KoreSort}
 use Rattle.kp_kore.specs.View.{sort_view}
-use Rattle.kp_text.specs.Next.{Place, sorts, more_sorts}
+use Rattle.kp_text.specs.Next.{Place, more_sorts}
 use Rattle.kp_text.specs.Reads.{run_text}
 use Rattle.kp_text.proofs.sorts.+sort.Given as goal
 
