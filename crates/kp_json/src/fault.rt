@@ -1,3 +1,7 @@
+ghost use Rattle.std.specs.Prelude.{◌≡◌, ◌⊎◌, None, Some};
+ghost use Rattle.kp_json.specs.Faults.{unknown_tag, missing_member, wrong_kind, wrong_format};
+ghost use Rattle.kp_json.specs.View.{fault_of};
+
 use std::alloc::{AllocError, AllocFailed, Global};
 
 /// What is wrong with a tree that spells no pattern.
@@ -45,7 +49,9 @@ impl<T: Drop> From<AllocFailed<T>> for JsonError {
 }
 
 // J1.
-pub fn no_tag(alloc: Global, name: &str) -> JsonError {
+pub fn no_tag(alloc: Global, name: &str) -> JsonError
+    ensures { (fault_of result ≡ None) ⊎ (fault_of result ≡ Some (unknown_tag name.now)) }
+{
     match String::from_str(alloc, name) {
         Ok(name) => JsonError::Fault(JsonFault::NoTag { name }),
         Err(_) => JsonError::Memory,
@@ -53,7 +59,9 @@ pub fn no_tag(alloc: Global, name: &str) -> JsonError {
 }
 
 // J2.
-pub fn missing(alloc: Global, name: &str) -> JsonError {
+pub fn missing(alloc: Global, name: &str) -> JsonError
+    ensures { (fault_of result ≡ None) ⊎ (fault_of result ≡ Some (missing_member name.now)) }
+{
     match String::from_str(alloc, name) {
         Ok(name) => JsonError::Fault(JsonFault::Missing { name }),
         Err(_) => JsonError::Memory,
@@ -61,7 +69,9 @@ pub fn missing(alloc: Global, name: &str) -> JsonError {
 }
 
 // J3.
-pub fn other_kind(alloc: Global, name: &str) -> JsonError {
+pub fn other_kind(alloc: Global, name: &str) -> JsonError
+    ensures { (fault_of result ≡ None) ⊎ (fault_of result ≡ Some (wrong_kind name.now)) }
+{
     match String::from_str(alloc, name) {
         Ok(name) => JsonError::Fault(JsonFault::OtherKind { name }),
         Err(_) => JsonError::Memory,
@@ -69,7 +79,9 @@ pub fn other_kind(alloc: Global, name: &str) -> JsonError {
 }
 
 // J4.
-pub fn other_format(alloc: Global, name: &str) -> JsonError {
+pub fn other_format(alloc: Global, name: &str) -> JsonError
+    ensures { (fault_of result ≡ None) ⊎ (fault_of result ≡ Some (wrong_format name.now)) }
+{
     match String::from_str(alloc, name) {
         Ok(name) => JsonError::Fault(JsonFault::OtherFormat { name }),
         Err(_) => JsonError::Memory,

@@ -3,6 +3,5 @@
 
 mod fault;
 mod member;
-mod sort;
 
 pub use fault::{JsonError, JsonFault};
