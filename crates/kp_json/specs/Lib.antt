@@ -1,3 +1,5 @@
+pub mod Faults
 pub mod Members
 pub mod Trees
+pub mod View
 pub mod Written

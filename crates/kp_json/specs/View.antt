@@ -1,0 +1,23 @@
+-- What the answers of the crate's code say.
+use Rattle.std.specs.Prelude.{◌≡◌, Option, Some, None, string_bytes}
+use Rattle.kp_json.specs.declared.fault.JsonFault.{JsonFault}
+use Rattle.kp_json.specs.declared.fault.JsonFault.TheVariants as json_fault
+use Rattle.kp_json.specs.declared.fault.JsonError.{JsonError}
+use Rattle.kp_json.specs.declared.fault.JsonError.TheVariants as json_error
+use Rattle.kp_json.specs.Faults.{TreeFault, unknown_tag, missing_member, wrong_kind, wrong_format, nested_too_deep, Reading, fault}
+
+abbrev pub fault_view : JsonFault → TreeFault
+fault_view (json_fault.NoTag name) = unknown_tag (string_bytes name)
+fault_view (json_fault.Missing name) = missing_member (string_bytes name)
+fault_view (json_fault.OtherKind name) = wrong_kind (string_bytes name)
+fault_view (json_fault.OtherFormat name) = wrong_format (string_bytes name)
+fault_view json_fault.TooDeep = nested_too_deep
+
+-- the fault that an error tells: none where memory ran out
+abbrev pub fault_of : JsonError → Option TreeFault
+fault_of json_error.Memory = None
+fault_of (json_error.Fault f) = Some (fault_view f)
+
+-- the error tells the reading's fault, or that memory ran out
+abbrev pub Tells : {A : Type 0} → JsonError → Reading A → Type 0
+Tells e r = (f : TreeFault) → fault_of e ≡ Some f → r ≡ fault f
