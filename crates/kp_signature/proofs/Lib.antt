@@ -1,5 +1,6 @@
 pub mod Below
 pub mod Declaring
 pub mod FirstPlaces
+pub mod InstanceLemmas
 pub mod Same
 pub mod SubsortPairs

@@ -1,5 +1,6 @@
 // Sorts with arguments in the place of parameters.
 ghost use Rattle.std.specs.Prelude.{◌≡◌, IfOk, map, string_bytes};
+ghost use Rattle.kp_kore.specs.Syntax.{sort_variable};
 ghost use Rattle.kp_kore.specs.Sorting.{argument_for, at_arguments, all_at_arguments};
 ghost use Rattle.kp_kore.specs.View.{sort_view, sorts_of, sorts_view, names_view};
 
@@ -22,6 +23,12 @@ fn argument_of(
             return arguments[i].copy(alloc);
         }
     }
+    Ok(variable_named(name)?)
+}
+
+fn variable_named(name: &Name) -> Result<Sort, AllocError>
+    ensures { IfOk result (λ s. sort_view s ≡ sort_variable (string_bytes name.now)) }
+{
     Ok(Sort::Variable {
         name: name.clone()?,
     })
