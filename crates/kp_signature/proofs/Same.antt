@@ -1,9 +1,10 @@
 -- The test whether two sorts are the same decides it.
-use Rattle.std.proofs.Common.{◌≡◌, refl, Bool, true, false, ◌&&◌, ap}
+use Rattle.std.proofs.Common.{◌≡◌, refl, Bool, true, false, ◌&&◌, ap, Option, Some, None}
 use Rattle.std.specs.Bool.{Decides}
 use Rattle.std.specs.Str.{bytes_eq}
 use Rattle.std.proofs.lemmas.Slice.Eq.{bytes_eq-Decides}
 use Rattle.kp_kore.specs.Syntax.{KoreSort, sort_of, sort_variable, KoreSorts, no_sorts, next_sort}
+use Rattle.kp_signature.specs.Verify.{VerifyFault, fault_unless}
 use Rattle.kp_kore.specs.Attributes.{sorts_equal, all_sorts_equal}
 
 -- two tests decide a fact that is both of theirs
@@ -28,3 +29,13 @@ mutual
   all_sorts_equal-Decides (next_sort s ss) (next_sort t ts) = both_decide (sorts_equal s t) (all_sorts_equal ss ts) (sorts_equal-Decides s t) (all_sorts_equal-Decides ss ts) (λ e f. cc) (λ e. cc) (λ e. cc)
   all_sorts_equal-Decides no_sorts (next_sort t ts) = never_decides (λ e. cc)
   all_sorts_equal-Decides (next_sort s ss) no_sorts = never_decides (λ e. cc)
+
+pub same_is_no_fault : (s t : KoreSort) (f : VerifyFault) → s ≡ t → fault_unless (sorts_equal s t) f ≡ None
+same_is_no_fault s t f e = ap (λ b. fault_unless b f) ((sorts_equal-Decides s t).1 e)
+
+pub other_is_a_fault : (s t : KoreSort) (f : VerifyFault) → (s ≡ t → ⊥) → fault_unless (sorts_equal s t) f ≡ Some f
+other_is_a_fault s t f n = ap (λ b. fault_unless b f) (is_false (sorts_equal s t) (λ h. n ((sorts_equal-Decides s t).0 h)))
+  where
+    is_false : (b : Bool) → (b ≡ true → ⊥) → b ≡ false
+    is_false true n = absurd (n refl)
+    is_false false n = refl

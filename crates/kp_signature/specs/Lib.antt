@@ -1,4 +1,5 @@
 pub mod Examples
+pub mod Faults
 pub mod Names
 pub mod Places
 pub mod Table

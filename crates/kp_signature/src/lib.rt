@@ -4,11 +4,15 @@
 #![tactic(auto)]
 
 mod copies;
+mod error;
 pub mod examples;
+mod instance;
 pub mod laws;
 mod names;
+mod rules;
 pub mod signature;
 mod subsorts;
 mod table;
 
+pub use error::VerifyError;
 pub use signature::Signature;

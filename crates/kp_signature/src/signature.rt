@@ -1,7 +1,7 @@
 ghost use Rattle.kp_signature.specs.Table.{IsIndexed};
 
 use crate::table::Table;
-use kp_kore::{AliasSentence, Module, SortSentence, SymbolSentence};
+use kp_kore::{AliasSentence, Module, Name, Sort, SortSentence, SymbolSentence};
 use std::alloc::{AllocError, Global};
 
 /// The signature of a definition: what the sentences of its modules declare.
@@ -11,9 +11,12 @@ pub struct Signature {
 }
 
 impl Signature {
-    ghost use Rattle.std.specs.Prelude.{◌≡◌, IfOk};
+    ghost use Rattle.std.specs.Prelude.{◌≡◌, IfOk, length, string_bytes};
     ghost use Rattle.kp_kore.specs.Signature.{signature_of, symbol_declared, alias_declared};
-    ghost use Rattle.kp_kore.specs.View.{sort_sentence_view, symbol_sentence_view, alias_sentence_view};
+    ghost use Rattle.kp_kore.specs.View.{sort_view, sorts_view, sort_sentence_view, symbol_sentence_view, alias_sentence_view};
+    ghost use Rattle.kp_kore.specs.Syntax.{KoreSorts};
+    ghost use Rattle.kp_kore.specs.Parts.{sort_list};
+    ghost use Rattle.kp_signature.specs.Places.{unknown_sort_in, unknown_sort_among, is_known};
     ghost use Rattle.std.specs.List.{find};
     ghost use Rattle.std.specs.Option.{option_map};
     ghost use Rattle.std.specs.Str.{bytes_eq};
@@ -57,6 +60,46 @@ impl Signature {
         match self.table.alias_places.get(name) {
             Some(place) => self.table.aliases.get(*place),
             None => None,
+        }
+    }
+
+    /// The first sort in this one that isn't declared, or that takes another number of arguments, from the outermost.
+    #[cycle(unknown)]
+    pub fn unknown_sort<'a>(&self, sort: &'a Sort) -> Option<&'a Sort>
+        ensures { option_map (λ s. sort_view s.now) result ≡ unknown_sort_in (signature_view self.now) (sort_view sort.now) }
+    {
+        match sort {
+            Sort::App { name, arguments } => {
+                if self.is_known(name, arguments.len()) {
+                    self.unknown_sort_among(arguments)
+                } else {
+                    Some(sort)
+                }
+            }
+            Sort::Variable { .. } => Some(sort),
+        }
+    }
+
+    /// The same of the first of these sorts that has one.
+    #[cycle(unknown)]
+    pub fn unknown_sort_among<'a>(&self, sorts: &'a [Sort]) -> Option<&'a Sort>
+        ensures { option_map (λ s. sort_view s.now) result ≡ unknown_sort_among (signature_view self.now) (sorts_view sorts.now) }
+    {
+        for sort in sorts {
+            let unknown = self.unknown_sort(sort);
+            if unknown.is_some() {
+                return unknown;
+            }
+        }
+        None
+    }
+
+    fn is_known(&self, name: &Name, arguments: usize) -> bool
+        ensures { (ss : KoreSorts) → length (sort_list ss) ≡ arguments → result ≡ is_known (signature_view self.now) (string_bytes name.now) ss }
+    {
+        match self.sort_named(name) {
+            Some(declaration) => declaration.parameters.len() == arguments,
+            None => false,
         }
     }
 }
