@@ -76,7 +76,7 @@ abbrev pub sort_within : ℕ → Members → Reading KoreSort
 sort_within zero o = fault nested_too_deep
 sort_within (suc n) o = after (tag_of o) (sort_tagged (sort_within n) o)
 
-abbrev pub sort_reading : Members → Reading KoreSort
+unfoldable pub sort_reading : Members → Reading KoreSort
 sort_reading o = sort_within (depth (object o)) o
 
 -- ---- patterns: what each form's members give, the patterns among them being read by the reader

@@ -3,5 +3,6 @@
 
 mod fault;
 mod member;
+mod sort;
 
 pub use fault::{JsonError, JsonFault};
