@@ -1,8 +1,8 @@
 -- What is read of a tree, or its first fault: at each node its tag first, then members that are missing by the order of
 -- the tag's table, then members of another kind in that order, then the members themselves in that order.
 -- Source: the K framework's Kore JSON, version 1, with the codes J1 to J5.
-use Rattle.std.specs.Prelude.{ℕ, zero, suc, Bool, true, false, Option, Some, None, codes, bytes_eq, if◌then◌else◌}
-use Rattle.serde_json.specs.Data.{Data, object, Items, no_items, item, Members, depth}
+use Rattle.std.specs.Prelude.{ℕ, zero, suc, Bool, true, false, ◌&&◌, Option, Some, None, is_none, codes, bytes_eq, if◌then◌else◌}
+use Rattle.serde_json.specs.Data.{Data, null, boolean, number, string, array, object, Items, no_items, item, Members, depth, members_depth}
 use Rattle.serde_json.specs.Find.{get_member, as_str, as_array, as_object}
 use Rattle.kp_kore.specs.Syntax.{Text, KoreSort, sort_of, sort_variable, KoreSorts, no_sorts, next_sort, KorePattern, variable, application, literal, top, bottom, negation, implication, equivalence, rewriting, exists, forall, ceil, floor, equals, membership, KorePatterns, no_patterns, next_pattern}
 use Rattle.kp_kore.specs.Folds.{conjunction_of, disjunction_of}
@@ -76,10 +76,10 @@ abbrev pub sort_within : ℕ → Members → Reading KoreSort
 sort_within zero o = fault nested_too_deep
 sort_within (suc n) o = after (tag_of o) (sort_tagged (sort_within n) o)
 
-abbrev pub sort_reading : Members → Reading KoreSort
+unfoldable pub sort_reading : Members → Reading KoreSort
 sort_reading o = sort_within (depth (object o)) o
 
--- ---- patterns: what each form's members give, the patterns among them being read by the reader
+-- ---- what each form's members give, but for the patterns below
 
 abbrev pub PatternReader : Type 0
 PatternReader = Members → Reading KorePattern
@@ -103,105 +103,96 @@ sort_and_value o =
     after (tree_in (codes "sort") sort) (λ t. after (text_in (codes "value") value) (λ v.
     after (sort_reading t) (λ s. read (s, v))))))
 
-abbrev pub symbol_and_arguments : PatternReader → Members → Reading (Text × KoreSorts × KorePatterns)
-symbol_and_arguments pattern o =
+abbrev pub symbol_and_lists : Members → Reading (Text × KoreSorts × Items)
+symbol_and_lists o =
     after (member_at o (codes "name")) (λ name. after (member_at o (codes "sorts")) (λ sorts. after (member_at o (codes "args")) (λ args.
     after (name_in (codes "name") name) (λ n. after (trees_in (codes "sorts") sorts) (λ ts. after (trees_in (codes "args") args) (λ ds.
-    after (sort_items sort_reading (codes "sorts") ts) (λ ss. after (pattern_items pattern (codes "args") ds) (λ ps. read (n, ss, ps)))))))))
+    after (sort_items sort_reading (codes "sorts") ts) (λ ss. read (n, ss, ds))))))))
 
-abbrev pub sort_and_one : PatternReader → Members → Reading (KoreSort × KorePattern)
-sort_and_one pattern o =
+abbrev pub sort_and_one : Members → Reading (KoreSort × Members)
+sort_and_one o =
     after (member_at o (codes "sort")) (λ sort. after (member_at o (codes "arg")) (λ arg.
     after (tree_in (codes "sort") sort) (λ t. after (tree_in (codes "arg") arg) (λ d.
-    after (sort_reading t) (λ s. after (pattern d) (λ p. read (s, p)))))))
+    after (sort_reading t) (λ s. read (s, d))))))
 
-abbrev pub sort_and_two : PatternReader → Text → Text → Members → Reading (KoreSort × KorePattern × KorePattern)
-sort_and_two pattern first second o =
+abbrev pub sort_and_two : Text → Text → Members → Reading (KoreSort × Members × Members)
+sort_and_two first second o =
     after (member_at o (codes "sort")) (λ sort. after (member_at o first) (λ one. after (member_at o second) (λ two.
     after (tree_in (codes "sort") sort) (λ t. after (tree_in first one) (λ d. after (tree_in second two) (λ e.
-    after (sort_reading t) (λ s. after (pattern d) (λ p. after (pattern e) (λ q. read (s, p, q))))))))))
+    after (sort_reading t) (λ s. read (s, d, e))))))))
 
-abbrev pub sorts_and_one : PatternReader → Members → Reading (KoreSort × KoreSort × KorePattern)
-sorts_and_one pattern o =
+abbrev pub sorts_and_one : Members → Reading (KoreSort × KoreSort × Members)
+sorts_and_one o =
     after (member_at o (codes "argSort")) (λ below. after (member_at o (codes "sort")) (λ sort. after (member_at o (codes "arg")) (λ arg.
     after (tree_in (codes "argSort") below) (λ b. after (tree_in (codes "sort") sort) (λ t. after (tree_in (codes "arg") arg) (λ d.
-    after (sort_reading b) (λ a. after (sort_reading t) (λ s. after (pattern d) (λ p. read (a, s, p))))))))))
+    after (sort_reading b) (λ a. after (sort_reading t) (λ s. read (a, s, d)))))))))
 
-abbrev pub sorts_and_two : PatternReader → Members → Reading (KoreSort × KoreSort × KorePattern × KorePattern)
-sorts_and_two pattern o =
+abbrev pub sorts_and_two : Members → Reading (KoreSort × KoreSort × Members × Members)
+sorts_and_two o =
     after (member_at o (codes "argSort")) (λ below. after (member_at o (codes "sort")) (λ sort. after (member_at o (codes "first")) (λ one. after (member_at o (codes "second")) (λ two.
     after (tree_in (codes "argSort") below) (λ b. after (tree_in (codes "sort") sort) (λ t. after (tree_in (codes "first") one) (λ d. after (tree_in (codes "second") two) (λ e.
-    after (sort_reading b) (λ a. after (sort_reading t) (λ s. after (pattern d) (λ p. after (pattern e) (λ q. read (a, s, p, q)))))))))))))
+    after (sort_reading b) (λ a. after (sort_reading t) (λ s. read (a, s, d, e)))))))))))
 
-abbrev pub bound_and_one : PatternReader → Members → Reading (KoreSort × Text × KoreSort × KorePattern)
-bound_and_one pattern o =
+abbrev pub bound_and_one : Members → Reading (KoreSort × Text × KoreSort × Members)
+bound_and_one o =
     after (member_at o (codes "sort")) (λ sort. after (member_at o (codes "var")) (λ var. after (member_at o (codes "varSort")) (λ var_sort. after (member_at o (codes "arg")) (λ arg.
     after (tree_in (codes "sort") sort) (λ t. after (name_in (codes "var") var) (λ x. after (tree_in (codes "varSort") var_sort) (λ u. after (tree_in (codes "arg") arg) (λ d.
-    after (sort_reading t) (λ s. after (sort_reading u) (λ r. after (pattern d) (λ p. read (s, x, r, p))))))))))))
+    after (sort_reading t) (λ s. after (sort_reading u) (λ r. read (s, x, r, d)))))))))))
+
+-- ---- patterns by their tags
+
+abbrev pub one_read : PatternReader → (KorePattern → KorePattern) → Members → Reading KorePattern
+one_read pattern make d = after (pattern d) (λ p. read (make p))
+
+abbrev pub two_read : PatternReader → (KorePattern → KorePattern → KorePattern) → Members → Members → Reading KorePattern
+two_read pattern make d e = after (pattern d) (λ p. after (pattern e) (λ q. read (make p q)))
+
+abbrev pub double_tagged : PatternReader → Members → Text → Reading KorePattern
+double_tagged pattern o tag =
+    if bytes_eq tag (codes "Implies") then after (sort_and_two (codes "first") (codes "second") o) (λ r. two_read pattern (implication r.0) r.1 r.2)
+    else (if bytes_eq tag (codes "Iff") then after (sort_and_two (codes "first") (codes "second") o) (λ r. two_read pattern (equivalence r.0) r.1 r.2)
+    else (if bytes_eq tag (codes "Rewrites") then after (sort_and_two (codes "source") (codes "dest") o) (λ r. two_read pattern (rewriting r.0) r.1 r.2)
+    else (if bytes_eq tag (codes "Equals") then after (sorts_and_two o) (λ r. two_read pattern (equals r.0 r.1) r.2 r.3)
+    else (if bytes_eq tag (codes "In") then after (sorts_and_two o) (λ r. two_read pattern (membership r.0 r.1) r.2 r.3) else fault (unknown_tag tag)))))
+
+abbrev pub single_tagged : PatternReader → Members → Text → Reading KorePattern
+single_tagged pattern o tag =
+    if bytes_eq tag (codes "Not") then after (sort_and_one o) (λ r. one_read pattern (negation r.0) r.1)
+    else (if bytes_eq tag (codes "Exists") then after (bound_and_one o) (λ r. one_read pattern (exists r.0 r.1 r.2) r.3)
+    else (if bytes_eq tag (codes "Forall") then after (bound_and_one o) (λ r. one_read pattern (forall r.0 r.1 r.2) r.3)
+    else (if bytes_eq tag (codes "Ceil") then after (sorts_and_one o) (λ r. one_read pattern (ceil r.0 r.1) r.2)
+    else (if bytes_eq tag (codes "Floor") then after (sorts_and_one o) (λ r. one_read pattern (floor r.0 r.1) r.2) else double_tagged pattern o tag))))
 
 -- And and Or: under patterns, else first and second; where all three are missing, it is patterns that is missing
-abbrev pub sort_and_list : PatternReader → Data → Data → Reading (KoreSort × KorePatterns)
-sort_and_list pattern sort list =
+abbrev pub sort_and_list : PatternReader → Members → Data → Data → Reading (KoreSort × KorePatterns)
+sort_and_list pattern o sort list =
     after (tree_in (codes "sort") sort) (λ t. after (trees_in (codes "patterns") list) (λ ds.
     after (sort_reading t) (λ s. after (pattern_items pattern (codes "patterns") ds) (λ ps. read (s, ps)))))
 
 abbrev pub sort_and_pair : PatternReader → Members → Reading (KoreSort × KorePatterns)
-sort_and_pair pattern o = after (sort_and_two pattern (codes "first") (codes "second") o) (λ r. read (r.0, next_pattern r.1 (next_pattern r.2 no_patterns)))
-
-abbrev pub pair_or_none : PatternReader → Members → Option Data → Option Data → Reading (KoreSort × KorePatterns)
-pair_or_none pattern o None None = fault (missing_member (codes "patterns"))
-pair_or_none pattern o (Some d) second = sort_and_pair pattern o
-pair_or_none pattern o None (Some e) = sort_and_pair pattern o
+sort_and_pair pattern o = after (sort_and_two (codes "first") (codes "second") o) (λ r. after (pattern r.1) (λ p. after (pattern r.2) (λ q. read (r.0, next_pattern p (next_pattern q no_patterns)))))
 
 abbrev pub listed_or_pair : PatternReader → Members → Data → Option Data → Reading (KoreSort × KorePatterns)
-listed_or_pair pattern o sort (Some list) = sort_and_list pattern sort list
-listed_or_pair pattern o sort None = pair_or_none pattern o (get_member (codes "first") o) (get_member (codes "second") o)
+listed_or_pair pattern o sort (Some list) = sort_and_list pattern o sort list
+listed_or_pair pattern o sort None =
+    if is_none (get_member (codes "first") o) && is_none (get_member (codes "second") o) then fault (missing_member (codes "patterns"))
+    else sort_and_pair pattern o
 
 abbrev pub sort_and_members : PatternReader → Members → Reading (KoreSort × KorePatterns)
 sort_and_members pattern o = after (member_at o (codes "sort")) (λ sort. listed_or_pair pattern o sort (get_member (codes "patterns") o))
 
--- ---- patterns by their tags
-
-abbrev pub reading_map : {A B : Type 0} → (A → B) → Reading A → Reading B
-reading_map f r = after r (λ a. read (f a))
-
--- the forms without patterns in them, with one or two, or with other members
-abbrev pub leaf_tagged : Members → Text → Option (Reading KorePattern)
-leaf_tagged o tag =
-    if bytes_eq tag (codes "EVar") then Some (reading_map (λ r. variable r.0 r.1) (name_and_sort o))
-    else (if bytes_eq tag (codes "DV") then Some (reading_map (λ r. literal r.0 r.1) (sort_and_value o))
-    else (if bytes_eq tag (codes "Top") then Some (reading_map top (sort_alone o))
-    else (if bytes_eq tag (codes "Bottom") then Some (reading_map bottom (sort_alone o)) else None)))
-
-abbrev pub listed_tagged : PatternReader → Members → Text → Option (Reading KorePattern)
+abbrev pub listed_tagged : PatternReader → Members → Text → Reading KorePattern
 listed_tagged pattern o tag =
-    if bytes_eq tag (codes "App") then Some (reading_map (λ r. application r.0 r.1 r.2) (symbol_and_arguments pattern o))
-    else (if bytes_eq tag (codes "And") then Some (reading_map (λ r. conjunction_of r.0 r.1) (sort_and_members pattern o))
-    else (if bytes_eq tag (codes "Or") then Some (reading_map (λ r. disjunction_of r.0 r.1) (sort_and_members pattern o)) else None))
-
-abbrev pub single_tagged : PatternReader → Members → Text → Option (Reading KorePattern)
-single_tagged pattern o tag =
-    if bytes_eq tag (codes "Not") then Some (reading_map (λ r. negation r.0 r.1) (sort_and_one pattern o))
-    else (if bytes_eq tag (codes "Exists") then Some (reading_map (λ r. exists r.0 r.1 r.2 r.3) (bound_and_one pattern o))
-    else (if bytes_eq tag (codes "Forall") then Some (reading_map (λ r. forall r.0 r.1 r.2 r.3) (bound_and_one pattern o))
-    else (if bytes_eq tag (codes "Ceil") then Some (reading_map (λ r. ceil r.0 r.1 r.2) (sorts_and_one pattern o))
-    else (if bytes_eq tag (codes "Floor") then Some (reading_map (λ r. floor r.0 r.1 r.2) (sorts_and_one pattern o)) else None))))
-
-abbrev pub double_tagged : PatternReader → Members → Text → Option (Reading KorePattern)
-double_tagged pattern o tag =
-    if bytes_eq tag (codes "Implies") then Some (reading_map (λ r. implication r.0 r.1 r.2) (sort_and_two pattern (codes "first") (codes "second") o))
-    else (if bytes_eq tag (codes "Iff") then Some (reading_map (λ r. equivalence r.0 r.1 r.2) (sort_and_two pattern (codes "first") (codes "second") o))
-    else (if bytes_eq tag (codes "Rewrites") then Some (reading_map (λ r. rewriting r.0 r.1 r.2) (sort_and_two pattern (codes "source") (codes "dest") o))
-    else (if bytes_eq tag (codes "Equals") then Some (reading_map (λ r. equals r.0 r.1 r.2 r.3) (sorts_and_two pattern o))
-    else (if bytes_eq tag (codes "In") then Some (reading_map (λ r. membership r.0 r.1 r.2 r.3) (sorts_and_two pattern o)) else None))))
-
-abbrev pub some_or : {A : Type 0} → Option A → A → A
-some_or None a = a
-some_or (Some b) a = b
+    if bytes_eq tag (codes "App") then after (symbol_and_lists o) (λ r. after (pattern_items pattern (codes "args") r.2) (λ ps. read (application r.0 r.1 ps)))
+    else (if bytes_eq tag (codes "And") then after (sort_and_members pattern o) (λ r. read (conjunction_of r.0 r.1))
+    else (if bytes_eq tag (codes "Or") then after (sort_and_members pattern o) (λ r. read (disjunction_of r.0 r.1)) else single_tagged pattern o tag))
 
 abbrev pub pattern_tagged : PatternReader → Members → Text → Reading KorePattern
 pattern_tagged pattern o tag =
-    some_or (leaf_tagged o tag) (some_or (listed_tagged pattern o tag) (some_or (single_tagged pattern o tag) (some_or (double_tagged pattern o tag) (fault (unknown_tag tag)))))
+    if bytes_eq tag (codes "EVar") then after (name_and_sort o) (λ r. read (variable r.0 r.1))
+    else (if bytes_eq tag (codes "DV") then after (sort_and_value o) (λ r. read (literal r.0 r.1))
+    else (if bytes_eq tag (codes "Top") then after (sort_alone o) (λ s. read (top s))
+    else (if bytes_eq tag (codes "Bottom") then after (sort_alone o) (λ s. read (bottom s)) else listed_tagged pattern o tag)))
 
 -- the pattern of a tree in which patterns nest at most so deep
 abbrev pub pattern_within : ℕ → Members → Reading KorePattern

@@ -3,5 +3,7 @@
 
 mod fault;
 mod member;
+mod parts;
+mod sort;
 
 pub use fault::{JsonError, JsonFault};
