@@ -1,8 +1,8 @@
 -- Sorts with arguments in the place of parameters, by the loops that make them.
-use Rattle.std.proofs.Common.{◌≡◌, refl, sym, ap, ◌∙◌, ℕ, zero, suc, ◌+◌, ◌<◌, ◌≤◌, Bool, true, false, cond, List, [], ◌∷◌, map, length, drop, get_or, String, Global, string_bytes, arith}
+use Rattle.std.proofs.Common.{◌≡◌, refl, sym, ap, ◌∙◌, ℕ, ◌+◌, ◌<◌, ◌≤◌, true, false, cond, List, [], ◌∷◌, map, length, drop, get_or, String, Global, string_bytes, arith}
 use Rattle.std.proofs.lemmas.List.{drop_all, drop_more}
 use Rattle.std.specs.Str.{bytes_eq}
-use Rattle.kp_kore.specs.Syntax.{Text, KoreSort, KoreSorts, sort_variable, next_sort}
+use Rattle.kp_kore.specs.Syntax.{Text, KoreSorts, sort_variable, next_sort}
 use Rattle.kp_kore.specs.Sorting.{argument_for, at_arguments, all_at_arguments}
 use Rattle.kp_kore.specs.declared.sort.Sort.{Sort}
 use Rattle.kp_kore.specs.View.{sort_view, sorts_of, sorts_view, names_view}

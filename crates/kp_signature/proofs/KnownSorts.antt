@@ -1,5 +1,5 @@
 -- Whether a sort is known, by the test of its name.
-use Rattle.std.proofs.Common.{◌≡◌, refl, sym, ap, ◌∙◌, ℕ, Bool, true, false, cond, List, map, length, Option, Some}
+use Rattle.std.proofs.Common.{◌≡◌, sym, ap, ◌∙◌, true, false, cond, List, map, length, Some}
 use Rattle.std.proofs.lemmas.List.{length-map}
 use Rattle.kp_kore.specs.Syntax.{Text, KoreSort, sort_of, KoreSorts}
 use Rattle.kp_kore.specs.Parts.{sort_list}

@@ -1,4 +1,4 @@
-use Rattle.std.proofs.Common.{◌≡◌, ap, ◌∙◌, map, take, length, ◌≤◌, arith}
+use Rattle.std.proofs.Common.{ap, ◌∙◌, map, arith}
 use Rattle.std.proofs.lemmas.List.{take_all}
 use Rattle.kp_kore.specs.Sorting.{at_arguments}
 use Rattle.kp_kore.specs.View.{sort_view, sorts_of, sorts_view, names_view}

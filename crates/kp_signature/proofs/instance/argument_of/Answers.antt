@@ -1,9 +1,4 @@
-use Rattle.std.proofs.Common.{rules, ◌≡◌, sym, ap, ◌∙◌, true, false, string_bytes, length, drop, ◌≤◌, arith}
-use Rattle.std.specs.Str.{bytes_eq}
-use Rattle.kp_kore.specs.Syntax.{sort_variable}
-use Rattle.kp_kore.specs.Sorting.{argument_for}
-use Rattle.kp_kore.specs.View.{sort_view, sorts_view, names_view}
-use Rattle.kp_kore.specs.declared.sort.Sort.TheVariants as Sort
+use Rattle.std.proofs.Common.{sym, ◌∙◌, string_bytes, arith}
 use Rattle.kp_signature.proofs.InstanceLemmas.{next_parameter, no_parameter, no_argument}
 use Rattle.kp_signature.proofs.instance.argument_of.Goals as goal
 use Rattle.kp_signature.proofs.instance.argument_of.Goals.{else-loop-i-test, then-loop-i-test+then-i-arguments}

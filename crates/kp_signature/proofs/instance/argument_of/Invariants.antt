@@ -1,4 +1,4 @@
-use Rattle.std.proofs.Common.{◌≡◌, map, drop, string_bytes}
+use Rattle.std.proofs.Common.{◌≡◌, drop, string_bytes}
 use Rattle.kp_kore.specs.Sorting.{argument_for}
 use Rattle.kp_kore.specs.View.{sorts_view, names_view}
 use Rattle.kp_signature.proofs.instance.argument_of.Given as goal

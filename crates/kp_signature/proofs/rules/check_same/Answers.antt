@@ -1,4 +1,4 @@
-use Rattle.std.proofs.Common.{rules, ◌≡◌, sym, ap, ◌∙◌, refl, true, false, Some, None}
+use Rattle.std.proofs.Common.{rules, ◌≡◌, sym, ap, ◌∙◌, Some}
 use Rattle.kp_kore.specs.View.{sort_view}
 use Rattle.kp_signature.specs.Verify.{sort_differs}
 use Rattle.kp_signature.proofs.Same.{same_is_no_fault, other_is_a_fault}

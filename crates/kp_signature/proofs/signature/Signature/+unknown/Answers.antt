@@ -1,4 +1,4 @@
-use Rattle.std.proofs.Common.{rules, ◌≡◌, sym, ap, subst, ◌∙◌, length, string_bytes, true, false}
+use Rattle.std.proofs.Common.{rules, ◌≡◌, sym, subst, ◌∙◌, length, string_bytes}
 use Rattle.std.specs.Option.{option_map}
 use Rattle.kp_kore.specs.Syntax.{sort_of}
 use Rattle.kp_kore.specs.View.{sort_view, sorts_view}
