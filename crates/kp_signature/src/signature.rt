@@ -11,7 +11,7 @@ pub struct Signature {
 }
 
 impl Signature {
-    ghost use Rattle.std.specs.Prelude.{◌≡◌, IfOk, length, string_bytes};
+    ghost use Rattle.std.specs.Prelude.{◌≡◌, ◌↔◌, IfOk, IsTrue, None, length, string_bytes};
     ghost use Rattle.kp_kore.specs.Signature.{signature_of, symbol_declared, alias_declared};
     ghost use Rattle.kp_kore.specs.View.{sort_view, sorts_view, sort_sentence_view, symbol_sentence_view, alias_sentence_view};
     ghost use Rattle.kp_kore.specs.Syntax.{KoreSorts};
@@ -61,6 +61,13 @@ impl Signature {
             Some(place) => self.table.aliases.get(*place),
             None => None,
         }
+    }
+
+    /// Whether a sort and all sorts in it are declared, with as many arguments as they take.
+    pub fn has_sort(&self, sort: &Sort) -> bool
+        ensures { IsTrue result ↔ (unknown_sort_in (signature_view self.now) (sort_view sort.now) ≡ None) }
+    {
+        self.unknown_sort(sort).is_none()
     }
 
     /// The first sort in this one that isn't declared, or that takes another number of arguments, from the outermost.
