@@ -1,5 +1,7 @@
 pub mod Causes
 pub mod Examples
 pub mod Frame
+pub mod Readings
 pub mod Reply
 pub mod Request
+pub mod View
