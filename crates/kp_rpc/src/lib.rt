@@ -6,6 +6,8 @@
 pub mod examples;
 mod frame;
 mod id;
+mod params;
 
 pub use frame::{FrameError, frame_of};
 pub use id::Id;
+pub use params::{Options, ParamsError};

@@ -1,0 +1,106 @@
+ghost use Rattle.std.specs.Prelude.{◌≡◌, Option, Some, None, List, option_map, option_and_then, IfOk, codes, string_bytes, map};
+ghost use Rattle.serde_json.specs.Data.{array};
+ghost use Rattle.serde_json.specs.Find.{get};
+ghost use Rattle.serde_json.specs.View.{view, items_view};
+ghost use Rattle.kp_rpc.specs.View.{texts_view, options_view};
+ghost use Rattle.kp_rpc.specs.Readings.{read_number, read_text, read_texts, read_items};
+
+use serde_json::Value;
+use std::alloc::{AllocError, AllocFailed, Global};
+
+/// What a request of execute says beside its state.
+#[derive(Drop)]
+pub struct Options {
+    pub max_depth: Option<u64>,
+    pub module_name: Option<String>,
+    pub cut_points: Vec<String>,
+    pub terminals: Vec<String>,
+}
+
+/// Why params aren't read.
+#[derive(Clone, Copy, Debug, Drop)]
+pub enum ParamsError {
+    Memory,
+    OtherKind,
+}
+
+impl From<AllocError> for ParamsError {
+    ghost use Rattle.std.specs.Prelude.{◌≡◌};
+    ghost use Rattle.kp_rpc.specs.declared.params.ParamsError.TheVariants.{Memory};
+
+    ghost from_gives = { λ _ e. e ≡ Memory };
+
+    fn from(_error: AllocError) -> Self {
+        ParamsError::Memory
+    }
+}
+
+impl<T: Drop> From<AllocFailed<T>> for ParamsError {
+    ghost use Rattle.std.specs.Prelude.{◌≡◌};
+    ghost use Rattle.kp_rpc.specs.declared.params.ParamsError.TheVariants.{Memory};
+
+    ghost from_gives = { λ _ e. e ≡ Memory };
+
+    fn from(_error: AllocFailed<T>) -> Self {
+        ParamsError::Memory
+    }
+}
+
+// An optional whole number from 0: absent and null are none.
+fn number_at(params: &Value, key: &str) -> Option<Option<u64>>
+    ensures { result ≡ read_number (get key.now (view params.now)) }
+{
+    match params.get(key) {
+        None => Some(None),
+        Some(Value::Null) => Some(None),
+        Some(member) => match member.as_u64() {
+            Some(n) => Some(Some(n)),
+            None => None,
+        },
+    }
+}
+
+// An optional text.
+fn text_at<'a>(params: &'a Value, key: &str) -> Option<Option<&'a str>>
+    ensures { option_map (option_map (λ t. t.now)) result ≡ read_text (get key.now (view params.now)) }
+{
+    match params.get(key) {
+        None => Some(None),
+        Some(Value::Null) => Some(None),
+        Some(member) => match member.as_str() {
+            Some(text) => Some(Some(text)),
+            None => None,
+        },
+    }
+}
+
+// The texts of a list of texts.
+fn texts_of(alloc: Global, members: &[Value]) -> Result<Option<Vec<String>>, AllocError>
+    ensures { IfOk result (λ o. option_map (λ v. texts_view v.items) o ≡ read_items (items_view members.now)) }
+{
+    let mut texts = Vec::new(alloc);
+    for member in members {
+        match member.as_str() {
+            Some(text) => match texts.push(String::from_str(alloc, text)?) {
+                Ok(()) => {}
+                Err(_) => return Err(AllocError),
+            },
+            None => return Ok(None),
+        }
+    }
+    Ok(Some(texts))
+}
+
+// An optional list of texts: absent and null are the empty list.
+fn texts_at(alloc: Global, params: &Value, key: &str) -> Result<Option<Vec<String>>, AllocError>
+    ensures { IfOk result (λ o. option_map (λ v. texts_view v.items) o ≡ read_texts (get key.now (view params.now))) }
+{
+    match params.get(key) {
+        None => Ok(Some(Vec::new(alloc))),
+        Some(Value::Null) => Ok(Some(Vec::new(alloc))),
+        Some(member) => match member.as_array() {
+            Some(members) => texts_of(alloc, members),
+            None => Ok(None),
+        },
+    }
+}
