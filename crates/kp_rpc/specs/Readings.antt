@@ -1,8 +1,9 @@
 -- What is read of a member, or None where it is of another kind; for private clauses.
-use Rattle.std.specs.Prelude.{◌≡◌, ◌≢◌, ℕ, List, [], ◌∷◌, Option, Some, None, option_map, option_and_then}
+use Rattle.std.specs.Prelude.{ℕ, List, [], ◌∷◌, Option, Some, None, option_map, option_and_then, codes}
 use Rattle.serde_json.specs.Data.{Data, Num, unsigned, negative, float, null, boolean, number, string, array, object, Items, no_items, item, Members}
+use Rattle.serde_json.specs.Find.{get}
 use Rattle.kp_kore.specs.Syntax.{Text}
-use Rattle.kp_rpc.specs.Request.{RequestId, id_text, id_number, id_null}
+use Rattle.kp_rpc.specs.Request.{RequestId, id_text, id_number, id_null, ExecuteOptions}
 
 abbrev pub read_number_id : Num → Option RequestId
 read_number_id (unsigned n) = Some (id_number (unsigned n))
@@ -61,3 +62,28 @@ read_texts (Some (number n)) = None
 read_texts (Some (string t)) = None
 read_texts (Some (array ds)) = read_items ds
 read_texts (Some (object o)) = None
+
+-- the params of execute, but for its state
+abbrev pub read_options : Data → Option ExecuteOptions
+read_options d =
+    option_and_then (λ max_depth. option_and_then (λ module_name. option_and_then (λ cut_points.
+    option_map (λ terminals. record { max_depth = max_depth; module_name = module_name; cut_points = cut_points; terminals = terminals })
+    (read_texts (get (codes "terminal-rules") d))) (read_texts (get (codes "cut-point-rules") d))) (read_text (get (codes "module") d))) (read_number (get (codes "max-depth") d))
+
+-- a member that is an object
+abbrev pub if_object : Data → Option Data
+if_object null = None
+if_object (boolean b) = None
+if_object (number n) = None
+if_object (string t) = None
+if_object (array ds) = None
+if_object (object o) = Some (object o)
+
+abbrev pub read_object : Text → Data → Option Data
+read_object key d = option_and_then if_object (get key d)
+
+abbrev pub read_state : Data → Option Data
+read_state d = option_and_then (read_object (codes "state")) (read_object (codes "params") d)
+
+abbrev pub read_all_options : Data → Option ExecuteOptions
+read_all_options d = option_and_then read_options (read_object (codes "params") d)

@@ -1,9 +1,10 @@
-ghost use Rattle.std.specs.Prelude.{◌≡◌, Option, Some, None, List, option_map, option_and_then, IfOk, codes, string_bytes, map};
+ghost use Rattle.std.specs.Prelude.{◌≡◌, Option, Some, None, List, option_map, option_and_then, IfOk, IfErr, codes, string_bytes, map};
 ghost use Rattle.serde_json.specs.Data.{array};
 ghost use Rattle.serde_json.specs.Find.{get};
 ghost use Rattle.serde_json.specs.View.{view, items_view};
 ghost use Rattle.kp_rpc.specs.View.{texts_view, options_view};
-ghost use Rattle.kp_rpc.specs.Readings.{read_number, read_text, read_texts, read_items};
+ghost use Rattle.kp_rpc.specs.Readings.{read_number, read_text, read_texts, read_items, read_options, read_object, read_state, read_all_options};
+ghost use Rattle.kp_rpc.specs.declared.params.ParamsError.TheVariants.{OtherKind};
 
 use serde_json::Value;
 use std::alloc::{AllocError, AllocFailed, Global};
@@ -102,5 +103,69 @@ fn texts_at(alloc: Global, params: &Value, key: &str) -> Result<Option<Vec<Strin
             Some(members) => texts_of(alloc, members),
             None => Ok(None),
         },
+    }
+}
+
+// The params of execute, but for its state.
+pub fn options_of(alloc: Global, params: &Value) -> Result<Options, ParamsError>
+    ensures found { IfOk result (λ o. read_options (view params.now) ≡ Some (options_view o)) }
+    ensures only { IfErr result (λ e. e ≡ OtherKind → read_options (view params.now) ≡ None) }
+{
+    let Some(max_depth) = number_at(params, "max-depth") else {
+        return Err(ParamsError::OtherKind);
+    };
+    let Some(name) = text_at(params, "module") else {
+        return Err(ParamsError::OtherKind);
+    };
+    let module_name = match name {
+        Some(text) => Some(String::from_str(alloc, text)?),
+        None => None,
+    };
+    let Some(cut_points) = texts_at(alloc, params, "cut-point-rules")? else {
+        return Err(ParamsError::OtherKind);
+    };
+    let Some(terminals) = texts_at(alloc, params, "terminal-rules")? else {
+        return Err(ParamsError::OtherKind);
+    };
+    Ok(Options {
+        max_depth,
+        module_name,
+        cut_points,
+        terminals,
+    })
+}
+
+// A member that is an object.
+fn object_at<'a>(value: &'a Value, key: &str) -> Option<&'a Value>
+    ensures { option_map (λ v. view v.now) result ≡ read_object key.now (view value.now) }
+{
+    match value.get(key) {
+        Some(member) => if member.is_object() {
+            Some(member)
+        } else {
+            None
+        },
+        None => None,
+    }
+}
+
+/// The state in the params of a request.
+pub fn state_of(request: &Value) -> Option<&Value>
+    ensures { option_map (λ v. view v.now) result ≡ read_state (view request.now) }
+{
+    match object_at(request, "params") {
+        Some(params) => object_at(params, "state"),
+        None => None,
+    }
+}
+
+// The other members of a request's params.
+pub fn options_at(alloc: Global, request: &Value) -> Result<Options, ParamsError>
+    ensures found { IfOk result (λ o. read_all_options (view request.now) ≡ Some (options_view o)) }
+    ensures only { IfErr result (λ e. e ≡ OtherKind → read_all_options (view request.now) ≡ None) }
+{
+    match object_at(request, "params") {
+        Some(params) => options_of(alloc, params),
+        None => Err(ParamsError::OtherKind),
     }
 }
