@@ -63,12 +63,15 @@ read_texts (Some (string t)) = None
 read_texts (Some (array ds)) = read_items ds
 read_texts (Some (object o)) = None
 
--- the params of execute, but for its state
-abbrev pub read_options : Data → Option ExecuteOptions
-read_options d =
+-- the params of execute, but for its state, where each member is read
+abbrev pub options_from : Option (Option ℕ) → Option (Option Text) → Option (List Text) → Option (List Text) → Option ExecuteOptions
+options_from depth name cuts ends =
     option_and_then (λ max_depth. option_and_then (λ module_name. option_and_then (λ cut_points.
     option_map (λ terminals. record { max_depth = max_depth; module_name = module_name; cut_points = cut_points; terminals = terminals })
-    (read_texts (get (codes "terminal-rules") d))) (read_texts (get (codes "cut-point-rules") d))) (read_text (get (codes "module") d))) (read_number (get (codes "max-depth") d))
+    ends) cuts) name) depth
+
+abbrev pub read_options : Data → Option ExecuteOptions
+read_options d = options_from (read_number (get (codes "max-depth") d)) (read_text (get (codes "module") d)) (read_texts (get (codes "cut-point-rules") d)) (read_texts (get (codes "terminal-rules") d))
 
 -- a member that is an object
 abbrev pub if_object : Data → Option Data

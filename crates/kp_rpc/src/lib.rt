@@ -7,7 +7,9 @@ pub mod examples;
 mod frame;
 mod id;
 mod params;
+mod request;
 
 pub use frame::{FrameError, frame_of};
 pub use id::Id;
-pub use params::{Options, ParamsError};
+pub use params::{Options, ParamsError, state_of};
+pub use request::{Execute, Parsed, Refusal, request_of};
