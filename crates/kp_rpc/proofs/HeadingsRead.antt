@@ -6,7 +6,7 @@ use Rattle.serde_json.specs.Find.{get, get_member, as_str}
 use Rattle.kp_kore.specs.Syntax.{Text}
 use Rattle.kp_rpc.specs.Request.{RequestId, IsIdTree, HasId, IsRequest, execute_method, ExecuteOptions, HasParams}
 use Rattle.kp_rpc.specs.Readings.{read_id, read_state, read_all_options}
-use Rattle.kp_rpc.specs.Headings.{IsExecuteTree}
+use Rattle.kp_rpc.specs.Causes.{IsExecuteTree}
 use Rattle.kp_rpc.proofs.ParamsRead.{params_found, state_told, options_all_told}
 
 text_is : (x : Option Data) (t : Text) → Some t ≡ option_and_then as_str x → x ≡ Some (string t)

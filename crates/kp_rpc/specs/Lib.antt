@@ -2,6 +2,7 @@ pub mod Causes
 pub mod Examples
 pub mod Frame
 pub mod Headings
+pub mod Outcomes
 pub mod Readings
 pub mod Reply
 pub mod Request

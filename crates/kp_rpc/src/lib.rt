@@ -7,9 +7,11 @@ pub mod examples;
 mod frame;
 mod id;
 mod params;
+mod reply;
 mod request;
 
 pub use frame::{FrameError, frame_of};
 pub use id::Id;
 pub use params::{Options, ParamsError, state_of};
+pub use reply::refusal_text;
 pub use request::{Execute, Parsed, Refusal, request_of};

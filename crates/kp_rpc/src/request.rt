@@ -3,7 +3,8 @@ ghost use Rattle.serde_json.specs.Find.{get, as_str};
 ghost use Rattle.serde_json.specs.View.{view};
 ghost use Rattle.kp_rpc.specs.Request.{EchoesId, IsRequest, execute_method};
 ghost use Rattle.kp_rpc.specs.View.{id_view};
-ghost use Rattle.kp_rpc.specs.Headings.{IsHeading, IsTreeParsed, IsParsed};
+ghost use Rattle.kp_rpc.specs.Headings.{IsHeading, IsTreeParsed};
+ghost use Rattle.kp_rpc.specs.Outcomes.{IsParsed};
 ghost use Rattle.serde_json.specs.Data.{Members, object};
 
 use crate::frame::{FrameError, frame_of};
