@@ -20,3 +20,11 @@ IsRefused bytes id invalid_request = (d : Data) × IsFrame bytes d × ¬ IsSomeR
 IsRefused bytes id method_not_found = (o : Members) × (method : Text) × IsFrame bytes (object o) × IsRequest o id method × (method ≢ execute_method)
 IsRefused bytes id invalid_params = (o : Members) × IsFrame bytes (object o) × IsRequest o id execute_method × ((state : Members) (options : ExecuteOptions) → ¬ HasParams o state options)
 IsRefused bytes id _ = ⊥
+
+-- the tree is an execute request of this id, with params of their kinds
+pub record IsExecuteTree (d : Data) (id : RequestId) (options : ExecuteOptions) : Type 0 where
+  pub members : Members
+  pub tree : d ≡ object members
+  pub is_request : IsRequest members id execute_method
+  pub state : Members
+  pub has_params : HasParams members state options

@@ -1,5 +1,9 @@
 pub mod Causes
 pub mod Examples
 pub mod Frame
+pub mod Headings
+pub mod Outcomes
+pub mod Readings
 pub mod Reply
 pub mod Request
+pub mod View

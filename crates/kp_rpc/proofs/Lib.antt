@@ -1,0 +1,4 @@
+mod HeadingsRead
+mod OptionsRead
+mod ParamsRead
+mod Texts

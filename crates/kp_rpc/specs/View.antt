@@ -1,0 +1,32 @@
+-- The data of requests and replies that the Rust types stand for.
+use Rattle.std.specs.Prelude.{List, Option, option_map, map, String, string_bytes}
+use Rattle.std.specs.declared.alloc.Global.{Global}
+use Rattle.serde_json.specs.Data.{unsigned}
+use Rattle.serde_json.specs.Find.{of_integer}
+use Rattle.kp_kore.specs.Syntax.{Text}
+use Rattle.kp_rpc.specs.Request.{RequestId, id_text, id_number, id_null, ExecuteOptions}
+use Rattle.kp_rpc.specs.Reply.{RequestError, parse_error, invalid_request, method_not_found, invalid_params}
+use Rattle.kp_rpc.specs.declared.id.Id.{Id}
+use Rattle.kp_rpc.specs.declared.id.Id.TheVariants as id
+use Rattle.kp_rpc.specs.declared.params.Options.{Options}
+use Rattle.kp_rpc.specs.declared.request.Refusal.{Refusal}
+use Rattle.kp_rpc.specs.declared.request.Refusal.TheVariants as refusal
+
+abbrev pub id_view : Id → RequestId
+id_view (id.Text t) = id_text (string_bytes t)
+id_view (id.Unsigned n) = id_number (unsigned n)
+id_view (id.Signed z) = id_number (of_integer z)
+id_view id.Null = id_null
+
+-- texts as their bytes
+abbrev pub texts_view : List (String Global) → List Text
+texts_view = map string_bytes
+
+abbrev pub options_view : Options → ExecuteOptions
+options_view o = record { max_depth = o.max_depth; module_name = option_map string_bytes o.module_name; cut_points = texts_view o.cut_points.items; terminals = texts_view o.terminals.items }
+
+abbrev pub refusal_view : Refusal → RequestError
+refusal_view refusal.ParseError = parse_error
+refusal_view refusal.InvalidRequest = invalid_request
+refusal_view refusal.MethodNotFound = method_not_found
+refusal_view refusal.InvalidParams = invalid_params

@@ -1,0 +1,39 @@
+ghost use Rattle.std.specs.Prelude.{◌≡◌, IfOk, IfErr};
+ghost use Rattle.serde_json.specs.Data.{Data};
+ghost use Rattle.serde_json.specs.View.{view};
+ghost use Rattle.kp_rpc.specs.Frame.{IsFrame};
+ghost use Rattle.kp_rpc.specs.declared.frame.FrameError.TheVariants.{NoFrame};
+
+use serde_json::Value;
+use std::alloc::Global;
+
+/// Why bytes give no frame.
+#[derive(Clone, Copy, Debug, Drop)]
+pub enum FrameError {
+    Memory,
+    NoFrame,
+}
+
+const FRAME_LIMIT: usize = 4_194_304;
+
+/// The JSON object or array that a frame is. Each frame is read, and nothing else.
+pub fn frame_of(alloc: Global, bytes: &[u8]) -> Result<Value, FrameError>
+    ensures found { IfOk result (λ v. IsFrame bytes.now (view v)) }
+    ensures only { IfErr result (λ e. e ≡ NoFrame → (d : Data) → ¬ IsFrame bytes.now d) }
+{
+    if bytes.len() > FRAME_LIMIT {
+        return Err(FrameError::NoFrame);
+    }
+    match Value::from_slice(alloc, bytes) {
+        Ok(value) => if value.is_object() || value.is_array() {
+            Ok(value)
+        } else {
+            Err(FrameError::NoFrame)
+        },
+        Err(error) => if error.is_memory() {
+            Err(FrameError::Memory)
+        } else {
+            Err(FrameError::NoFrame)
+        },
+    }
+}

@@ -1,0 +1,55 @@
+ghost use Rattle.std.specs.Prelude.{◌≡◌, option_map, option_and_then, IfOk, codes};
+ghost use Rattle.serde_json.specs.Find.{get};
+ghost use Rattle.serde_json.specs.View.{view, number_view};
+ghost use Rattle.kp_rpc.specs.View.{id_view};
+ghost use Rattle.kp_rpc.specs.Readings.{read_id, read_number_id};
+
+use serde_json::{Number, Value};
+use std::alloc::{AllocError, Global};
+
+/// The id of a request, which its reply carries.
+#[derive(Drop)]
+pub enum Id {
+    Text(String),
+    Unsigned(u64),
+    Signed(i64),
+    Null,
+}
+
+// The id that a tree is.
+fn id_of(value: &Value) -> Result<Option<Id>, AllocError>
+    ensures { IfOk result (λ o. option_map id_view o ≡ read_id (view value.now)) }
+{
+    match value {
+        Value::Null => Ok(Some(Id::Null)),
+        Value::Bool(_) => Ok(None),
+        Value::Number(number) => Ok(number_id(number)),
+        Value::String(text) => Ok(Some(Id::Text(text.clone()?))),
+        Value::Array(_) => Ok(None),
+        Value::Object(_) => Ok(None),
+    }
+}
+
+// The id that a number is, where it is whole.
+fn number_id(number: &Number) -> Option<Id>
+    ensures { option_map id_view result ≡ read_number_id (number_view number.now) }
+{
+    match number.as_i64() {
+        Some(z) => Some(Id::Signed(z)),
+        None => match number.as_u64() {
+            Some(n) => Some(Id::Unsigned(n)),
+            None => None,
+        },
+    }
+}
+
+// The lawful id of a request object.
+pub fn id_at(value: &Value) -> Result<Option<Id>, AllocError>
+    ensures { IfOk result (λ o. option_map id_view o
+        ≡ option_and_then read_id (get (codes "id") (view value.now))) }
+{
+    match value.get("id") {
+        Some(member) => id_of(member),
+        None => Ok(None),
+    }
+}
