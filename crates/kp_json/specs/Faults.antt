@@ -2,7 +2,7 @@
 -- the tag's table, then members of another kind in that order, then the members themselves in that order.
 -- Source: the K framework's Kore JSON, version 1, with the codes J1 to J5.
 use Rattle.std.specs.Prelude.{ℕ, zero, suc, Bool, true, false, ◌&&◌, Option, Some, None, is_none, codes, bytes_eq, if◌then◌else◌}
-use Rattle.serde_json.specs.Data.{Data, null, boolean, number, string, array, object, Items, no_items, item, Members, depth, members_depth}
+use Rattle.serde_json.specs.Data.{Data, object, Items, no_items, item, Members, depth}
 use Rattle.serde_json.specs.Find.{get_member, as_str, as_array, as_object}
 use Rattle.kp_kore.specs.Syntax.{Text, KoreSort, sort_of, sort_variable, KoreSorts, no_sorts, next_sort, KorePattern, variable, application, literal, top, bottom, negation, implication, equivalence, rewriting, exists, forall, ceil, floor, equals, membership, KorePatterns, no_patterns, next_pattern}
 use Rattle.kp_kore.specs.Folds.{conjunction_of, disjunction_of}

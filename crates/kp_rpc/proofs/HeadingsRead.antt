@@ -1,13 +1,13 @@
 -- What the members of a tree tell of it as a request.
-use Rattle.std.proofs.Common.{◌≡◌, ◌≢◌, Bool, true, false, Option, Some, None, option_map, option_and_then, is_some, refl, sym, ap, ◌∙◌, subst}
+use Rattle.std.proofs.Common.{◌≡◌, true, Option, Some, None, option_map, option_and_then, is_some, refl, sym, ap, ◌∙◌}
 use Rattle.std.specs.Prelude.{codes}
 use Rattle.serde_json.specs.Data.{Data, unsigned, negative, float, null, boolean, number, string, array, object, Members}
-use Rattle.serde_json.specs.Find.{get, get_member, as_str}
+use Rattle.serde_json.specs.Find.{get, as_str}
 use Rattle.kp_kore.specs.Syntax.{Text}
-use Rattle.kp_rpc.specs.Request.{RequestId, IsIdTree, HasId, IsRequest, execute_method, ExecuteOptions, HasParams}
+use Rattle.kp_rpc.specs.Request.{RequestId, IsIdTree, IsRequest, execute_method, ExecuteOptions, HasParams}
 use Rattle.kp_rpc.specs.Readings.{read_id, read_state, read_all_options}
 use Rattle.kp_rpc.specs.Causes.{IsExecuteTree}
-use Rattle.kp_rpc.proofs.ParamsRead.{params_found, state_told, options_all_told}
+use Rattle.kp_rpc.proofs.ParamsRead.{params_found, options_all_told}
 
 text_is : (x : Option Data) (t : Text) → Some t ≡ option_and_then as_str x → x ≡ Some (string t)
 text_is None t e = absurd (cc e)

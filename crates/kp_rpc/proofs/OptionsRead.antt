@@ -1,10 +1,10 @@
 -- The options that are read are those that the members spell, and none else.
-use Rattle.std.proofs.Common.{◌≡◌, ◌⊎◌, inl, inr, ℕ, List, [], ◌∷◌, Option, Some, None, option_map, option_and_then, refl, sym, ap, ◌∙◌}
+use Rattle.std.proofs.Common.{◌≡◌, ◌⊎◌, inl, inr, ℕ, List, [], ◌∷◌, Option, Some, None, option_map, refl, sym, ap, ◌∙◌}
 use Rattle.std.specs.Prelude.{codes}
 use Rattle.serde_json.specs.Data.{Data, unsigned, negative, float, null, boolean, number, string, array, object, Items, no_items, item, Members}
 use Rattle.serde_json.specs.Find.{get_member}
 use Rattle.kp_kore.specs.Syntax.{Text}
-use Rattle.kp_rpc.specs.Request.{IsAbsent, NumberAt, TextAt, AreTexts, TextsAt, ExecuteOptions, HasOptions}
+use Rattle.kp_rpc.specs.Request.{NumberAt, TextAt, AreTexts, TextsAt, ExecuteOptions, HasOptions}
 use Rattle.kp_rpc.specs.Readings.{read_number, read_text, read_items, read_texts, options_from, read_options}
 
 -- ---- numbers

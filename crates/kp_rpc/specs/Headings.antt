@@ -4,12 +4,11 @@ use Rattle.serde_json.specs.Data.{Data, object, Members}
 use Rattle.serde_json.specs.View.{view}
 use Rattle.kp_kore.specs.Syntax.{Text}
 use Rattle.kp_rpc.specs.Request.{RequestId, IsRequest, EchoesId, execute_method, ExecuteOptions, HasParams}
-use Rattle.kp_rpc.specs.Reply.{RequestError, parse_error, invalid_request, method_not_found, invalid_params}
+use Rattle.kp_rpc.specs.Reply.{RequestError, invalid_request, method_not_found, invalid_params}
 use Rattle.kp_rpc.specs.Causes.{IsSomeRequest, IsExecuteTree}
 use Rattle.kp_rpc.specs.View.{id_view, refusal_view, options_view}
 use Rattle.kp_rpc.specs.declared.request.Heading.{Heading}
 use Rattle.kp_rpc.specs.declared.request.Heading.TheVariants as heading
-use Rattle.kp_rpc.specs.declared.request.Execute.{Execute}
 use Rattle.kp_rpc.specs.declared.request.Parsed.{Parsed}
 use Rattle.kp_rpc.specs.declared.request.Parsed.TheVariants as parsed
 

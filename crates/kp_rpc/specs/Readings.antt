@@ -1,6 +1,6 @@
 -- What is read of a member, or None where it is of another kind; for private clauses.
 use Rattle.std.specs.Prelude.{ℕ, List, [], ◌∷◌, Option, Some, None, option_map, option_and_then, codes}
-use Rattle.serde_json.specs.Data.{Data, Num, unsigned, negative, float, null, boolean, number, string, array, object, Items, no_items, item, Members}
+use Rattle.serde_json.specs.Data.{Data, Num, unsigned, negative, float, null, boolean, number, string, array, object, Items, no_items, item}
 use Rattle.serde_json.specs.Find.{get}
 use Rattle.kp_kore.specs.Syntax.{Text}
 use Rattle.kp_rpc.specs.Request.{RequestId, id_text, id_number, id_null, ExecuteOptions}

@@ -1,5 +1,5 @@
 -- The data of requests and replies that the Rust types stand for.
-use Rattle.std.specs.Prelude.{List, Option, option_map, map, String, string_bytes}
+use Rattle.std.specs.Prelude.{List, option_map, map, String, string_bytes}
 use Rattle.std.specs.declared.alloc.Global.{Global}
 use Rattle.serde_json.specs.Data.{unsigned}
 use Rattle.serde_json.specs.Find.{of_integer}

@@ -1,4 +1,4 @@
-use Rattle.std.proofs.Common.{rules, ◌≡◌, ℕ, ◌+◌, drop, sym, ap, ◌∙◌, arith}
+use Rattle.std.proofs.Common.{◌+◌, drop, sym, ap, ◌∙◌, arith}
 use Rattle.std.specs.Prelude.{codes}
 use Rattle.serde_json.specs.Data.{items_depth}
 use Rattle.serde_json.specs.View.{view, items_view, members_view}

@@ -1,9 +1,7 @@
-use Rattle.std.proofs.Common.{◌≡◌, ◌+◌, ◌*◌, ◌++◌, List, drop}
+use Rattle.std.proofs.Common.{◌≡◌, ◌+◌, ◌*◌, drop}
 use Rattle.serde_json.specs.Data.{object, depth, items_depth}
 use Rattle.serde_json.specs.View.{items_view, members_view}
-use Rattle.kp_kore.specs.View.{sort_view, sorts_view}
-use Rattle.kp_kore.specs.declared.sort.Sort.{Sort}
-use Rattle.kp_json.specs.Faults.{read, after, sort_items, sort_reading}
+use Rattle.kp_json.specs.Faults.{sort_items, sort_reading}
 use Rattle.kp_json.proofs.Sorts.{sorts_after}
 use Rattle.kp_json.proofs.sort.+sort.Given as goal
 

@@ -1,5 +1,5 @@
-use Rattle.std.proofs.Common.{rules, ◌≡◌, Some, option_map, option_and_then, sym, ap, ◌∙◌, subst, refl}
-use Rattle.serde_json.specs.Data.{Data, Members, object}
+use Rattle.std.proofs.Common.{◌≡◌, Some, refl}
+use Rattle.serde_json.specs.Data.{Data}
 use Rattle.serde_json.specs.View.{view}
 use Rattle.kp_rpc.specs.Readings.{read_state}
 use Rattle.kp_rpc.specs.View.{id_view, options_view}
