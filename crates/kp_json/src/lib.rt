@@ -1,4 +1,5 @@
-// Kore JSON: exactly the trees of specs/Trees.antt are read, and the trees of specs/Written.antt are written.
+// Kore JSON: the members of objects, the sorts, and what each form of pattern has besides patterns are read exactly; else
+// the first fault is told.
 #![tactic(auto)]
 
 mod fault;
