@@ -1,7 +1,12 @@
 pub mod Ahead
+pub mod Errors
 pub mod Examples
 pub mod Grammar
+pub mod Heads
+pub mod Kinds
 pub mod Next
 pub mod Reads
+pub mod Sentences
 pub mod Spelling
+pub mod Starts
 pub mod Tokens

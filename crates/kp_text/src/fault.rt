@@ -1,4 +1,5 @@
 ghost use Rattle.std.specs.Prelude.{◌≡◌};
+ghost use Rattle.kp_text.specs.Kinds.{kind_number};
 ghost use Rattle.kp_text.specs.declared.fault.Failure.TheVariants.{Memory};
 
 use std::alloc::{AllocError, AllocFailed};
@@ -16,6 +17,21 @@ pub enum FaultKind {
     Deep,
     /// The text ends too early.
     End,
+}
+
+impl FaultKind {
+    /// The number by which the kind is told outside.
+    pub fn number(self) -> u8
+        ensures { result ≡ kind_number self }
+    {
+        match self {
+            FaultKind::Byte => 1,
+            FaultKind::Token => 2,
+            FaultKind::String => 3,
+            FaultKind::Deep => 4,
+            FaultKind::End => 5,
+        }
+    }
 }
 
 /// The first fault of a text, and the offset of the byte where it stands.

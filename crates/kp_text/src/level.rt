@@ -33,4 +33,28 @@ impl Level {
             reached: self.written.max(self.meant) + 1,
         }
     }
+
+    /// Where the application in a fold stands.
+    pub fn in_fold(self) -> Level
+        requires { self.written ≤ 257 }
+        ensures { result ≡ in_fold self }
+    {
+        Level {
+            written: self.written + 1,
+            meant: self.meant,
+            reached: self.written + 1,
+        }
+    }
+
+    /// Where the first member of a fold stands.
+    pub fn first_in_fold(self) -> Level
+        requires { self.written ≤ 257 }
+        ensures { result ≡ first_in_fold self }
+    {
+        Level {
+            written: self.written + 2,
+            meant: self.meant,
+            reached: (self.written + 2).max(self.meant),
+        }
+    }
 }

@@ -1,0 +1,63 @@
+use Rattle.std.proofs.Common.{rules, ◌≡◌, ◌∷◌, [], ◌++◌, ◌∙◌, sym, ap, subst, map, length}
+use Rattle.std.proofs.lemmas.List.{length-map, map-append}
+use Rattle.kp_kore.specs.View.{view}
+use Rattle.kp_text.specs.Grammar.{next_in_fold}
+use Rattle.kp_text.specs.Heads.{IsDeep}
+use Rattle.kp_text.specs.Next.{a_pattern, patterns, more_patterns, more_folded}
+use Rattle.kp_text.specs.Reads.{IsMarkAhead, IsSeparator, run_text}
+use Rattle.kp_text.proofs.Exits.{exit, stops_there}
+use Rattle.kp_text.proofs.InPatterns.{patterns_begin, fold_goes_on}
+use Rattle.kp_text.proofs.Alike.{alike}
+use Rattle.kp_text.proofs.descent.+pattern.Goals as goal
+
+pub patterns-returns-in_err-first-in-None-clause-fault :
+    goal.patterns-returns-in_err-first-in-None-clause-fault
+patterns-returns-in_err-first-in-None-clause-fault t c =
+    let no = subst (IsMarkAhead c.args.tail c.args.text.now c.args.close) c.in-None.is c.in_ok-rest.ensures.found in
+    exit c.from_residual-in_err-first-in-None.result _ c.in_err-first-in-None.field-0.0 c.from_residual-in_err-first-in-None.ensures (stops_there c.args.tail c.args.text.now c.args.text.now (patterns c.args.level c.args.close) (a_pattern c.args.level) (λ k p. more_patterns c.args.level c.args.close (p ∷ []) k) _ (λ k. patterns_begin c.args.tail c.args.text.now c.args.level c.args.close k no) c.in_err-first-in-None.ensures.fault)
+
+pub patterns-returns-in_err-more_patterns-in-None-clause-fault :
+    goal.patterns-returns-in_err-more_patterns-in-None-clause-fault
+patterns-returns-in_err-more_patterns-in-None-clause-fault t c =
+    let no = subst (IsMarkAhead c.args.tail c.args.text.now c.args.close) c.in-None.is c.in_ok-rest.ensures.found in
+    let l = c.args.level in
+    let close = c.args.close in
+    exit c.from_residual-in_err-more_patterns-in-None.result _ c.in_err-more_patterns-in-None.field-0.0 c.from_residual-in_err-more_patterns-in-None.ensures (stops_there c.args.tail c.args.text.now c.in_ok-first-in-None.rest.now (patterns l close) (more_patterns l close (view c.in_ok-first-in-None.first ∷ [])) (λ k. k) _ (λ k. patterns_begin c.args.tail c.args.text.now l close k no ∙ sym (c.in_ok-first-in-None.ensures.found (λ p. more_patterns l close (p ∷ []) k))) c.in_err-more_patterns-in-None.ensures.fault)
+
+pub a_member-returns-in_err-a_pattern-clause-fault :
+    goal.a_member-returns-in_err-a_pattern-clause-fault
+a_member-returns-in_err-a_pattern-clause-fault t c =
+    exit c.from_residual.result _ c.in_err-a_pattern.field-0.0 c.from_residual.ensures (λ f ss p ps long deep. stops_there c.args.tail c.args.text.now c.args.text.now (a_pattern (next_in_fold c.args.side f ss c.args.level p ps)) (a_pattern c.next_in_fold-inner.result) (λ k. k) _ (λ k. sym (alike c.args.tail c.args.text.now c.next_in_fold-inner.result (next_in_fold c.args.side f ss c.args.level p ps) k (c.next_in_fold-inner.ensures.alike f ss p ps long deep))) c.in_err-a_pattern.ensures.fault)
+
+pub more_folded-returns-in_err-member-in-Comma-clause-fault :
+    goal.more_folded-returns-in_err-member-in-Comma-clause-fault
+more_folded-returns-in_err-member-in-Comma-clause-fault t c =
+    let tail = c.args.tail in
+    let l = c.args.level in
+    let side = c.args.side in
+    let p = view c.args.first.now in
+    let ps = map view c.loop-others.others.items in
+    let long : length ps ≡ c.len.result = search (rules, length-map) in
+    let sep = subst (IsSeparator tail c.loop-others.rest.now 41) c.in-Comma.is c.in_ok-behind.ensures.found in
+    exit c.from_residual-in_err-member-in-Comma.result _ c.in_err-member-in-Comma.field-0.0 c.from_residual-in_err-member-in-Comma.ensures (λ f ss. stops_there tail c.args.text.now c.in-Comma.behind.now (λ k. more_folded side f ss l p [] k) (a_pattern (next_in_fold side f ss l p ps)) (λ k q. more_folded side f ss l p (ps ++ q ∷ []) k) _ (λ k. sym (c.loop-others.invariant.same f ss k) ∙ fold_goes_on tail c.loop-others.rest.now c.in-Comma.behind.now sep.0.0 side f ss l p ps k sep.0.1) (c.in_err-member-in-Comma.ensures.fault f ss p ps long c.loop-others.invariant.deep))
+
+pub more_folded-loop-others-preserved : goal.more_folded-loop-others-preserved
+more_folded-loop-others-preserved t c =
+    let tail = c.args.tail in
+    let l = c.args.level in
+    let side = c.args.side in
+    let p = view c.args.first.now in
+    let ps = map view c.loop-others.others.items in
+    let q = view c.in_ok-member-in-Comma.member in
+    let long : length ps ≡ c.len.result = search (rules, length-map) in
+    let long2 : length ps ≡ c.len-in-Comma.result = search (rules, length-map) in
+    let sep = subst (IsSeparator tail c.loop-others.rest.now 41) c.in-Comma.is c.in_ok-behind.ensures.found in
+    let more : map view c.push.new.self.items ≡ ps ++ q ∷ [] = search (rules, map-append) in
+    record {
+      text = search rules;
+      behind = search rules;
+      many = search rules;
+      bound = search rules;
+      deep = subst (λ qs. IsDeep side p qs c.deeper-deep.result) (sym more) (c.deeper-deep.ensures.same p q ps long2 c.nesting.ensures.same c.loop-others.invariant.deep);
+      same = λ f ss k. ap (λ qs. run_text tail c.in_ok-member-in-Comma.after.now (more_folded side f ss l p qs k)) more ∙ c.in_ok-member-in-Comma.ensures.found f ss p ps long c.loop-others.invariant.deep (λ q. more_folded side f ss l p (ps ++ q ∷ []) k) ∙ sym (fold_goes_on tail c.loop-others.rest.now c.in-Comma.behind.now sep.0.0 side f ss l p ps k sep.0.1) ∙ c.loop-others.invariant.same f ss k;
+    }
