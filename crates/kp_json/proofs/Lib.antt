@@ -1,3 +1,10 @@
+pub mod Complete
 pub mod Depth
+pub mod Lists
+pub mod Patterns
 pub mod Readings
+pub mod RoundTrip
 pub mod Sorts
+pub mod Sound
+pub mod Wrapped
+pub mod Writes

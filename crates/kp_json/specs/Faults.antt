@@ -1,12 +1,13 @@
 -- What is read of a tree, or its first fault: at each node its tag first, then members that are missing by the order of
 -- the tag's table, then members of another kind in that order, then the members themselves in that order.
 -- Source: the K framework's Kore JSON, version 1, with the codes J1 to J5.
-use Rattle.std.specs.Prelude.{ℕ, zero, suc, Bool, true, false, ◌&&◌, Option, Some, None, is_none, codes, bytes_eq, if◌then◌else◌}
-use Rattle.serde_json.specs.Data.{Data, object, Items, no_items, item, Members, depth}
-use Rattle.serde_json.specs.Find.{get_member, as_str, as_array, as_object}
+use Rattle.std.specs.Prelude.{ℕ, zero, suc, Bool, true, false, ◌&&◌, ◌==◌, Option, Some, None, is_none, codes, bytes_eq, if◌then◌else◌}
+use Rattle.serde_json.specs.Data.{Num, unsigned, Data, object, Items, no_items, item, Members, depth}
+use Rattle.serde_json.specs.Find.{get_member, as_number, as_str, as_array, as_object, is_float}
 use Rattle.kp_kore.specs.Syntax.{Text, KoreSort, sort_of, sort_variable, KoreSorts, no_sorts, next_sort, KorePattern, variable, application, literal, top, bottom, negation, implication, equivalence, rewriting, exists, forall, ceil, floor, equals, membership, KorePatterns, no_patterns, next_pattern}
 use Rattle.kp_kore.specs.Folds.{conjunction_of, disjunction_of}
 use Rattle.kp_json.specs.Members.{is_identifier}
+use Rattle.kp_json.specs.Trees.{most_patterns}
 
 -- J1 no such tag, J2 a member is missing, J3 a member of another kind, J4 another format or version, J5 nested too deep
 pub data TreeFault : Type 0 where
@@ -164,8 +165,8 @@ single_tagged pattern o tag =
     else (if bytes_eq tag (codes "Floor") then after (sorts_and_one o) (λ r. one_read pattern (floor r.0 r.1) r.2) else double_tagged pattern o tag))))
 
 -- And and Or: under patterns, else first and second; where all three are missing, it is patterns that is missing
-abbrev pub sort_and_list : PatternReader → Members → Data → Data → Reading (KoreSort × KorePatterns)
-sort_and_list pattern o sort list =
+abbrev pub sort_and_list : PatternReader → Data → Data → Reading (KoreSort × KorePatterns)
+sort_and_list pattern sort list =
     after (tree_in (codes "sort") sort) (λ t. after (trees_in (codes "patterns") list) (λ ds.
     after (sort_reading t) (λ s. after (pattern_items pattern (codes "patterns") ds) (λ ps. read (s, ps)))))
 
@@ -173,7 +174,7 @@ abbrev pub sort_and_pair : PatternReader → Members → Reading (KoreSort × Ko
 sort_and_pair pattern o = after (sort_and_two (codes "first") (codes "second") o) (λ r. after (pattern r.1) (λ p. after (pattern r.2) (λ q. read (r.0, next_pattern p (next_pattern q no_patterns)))))
 
 abbrev pub listed_or_pair : PatternReader → Members → Data → Option Data → Reading (KoreSort × KorePatterns)
-listed_or_pair pattern o sort (Some list) = sort_and_list pattern o sort list
+listed_or_pair pattern o sort (Some list) = sort_and_list pattern sort list
 listed_or_pair pattern o sort None =
     if is_none (get_member (codes "first") o) && is_none (get_member (codes "second") o) then fault (missing_member (codes "patterns"))
     else sort_and_pair pattern o
@@ -198,3 +199,26 @@ pattern_tagged pattern o tag =
 abbrev pub pattern_within : ℕ → Members → Reading KorePattern
 pattern_within zero o = fault nested_too_deep
 pattern_within (suc n) o = after (tag_of o) (pattern_tagged (pattern_within n) o)
+
+-- ---- the wrapper
+
+abbrev pub whole_in : Text → Data → Reading Num
+whole_in key d = after (or_fault (wrong_kind key) (as_number d)) (λ n. if is_float n then fault (wrong_kind key) else read n)
+
+abbrev pub is_one : Num → Bool
+is_one (unsigned n) = n == 1
+is_one n = false
+
+-- the term of a wrapper of format KORE and version 1
+abbrev pub wrapped_term : Members → Reading Members
+wrapped_term o =
+    after (member_at o (codes "format")) (λ format. after (member_at o (codes "version")) (λ version. after (member_at o (codes "term")) (λ term.
+    after (text_in (codes "format") format) (λ f. after (whole_in (codes "version") version) (λ v. after (tree_in (codes "term") term) (λ t.
+    if bytes_eq f (codes "KORE") then (if is_one v then read t else fault (wrong_format (codes "version"))) else fault (wrong_format (codes "format"))))))))
+
+-- what is no object has no format either
+abbrev pub wrapped_object : Data → Reading Members
+wrapped_object d = or_fault (missing_member (codes "format")) (as_object d)
+
+abbrev pub wrapped_reading : Data → Reading KorePattern
+wrapped_reading d = after (wrapped_object d) (λ o. after (wrapped_term o) (pattern_within most_patterns))

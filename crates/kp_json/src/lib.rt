@@ -1,10 +1,17 @@
-// Kore JSON: the members of objects, the sorts, and what each form of pattern has besides patterns are read exactly; else
-// the first fault is told.
+// Kore JSON: a pattern is read exactly from its tree, or the first fault is told.
 #![tactic(auto)]
 
 mod fault;
+pub mod laws;
 mod member;
 mod parts;
+mod pattern;
 mod sort;
+mod tree;
+mod vecs;
+mod wrapper;
+mod write;
 
 pub use fault::{JsonError, JsonFault};
+pub use wrapper::pattern_of;
+pub use write::value_of;
