@@ -1,7 +1,15 @@
+pub mod Applied
 pub mod Below
 pub mod Declaring
 pub mod FirstPlaces
 pub mod InstanceLemmas
 pub mod KnownSorts
+pub mod Marks
 pub mod Same
+pub mod NodeLemmas
+pub mod Numerals
+pub mod OwnSorts
+pub mod ReachLemmas
+pub mod ScopeLemmas
 pub mod SubsortPairs
+pub mod VerifyLemmas

@@ -1,7 +1,12 @@
 pub mod Examples
 pub mod Faults
+pub mod Kinds
 pub mod Names
+pub mod Nodes
 pub mod Places
+pub mod Reach
+pub mod Scopes
 pub mod Table
+pub mod Texts
 pub mod Verify
 pub mod View

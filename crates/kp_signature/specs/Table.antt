@@ -1,7 +1,9 @@
 -- How the code keeps a signature: the declarations in order, and for each name its first place among them.
-use Rattle.std.specs.Prelude.{◌≡◌, List, map}
+use Rattle.std.specs.Prelude.{◌≡◌, List, map, Option}
+use Rattle.std.specs.List.{find}
+use Rattle.std.specs.Option.{option_map}
 use Rattle.kp_kore.specs.Syntax.{Text, KoreSort, KoreSentence, SortDeclaration, SymbolDeclaration, AliasDeclaration}
-use Rattle.kp_kore.specs.Signature.{KoreSignature, sorts_in, symbols_in, aliases_in, subsorts_in}
+use Rattle.kp_kore.specs.Signature.{KoreSignature, sorts_in, symbols_in, aliases_in, subsorts_in, has_hook}
 use Rattle.kp_kore.specs.View.{sort_view, sort_sentence_view, symbol_sentence_view, alias_sentence_view}
 use Rattle.kp_signature.specs.Names.{Indexes}
 use Rattle.kp_signature.specs.declared.table.Subsort.{Subsort}
@@ -44,3 +46,7 @@ IsIndexed t =
     Indexes (sort_names (table_view t).sorts) t.sort_places
     × Indexes (symbol_names (table_view t).symbols) t.symbol_places
     × Indexes (alias_names (table_view t).aliases) t.alias_places
+
+-- the name of the first hooked sort with this hook
+abbrev pub name_hooked : Text → List SortDeclaration → Option Text
+name_hooked hook ds = option_map (λ d. d.name) (find (has_hook hook) ds)

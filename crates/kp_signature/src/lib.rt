@@ -3,16 +3,30 @@
 // or a law.
 #![tactic(auto)]
 
+mod applications;
+pub mod attributes;
 mod copies;
 mod error;
 pub mod examples;
-mod instance;
+mod hooked;
+pub mod instance;
+mod kinds;
 pub mod laws;
+mod literals;
 mod names;
+mod nodes;
+mod order;
+mod own;
 mod rules;
+mod scope;
 pub mod signature;
 mod subsorts;
 mod table;
+mod text;
+mod verification;
 
 pub use error::VerifyError;
 pub use signature::Signature;
+pub use table::Subsort;
+pub use text::sort_text;
+pub use verification::verify;

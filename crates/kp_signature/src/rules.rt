@@ -25,7 +25,8 @@ pub fn check_sort(alloc: Global, expected: Option<&Sort>, found: &Sort) -> Resul
     }
 }
 
-fn check_same(alloc: Global, expected: &Sort, found: &Sort) -> Result<(), VerifyError>
+/// The same of a sort that is expected.
+pub fn check_same(alloc: Global, expected: &Sort, found: &Sort) -> Result<(), VerifyError>
     ensures ok { OnOk result (difference (Some (sort_view expected.now)) (Some (sort_view found.now)) ≡ None) }
     ensures err { IfErr result (λ e. (f : VerifyFault) → fault_view e ≡ Some f → difference (Some (sort_view expected.now)) (Some (sort_view found.now)) ≡ Some f) }
 {

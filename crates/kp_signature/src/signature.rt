@@ -1,25 +1,34 @@
-ghost use Rattle.kp_signature.specs.Table.{IsIndexed};
+ghost use Rattle.std.specs.Prelude.{◌≡◌, codes, string_bytes};
+ghost use Rattle.std.specs.Option.{option_map};
+ghost use Rattle.std.proofs.Props.{props};
+ghost use Rattle.kp_signature.specs.Table.{IsIndexed, table_view, name_hooked};
 
-use crate::table::Table;
+use crate::hooked::first_hooked;
+use crate::table::{Subsort, Table};
 use kp_kore::{AliasSentence, Module, Name, Sort, SortSentence, SymbolSentence};
 use std::alloc::{AllocError, Global};
 
 /// The signature of a definition: what the sentences of its modules declare.
+#[derive(Drop)]
 pub struct Signature {
     table: Table,
+    integers: Option<Name>,
+    booleans: Option<Name>,
     ghost indexed: { IsIndexed table },
+    ghost integers_named: { option_map string_bytes integers ≡ name_hooked (codes "INT.Int") (table_view table).sorts } by { Prim.hlevel props },
+    ghost booleans_named: { option_map string_bytes booleans ≡ name_hooked (codes "BOOL.Bool") (table_view table).sorts } by { Prim.hlevel props },
 }
 
 impl Signature {
-    ghost use Rattle.std.specs.Prelude.{◌≡◌, ◌↔◌, IfOk, IsTrue, None, length, string_bytes};
-    ghost use Rattle.kp_kore.specs.Signature.{signature_of, symbol_declared, alias_declared};
+    ghost use Rattle.std.specs.Prelude.{◌↔◌, IfOk, IsTrue, None, length, map};
+    ghost use Rattle.kp_kore.specs.Signature.{signature_of, symbol_declared, alias_declared, integer_sort, boolean_sort};
     ghost use Rattle.kp_kore.specs.View.{sort_view, sorts_view, sort_sentence_view, symbol_sentence_view, alias_sentence_view};
-    ghost use Rattle.kp_kore.specs.Syntax.{KoreSorts};
+    ghost use Rattle.kp_kore.specs.Syntax.{KoreSorts, sort_of, no_sorts};
     ghost use Rattle.kp_kore.specs.Parts.{sort_list};
     ghost use Rattle.kp_signature.specs.Places.{unknown_sort_in, unknown_sort_among, is_known};
     ghost use Rattle.std.specs.List.{find};
-    ghost use Rattle.std.specs.Option.{option_map};
     ghost use Rattle.std.specs.Str.{bytes_eq};
+    ghost use Rattle.kp_signature.specs.Table.{subsort_view};
     ghost use Rattle.kp_signature.specs.View.{signature_view, sentences_of};
 
     /// What the sentences of these modules declare, in order.
@@ -30,7 +39,13 @@ impl Signature {
         for module in modules {
             table.add_all(alloc, &module.sentences)?;
         }
-        Ok(Signature { table })
+        let integers = first_hooked(&table.sorts, "INT.Int")?;
+        let booleans = first_hooked(&table.sorts, "BOOL.Bool")?;
+        Ok(Signature {
+            table,
+            integers,
+            booleans,
+        })
     }
 
     /// The first declaration of a sort of this name.
@@ -61,6 +76,34 @@ impl Signature {
             Some(place) => self.table.aliases.get(*place),
             None => None,
         }
+    }
+
+    /// The declarations of symbols, in order.
+    pub fn symbols(&self) -> &[SymbolSentence]
+        ensures { map symbol_sentence_view result.now ≡ (signature_view self.now).symbols }
+    {
+        &self.table.symbols
+    }
+
+    /// The name of the sort of whole numbers, the first hooked sort with `INT.Int`.
+    pub fn integer_sort(&self) -> Option<&Name>
+        ensures { option_map (λ n. sort_of (string_bytes n.now) no_sorts) result ≡ integer_sort (signature_view self.now) }
+    {
+        self.integers.as_ref()
+    }
+
+    /// The name of the sort of truth values, the first hooked sort with `BOOL.Bool`.
+    pub fn boolean_sort(&self) -> Option<&Name>
+        ensures { option_map (λ n. sort_of (string_bytes n.now) no_sorts) result ≡ boolean_sort (signature_view self.now) }
+    {
+        self.booleans.as_ref()
+    }
+
+    /// The pairs of sorts that the attributes `subsort{A,B}()` give, in order.
+    pub fn subsorts(&self) -> &[Subsort]
+        ensures { map subsort_view result.now ≡ (signature_view self.now).subsorts }
+    {
+        &self.table.subsorts
     }
 
     /// Whether a sort and all sorts in it are declared, with as many arguments as they take.
