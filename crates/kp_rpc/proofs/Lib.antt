@@ -1,3 +1,4 @@
+mod Floats
 mod HeadingsRead
 mod OptionsRead
 mod ParamsRead

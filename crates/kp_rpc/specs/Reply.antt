@@ -7,6 +7,7 @@ use Rattle.serde_json.specs.Data.{Data, Num, unsigned, negative, number, string}
 use Rattle.serde_json.specs.Written.{compact_text}
 use Rattle.kp_kore.specs.Syntax.{Text, KoreSort, KorePattern, conjunction, no_patterns, next_pattern}
 use Rattle.kp_json.specs.Members.{object_of}
+use Rattle.kp_json.specs.Faults.{TreeFault, unknown_tag, missing_member, wrong_kind, wrong_format, nested_too_deep}
 use Rattle.kp_json.specs.Written.{wrapped_pattern}
 use Rattle.kp_semantics.specs.Replies.{Reason, stuck, depth_bound, IsRightExecuted}
 use Rattle.kp_semantics.specs.Theory.{Theory}
@@ -23,35 +24,33 @@ pub record WrittenState : Type 0 where
   pub term : KorePattern
   pub predicate : Option KorePattern
 
+-- {"term":K}
+abbrev pub term_state : Data → Data
+term_state term = object_of ((codes "term", term) ∷ [])
+
 -- {"term":K} and {"predicate":K,"term":K}
 abbrev pub state_tree : WrittenState → Option Data
 state_tree s = with_predicate s.predicate (wrapped_pattern s.term)
   where
     with_predicate : Option KorePattern → Option Data → Option Data
-    with_predicate None term = option_map (λ t. object_of ((codes "term", t) ∷ [])) term
+    with_predicate None term = option_map term_state term
     with_predicate (Some p) term = option_and_then (λ t. option_map (λ k. object_of ((codes "predicate", k) ∷ (codes "term", t) ∷ [])) (wrapped_pattern p)) term
 
--- {"depth":d,"reason":r,"state":S}
 pub record ExecuteResult : Type 0 where
   pub depth : ℕ
   pub reason : Reason
   pub state : WrittenState
 
+-- {"depth":d,"reason":r,"state":S}
+abbrev pub result_object : ℕ → Reason → Data → Data
+result_object depth reason state = object_of ((codes "depth", number (unsigned depth)) ∷ (codes "reason", string (reason_text reason)) ∷ (codes "state", state) ∷ [])
+
 abbrev pub result_tree : ExecuteResult → Option Data
-result_tree r = option_map (λ s. object_of ((codes "depth", number (unsigned r.depth)) ∷ (codes "reason", string (reason_text r.reason)) ∷ (codes "state", s) ∷ [])) (state_tree r.state)
+result_tree r = option_map (result_object r.depth r.reason) (state_tree r.state)
 
 -- ---- errors
 
--- what is wrong with a tree that spells no pattern: no such tag, a member missing, of another kind, another format or
--- version, nested too deep
-pub data JsonFault : Type 0 where
-  no_tag : Text → JsonFault
-  missing : Text → JsonFault
-  other_kind : Text → JsonFault
-  other_format : Text → JsonFault
-  too_deep : JsonFault
-
--- what is wrong with a pattern: an unknown sort or symbol, a number of arguments, two sorts that differ, a number too
+-- what is wrong with a tree that spells no pattern is a TreeFault; with a pattern: an unknown sort or symbol, a number of arguments, two sorts that differ, a number too
 -- wide, a term too deep, no literal of its sort; a foreign symbol; a shape that isn't read
 pub data VerifyFault : Type 0 where
   unknown_sort : Text → VerifyFault
@@ -70,7 +69,7 @@ pub data RequestError : Type 0 where
   method_not_found : RequestError
   invalid_params : RequestError
   no_module : Text → RequestError
-  no_pattern : JsonFault → RequestError
+  no_pattern : TreeFault → RequestError
   not_verified : VerifyFault → RequestError
 
 abbrev pub kind_only : Text → Data
@@ -79,12 +78,12 @@ kind_only kind = object_of ((codes "kind", string kind) ∷ [])
 abbrev pub kind_and_name : Text → Text → Data
 kind_and_name kind name = object_of ((codes "kind", string kind) ∷ (codes "name", string name) ∷ [])
 
-abbrev pub json_fault_data : JsonFault → Data
-json_fault_data (no_tag name) = kind_and_name (codes "J1") name
-json_fault_data (missing name) = kind_and_name (codes "J2") name
-json_fault_data (other_kind name) = kind_and_name (codes "J3") name
-json_fault_data (other_format name) = kind_and_name (codes "J4") name
-json_fault_data too_deep = kind_only (codes "J5")
+abbrev pub tree_fault_data : TreeFault → Data
+tree_fault_data (unknown_tag name) = kind_and_name (codes "J1") name
+tree_fault_data (missing_member name) = kind_and_name (codes "J2") name
+tree_fault_data (wrong_kind name) = kind_and_name (codes "J3") name
+tree_fault_data (wrong_format name) = kind_and_name (codes "J4") name
+tree_fault_data nested_too_deep = kind_only (codes "J5")
 
 abbrev pub verify_fault_data : VerifyFault → Data
 verify_fault_data (unknown_sort name) = kind_and_name (codes "V1") name
@@ -109,7 +108,7 @@ error_parts invalid_request = record { code = negative (negsuc 32599); message =
 error_parts method_not_found = record { code = negative (negsuc 32600); message = codes "Method not found"; details = None }
 error_parts invalid_params = record { code = negative (negsuc 32601); message = codes "Invalid params"; details = None }
 error_parts (no_module name) = record { code = unsigned 3; message = codes "Could not find module"; details = Some (object_of ((codes "name", string name) ∷ [])) }
-error_parts (no_pattern f) = record { code = unsigned 1; message = codes "Could not parse pattern"; details = Some (json_fault_data f) }
+error_parts (no_pattern f) = record { code = unsigned 1; message = codes "Could not parse pattern"; details = Some (tree_fault_data f) }
 error_parts (not_verified f) = record { code = unsigned 2; message = codes "Could not verify pattern"; details = Some (verify_fault_data f) }
 
 -- {"code":c,"data":d,"message":m}

@@ -5,10 +5,18 @@ use Rattle.serde_json.specs.Data.{unsigned}
 use Rattle.serde_json.specs.Find.{of_integer}
 use Rattle.kp_kore.specs.Syntax.{Text}
 use Rattle.kp_rpc.specs.Request.{RequestId, id_text, id_number, id_null, ExecuteOptions}
-use Rattle.kp_rpc.specs.Reply.{RequestError, parse_error, invalid_request, method_not_found, invalid_params}
+use Rattle.kp_json.specs.View.{fault_view}
+use Rattle.kp_semantics.specs.Replies as replies
+use Rattle.kp_rpc.specs.Reply.{RequestError, parse_error, invalid_request, method_not_found, invalid_params, no_module, no_pattern, not_verified, VerifyFault, unknown_sort, unknown_symbol, other_number, sorts_differ, wide_number, deep_term, no_literal, foreign_symbol, other_shape}
+use Rattle.kp_rpc.specs.declared.fault.PatternFault.{PatternFault}
+use Rattle.kp_rpc.specs.declared.fault.PatternFault.TheVariants as pattern
+use Rattle.kp_rpc.specs.declared.fault.StateFault.{StateFault}
+use Rattle.kp_rpc.specs.declared.fault.StateFault.TheVariants as state
 use Rattle.kp_rpc.specs.declared.id.Id.{Id}
 use Rattle.kp_rpc.specs.declared.id.Id.TheVariants as id
 use Rattle.kp_rpc.specs.declared.params.Options.{Options}
+use Rattle.kp_rpc.specs.declared.executed.Reason.{Reason}
+use Rattle.kp_rpc.specs.declared.executed.Reason.TheVariants as reason
 use Rattle.kp_rpc.specs.declared.request.Refusal.{Refusal}
 use Rattle.kp_rpc.specs.declared.request.Refusal.TheVariants as refusal
 
@@ -30,3 +38,23 @@ refusal_view refusal.ParseError = parse_error
 refusal_view refusal.InvalidRequest = invalid_request
 refusal_view refusal.MethodNotFound = method_not_found
 refusal_view refusal.InvalidParams = invalid_params
+
+abbrev pub pattern_fault_view : PatternFault → VerifyFault
+pattern_fault_view (pattern.UnknownSort sort) = unknown_sort (string_bytes sort)
+pattern_fault_view (pattern.UnknownSymbol name) = unknown_symbol (string_bytes name)
+pattern_fault_view (pattern.OtherNumber name) = other_number (string_bytes name)
+pattern_fault_view (pattern.SortsDiffer expected found) = sorts_differ (string_bytes expected) (string_bytes found)
+pattern_fault_view (pattern.WideNumber text) = wide_number (string_bytes text)
+pattern_fault_view pattern.DeepTerm = deep_term
+pattern_fault_view (pattern.NoLiteral text) = no_literal (string_bytes text)
+pattern_fault_view (pattern.ForeignSymbol name) = foreign_symbol (string_bytes name)
+pattern_fault_view pattern.OtherShape = other_shape
+
+abbrev pub state_fault_view : StateFault → RequestError
+state_fault_view (state.Json f) = no_pattern (fault_view f)
+state_fault_view (state.Verify f) = not_verified (pattern_fault_view f)
+state_fault_view (state.NoModule name) = no_module (string_bytes name)
+
+abbrev pub reason_view : Reason → replies.Reason
+reason_view reason.Stuck = replies.stuck
+reason_view reason.DepthBound = replies.depth_bound

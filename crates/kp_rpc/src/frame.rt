@@ -1,7 +1,7 @@
-ghost use Rattle.std.specs.Prelude.{◌≡◌, IfOk, IfErr};
+ghost use Rattle.std.specs.Prelude.{◌≡◌, ◌↔◌, IfOk, IfErr, IsTrue};
 ghost use Rattle.serde_json.specs.Data.{Data};
 ghost use Rattle.serde_json.specs.View.{view};
-ghost use Rattle.kp_rpc.specs.Frame.{IsFrame};
+ghost use Rattle.kp_rpc.specs.Frame.{IsFrame, IsWhite, is_white};
 ghost use Rattle.kp_rpc.specs.declared.frame.FrameError.TheVariants.{NoFrame};
 
 use serde_json::Value;
@@ -36,4 +36,23 @@ pub fn frame_of(alloc: Global, bytes: &[u8]) -> Result<Value, FrameError>
             Err(FrameError::NoFrame)
         },
     }
+}
+
+// Space, tab, carriage return or line feed.
+fn is_white_byte(byte: u8) -> bool
+    ensures { result ≡ is_white byte }
+{
+    byte == b' ' || byte == b'\t' || byte == b'\r' || byte == b'\n'
+}
+
+/// Whether the bytes are nothing but white space, which asks for no reply.
+pub fn is_white(bytes: &[u8]) -> bool
+    ensures { IsTrue result ↔ IsWhite bytes.now }
+{
+    for byte in bytes {
+        if !is_white_byte(*byte) {
+            return false;
+        }
+    }
+    true
 }

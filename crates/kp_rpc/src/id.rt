@@ -1,11 +1,12 @@
 ghost use Rattle.std.specs.Prelude.{◌≡◌, option_map, option_and_then, IfOk, codes};
 ghost use Rattle.serde_json.specs.Find.{get};
 ghost use Rattle.serde_json.specs.View.{view, number_view};
+ghost use Rattle.kp_rpc.specs.Request.{id_tree};
 ghost use Rattle.kp_rpc.specs.View.{id_view};
 ghost use Rattle.kp_rpc.specs.Readings.{read_id, read_number_id};
 
 use serde_json::{Number, Value};
-use std::alloc::{AllocError, Global};
+use std::alloc::AllocError;
 
 /// The id of a request, which its reply carries.
 #[derive(Drop)]
@@ -51,5 +52,17 @@ pub fn id_at(value: &Value) -> Result<Option<Id>, AllocError>
     match value.get("id") {
         Some(member) => id_of(member),
         None => Ok(None),
+    }
+}
+
+// The tree of an id.
+pub fn id_value(id: &Id) -> Result<Value, AllocError>
+    ensures { IfOk result (λ v. view v ≡ id_tree (id_view id.now)) }
+{
+    match id {
+        Id::Text(text) => Ok(Value::from(text.clone()?)),
+        Id::Unsigned(n) => Ok(Value::from(*n)),
+        Id::Signed(z) => Ok(Value::from(*z)),
+        Id::Null => Ok(Value::Null),
     }
 }

@@ -4,14 +4,18 @@
 #![tactic(auto)]
 
 pub mod examples;
+mod executed;
+mod fault;
 mod frame;
 mod id;
 mod params;
 mod reply;
 mod request;
 
-pub use frame::{FrameError, frame_of};
+pub use executed::{Reason, result_text};
+pub use fault::{PatternFault, StateFault, fault_text};
+pub use frame::{FrameError, frame_of, is_white};
 pub use id::Id;
-pub use params::{Options, ParamsError, state_of};
+pub use params::{Options, ParamsError, bound_of, state_of};
 pub use reply::refusal_text;
 pub use request::{Execute, Parsed, Refusal, request_of};

@@ -2,6 +2,7 @@ ghost use Rattle.std.specs.Prelude.{◌≡◌, Option, Some, None, List, option_
 ghost use Rattle.serde_json.specs.Data.{array};
 ghost use Rattle.serde_json.specs.Find.{get};
 ghost use Rattle.serde_json.specs.View.{view, items_view};
+ghost use Rattle.kp_rpc.specs.Request.{bound_of};
 ghost use Rattle.kp_rpc.specs.View.{texts_view, options_view};
 ghost use Rattle.kp_rpc.specs.Readings.{read_number, read_text, read_texts, read_items, read_options, read_object, read_state, read_all_options};
 ghost use Rattle.kp_rpc.specs.declared.params.ParamsError.TheVariants.{OtherKind};
@@ -16,6 +17,18 @@ pub struct Options {
     pub module_name: Option<String>,
     pub cut_points: Vec<String>,
     pub terminals: Vec<String>,
+}
+
+const MOST_DEPTH: u64 = 10_000;
+
+/// How many steps a run may take at most: `max-depth`, but no more than 10,000, which also holds where there is none.
+pub fn bound_of(options: &Options) -> u64
+    ensures { result ≡ bound_of (options_view options.now) }
+{
+    match options.max_depth {
+        Some(depth) => depth.min(MOST_DEPTH),
+        None => MOST_DEPTH,
+    }
 }
 
 /// Why params aren't read.

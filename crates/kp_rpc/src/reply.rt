@@ -2,26 +2,13 @@ ghost use Rattle.std.specs.Prelude.{◌≡◌, IfOk, false};
 ghost use Rattle.serde_json.specs.Find.{of_integer};
 ghost use Rattle.serde_json.specs.View.{view};
 ghost use Rattle.serde_json.specs.Written.{has_float};
-ghost use Rattle.kp_rpc.specs.Request.{id_tree};
 ghost use Rattle.kp_rpc.specs.Reply.{error_reply, error_parts, reply_bytes};
 ghost use Rattle.kp_rpc.specs.View.{id_view, refusal_view};
 
-use crate::id::Id;
+use crate::id::{Id, id_value};
 use crate::request::Refusal;
 use serde_json::{Value, json};
 use std::alloc::{AllocError, Global};
-
-// The tree of an id.
-fn id_value(alloc: Global, id: &Id) -> Result<Value, AllocError>
-    ensures { IfOk result (λ v. view v ≡ id_tree (id_view id.now)) }
-{
-    match id {
-        Id::Text(text) => Ok(Value::from(text.clone()?)),
-        Id::Unsigned(n) => Ok(Value::from(*n)),
-        Id::Signed(z) => Ok(Value::from(*z)),
-        Id::Null => Ok(Value::Null),
-    }
-}
 
 // The code of a refusal.
 fn code_of(refusal: Refusal) -> i64
@@ -51,7 +38,7 @@ fn message_of(refusal: Refusal) -> &'static str
 fn refusal_value(alloc: Global, id: &Id, refusal: Refusal) -> Result<Value, AllocError>
     ensures { IfOk result (λ v. view v ≡ error_reply (id_view id.now) (refusal_view refusal)) }
 {
-    let id_member = id_value(alloc, id)?;
+    let id_member = id_value(id)?;
     json!(in alloc; {
         "error": {"code": code_of(refusal), "message": message_of(refusal)},
         "id": id_member,
@@ -60,7 +47,7 @@ fn refusal_value(alloc: Global, id: &Id, refusal: Refusal) -> Result<Value, Allo
 }
 
 // The compact text of a tree, and one line feed.
-fn line_of(alloc: Global, tree: &Value) -> Result<Vec<u8>, AllocError>
+pub fn line_of(alloc: Global, tree: &Value) -> Result<Vec<u8>, AllocError>
     ensures { IfOk result (λ b. has_float (view tree.now) ≡ false → b.items ≡ reply_bytes (view tree.now)) }
 {
     let mut line = tree.to_vec(alloc)?;

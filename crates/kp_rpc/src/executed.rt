@@ -1,0 +1,85 @@
+ghost use Rattle.std.specs.Prelude.{◌≡◌, IfOk, false, None, option_map};
+ghost use Rattle.serde_json.specs.View.{view};
+ghost use Rattle.serde_json.specs.Written.{has_float};
+ghost use Rattle.kp_kore.specs.View.{view as pattern_view};
+ghost use Rattle.kp_rpc.specs.Reply.{reason_text, result_tree, result_object, term_state, result_reply, reply_bytes};
+ghost use Rattle.kp_rpc.specs.View.{id_view, reason_view};
+
+use crate::id::{Id, id_value};
+use crate::reply::line_of;
+use kp_kore::Pattern;
+use serde_json::{Value, json};
+use std::alloc::{AllocError, Global};
+
+/// Why a run ended.
+#[derive(Clone, Copy, Debug, PartialEq, Eq, Drop)]
+pub enum Reason {
+    /// No rule fires, below the bound.
+    Stuck,
+    /// The run is as long as its bound.
+    DepthBound,
+}
+
+// The word for a reason.
+fn reason_word(reason: Reason) -> &'static str
+    ensures { result.now ≡ reason_text (reason_view reason) }
+{
+    match reason {
+        Reason::Stuck => "stuck",
+        Reason::DepthBound => "depth-bound",
+    }
+}
+
+// The tree of a result, from the tree of its state's term.
+fn result_value(alloc: Global, depth: u64, reason: Reason, term: Value) -> Result<Value, AllocError>
+    ensures { IfOk result (λ v. view v ≡ result_object depth (reason_view reason) (term_state (view term))) }
+{
+    let state = json!(in alloc; {"term": term})?;
+    json!(in alloc; {"depth": depth, "reason": reason_word(reason), "state": state})
+}
+
+// The tree of the reply with a result.
+fn reply_value(alloc: Global, id: &Id, outcome: Value) -> Result<Value, AllocError>
+    ensures { IfOk result (λ v. view v ≡ result_reply (id_view id.now) (view outcome)) }
+{
+    let id_member = id_value(id)?;
+    json!(in alloc; {"id": id_member, "jsonrpc": "2.0", "result": outcome})
+}
+
+// The bytes of the reply with a result, from the tree of its state's term.
+fn written_text(
+    alloc: Global,
+    id: &Id,
+    depth: u64,
+    reason: Reason,
+    term: Value,
+) -> Result<Vec<u8>, AllocError>
+    ensures { IfOk result (λ b. has_float (view term) ≡ false
+        → b.items ≡ reply_bytes (result_reply (id_view id.now) (result_object depth (reason_view reason) (term_state (view term))))) }
+{
+    let outcome = result_value(alloc, depth, reason, term)?;
+    let tree = reply_value(alloc, id, outcome)?;
+    line_of(alloc, &tree)
+}
+
+/// The bytes of the reply with the result of a run: it ended for `reason` after `depth` steps in the state `term`,
+/// which has no predicate. None where Kore JSON has no tag for a pattern in the term.
+/// Source: the K Haskell backend's JSON-RPC documentation (execute).
+///
+/// # Errors
+/// Where memory runs out.
+pub fn result_text(
+    alloc: Global,
+    id: &Id,
+    depth: u64,
+    reason: Reason,
+    term: &Pattern,
+) -> Result<Option<Vec<u8>>, AllocError>
+    ensures { IfOk result (λ o. option_map (λ b. b.items) o ≡ option_map (λ t. reply_bytes (result_reply (id_view id.now) t))
+        (result_tree (record { depth = depth; reason = reason_view reason; state = record { term = pattern_view term.now; predicate = None } }))) }
+{
+    match kp_json::value_of(alloc, term)? {
+        Some(tree) => Ok(Some(written_text(alloc, id, depth, reason, tree)?)),
+        None => Ok(None),
+    }
+}
