@@ -1,0 +1,85 @@
+-- Sorts and arguments by their number.
+use Rattle.std.proofs.Common.{◌≡◌, refl, sym, ◌∙◌, ap, ap₂, ℕ, Bool, true, false, ◌&&◌, ◌==◌, List, [], ◌∷◌, length, get_or, String, nat_le}
+use Rattle.std.specs.declared.alloc.Global.{Global}
+use Rattle.std.proofs.lemmas.Bool.Decides.{Decides-eqb}
+use Rattle.kp_kore.specs.Syntax.{KoreSort, conjunction}
+use Rattle.kp_kore.specs.Signature.{KoreSignature, are_two, are_one}
+use Rattle.kp_kore.specs.Parts.{sort_list, is_term}
+use Rattle.kp_kore.specs.View.{names_view, sort_view, sorts_view, view, patterns_view}
+use Rattle.kp_kore.specs.declared.sort.Sort.{Sort}
+use Rattle.kp_kore.specs.declared.pattern.Pattern.{Pattern}
+use Rattle.kp_semantics.specs.Value.{no_values, next_value}
+use Rattle.kp_semantics.specs.Instance.{Valuation, instance, instances, is_conjoined_pair}
+use Rattle.kp_signature.proofs.KnownSorts.{number_of_sorts}
+
+pub two_sorts : (test : KoreSort → Bool) (ss : List Sort) (a b : Sort) → length ss ≡ 2 → a ≡ get_or ss 0 a → b ≡ get_or ss 1 b → are_two test (sorts_view ss) ≡ test (sort_view a) && test (sort_view b)
+two_sorts test [] a b h p q = absurd (cc)
+two_sorts test (x ∷ []) a b h p q = absurd (cc)
+two_sorts test (x ∷ y ∷ []) a b h p q = ap₂ (λ s t. test (sort_view s) && test (sort_view t)) (sym p) (sym q)
+two_sorts test (x ∷ y ∷ z ∷ zs) a b h p q = absurd (cc)
+
+pub not_two_sorts : (test : KoreSort → Bool) (ss : List Sort) → (length ss ≡ 2 → ⊥) → are_two test (sorts_view ss) ≡ false
+not_two_sorts test [] h = refl
+not_two_sorts test (x ∷ []) h = refl
+not_two_sorts test (x ∷ y ∷ []) h = absurd (h refl)
+not_two_sorts test (x ∷ y ∷ z ∷ zs) h = refl
+
+pub one_sort : (test : KoreSort → Bool) (ss : List Sort) (a : Sort) → length ss ≡ 1 → a ≡ get_or ss 0 a → are_one test (sorts_view ss) ≡ test (sort_view a)
+one_sort test [] a h p = absurd (cc)
+one_sort test (x ∷ []) a h p = ap (λ s. test (sort_view s)) (sym p)
+one_sort test (x ∷ y ∷ ys) a h p = absurd (cc)
+
+pub not_one_sort : (test : KoreSort → Bool) (ss : List Sort) → (length ss ≡ 1 → ⊥) → are_one test (sorts_view ss) ≡ false
+not_one_sort test [] h = refl
+not_one_sort test (x ∷ []) h = absurd (h refl)
+not_one_sort test (x ∷ y ∷ ys) h = refl
+
+pub one_argument : (g : KoreSignature) (v : Valuation) (ps : List Pattern) (p : Pattern) → length ps ≡ 1 → p ≡ get_or ps 0 p → instances g v (patterns_view ps) ≡ next_value (instance g v (view p)) no_values
+one_argument g v [] p h e = absurd (cc)
+one_argument g v (a ∷ []) p h e = ap (λ q. next_value (instance g v (view q)) no_values) (sym e)
+one_argument g v (a ∷ b ∷ ps) p h e = absurd (cc)
+
+pub two_arguments : (g : KoreSignature) (v : Valuation) (ps : List Pattern) (p q : Pattern) → length ps ≡ 2 → p ≡ get_or ps 0 p → q ≡ get_or ps 1 q → instances g v (patterns_view ps) ≡ next_value (instance g v (view p)) (next_value (instance g v (view q)) no_values)
+two_arguments g v [] p q h e f = absurd (cc)
+two_arguments g v (a ∷ []) p q h e f = absurd (cc)
+two_arguments g v (a ∷ b ∷ []) p q h e f = ap₂ (λ r s. next_value (instance g v (view r)) (next_value (instance g v (view s)) no_values)) (sym e) (sym f)
+two_arguments g v (a ∷ b ∷ d ∷ ps) p q h e f = absurd (cc)
+
+another_number : (n : ℕ) (b : Bool) → (n == 2) ≡ b → (n ≡ 2 → ⊥) → b ≡ false
+another_number n true e h = absurd (h ((Decides-eqb n 2).0 e))
+another_number n false e h = refl
+
+pub two_of_any : (ss : List Sort) → (length ss == 2) ≡ are_two (λ s. true) (sorts_view ss)
+two_of_any [] = refl
+two_of_any (x ∷ []) = refl
+two_of_any (x ∷ y ∷ []) = refl
+two_of_any (x ∷ y ∷ z ∷ zs) = another_number (length (x ∷ y ∷ z ∷ zs)) _ refl (λ e. absurd (cc))
+
+-- no parameters, and so many arguments
+pub plain_by_length : (ps : List (String Global)) (ss : List Sort) (m n : ℕ) → m ≡ length ps → m ≡ 0 → n ≡ length ss → nat_le n 64 ≡ (length (names_view ps) == 0) && nat_le (length (sort_list (sorts_view ss))) 64
+plain_by_length [] ss m n e z f = ap (λ k. nat_le k 64) (f ∙ sym (number_of_sorts ss))
+plain_by_length (p ∷ ps) ss m n e z f = absurd (cc)
+
+-- ---- conjunctions that aren't of two terms
+
+pub not_two_conjoined : (s : KoreSort) (ps : List Pattern) → (length ps ≡ 2 → ⊥) → is_conjoined_pair (conjunction s (patterns_view ps)) ≡ false
+not_two_conjoined s [] h = refl
+not_two_conjoined s (x ∷ []) h = refl
+not_two_conjoined s (x ∷ y ∷ []) h = absurd (h refl)
+not_two_conjoined s (x ∷ y ∷ z ∷ zs) h = refl
+
+no_second : (a b : Bool) → b ≡ false → a && b ≡ false
+no_second true b h = h
+no_second false b h = refl
+
+pub first_no_term : (s : KoreSort) (ps : List Pattern) (p : Pattern) → p ≡ get_or ps 0 p → is_term (view p) ≡ false → is_conjoined_pair (conjunction s (patterns_view ps)) ≡ false
+first_no_term s [] p e h = refl
+first_no_term s (x ∷ []) p e h = refl
+first_no_term s (x ∷ y ∷ []) p e h = ap (λ q. is_term (view q) && is_term (view y)) (sym e) ∙ ap (λ b. b && is_term (view y)) h
+first_no_term s (x ∷ y ∷ z ∷ zs) p e h = refl
+
+pub second_no_term : (s : KoreSort) (ps : List Pattern) (p : Pattern) → p ≡ get_or ps 1 p → is_term (view p) ≡ false → is_conjoined_pair (conjunction s (patterns_view ps)) ≡ false
+second_no_term s [] p e h = refl
+second_no_term s (x ∷ []) p e h = refl
+second_no_term s (x ∷ y ∷ []) p e h = no_second (is_term (view x)) (is_term (view y)) (ap (λ q. is_term (view q)) (sym e) ∙ h)
+second_no_term s (x ∷ y ∷ z ∷ zs) p e h = refl

@@ -1,0 +1,47 @@
+-- What compiled terms, left terms and conditions have to do with their patterns.
+use Rattle.std.specs.Prelude.{◌≡◌, true, List}
+use Rattle.std.specs.Bool.{Decides}
+use Rattle.std.specs.List.{AllZip}
+use Rattle.kp_kore.specs.Syntax.{KoreSort, KorePattern, conjunction, no_patterns, next_pattern}
+use Rattle.kp_kore.specs.Parts.{is_term}
+use Rattle.kp_kore.specs.Signature.{KoreSignature}
+use Rattle.kp_kore.specs.View.{view}
+use Rattle.kp_kore.specs.declared.pattern.Pattern.{Pattern}
+use Rattle.kp_semantics.specs.Instance.{Valuation, instance, IsTrueUnder}
+use Rattle.kp_ground.specs.Terms.{term_value, left_value}
+use Rattle.kp_ground.specs.TermView.{term_view}
+use Rattle.kp_ground.specs.LeftView.{left_view}
+use Rattle.kp_ground.specs.Conditions.{condition_holds}
+use Rattle.kp_ground.specs.ConditionView.{condition_view}
+use Rattle.kp_ground.specs.declared.term.Term.{Term}
+use Rattle.kp_ground.specs.declared.left.Left.{Left}
+use Rattle.kp_ground.specs.declared.condition.Condition.{Condition}
+
+-- under every valuation the term has the pattern's instance
+abbrev pub IsTermOf : KoreSignature → KorePattern → Term → Type 0
+IsTermOf g p t = (v : Valuation) → term_value v (term_view t) ≡ instance g v p
+
+-- the same of a left term
+abbrev pub IsLeftOf : KoreSignature → KorePattern → Left → Type 0
+IsLeftOf g p l = (v : Valuation) → left_value v (left_view l) ≡ instance g v p
+
+-- the condition holds under exactly those valuations under which the predicate is true
+abbrev pub IsConditionOf : KoreSignature → KorePattern → Condition → Type 0
+IsConditionOf g p c = (v : Valuation) → Decides (condition_holds v (condition_view c)) (IsTrueUnder g v p)
+
+-- the same of lists, one by one
+abbrev pub AreTermsOf : KoreSignature → List Pattern → List Term → Type 0
+AreTermsOf g = AllZip (λ p t. IsTermOf g (view p) t)
+
+abbrev pub AreLeftsOf : KoreSignature → List Pattern → List Left → Type 0
+AreLeftsOf g = AllZip (λ p l. IsLeftOf g (view p) l)
+
+abbrev pub AreConditionsOf : KoreSignature → List Pattern → List Condition → Type 0
+AreConditionsOf g = AllZip (λ p c. IsConditionOf g (view p) c)
+
+-- the pattern is the conjunction of two terms
+pub record IsPairOf (p first second : KorePattern) : Type 0 where
+  pub sort : KoreSort
+  pub pattern : p ≡ conjunction sort (next_pattern first (next_pattern second no_patterns))
+  pub first_term : is_term first ≡ true
+  pub second_term : is_term second ≡ true

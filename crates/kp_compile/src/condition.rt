@@ -1,0 +1,218 @@
+ghost use Rattle.std.specs.Prelude.{◌≡◌, false, map, IfOk, MatchOption};
+ghost use Rattle.std.specs.Bool.{Decides};
+ghost use Rattle.std.specs.List.{AllByRecursion};
+ghost use Rattle.kp_kore.specs.Syntax.{KoreSort, ceil, floor};
+ghost use Rattle.kp_kore.specs.View.{view};
+ghost use Rattle.kp_semantics.specs.Instance.{Valuation, instance, IsTrueUnder, is_conjoined_pair};
+ghost use Rattle.kp_ground.specs.Conditions.{always, denial, all_of, any_of, implied, equivalent, same, condition_holds};
+ghost use Rattle.kp_ground.specs.ConditionView.{condition_view, conditions_of};
+ghost use Rattle.kp_ground.specs.TermView.{term_view};
+ghost use Rattle.kp_signature.specs.View.{signature_view};
+ghost use Rattle.kp_compile.specs.Exact.{IsConditionOf, AreConditionsOf, IsPairOf};
+
+use crate::error::CompileError;
+use crate::shape::is_term;
+use crate::term::compile_term;
+use kp_ground::{Condition, Term};
+use kp_kore::Pattern;
+use kp_signature::Signature;
+use std::alloc::{AllocError, Global};
+
+/// Not the condition.
+fn make_denial(alloc: Global, condition: Condition) -> Result<Condition, AllocError>
+    ensures { IfOk result (λ c. condition_view c ≡ denial (condition_view condition)) }
+{
+    Ok(Condition::Not {
+        condition: Box::new(alloc, condition)?,
+    })
+}
+
+/// All of the conditions.
+fn make_all(conditions: Vec<Condition>) -> Condition
+    ensures { condition_view result ≡ all_of (conditions_of (map condition_view conditions.items)) }
+{
+    Condition::All { conditions }
+}
+
+/// Some of the conditions.
+fn make_any(conditions: Vec<Condition>) -> Condition
+    ensures { condition_view result ≡ any_of (conditions_of (map condition_view conditions.items)) }
+{
+    Condition::Any { conditions }
+}
+
+/// The terms have the same value.
+fn make_equality(left: Term, right: Term) -> Condition
+    ensures { condition_view result ≡ same (term_view left) (term_view right) }
+{
+    Condition::Same { left, right }
+}
+
+/// The first condition implies the second.
+fn make_implied(alloc: Global, left: Condition, right: Condition) -> Result<Condition, AllocError>
+    ensures { IfOk result (λ c. condition_view c ≡ implied (condition_view left) (condition_view right)) }
+{
+    Ok(Condition::Implies {
+        left: Box::new(alloc, left)?,
+        right: Box::new(alloc, right)?,
+    })
+}
+
+/// Both conditions hold, or neither.
+fn make_equivalent(
+    alloc: Global,
+    left: Condition,
+    right: Condition,
+) -> Result<Condition, AllocError>
+    ensures { IfOk result (λ c. condition_view c ≡ equivalent (condition_view left) (condition_view right)) }
+{
+    Ok(Condition::Iff {
+        left: Box::new(alloc, left)?,
+        right: Box::new(alloc, right)?,
+    })
+}
+
+/// Two terms have the same value.
+fn make_same(
+    alloc: Global,
+    signature: &Signature,
+    left: &Pattern,
+    right: &Pattern,
+) -> Result<Condition, CompileError>
+    ensures { IfOk result (λ c. (v : Valuation) → Decides (condition_holds v (condition_view c)) (instance (signature_view signature.now) v (view left.now) ≡ instance (signature_view signature.now) v (view right.now))) }
+{
+    let left = compile_term(alloc, signature, left)?;
+    let right = compile_term(alloc, signature, right)?;
+    Ok(make_equality(left, right))
+}
+
+/// A term always has an instance.
+fn defined(alloc: Global, signature: &Signature, term: &Pattern) -> Result<Condition, CompileError>
+    ensures { IfOk result (λ c. condition_view c ≡ always) }
+{
+    compile_term(alloc, signature, term)?;
+    Ok(Condition::Always)
+}
+
+/// The two terms of a conjunction of two terms.
+fn conjoined_pair(pattern: &Pattern) -> Option<(&Pattern, &Pattern)>
+    ensures { MatchOption result (is_conjoined_pair (view pattern.now) ≡ false) (λ pair. IsPairOf (view pattern.now) (view pair.0.now) (view pair.1.now)) }
+{
+    match pattern {
+        Pattern::And { patterns, .. } => {
+            if patterns.len() == 2 && is_term(&patterns[0]) && is_term(&patterns[1]) {
+                Some((&patterns[0], &patterns[1]))
+            } else {
+                None
+            }
+        }
+        _ => None,
+    }
+}
+
+/// The condition that a predicate is.
+#[cycle(compile)]
+fn condition_of(
+    pattern: &Pattern,
+    alloc: Global,
+    signature: &Signature,
+) -> Result<Condition, CompileError>
+    ensures { IfOk result (IsConditionOf (signature_view signature.now) (view pattern.now)) }
+{
+    match pattern {
+        Pattern::Top { .. } => Ok(Condition::Always),
+        Pattern::Bottom { .. } => Ok(Condition::Never),
+        Pattern::Not { pattern, .. } => {
+            let condition = condition_of(pattern, alloc, signature)?;
+            Ok(make_denial(alloc, condition)?)
+        }
+        Pattern::And { patterns, .. } => {
+            let conditions = compile_each(patterns, alloc, signature)?;
+            Ok(make_all(conditions))
+        }
+        Pattern::Or { patterns, .. } => {
+            let conditions = compile_each(patterns, alloc, signature)?;
+            Ok(make_any(conditions))
+        }
+        Pattern::Implies { left, right, .. } => {
+            let left = condition_of(left, alloc, signature)?;
+            let right = condition_of(right, alloc, signature)?;
+            Ok(make_implied(alloc, left, right)?)
+        }
+        Pattern::Iff { left, right, .. } => {
+            let left = condition_of(left, alloc, signature)?;
+            let right = condition_of(right, alloc, signature)?;
+            Ok(make_equivalent(alloc, left, right)?)
+        }
+        Pattern::Equals { left, right, .. } | Pattern::In { left, right, .. } => {
+            make_same(alloc, signature, left, right)
+        }
+        Pattern::Ceil { pattern, .. } => ceil_of(pattern, alloc, signature),
+        Pattern::Floor { pattern, .. } => floor_of(pattern, alloc, signature),
+        _ => Err(CompileError::Shape),
+    }
+}
+
+/// The condition that `\ceil` of a pattern is.
+#[cycle(compile)]
+fn ceil_of(
+    pattern: &Pattern,
+    alloc: Global,
+    signature: &Signature,
+) -> Result<Condition, CompileError>
+    ensures { IfOk result (λ c. (a s : KoreSort) → IsConditionOf (signature_view signature.now) (ceil a s (view pattern.now)) c) }
+{
+    if is_term(pattern) {
+        return defined(alloc, signature, pattern);
+    }
+    match conjoined_pair(pattern) {
+        Some((left, right)) => make_same(alloc, signature, left, right),
+        None => condition_of(pattern, alloc, signature),
+    }
+}
+
+/// The condition that `\floor` of a predicate is.
+#[cycle(compile)]
+fn floor_of(
+    pattern: &Pattern,
+    alloc: Global,
+    signature: &Signature,
+) -> Result<Condition, CompileError>
+    ensures { IfOk result (λ c. (a s : KoreSort) → IsConditionOf (signature_view signature.now) (floor a s (view pattern.now)) c) }
+{
+    if is_term(pattern) {
+        return Err(CompileError::Shape);
+    }
+    condition_of(pattern, alloc, signature)
+}
+
+/// The conditions that predicates are, one by one.
+#[cycle(compile)]
+fn compile_each(
+    patterns: &[Pattern],
+    alloc: Global,
+    signature: &Signature,
+) -> Result<Vec<Condition>, CompileError>
+    ensures { IfOk result (λ cs. AreConditionsOf (signature_view signature.now) patterns.now cs.items) }
+{
+    let mut conditions = Vec::new(alloc);
+    for pattern in patterns {
+        conditions.push(condition_of(pattern, alloc, signature)?)?;
+    }
+    Ok(conditions)
+}
+
+/// The conjunction of these predicates. A quantifier, or `\floor` of a term, is a Shape.
+pub fn compile_condition(
+    alloc: Global,
+    signature: &Signature,
+    predicates: &[&Pattern],
+) -> Result<Condition, CompileError>
+    ensures { IfOk result (λ c. (v : Valuation) → Decides (condition_holds v (condition_view c)) (AllByRecursion (λ p. IsTrueUnder (signature_view signature.now) v (view p.now)) predicates.now)) }
+{
+    let mut conditions = Vec::new(alloc);
+    for predicate in predicates {
+        conditions.push(condition_of(predicate, alloc, signature)?)?;
+    }
+    Ok(make_all(conditions))
+}

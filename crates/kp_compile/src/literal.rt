@@ -1,0 +1,51 @@
+ghost use Rattle.std.specs.Prelude.{◌≡◌, IfOk, string_bytes};
+ghost use Rattle.std.specs.Str.Parse.{signed_digits_value};
+ghost use Rattle.kp_kore.specs.View.{sort_view};
+ghost use Rattle.kp_semantics.specs.Instance.{literal_value as value_written};
+ghost use Rattle.kp_ground.specs.View.{value_view};
+ghost use Rattle.kp_signature.specs.View.{signature_view};
+
+use crate::error::CompileError;
+use kp_ground::Value;
+use kp_kore::{Name, Sort};
+use kp_signature::Signature;
+use std::alloc::Global;
+use std::num::IntErrorKind;
+
+/// The number that a text writes.
+fn whole_number(text: &str) -> Result<i128, CompileError>
+    ensures { IfOk result (λ n. n ≡ signed_digits_value 10 text.now) }
+{
+    match text.parse::<i128>() {
+        Ok(number) => Ok(number),
+        Err(error) => match error.kind() {
+            IntErrorKind::PosOverflow | IntErrorKind::NegOverflow => Err(CompileError::Number),
+            _ => Err(CompileError::Shape),
+        },
+    }
+}
+
+/// The value that a literal of a sort writes.
+pub fn literal_value(
+    alloc: Global,
+    signature: &Signature,
+    sort: &Sort,
+    text: &Name,
+) -> Result<Value, CompileError>
+    ensures { IfOk result (λ u. value_view u ≡ value_written (signature_view signature.now) (sort_view sort.now) (string_bytes text.now)) }
+{
+    if signature.is_integer_sort(sort) {
+        Ok(Value::Whole {
+            number: whole_number(text)?,
+        })
+    } else if signature.is_boolean_sort(sort) {
+        Ok(Value::Truth {
+            holds: text.as_str() == "true",
+        })
+    } else {
+        Ok(Value::Token {
+            sort: sort.copy(alloc)?,
+            text: text.clone()?,
+        })
+    }
+}

@@ -1,0 +1,143 @@
+ghost use Rattle.std.specs.Prelude.{◌≡◌, IfOk, map, string_bytes};
+ghost use Rattle.kp_kore.specs.View.{view, patterns_view};
+ghost use Rattle.kp_kore.specs.Signature.{meaning_of as meaning_named};
+ghost use Rattle.kp_semantics.specs.Instance.{Valuation, applied, instances};
+ghost use Rattle.kp_ground.specs.HookView.{hook_view};
+ghost use Rattle.kp_ground.specs.Terms.{built, call, opposite, term_value};
+ghost use Rattle.kp_ground.specs.TermView.{term_view, terms_of};
+ghost use Rattle.kp_signature.specs.View.{signature_view};
+ghost use Rattle.kp_compile.specs.Exact.{IsTermOf, AreTermsOf};
+
+use crate::error::CompileError;
+use crate::function::Function;
+use crate::literal::literal_value;
+use crate::meaning::{Meaning, meaning_of};
+use kp_ground::{Hook, Term};
+use kp_kore::{Name, Pattern};
+use kp_signature::Signature;
+use std::alloc::{AllocError, Global};
+use std::rc::Rc;
+
+/// The same name, to be shared.
+pub fn shared_name(alloc: Global, name: &Name) -> Result<Rc<String>, AllocError>
+    ensures { IfOk result (λ shared. string_bytes shared.value ≡ string_bytes name.now) }
+{
+    Ok(Rc::new(alloc, name.clone()?)?)
+}
+
+/// A constructor with its arguments.
+fn make_built(constructor: Rc<String>, arguments: Vec<Term>) -> Term
+    ensures { term_view result ≡ built (string_bytes constructor.value) (terms_of (map term_view arguments.items)) }
+{
+    Term::Built {
+        constructor,
+        arguments,
+    }
+}
+
+/// A call of two terms.
+fn make_call(alloc: Global, hook: Hook, left: Term, right: Term) -> Result<Term, AllocError>
+    ensures { IfOk result (λ t. term_view t ≡ call (hook_view hook) (term_view left) (term_view right)) }
+{
+    Ok(Term::Call {
+        hook,
+        left: Box::new(alloc, left)?,
+        right: Box::new(alloc, right)?,
+    })
+}
+
+/// The opposite of a term.
+fn make_opposite(alloc: Global, term: Term) -> Result<Term, AllocError>
+    ensures { IfOk result (λ t. term_view t ≡ opposite (term_view term)) }
+{
+    Ok(Term::Opposite {
+        term: Box::new(alloc, term)?,
+    })
+}
+
+/// The term that a pattern is, with the same value under every valuation.
+#[cycle(compile)]
+fn term_of(pattern: &Pattern, alloc: Global, signature: &Signature) -> Result<Term, CompileError>
+    ensures { IfOk result (IsTermOf (signature_view signature.now) (view pattern.now)) }
+{
+    match pattern {
+        Pattern::Variable { name, .. } => Ok(Term::Variable {
+            name: name.clone()?,
+        }),
+        Pattern::Literal { sort, text } => Ok(Term::Fixed {
+            value: literal_value(alloc, signature, sort, text)?,
+        }),
+        Pattern::Application {
+            symbol,
+            arguments,
+            ..
+        } => compile_applied(arguments, alloc, signature, symbol),
+        _ => Err(CompileError::Shape),
+    }
+}
+
+/// The term of a name applied to arguments.
+#[cycle(compile)]
+fn compile_applied(
+    arguments: &[Pattern],
+    alloc: Global,
+    signature: &Signature,
+    name: &Name,
+) -> Result<Term, CompileError>
+    ensures { IfOk result (λ t. (v : Valuation) → term_value v (term_view t) ≡ applied (meaning_named (signature_view signature.now) (string_bytes name.now)) (string_bytes name.now) (instances (signature_view signature.now) v (patterns_view arguments.now))) }
+{
+    match meaning_of(signature, name) {
+        Meaning::Injection => match arguments {
+            [argument] => term_of(argument, alloc, signature),
+            _ => Err(CompileError::Shape),
+        },
+        Meaning::Constructor => {
+            let shared = shared_name(alloc, name)?;
+            let terms = compile_each(arguments, alloc, signature)?;
+            Ok(make_built(shared, terms))
+        }
+        Meaning::Interpreted(Function::Two(hook)) => match arguments {
+            [left, right] => {
+                let left = term_of(left, alloc, signature)?;
+                let right = term_of(right, alloc, signature)?;
+                Ok(make_call(alloc, hook, left, right)?)
+            }
+            _ => Err(CompileError::Shape),
+        },
+        Meaning::Interpreted(Function::Negation) => match arguments {
+            [argument] => {
+                let term = term_of(argument, alloc, signature)?;
+                Ok(make_opposite(alloc, term)?)
+            }
+            _ => Err(CompileError::Shape),
+        },
+        Meaning::Foreign => Err(CompileError::Foreign(name.clone()?)),
+    }
+}
+
+/// The terms that patterns are, one by one.
+#[cycle(compile)]
+fn compile_each(
+    patterns: &[Pattern],
+    alloc: Global,
+    signature: &Signature,
+) -> Result<Vec<Term>, CompileError>
+    ensures { IfOk result (λ ts. AreTermsOf (signature_view signature.now) patterns.now ts.items) }
+{
+    let mut terms = Vec::new(alloc);
+    for pattern in patterns {
+        terms.push(term_of(pattern, alloc, signature)?)?;
+    }
+    Ok(terms)
+}
+
+/// The term that a pattern is: it has the pattern's instance under every valuation.
+pub fn compile_term(
+    alloc: Global,
+    signature: &Signature,
+    pattern: &Pattern,
+) -> Result<Term, CompileError>
+    ensures { IfOk result (IsTermOf (signature_view signature.now) (view pattern.now)) }
+{
+    term_of(pattern, alloc, signature)
+}
