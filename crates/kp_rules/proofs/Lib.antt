@@ -1,0 +1,4 @@
+pub mod Firing
+pub mod Forms
+pub mod Numbers
+pub mod Sides

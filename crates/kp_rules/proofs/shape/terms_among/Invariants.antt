@@ -1,0 +1,9 @@
+use Rattle.std.proofs.Common.{◌≡◌, ◌++◌, drop}
+use Rattle.std.specs.List.{filter}
+use Rattle.kp_kore.specs.Parts.{is_term}
+use Rattle.kp_rules.specs.Shapes.{seen}
+use Rattle.kp_rules.proofs.shape.terms_among.Given as goal
+
+abbrev pub invariant-loop-pattern : goal.invariant-loop-pattern
+invariant-loop-pattern l =
+    seen l.found.items ++ filter is_term (seen (drop l.pattern-index l.patterns)) ≡ filter is_term (seen l.patterns)

@@ -1,0 +1,4 @@
+pub mod Heads
+pub mod OwnSorts
+pub mod Priorities
+pub mod Shapes

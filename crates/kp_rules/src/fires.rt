@@ -1,0 +1,113 @@
+// Where a rule that is read fires.
+ghost use Rattle.std.specs.Prelude.{◌≡◌, ◌↔◌, IfOk, IsTrue, IfSome, MatchOption, true, false};
+ghost use Rattle.std.specs.List.{AllByRecursion};
+ghost use Rattle.kp_kore.specs.Signature.{KoreSignature};
+ghost use Rattle.kp_signature.specs.View.{signature_view};
+ghost use Rattle.kp_semantics.specs.Value as model;
+ghost use Rattle.kp_semantics.specs.Instance.{Valuation};
+ghost use Rattle.kp_ground.specs.Solves.{Solves};
+ghost use Rattle.kp_ground.specs.Terms.{left_value};
+ghost use Rattle.kp_ground.specs.LeftView.{left_view};
+ghost use Rattle.kp_ground.specs.View.{value_view};
+ghost use Rattle.kp_rules.specs.Heads.{HasHead, FindsFiring, Binds, PassAs};
+
+use crate::rule::{Rewrite, SortTest};
+use crate::values::has_sort;
+use kp_ground::binding::find_binding;
+use kp_ground::{Binding, EvaluationError, Value};
+use kp_signature::Signature;
+use std::alloc::{AllocError, Global};
+
+/// Whether a tested variable is bound to a value of its sort; None where it isn't bound.
+fn passes(
+    test: &SortTest,
+    alloc: Global,
+    signature: &Signature,
+    bindings: &[Binding],
+) -> Result<Option<bool>, AllocError>
+    ensures { IfOk result (λ o. IfSome o (λ b. (v : Valuation) → Solves v bindings.now → IsTrue b ↔ HasHead (signature_view signature.now) v test.now)) }
+{
+    match find_binding(bindings, test.name.as_str()) {
+        Some(value) => Ok(Some(has_sort(alloc, signature, value, &test.sort)?)),
+        None => Ok(None),
+    }
+}
+
+/// The same of all tested variables.
+fn pass(
+    tests: &[SortTest],
+    alloc: Global,
+    signature: &Signature,
+    bindings: &[Binding],
+) -> Result<Option<bool>, AllocError>
+    ensures { IfOk result (λ o. IfSome o (λ b. (v : Valuation) → Solves v bindings.now → IsTrue b ↔ AllByRecursion (HasHead (signature_view signature.now) v) tests.now)) }
+{
+    for test in tests {
+        match passes(test, alloc, signature, bindings)? {
+            Some(passed) => {
+                if !passed {
+                    return Ok(Some(false));
+                }
+            }
+            None => return Ok(None),
+        }
+    }
+    Ok(Some(true))
+}
+
+impl Rewrite {
+    /// The bindings under which the rule fires on the value: the left term's instance is the value, the tested variables
+    /// have values of their sorts, and the condition holds.
+    pub fn fires(
+        &self,
+        alloc: Global,
+        signature: &Signature,
+        value: &Value,
+    ) -> Result<Option<Vec<Binding>>, EvaluationError>
+        ensures { FindsFiring result (signature_view signature.now) self.now (value_view value.now) }
+    {
+        match self.left.match_value(alloc, value, Vec::new(alloc))? {
+            Some(bindings) => self.fires_with(alloc, signature, bindings),
+            None => Ok(None),
+        }
+    }
+
+    /// The bindings of a match, where the tests pass and the condition holds.
+    fn fires_with(
+        &self,
+        alloc: Global,
+        signature: &Signature,
+        bindings: Vec<Binding>,
+    ) -> Result<Option<Vec<Binding>>, EvaluationError>
+        ensures { (u : model.Value) → Binds self.now bindings.items u → FindsFiring result (signature_view signature.now) self.now u }
+    {
+        match pass(&self.tests, alloc, signature, &bindings)? {
+            Some(passed) => self.fires_where(alloc, passed, bindings),
+            None => Err(EvaluationError::Unbound),
+        }
+    }
+
+    fn fires_where(
+        &self,
+        alloc: Global,
+        passed: bool,
+        bindings: Vec<Binding>,
+    ) -> Result<Option<Vec<Binding>>, EvaluationError>
+        ensures { (g : KoreSignature) (u : model.Value) → Binds self.now bindings.items u → PassAs g self.now bindings.items passed → FindsFiring result g self.now u }
+    {
+        if !passed {
+            return Ok(None);
+        }
+        match self.condition.holds(alloc, &bindings) {
+            Ok(holds) => Ok(keep_if(holds, bindings)),
+            Err(error) => Err(error),
+        }
+    }
+}
+
+/// The bindings where this is so.
+fn keep_if(is_so: bool, bindings: Vec<Binding>) -> Option<Vec<Binding>>
+    ensures { MatchOption result (is_so ≡ false) (λ kept. (kept.items ≡ bindings.items) × (is_so ≡ true)) }
+{
+    if is_so { Some(bindings) } else { None }
+}

@@ -1,0 +1,30 @@
+// Rules of a definition: from a rewrite axiom to a rule that runs, or to a foreign rule with what its left side may
+// stand for; where a rule fires, and which values a foreign rule may rewrite.
+#![tactic(auto)]
+
+mod depth;
+pub mod fires;
+mod form;
+mod inject;
+mod label;
+mod may_be;
+mod names;
+mod parts;
+pub mod priority;
+mod read;
+pub mod rule;
+mod shape;
+pub mod skeleton;
+pub mod sort_index;
+mod sort_key;
+mod sort_test;
+mod splits;
+mod values;
+
+pub use label::label_of;
+pub use priority::{Priority, USUAL_PRIORITY, priority_of};
+pub use read::read_rule;
+pub use rule::{Rewrite, Rule, RuleBody, RuleSet, SortTest};
+pub use skeleton::Skeleton;
+pub use sort_index::SortIndex;
+pub use values::{has_sort, own_sort};

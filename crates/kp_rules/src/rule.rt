@@ -1,0 +1,45 @@
+use crate::skeleton::Skeleton;
+use kp_ground::{Condition, Left, Term};
+use kp_kore::Sort;
+use kp_signature::Signature;
+
+/// A rule of a rule set. A smaller priority number goes first.
+#[derive(Drop)]
+pub struct Rule {
+    pub id: String,
+    pub priority: u32,
+    pub body: RuleBody,
+}
+
+/// What a rewrite axiom says, where all of it has a meaning; else what its left side may stand for.
+#[derive(Drop)]
+pub enum RuleBody {
+    Rewrite(Rewrite),
+    Foreign(Skeleton),
+}
+
+/// A rule that is read: matched by `left` and the sort tests, under `condition`, to `right`.
+#[derive(Drop)]
+pub struct Rewrite {
+    pub left: Left,
+    pub tests: Vec<SortTest>,
+    pub condition: Condition,
+    pub right: Term,
+    pub right_sort: Sort,
+    /// A new variable or an ensured condition other than `\top`: more than one configuration may follow, or none.
+    pub chooses: bool,
+}
+
+/// A left variable whose place doesn't give its sort, as under `inj` or alone at the top.
+#[derive(Drop)]
+pub struct SortTest {
+    pub name: String,
+    pub sort: Sort,
+}
+
+/// The rules of a definition in the order of its modules, and its signature.
+#[derive(Drop)]
+pub struct RuleSet {
+    pub signature: Signature,
+    pub rules: Vec<Rule>,
+}

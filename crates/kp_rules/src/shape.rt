@@ -1,0 +1,233 @@
+// The two sides of a rewrite axiom.
+ghost use Rattle.std.specs.Prelude.{◌≡◌, ◌++◌, IfOk, OnOk, not, Some, None, if◌then◌else◌};
+ghost use Rattle.std.specs.List.{filter, list_all};
+ghost use Rattle.std.specs.Option.{option_map};
+ghost use Rattle.kp_kore.specs.Syntax.{KoreSort, KorePattern, rewriting};
+ghost use Rattle.kp_kore.specs.Parts.{is_term as term_test};
+ghost use Rattle.kp_kore.specs.View.{view, patterns_view};
+ghost use Rattle.kp_semantics.specs.Instance.{is_named as named_among, conjuncts as conjuncts_of, all_conjuncts, is_predicate as predicate_test};
+ghost use Rattle.kp_semantics.specs.Rules.{only_one, top_binders, under_binders as what_is_bound, have_distinct_names, rewrite_of, constrained_term, joined as joined_sides};
+ghost use Rattle.kp_rules.specs.Shapes.{seen, variables_seen, side_of, side_view, rewrite_seen};
+
+use crate::form::{is_predicate, is_term};
+use kp_kore::{Name, Pattern, Sort};
+use std::alloc::{AllocError, Global};
+
+/// A conjunction, in any order and nesting, of one term and predicates.
+#[derive(Drop)]
+pub struct Side<'a> {
+    pub term: &'a Pattern,
+    pub predicates: Vec<&'a Pattern>,
+}
+
+/// A variable that `\exists` binds.
+#[derive(Drop)]
+pub struct Binder<'a> {
+    pub name: &'a Name,
+    pub sort: &'a Sort,
+}
+
+/// What `\exists` binds at the top, outermost first, and what stands under it.
+#[derive(Drop)]
+pub struct Bound<'a> {
+    pub variables: Vec<Binder<'a>>,
+    pub pattern: &'a Pattern,
+}
+
+/// The parts of a `\rewrites`: each side is a conjunction of one term and predicates, the right one maybe under
+/// `\exists` of different names.
+#[derive(Drop)]
+pub struct Shape<'a> {
+    pub left: Side<'a>,
+    pub right: Side<'a>,
+}
+
+#[cycle(conjuncts)]
+fn add_conjuncts<'a>(pattern: &'a Pattern, found: &mut Vec<&'a Pattern>) -> Result<(), AllocError>
+    ensures { OnOk result (seen found.new.items ≡ seen found.old.items ++ conjuncts_of (view pattern.now)) }
+{
+    match pattern {
+        Pattern::And { patterns, .. } => add_all_conjuncts(patterns, found),
+        _ => Ok(found.push(pattern)?),
+    }
+}
+
+#[cycle(conjuncts)]
+fn add_all_conjuncts<'a>(
+    patterns: &'a [Pattern],
+    found: &mut Vec<&'a Pattern>,
+) -> Result<(), AllocError>
+    ensures { OnOk result (seen found.new.items ≡ seen found.old.items ++ all_conjuncts (patterns_view patterns.now)) }
+{
+    for pattern in patterns {
+        add_conjuncts(pattern, found)?;
+    }
+    Ok(())
+}
+
+/// The members of a conjunction, in any nesting.
+fn conjuncts<'a>(alloc: Global, pattern: &'a Pattern) -> Result<Vec<&'a Pattern>, AllocError>
+    ensures { IfOk result (λ ps. seen ps.items ≡ conjuncts_of (view pattern.now)) }
+{
+    let mut found = Vec::new(alloc);
+    add_conjuncts(pattern, &mut found)?;
+    Ok(found)
+}
+
+fn terms_among<'a>(alloc: Global, patterns: &[&'a Pattern]) -> Result<Vec<&'a Pattern>, AllocError>
+    ensures { IfOk result (λ ps. seen ps.items ≡ filter term_test (seen patterns.now)) }
+{
+    let mut found = Vec::new(alloc);
+    for pattern in patterns {
+        if is_term(pattern) {
+            found.push(*pattern)?;
+        }
+    }
+    Ok(found)
+}
+
+fn others_among<'a>(alloc: Global, patterns: &[&'a Pattern]) -> Result<Vec<&'a Pattern>, AllocError>
+    ensures { IfOk result (λ ps. seen ps.items ≡ filter (λ p. not (term_test p)) (seen patterns.now)) }
+{
+    let mut found = Vec::new(alloc);
+    for pattern in patterns {
+        if !is_term(pattern) {
+            found.push(*pattern)?;
+        }
+    }
+    Ok(found)
+}
+
+fn are_predicates(patterns: &[&Pattern]) -> bool
+    ensures { result ≡ list_all predicate_test (seen patterns.now) }
+{
+    for pattern in patterns {
+        if !is_predicate(pattern) {
+            return false;
+        }
+    }
+    true
+}
+
+/// The one member of a list.
+fn only<'a>(terms: &[&'a Pattern]) -> Option<&'a Pattern>
+    ensures { option_map (λ p. view p.now) result ≡ only_one (seen terms.now) }
+{
+    if terms.len() == 1 {
+        Some(terms[0])
+    } else {
+        None
+    }
+}
+
+fn side_among<'a>(terms: &[&'a Pattern], predicates: Vec<&'a Pattern>) -> Option<Side<'a>>
+    ensures { option_map side_view result ≡ option_map (λ t. (t, seen predicates.entry.items)) (if list_all predicate_test (seen predicates.entry.items) then only_one (seen terms.now) else None) }
+{
+    if !are_predicates(&predicates) {
+        return None;
+    }
+    match only(terms) {
+        Some(term) => Some(Side { term, predicates }),
+        None => None,
+    }
+}
+
+/// The one term and the predicates of a side, where it is a conjunction of these.
+pub fn constrained_side<'a>(
+    alloc: Global,
+    pattern: &'a Pattern,
+) -> Result<Option<Side<'a>>, AllocError>
+    ensures { IfOk result (λ o. option_map side_view o ≡ side_of (view pattern.now)) }
+{
+    let members = conjuncts(alloc, pattern)?;
+    let terms = terms_among(alloc, &members)?;
+    let predicates = others_among(alloc, &members)?;
+    Ok(side_among(&terms, predicates))
+}
+
+#[cycle(binders)]
+fn add_binders<'a>(
+    pattern: &'a Pattern,
+    variables: &mut Vec<Binder<'a>>,
+) -> Result<&'a Pattern, AllocError>
+    ensures found { OnOk result (variables_seen variables.new.items ≡ variables_seen variables.old.items ++ top_binders (view pattern.now)) }
+    ensures rest { IfOk result (λ p. view p.now ≡ what_is_bound (view pattern.now)) }
+{
+    match pattern {
+        Pattern::Exists {
+            name,
+            name_sort,
+            pattern,
+            ..
+        } => {
+            variables.push(Binder {
+                name,
+                sort: name_sort,
+            })?;
+            add_binders(pattern, variables)
+        }
+        _ => Ok(pattern),
+    }
+}
+
+/// What `\exists` binds at the top, and what stands under it.
+fn under_binders<'a>(alloc: Global, pattern: &'a Pattern) -> Result<Bound<'a>, AllocError>
+    ensures found { IfOk result (λ b. variables_seen b.variables.items ≡ top_binders (view pattern.now)) }
+    ensures rest { IfOk result (λ b. view b.pattern.now ≡ what_is_bound (view pattern.now)) }
+{
+    let mut variables = Vec::new(alloc);
+    let pattern = add_binders(pattern, &mut variables)?;
+    Ok(Bound { variables, pattern })
+}
+
+fn is_named(name: &str, variables: &[Binder<'_>]) -> bool
+    ensures { result ≡ named_among name.now (variables_seen variables.now) }
+{
+    for variable in variables {
+        if variable.name.as_str() == name {
+            return true;
+        }
+    }
+    false
+}
+
+/// Whether no name stands twice. A pattern has no more binders than it has levels.
+fn are_distinct(variables: &[Binder<'_>]) -> bool
+    ensures { result ≡ have_distinct_names (variables_seen variables.now) }
+{
+    for i in 0..variables.len() {
+        if is_named(variables[i].name.as_str(), &variables[i + 1..]) {
+            return false;
+        }
+    }
+    true
+}
+
+/// The parts of `\rewrites`, where it has them.
+pub fn shape_of<'a>(
+    alloc: Global,
+    left: &'a Pattern,
+    right: &'a Pattern,
+) -> Result<Option<Shape<'a>>, AllocError>
+    ensures { (s : KoreSort) → IfOk result (λ o. option_map (rewrite_seen (view right.now)) o ≡ rewrite_of (rewriting s (view left.now) (view right.now))) }
+{
+    let bound = under_binders(alloc, right)?;
+    if !are_distinct(&bound.variables) {
+        return Ok(None);
+    }
+    let left = constrained_side(alloc, left)?;
+    let right = constrained_side(alloc, bound.pattern)?;
+    Ok(joined(left, right))
+}
+
+fn joined<'a>(left: Option<Side<'a>>, right: Option<Side<'a>>) -> Option<Shape<'a>>
+    ensures { (l r : KorePattern) → option_map side_view left.entry ≡ side_of l → option_map side_view right.entry ≡ side_of (what_is_bound r) → option_map (rewrite_seen r) result ≡ joined_sides l r (constrained_term l) (constrained_term (what_is_bound r)) }
+{
+    match left {
+        Some(left) => match right {
+            Some(right) => Some(Shape { left, right }),
+            None => None,
+        },
+        None => None,
+    }
+}
