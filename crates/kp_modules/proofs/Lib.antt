@@ -1,0 +1,11 @@
+pub mod Collect
+pub mod Declared
+pub mod Leaving
+pub mod Places
+pub mod Sentences
+pub mod Seen
+pub mod Settled
+pub mod Starting
+pub mod Stepping
+pub mod Twice
+pub mod Walking

@@ -1,0 +1,67 @@
+// Whether each import in a module that main reaches names a module.
+ghost use Rattle.std.specs.Prelude.{◌≡◌, ◌+◌, ◌<◌, OnOk, length};
+ghost use Rattle.std.specs.List.{AllByRecursion};
+ghost use Rattle.kp_modules.specs.Names.{PlacesAreBelow};
+ghost use Rattle.kp_modules.specs.Walks.{unseen_in};
+
+use crate::fault::LoadError;
+use crate::imports::{Mark, place_of, unseen};
+use crate::names::NamePlaces;
+use kp_kore::{Module, Sentence};
+use std::alloc::Global;
+
+/// M1 of the first import that names no module, from the module at `start` on, nearest first.
+pub fn check_imports(
+    alloc: Global,
+    modules: &[Module],
+    places: &NamePlaces,
+    start: usize,
+) -> Result<(), LoadError>
+    requires places { PlacesAreBelow places.now (length modules.now) }
+    requires start { start < length modules.now }
+{
+    let mut marks = unseen(alloc, modules.len())?;
+    let mut found = Vec::new(alloc);
+    note_place(&mut marks, &mut found, start)?;
+    let mut read = 0;
+    while read < found.len() {
+        let module = &modules[found[read]];
+        note_imports(&mut marks, &mut found, places, &module.sentences)?;
+        read += 1;
+    }
+    Ok(())
+}
+
+fn note_imports(
+    marks: &mut Vec<Mark>,
+    found: &mut Vec<usize>,
+    places: &NamePlaces,
+    sentences: &[Sentence],
+) -> Result<(), LoadError>
+    requires places { PlacesAreBelow places.now (length marks.old.items) }
+    requires found { AllByRecursion (λ p. p < length marks.old.items) found.old.items }
+    ensures len { length marks.new.items ≡ length marks.old.items }
+    ensures found { AllByRecursion (λ p. p < length marks.old.items) found.new.items }
+    ensures count { OnOk result (unseen_in marks.new.items + length found.new.items ≡ unseen_in marks.old.items + length found.old.items) }
+{
+    for sentence in sentences {
+        if let Sentence::Import { name, .. } = sentence {
+            note_place(marks, found, place_of(places, name)?)?;
+        }
+    }
+    Ok(())
+}
+
+fn note_place(marks: &mut Vec<Mark>, found: &mut Vec<usize>, place: usize) -> Result<(), LoadError>
+    requires place { place < length marks.old.items }
+    requires found { AllByRecursion (λ p. p < length marks.old.items) found.old.items }
+    ensures len { length marks.new.items ≡ length marks.old.items }
+    ensures found { AllByRecursion (λ p. p < length marks.old.items) found.new.items }
+    ensures count { OnOk result (unseen_in marks.new.items + length found.new.items ≡ unseen_in marks.old.items + length found.old.items) }
+{
+    if marks[place] == Mark::Unseen {
+        found.push(place)?;
+        marks[place] = Mark::Done;
+    }
+    Ok(())
+}
