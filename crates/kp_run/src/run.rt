@@ -1,0 +1,49 @@
+use crate::error::RunError;
+use crate::state::State;
+use crate::step::next_state;
+use kp_rules::RuleSet;
+use std::alloc::Global;
+
+/// Why a run ends.
+#[derive(Clone, Copy, Debug, PartialEq, Eq)]
+pub enum Stop {
+    /// No rule fires.
+    Stuck,
+    /// So many steps were taken as may be.
+    DepthBound,
+}
+
+/// The end of a run: the number of steps, why it ends, and the last state.
+#[derive(Drop)]
+pub struct Executed {
+    pub depth: u64,
+    pub stop: Stop,
+    pub state: State,
+}
+
+/// Runs the rule set from a state for at most `bound` steps.
+pub fn execute(
+    alloc: Global,
+    rules: &RuleSet,
+    state: State,
+    bound: u64,
+) -> Result<Executed, RunError> {
+    let mut state = state;
+    for depth in 0..bound {
+        match next_state(alloc, rules, &state)? {
+            Some(next) => state = next,
+            None => {
+                return Ok(Executed {
+                    depth,
+                    stop: Stop::Stuck,
+                    state,
+                });
+            }
+        }
+    }
+    Ok(Executed {
+        depth: bound,
+        stop: Stop::DepthBound,
+        state,
+    })
+}
