@@ -1,0 +1,3 @@
+pub mod Five
+pub mod Lines
+pub mod Spelled
