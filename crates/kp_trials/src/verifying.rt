@@ -1,0 +1,81 @@
+use kp_kore::Sort;
+use kp_signature::{Signature, VerifyError, sort_text, verify};
+use kp_text::{read_definition, read_pattern};
+use std::alloc::Global;
+use std::test::Fail;
+
+const DEFINITION: &str = r#"[]
+module COUNTING
+  hooked-sort SortInt{} [hook{}("INT.Int")]
+  sort SortS{} []
+  symbol Lblcount{}(SortInt{}) : SortS{} [constructor{}()]
+  symbol Lbldone{}() : SortS{} [constructor{}()]
+endmodule []
+"#;
+
+/// A code and a name.
+fn told(alloc: Global, code: &str, name: &str) -> Result<String, Fail> {
+    let mut text = String::from_str(alloc, code)?;
+    text.push_str(name)?;
+    Ok(text)
+}
+
+/// The code of a fault with its name, or with the sort that is expected.
+fn fault_text(alloc: Global, error: VerifyError) -> Result<String, Fail> {
+    match error {
+        VerifyError::Memory => Err(Fail::from("memory")),
+        VerifyError::UnknownSort { sort } => sort_told(alloc, "V1 ", &sort),
+        VerifyError::UnknownSymbol { name } => told(alloc, "V2 ", &name),
+        VerifyError::WrongNumber { name } => told(alloc, "V3 ", &name),
+        VerifyError::SortDiffers { expected, .. } => sort_told(alloc, "V4 ", &expected),
+        VerifyError::NumberTooWide { text } => told(alloc, "V5 ", &text),
+        VerifyError::TermTooDeep => told(alloc, "V6", ""),
+        VerifyError::NoLiteral { text } => told(alloc, "V7 ", &text),
+    }
+}
+
+/// A code and the text of a sort.
+fn sort_told(alloc: Global, code: &str, sort: &Sort) -> Result<String, Fail> {
+    let name = sort_text(alloc, sort)?;
+    told(alloc, code, &name)
+}
+
+/// The sort of a pattern's text over the definition, or its first fault.
+fn verified(alloc: Global, text: &str) -> Result<String, Fail> {
+    let Ok(definition) = read_definition(alloc, DEFINITION.as_bytes()) else {
+        return Err(Fail::from("no definition"));
+    };
+    let mut modules = Vec::new(alloc);
+    for module in &definition.modules {
+        modules.push(module)?;
+    }
+    let signature = Signature::new(alloc, &modules)?;
+    let Ok(pattern) = read_pattern(alloc, text.as_bytes()) else {
+        return Err(Fail::from("no pattern"));
+    };
+    match verify(alloc, &signature, &pattern) {
+        Ok(sort) => Ok(sort_text(alloc, &sort)?),
+        Err(error) => fault_text(alloc, error),
+    }
+}
+
+#[test]
+fn patterns_have_their_sort_or_their_first_fault(rt: HostRuntime) -> Result<(), Fail> {
+    let rows = [
+        (r#"Lblcount{}(\dv{SortInt{}}("+2"))"#, "SortS{}"),
+        (r#"Lblcount{}(\dv{SortNope{}}("2"))"#, "V1 SortNope{}"),
+        ("Lblnope{}()", "V2 Lblnope"),
+        ("Lblcount{}()", "V3 Lblcount"),
+        ("Lblcount{}(Lbldone{}())", "V4 SortInt{}"),
+        (
+            r#"Lblcount{}(\dv{SortInt{}}("170141183460469231731687303715884105728"))"#,
+            "V5 170141183460469231731687303715884105728",
+        ),
+        (r#"Lblcount{}(\dv{SortInt{}}("two"))"#, "V7 two"),
+    ];
+    for (text, told) in &rows {
+        let found = verified(rt.alloc(), *text)?;
+        assert_eq!(rt; found.as_str(), *told);
+    }
+    Ok(())
+}
