@@ -1,0 +1,110 @@
+#!/usr/bin/env python3
+"""Writes inputs for measuring kprove by hand: large definitions, long chains, deep nests.
+
+    make.py KIND NUMBER [FILE]
+
+KIND is one of: rules, sorts, modules, chain, arguments, deep-sort, deep-pattern, deep-and, deep-fold, wide-fold,
+deep-attribute, labels, subsorts. NUMBER is how many. The text goes to FILE, or to standard output.
+"""
+import sys
+
+HEAD = """  hooked-sort SortBool{} [hook{}("BOOL.Bool"), hasDomainValues{}()]
+  hooked-sort SortInt{} [hook{}("INT.Int"), hasDomainValues{}()]
+  symbol inj{From, To}(From) : To [sortInjection{}()]
+  hooked-symbol Lblsub{}(SortInt{}, SortInt{}) : SortInt{} [hook{}("INT.sub"), function{}()]
+  hooked-symbol Lblgt{}(SortInt{}, SortInt{}) : SortBool{} [hook{}("INT.gt"), function{}()]
+  hooked-symbol Lbleq{}(SortInt{}, SortInt{}) : SortBool{} [hook{}("INT.eq"), function{}()]
+  sort SortS{} []
+  symbol Lblcount{}(SortInt{}) : SortS{} [constructor{}()]
+  symbol Lbldone{}() : SortS{} [constructor{}()]
+  axiom{} \\rewrites{SortS{}}(\\and{SortS{}}(Lblcount{}(N:SortInt{}), \\equals{SortBool{}, SortS{}}(Lblgt{}(N:SortInt{}, \\dv{SortInt{}}("0")), \\dv{SortBool{}}("true"))), Lblcount{}(Lblsub{}(N:SortInt{}, \\dv{SortInt{}}("1")))) [label{}("dec")]
+  axiom{} \\rewrites{SortS{}}(\\and{SortS{}}(Lblcount{}(N:SortInt{}), \\equals{SortBool{}, SortS{}}(Lbleq{}(N:SortInt{}, \\dv{SortInt{}}("0")), \\dv{SortBool{}}("true"))), Lbldone{}()) [label{}("stop")]
+"""
+
+
+def module(body, name="TOYS", imports=""):
+    return f"module {name}\n{imports}{body}endmodule []\n"
+
+
+def rules(n):
+    lines = []
+    for i in range(n):
+        lines.append(f"  symbol Lbls{i}{{}}(SortInt{{}}) : SortS{{}} [constructor{{}}()]\n")
+        lines.append(f"  axiom{{}} \\rewrites{{SortS{{}}}}(Lbls{i}{{}}(N:SortInt{{}}), Lbls{i}{{}}(Lblsub{{}}(N:SortInt{{}}, \\dv{{SortInt{{}}}}(\"1\")))) [label{{}}(\"r{i}\")]\n")
+    return "[]\n" + module(HEAD + "".join(lines))
+
+
+def labels(n):
+    lines = [f"  axiom{{}} \\rewrites{{SortS{{}}}}(Lbldone{{}}(), Lbldone{{}}()) [label{{}}(\"same\"), priority{{}}(\"60\")]\n" for _ in range(n)]
+    return "[]\n" + module(HEAD + "".join(lines))
+
+
+def sorts(n):
+    lines = [f"  sort SortX{i}{{}} []\n  symbol Lblx{i}{{}}() : SortX{i}{{}} [constructor{{}}()]\n" for i in range(n)]
+    return "[]\n" + module(HEAD + "".join(lines))
+
+
+def subsorts(n):
+    lines = ["  sort SortK{} []\n"]
+    for i in range(n):
+        lines.append(f"  sort SortX{i}{{}} []\n")
+        lines.append(f"  axiom{{R}} \\top{{R}}() [subsort{{SortX{i}{{}}, SortK{{}}}}()]\n")
+    for i in range(1, n):
+        lines.append(f"  axiom{{R}} \\top{{R}}() [subsort{{SortX{i - 1}{{}}, SortX{i}{{}}}}()]\n")
+    lines.append("  symbol Lblk{}(SortK{}) : SortS{} [constructor{}()]\n")
+    lines.append("  axiom{} \\rewrites{SortS{}}(Lblk{}(inj{SortX0{}, SortK{}}(X:SortX0{})), Lbldone{}()) [label{}(\"k\")]\n")
+    return "[]\n" + module(HEAD + "".join(lines))
+
+
+def modules(n):
+    parts = [f"module M{i}\nendmodule []\n" for i in range(n)]
+    imports = "".join(f"  import M{i} []\n" for i in range(n))
+    return "[]\n" + "".join(parts) + module(HEAD, imports=imports)
+
+
+def chain(n):
+    parts = ["module M0\nendmodule []\n"]
+    parts += [f"module M{i}\n  import M{i - 1} []\nendmodule []\n" for i in range(1, n)]
+    return "[]\n" + "".join(parts) + module(HEAD, imports=f"  import M{n - 1} []\n")
+
+
+def arguments(n):
+    return "[]\n" + module(HEAD + f"  symbol Lblwide{{}}({','.join(['SortInt{}'] * n)}) : SortS{{}} [constructor{{}}()]\n")
+
+
+def axiom(pattern, attributes=""):
+    return "[]\n" + module(HEAD + f"  axiom{{}} {pattern} [{attributes}]\n")
+
+
+def deep_sort(n):
+    return axiom("\\top{" + "S{" * n + "}" * n + "}()")
+
+
+def deep_pattern(n):
+    return axiom("\\not{SortS{}}(" * n + "\\top{SortS{}}()" + ")" * n)
+
+
+def deep_and(n):
+    return axiom("\\and{SortS{}}(" * n + "\\top{SortS{}}()" + ")" * n)
+
+
+def deep_fold(n):
+    return axiom("\\left-assoc{}(\\and{SortS{}}(" * n + "\\top{SortS{}}()" + "))" * n)
+
+
+def wide_fold(n):
+    return axiom("\\left-assoc{}(f{}(" + ",".join(["x:S"] * n) + "))")
+
+
+def deep_attribute(n):
+    return axiom("\\top{SortS{}}()", "a{}(" * n + ")" * n)
+
+
+def main():
+    kind, number = sys.argv[1], int(sys.argv[2])
+    text = globals()[kind.replace("-", "_")](number)
+    out = open(sys.argv[3], "w") if len(sys.argv) > 3 else sys.stdout
+    out.write(text)
+
+
+main()
