@@ -1,5 +1,5 @@
 -- The fault that an error tells.
-use Rattle.std.specs.Prelude.{ℕ, Option, Some, None, string_bytes}
+use Rattle.std.specs.Prelude.{ℕ, Option, Some, None, string_bytes, codes}
 use Rattle.kp_kore.specs.Syntax.{Text}
 use Rattle.kp_modules.specs.declared.fault.LoadError.{LoadError}
 use Rattle.kp_modules.specs.declared.fault.LoadError.TheVariants as error
@@ -28,6 +28,16 @@ told_fault (told.DuplicateSymbol n) = duplicate_symbol (string_bytes n)
 told_fault (told.DuplicateModule n) = duplicate_module (string_bytes n)
 told_fault (told.RuleFault i) = rule_fault i
 told_fault told.NoMainModule = no_main_module
+
+-- the code that is shown of a fault
+abbrev pub fault_code : Fault → Text
+fault_code (unknown_import n) = codes "M1"
+fault_code import_cycle = codes "M2"
+fault_code (duplicate_sort n) = codes "M3"
+fault_code (duplicate_symbol n) = codes "M4"
+fault_code (duplicate_module n) = codes "M5"
+fault_code (rule_fault i) = codes "M6"
+fault_code no_main_module = codes "M8"
 
 -- want of memory tells none
 abbrev pub fault_view : LoadError → Option Fault

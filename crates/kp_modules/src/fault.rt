@@ -20,8 +20,13 @@ pub enum ModuleFault {
 }
 
 impl ModuleFault {
+    ghost use Rattle.std.specs.Prelude.{◌≡◌};
+    ghost use Rattle.kp_modules.specs.Faults.{fault_code, told_fault};
+
     /// The code of the fault, as `M1`.
-    pub fn code(&self) -> &'static str {
+    pub fn code(&self) -> &'static str
+        ensures { result.now ≡ fault_code (told_fault self.now) }
+    {
         match self {
             ModuleFault::UnknownImport(_) => "M1",
             ModuleFault::ImportCycle => "M2",

@@ -1,3 +1,6 @@
+ghost use Rattle.std.specs.Prelude.{◌≡◌, ◌<◌, ◌≤◌, IfOk};
+ghost use Rattle.kp_run.specs.declared.run.Stop.TheVariants.{Stuck, DepthBound};
+
 use crate::error::RunError;
 use crate::state::State;
 use crate::step::next_state;
@@ -27,7 +30,11 @@ pub fn execute(
     rules: &RuleSet,
     state: State,
     bound: u64,
-) -> Result<Executed, RunError> {
+) -> Result<Executed, RunError>
+    ensures within { IfOk result (λ e. e.depth ≤ bound) }
+    ensures stuck { IfOk result (λ e. e.stop ≡ Stuck → e.depth < bound) }
+    ensures at_bound { IfOk result (λ e. e.stop ≡ DepthBound → e.depth ≡ bound) }
+{
     let mut state = state;
     for depth in 0..bound {
         match next_state(alloc, rules, &state)? {
