@@ -1,12 +1,14 @@
 -- Which rewrite axioms are read, and what a foreign rule's skeleton stands for.
 -- A rule is foreign where some part of it has no meaning here: then a configuration that its left term might
 -- match, whatever stands for the parts without meaning, is unknown.
-use Rattle.std.specs.Prelude.{◌≡◌, ℕ, zero, suc, ◌^◌, ℤ, pos, neg_ℤ, int_le, int_lt, Bool, true, false, not, ◌&&◌, ◌||◌, nat_le, ◌↔◌, List, [], ◌∷◌, Option, Some, None, IsTrue, MatchBool, MatchOption, ⊤, ◌⊎◌}
+use Rattle.std.specs.Prelude.{◌≡◌, ℕ, zero, suc, ◌^◌, ℤ, pos, neg_ℤ, int_le, int_lt, Bool, true, false, not, ◌&&◌, ◌||◌, nat_le, nat_lt, ◌↔◌, List, [], ◌∷◌, length, Option, Some, None, IsTrue, MatchBool, MatchOption, ⊤, ◌⊎◌, if◌then◌else◌, codes}
 use Rattle.std.specs.List.{list_all, AllByRecursion}
-use Rattle.std.specs.Str.Parse.{signed_digits_value}
-use Rattle.kp_kore.specs.Syntax.{Text, KoreSort, sort_of, sort_variable, no_sorts, next_sort, KorePattern, KorePatterns, variable, set_variable, application, literal, exists, forall, no_patterns, next_pattern}
-use Rattle.kp_kore.specs.Parts.{SortedName, subpatterns, free_variables, term_depth}
-use Rattle.kp_kore.specs.Signature.{KoreSignature, SymbolMeaning, injection, construction, interpretation, foreign, meaning_of, has_literals, is_integer_sort, IsBelow, Head, IsHeadOf}
+use Rattle.std.specs.Char.{digit_value}
+use Rattle.std.specs.Str.{bytes_eq}
+use Rattle.std.specs.Str.Parse.{without_leading_sign, signed_digits_value}
+use Rattle.kp_kore.specs.Syntax.{Text, KoreSort, sort_of, sort_variable, no_sorts, next_sort, KorePattern, KorePatterns, variable, set_variable, application, literal, exists, forall, floor, no_patterns, next_pattern}
+use Rattle.kp_kore.specs.Parts.{SortedName, is_term, subpatterns, free_variables, term_depth}
+use Rattle.kp_kore.specs.Signature.{KoreSignature, SymbolMeaning, injection, construction, interpretation, foreign, meaning_of, has_literals, is_integer_sort, is_boolean_sort, is_token_sort, IsBelow, Head, IsHeadOf}
 use Rattle.kp_kore.specs.Sorting.{sort_of_term, result_sort}
 use Rattle.kp_semantics.specs.Value.{Value, constructed, Values, no_values, next_value, HasSort}
 use Rattle.kp_semantics.specs.Instance.{Valuation, is_named, literal_value}
@@ -21,9 +23,13 @@ most_depth = 48
 abbrev pub fits_number : ℤ → Bool
 fits_number n = int_le (neg_ℤ (pos (2 ^ 127))) n && int_lt n (pos (2 ^ 127))
 
+-- one or more decimal digits, after a sign or none
+abbrev pub writes_number : Text → Bool
+writes_number text = nat_lt 0 (length (without_leading_sign text)) && list_all (λ c. nat_lt (digit_value c) 10) (without_leading_sign text)
+
 -- a whole-number literal outside signed 128 bits
 abbrev pub is_wide_literal : KoreSignature → KorePattern → Bool
-is_wide_literal g (literal s text) = is_integer_sort g s && not (fits_number (signed_digits_value 10 text))
+is_wide_literal g (literal s text) = is_integer_sort g s && writes_number text && not (fits_number (signed_digits_value 10 text))
 is_wide_literal g _ = false
 
 abbrev pub is_foreign_meaning : SymbolMeaning → Bool
@@ -51,6 +57,19 @@ abbrev pub is_quantifier : KorePattern → Bool
 is_quantifier (exists s x t p) = true
 is_quantifier (forall s x t p) = true
 is_quantifier _ = false
+
+-- whether a literal's text writes a value of its sort: a number within signed 128 bits, true or false, any text of a
+-- token sort, nothing of a sort without literals
+abbrev pub writes_value : KoreSignature → KoreSort → Text → Bool
+writes_value g s text =
+    if is_integer_sort g s then writes_number text && fits_number (signed_digits_value 10 text)
+    else if is_boolean_sort g s then bytes_eq text (codes "true") || bytes_eq text (codes "false")
+    else is_token_sort g s
+
+-- \floor of a term, which asks whether a sort has one value alone
+abbrev pub is_floor_of_term : KorePattern → Bool
+is_floor_of_term (floor a s p) = is_term p
+is_floor_of_term _ = false
 
 -- no subpattern passes the test
 abbrev pub none_within : (KorePattern → Bool) → KorePattern → Bool
@@ -95,6 +114,7 @@ pub record IsRead (g : KoreSignature) (parameters : List Text) (attributes : Kor
   pub left_uninterpreted : IsTrue (none_within (has_interpreted_head g) r.left)
   pub condition_variables : AllByRecursion (λ c. IsTrue (list_all (λ x. is_named x.name (free_variables r.left)) (free_variables c))) r.condition
   pub condition_quantifiers : AllByRecursion (λ c. IsTrue (none_within is_quantifier c)) r.condition
+  pub condition_floors : AllByRecursion (λ c. IsTrue (none_within is_floor_of_term c)) r.condition
   pub literals : IsTrue (none_within (is_wide_literal g) p)
   pub depths : IsTrue (none_within (λ q. not (nat_le (term_depth q) most_depth)) p)
   pub priority : IsTrue (is_read_priority (priority_of attributes))
@@ -130,13 +150,13 @@ by_meaning foreign C I O = O
 
 -- The value may stand where the part of a left term does, at so many levels of depth that are left. An
 -- application of a constructor goes member by member, and inj is seen through where it splits by heads. A
--- variable of a sort with literals is one value, each other variable any value. A part without meaning is any
--- value of its sort.
+-- variable of a sort with literals is one value, each other variable any value. A part without meaning, such as a
+-- literal that writes no value, is any value of its sort.
 abbrev mutual
   pub MayBe : KoreSignature → Valuation → ℕ → KorePattern → Value → Type 0
   MayBe g v zero p u = IsAnyOfMaybe g (sort_of_term g p) u
   MayBe g v (suc n) (variable x s) u = MatchBool (has_literals g s) ((u ≡ v x) × IsAnyOf g s u) (IsAnyOf g s u)
-  MayBe g v (suc n) (literal s text) u = MatchBool (is_wide_literal g (literal s text)) (IsAnyOf g s u) (u ≡ literal_value g s text)
+  MayBe g v (suc n) (literal s text) u = MatchBool (writes_value g s text) (u ≡ literal_value g s text) (IsAnyOf g s u)
   MayBe g v (suc n) (application f ss ps) u = by_meaning (meaning_of g f)
       (IsConstructedBy f (MayBeAll g v n ps) u)
       ((InjectionsSplit g (application f ss ps) × MayBeOnly g v n ps u) ⊎ ((¬ InjectionsSplit g (application f ss ps)) × IsAnyOfMaybe g (result_sort g f ss) u))

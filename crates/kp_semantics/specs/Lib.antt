@@ -6,6 +6,7 @@ pub mod Instance
 pub mod Interpretation
 pub mod Replies
 pub mod Rules
+pub mod Sorted
 pub mod Steps
 pub mod Theory
 pub mod Value
