@@ -17,6 +17,16 @@ Matches (Ok (Some new)) old Same = (v : Valuation) → Solves v new.items ↔ (S
 Matches (Ok None) old Same = (v : Valuation) → Solves v old → ¬ Same v
 Matches (Err e) old Same = Unit {0}
 
+-- some valuation solves the bindings
+abbrev pub IsSolvable : List Binding → Type 0
+IsSolvable bindings = (v : Valuation) × Solves v bindings
+
+-- where the old bindings are solvable, those of a match are
+abbrev pub StaysSolvable : {E : Type 0} → Result (Option (Vec Binding Global)) E → List Binding → Type 0
+StaysSolvable (Ok (Some new)) old = IsSolvable old → IsSolvable new.items
+StaysSolvable (Ok None) old = Unit {0}
+StaysSolvable (Err e) old = Unit {0}
+
 -- the left term's instance is the value
 abbrev pub IsSame : LeftTerm → model.Value → Valuation → Type 0
 IsSame t u v = left_value v t ≡ u

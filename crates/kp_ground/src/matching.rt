@@ -1,6 +1,6 @@
 ghost use Rattle.std.specs.Prelude.{◌≡◌, ◌↔◌, ◌∷◌, [], MatchOption, IsTrue, IfOk, string_bytes, List};
 ghost use Rattle.kp_semantics.specs.Instance.{Valuation};
-ghost use Rattle.kp_ground.specs.Matches.{Matches, IsSame, AreSame};
+ghost use Rattle.kp_ground.specs.Matches.{Matches, StaysSolvable, IsSame, AreSame};
 ghost use Rattle.kp_ground.specs.Solves.{Solves};
 ghost use Rattle.kp_ground.specs.Terms.{left_bound};
 ghost use Rattle.kp_ground.specs.LeftView.{left_view};
@@ -53,7 +53,8 @@ fn match_variable(
     value: &Value,
     bindings: Vec<Binding>,
 ) -> Result<Option<Vec<Binding>>, AllocError>
-    ensures { Matches result bindings.items (IsSame (left_bound (string_bytes name.now)) (value_view value.now)) }
+    ensures solvable { StaysSolvable result bindings.items }
+    ensures matches { Matches result bindings.items (IsSame (left_bound (string_bytes name.now)) (value_view value.now)) }
 {
     if let Some(bound) = find_binding(&bindings, name.as_str()) {
         let bound = bound.share(alloc)?;
@@ -71,7 +72,8 @@ impl Left {
         value: &Value,
         bindings: Vec<Binding>,
     ) -> Result<Option<Vec<Binding>>, AllocError>
-        ensures { Matches result bindings.items (IsSame (left_view self.now) (value_view value.now)) }
+        ensures solvable { StaysSolvable result bindings.items }
+        ensures matches { Matches result bindings.items (IsSame (left_view self.now) (value_view value.now)) }
     {
         match self {
             Left::Variable { name } => Ok(match_variable(alloc, name, value, bindings)?),
@@ -103,7 +105,8 @@ impl Left {
         values: &[Value],
         mut bindings: Vec<Binding>,
     ) -> Result<Option<Vec<Binding>>, AllocError>
-        ensures { Matches result bindings.items (AreSame lefts.now values.now) }
+        ensures solvable { StaysSolvable result bindings.items }
+        ensures matches { Matches result bindings.items (AreSame lefts.now values.now) }
     {
         if lefts.len() != values.len() {
             return Ok(None);

@@ -10,29 +10,32 @@ use Rattle.kp_ground.proofs.MatchLemmas.{same_front_more, front_of_same, whole_o
 use Rattle.kp_ground.proofs.left.Left.+matching.Goals as goal
 
 pub match_all-loop-i-preserved : goal.match_all-loop-i-preserved
-match_all-loop-i-preserved t c = λ v.
+match_all-loop-i-preserved t c =
     let more = rw c.in-Some.is at c.in_ok-more.ensures in
-    one_more (more v) (c.loop-i.invariant v)
-    (same_front_more (λ t. left_value v (left_view t)) value_view c.loop-i.i c.args.lefts.now c.args.values.now c.index-lefts-i.result c.index-values-i.result (omega arith) (omega arith) c.index-lefts-i.is c.index-values-i.is)
-    (λ e. e) (λ e. e)
+    record {
+      matches = λ v. one_more (more.matches v) (c.loop-i.invariant.matches v)
+          (same_front_more (λ t. left_value v (left_view t)) value_view c.loop-i.i c.args.lefts.now c.args.values.now c.index-lefts-i.result c.index-values-i.result (omega arith) (omega arith) c.index-lefts-i.is c.index-values-i.is)
+          (λ e. e) (λ e. e);
+      solvable = λ s. more.solvable (c.loop-i.invariant.solvable s);
+    }
 
-pub match_all-returns-in-None : goal.match_all-returns-in-None
-match_all-returns-in-None t c = λ v s same.
-    let none = rw c.in-None.is at c.in_ok-more.ensures in
+pub match_all-returns-in-None-clause-matches : goal.match_all-returns-in-None-clause-matches
+match_all-returns-in-None-clause-matches t c = λ v s same.
+    let none = rw c.in-None.is at c.in_ok-more.ensures.matches in
     let here = (same_front_more (λ t. left_value v (left_view t)) value_view c.loop-i.i c.args.lefts.now c.args.values.now c.index-lefts-i.result c.index-values-i.result (omega arith) (omega arith) c.index-lefts-i.is c.index-values-i.is).0
     (front_of_same (λ t. left_value v (left_view t)) value_view _ c.args.lefts.now c.args.values.now same) in
-    none v ((c.loop-i.invariant v).1 (s, here.0)) here.1
+    none v ((c.loop-i.invariant.matches v).1 (s, here.0)) here.1
 
-pub match_all-returns : goal.match_all-returns
-match_all-returns t c = λ v. (
-  (λ s. let r = (c.loop-i.invariant v).0 s in (r.0, whole_of_front (λ t. left_value v (left_view t)) value_view c.loop-i.i c.args.lefts.now c.args.values.now (omega arith) (omega arith) r.1)),
-  (λ p. (c.loop-i.invariant v).1 (p.0, front_of_same (λ t. left_value v (left_view t)) value_view c.loop-i.i c.args.lefts.now c.args.values.now p.1)),
+pub match_all-returns-clause-matches : goal.match_all-returns-clause-matches
+match_all-returns-clause-matches t c = λ v. (
+  (λ s. let r = (c.loop-i.invariant.matches v).0 s in (r.0, whole_of_front (λ t. left_value v (left_view t)) value_view c.loop-i.i c.args.lefts.now c.args.values.now (omega arith) (omega arith) r.1)),
+  (λ p. (c.loop-i.invariant.matches v).1 (p.0, front_of_same (λ t. left_value v (left_view t)) value_view c.loop-i.i c.args.lefts.now c.args.values.now p.1)),
 )
 
-pub match_value-returns-in_ok-match_all-in-Constructed : goal.match_value-returns-in_ok-match_all-in-Constructed
-match_value-returns-in_ok-match_all-in-Constructed t c =
+pub match_value-returns-in_ok-match_all-in-Constructed-clause-matches : goal.match_value-returns-in_ok-match_all-in-Constructed-clause-matches
+match_value-returns-in_ok-match_all-in-Constructed-clause-matches t c =
     let left : left_view c.args.self.now ≡ left_built (string_bytes c.in-Built.constructor.value) (lefts_of (map left_view c.in-Built.arguments.items)) = search (rules, the_lemmas) in
     let value : value_view c.args.value.now ≡ constructed (string_bytes c.in-Constructed.found.value) (values_of (map value_view c.in-Constructed.values.value.items)) = search (rules, value_lemmas) in
     rw (left, value) (matches_same c.in_ok-match_all-in-Constructed.field-0 c.args.bindings.items (AreSame c.in-Built.arguments.items c.in-Constructed.values.value.items) _
     (same_arguments (string_bytes c.in-Built.constructor.value) (string_bytes c.in-Constructed.found.value) c.in-Built.arguments.items c.in-Constructed.values.value.items (c.same_name.ensures.0 c.if-same_name.true))
-    (rw (c.deref.ensures.value, c.deref-then-same_name-2.ensures.value, c.deref-then-same_name.ensures) at c.in_ok-match_all-in-Constructed.ensures))
+    (rw (c.deref.ensures.value, c.deref-then-same_name-2.ensures.value, c.deref-then-same_name.ensures) at c.in_ok-match_all-in-Constructed.ensures.matches))

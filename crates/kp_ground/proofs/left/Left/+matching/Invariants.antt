@@ -1,11 +1,14 @@
 use Rattle.std.proofs.Common.{◌≡◌, ◌↔◌, map, take}
 use Rattle.kp_semantics.specs.Instance.{Valuation}
 use Rattle.kp_ground.specs.Solves.{Solves}
+use Rattle.kp_ground.specs.Matches.{IsSolvable}
 use Rattle.kp_ground.specs.Terms.{left_value}
 use Rattle.kp_ground.specs.LeftView.{left_view}
 use Rattle.kp_ground.specs.View.{value_view}
 use Rattle.kp_ground.proofs.left.Left.+matching.Given as goal
 
 abbrev pub invariant-match_all-loop-i : goal.invariant-match_all-loop-i
-invariant-match_all-loop-i l = (v : Valuation) →
-    Solves v l.bindings.items ↔ (Solves v l.initial.bindings.items × (map (λ t. left_value v (left_view t)) (take l.i l.lefts) ≡ map value_view (take l.i l.values)))
+invariant-match_all-loop-i l = record {
+  matches : (v : Valuation) → Solves v l.bindings.items ↔ (Solves v l.initial.bindings.items × (map (λ t. left_value v (left_view t)) (take l.i l.lefts) ≡ map value_view (take l.i l.values)));
+  solvable : IsSolvable l.initial.bindings.items → IsSolvable l.bindings.items;
+}
