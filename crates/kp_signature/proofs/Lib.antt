@@ -6,6 +6,7 @@ pub mod InstanceLemmas
 pub mod KnownSorts
 pub mod Marks
 pub mod Same
+pub mod SortTexts
 pub mod NodeLemmas
 pub mod Numerals
 pub mod OwnSorts

@@ -17,7 +17,7 @@ mod names;
 mod nodes;
 mod order;
 mod own;
-mod rules;
+pub mod rules;
 mod scope;
 pub mod signature;
 mod subsorts;

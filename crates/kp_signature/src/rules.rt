@@ -1,17 +1,15 @@
 // The rules for one node, each by itself.
-ghost use Rattle.std.specs.Prelude.{◌≡◌, OnOk, IfErr, Some, None, map, string_bytes, nat_lt};
+ghost use Rattle.std.specs.Prelude.{◌≡◌, OnOk, IfErr, Some, None, nat_lt};
 ghost use Rattle.std.specs.Char.{digit_value};
 ghost use Rattle.std.specs.List.{list_all};
 ghost use Rattle.std.specs.Option.{option_map};
 ghost use Rattle.std.specs.Str.Parse.{without_leading_sign};
-ghost use Rattle.kp_kore.specs.Syntax.{variable};
-ghost use Rattle.kp_kore.specs.View.{sort_view, sorted_variable_view};
+ghost use Rattle.kp_kore.specs.View.{sort_view};
 ghost use Rattle.kp_signature.specs.Faults.{fault_view};
-ghost use Rattle.kp_signature.specs.Places.{sort_in_scope};
-ghost use Rattle.kp_signature.specs.Verify.{VerifyFault, difference, depth_fault, variable_fault, is_numeral as numeral_test};
+ghost use Rattle.kp_signature.specs.Verify.{VerifyFault, difference, depth_fault, is_numeral as numeral_test};
 
 use crate::error::VerifyError;
-use kp_kore::{Name, Sort, SortedVariable};
+use kp_kore::Sort;
 use std::alloc::Global;
 
 /// V4: the sort that is found is the one that is expected, where one is.
@@ -49,31 +47,6 @@ pub fn check_depth(depth: usize) -> Result<(), VerifyError>
     } else {
         Err(VerifyError::TermTooDeep)
     }
-}
-
-/// The sort of a name in scope.
-pub fn sort_of_name<'a>(scope: &'a [SortedVariable], name: &str) -> Option<&'a Sort>
-    ensures { option_map (λ s. sort_view s.now) result ≡ sort_in_scope name.now (map sorted_variable_view scope.now) }
-{
-    for variable in scope {
-        if variable.name.as_str() == name {
-            return Some(&variable.sort);
-        }
-    }
-    None
-}
-
-/// V4: a variable has the sort that its name has in scope.
-pub fn check_variable(
-    alloc: Global,
-    scope: &[SortedVariable],
-    name: &Name,
-    sort: &Sort,
-) -> Result<(), VerifyError>
-    ensures ok { OnOk result (variable_fault (map sorted_variable_view scope.now) (variable (string_bytes name.now) (sort_view sort.now)) ≡ None) }
-    ensures err { IfErr result (λ e. (f : VerifyFault) → fault_view e ≡ Some f → variable_fault (map sorted_variable_view scope.now) (variable (string_bytes name.now) (sort_view sort.now)) ≡ Some f) }
-{
-    Ok(check_sort(alloc, sort_of_name(scope, name), sort)?)
 }
 
 /// V7 for whole numbers: decimal digits after a sign or none.
