@@ -1,0 +1,11 @@
+pub mod ApplicationLemmas
+pub mod CallLemmas
+pub mod FaultLemmas
+pub mod ListLemmas
+pub mod RegularLemmas
+pub mod RuleSides
+pub mod SortLemmas
+pub mod SortedInstances
+pub mod SortedRules
+pub mod VariableSorts
+pub mod VerifiedMembers

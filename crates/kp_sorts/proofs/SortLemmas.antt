@@ -1,0 +1,38 @@
+-- Sorts of values: upwards along subsorts, and at no sort arguments.
+use Rattle.std.proofs.Common.{◌≡◌, refl, ap, ap₂, true, [], Option, Some, None}
+use Rattle.kp_kore.specs.Syntax.{KoreSort, sort_of, sort_variable, KoreSorts, no_sorts, next_sort}
+use Rattle.kp_kore.specs.Signature.{KoreSignature, Head, integers, booleans, tokens, constructor_of, IsHeadOf, IsBelow, is_the}
+use Rattle.kp_kore.specs.Sorting.{at_arguments, all_at_arguments}
+use Rattle.kp_semantics.specs.Value.{Value, whole, truth, token, constructed, HasSort}
+use Rattle.kp_signature.proofs.Below.{onwards}
+use Rattle.kp_signature.proofs.Same.{sorts_equal-Decides}
+
+head_above : (g : KoreSignature) (a b : KoreSort) (h : Head) → IsHeadOf g a h → IsBelow g.subsorts a b → IsHeadOf g b h
+head_above g a b h i below = (i.0, i.1, onwards g.subsorts i.0 a b i.2 below)
+
+pub has_sort_above : (g : KoreSignature) (a b : KoreSort) (u : Value) → IsBelow g.subsorts a b → HasSort g a u → HasSort g b u
+has_sort_above g a b (whole n) below h = head_above g a b integers h below
+has_sort_above g a b (truth n) below h = head_above g a b booleans h below
+has_sort_above g a b (token t x) below h = head_above g a b (tokens t) h below
+has_sort_above g a b (constructed c us) below h = (head_above g a b (constructor_of c) h.0 below, h.1, h.2, h.3)
+
+mutual
+  pub at_no_arguments : (ss : KoreSorts) (s : KoreSort) → at_arguments [] ss s ≡ s
+  at_no_arguments ss (sort_of n ts) = ap (sort_of n) (all_at_no_arguments ss ts)
+  at_no_arguments ss (sort_variable n) = refl
+
+  pub all_at_no_arguments : (ss ts : KoreSorts) → all_at_arguments [] ss ts ≡ ts
+  all_at_no_arguments ss no_sorts = refl
+  all_at_no_arguments ss (next_sort t ts) = ap₂ next_sort (at_no_arguments ss t) (all_at_no_arguments ss ts)
+
+-- a sort that passes the test is the one
+pub is_that_sort : (o : Option KoreSort) (s : KoreSort) → is_the o s ≡ true → o ≡ Some s
+is_that_sort (Some t) s e = ap Some ((sorts_equal-Decides t s).0 e)
+is_that_sort None s e = absurd (cc)
+
+pub same_inside : {A : Type 0} (a b : A) → Some a ≡ Some b → a ≡ b
+same_inside {A} a b e = ap inside e
+  where
+    inside : Option A → A
+    inside (Some x) = x
+    inside None = a
