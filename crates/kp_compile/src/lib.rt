@@ -13,6 +13,7 @@ mod hooks;
 mod left;
 mod literal;
 pub mod meaning;
+mod parts;
 mod shape;
 mod term;
 
@@ -21,4 +22,6 @@ pub use error::CompileError;
 pub use function::Function;
 pub use left::compile_left;
 pub use meaning::{Meaning, meaning_of};
+pub use parts::{add_subpatterns, subpatterns};
+pub use shape::is_term;
 pub use term::compile_term;
