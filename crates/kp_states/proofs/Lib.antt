@@ -1,0 +1,5 @@
+pub mod SpelledForms
+pub mod SpelledMeaning
+pub mod SpelledLists
+pub mod GroundStates
+pub mod SpelledParts

@@ -1,0 +1,283 @@
+// The one normal spelling in which a configuration is written.
+ghost use Rattle.std.specs.Prelude.{◌≡◌, ◌↔◌, false, not, FitsSigned, IfOk, OnOk, IsTrue, map, string_bytes};
+ghost use Rattle.std.specs.Fmt.{signed_decimal};
+ghost use Rattle.std.specs.Int.{w128};
+ghost use Rattle.std.specs.List.{list_all};
+ghost use Rattle.kp_compile.specs.Parts.{seen};
+ghost use Rattle.kp_kore.specs.Syntax.{KoreSort, literal, application, no_sorts};
+ghost use Rattle.kp_kore.specs.Signature.{injection, meaning_of as meaning_named};
+ghost use Rattle.kp_kore.specs.View.{view, sort_view, sorts_view, patterns_view};
+ghost use Rattle.kp_signature.specs.View.{signature_view};
+ghost use Rattle.kp_semantics.specs.Value as model;
+ghost use Rattle.kp_semantics.specs.Sorted.{IsRegular};
+ghost use Rattle.kp_semantics.specs.Foreign.{none_within};
+ghost use Rattle.kp_ground.specs.View.{value_view, values_of};
+ghost use Rattle.kp_states.specs.Spelled as spec;
+ghost use Rattle.kp_states.specs.Spelled.{IsSpellingOf, spelling, spellings, bare_spelling, placed};
+
+use crate::error::SpellingError;
+use crate::own::own_sort;
+use kp_compile::{Meaning, meaning_of, subpatterns};
+use kp_ground::Value;
+use kp_kore::{Name, Pattern, Sort};
+use kp_signature::Signature;
+use std::alloc::{AllocError, Global};
+
+/// The normal spelling of a value at a sort: numbers without a plus sign or leading zeros, and one `inj` where the
+/// value's own sort isn't the one that its place has. NoInjection where it has an `inj` and the signature has none.
+pub fn spelled(
+    alloc: Global,
+    signature: &Signature,
+    value: &Value,
+    sort: &Sort,
+) -> Result<Pattern, SpellingError>
+    ensures normal { IfOk result (λ p. view p ≡ spelling (signature_view signature.now) (sort_view sort.now) (value_view value.now)) }
+    ensures meant { IsRegular (signature_view signature.now) → model.HasSort (signature_view signature.now) (sort_view sort.now) (value_view value.now) → IfOk result (λ p. IsSpellingOf (signature_view signature.now) (value_view value.now) (view p)) }
+{
+    let pattern = spelled_at(value, alloc, signature, sort)?;
+    if has_injection(signature) {
+        return Ok(pattern);
+    }
+    if injects(alloc, &pattern)? {
+        return Err(SpellingError::NoInjection);
+    }
+    Ok(pattern)
+}
+
+/// Whether the signature has `inj`.
+fn has_injection(signature: &Signature) -> bool
+    ensures { IsTrue result ↔ (meaning_named (signature_view signature.now) spec.injection_name ≡ injection) }
+{
+    match meaning_of(signature, "inj") {
+        Meaning::Injection => true,
+        Meaning::Constructor | Meaning::Interpreted(_) | Meaning::Foreign => false,
+    }
+}
+
+/// Whether a symbol at two sorts stands in the pattern.
+fn injects(alloc: Global, pattern: &Pattern) -> Result<bool, AllocError>
+    ensures { IfOk result (λ b. b ≡ false → IsTrue (none_within spec.has_two_sorts (view pattern.now))) }
+{
+    let parts = subpatterns(alloc, pattern)?;
+    Ok(!are_others(&parts))
+}
+
+/// Whether none of the patterns is a symbol at two sorts.
+fn are_others(parts: &[&Pattern]) -> bool
+    ensures { result ≡ list_all (λ q. not (spec.has_two_sorts q)) (seen parts.now) }
+{
+    for part in parts {
+        if has_two_sorts(part) {
+            return false;
+        }
+    }
+    true
+}
+
+fn has_two_sorts(pattern: &Pattern) -> bool
+    ensures { result ≡ spec.has_two_sorts (view pattern.now) }
+{
+    match pattern {
+        Pattern::Application { sorts, .. } => sorts.len() == 2,
+        _ => false,
+    }
+}
+
+#[cycle(spelling)]
+fn spelled_at(
+    value: &Value,
+    alloc: Global,
+    signature: &Signature,
+    sort: &Sort,
+) -> Result<Pattern, AllocError>
+    ensures normal { IfOk result (λ p. view p ≡ spelling (signature_view signature.now) (sort_view sort.now) (value_view value.now)) }
+    ensures fits { model.HasSort (signature_view signature.now) (sort_view sort.now) (value_view value.now) → OnOk result (spec.NumbersFit (value_view value.now)) }
+{
+    let own = home_of(alloc, signature, value, sort)?;
+    let inner = bare(value, alloc, signature, &own)?;
+    placed_at(alloc, own, sort, inner)
+}
+
+/// A value at its own sort.
+#[cycle(spelling)]
+fn bare(
+    value: &Value,
+    alloc: Global,
+    signature: &Signature,
+    own: &Sort,
+) -> Result<Pattern, AllocError>
+    ensures normal { IfOk result (λ p. view p ≡ bare_spelling (signature_view signature.now) (sort_view own.now) (value_view value.now)) }
+    ensures fits { (s : KoreSort) → model.HasSort (signature_view signature.now) s (value_view value.now) → OnOk result (spec.NumbersFit (value_view value.now)) }
+{
+    match value {
+        Value::Whole { number } => literal_of(alloc, own, number_text(alloc, *number)?),
+        Value::Truth { holds } => literal_of(alloc, own, truth_text(alloc, *holds)?),
+        Value::Token { sort, text } => literal_of(alloc, sort, text.clone()?),
+        Value::Constructed {
+            constructor,
+            arguments,
+        } => {
+            let places = places_of(signature, constructor);
+            let patterns = spelled_all(arguments, alloc, signature, places)?;
+            applied(alloc, constructor, patterns)
+        }
+    }
+}
+
+/// The arguments of a constructor, each at its declared sort.
+#[cycle(spelling)]
+fn spelled_all(
+    values: &[Value],
+    alloc: Global,
+    signature: &Signature,
+    places: &[Sort],
+) -> Result<Vec<Pattern>, AllocError>
+    ensures normal { IfOk result (λ ps. patterns_view ps.items ≡ spellings (signature_view signature.now) (sorts_view places.now) (values_of (map value_view values.now))) }
+    ensures fits { model.HaveSorts (signature_view signature.now) (sorts_view places.now) (values_of (map value_view values.now)) → OnOk result (spec.AllNumbersFit (values_of (map value_view values.now))) }
+{
+    let mut patterns = Vec::new(alloc);
+    for i in 0..values.len().min(places.len()) {
+        patterns.push(spelled_at(&values[i], alloc, signature, &places[i])?)?;
+    }
+    Ok(patterns)
+}
+
+/// The sort that a value is written at by itself.
+fn home_of(
+    alloc: Global,
+    signature: &Signature,
+    value: &Value,
+    sort: &Sort,
+) -> Result<Sort, AllocError>
+    ensures { IfOk result (λ own. sort_view own ≡ spec.home_of (signature_view signature.now) (sort_view sort.now) (value_view value.now)) }
+{
+    match own_sort(alloc, signature, value)? {
+        Some(own) => Ok(own),
+        None => sort.copy(alloc),
+    }
+}
+
+/// The declared sorts of a constructor's arguments.
+fn places_of<'a>(signature: &'a Signature, constructor: &str) -> &'a [Sort]
+    ensures { sorts_view result.now ≡ spec.places_of (signature_view signature.now) constructor.now }
+{
+    match signature.symbol(constructor) {
+        Some(symbol) => &symbol.arguments,
+        None => &[],
+    }
+}
+
+/// `inj{A,B}(p)`, where A isn't B.
+fn placed_at(alloc: Global, own: Sort, sort: &Sort, inner: Pattern) -> Result<Pattern, AllocError>
+    ensures { IfOk result (λ p. view p ≡ placed (sort_view own) (sort_view sort.now) (view inner)) }
+{
+    if own.equal(sort) {
+        return Ok(inner);
+    }
+    injected(alloc, own, sort.copy(alloc)?, inner)
+}
+
+fn injected(
+    alloc: Global,
+    lower: Sort,
+    upper: Sort,
+    pattern: Pattern,
+) -> Result<Pattern, AllocError>
+    ensures { IfOk result (λ p. view p ≡ spec.injected (sort_view lower) (sort_view upper) (view pattern)) }
+{
+    let mut sorts = Vec::new(alloc);
+    sorts.push(lower)?;
+    sorts.push(upper)?;
+    let mut arguments = Vec::new(alloc);
+    arguments.push(pattern)?;
+    Ok(Pattern::Application {
+        symbol: String::from_str(alloc, "inj")?,
+        sorts,
+        arguments,
+    })
+}
+
+fn literal_of(alloc: Global, sort: &Sort, text: Name) -> Result<Pattern, AllocError>
+    ensures { IfOk result (λ p. view p ≡ literal (sort_view sort.now) (string_bytes text)) }
+{
+    Ok(Pattern::Literal {
+        sort: sort.copy(alloc)?,
+        text,
+    })
+}
+
+fn number_text(alloc: Global, number: i128) -> Result<Name, AllocError>
+    ensures text { IfOk result (λ t. string_bytes t ≡ signed_decimal number) }
+    ensures fits { FitsSigned w128 number }
+{
+    number.to_string(alloc)
+}
+
+fn truth_text(alloc: Global, holds: bool) -> Result<Name, AllocError>
+    ensures { IfOk result (λ t. string_bytes t ≡ spec.truth_text holds) }
+{
+    if holds {
+        String::from_str(alloc, "true")
+    } else {
+        String::from_str(alloc, "false")
+    }
+}
+
+fn applied(
+    alloc: Global,
+    constructor: &Name,
+    arguments: Vec<Pattern>,
+) -> Result<Pattern, AllocError>
+    ensures { IfOk result (λ p. view p ≡ application (string_bytes constructor.now) no_sorts (patterns_view arguments.items)) }
+{
+    Ok(Pattern::Application {
+        symbol: constructor.clone()?,
+        sorts: Vec::new(alloc),
+        arguments,
+    })
+}
+/// Whether a value's own sort is the sort.
+fn is_at_home(signature: &Signature, value: &Value, sort: &Sort) -> bool {
+    match value {
+        Value::Whole { .. } => signature.is_integer_sort(sort),
+        Value::Truth { .. } => signature.is_boolean_sort(sort),
+        Value::Token { sort: own, .. } => own.equal(sort),
+        Value::Constructed { constructor, .. } => match signature.symbol(constructor) {
+            Some(symbol) => symbol.result_sort.equal(sort),
+            None => true,
+        },
+    }
+}
+
+/// How deep the normal spelling of a value at a sort is: each application, `inj` too, and the leaf.
+#[cycle(depth)]
+pub fn spelled_depth(signature: &Signature, value: &Value, sort: &Sort) -> usize {
+    let inner: usize = match value {
+        Value::Constructed {
+            constructor,
+            arguments,
+        } => depth_below(signature, constructor, arguments, sort),
+        _ => 0,
+    };
+    let depth = inner.saturating_add(1);
+    if is_at_home(signature, value, sort) {
+        depth
+    } else {
+        depth.saturating_add(1)
+    }
+}
+
+/// How deep the deepest argument is, each at its declared sort; 0 where there is none.
+#[cycle(depth)]
+fn depth_below(signature: &Signature, constructor: &str, values: &[Value], own: &Sort) -> usize {
+    let declaration = signature.symbol(constructor);
+    let mut deepest = 0;
+    for i in 0..values.len() {
+        let sort = match declaration {
+            Some(symbol) => symbol.arguments.get(i).unwrap_or(own),
+            None => own,
+        };
+        deepest = deepest.max(spelled_depth(signature, &values[i], sort));
+    }
+    deepest
+}

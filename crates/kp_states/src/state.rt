@@ -1,0 +1,133 @@
+// The state that a request gives.
+ghost use Rattle.std.specs.Prelude.{◌≡◌, [], IfErr, IfOk, OnOk, IsTrue, Some, None, string_bytes};
+ghost use Rattle.std.specs.List.{filter_map};
+ghost use Rattle.std.specs.Option.{option_map};
+ghost use Rattle.kp_kore.specs.Parts.{is_term as term_test, free_variables};
+ghost use Rattle.kp_kore.specs.View.{view, sort_view};
+ghost use Rattle.kp_signature.specs.View.{signature_view};
+ghost use Rattle.kp_signature.specs.Verify.{VerifiesAs};
+ghost use Rattle.kp_semantics.specs.Instance.{Valuation, instance};
+ghost use Rattle.kp_semantics.specs.Sorted.{IsRegular};
+ghost use Rattle.kp_ground.specs.Terms.{term_value};
+ghost use Rattle.kp_ground.specs.TermView.{term_view};
+ghost use Rattle.kp_ground.specs.View.{value_view};
+ghost use Rattle.kp_compile.specs.Parts.{seen};
+ghost use Rattle.kp_states.specs.Spelled.{IsGroundState, first_member, first_foreign as first_foreign_in, foreign_name as foreign_name_at};
+ghost use Rattle.kp_states.specs.States.{IsNoForeign, IsTold};
+
+use crate::error::StateError;
+use kp_compile::{CompileError, Meaning, compile_term, is_term, meaning_of, subpatterns};
+use kp_ground::{EvaluationError, Term, Value};
+use kp_kore::{Name, Pattern, Sort};
+use kp_signature::Signature;
+use std::alloc::{AllocError, Global};
+
+/// A configuration and the sort that it is written at.
+#[derive(Drop)]
+pub struct State {
+    pub value: Value,
+    pub sort: Sort,
+}
+
+/// The state that a verified pattern of this sort is: T1 of the first foreign symbol that stands in it, then T2 where it
+/// isn't one ground term or a number leaves 128 bits.
+pub fn state_of(
+    alloc: Global,
+    signature: &Signature,
+    pattern: &Pattern,
+    sort: Sort,
+) -> Result<State, StateError>
+    ensures state { IsRegular (signature_view signature.now) → VerifiesAs (signature_view signature.now) (view pattern.now) (sort_view sort) → IfOk result (λ state. IsGroundState (signature_view signature.now) (view pattern.now) (sort_view state.sort) (value_view state.value)) }
+    ensures refused { IfErr result (IsTold (first_foreign_in (signature_view signature.now) (view pattern.now))) }
+{
+    match first_foreign(alloc, signature, pattern)? {
+        Some(name) => Err(StateError::ForeignSymbol { name }),
+        None => Ok(State {
+            value: value_of(alloc, signature, pattern)?,
+            sort,
+        }),
+    }
+}
+
+/// The first foreign symbol that stands in a pattern.
+fn first_foreign(
+    alloc: Global,
+    signature: &Signature,
+    pattern: &Pattern,
+) -> Result<Option<Name>, AllocError>
+    ensures { IfOk result (λ o. option_map string_bytes o ≡ first_foreign_in (signature_view signature.now) (view pattern.now)) }
+{
+    let parts = subpatterns(alloc, pattern)?;
+    match first_name(signature, &parts) {
+        Some(name) => Ok(Some(name.clone()?)),
+        None => Ok(None),
+    }
+}
+
+/// The first foreign symbol at the head of one of these patterns.
+fn first_name<'a>(signature: &Signature, parts: &[&'a Pattern]) -> Option<&'a Name>
+    ensures { option_map (λ n. string_bytes n.now) result ≡ first_member (filter_map (foreign_name_at (signature_view signature.now)) (seen parts.now)) }
+{
+    for i in 0..parts.len() {
+        if let Some(name) = foreign_name(signature, parts[i]) {
+            return Some(name);
+        }
+    }
+    None
+}
+
+/// The foreign symbol of an application.
+fn foreign_name<'a>(signature: &Signature, pattern: &'a Pattern) -> Option<&'a Name>
+    ensures { option_map (λ n. string_bytes n.now) result ≡ foreign_name_at (signature_view signature.now) (view pattern.now) }
+{
+    match pattern {
+        Pattern::Application { symbol, .. } => match meaning_of(signature, symbol) {
+            Meaning::Foreign => Some(symbol),
+            Meaning::Injection | Meaning::Constructor | Meaning::Interpreted(_) => None,
+        },
+        _ => None,
+    }
+}
+
+/// The value of one ground term; T2 of another pattern.
+fn value_of(alloc: Global, signature: &Signature, pattern: &Pattern) -> Result<Value, StateError>
+    ensures term { OnOk result (IsTrue (term_test (view pattern.now))) }
+    ensures closed { OnOk result (free_variables (view pattern.now) ≡ []) }
+    ensures meant { IfOk result (λ u. (v : Valuation) → instance (signature_view signature.now) v (view pattern.now) ≡ value_view u) }
+    ensures refused { IfErr result IsNoForeign }
+{
+    if !is_term(pattern) {
+        return Err(StateError::OtherShape);
+    }
+    if !pattern.free_vars(alloc)?.is_empty() {
+        return Err(StateError::OtherShape);
+    }
+    match compile_term(alloc, signature, pattern) {
+        Ok(term) => evaluated(alloc, &term),
+        Err(error) => Err(refused(error)),
+    }
+}
+
+/// Want of memory, or T2.
+fn refused(error: CompileError) -> StateError
+    ensures { IsNoForeign result }
+{
+    match error {
+        CompileError::Memory => StateError::Memory,
+        CompileError::Foreign(_) | CompileError::Shape | CompileError::Number => {
+            StateError::OtherShape
+        }
+    }
+}
+
+/// The value of a term without variables.
+fn evaluated(alloc: Global, term: &Term) -> Result<Value, StateError>
+    ensures meant { IfOk result (λ u. (v : Valuation) → value_view u ≡ term_value v (term_view term.now)) }
+    ensures refused { IfErr result IsNoForeign }
+{
+    match term.evaluate(alloc, &[]) {
+        Ok(value) => Ok(value),
+        Err(EvaluationError::Memory) => Err(StateError::Memory),
+        Err(EvaluationError::Number | EvaluationError::Unbound) => Err(StateError::OtherShape),
+    }
+}
