@@ -1,4 +1,9 @@
+pub mod Bodies
 pub mod Heads
+pub mod Index
 pub mod OwnSorts
 pub mod Priorities
+pub mod Reading
 pub mod Shapes
+pub mod Skeletons
+pub mod Tests

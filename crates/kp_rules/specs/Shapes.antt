@@ -8,12 +8,10 @@ use Rattle.kp_kore.specs.View.{view, sort_view}
 use Rattle.kp_kore.specs.declared.pattern.Pattern.{Pattern}
 use Rattle.kp_semantics.specs.Instance.{conjoined_predicates}
 use Rattle.kp_semantics.specs.Rules.{Rewrite, constrained_term, new_variables_of}
+pub use Rattle.kp_compile.specs.Parts.{seen}
 use Rattle.kp_rules.specs.declared.shape.Binder.{Binder}
 use Rattle.kp_rules.specs.declared.shape.Side.{Side}
 use Rattle.kp_rules.specs.declared.shape.Shape.{Shape}
-
-abbrev pub seen : List (Bor Pattern) → List KorePattern
-seen = map (λ p. view p.now)
 
 abbrev pub variables_seen : List Binder → List SortedName
 variables_seen = map (λ b. record { name = string_bytes b.name.now; sort = sort_view b.sort.now })

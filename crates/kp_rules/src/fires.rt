@@ -6,6 +6,7 @@ ghost use Rattle.kp_signature.specs.View.{signature_view};
 ghost use Rattle.kp_semantics.specs.Value as model;
 ghost use Rattle.kp_semantics.specs.Instance.{Valuation};
 ghost use Rattle.kp_ground.specs.Solves.{Solves};
+ghost use Rattle.kp_ground.specs.Matches.{IsSolvable};
 ghost use Rattle.kp_ground.specs.Terms.{left_value};
 ghost use Rattle.kp_ground.specs.LeftView.{left_view};
 ghost use Rattle.kp_ground.specs.View.{value_view};
@@ -64,7 +65,8 @@ impl Rewrite {
         signature: &Signature,
         value: &Value,
     ) -> Result<Option<Vec<Binding>>, EvaluationError>
-        ensures { FindsFiring result (signature_view signature.now) self.now (value_view value.now) }
+        ensures firing { FindsFiring result (signature_view signature.now) self.now (value_view value.now) }
+        ensures solvable { IfOk result (λ o. IfSome o (λ new. IsSolvable new.items)) }
     {
         match self.left.match_value(alloc, value, Vec::new(alloc))? {
             Some(bindings) => self.fires_with(alloc, signature, bindings),
@@ -79,7 +81,8 @@ impl Rewrite {
         signature: &Signature,
         bindings: Vec<Binding>,
     ) -> Result<Option<Vec<Binding>>, EvaluationError>
-        ensures { (u : model.Value) → Binds self.now bindings.items u → FindsFiring result (signature_view signature.now) self.now u }
+        ensures solvable { IsSolvable bindings.items → IfOk result (λ o. IfSome o (λ new. IsSolvable new.items)) }
+        ensures firing { (u : model.Value) → Binds self.now bindings.items u → FindsFiring result (signature_view signature.now) self.now u }
     {
         match pass(&self.tests, alloc, signature, &bindings)? {
             Some(passed) => self.fires_where(alloc, passed, bindings),
@@ -93,7 +96,8 @@ impl Rewrite {
         passed: bool,
         bindings: Vec<Binding>,
     ) -> Result<Option<Vec<Binding>>, EvaluationError>
-        ensures { (g : KoreSignature) (u : model.Value) → Binds self.now bindings.items u → PassAs g self.now bindings.items passed → FindsFiring result g self.now u }
+        ensures solvable { IsSolvable bindings.items → IfOk result (λ o. IfSome o (λ new. IsSolvable new.items)) }
+        ensures firing { (g : KoreSignature) (u : model.Value) → Binds self.now bindings.items u → PassAs g self.now bindings.items passed → FindsFiring result g self.now u }
     {
         if !passed {
             return Ok(None);

@@ -3,13 +3,14 @@
 #![tactic(auto)]
 
 mod depth;
+mod edges;
 pub mod fires;
 mod form;
 mod inject;
 mod label;
 mod may_be;
 mod names;
-mod parts;
+mod parts_read;
 pub mod priority;
 mod read;
 pub mod rule;
@@ -23,8 +24,8 @@ mod values;
 
 pub use label::label_of;
 pub use priority::{Priority, USUAL_PRIORITY, priority_of};
-pub use read::read_rule;
+pub use read::{RuleError, read_rule};
 pub use rule::{Rewrite, Rule, RuleBody, RuleSet, SortTest};
 pub use skeleton::Skeleton;
 pub use sort_index::SortIndex;
-pub use values::{has_sort, own_sort};
+pub use values::has_sort;

@@ -1,10 +1,24 @@
 // Which values a foreign rule may rewrite.
+ghost use Rattle.std.specs.Prelude.{◌≡◌, ◌≢◌, ◌↔◌, IfOk, IfSome, MatchOption, IsTrue, All, true, false, map, string_bytes};
+ghost use Rattle.kp_kore.specs.Signature.{IsHeadOf};
+ghost use Rattle.kp_kore.specs.View.{sort_view};
+ghost use Rattle.kp_signature.specs.View.{signature_view};
+ghost use Rattle.kp_semantics.specs.Value.{head_of};
+ghost use Rattle.kp_semantics.specs.Sorted.{IsSorted};
+ghost use Rattle.kp_semantics.specs.Instance.{Valuation};
+ghost use Rattle.kp_ground.specs.Matches.{Matches};
+ghost use Rattle.kp_ground.specs.Solves.{Solves};
+ghost use Rattle.kp_ground.specs.View.{value_view, values_of};
+ghost use Rattle.kp_rules.specs.Skeletons.{skeleton_view, forms_of, Shows, ShowAll, IsSolvable, IsAdmitted};
+
 use crate::skeleton::Skeleton;
 use crate::values::has_sort;
-use kp_ground::{Binding, Left, Value};
+use kp_ground::binding::find_binding;
+use kp_ground::{Binding, Value};
 use kp_kore::{Name, Sort};
 use kp_signature::Signature;
 use std::alloc::{AllocError, Global};
+use std::rc::Rc;
 
 impl Skeleton {
     /// Whether the value is an instance.
@@ -13,7 +27,9 @@ impl Skeleton {
         alloc: Global,
         signature: &Signature,
         value: &Value,
-    ) -> Result<bool, AllocError> {
+    ) -> Result<bool, AllocError>
+        ensures { IsSorted (signature_view signature.now) (value_view value.now) → IfOk result (λ b. IsTrue b ↔ IsAdmitted (signature_view signature.now) self.now (value_view value.now)) }
+    {
         let bindings = self.match_value(alloc, signature, value, Vec::new(alloc))?;
         Ok(bindings.is_some())
     }
@@ -26,18 +42,18 @@ impl Skeleton {
         signature: &Signature,
         value: &Value,
         bindings: Vec<Binding>,
-    ) -> Result<Option<Vec<Binding>>, AllocError> {
+    ) -> Result<Option<Vec<Binding>>, AllocError>
+        ensures same { Matches result bindings.items (λ v. Shows (signature_view signature.now) v (skeleton_view self.now) (value_view value.now)) }
+        ensures solvable { IsSolvable bindings.items → IfOk result (λ o. IfSome o (λ new. IsSolvable new.items)) }
+    {
         match self {
             Skeleton::Anything => Ok(Some(bindings)),
             Skeleton::Nothing => Ok(None),
-            Skeleton::Any { sort } => match_sort(alloc, signature, value, sort, bindings),
+            Skeleton::Any { sort } => Ok(match_sort(alloc, signature, value, sort, bindings)?),
             Skeleton::Variable { name, sort } => {
-                match match_sort(alloc, signature, value, sort, bindings)? {
-                    Some(bindings) => match_variable(alloc, name, value, bindings),
-                    None => Ok(None),
-                }
+                Ok(match_one(alloc, signature, value, name, sort, bindings)?)
             }
-            Skeleton::Fixed { value: fixed } => Ok(keep_if_equal(fixed, value, bindings)),
+            Skeleton::Fixed { value: fixed } => Ok(keep_where(fixed.equal(value), bindings)),
             Skeleton::Built {
                 constructor,
                 arguments,
@@ -46,8 +62,8 @@ impl Skeleton {
                     constructor: found,
                     arguments: values,
                 } => {
-                    if **constructor == **found {
-                        Skeleton::match_all(arguments, alloc, signature, values, bindings)
+                    if same_name(found, constructor) {
+                        Ok(Skeleton::match_all(arguments, alloc, signature, values, bindings)?)
                     } else {
                         Ok(None)
                     }
@@ -65,7 +81,10 @@ impl Skeleton {
         signature: &Signature,
         values: &[Value],
         mut bindings: Vec<Binding>,
-    ) -> Result<Option<Vec<Binding>>, AllocError> {
+    ) -> Result<Option<Vec<Binding>>, AllocError>
+        ensures same { Matches result bindings.items (λ v. ShowAll (signature_view signature.now) v (forms_of (map skeleton_view skeletons.now)) (values_of (map value_view values.now))) }
+        ensures solvable { IsSolvable bindings.items → IfOk result (λ o. IfSome o (λ new. IsSolvable new.items)) }
+    {
         if skeletons.len() != values.len() {
             return Ok(None);
         }
@@ -79,6 +98,20 @@ impl Skeleton {
     }
 }
 
+/// Whether two names are the same.
+fn same_name(name: &Rc<String>, other: &Rc<String>) -> bool
+    ensures { IsTrue result ↔ (string_bytes name.now.value ≡ string_bytes other.now.value) }
+{
+    **name == **other
+}
+
+/// The bindings where this is so.
+fn keep_where(is_so: bool, bindings: Vec<Binding>) -> Option<Vec<Binding>>
+    ensures { MatchOption result (is_so ≡ false) (λ kept. (kept.items ≡ bindings.items) × (is_so ≡ true)) }
+{
+    if is_so { Some(bindings) } else { None }
+}
+
 /// The bindings where the value has the sort, else none.
 fn match_sort(
     alloc: Global,
@@ -86,30 +119,71 @@ fn match_sort(
     value: &Value,
     sort: &Sort,
     bindings: Vec<Binding>,
-) -> Result<Option<Vec<Binding>>, AllocError> {
+) -> Result<Option<Vec<Binding>>, AllocError>
+    ensures same { Matches result bindings.items (λ v. IsHeadOf (signature_view signature.now) (sort_view sort.now) (head_of (value_view value.now))) }
+    ensures solvable { IsSolvable bindings.items → IfOk result (λ o. IfSome o (λ new. IsSolvable new.items)) }
+{
+    let has_sort = has_sort(alloc, signature, value, sort)?;
+    Ok(keep_where(has_sort, bindings))
+}
+
+/// One value of a sort, the same wherever the variable stands.
+fn match_one(
+    alloc: Global,
+    signature: &Signature,
+    value: &Value,
+    name: &Name,
+    sort: &Sort,
+    bindings: Vec<Binding>,
+) -> Result<Option<Vec<Binding>>, AllocError>
+    ensures same { Matches result bindings.items (λ v. (v (string_bytes name.now) ≡ value_view value.now) × IsHeadOf (signature_view signature.now) (sort_view sort.now) (head_of (value_view value.now))) }
+    ensures solvable { IsSolvable bindings.items → IfOk result (λ o. IfSome o (λ new. IsSolvable new.items)) }
+{
     if has_sort(alloc, signature, value, sort)? {
-        Ok(Some(bindings))
+        Ok(match_variable(alloc, name, value, bindings)?)
     } else {
         Ok(None)
     }
 }
 
+/// Whether the variable is bound to this value; None where it isn't bound.
+fn is_bound_to(bindings: &[Binding], name: &str, value: &Value) -> Option<bool>
+    ensures { MatchOption result (All (λ b. string_bytes b.name ≢ name.now) bindings.now) (λ b. (v : Valuation) → Solves v bindings.now → IsTrue b ↔ (v name.now ≡ value_view value.now)) }
+{
+    match find_binding(bindings, name) {
+        Some(bound) => Some(bound.equal(value)),
+        None => None,
+    }
+}
+
+/// The bindings with one more.
+fn with_binding(
+    alloc: Global,
+    name: &Name,
+    value: &Value,
+    mut bindings: Vec<Binding>,
+) -> Result<Vec<Binding>, AllocError>
+    ensures { IfOk result (λ new. (v : Valuation) → Solves v new.items ↔ (Solves v bindings.items × (v (string_bytes name.now) ≡ value_view value.now))) }
+{
+    bindings.push(Binding {
+        name: name.clone()?,
+        value: value.share(alloc)?,
+    })?;
+    Ok(bindings)
+}
+
+/// Binds a variable to a value, or compares it with what the variable is bound to.
 fn match_variable(
     alloc: Global,
     name: &Name,
     value: &Value,
     bindings: Vec<Binding>,
-) -> Result<Option<Vec<Binding>>, AllocError> {
-    let left = Left::Variable {
-        name: name.clone()?,
-    };
-    left.match_value(alloc, value, bindings)
-}
-
-fn keep_if_equal(left: &Value, right: &Value, bindings: Vec<Binding>) -> Option<Vec<Binding>> {
-    if left.equal(right) {
-        Some(bindings)
-    } else {
-        None
+) -> Result<Option<Vec<Binding>>, AllocError>
+    ensures same { Matches result bindings.items (λ v. v (string_bytes name.now) ≡ value_view value.now) }
+    ensures solvable { IsSolvable bindings.items → IfOk result (λ o. IfSome o (λ new. IsSolvable new.items)) }
+{
+    match is_bound_to(&bindings, name.as_str(), value) {
+        Some(is_same) => Ok(keep_where(is_same, bindings)),
+        None => Ok(Some(with_binding(alloc, name, value, bindings)?)),
     }
 }

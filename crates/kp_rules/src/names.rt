@@ -1,6 +1,15 @@
 // Sets of variables' names.
+ghost use Rattle.std.specs.Prelude.{◌≡◌, ◌&&◌, not, IfOk, map, string_bytes};
+ghost use Rattle.std.specs.List.{list_all};
+ghost use Rattle.indexmap.specs.IndexSet.{contains_text};
+ghost use Rattle.kp_kore.specs.Signature.{has_literals as literals_test};
+ghost use Rattle.kp_kore.specs.View.{sort_view, sorted_variable_view};
+ghost use Rattle.kp_semantics.specs.Foreign.{repeats_literals_only as repeats_test};
+ghost use Rattle.kp_signature.specs.View.{signature_view};
+ghost use Rattle.kp_rules.specs.Reading.{Names};
+
 use indexmap::IndexSet;
-use kp_kore::{Name, Pattern, SortedVariable};
+use kp_kore::{Name, SortedVariable};
 use kp_signature::Signature;
 use std::alloc::{AllocError, Global};
 
@@ -8,7 +17,9 @@ use std::alloc::{AllocError, Global};
 pub type NameSet = IndexSet<Name>;
 
 /// The names of these variables.
-pub fn names_of(alloc: Global, variables: &[SortedVariable]) -> Result<NameSet, AllocError> {
+pub fn names_of(alloc: Global, variables: &[SortedVariable]) -> Result<NameSet, AllocError>
+    ensures { IfOk result (λ names. Names names (map sorted_variable_view variables.now)) }
+{
     let mut names = IndexSet::new(alloc);
     for variable in variables {
         names.insert(variable.name.clone()?)?;
@@ -17,10 +28,26 @@ pub fn names_of(alloc: Global, variables: &[SortedVariable]) -> Result<NameSet, 
 }
 
 /// Whether all of these variables are named.
-pub fn are_named(variables: &[SortedVariable], names: &NameSet) -> bool {
-    variables
-        .iter()
-        .all(|variable| names.contains(variable.name.as_str()))
+pub fn are_named(variables: &[SortedVariable], names: &NameSet) -> bool
+    ensures { result ≡ list_all (λ x. contains_text names.now x.name) (map sorted_variable_view variables.now) }
+{
+    for variable in variables {
+        if !names.contains(variable.name.as_str()) {
+            return false;
+        }
+    }
+    true
+}
+
+/// Whether the variable is named, and its sort has no literals.
+fn is_named_without_literals(
+    signature: &Signature,
+    variable: &SortedVariable,
+    names: &NameSet,
+) -> bool
+    ensures { result ≡ (contains_text names.now (string_bytes variable.now.name) && not (literals_test (signature_view signature.now) (sort_view variable.now.sort))) }
+{
+    names.contains(variable.name.as_str()) && !signature.has_literals(&variable.sort)
 }
 
 /// Whether each variable that stands again, further right, has a sort with literals.
@@ -28,27 +55,16 @@ pub fn repeats_literals_only(
     alloc: Global,
     signature: &Signature,
     variables: &[SortedVariable],
-) -> Result<bool, AllocError> {
+) -> Result<bool, AllocError>
+    ensures { IfOk result (λ b. b ≡ repeats_test (signature_view signature.now) (map sorted_variable_view variables.now)) }
+{
     let mut later = IndexSet::new(alloc);
-    for variable in variables.iter().rev() {
-        if later.contains(variable.name.as_str()) && !signature.has_literals(&variable.sort) {
+    for i in 0..variables.len() {
+        let variable = &variables[variables.len() - 1 - i];
+        if is_named_without_literals(signature, variable, &later) {
             return Ok(false);
         }
         later.insert(variable.name.clone()?)?;
-    }
-    Ok(true)
-}
-
-/// Whether all free variables of these patterns are named.
-pub fn have_variables_among(
-    alloc: Global,
-    patterns: &[&Pattern],
-    names: &NameSet,
-) -> Result<bool, AllocError> {
-    for pattern in patterns {
-        if !are_named(&pattern.free_vars(alloc)?, names) {
-            return Ok(false);
-        }
     }
     Ok(true)
 }

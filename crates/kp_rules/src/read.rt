@@ -1,24 +1,53 @@
 // From a rewrite axiom to its rule.
-use crate::depth::is_within;
-use crate::inject::is_split;
-use crate::names::{NameSet, are_named, have_variables_among, names_of, repeats_literals_only};
-use crate::parts::{add_subpatterns, subpatterns};
+ghost use Rattle.std.specs.Prelude.{◌≡◌, ℕ, not, Some, None, Option, IfOk, OnOk, MatchBool, IsTrue};
+ghost use Rattle.std.specs.List.{list_all};
+ghost use Rattle.indexmap.specs.IndexSet.{contains_text};
+ghost use Rattle.kp_kore.specs.Syntax.{KoreSort, KorePattern, rewriting};
+ghost use Rattle.kp_kore.specs.Parts.{free_variables};
+ghost use Rattle.kp_kore.specs.View.{view, sort_view, axiom_sentence_view};
+ghost use Rattle.kp_semantics.specs.Instance.{is_named};
+ghost use Rattle.kp_semantics.specs.Rules.{is_rewriting, constrained_term, foreign_rule};
+ghost use Rattle.kp_semantics.specs.Foreign.{is_read_priority};
+ghost use Rattle.kp_signature.specs.Places.{the_top};
+ghost use Rattle.kp_signature.specs.Verify.{first_fault};
+ghost use Rattle.kp_signature.specs.View.{signature_view};
+ghost use Rattle.kp_rules.specs.Bodies.{IsReadAs, IsBodyOf};
+ghost use Rattle.kp_rules.specs.Index.{IsIndexOf};
+ghost use Rattle.kp_rules.specs.Priorities.{Tells};
+ghost use Rattle.kp_rules.specs.Reading.{IsStatementRead, IsReadBody, IsMadeOf, IsShapeRead, is_left_read, is_predicate_read, is_side_read, is_binder as binder_test, is_top_pattern, is_plain_by};
+ghost use Rattle.kp_rules.specs.Shapes.{seen, rewrite_seen};
+
+use crate::names::{NameSet, are_named, names_of, repeats_literals_only};
+use crate::parts_read::{all_split, are_condition_parts, are_read_parts, are_uninterpreted};
 use crate::priority::{Priority, USUAL_PRIORITY, priority_of};
 use crate::rule::{Rewrite, RuleBody};
-use crate::shape::{Shape, constrained_side, shape_of};
-use crate::skeleton::{Skeleton, any_of, skeleton_of};
+use crate::shape::{Shape, Side, shape_of};
+use crate::skeleton::{Skeleton, skeleton_of_left};
 use crate::sort_index::SortIndex;
 use crate::sort_test::sort_tests;
-use kp_compile::{
-    CompileError, Meaning, compile_condition, compile_left, compile_term, meaning_of,
-};
-use kp_kore::{AxiomSentence, Name, Pattern, Sort, SortedVariable};
-use kp_signature::Signature;
+use kp_compile::{CompileError, compile_condition, compile_left, compile_term, subpatterns};
+use kp_kore::{AxiomSentence, Pattern, Sort};
+use kp_signature::{Signature, VerifyError, verify};
 use std::alloc::{AllocError, Global};
-use std::num::ParseIntError;
 
-/// The most levels that a term has.
-const MOST_DEPTH: usize = 48;
+/// Why a rewrite axiom makes no rule.
+#[derive(Clone, Copy, Debug, PartialEq, Eq)]
+pub enum RuleError {
+    Memory,
+    /// M6: the axiom has a verify fault, and isn't foreign.
+    Fault,
+}
+
+impl From<AllocError> for RuleError {
+    ghost use Rattle.std.specs.Prelude.{◌≡◌};
+    ghost use Rattle.kp_rules.specs.declared.read.RuleError.TheVariants as reading;
+
+    ghost from_gives = { λ _ e. e ≡ reading.Memory };
+
+    fn from(_error: AllocError) -> Self {
+        RuleError::Memory
+    }
+}
 
 /// The priority and the rule of an axiom whose pattern is a `\rewrites`. The priority is 50 where the text of
 /// `priority{}` is no number, and 4294967295 where it is larger; such a rule is foreign.
@@ -27,17 +56,22 @@ pub fn read_rule(
     signature: &Signature,
     index: &SortIndex,
     statement: &AxiomSentence,
-) -> Result<(u32, RuleBody), AllocError> {
-    let body = match &statement.pattern {
+) -> Result<(u32, RuleBody), RuleError>
+    requires index { IsIndexOf (signature_view signature.now) index.now }
+    ensures { IsTrue (is_rewriting (view statement.now.pattern)) → IfOk result (λ out. IsReadAs (signature_view signature.now) (axiom_sentence_view statement.now) out.0 out.1) }
+{
+    match &statement.pattern {
         Pattern::Rewrites { sort, left, right } => {
-            body_of(alloc, signature, index, statement, sort, left, right)?
+            let body = body_of(alloc, signature, index, statement, sort, left, right)?;
+            Ok((number_of(priority_of(&statement.attributes)), body))
         }
-        _ => RuleBody::Foreign(Skeleton::Anything),
-    };
-    Ok((number_of(priority_of(&statement.attributes)), body))
+        _ => Ok((USUAL_PRIORITY, RuleBody::Foreign(Skeleton::Anything))),
+    }
 }
 
-fn number_of(priority: Priority) -> u32 {
+fn number_of(priority: Priority) -> u32
+    ensures { (stated : Option ℕ) → Tells priority stated → IsTrue (is_read_priority stated) → stated ≡ Some result }
+{
     match priority {
         Priority::Number(number) => number,
         Priority::TooLarge => u32::MAX,
@@ -45,6 +79,7 @@ fn number_of(priority: Priority) -> u32 {
     }
 }
 
+/// The body of the rule of a statement whose pattern is the `\rewrites` of these.
 fn body_of(
     alloc: Global,
     signature: &Signature,
@@ -53,27 +88,46 @@ fn body_of(
     sort: &Sort,
     left: &Pattern,
     right: &Pattern,
-) -> Result<RuleBody, AllocError> {
-    if is_read_statement(alloc, signature, index, statement)? {
-        if let Some(rewrite) = rewrite_of(alloc, signature, sort, left, right)? {
-            return Ok(RuleBody::Rewrite(rewrite));
-        }
+) -> Result<RuleBody, RuleError>
+    requires index { IsIndexOf (signature_view signature.now) index.now }
+    requires sides { view statement.now.pattern ≡ rewriting (sort_view sort.now) (view left.now) (view right.now) }
+    ensures { IfOk result (IsReadBody (signature_view signature.now) (axiom_sentence_view statement.now)) }
+{
+    if !is_read_statement(alloc, signature, index, statement)? {
+        return foreign_body(alloc, signature, index, sort, left);
     }
-    Ok(RuleBody::Foreign(foreign_left(alloc, signature, index, sort, left)?))
+    match read_shape(alloc, signature, left, right)? {
+        Some(shape) => {
+            check(alloc, signature, &statement.pattern)?;
+            let rewrite = rewrite_from(alloc, signature, sort, &shape, right)?;
+            Ok(RuleBody::Rewrite(rewrite))
+        }
+        None => foreign_body(alloc, signature, index, sort, left),
+    }
 }
 
-/// What the left side may stand for: where it is a constrained term, what its term may stand for, else any value of
-/// the sort.
-fn foreign_left(
+fn foreign_body(
     alloc: Global,
     signature: &Signature,
     index: &SortIndex,
     sort: &Sort,
     left: &Pattern,
-) -> Result<Skeleton, AllocError> {
-    match constrained_side(alloc, left)? {
-        Some(side) => skeleton_of(side.term, alloc, signature, index, MOST_DEPTH),
-        None => any_of(alloc, sort),
+) -> Result<RuleBody, RuleError>
+    requires index { IsIndexOf (signature_view signature.now) index.now }
+    ensures { IfOk result (IsBodyOf (signature_view signature.now) (foreign_rule (record { sort = sort_view sort.now; term = constrained_term (view left.now) }))) }
+{
+    let skeleton = skeleton_of_left(alloc, signature, index, sort, left)?;
+    Ok(RuleBody::Foreign(skeleton))
+}
+
+/// The axiom's pattern has no verify fault.
+fn check(alloc: Global, signature: &Signature, pattern: &Pattern) -> Result<(), RuleError>
+    ensures { OnOk result (first_fault (signature_view signature.now) the_top (view pattern.now) ≡ None) }
+{
+    match verify(alloc, signature, pattern) {
+        Ok(_) => Ok(()),
+        Err(VerifyError::Memory) => Err(RuleError::Memory),
+        Err(_) => Err(RuleError::Fault),
     }
 }
 
@@ -84,179 +138,174 @@ fn is_read_statement(
     signature: &Signature,
     index: &SortIndex,
     statement: &AxiomSentence,
-) -> Result<bool, AllocError> {
-    if !statement.parameters.is_empty() || !is_number(priority_of(&statement.attributes)) {
+) -> Result<bool, AllocError>
+    requires index { IsIndexOf (signature_view signature.now) index.now }
+    ensures { IfOk result (λ b. MatchBool b (IsStatementRead (signature_view signature.now) (axiom_sentence_view statement.now)) (¬ IsStatementRead (signature_view signature.now) (axiom_sentence_view statement.now))) }
+{
+    if !statement.parameters.is_empty() {
+        return Ok(false);
+    }
+    if !is_number(priority_of(&statement.attributes)) {
         return Ok(false);
     }
     let parts = subpatterns(alloc, &statement.pattern)?;
-    Ok(
-        parts.iter().all(|part| is_read_part(signature, part))
-            && all_split(alloc, signature, index, &parts)?,
-    )
+    if !are_read_parts(signature, &parts) {
+        return Ok(false);
+    }
+    all_split(alloc, signature, index, &parts)
 }
 
-fn is_number(priority: Priority) -> bool {
+fn is_number(priority: Priority) -> bool
+    ensures { (stated : Option ℕ) → Tells priority stated → result ≡ is_read_priority stated }
+{
     match priority {
         Priority::Number(_) => true,
-        _ => false,
+        Priority::TooLarge => false,
+        Priority::NoNumber => false,
     }
 }
 
-/// Whether the part is no application of a foreign symbol, no set variable, no number outside signed 128 bits, and no
-/// term that is too deep.
-fn is_read_part(signature: &Signature, part: &Pattern) -> bool {
-    !has_foreign_head(signature, part)
-        && !is_set_variable(part)
-        && !is_wide_literal(signature, part)
-        && is_within(part, MOST_DEPTH)
-}
-
-fn has_foreign_head(signature: &Signature, pattern: &Pattern) -> bool {
-    match pattern {
-        Pattern::Application { symbol, .. } => match meaning_of(signature, symbol) {
-            Meaning::Foreign => true,
-            _ => false,
-        },
-        _ => false,
+/// Whether the left term has no interpreted symbol, and repeats only variables of sorts with literals.
+fn is_read_left(alloc: Global, signature: &Signature, left: &Pattern) -> Result<bool, AllocError>
+    ensures { IfOk result (λ b. b ≡ is_left_read (signature_view signature.now) (view left.now)) }
+{
+    let parts = subpatterns(alloc, left)?;
+    if !are_uninterpreted(signature, &parts) {
+        return Ok(false);
     }
+    let variables = left.free_vars(alloc)?;
+    repeats_literals_only(alloc, signature, &variables)
 }
 
-fn has_interpreted_head(signature: &Signature, pattern: &Pattern) -> bool {
-    match pattern {
-        Pattern::Application { symbol, .. } => match meaning_of(signature, symbol) {
-            Meaning::Interpreted(_) => true,
-            _ => false,
-        },
-        _ => false,
-    }
-}
-
-fn is_set_variable(pattern: &Pattern) -> bool {
-    match pattern {
-        Pattern::SetVariable { .. } => true,
-        _ => false,
-    }
-}
-
-fn is_quantifier(pattern: &Pattern) -> bool {
-    match pattern {
-        Pattern::Exists { .. } | Pattern::Forall { .. } => true,
-        _ => false,
-    }
-}
-
-fn is_wide_literal(signature: &Signature, pattern: &Pattern) -> bool {
-    match pattern {
-        Pattern::Literal { sort, text } => signature.is_integer_sort(sort) && is_wide(text),
-        _ => false,
-    }
-}
-
-/// Whether the number that the text writes leaves signed 128 bits.
-fn is_wide(text: &Name) -> bool {
-    let number: Result<i128, ParseIntError> = text.as_str().parse();
-    number.is_err()
-}
-
-/// Whether all variables under `inj` split by heads.
-fn all_split(
+/// Whether the predicate has no quantifiers, no `\floor` of a term, and no variables but these.
+fn is_read_predicate(
     alloc: Global,
-    signature: &Signature,
-    index: &SortIndex,
-    parts: &[&Pattern],
-) -> Result<bool, AllocError> {
-    for part in parts {
-        if !is_split(alloc, signature, index, part)? {
+    predicate: &Pattern,
+    names: &NameSet,
+) -> Result<bool, AllocError>
+    ensures { IfOk result (λ b. b ≡ is_predicate_read (contains_text names.now) (view predicate.now)) }
+{
+    let parts = subpatterns(alloc, predicate)?;
+    if !are_condition_parts(&parts) {
+        return Ok(false);
+    }
+    let variables = predicate.free_vars(alloc)?;
+    Ok(are_named(&variables, names))
+}
+
+fn is_read_condition(
+    alloc: Global,
+    condition: &[&Pattern],
+    names: &NameSet,
+) -> Result<bool, AllocError>
+    ensures { IfOk result (λ b. b ≡ list_all (is_predicate_read (contains_text names.now)) (seen condition.now)) }
+{
+    for predicate in condition {
+        if !is_read_predicate(alloc, predicate, names)? {
             return Ok(false);
         }
     }
     Ok(true)
 }
 
-/// Whether the left term has no interpreted symbol, and repeats only variables of sorts with literals.
-fn is_read_left(
+/// Whether the left term is read, and the condition with no variables but those of the left term.
+fn is_read_side(alloc: Global, signature: &Signature, side: &Side<'_>) -> Result<bool, AllocError>
+    ensures { IfOk result (λ b. b ≡ is_side_read (signature_view signature.now) (view side.now.term.now) (seen side.now.predicates.items)) }
+{
+    if !is_read_left(alloc, signature, side.term)? {
+        return Ok(false);
+    }
+    let variables = side.term.free_vars(alloc)?;
+    let names = names_of(alloc, &variables)?;
+    is_read_condition(alloc, &side.predicates, &names)
+}
+
+/// The parts of the sides, where they have the shape of a rule's, and the left term and the condition are read.
+fn read_shape<'a>(
     alloc: Global,
     signature: &Signature,
-    left: &Pattern,
-    variables: &[SortedVariable],
-) -> Result<bool, AllocError> {
-    let parts = subpatterns(alloc, left)?;
-    Ok(
-        !parts
-            .iter()
-            .any(|part| has_interpreted_head(signature, part))
-            && repeats_literals_only(alloc, signature, variables)?,
-    )
-}
-
-/// Whether the condition has no quantifiers, and no variables but those of the left term.
-fn is_read_condition(
-    alloc: Global,
-    condition: &[&Pattern],
-    names: &NameSet,
-) -> Result<bool, AllocError> {
-    let mut parts = Vec::new(alloc);
-    for predicate in condition {
-        add_subpatterns(predicate, &mut parts)?;
+    left: &'a Pattern,
+    right: &'a Pattern,
+) -> Result<Option<Shape<'a>>, AllocError>
+    ensures { (s : KoreSort) → IfOk result (IsShapeRead (signature_view signature.now) (rewriting s (view left.now) (view right.now)) (view right.now)) }
+{
+    match shape_of(alloc, left, right)? {
+        Some(shape) => {
+            if !is_read_side(alloc, signature, &shape.left)? {
+                return Ok(None);
+            }
+            Ok(Some(shape))
+        }
+        None => Ok(None),
     }
-    Ok(
-        !parts.iter().any(|part| is_quantifier(part))
-            && have_variables_among(alloc, condition, names)?,
-    )
 }
 
-/// The rule, where the sides have the shape of one and the left term and the condition are read.
-fn rewrite_of(
+/// The rule of a verified axiom that is read.
+fn rewrite_from(
     alloc: Global,
     signature: &Signature,
     sort: &Sort,
-    left: &Pattern,
+    shape: &Shape<'_>,
     right: &Pattern,
-) -> Result<Option<Rewrite>, AllocError> {
-    let Some(shape) = shape_of(alloc, left, right)? else {
-        return Ok(None);
-    };
+) -> Result<Rewrite, RuleError>
+    ensures { IfOk result (λ w. IsMadeOf (signature_view signature.now) (sort_view sort.now) (rewrite_seen (view right.now) shape.now) w × (w.chooses ≡ not (is_plain_by (λ y. is_named y (free_variables (view shape.now.left.term.now))) (view right.now) (seen shape.now.right.predicates.items)))) }
+{
     let variables = shape.left.term.free_vars(alloc)?;
     let names = names_of(alloc, &variables)?;
-    if !is_read_left(alloc, signature, shape.left.term, &variables)?
-        || !is_read_condition(alloc, &shape.left.predicates, &names)?
-    {
-        return Ok(None);
+    let chooses = chooses(alloc, &shape.right.predicates, right, &names)?;
+    match compiled(alloc, signature, sort, shape, chooses) {
+        Ok(rewrite) => Ok(rewrite),
+        Err(CompileError::Memory) => Err(RuleError::Memory),
+        Err(_) => Err(RuleError::Fault),
     }
-    let chooses = chooses(alloc, &shape, right, &names)?;
-    or_foreign(compiled(alloc, signature, sort, &shape, chooses))
 }
 
 /// Whether the right side has a new variable, or an ensured condition other than `\top`.
 fn chooses(
     alloc: Global,
-    shape: &Shape<'_>,
+    ensured: &[&Pattern],
     right: &Pattern,
     names: &NameSet,
-) -> Result<bool, AllocError> {
-    Ok(
-        is_binder(right)
-            || !shape
-                .right
-                .predicates
-                .iter()
-                .all(|predicate| is_top(predicate))
-            || !are_named(&right.free_vars(alloc)?, names),
-    )
+) -> Result<bool, AllocError>
+    ensures { IfOk result (λ b. b ≡ not (is_plain_by (contains_text names.now) (view right.now) (seen ensured.now))) }
+{
+    if is_binder(right) {
+        return Ok(true);
+    }
+    if !are_tops(ensured) {
+        return Ok(true);
+    }
+    let variables = right.free_vars(alloc)?;
+    Ok(!are_named(&variables, names))
 }
 
-fn is_binder(pattern: &Pattern) -> bool {
+fn is_binder(pattern: &Pattern) -> bool
+    ensures { result ≡ binder_test (view pattern.now) }
+{
     match pattern {
         Pattern::Exists { .. } => true,
         _ => false,
     }
 }
 
-fn is_top(pattern: &Pattern) -> bool {
+fn is_top(pattern: &Pattern) -> bool
+    ensures { result ≡ is_top_pattern (view pattern.now) }
+{
     match pattern {
         Pattern::Top { .. } => true,
         _ => false,
     }
+}
+
+fn are_tops(patterns: &[&Pattern]) -> bool
+    ensures { result ≡ list_all is_top_pattern (seen patterns.now) }
+{
+    for pattern in patterns {
+        if !is_top(pattern) {
+            return false;
+        }
+    }
+    true
 }
 
 fn compiled(
@@ -265,7 +314,9 @@ fn compiled(
     sort: &Sort,
     shape: &Shape<'_>,
     chooses: bool,
-) -> Result<Rewrite, CompileError> {
+) -> Result<Rewrite, CompileError>
+    ensures { (r : KorePattern) → IfOk result (λ w. IsMadeOf (signature_view signature.now) (sort_view sort.now) (rewrite_seen r shape.now) w × (w.chooses ≡ chooses)) }
+{
     let left = compile_left(alloc, signature, shape.left.term)?;
     let tests = sort_tests(alloc, signature, shape.left.term)?;
     let condition = compile_condition(alloc, signature, &shape.left.predicates)?;
@@ -278,13 +329,4 @@ fn compiled(
         right_sort: sort.copy(alloc)?,
         chooses,
     })
-}
-
-/// None where a part has no form that runs, as `\floor` of a term.
-fn or_foreign(rewrite: Result<Rewrite, CompileError>) -> Result<Option<Rewrite>, AllocError> {
-    match rewrite {
-        Ok(rewrite) => Ok(Some(rewrite)),
-        Err(CompileError::Memory) => Err(AllocError),
-        Err(_) => Ok(None),
-    }
 }

@@ -1,12 +1,34 @@
+ghost use Rattle.std.specs.Prelude.{◌≡◌, ◌↔◌, ◌&&◌, ◌||◌, ◌+◌, ℕ, IfOk, MatchOption, None, true, false, map, codes, string_bytes};
+ghost use Rattle.std.specs.Option.{option_map};
+ghost use Rattle.std.specs.Str.{bytes_eq};
+ghost use Rattle.std.specs.Str.Parse.{signed_digits_value};
+ghost use Rattle.kp_kore.specs.Signature.{symbol_declared};
+ghost use Rattle.kp_kore.specs.Sorting.{at_arguments, result_sort, sort_of_term};
+ghost use Rattle.kp_kore.specs.Syntax.{variable as variable_of, literal as literal_of};
+ghost use Rattle.kp_kore.specs.View.{view, patterns_view, sort_view, sorts_view, names_view};
+ghost use Rattle.kp_signature.specs.View.{signature_view};
+ghost use Rattle.kp_semantics.specs.Value as model;
+ghost use Rattle.kp_semantics.specs.Sorted.{IsSorted};
+ghost use Rattle.kp_semantics.specs.Foreign.{IsSkeletonInstance, writes_number, fits_number};
+ghost use Rattle.kp_semantics.specs.Rules.{constrained_term};
+ghost use Rattle.kp_ground.specs.View.{value_view};
+ghost use Rattle.kp_rules.specs.Index.{IsIndexOf};
+ghost use Rattle.kp_rules.specs.Skeletons.{skeleton_view, any_form, maybe_form, one_of, built as built_form, nothing as nothing_form, Writes, forms_of, StandsFor, StandForAll, StandsForFirst, IsAdmitted};
+
 use crate::inject::is_split;
+use crate::shape::constrained_side;
 use crate::sort_index::SortIndex;
-use kp_compile::{CompileError, Meaning, compile_left, meaning_of};
-use kp_ground::{Left, Value};
+use kp_compile::{Meaning, meaning_of};
+use kp_ground::Value;
 use kp_kore::{Name, Pattern, Sort};
 use kp_signature::Signature;
 use kp_signature::instance::sort_at;
+use kp_signature::rules::is_numeral;
 use std::alloc::{AllocError, Global};
 use std::rc::Rc;
+
+/// The most levels that a term has.
+pub const MOST_DEPTH: usize = 48;
 
 /// What a foreign rule's left side may stand for.
 #[derive(Drop)]
@@ -33,7 +55,9 @@ pub enum Skeleton {
 }
 
 /// Any value of the sort; of a sort variable, any value.
-pub fn any_of(alloc: Global, sort: &Sort) -> Result<Skeleton, AllocError> {
+pub fn any_of(alloc: Global, sort: &Sort) -> Result<Skeleton, AllocError>
+    ensures { IfOk result (λ k. skeleton_view k ≡ any_form (sort_view sort.now)) }
+{
     match sort {
         Sort::App { .. } => Ok(Skeleton::Any {
             sort: sort.copy(alloc)?,
@@ -42,24 +66,44 @@ pub fn any_of(alloc: Global, sort: &Sort) -> Result<Skeleton, AllocError> {
     }
 }
 
+/// Any value of the sort with the arguments in the place of the parameters.
+fn any_at(
+    alloc: Global,
+    sort: &Sort,
+    parameters: &[Name],
+    arguments: &[Sort],
+) -> Result<Skeleton, AllocError>
+    ensures { IfOk result (λ k. skeleton_view k ≡ any_form (at_arguments (names_view parameters.now) (sorts_view arguments.now) (sort_view sort.now))) }
+{
+    let instance = sort_at(sort, alloc, parameters, arguments)?;
+    Ok(any_of(alloc, &instance)?)
+}
+
 /// Any value of the result sort of a symbol or an alias at these sorts.
 fn any_result(
     alloc: Global,
     signature: &Signature,
     symbol: &str,
     sorts: &[Sort],
-) -> Result<Skeleton, AllocError> {
-    if let Some(found) = signature.symbol(symbol) {
-        return any_of(
-            alloc,
-            &sort_at(&found.result_sort, alloc, &found.parameters, sorts)?,
-        );
+) -> Result<Skeleton, AllocError>
+    ensures { IfOk result (λ k. skeleton_view k ≡ maybe_form (result_sort (signature_view signature.now) symbol.now (sorts_view sorts.now))) }
+{
+    match signature.symbol(symbol) {
+        Some(found) => Ok(any_at(alloc, &found.result_sort, &found.parameters, sorts)?),
+        None => Ok(any_result_of_alias(alloc, signature, symbol, sorts)?),
     }
+}
+
+fn any_result_of_alias(
+    alloc: Global,
+    signature: &Signature,
+    symbol: &str,
+    sorts: &[Sort],
+) -> Result<Skeleton, AllocError>
+    ensures { symbol_declared (signature_view signature.now) symbol.now ≡ None → IfOk result (λ k. skeleton_view k ≡ maybe_form (result_sort (signature_view signature.now) symbol.now (sorts_view sorts.now))) }
+{
     match signature.alias(symbol) {
-        Some(found) => any_of(
-            alloc,
-            &sort_at(&found.result_sort, alloc, &found.parameters, sorts)?,
-        ),
+        Some(found) => Ok(any_at(alloc, &found.result_sort, &found.parameters, sorts)?),
         None => Ok(Skeleton::Anything),
     }
 }
@@ -69,45 +113,124 @@ fn any_of_pattern(
     alloc: Global,
     signature: &Signature,
     pattern: &Pattern,
-) -> Result<Skeleton, AllocError> {
+) -> Result<Skeleton, AllocError>
+    ensures { IfOk result (λ k. skeleton_view k ≡ maybe_form (sort_of_term (signature_view signature.now) (view pattern.now))) }
+{
     match pattern {
-        Pattern::Variable { sort, .. }
-        | Pattern::SetVariable { sort, .. }
-        | Pattern::Literal { sort, .. } => any_of(alloc, sort),
-        Pattern::Application { symbol, sorts, .. } => any_result(alloc, signature, symbol, sorts),
+        Pattern::Variable { sort, .. } => Ok(any_of(alloc, sort)?),
+        Pattern::SetVariable { sort, .. } => Ok(any_of(alloc, sort)?),
+        Pattern::Literal { sort, .. } => Ok(any_of(alloc, sort)?),
+        Pattern::Application { symbol, sorts, .. } => {
+            Ok(any_result(alloc, signature, symbol, sorts)?)
+        }
         _ => Ok(Skeleton::Anything),
     }
 }
 
+/// One value where the variable's sort has literals, else any value of the sort.
 fn variable(
     alloc: Global,
     signature: &Signature,
     name: &Name,
     sort: &Sort,
-) -> Result<Skeleton, AllocError> {
+) -> Result<Skeleton, AllocError>
+    ensures { IfOk result (λ k. (n : ℕ) → StandsFor (signature_view signature.now) (n + 1) (variable_of (string_bytes name.now) (sort_view sort.now)) (skeleton_view k)) }
+{
     if signature.has_literals(sort) {
-        Ok(Skeleton::Variable {
-            name: name.clone()?,
-            sort: sort.copy(alloc)?,
-        })
+        Ok(one_value(alloc, name, sort)?)
     } else {
-        any_of(alloc, sort)
+        Ok(any_of(alloc, sort)?)
     }
 }
 
-/// The literal's value; of a number outside signed 128 bits, any value of the sort.
+fn one_value(alloc: Global, name: &Name, sort: &Sort) -> Result<Skeleton, AllocError>
+    ensures { IfOk result (λ k. skeleton_view k ≡ one_of (string_bytes name.now) (sort_view sort.now)) }
+{
+    Ok(Skeleton::Variable {
+        name: name.clone()?,
+        sort: sort.copy(alloc)?,
+    })
+}
+
+/// The number that a text writes, where it writes one within signed 128 bits.
+fn whole_number(text: &str) -> Option<Value>
+    ensures { MatchOption result ((writes_number text.now && fits_number (signed_digits_value 10 text.now)) ≡ false) (λ u. ((writes_number text.now && fits_number (signed_digits_value 10 text.now)) ≡ true) × (value_view u ≡ model.whole (signed_digits_value 10 text.now))) }
+{
+    if !is_numeral(text) {
+        return None;
+    }
+    match text.parse::<i128>() {
+        Ok(number) => Some(Value::Whole { number }),
+        Err(_) => None,
+    }
+}
+
+/// The truth value that a text writes.
+fn truth_value(text: &str) -> Option<Value>
+    ensures { MatchOption result ((bytes_eq text.now (codes "true") || bytes_eq text.now (codes "false")) ≡ false) (λ u. ((bytes_eq text.now (codes "true") || bytes_eq text.now (codes "false")) ≡ true) × (value_view u ≡ model.truth (bytes_eq text.now (codes "true")))) }
+{
+    if text == "true" {
+        return Some(Value::Truth { holds: true });
+    }
+    if text == "false" {
+        return Some(Value::Truth { holds: false });
+    }
+    None
+}
+
+fn token_of(alloc: Global, sort: &Sort, text: &Name) -> Result<Value, AllocError>
+    ensures { IfOk result (λ u. value_view u ≡ model.token (sort_view sort.now) (string_bytes text.now)) }
+{
+    Ok(Value::Token {
+        sort: sort.copy(alloc)?,
+        text: text.clone()?,
+    })
+}
+
+/// The value that a literal's text writes, where it writes one of the sort.
+fn value_written(
+    alloc: Global,
+    signature: &Signature,
+    sort: &Sort,
+    text: &Name,
+) -> Result<Option<Value>, AllocError>
+    ensures { IfOk result (λ o. Writes (signature_view signature.now) (sort_view sort.now) (string_bytes text.now) (option_map value_view o)) }
+{
+    if signature.is_integer_sort(sort) {
+        return Ok(whole_number(text.as_str()));
+    }
+    if signature.is_boolean_sort(sort) {
+        return Ok(truth_value(text.as_str()));
+    }
+    if signature.is_token_sort(sort) {
+        return Ok(Some(token_of(alloc, sort, text)?));
+    }
+    Ok(None)
+}
+
+/// The literal's value; where it writes none, any value of the sort.
 fn literal(
     alloc: Global,
     signature: &Signature,
-    pattern: &Pattern,
     sort: &Sort,
-) -> Result<Skeleton, AllocError> {
-    match compile_left(alloc, signature, pattern) {
-        Ok(Left::Fixed { value }) => Ok(Skeleton::Fixed { value }),
-        Ok(_) => any_of(alloc, sort),
-        Err(CompileError::Memory) => Err(AllocError),
-        Err(_) => any_of(alloc, sort),
+    text: &Name,
+) -> Result<Skeleton, AllocError>
+    ensures { IfOk result (λ k. (n : ℕ) → StandsFor (signature_view signature.now) (n + 1) (literal_of (sort_view sort.now) (string_bytes text.now)) (skeleton_view k)) }
+{
+    match value_written(alloc, signature, sort, text)? {
+        Some(value) => Ok(Skeleton::Fixed { value }),
+        None => Ok(any_of(alloc, sort)?),
     }
+}
+
+/// A constructor with its arguments.
+fn built(alloc: Global, symbol: &Name, arguments: Vec<Skeleton>) -> Result<Skeleton, AllocError>
+    ensures { IfOk result (λ k. skeleton_view k ≡ built_form (string_bytes symbol.now) (forms_of (map skeleton_view arguments.items))) }
+{
+    Ok(Skeleton::Built {
+        constructor: Rc::new(alloc, symbol.clone()?)?,
+        arguments,
+    })
 }
 
 /// What a left term may stand for, at so many levels of depth that are left. An application of a constructor goes
@@ -120,33 +243,36 @@ pub fn skeleton_of(
     signature: &Signature,
     index: &SortIndex,
     levels: usize,
-) -> Result<Skeleton, AllocError> {
+) -> Result<Skeleton, AllocError>
+    requires index { IsIndexOf (signature_view signature.now) index.now }
+    ensures { IfOk result (λ k. StandsFor (signature_view signature.now) levels (view pattern.now) (skeleton_view k)) }
+{
     if levels == 0 {
-        return any_of_pattern(alloc, signature, pattern);
+        return Ok(any_of_pattern(alloc, signature, pattern)?);
     }
     match pattern {
-        Pattern::Variable { name, sort } => variable(alloc, signature, name, sort),
-        Pattern::Literal { sort, .. } => literal(alloc, signature, pattern, sort),
+        Pattern::Variable { name, sort } => Ok(variable(alloc, signature, name, sort)?),
+        Pattern::Literal { sort, text } => Ok(literal(alloc, signature, sort, text)?),
         Pattern::Application {
             symbol,
             sorts,
             arguments,
         } => match meaning_of(signature, symbol) {
-            Meaning::Constructor => built(
-                alloc,
-                symbol,
-                skeletons_of(arguments, alloc, signature, index, levels - 1)?,
-            ),
+            Meaning::Constructor => {
+                let skeletons = skeletons_of(arguments, alloc, signature, index, levels - 1)?;
+                Ok(built(alloc, symbol, skeletons)?)
+            }
             Meaning::Injection => {
                 if is_split(alloc, signature, index, pattern)? {
-                    skeleton_of_first(arguments, alloc, signature, index, levels - 1)
+                    Ok(skeleton_of_first(arguments, alloc, signature, index, levels - 1)?)
                 } else {
-                    any_result(alloc, signature, symbol, sorts)
+                    Ok(any_result(alloc, signature, symbol, sorts)?)
                 }
             }
-            _ => any_result(alloc, signature, symbol, sorts),
+            Meaning::Interpreted(_) => Ok(any_result(alloc, signature, symbol, sorts)?),
+            Meaning::Foreign => Ok(any_result(alloc, signature, symbol, sorts)?),
         },
-        _ => any_of_pattern(alloc, signature, pattern),
+        _ => Ok(any_of_pattern(alloc, signature, pattern)?),
     }
 }
 
@@ -157,7 +283,10 @@ fn skeletons_of(
     signature: &Signature,
     index: &SortIndex,
     levels: usize,
-) -> Result<Vec<Skeleton>, AllocError> {
+) -> Result<Vec<Skeleton>, AllocError>
+    requires index { IsIndexOf (signature_view signature.now) index.now }
+    ensures { IfOk result (λ ks. StandForAll (signature_view signature.now) levels (patterns_view patterns.now) ks.items) }
+{
     let mut found = Vec::new(alloc);
     for pattern in patterns {
         found.push(skeleton_of(pattern, alloc, signature, index, levels)?)?;
@@ -172,16 +301,36 @@ fn skeleton_of_first(
     signature: &Signature,
     index: &SortIndex,
     levels: usize,
-) -> Result<Skeleton, AllocError> {
+) -> Result<Skeleton, AllocError>
+    requires index { IsIndexOf (signature_view signature.now) index.now }
+    ensures { IfOk result (λ k. StandsForFirst (signature_view signature.now) levels (patterns_view patterns.now) (skeleton_view k)) }
+{
     for pattern in patterns {
-        return skeleton_of(pattern, alloc, signature, index, levels);
+        return Ok(skeleton_of(pattern, alloc, signature, index, levels)?);
     }
-    Ok(Skeleton::Nothing)
+    Ok(nothing())
 }
 
-fn built(alloc: Global, symbol: &Name, arguments: Vec<Skeleton>) -> Result<Skeleton, AllocError> {
-    Ok(Skeleton::Built {
-        constructor: Rc::new(alloc, symbol.clone()?)?,
-        arguments,
-    })
+fn nothing() -> Skeleton
+    ensures { skeleton_view result ≡ nothing_form }
+{
+    Skeleton::Nothing
+}
+
+/// What the left side of a `\rewrites` of this sort may stand for: where it is a constrained term, what its term may
+/// stand for, else any value of the sort.
+pub fn skeleton_of_left(
+    alloc: Global,
+    signature: &Signature,
+    index: &SortIndex,
+    sort: &Sort,
+    left: &Pattern,
+) -> Result<Skeleton, AllocError>
+    requires index { IsIndexOf (signature_view signature.now) index.now }
+    ensures { IfOk result (λ k. (u : model.Value) → IsSorted (signature_view signature.now) u → IsAdmitted (signature_view signature.now) k u ↔ IsSkeletonInstance (signature_view signature.now) (record { sort = sort_view sort.now; term = constrained_term (view left.now) }) u) }
+{
+    match constrained_side(alloc, left)? {
+        Some(side) => Ok(skeleton_of(side.term, alloc, signature, index, MOST_DEPTH)?),
+        None => Ok(any_of(alloc, sort)?),
+    }
 }

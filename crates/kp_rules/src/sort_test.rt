@@ -1,15 +1,32 @@
 // Which left variables a match must test.
+ghost use Rattle.std.specs.Prelude.{◌≡◌, ◌∷◌, [], ◌↔◌, true, IfOk, OnOk, string_bytes};
+ghost use Rattle.std.specs.List.{AllByRecursion};
+ghost use Rattle.kp_kore.specs.Parts.{free_variables, all_free_variables};
+ghost use Rattle.kp_kore.specs.Signature.{KoreSignature, meaning_of as meaning_named};
+ghost use Rattle.kp_kore.specs.View.{view, patterns_view, sort_view, sorts_view};
+ghost use Rattle.kp_signature.specs.View.{signature_view};
+ghost use Rattle.kp_semantics.specs.Value.{Value, HasSort, HaveSorts};
+ghost use Rattle.kp_semantics.specs.Sorted.{IsSorted};
+ghost use Rattle.kp_semantics.specs.Instance.{Valuation, instance, instances, applied, GivesSorts};
+ghost use Rattle.kp_rules.specs.Bodies.{IsVerifiedLeft};
+ghost use Rattle.kp_rules.specs.Heads.{HasHead};
+ghost use Rattle.kp_rules.specs.Tests.{IsGiven, Adds};
+
 use crate::rule::SortTest;
+use kp_compile::{CompileError, Meaning, meaning_of};
 use kp_kore::{Name, Pattern, Sort};
 use kp_signature::Signature;
 use std::alloc::{AllocError, Global};
 
 /// The sort tests of a left term: one for each variable that doesn't stand as a constructor's argument of its own sort.
+/// A term that `compile_left` refuses is refused, and a constructor with another number of arguments than it declares.
 pub fn sort_tests(
     alloc: Global,
     signature: &Signature,
     left: &Pattern,
-) -> Result<Vec<SortTest>, AllocError> {
+) -> Result<Vec<SortTest>, CompileError>
+    ensures { IfOk result (λ tests. IsVerifiedLeft (signature_view signature.now) (view left.now) → (v : Valuation) → IsSorted (signature_view signature.now) (instance (signature_view signature.now) v (view left.now)) → AllByRecursion (HasHead (signature_view signature.now) v) tests.items ↔ GivesSorts (signature_view signature.now) v (free_variables (view left.now))) }
+{
     let mut tests = Vec::new(alloc);
     add_tests(left, alloc, signature, None, &mut tests)?;
     Ok(tests)
@@ -23,40 +40,48 @@ fn add_tests(
     signature: &Signature,
     given: Option<&Sort>,
     tests: &mut Vec<SortTest>,
-) -> Result<(), AllocError> {
+) -> Result<(), CompileError>
+    ensures { OnOk result ((v : Valuation) → IsGiven (signature_view signature.now) given.entry (instance (signature_view signature.now) v (view pattern.now)) → Adds (signature_view signature.now) v tests.old.items tests.new.items (free_variables (view pattern.now))) }
+{
     match pattern {
-        Pattern::Variable { name, sort } => add_test(alloc, name, sort, given, tests),
+        Pattern::Variable { name, sort } => Ok(add_test(alloc, name, sort, given, tests)?),
+        Pattern::Literal { .. } => Ok(()),
         Pattern::Application {
             symbol,
             arguments,
             ..
-        } => {
-            add_tests_of_arguments(
-                arguments,
-                alloc,
-                signature,
-                places_of(signature, symbol),
-                tests,
-            )
-        }
-        _ => Ok(()),
+        } => add_tests_of_applied(arguments, alloc, signature, symbol, tests),
+        _ => Err(CompileError::Shape),
     }
 }
 
-/// The sorts that a constructor's places give: those of its arguments. `inj` gives none.
-fn places_of<'a>(signature: &'a Signature, symbol: &str) -> &'a [Sort] {
-    match signature.symbol(symbol) {
-        Some(found) => {
-            if found.parameters.is_empty() {
-                &found.arguments
-            } else {
-                &[]
+/// The same of a name applied to arguments: `inj` gives its argument no sort, a constructor those that it declares.
+#[cycle(sort_tests)]
+fn add_tests_of_applied(
+    arguments: &[Pattern],
+    alloc: Global,
+    signature: &Signature,
+    symbol: &Name,
+    tests: &mut Vec<SortTest>,
+) -> Result<(), CompileError>
+    ensures { OnOk result ((v : Valuation) → IsSorted (signature_view signature.now) (applied (meaning_named (signature_view signature.now) (string_bytes symbol.now)) (string_bytes symbol.now) (instances (signature_view signature.now) v (patterns_view arguments.now))) → Adds (signature_view signature.now) v tests.old.items tests.new.items (all_free_variables (patterns_view arguments.now))) }
+{
+    match meaning_of(signature, symbol) {
+        Meaning::Injection => match arguments {
+            [argument] => add_tests(argument, alloc, signature, None, tests),
+            _ => Err(CompileError::Shape),
+        },
+        Meaning::Constructor => match signature.symbol(symbol) {
+            Some(found) => {
+                add_tests_of_arguments(arguments, alloc, signature, &found.arguments, tests)
             }
-        }
-        None => &[],
+            None => Err(CompileError::Shape),
+        },
+        Meaning::Interpreted(_) | Meaning::Foreign => Err(CompileError::Shape),
     }
 }
 
+/// The same of a constructor's arguments, at places that give these sorts.
 #[cycle(sort_tests)]
 fn add_tests_of_arguments(
     patterns: &[Pattern],
@@ -64,24 +89,40 @@ fn add_tests_of_arguments(
     signature: &Signature,
     places: &[Sort],
     tests: &mut Vec<SortTest>,
-) -> Result<(), AllocError> {
+) -> Result<(), CompileError>
+    ensures { OnOk result ((v : Valuation) → HaveSorts (signature_view signature.now) (sorts_view places.now) (instances (signature_view signature.now) v (patterns_view patterns.now)) → Adds (signature_view signature.now) v tests.old.items tests.new.items (all_free_variables (patterns_view patterns.now))) }
+{
+    if patterns.len() != places.len() {
+        return Err(CompileError::Shape);
+    }
     for i in 0..patterns.len() {
-        add_tests(&patterns[i], alloc, signature, places.get(i), tests)?;
+        add_tests(&patterns[i], alloc, signature, Some(&places[i]), tests)?;
     }
     Ok(())
 }
 
+/// Whether the place gives this sort.
+fn gives(given: Option<&Sort>, sort: &Sort) -> bool
+    ensures { (g : KoreSignature) (u : Value) → result ≡ true → IsGiven g given.entry u → HasSort g (sort_view sort.now) u }
+{
+    match given {
+        Some(given) => given.equal(sort),
+        None => false,
+    }
+}
+
+/// Adds a variable's test, unless its place gives its sort.
 fn add_test(
     alloc: Global,
     name: &Name,
     sort: &Sort,
     given: Option<&Sort>,
     tests: &mut Vec<SortTest>,
-) -> Result<(), AllocError> {
-    if let Some(given) = given {
-        if given.equal(sort) {
-            return Ok(());
-        }
+) -> Result<(), AllocError>
+    ensures { OnOk result ((g : KoreSignature) (v : Valuation) → IsGiven g given.entry (v (string_bytes name.now)) → Adds g v tests.old.items tests.new.items (record { name = string_bytes name.now; sort = sort_view sort.now } ∷ [])) }
+{
+    if gives(given, sort) {
+        return Ok(());
     }
     tests.push(SortTest {
         name: name.clone()?,

@@ -1,115 +1,136 @@
 // Whether a variable under inj leaves its value's heads to sorts of their own.
-use crate::sort_index::{SortIndex, SortNumbers};
+ghost use Rattle.std.specs.Prelude.{◌≡◌, ◌↔◌, ◌⊎◌, ℕ, IfOk, OnOk, IsTrue, MatchBool};
+ghost use Rattle.std.specs.List.{Contains};
+ghost use Rattle.kp_kore.specs.View.{sort_view};
+ghost use Rattle.kp_signature.specs.View.{signature_view};
+ghost use Rattle.kp_semantics.specs.Foreign.{SplitsByHeads};
+ghost use Rattle.kp_rules.specs.Index.{IsIndexOf, AreOpposite, OwnsHeads, Under, Over, IsReachedFrom, edges_of, NumbersSplit, SetMeet, IsSettled, Covers, AreNotOver};
+
+use crate::edges::{Numbers, add_all, add_if, all_reached, has, reached_from};
+use crate::sort_index::SortIndex;
 use indexmap::IndexSet;
 use kp_kore::Sort;
+use kp_signature::Signature;
 use std::alloc::{AllocError, Global};
 
 impl SortIndex {
-    fn add_below(&self, number: usize, found: &mut SortNumbers) -> Result<(), AllocError> {
-        if let Some(entry) = self.entry(number) {
-            for lower in &entry.below {
-                found.insert(*lower)?;
-            }
-        }
-        Ok(())
-    }
-
-    fn add_above(&self, number: usize, found: &mut SortNumbers) -> Result<(), AllocError> {
-        if let Some(entry) = self.entry(number) {
-            for upper in &entry.above {
-                found.insert(*upper)?;
-            }
-        }
-        Ok(())
-    }
-
-    /// The sort and all sorts below it. A place is passed once for each sort.
-    fn down_from(&self, alloc: Global, number: usize) -> Result<SortNumbers, AllocError> {
-        let mut found = IndexSet::new(alloc);
-        found.insert(number)?;
-        for place in 0..self.count() {
-            match found.get_index(place).copied() {
-                Some(next) => self.add_below(next, &mut found)?,
-                None => break,
-            }
-        }
-        Ok(found)
-    }
-
-    /// Adds all sorts above those that are found.
-    fn close_upwards(&self, found: &mut SortNumbers) -> Result<(), AllocError> {
-        for place in 0..self.count() {
-            match found.get_index(place).copied() {
-                Some(next) => self.add_above(next, found)?,
-                None => break,
-            }
-        }
-        Ok(())
-    }
-
-    /// The sort and all sorts above it.
-    fn up_from(&self, alloc: Global, number: usize) -> Result<SortNumbers, AllocError> {
-        let mut found = IndexSet::new(alloc);
-        found.insert(number)?;
-        self.close_upwards(&mut found)?;
-        Ok(found)
-    }
-
-    /// Those that are the own sort of some head.
-    fn with_heads(&self, alloc: Global, numbers: &SortNumbers) -> Result<SortNumbers, AllocError> {
-        let mut found = IndexSet::new(alloc);
-        for number in numbers.as_slice() {
-            if let Some(entry) = self.entry(*number) {
-                if entry.has_heads {
-                    found.insert(*number)?;
-                }
-            }
-        }
-        Ok(found)
-    }
-
     /// Whether `X:T` under `inj{T,U}` splits by heads: each sort below U that has heads in common with T has a sort
     /// below both with exactly these.
-    pub fn splits(&self, alloc: Global, lower: &Sort, upper: &Sort) -> Result<bool, AllocError> {
+    pub fn splits(
+        &self,
+        alloc: Global,
+        signature: &Signature,
+        lower: &Sort,
+        upper: &Sort,
+    ) -> Result<bool, AllocError>
+        requires { IsIndexOf (signature_view signature.now) self.now }
+        ensures { IfOk result (λ b. MatchBool b (SplitsByHeads (signature_view signature.now) (sort_view lower.now) (sort_view upper.now)) (¬ SplitsByHeads (signature_view signature.now) (sort_view lower.now) (sort_view upper.now))) }
+    {
         let Some(lower) = self.number_of(alloc, lower)? else {
             return Ok(true);
         };
         let Some(upper) = self.number_of(alloc, upper)? else {
             return Ok(true);
         };
+        self.numbers_split(alloc, lower, upper)
+    }
+
+    /// The same of sorts that have numbers.
+    fn numbers_split(&self, alloc: Global, lower: usize, upper: usize) -> Result<bool, AllocError>
+        requires { AreOpposite self.now }
+        ensures { IfOk result (λ b. IsTrue b ↔ NumbersSplit self.now lower upper) }
+    {
         let below = self.down_from(alloc, lower)?;
-        let heads = self.with_heads(alloc, &below)?;
-        let sharing = self.sharing_sorts(alloc, lower, &below, &heads)?;
-        for number in sharing.as_slice() {
-            if self.is_above(alloc, upper, *number)?
-                && !self.has_meet(alloc, *number, &below, &heads)?
-            {
+        let above = self.up_from(alloc, lower)?;
+        let under = self.down_from(alloc, upper)?;
+        let heads = self.with_heads(alloc, below.as_slice())?;
+        let sharing = self.all_above(alloc, &heads)?;
+        self.all_settled(alloc, sharing.as_slice(), &under, &below, &above, &heads)
+    }
+
+    /// The sort and all sorts below it.
+    fn down_from(&self, alloc: Global, number: usize) -> Result<Numbers, AllocError>
+        ensures { IfOk result (λ found. (j : ℕ) → Contains found.keys j ↔ Under self.now number j) }
+    {
+        reached_from(alloc, &self.below, number)
+    }
+
+    /// The sort and all sorts above it.
+    fn up_from(&self, alloc: Global, number: usize) -> Result<Numbers, AllocError>
+        ensures { IfOk result (λ found. (j : ℕ) → Contains found.keys j ↔ Over self.now number j) }
+    {
+        reached_from(alloc, &self.above, number)
+    }
+
+    /// The sorts and all sorts above them.
+    fn all_above(&self, alloc: Global, numbers: &Numbers) -> Result<Numbers, AllocError>
+        ensures { IfOk result (λ found. (j : ℕ) → Contains found.keys j ↔ IsReachedFrom (edges_of self.now.above.items) numbers.now.keys j) }
+    {
+        all_reached(alloc, &self.above, numbers)
+    }
+
+    /// Those that are the own sort of some head.
+    fn with_heads(&self, alloc: Global, numbers: &[usize]) -> Result<Numbers, AllocError>
+        ensures { IfOk result (λ found. (j : ℕ) → Contains found.keys j ↔ (Contains numbers.now j × OwnsHeads self.now j)) }
+    {
+        let mut found = IndexSet::new(alloc);
+        for number in numbers {
+            add_if(&mut found, *number, self.owns_heads(*number))?;
+        }
+        Ok(found)
+    }
+
+    fn owns_heads(&self, number: usize) -> bool
+        ensures { IsTrue result ↔ OwnsHeads self.now number }
+    {
+        if number < self.heads.len() {
+            return self.heads[number];
+        }
+        false
+    }
+
+    fn all_settled(
+        &self,
+        alloc: Global,
+        numbers: &[usize],
+        under: &Numbers,
+        below: &Numbers,
+        above: &Numbers,
+        heads: &Numbers,
+    ) -> Result<bool, AllocError>
+        ensures { IfOk result (λ b. IsTrue b ↔ ((i : ℕ) → Contains numbers.now i → IsSettled self.now i under.now.keys below.now.keys above.now.keys heads.now.keys)) }
+    {
+        for number in numbers {
+            if !self.is_settled(alloc, *number, under, below, above, heads)? {
                 return Ok(false);
             }
         }
         Ok(true)
     }
 
-    /// The sorts that have one of these heads and are neither below nor above the sort: of two sorts of which one is
-    /// below the other, that one has exactly the common heads.
-    fn sharing_sorts(
+    /// Whether the number isn't under the upper sort, or shares heads in one sort: of two sorts of which one is below
+    /// the other, that one has exactly the common heads.
+    fn is_settled(
         &self,
         alloc: Global,
         number: usize,
-        below: &SortNumbers,
-        heads: &SortNumbers,
-    ) -> Result<SortNumbers, AllocError> {
-        let mut all = IndexSet::new(alloc);
-        for head in heads.as_slice() {
-            all.insert(*head)?;
+        under: &Numbers,
+        below: &Numbers,
+        above: &Numbers,
+        heads: &Numbers,
+    ) -> Result<bool, AllocError>
+        ensures { IfOk result (λ b. IsTrue b ↔ IsSettled self.now number under.now.keys below.now.keys above.now.keys heads.now.keys) }
+    {
+        if !has(under, number) {
+            return Ok(true);
         }
-        self.close_upwards(&mut all)?;
-        let above = self.up_from(alloc, number)?;
-        without(alloc, &all, below, &above)
-    }
-
-    fn is_above(&self, alloc: Global, upper: usize, number: usize) -> Result<bool, AllocError> {
-        Ok(self.up_from(alloc, number)?.contains(&upper))
+        if has(below, number) {
+            return Ok(true);
+        }
+        if has(above, number) {
+            return Ok(true);
+        }
+        self.has_meet(alloc, number, below, heads)
     }
 
     /// Whether some sort below both has all heads that are in both.
@@ -117,55 +138,83 @@ impl SortIndex {
         &self,
         alloc: Global,
         number: usize,
-        below: &SortNumbers,
-        heads: &SortNumbers,
-    ) -> Result<bool, AllocError> {
+        below: &Numbers,
+        heads: &Numbers,
+    ) -> Result<bool, AllocError>
+        ensures { IfOk result (λ b. IsTrue b ↔ SetMeet self.now number below.now.keys heads.now.keys) }
+    {
         let down = self.down_from(alloc, number)?;
-        let common = count_common(&down, heads);
+        let common = common(alloc, heads.as_slice(), &down)?;
+        self.any_covers(alloc, down.as_slice(), below, common.as_slice())
+    }
+
+    /// Whether one of the numbers is among these, and all those others are below it.
+    fn any_covers(
+        &self,
+        alloc: Global,
+        numbers: &[usize],
+        among: &Numbers,
+        others: &[usize],
+    ) -> Result<bool, AllocError>
+        ensures { IfOk result (λ b. IsTrue b ↔ ((c : ℕ) × Contains numbers.now c × Covers self.now c among.now.keys others.now)) }
+    {
         let mut failed = IndexSet::new(alloc);
-        for candidate in down.as_slice() {
-            if below.contains(candidate) && !failed.contains(candidate) {
-                let lower = self.down_from(alloc, *candidate)?;
-                if count_common(&lower, heads) == common {
-                    return Ok(true);
-                }
-                add_all(&mut failed, &lower)?;
+        for number in numbers {
+            if self.covers(alloc, *number, among, others, &mut failed)? {
+                return Ok(true);
             }
         }
         Ok(false)
     }
+
+    /// Whether a number is among these, and all those others are below it. Where they aren't, none below it has them
+    /// all below it either.
+    fn covers(
+        &self,
+        alloc: Global,
+        number: usize,
+        among: &Numbers,
+        others: &[usize],
+        failed: &mut Numbers,
+    ) -> Result<bool, AllocError>
+        requires { AreNotOver self.now others.now failed.old.keys }
+        ensures tells { IfOk result (λ b. IsTrue b ↔ Covers self.now number among.now.keys others.now) }
+        ensures kept { OnOk result (AreNotOver self.now others.now failed.new.keys) }
+    {
+        if !has(among, number) {
+            return Ok(false);
+        }
+        if has(failed, number) {
+            return Ok(false);
+        }
+        let below = self.down_from(alloc, number)?;
+        if has_all(&below, others) {
+            return Ok(true);
+        }
+        add_all(failed, below.as_slice())?;
+        Ok(false)
+    }
 }
 
-/// How many numbers are in both.
-fn count_common(numbers: &SortNumbers, others: &SortNumbers) -> usize {
-    let mut count: usize = 0;
-    for number in numbers.as_slice() {
-        if others.contains(number) {
-            count = count.saturating_add(1);
+/// Whether all of the numbers are there.
+fn has_all(found: &Numbers, numbers: &[usize]) -> bool
+    ensures { IsTrue result ↔ ((j : ℕ) → Contains numbers.now j → Contains found.now.keys j) }
+{
+    for number in numbers {
+        if !has(found, *number) {
+            return false;
         }
     }
-    count
+    true
 }
 
-fn add_all(found: &mut SortNumbers, numbers: &SortNumbers) -> Result<(), AllocError> {
-    for number in numbers.as_slice() {
-        found.insert(*number)?;
-    }
-    Ok(())
-}
-
-/// The numbers that are in neither of the others.
-fn without(
-    alloc: Global,
-    numbers: &SortNumbers,
-    first: &SortNumbers,
-    second: &SortNumbers,
-) -> Result<SortNumbers, AllocError> {
+/// The numbers that are in both.
+fn common(alloc: Global, numbers: &[usize], others: &Numbers) -> Result<Numbers, AllocError>
+    ensures { IfOk result (λ found. (j : ℕ) → Contains found.keys j ↔ (Contains numbers.now j × Contains others.now.keys j)) }
+{
     let mut found = IndexSet::new(alloc);
-    for number in numbers.as_slice() {
-        if !first.contains(number) && !second.contains(number) {
-            found.insert(*number)?;
-        }
+    for number in numbers {
+        add_if(&mut found, *number, has(others, *number))?;
     }
     Ok(found)
 }

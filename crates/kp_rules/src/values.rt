@@ -114,36 +114,3 @@ pub fn has_sort(
         )?),
     }
 }
-
-/// The sort of a value's head itself: that of whole numbers, of truth values, of the token, or the constructor's
-/// result. None where the signature has none.
-pub fn own_sort(
-    alloc: Global,
-    signature: &Signature,
-    value: &Value,
-) -> Result<Option<Sort>, AllocError> {
-    match value {
-        Value::Whole { .. } => sort_named(alloc, signature.integer_sort()),
-        Value::Truth { .. } => sort_named(alloc, signature.boolean_sort()),
-        Value::Token { sort, .. } => Ok(Some(sort.copy(alloc)?)),
-        Value::Constructed { constructor, .. } => result_of(alloc, signature, constructor.as_str()),
-    }
-}
-
-fn result_of(
-    alloc: Global,
-    signature: &Signature,
-    constructor: &str,
-) -> Result<Option<Sort>, AllocError> {
-    match signature.symbol(constructor) {
-        Some(symbol) => Ok(Some(symbol.result_sort.copy(alloc)?)),
-        None => Ok(None),
-    }
-}
-
-fn sort_named(alloc: Global, name: Option<&Name>) -> Result<Option<Sort>, AllocError> {
-    match name {
-        Some(name) => Ok(Some(plain_sort(alloc, name)?)),
-        None => Ok(None),
-    }
-}

@@ -1,0 +1,20 @@
+use Rattle.std.proofs.Common.{sym, subst, ◌∙◌, ◌∷◌, []}
+use Rattle.std.proofs.lemmas.List.{append-nil}
+use Rattle.kp_kore.specs.View.{sort_view}
+use Rattle.kp_signature.specs.View.{signature_view}
+use Rattle.kp_rules.specs.Index.{sort_text, IsIndexUpTo}
+use Rattle.kp_rules.proofs.IndexLemmas.{number_told}
+use Rattle.kp_rules.proofs.NewIndex.{number_on}
+use Rattle.kp_rules.proofs.sort_index.SortIndex.number_for.Goals as goal
+
+pub returns-in-Some : goal.returns-in-Some
+returns-in-Some c pairs sorts ix =
+    let a = sort_view c.args.sort.now in
+    let n = c.in-Some.number in
+    let num = number_told sorts a n (sym c.in-Some.is ∙ c.in_ok-number.ensures ∙ ix.by.numbers (sort_text a)) in
+    ([], number_on sorts [] n a num, subst (λ l. IsIndexUpTo (signature_view c.args.signature.now) pairs [] l c.args.self.now) (sym (append-nil sorts)) ix)
+
+pub returns-in_ok-add_sort-in-None : goal.returns-in_ok-add_sort-in-None
+returns-in_ok-add_sort-in-None c pairs sorts ix =
+    let k = c.in_ok-add_sort-in-None.ensures pairs sorts ix (sym c.in-None.is ∙ c.in_ok-number.ensures) in
+    (sort_view c.args.sort.now ∷ [], k.0, k.1)

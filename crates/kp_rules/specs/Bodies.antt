@@ -1,0 +1,81 @@
+-- Which rules of a theory the code's rules are.
+use Rattle.std.specs.Prelude.{◌≡◌, ◌↔◌, ℕ, true, false, List, [], Option, Some, None, IsTrue, string_bytes, ⊤}
+use Rattle.std.specs.Bool.{Decides}
+use Rattle.std.specs.List.{AllByRecursion, AllZip}
+use Rattle.kp_kore.specs.Syntax.{KoreSort, KorePattern, top, Statement}
+use Rattle.kp_kore.specs.Parts.{is_term, free_variables}
+use Rattle.kp_kore.specs.Signature.{KoreSignature}
+use Rattle.kp_kore.specs.View.{sort_view}
+use Rattle.kp_signature.specs.View.{signature_view}
+use Rattle.kp_signature.specs.Places.{Place}
+use Rattle.kp_signature.specs.Verify.{first_fault}
+use Rattle.kp_semantics.specs.Value.{Value, HasSort}
+use Rattle.kp_semantics.specs.Sorted.{IsSorted, IsRegular}
+use Rattle.kp_semantics.specs.Instance.{Valuation, instance, IsTrueUnder, GivesSorts}
+use Rattle.kp_semantics.specs.Rules as model
+use Rattle.kp_semantics.specs.Foreign.{none_within, has_foreign_head, has_interpreted_head, Reads, IsSkeletonInstance}
+use Rattle.kp_semantics.specs.Theory.{Theory}
+use Rattle.kp_ground.specs.Conditions.{condition_holds}
+use Rattle.kp_ground.specs.ConditionView.{condition_view}
+use Rattle.kp_compile.specs.Exact.{IsLeftOf, IsTermOf}
+use Rattle.kp_rules.specs.Heads.{HasHead}
+use Rattle.kp_rules.specs.Skeletons.{IsAdmitted}
+use Rattle.kp_rules.specs.declared.rule.Rule.{Rule}
+use Rattle.kp_rules.specs.declared.rule.RuleBody.{RuleBody}
+use Rattle.kp_rules.specs.declared.rule.RuleBody.TheVariants.{Rewrite, Foreign}
+use Rattle.kp_rules.specs.declared.rule.RuleSet.{RuleSet}
+use Rattle.kp_rules.specs.declared.rule.Rewrite as code
+
+-- a term of variables, literals, constructors and inj, without a verify fault
+abbrev pub IsVerifiedLeft : KoreSignature → KorePattern → Type 0
+IsVerifiedLeft g p =
+    IsTrue (is_term p)
+    × IsTrue (none_within (has_foreign_head g) p)
+    × IsTrue (none_within (has_interpreted_head g) p)
+    × ((c : Place) × (first_fault g c p ≡ None))
+
+abbrev pub IsTop : KorePattern → Type 0
+IsTop p = (s : KoreSort) × (p ≡ top s)
+
+-- one configuration follows: no new variables, and nothing but \top to ensure
+pub record IsPlain (m : model.Rewrite) : Type 0 where
+  pub new_variables : m.new_variables ≡ []
+  pub ensured : AllByRecursion IsTop m.ensured
+
+-- the code's rule is the rewrite: its terms and its condition are the rewrite's, its tests pass on a value that has a
+-- sort exactly where the valuation gives the left term's variables values of their sorts, and the right term's
+-- instance has the sort that is noted
+pub record IsRewriteOf (g : KoreSignature) (m : model.Rewrite) (r : code.Rewrite) : Type 0 where
+  pub left : IsLeftOf g m.left r.left
+  pub tests : (v : Valuation) → IsSorted g (instance g v m.left) → AllByRecursion (HasHead g v) r.tests.items ↔ GivesSorts g v (free_variables m.left)
+  pub condition : (v : Valuation) → Decides (condition_holds v (condition_view r.condition)) (AllByRecursion (IsTrueUnder g v) m.condition)
+  pub right : IsTermOf g m.right r.right
+  pub plain : r.chooses ≡ false → IsPlain m
+  pub chooses : r.chooses ≡ true → ¬ IsPlain m
+  pub sorted : IsRegular g → (v : Valuation) → GivesSorts g v (free_variables m.left) → m.new_variables ≡ [] → HasSort g (sort_view r.right_sort) (instance g v m.right)
+
+-- and the skeleton is the foreign rule's: it stands for the same values
+abbrev pub IsBodyOf : KoreSignature → model.RuleBody → RuleBody → Type 0
+IsBodyOf g (model.rewrite m) (Rewrite r) = IsRewriteOf g m r
+IsBodyOf g (model.foreign_rule l) (Foreign k) = (u : Value) → IsSorted g u → IsAdmitted g k u ↔ IsSkeletonInstance g l u
+IsBodyOf g (model.rewrite m) (Foreign k) = ⊥
+IsBodyOf g (model.foreign_rule l) (Rewrite r) = ⊥
+
+-- what a rewrite axiom is read as: its body, and its priority where it isn't foreign
+pub record IsReadAs (g : KoreSignature) (a : Statement) (priority : ℕ) (body : RuleBody) : Type 0 where
+  pub meant : model.RuleBody
+  pub reads : Reads g a.parameters a.attributes a.pattern meant
+  pub is_body : IsBodyOf g meant body
+  pub is_priority : (r : code.Rewrite) → body ≡ Rewrite r → model.priority_of a.attributes ≡ Some priority
+
+-- the code's rule is the theory's; a foreign rule's priority is never asked
+pub record IsCodeOf (g : KoreSignature) (m : model.RewriteRule) (r : Rule) : Type 0 where
+  pub id : string_bytes r.id ≡ m.id
+  pub is_body : IsBodyOf g m.body r.body
+  pub is_priority : (w : code.Rewrite) → r.body ≡ Rewrite w → m.priority ≡ r.priority
+
+-- the code's rule set is the theory, rule by rule
+pub record RunsAs (t : Theory) (rules : RuleSet) : Type 0 where
+  pub signature : signature_view rules.signature ≡ t.signature
+  pub each : AllZip (IsCodeOf t.signature) t.rules rules.rules.items
+  pub regular : rules.is_regular ≡ true → IsRegular t.signature

@@ -1,0 +1,177 @@
+// What is asked of each part of a rewrite axiom.
+ghost use Rattle.std.specs.Prelude.{◌≡◌, ◌&&◌, IfOk, MatchBool, IsTrue, not, string_bytes};
+ghost use Rattle.std.specs.List.{list_all, AllByRecursion};
+ghost use Rattle.kp_kore.specs.View.{view};
+ghost use Rattle.kp_semantics.specs.Foreign.{is_foreign_meaning, is_interpretation, has_foreign_head as foreign_head, has_interpreted_head as interpreted_head, is_set_variable as set_variable_test, is_quantifier as quantifier_test, is_floor_of_term as floor_test, is_wide_literal as wide_literal, writes_number, fits_number, InjectionsSplit};
+ghost use Rattle.std.specs.Str.Parse.{signed_digits_value};
+ghost use Rattle.kp_signature.specs.View.{signature_view};
+ghost use Rattle.kp_compile.specs.Meanings.{meaning_view};
+ghost use Rattle.kp_rules.specs.Index.{IsIndexOf};
+ghost use Rattle.kp_rules.specs.Reading.{is_part_read, is_condition_part};
+ghost use Rattle.kp_rules.specs.Shapes.{seen};
+
+use crate::depth::is_within;
+use crate::form::is_term;
+use crate::inject::is_split;
+use crate::skeleton::MOST_DEPTH;
+use crate::sort_index::SortIndex;
+use kp_compile::{Meaning, meaning_of};
+use kp_kore::{Name, Pattern};
+use kp_signature::Signature;
+use kp_signature::rules::is_numeral;
+use std::alloc::{AllocError, Global};
+use std::num::ParseIntError;
+
+fn is_foreign(meaning: Meaning) -> bool
+    ensures { result ≡ is_foreign_meaning (meaning_view meaning) }
+{
+    match meaning {
+        Meaning::Foreign => true,
+        _ => false,
+    }
+}
+
+fn is_interpreted(meaning: Meaning) -> bool
+    ensures { result ≡ is_interpretation (meaning_view meaning) }
+{
+    match meaning {
+        Meaning::Interpreted(_) => true,
+        _ => false,
+    }
+}
+
+/// Whether it is an application of a foreign symbol or an alias.
+fn has_foreign_head(signature: &Signature, pattern: &Pattern) -> bool
+    ensures { result ≡ foreign_head (signature_view signature.now) (view pattern.now) }
+{
+    match pattern {
+        Pattern::Application { symbol, .. } => is_foreign(meaning_of(signature, symbol)),
+        _ => false,
+    }
+}
+
+/// Whether it is an application of an interpreted symbol.
+fn has_interpreted_head(signature: &Signature, pattern: &Pattern) -> bool
+    ensures { result ≡ interpreted_head (signature_view signature.now) (view pattern.now) }
+{
+    match pattern {
+        Pattern::Application { symbol, .. } => is_interpreted(meaning_of(signature, symbol)),
+        _ => false,
+    }
+}
+
+fn is_set_variable(pattern: &Pattern) -> bool
+    ensures { result ≡ set_variable_test (view pattern.now) }
+{
+    match pattern {
+        Pattern::SetVariable { .. } => true,
+        _ => false,
+    }
+}
+
+fn is_quantifier(pattern: &Pattern) -> bool
+    ensures { result ≡ quantifier_test (view pattern.now) }
+{
+    match pattern {
+        Pattern::Exists { .. } | Pattern::Forall { .. } => true,
+        _ => false,
+    }
+}
+
+fn is_floor_of_term(pattern: &Pattern) -> bool
+    ensures { result ≡ floor_test (view pattern.now) }
+{
+    match pattern {
+        Pattern::Floor { pattern, .. } => is_term(pattern),
+        _ => false,
+    }
+}
+
+/// Whether it is a number outside signed 128 bits.
+fn is_wide_literal(signature: &Signature, pattern: &Pattern) -> bool
+    ensures { result ≡ wide_literal (signature_view signature.now) (view pattern.now) }
+{
+    match pattern {
+        Pattern::Literal { sort, text } => signature.is_integer_sort(sort) && is_wide(text),
+        _ => false,
+    }
+}
+
+/// Whether the text writes a number that leaves signed 128 bits.
+fn is_wide(text: &Name) -> bool
+    ensures { result ≡ (writes_number (string_bytes text.now) && not (fits_number (signed_digits_value 10 (string_bytes text.now)))) }
+{
+    is_numeral(text.as_str()) && !fits(text.as_str())
+}
+
+fn fits(text: &str) -> bool
+    ensures { IsTrue (writes_number text.now) → result ≡ fits_number (signed_digits_value 10 text.now) }
+{
+    let number: Result<i128, ParseIntError> = text.parse();
+    number.is_ok()
+}
+
+/// Whether the part is no application of a foreign symbol, no set variable, no number outside signed 128 bits, and no
+/// term that is too deep.
+fn is_read_part(signature: &Signature, part: &Pattern) -> bool
+    ensures { result ≡ is_part_read (signature_view signature.now) (view part.now) }
+{
+    !has_foreign_head(signature, part)
+        && !is_set_variable(part)
+        && !is_wide_literal(signature, part)
+        && is_within(part, MOST_DEPTH)
+}
+
+/// Whether all parts are such.
+pub fn are_read_parts(signature: &Signature, parts: &[&Pattern]) -> bool
+    ensures { result ≡ list_all (is_part_read (signature_view signature.now)) (seen parts.now) }
+{
+    for part in parts {
+        if !is_read_part(signature, part) {
+            return false;
+        }
+    }
+    true
+}
+
+/// Whether no part is an application of an interpreted symbol.
+pub fn are_uninterpreted(signature: &Signature, parts: &[&Pattern]) -> bool
+    ensures { result ≡ list_all (λ p. not (interpreted_head (signature_view signature.now) p)) (seen parts.now) }
+{
+    for part in parts {
+        if has_interpreted_head(signature, part) {
+            return false;
+        }
+    }
+    true
+}
+
+/// Whether no part is a quantifier or `\floor` of a term.
+pub fn are_condition_parts(parts: &[&Pattern]) -> bool
+    ensures { result ≡ list_all is_condition_part (seen parts.now) }
+{
+    for part in parts {
+        if is_quantifier(part) || is_floor_of_term(part) {
+            return false;
+        }
+    }
+    true
+}
+
+/// Whether all variables under `inj` split by heads.
+pub fn all_split(
+    alloc: Global,
+    signature: &Signature,
+    index: &SortIndex,
+    parts: &[&Pattern],
+) -> Result<bool, AllocError>
+    requires index { IsIndexOf (signature_view signature.now) index.now }
+    ensures { IfOk result (λ b. MatchBool b (AllByRecursion (InjectionsSplit (signature_view signature.now)) (seen parts.now)) (¬ AllByRecursion (InjectionsSplit (signature_view signature.now)) (seen parts.now))) }
+{
+    for part in parts {
+        if !is_split(alloc, signature, index, part)? {
+            return Ok(false);
+        }
+    }
+    Ok(true)
+}
