@@ -1,5 +1,5 @@
 -- Out of a module whose imports are done.
-use Rattle.std.proofs.Common.{◌≡◌, refl, sym, ap, subst, ◌∙◌, ℕ, zero, suc, ◌+◌, ◌<◌, ◌≤◌, Bool, true, false, ◌||◌, cond, List, [], ◌∷◌, ◌++◌, length, map, take, set, get_or, Option, Some, None, ◌⊎◌, inl, inr, arith}
+use Rattle.std.proofs.Common.{◌≡◌, refl, sym, ap, subst, ◌∙◌, ℕ, zero, suc, ◌+◌, ◌<◌, Bool, true, false, ◌||◌, cond, List, [], ◌∷◌, ◌++◌, length, map, take, set, get_or, Some, ◌⊎◌, inl, inr, arith}
 use Rattle.std.specs.List.{AllByRecursion, flat_map}
 use Rattle.std.specs.Str.{bytes_eq}
 use Rattle.std.proofs.lemmas.List.{append-nil, append_assoc, map-append, length-set, get_or-set_same, get_or-set_other}
@@ -10,18 +10,20 @@ use Rattle.std.proofs.lemmas.Slice.Eq.{bytes_eq-Decides}
 use Rattle.kp_kore.specs.Syntax.{Text, KoreModule}
 use Rattle.kp_kore.specs.View.{module_view}
 use Rattle.kp_kore.specs.declared.sentence.Module.{Module}
-use Rattle.kp_semantics.specs.Theory.{each_once, names_reached}
+use Rattle.kp_semantics.specs.Theory.{names_reached}
 use Rattle.kp_signature.specs.Names.{first_place}
 use Rattle.kp_modules.specs.Names.{module_names}
-use Rattle.kp_modules.specs.Reaching.{has, collect, imports_of, AllIn}
-use Rattle.kp_modules.specs.Walks.{is_unseen, is_done, unseen_in, import_names, sentences_at, reached_by, backwards, IsImportedBy, AreOpen, AreDistinct, HasMark, IsOnWay, IsOver}
+use Rattle.kp_modules.specs.Reaching.{has, collect, imports_of, AllIn, IsClosed}
+use Rattle.kp_modules.specs.Walks.{is_unseen, is_done, is_open, unseen_in, import_names, sentences_at, reached_by, backwards, AreOpen, AreDistinct, HasMark, IsOnWay, IsOver, IsAcyclic}
 use Rattle.kp_modules.specs.declared.imports.Mark.{Mark}
 use Rattle.kp_modules.specs.declared.imports.Mark.TheVariants as mark
 use Rattle.kp_modules.specs.declared.walk.Parent.{Parent}
+use Rattle.kp_modules.proofs.Acyclic.{acyclic_more}
+use Rattle.kp_modules.proofs.Chains.{last_there}
 use Rattle.kp_modules.proofs.Collect.{false_true, or_true, or_false, has_more, each_once_is, collected_once, all_append}
 use Rattle.kp_modules.proofs.Places.{named_below}
 use Rattle.kp_modules.proofs.Settled.{closed_more, settled_more, next_done}
-use Rattle.kp_modules.proofs.Walking.{some_same, one_name, imports_at, passed_order, passed_done, bytes_same, backwards_push, length_push, bool_not}
+use Rattle.kp_modules.proofs.Walking.{some_same, one_name, imports_at, passed_order, passed_done, backwards_push, length_push, bool_not}
 
 all_two : {X : Type 0} (P Q R : X → Type 0) (xs : List X) → AllByRecursion P xs → AllByRecursion Q xs → ((x : X) → P x → Q x → R x) → AllByRecursion R xs
 all_two P Q R [] h k f = tt
@@ -68,7 +70,13 @@ ended rows main current from done marks o ns is all =
     ∙ ap (λ l. collect [] (l ++ names_reached (length rows) (map module_view rows) o.name)) top.1
     ∙ once_is_once (map module_view rows) (length rows) o.name
     ∙ ap (names_reached (length rows) (map module_view rows)) top.0 in
-    record { places = subst (λ l. map (λ n. first_place n (module_names rows)) l ≡ map Some (done ++ current ∷ [])) all_names (next_places rows o.names o.name done current o.places o.at) }
+    let own : AllIn o.names (imports_of (map module_view rows) o.name) = own_done rows main [] current from done marks o ns is all in
+    record {
+      places = subst (λ l. map (λ n. first_place n (module_names rows)) l ≡ map Some (done ++ current ∷ [])) all_names (next_places rows o.names o.name done current o.places o.at);
+      there = subst (λ l. has main l ≡ true) all_names (subst (λ m. has m (o.names ++ o.name ∷ []) ≡ true) top.0 (last_there o.name o.names));
+      closed = subst (IsClosed (map module_view rows)) all_names (closed_more (map module_view rows) o.names o.name o.closed own);
+      acyclic = subst (IsAcyclic (map module_view rows)) all_names (acyclic_more (map module_view rows) o.names o.name o.closed o.acyclic own (not_done rows main [] current from done marks o));
+    }
   where
     at_main : (above : List Text) → AreOpen rows main [] above o.name o.before → (o.name ≡ main) × (o.before ≡ [])
     at_main [] h = h
@@ -78,7 +86,7 @@ ended rows main current from done marks o ns is all =
 pub left : (rows : List Module) (main : Text) (rest : List Parent) (parent : Parent) (current from : ℕ) (done : List ℕ) (marks : List Mark) (o : IsOnWay rows main (rest ++ parent ∷ []) current from done marks) (ns : List Text) →
     import_names (sentences_at rows current) ≡ import_names (take from (sentences_at rows current)) ++ ns → AllIn o.names ns → IsOnWay rows main rest parent.place parent.from (done ++ current ∷ []) (set marks current mark.Done)
 left rows main rest parent current from done marks o ns is all =
-    by o.above (subst (λ l. AreOpen rows main l o.above o.name o.before) (backwards_push rest parent) o.opens) o.distinct o.open_marks
+    by o.above (subst (λ l. AreOpen rows main l o.above o.name o.before) (backwards_push rest parent) o.opens) o.distinct o.open_marks still_open
   where
     reach : Text → List Text
     reach n = names_reached (length rows) (map module_view rows) n
@@ -105,10 +113,23 @@ left rows main rest parent current from done marks o ns is all =
         ∙ or_nothing (has n o.names) (bytes_eq n o.name) (bool_not (bytes_eq n o.name) (λ q. e (some_same p current (sym at ∙ ap (λ m. first_place m (module_names rows)) ((bytes_eq-Decides n o.name).0 q) ∙ o.at))))
         ∙ sym (has_more n o.name o.names)
 
-    by : (above : List Text) → AreOpen rows main (parent ∷ backwards rest) above o.name o.before → AreDistinct (o.name ∷ above) → AllByRecursion (HasMark rows marks mark.Open) (o.name ∷ above) →
+    StillOpen : List Text → Type 0
+    StillOpen above = (n : Text) (p : ℕ) (c : Mark) → first_place n (module_names rows) ≡ Some p → is_open (get_or (set marks current mark.Done) p c) ≡ true → (p ≡ current) ⊎ (p ≡ current → ⊥) → (has n (o.name ∷ above) ≡ true) × (bytes_eq n o.name ≡ false)
+
+    not_first : (n m : Text) (b : Bool) → (bytes_eq n m || b) ≡ true → bytes_eq n m ≡ false → b ≡ true
+    not_first n m b h e = sym (ap (λ c. c || b) e) ∙ h
+
+    still_open : StillOpen o.above
+    still_open n p c at k (inl e) = false_true (sym (ap is_open (subst (λ q. get_or (set marks current mark.Done) q c ≡ mark.Done) (sym e) (get_or-set_same marks current mark.Done c inside))) ∙ k)
+    still_open n p c at k (inr e) = (
+      o.only n p c at (ap is_open (sym (get_or-set_other marks current p mark.Done c e)) ∙ k),
+      bool_not (bytes_eq n o.name) (λ q. e (some_same p current (sym at ∙ ap (λ m. first_place m (module_names rows)) ((bytes_eq-Decides n o.name).0 q) ∙ o.at))),
+    )
+
+    by : (above : List Text) → AreOpen rows main (parent ∷ backwards rest) above o.name o.before → AreDistinct (o.name ∷ above) → AllByRecursion (HasMark rows marks mark.Open) (o.name ∷ above) → StillOpen above →
         IsOnWay rows main rest parent.place parent.from (done ++ current ∷ []) (set marks current mark.Done)
-    by [] h d m = absurd h
-    by (x ∷ xs) h d m = record {
+    by [] h d m still = absurd h
+    by (x ∷ xs) h d m still = record {
       name = x;
       above = xs;
       before = h.rest;
@@ -119,6 +140,7 @@ left rows main rest parent current from done marks o ns is all =
       open_marks = all_two (HasMark rows marks mark.Open) (λ y. bytes_eq o.name y ≡ false) (HasMark rows (set marks current mark.Done) mark.Open) (x ∷ xs) m.1 d.0
           (λ y k e p c at. get_or-set_other marks current p mark.Done c (elsewhere y p at e) ∙ k p c at);
       tell = λ n p c at. told n p c at (cases_eq p current);
+      only = λ n p c at k. not_first n o.name (has n (x ∷ xs)) (still n p c at k (cases_eq p current)).0 (still n p c at k (cases_eq p current)).1;
       places = next_places rows o.names o.name done current o.places o.at;
       order = next_name rows main (rest ++ parent ∷ []) current from done marks o ns is all
           ∙ ap (λ l. collect [] (l ++ reach o.name)) h.are
@@ -126,6 +148,7 @@ left rows main rest parent current from done marks o ns is all =
           ∙ ap (λ l. collect [] (h.rest ++ reached_by rows l)) (sym h.imports);
       closed = closed_more (map module_view rows) o.names o.name o.closed (own_done rows main (rest ++ parent ∷ []) current from done marks o ns is all);
       settled = settled_more (map module_view rows) o.names o.name o.settled (own_done rows main (rest ++ parent ∷ []) current from done marks o ns is all);
+      acyclic = acyclic_more (map module_view rows) o.names o.name o.closed o.acyclic (own_done rows main (rest ++ parent ∷ []) current from done marks o ns is all) (not_done rows main (rest ++ parent ∷ []) current from done marks o);
       len = length-set marks current mark.Done ∙ o.len;
       room =
           let moved : unseen_in (set marks current mark.Done) + cond (is_unseen (get_or marks current mark.Open)) 1 0 ≡ unseen_in marks + 0 = sum_by-set (λ c. cond (is_unseen c) 1 0) marks current mark.Done mark.Open inside in

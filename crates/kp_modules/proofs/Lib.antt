@@ -1,9 +1,13 @@
+pub mod Acyclic
+pub mod Chains
 pub mod Collect
 pub mod Declared
+pub mod Labelled
 pub mod Leaving
 pub mod Places
-pub mod Sentences
+pub mod Ruled
 pub mod Seen
+pub mod Sentences
 pub mod Settled
 pub mod Starting
 pub mod Stepping

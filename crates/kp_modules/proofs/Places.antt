@@ -1,14 +1,14 @@
 -- First places of names are places.
-use Rattle.std.proofs.Common.{◌≡◌, refl, sym, ap, subst, ◌∙◌, ℕ, zero, suc, take, ◌<◌, ◌≤◌, Bool, true, false, cond, List, [], ◌∷◌, length, Option, Some, None, IfSome, map, String, Global, arith}
+use Rattle.std.proofs.Common.{◌≡◌, sym, subst, ◌∙◌, ℕ, zero, suc, take, ◌<◌, ◌≤◌, Bool, true, false, cond, List, [], ◌∷◌, length, Option, Some, None, IfSome, map, String, Global, arith}
 use Rattle.std.specs.Option.{option_map}
 use Rattle.std.specs.Str.{bytes_eq}
 use Rattle.std.proofs.lemmas.List.{length-map}
-use Rattle.indexmap.specs.IndexMap.{IndexMap, get_by_text}
+use Rattle.indexmap.specs.IndexMap.{IndexMap}
 use Rattle.kp_kore.specs.Syntax.{Text}
 use Rattle.kp_kore.specs.View.{module_view}
 use Rattle.kp_kore.specs.declared.sentence.Module.{Module}
 use Rattle.kp_signature.specs.Names.{Indexes, first_place}
-use Rattle.kp_modules.specs.Names.{names_of, module_names, PlacesAreBelow}
+use Rattle.kp_modules.specs.Names.{module_names, PlacesAreBelow}
 
 place_below : (n : Text) (names : List Text) → IfSome (first_place n names) (λ p. p < length names)
 place_below n [] = tt

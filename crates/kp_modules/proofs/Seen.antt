@@ -1,8 +1,7 @@
 -- The modules at the places of names are those of the names.
-use Rattle.std.proofs.Common.{◌≡◌, refl, sym, ap, subst, ◌∙◌, ℕ, zero, suc, ◌<◌, ◌+◌, List, [], ◌∷◌, ◌++◌, length, map, take, get_or, slice_get, Option, Some, None, Bor, arith}
-use Rattle.std.specs.List.{AllByRecursion, filter_map, cons_option, find}
+use Rattle.std.proofs.Common.{◌≡◌, refl, sym, ap, ◌∙◌, ℕ, zero, suc, ◌<◌, ◌+◌, List, [], ◌∷◌, ◌++◌, length, map, take, get_or, slice_get, Some, Bor, arith}
+use Rattle.std.specs.List.{AllByRecursion, filter_map, cons_option}
 use Rattle.std.specs.Option.{option_map, option_and_then}
-use Rattle.std.specs.Str.{bytes_eq}
 use Rattle.std.proofs.Math.Seq.{take-suc}
 use Rattle.std.proofs.lemmas.List.{map-append, length-map}
 use Rattle.kp_kore.specs.Syntax.{Text}
@@ -13,7 +12,6 @@ use Rattle.kp_signature.specs.Names.{first_place}
 use Rattle.kp_signature.proofs.FirstPlaces.{looked_up}
 use Rattle.kp_modules.specs.Names.{module_names}
 use Rattle.kp_modules.specs.Walks.{IsOver}
-use Rattle.kp_modules.proofs.Walking.{some_same}
 
 abbrev first_of : {A : Type 0} → A → List A → A
 first_of d [] = d

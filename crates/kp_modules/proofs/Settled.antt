@@ -1,13 +1,13 @@
 -- What a name reaches, once the names of its imports are among those that are done.
-use Rattle.std.proofs.Common.{◌≡◌, refl, sym, ap, subst, ◌∙◌, ℕ, zero, suc, ◌+◌, ◌<◌, ◌≤◌, Bool, true, false, ◌||◌, cond, List, [], ◌∷◌, ◌++◌, length, ◌⊎◌, inl, inr, arith}
-use Rattle.std.specs.List.{AllByRecursion, flat_map}
+use Rattle.std.proofs.Common.{◌≡◌, refl, sym, ap, subst, ◌∙◌, ℕ, zero, suc, ◌<◌, ◌≤◌, Bool, true, false, ◌||◌, cond, List, [], ◌∷◌, ◌++◌, length, ◌⊎◌, inl, inr, arith}
+use Rattle.std.specs.List.{flat_map}
 use Rattle.std.specs.Str.{bytes_eq}
-use Rattle.std.proofs.lemmas.List.{append-nil, append_assoc, length-append}
+use Rattle.std.proofs.lemmas.List.{append_assoc}
 use Rattle.std.proofs.lemmas.Slice.Eq.{bytes_eq-Decides}
 use Rattle.kp_kore.specs.Syntax.{Text, KoreModule}
 use Rattle.kp_semantics.specs.Theory.{each_once, names_reached}
 use Rattle.kp_modules.specs.Reaching.{has, collect, imports_of, AllIn, IsClosed, IsSettled}
-use Rattle.kp_modules.proofs.Collect.{or_true, or_cases, has_more, collect-append, skipped, collected_once, all_append, all_flat, all_more, flat_same, all_once}
+use Rattle.kp_modules.proofs.Collect.{or_cases, has_more, collect-append, skipped, collected_once, all_append, all_flat, all_more, flat_same, all_once}
 
 pub all_reached : (ms : List KoreModule) (done : List Text) → IsClosed ms done → (k : ℕ) (n : Text) → has n done ≡ true → AllIn done (names_reached k ms n)
 all_reached ms done closed zero n h = tt

@@ -1,12 +1,11 @@
 -- Names that stand at most once, and one more.
-use Rattle.std.proofs.Common.{◌≡◌, refl, sym, ap, subst, ◌∙◌, ℕ, suc, ◌+◌, ◌<◌, ◌≤◌, Bool, true, false, ◌||◌, not, cond, List, [], ◌∷◌, ◌++◌, length, map, take, drop, get_or, count_by, string_bytes, String, Global, Bor, Option, Some, None, is_some, arith}
-use Rattle.std.specs.List.{list_any}
+use Rattle.std.proofs.Common.{◌≡◌, refl, sym, ap, subst, ◌∙◌, ℕ, suc, ◌+◌, ◌<◌, ◌≤◌, Bool, true, false, ◌||◌, not, cond, List, [], ◌∷◌, ◌++◌, length, take, drop, get_or, count_by, string_bytes, String, Global, Bor, Option, Some, is_some, arith}
 use Rattle.std.specs.Str.{bytes_eq}
 use Rattle.std.proofs.Math.Seq.{take-suc}
 use Rattle.std.proofs.lemmas.List.{map-append, take-append-drop}
 use Rattle.std.proofs.lemmas.List.Sums.{sum_by-append, sum_by-cons}
 use Rattle.std.proofs.lemmas.Slice.Eq.{bytes_eq-Decides}
-use Rattle.indexmap.specs.IndexMap.{IndexMap, get_by_text}
+use Rattle.indexmap.specs.IndexMap.{IndexMap}
 use Rattle.kp_kore.specs.Syntax.{Text}
 use Rattle.kp_modules.specs.Names.{IsRepeated, AreOnce, Lists, texts_of}
 use Rattle.kp_modules.specs.Reaching.{has}
@@ -15,7 +14,7 @@ use Rattle.kp_modules.proofs.Collect.{has_more, or_true, or_false, false_true}
 count_cons : (n x : Text) (names : List Text) → count_by (bytes_eq n) (x ∷ names) ≡ cond (bytes_eq n x) 1 0 + count_by (bytes_eq n) names
 count_cons n x names = sum_by-cons (λ y. cond (bytes_eq n y) 1 0) x names
 
-count_more : (n x : Text) (names : List Text) → count_by (bytes_eq n) (names ++ x ∷ []) ≡ count_by (bytes_eq n) names + cond (bytes_eq n x) 1 0
+pub count_more : (n x : Text) (names : List Text) → count_by (bytes_eq n) (names ++ x ∷ []) ≡ count_by (bytes_eq n) names + cond (bytes_eq n x) 1 0
 count_more n x names =
     let all : count_by (bytes_eq n) (names ++ x ∷ []) ≡ count_by (bytes_eq n) names + count_by (bytes_eq n) (x ∷ []) = sum_by-append (λ y. cond (bytes_eq n y) 1 0) names (x ∷ []) in
     let last : count_by (bytes_eq n) (x ∷ []) ≡ cond (bytes_eq n x) 1 0 + 0 = count_cons n x [] in
@@ -26,7 +25,7 @@ count_most n xs ys =
     let all : count_by (bytes_eq n) (xs ++ ys) ≡ count_by (bytes_eq n) xs + count_by (bytes_eq n) ys = sum_by-append (λ y. cond (bytes_eq n y) 1 0) xs ys in
     omega arith
 
-none_counted : (n : Text) (names : List Text) → has n names ≡ false → count_by (bytes_eq n) names ≡ 0
+pub none_counted : (n : Text) (names : List Text) → has n names ≡ false → count_by (bytes_eq n) names ≡ 0
 none_counted n [] h = refl
 none_counted n (x ∷ xs) h = count_cons n x xs ∙ by (bytes_eq n x) h (none_counted n xs)
   where
@@ -34,7 +33,7 @@ none_counted n (x ∷ xs) h = count_cons n x xs ∙ by (bytes_eq n x) h (none_co
     by true k r = absurd (cc)
     by false k r = let e : count_by (bytes_eq n) xs ≡ 0 = r k in omega arith
 
-some_counted : (n : Text) (names : List Text) → has n names ≡ true → 0 < count_by (bytes_eq n) names
+pub some_counted : (n : Text) (names : List Text) → has n names ≡ true → 0 < count_by (bytes_eq n) names
 some_counted n [] h = false_true h
 some_counted n (x ∷ xs) h = subst (λ k. 0 < k) (sym (count_cons n x xs)) (by (bytes_eq n x) h (some_counted n xs))
   where

@@ -1,29 +1,29 @@
 -- One more step of a walk.
-use Rattle.std.proofs.Common.{◌≡◌, refl, sym, ap, subst, ◌∙◌, ℕ, zero, suc, ◌+◌, ◌<◌, ◌≤◌, Bool, true, false, ◌||◌, cond, List, [], ◌∷◌, ◌++◌, length, map, take, set, get_or, slice_get, Option, Some, None, String, Global, ◌⊎◌, inl, inr, arith}
-use Rattle.std.specs.List.{AllByRecursion, flat_map, find}
+use Rattle.std.proofs.Common.{◌≡◌, refl, sym, ap, subst, ◌∙◌, ℕ, zero, suc, ◌+◌, ◌<◌, Bool, true, false, ◌||◌, cond, List, [], ◌∷◌, ◌++◌, length, map, take, set, get_or, slice_get, Option, Some, None, String, Global, ◌⊎◌, inl, inr, arith}
+use Rattle.std.specs.List.{AllByRecursion, flat_map}
 use Rattle.std.specs.Option.{option_map, option_and_then}
 use Rattle.std.specs.Str.{bytes_eq}
-use Rattle.std.proofs.lemmas.List.{append-nil, append_assoc, map-append, length-set, get_or-set_same, get_or-set_other}
+use Rattle.std.proofs.lemmas.List.{append-nil, append_assoc, length-set, get_or-set_same, get_or-set_other}
 use Rattle.std.proofs.lemmas.List.Sums.{sum_by-set}
 use Rattle.std.proofs.lemmas.Grind.{flat_map-append}
 use Rattle.std.proofs.lemmas.Bool.{cases_eq}
 use Rattle.std.proofs.lemmas.List.Folds.{list_any-append}
 use Rattle.std.proofs.lemmas.Slice.Eq.{bytes_eq-Decides}
-use Rattle.indexmap.specs.IndexMap.{IndexMap, get_by_text}
+use Rattle.indexmap.specs.IndexMap.{IndexMap}
 use Rattle.kp_kore.specs.Syntax.{Text, KoreModule}
 use Rattle.kp_kore.specs.View.{module_view}
 use Rattle.kp_kore.specs.declared.sentence.Module.{Module}
-use Rattle.kp_semantics.specs.Theory.{each_once, names_reached, module_named, sentences_of, imports_in}
+use Rattle.kp_semantics.specs.Theory.{names_reached, sentences_of, imports_in}
 use Rattle.kp_signature.specs.Names.{Indexes, first_place}
 use Rattle.kp_signature.proofs.FirstPlaces.{looked_up}
-use Rattle.kp_modules.specs.Names.{names_of, module_names}
-use Rattle.kp_modules.specs.Reaching.{has, collect, imports_of, AllIn, IsClosed, IsSettled}
-use Rattle.kp_modules.specs.Walks.{is_unseen, is_done, unseen_in, import_names, IsNameDone, ArePassed, sentences_in, sentences_at, reached_by, backwards, IsImportedBy, AreOpen, AreDistinct, HasMark, IsOnWay, IsOver}
+use Rattle.kp_modules.specs.Names.{module_names}
+use Rattle.kp_modules.specs.Reaching.{has, collect, imports_of, AllIn, IsClosed}
+use Rattle.kp_modules.specs.Walks.{is_unseen, is_done, is_open, unseen_in, import_names, IsNameDone, sentences_in, sentences_at, reached_by, backwards, AreOpen, HasMark, IsOnWay}
 use Rattle.kp_modules.specs.declared.imports.Mark.{Mark}
 use Rattle.kp_modules.specs.declared.imports.Mark.TheVariants as mark
 use Rattle.kp_modules.specs.declared.walk.Parent.{Parent}
-use Rattle.kp_modules.proofs.Collect.{false_true, or_true, has_more, collect-append, skipped, each_once_is, has_collect, all_append, all_flat, all_more}
-use Rattle.kp_modules.proofs.Settled.{all_reached, closed_more, settled_more, next_done}
+use Rattle.kp_modules.proofs.Collect.{or_true, has_more, collect-append, skipped, each_once_is, has_collect, all_flat, all_more}
+use Rattle.kp_modules.proofs.Settled.{all_reached}
 
 -- ---- names and places
 
@@ -151,10 +151,12 @@ entered rows main parents current from done marks o name passed ns place to are 
       );
       open_marks = (λ p d h. here inside p d (some_same p place (sym h ∙ found)), all_more (HasMark rows marks mark.Open) (HasMark rows (set marks place mark.Open) mark.Open) (o.name ∷ o.above) o.open_marks (λ y h p d at. still inside p d (h p d at)));
       tell = λ n p d at. told inside n p d at (cases_eq p place);
+      only = λ n p d at h. alone n p d at h (cases_eq p place);
       places = o.places;
       order = order ∙ ap (collect []) (sym (append-nil (o.before ++ reached_by rows passed)));
       closed = o.closed;
       settled = o.settled;
+      acyclic = o.acyclic;
       len = length-set marks place mark.Open ∙ o.len;
       room =
           let moved : unseen_in (set marks place mark.Open) + cond (is_unseen (get_or marks place mark.Open)) 1 0 ≡ unseen_in marks + 0 = sum_by-set (λ m. cond (is_unseen m) 1 0) marks place mark.Open mark.Open inside in
@@ -180,3 +182,7 @@ entered rows main parents current from done marks o name passed ns place to are 
     told : place < length marks → (n : Text) (p : ℕ) (d : Mark) → first_place n (module_names rows) ≡ Some p → (p ≡ place) ⊎ (p ≡ place → ⊥) → is_done (get_or (set marks place mark.Open) p d) ≡ has n o.names
     told i n p d at (inl e) = ap is_done (here i p d e) ∙ sym (undone d) ∙ ap (λ q. is_done (get_or marks q d)) (sym e) ∙ o.tell n p d at
     told i n p d at (inr e) = ap is_done (get_or-set_other marks place p mark.Open d e) ∙ o.tell n p d at
+
+    alone : (n : Text) (p : ℕ) (d : Mark) → first_place n (module_names rows) ≡ Some p → is_open (get_or (set marks place mark.Open) p d) ≡ true → (p ≡ place) ⊎ (p ≡ place → ⊥) → has n (name ∷ (o.name ∷ o.above)) ≡ true
+    alone n p d at h (inl e) = ap (λ m. has n (m ∷ (o.name ∷ o.above))) (one_name (module_names rows) name n p (found ∙ ap Some (sym e)) at) ∙ ap (λ b. b || has n (o.name ∷ o.above)) (bytes_same n)
+    alone n p d at h (inr e) = ap (λ b. bytes_eq n name || b) (o.only n p d at (ap is_open (sym (get_or-set_other marks place p mark.Open d e)) ∙ h)) ∙ or_true (bytes_eq n name)

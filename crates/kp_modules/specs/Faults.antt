@@ -1,6 +1,14 @@
--- The fault that an error tells.
-use Rattle.std.specs.Prelude.{ℕ, Option, Some, None, string_bytes, codes}
-use Rattle.kp_kore.specs.Syntax.{Text}
+-- The fault that an error tells, and when there is one.
+use Rattle.std.specs.Prelude.{◌≡◌, ℕ, true, List, Option, Some, None, string_bytes, codes, ⊤, String}
+use Rattle.std.specs.List.{flat_map}
+use Rattle.std.specs.declared.alloc.Global.{Global}
+use Rattle.indexmap.specs.IndexMap.{IndexMap, get_by_text}
+use Rattle.kp_kore.specs.Syntax.{Text, KoreModule, KoreDefinition}
+use Rattle.kp_kore.specs.Signature.{sorts_in, symbols_in}
+use Rattle.kp_signature.specs.Table.{sort_names, symbol_names}
+use Rattle.kp_semantics.specs.Theory.{module_named, modules_reached}
+use Rattle.kp_modules.specs.Names.{names_of, IsRepeated}
+use Rattle.kp_modules.specs.Reaching.{has, imports_of}
 use Rattle.kp_modules.specs.declared.fault.LoadError.{LoadError}
 use Rattle.kp_modules.specs.declared.fault.LoadError.TheVariants as error
 use Rattle.kp_modules.specs.declared.fault.ModuleFault.{ModuleFault}
@@ -43,3 +51,68 @@ fault_code no_main_module = codes "M8"
 abbrev pub fault_view : LoadError → Option Fault
 fault_view error.Memory = None
 fault_view (error.Fault f) = Some (told_fault f)
+
+-- ---- when there is one
+
+-- a chain of imports leads from the one to the other
+pub data Leads (ms : List KoreModule) : Text → Text → Type 0 where
+  stays : (a : Text) → Leads ms a a
+  goes : (a b c : Text) → Leads ms a b → has c (imports_of ms b) ≡ true → Leads ms a c
+
+-- a module that main reaches imports the name, and no module has it
+pub record IsUnknown (ms : List KoreModule) (main n : Text) : Type 0 where
+  pub importer : Text
+  pub reached : Leads ms main importer
+  pub imports : has n (imports_of ms importer) ≡ true
+  pub unknown : module_named ms n ≡ None
+
+-- a chain of imports leads from a module that main reaches back to it
+pub record IsCyclic (ms : List KoreModule) (main : Text) : Type 0 where
+  pub name : Text
+  pub next : Text
+  pub reached : Leads ms main name
+  pub imports : has next (imports_of ms name) ≡ true
+  pub back : Leads ms next name
+
+-- there is such a fault; of a rule's nothing is said here
+abbrev pub IsFaultOf : KoreDefinition → Text → Fault → Type 0
+IsFaultOf d main (unknown_import n) = IsUnknown d.modules main n
+IsFaultOf d main import_cycle = IsCyclic d.modules main
+IsFaultOf d main (duplicate_sort n) = IsRepeated n (sort_names (sorts_in (flat_map (λ m. m.sentences) (modules_reached d main))))
+IsFaultOf d main (duplicate_symbol n) = IsRepeated n (symbol_names (symbols_in (flat_map (λ m. m.sentences) (modules_reached d main))))
+IsFaultOf d main (duplicate_module n) = IsRepeated n (names_of d.modules)
+IsFaultOf d main (rule_fault i) = ⊤
+IsFaultOf d main no_main_module = module_named d.modules main ≡ None
+
+-- the error is want of memory, or tells a fault that there is
+abbrev pub TellsFault : KoreDefinition → Text → LoadError → Type 0
+TellsFault d main e = (f : Fault) → fault_view e ≡ Some f → IsFaultOf d main f
+
+-- the same of the two faults of imports
+abbrev pub IsImportFault : List KoreModule → Text → Fault → Type 0
+IsImportFault ms main (unknown_import n) = IsUnknown ms main n
+IsImportFault ms main import_cycle = IsCyclic ms main
+IsImportFault ms main _ = ⊥
+
+abbrev pub TellsImport : List KoreModule → Text → LoadError → Type 0
+TellsImport ms main e = (f : Fault) → fault_view e ≡ Some f → IsImportFault ms main f
+
+abbrev pub IsRuleFault : Fault → Type 0
+IsRuleFault f = (i : ℕ) × (f ≡ rule_fault i)
+
+-- there is no fault but of rules
+abbrev pub HasNoFault : KoreDefinition → Text → Type 0
+HasNoFault d main = (f : Fault) → IsFaultOf d main f → IsRuleFault f
+
+abbrev pub TellsRule : LoadError → Type 0
+TellsRule e = (f : Fault) → fault_view e ≡ Some f → IsRuleFault f
+
+-- the error tells one of these names, which has no place
+pub record IsUnplaced {S : Type 0} (places : IndexMap (String Global) ℕ S) (names : List Text) (f : Fault) : Type 0 where
+  pub name : Text
+  pub told : f ≡ unknown_import name
+  pub among : has name names ≡ true
+  pub unknown : get_by_text places name ≡ None
+
+abbrev pub TellsUnplaced : {S : Type 0} → IndexMap (String Global) ℕ S → List Text → LoadError → Type 0
+TellsUnplaced places names e = (f : Fault) → fault_view e ≡ Some f → IsUnplaced places names f

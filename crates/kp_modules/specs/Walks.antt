@@ -1,17 +1,18 @@
 -- Where a walk over modules stands.
-use Rattle.std.specs.Prelude.{◌≡◌, ℕ, ◌+◌, ◌*◌, ◌<◌, Bool, true, false, if◌then◌else◌, List, [], ◌∷◌, ◌++◌, length, map, take, ⊤, Option, Some, None, count_by, slice_get, slice_index_or, String}
+use Rattle.std.specs.Prelude.{◌≡◌, ℕ, ◌+◌, ◌*◌, ◌<◌, Bool, true, false, List, [], ◌∷◌, ◌++◌, length, map, take, ⊤, Option, Some, None, count_by, slice_get, slice_index_or, String}
 use Rattle.std.specs.List.{AllByRecursion, flat_map}
 use Rattle.std.specs.Str.{bytes_eq}
 use Rattle.std.specs.declared.alloc.Global.{Global}
 use Rattle.indexmap.specs.IndexMap.{IndexMap, get_by_text}
-use Rattle.kp_kore.specs.Syntax.{Text}
+use Rattle.kp_kore.specs.Syntax.{Text, KoreModule}
 use Rattle.kp_kore.specs.View.{module_view, sentence_view}
 use Rattle.kp_kore.specs.declared.sentence.Module.{Module}
 use Rattle.kp_kore.specs.declared.sentence.Sentence.{Sentence}
 use Rattle.kp_semantics.specs.Theory.{imports_in, names_reached}
-use Rattle.kp_signature.specs.Names.{first_place}
+use Rattle.kp_signature.specs.Names.{Indexes, first_place}
+use Rattle.kp_modules.specs.Faults.{Leads}
 use Rattle.kp_modules.specs.Names.{module_names}
-use Rattle.kp_modules.specs.Reaching.{has, collect, IsClosed, IsSettled}
+use Rattle.kp_modules.specs.Reaching.{has, collect, imports_of, IsClosed, IsSettled}
 use Rattle.kp_modules.specs.declared.imports.Import.{Import}
 use Rattle.kp_modules.specs.declared.imports.Mark.{Mark}
 use Rattle.kp_modules.specs.declared.imports.Mark.TheVariants as mark
@@ -110,6 +111,10 @@ AreDistinct (x ∷ xs) = AllByRecursion (λ y. bytes_eq x y ≡ false) xs × Are
 abbrev pub HasMark : List Module → List Mark → Mark → Text → Type 0
 HasMark rows marks m n = (p : ℕ) (d : Mark) → first_place n (module_names rows) ≡ Some p → slice_index_or marks p d ≡ m
 
+-- no chain of imports leads from one of the names back to it
+abbrev pub IsAcyclic : List KoreModule → List Text → Type 0
+IsAcyclic ms names = (a next : Text) → has a names ≡ true → has next (imports_of ms a) ≡ true → Leads ms next a → ⊥
+
 -- the walk from main has left the modules of these places, in order, and stands in the open ones
 pub record IsOnWay (rows : List Module) (main : Text) (parents : List Parent) (current from : ℕ) (done : List ℕ) (marks : List Mark) : Type 0 where
   pub name : Text
@@ -121,16 +126,21 @@ pub record IsOnWay (rows : List Module) (main : Text) (parents : List Parent) (c
   pub distinct : AreDistinct (name ∷ above)
   pub open_marks : AllByRecursion (HasMark rows marks mark.Open) (name ∷ above)
   pub tell : (n : Text) (p : ℕ) (d : Mark) → first_place n (module_names rows) ≡ Some p → is_done (slice_index_or marks p d) ≡ has n names
+  pub only : (n : Text) (p : ℕ) (d : Mark) → first_place n (module_names rows) ≡ Some p → is_open (slice_index_or marks p d) ≡ true → has n (name ∷ above) ≡ true
   pub places : map (λ n. first_place n (module_names rows)) names ≡ map Some done
   pub order : names ≡ collect [] (before ++ reached_by rows (import_names (take from (sentences_at rows current))))
   pub closed : IsClosed (map module_view rows) names
   pub settled : IsSettled (map module_view rows) names
+  pub acyclic : IsAcyclic (map module_view rows) names
   pub len : length marks ≡ length rows
   pub room : length names + (unseen_in marks + length parents) < length rows
 
 -- the walk has left main
 pub record IsOver (rows : List Module) (main : Text) (done : List ℕ) : Type 0 where
   pub places : map (λ n. first_place n (module_names rows)) (names_reached (length rows) (map module_view rows) main) ≡ map Some done
+  pub there : has main (names_reached (length rows) (map module_view rows) main) ≡ true
+  pub closed : IsClosed (map module_view rows) (names_reached (length rows) (map module_view rows) main)
+  pub acyclic : IsAcyclic (map module_view rows) (names_reached (length rows) (map module_view rows) main)
 
 abbrev pub IsWalkOf : List Module → Text → Walk → Type 0
 IsWalkOf rows main w = IsOnWay rows main w.parents.items w.current w.from w.done.items w.marks.items
@@ -152,3 +162,18 @@ pub record ComesToEnd (rows : List Module) (main : Text) (w : Walk) : Type 0 whe
   pub more : List Text
   pub is : import_names (sentences_at rows w.current) ≡ import_names (take w.from (sentences_at rows w.current)) ++ more
   pub all_done : AllByRecursion (λ n. has n way.names ≡ true) more
+
+-- ---- places that main reaches
+
+-- a module of this place is reached
+pub record IsReachedPlace (rows : List Module) (main : Text) (place : ℕ) : Type 0 where
+  pub name : Text
+  pub reached : Leads (map module_view rows) main name
+  pub at : first_place name (module_names rows) ≡ Some place
+
+-- the sentences are those of a module that is reached
+pub record Stands {S : Type 0} (rows : List Module) (main : Text) (places : IndexMap (String Global) ℕ S) (ss : List Sentence) : Type 0 where
+  pub name : Text
+  pub reached : Leads (map module_view rows) main name
+  pub imports : imports_of (map module_view rows) name ≡ import_names ss
+  pub indexes : Indexes (module_names rows) places

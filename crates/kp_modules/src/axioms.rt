@@ -1,4 +1,10 @@
 // The rewrite axioms of modules, in order.
+ghost use Rattle.std.specs.Prelude.{◌≡◌, ◌++◌, ◌∷◌, [], IfOk, OnOk, map, string_bytes, if◌then◌else◌};
+ghost use Rattle.kp_kore.specs.View.{view, sentence_view, axiom_sentence_view, module_view};
+ghost use Rattle.kp_semantics.specs.Rules.{is_rewriting as rewriting_test};
+ghost use Rattle.kp_semantics.specs.Theory.{rewrite_axioms as axioms_among, rewrite_axioms_from};
+ghost use Rattle.kp_modules.specs.Axioms.{axioms_view};
+
 use kp_kore::{AxiomSentence, Module, Name, Pattern, Sentence};
 use std::alloc::{AllocError, Global};
 
@@ -14,7 +20,9 @@ pub struct RewriteAxiom<'a> {
 pub fn rewrite_axioms<'a>(
     alloc: Global,
     modules: &[&'a Module],
-) -> Result<Vec<RewriteAxiom<'a>>, AllocError> {
+) -> Result<Vec<RewriteAxiom<'a>>, AllocError>
+    ensures { IfOk result (λ found. axioms_view found.items ≡ axioms_among (map (λ m. module_view m.now) modules.now)) }
+{
     let mut found = Vec::new(alloc);
     for module in modules {
         add_axioms(&mut found, &module.name, &module.sentences)?;
@@ -24,21 +32,44 @@ pub fn rewrite_axioms<'a>(
 
 fn add_axioms<'a>(
     found: &mut Vec<RewriteAxiom<'a>>,
-    module: &'a Name,
+    key: &'a Name,
     sentences: &'a [Sentence],
-) -> Result<(), AllocError> {
+) -> Result<(), AllocError>
+    ensures { OnOk result (axioms_view found.new.items ≡ axioms_view found.old.items ++ rewrite_axioms_from (string_bytes key.now) 1 (map sentence_view sentences.now)) }
+{
     let mut number = 0;
     for sentence in sentences {
-        if let Sentence::Axiom(axiom) = sentence {
+        if let Sentence::Axiom(statement) = sentence {
             number += 1;
-            if let Pattern::Rewrites { .. } = &axiom.pattern {
-                found.push(RewriteAxiom {
-                    module,
-                    number,
-                    axiom,
-                })?;
-            }
+            add_axiom(found, key, number, statement)?;
         }
     }
     Ok(())
+}
+
+fn add_axiom<'a>(
+    found: &mut Vec<RewriteAxiom<'a>>,
+    key: &'a Name,
+    number: usize,
+    statement: &'a AxiomSentence,
+) -> Result<(), AllocError>
+    ensures { OnOk result (axioms_view found.new.items ≡ axioms_view found.old.items ++ (if rewriting_test (view statement.now.pattern) then record { key = string_bytes key.now; number = number; axiom_of = axiom_sentence_view statement.now } ∷ [] else [])) }
+{
+    if is_rewriting(&statement.pattern) {
+        found.push(RewriteAxiom {
+            module: key,
+            number,
+            axiom: statement,
+        })?;
+    }
+    Ok(())
+}
+
+fn is_rewriting(pattern: &Pattern) -> bool
+    ensures { result ≡ rewriting_test (view pattern.now) }
+{
+    match pattern {
+        Pattern::Rewrites { .. } => true,
+        _ => false,
+    }
 }

@@ -1,9 +1,10 @@
 // The imports of a module, each as the place of the module that it names.
-ghost use Rattle.std.specs.Prelude.{◌≡◌, ◌<◌, ◌∷◌, [], take, option_to_list, MatchOption, IfOk, IfSome, Some, length, string_bytes, replicate, false, slice_index_or};
+ghost use Rattle.std.specs.Prelude.{◌≡◌, ◌<◌, ◌∷◌, [], take, option_to_list, MatchOption, IfOk, IfErr, IfSome, Some, None, length, string_bytes, replicate, false, slice_index_or};
 ghost use Rattle.std.specs.Option.{option_map};
 ghost use Rattle.kp_kore.specs.View.{sentence_view};
 ghost use Rattle.kp_semantics.specs.Theory.{imports_in};
 ghost use Rattle.indexmap.specs.IndexMap.{get_by_text};
+ghost use Rattle.kp_modules.specs.Faults.{Fault, fault_view, unknown_import, TellsUnplaced};
 ghost use Rattle.kp_modules.specs.Names.{PlacesAreBelow};
 ghost use Rattle.kp_modules.specs.declared.imports.Mark.{Mark};
 ghost use Rattle.kp_modules.specs.declared.imports.Mark.TheVariants as mark;
@@ -12,11 +13,12 @@ ghost use Rattle.kp_modules.specs.Walks.{is_done, is_open, import_names, ArePass
 use crate::fault::{LoadError, ModuleFault};
 use crate::names::NamePlaces;
 use kp_kore::{Name, Sentence};
-use std::alloc::Global;
+use std::alloc::{AllocError, Global};
 
 /// The place of the module of this name, or M1.
 pub fn place_of(places: &NamePlaces, name: &Name) -> Result<usize, LoadError>
-    ensures { IfOk result (λ p. get_by_text places.now (string_bytes name.now) ≡ Some p) }
+    ensures ok { IfOk result (λ p. get_by_text places.now (string_bytes name.now) ≡ Some p) }
+    ensures err { IfErr result (λ e. (f : Fault) → fault_view e ≡ Some f → (f ≡ unknown_import (string_bytes name.now)) × (get_by_text places.now (string_bytes name.now) ≡ None)) }
 {
     match places.get(name.as_str()) {
         Some(place) => Ok(*place),
@@ -33,7 +35,7 @@ pub enum Mark {
 }
 
 /// No module is seen yet.
-pub fn unseen(alloc: Global, modules: usize) -> Result<Vec<Mark>, LoadError>
+pub fn unseen(alloc: Global, modules: usize) -> Result<Vec<Mark>, AllocError>
     ensures len { IfOk result (λ marks. length marks.items ≡ modules) }
     ensures items { IfOk result (λ marks. marks.items ≡ replicate modules mark.Unseen) }
 {
@@ -50,7 +52,7 @@ pub struct Import {
 }
 
 /// The name that a sentence imports.
-fn import_of(sentence: &Sentence) -> Option<&Name>
+pub fn import_of(sentence: &Sentence) -> Option<&Name>
     ensures { imports_in (sentence_view sentence.now ∷ []) ≡ option_to_list (option_map (λ n. string_bytes n.now) result) }
 {
     match sentence {
@@ -91,6 +93,7 @@ pub fn next_import(
     requires { PlacesAreBelow places.now (length marks.now) }
     ensures place { IfOk result (λ o. IfSome o (λ i. i.place < length marks.now)) }
     ensures mark { (d : Mark) → IfOk result (λ o. IfSome o (λ i. is_done (slice_index_or marks.now i.place d) ≡ false)) }
+    ensures err { IfErr result (TellsUnplaced places.now (import_names sentences.now)) }
     ensures next { IfOk result (λ o. MatchOption o (ArePassed places.now marks.now (import_names (take from sentences.now)) (import_names sentences.now)) (IsNext places.now marks.now sentences.now from)) }
 {
     for sentence in from..sentences.len() {

@@ -1,4 +1,11 @@
 // The identifiers of rules.
+ghost use Rattle.std.specs.Prelude.{◌≡◌, ◌++◌, ◌∷◌, [], List, IfOk, OnOk, map, string_bytes, codes};
+ghost use Rattle.std.specs.Fmt.{decimal};
+ghost use Rattle.kp_kore.specs.Syntax.{Text};
+ghost use Rattle.kp_semantics.specs.Theory.{labels_of as labels_among, rule_id as stated_id};
+ghost use Rattle.kp_modules.specs.Axioms.{axiom_view, axioms_view};
+ghost use Rattle.kp_modules.specs.Labels.{Counts, stands_once};
+
 use crate::axioms::RewriteAxiom;
 use indexmap::IndexMap;
 use kp_kore::Name;
@@ -9,17 +16,33 @@ use std::alloc::{AllocError, Global};
 pub type Labels = IndexMap<Name, bool>;
 
 /// The labels of these axioms.
-pub fn labels_of(alloc: Global, axioms: &[RewriteAxiom<'_>]) -> Result<Labels, AllocError> {
+pub fn labels_of(alloc: Global, axioms: &[RewriteAxiom<'_>]) -> Result<Labels, AllocError>
+    ensures { IfOk result (λ labels. Counts (labels_among (axioms_view axioms.now)) labels) }
+{
     let mut labels = IndexMap::new(alloc);
-    for axiom in axioms {
-        if let Some(label) = label_of(axiom.axiom) {
-            add_label(alloc, &mut labels, label)?;
-        }
+    for i in 0..axioms.len() {
+        note_label(alloc, &mut labels, &axioms[i])?;
     }
     Ok(labels)
 }
 
-fn add_label(alloc: Global, labels: &mut Labels, label: &str) -> Result<(), AllocError> {
+/// Notes the axiom's label, where it has one.
+fn note_label(
+    alloc: Global,
+    labels: &mut Labels,
+    rewriting: &RewriteAxiom<'_>,
+) -> Result<(), AllocError>
+    ensures { (names : List Text) → Counts names labels.old → OnOk result (Counts (names ++ labels_among (axiom_view rewriting.now ∷ [])) labels.new) }
+{
+    match label_of(rewriting.axiom) {
+        Some(label) => add_label(alloc, labels, label),
+        None => Ok(()),
+    }
+}
+
+fn add_label(alloc: Global, labels: &mut Labels, label: &str) -> Result<(), AllocError>
+    ensures { (names : List Text) → Counts names labels.old → OnOk result (Counts (names ++ label.now ∷ []) labels.new) }
+{
     let is_new = !labels.contains_key(label);
     labels.insert(String::from_str(alloc, label)?, is_new)?;
     Ok(())
@@ -29,31 +52,38 @@ fn add_label(alloc: Global, labels: &mut Labels, label: &str) -> Result<(), Allo
 pub fn rule_id(
     alloc: Global,
     labels: &Labels,
-    axiom: &RewriteAxiom<'_>,
-) -> Result<String, AllocError> {
-    match label_of(axiom.axiom) {
+    rewriting: &RewriteAxiom<'_>,
+) -> Result<String, AllocError>
+    ensures { (names : List Text) → Counts names labels.now → IfOk result (λ id. string_bytes id ≡ stated_id names (axiom_view rewriting.now)) }
+{
+    match label_of(rewriting.axiom) {
         Some(label) => {
             if is_alone(labels, label) {
                 String::from_str(alloc, label)
             } else {
-                numbered(alloc, axiom)
+                numbered(alloc, rewriting)
             }
         }
-        None => numbered(alloc, axiom),
+        None => numbered(alloc, rewriting),
     }
 }
 
-fn is_alone(labels: &Labels, label: &str) -> bool {
+fn is_alone(labels: &Labels, label: &str) -> bool
+    ensures { (names : List Text) → Counts names labels.now → result ≡ stands_once label.now names }
+{
     match labels.get(label) {
         Some(alone) => *alone,
         None => false,
     }
 }
 
-fn numbered(alloc: Global, axiom: &RewriteAxiom<'_>) -> Result<String, AllocError> {
-    let mut id = axiom.module.clone()?;
+/// `MODULE#NUMBER`.
+fn numbered(alloc: Global, rewriting: &RewriteAxiom<'_>) -> Result<String, AllocError>
+    ensures { IfOk result (λ id. string_bytes id ≡ (axiom_view rewriting.now).key ++ codes "#" ++ decimal rewriting.now.number) }
+{
+    let mut id = rewriting.module.clone()?;
     id.push_str("#")?;
-    let number = axiom.number.to_string(alloc)?;
+    let number = rewriting.number.to_string(alloc)?;
     id.push_str(number.as_str())?;
     Ok(id)
 }

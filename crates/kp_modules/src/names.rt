@@ -43,8 +43,8 @@ fn name_at(modules: &[Module], place: usize) -> &Name
     &modules[place].name
 }
 
-/// The first place of each module's name.
-pub fn module_places(alloc: Global, modules: &[Module]) -> Result<NamePlaces, LoadError>
+/// The first place of each name of a module.
+pub fn module_places(alloc: Global, modules: &[Module]) -> Result<NamePlaces, AllocError>
     ensures index { IfOk result (λ places. Indexes (module_names modules.now) places) }
     ensures below { IfOk result (λ places. PlacesAreBelow places (length modules.now)) }
 {
@@ -55,11 +55,11 @@ pub fn module_places(alloc: Global, modules: &[Module]) -> Result<NamePlaces, Lo
     Ok(places)
 }
 
-fn add_name(places: &mut NamePlaces, name: &Name, place: usize) -> Result<(), LoadError>
+fn add_name(places: &mut NamePlaces, name: &Name, place: usize) -> Result<(), AllocError>
     ensures { (names : List Text) → Indexes names places.old → place ≡ length names → OnOk result (Indexes (names ++ string_bytes name.now ∷ []) places.new) }
 {
     if places.contains_key(name.as_str()) {
-        return Err(LoadError::Fault(ModuleFault::DuplicateModule(name.clone()?)));
+        return Ok(());
     }
     places.insert(name.clone()?, place)?;
     Ok(())

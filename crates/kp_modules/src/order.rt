@@ -1,15 +1,17 @@
 // The modules that main reaches, in order.
-ghost use Rattle.std.specs.Prelude.{◌≡◌, ◌<◌, IfOk, Some, length, map, slice_get};
+ghost use Rattle.std.specs.Prelude.{◌≡◌, ◌<◌, IfOk, IfErr, OnOk, None, Some, length, map, slice_get};
 ghost use Rattle.std.specs.List.{AllByRecursion};
 ghost use Rattle.kp_kore.specs.View.{module_view, definition_view};
-ghost use Rattle.kp_semantics.specs.Theory.{modules_reached};
+ghost use Rattle.kp_semantics.specs.Theory.{modules_reached, module_named};
+ghost use Rattle.kp_modules.specs.Faults.{Fault, TellsFault, IsImportFault};
+ghost use Rattle.kp_modules.specs.Names.{AreOnce, names_of};
 
 use crate::fault::{LoadError, ModuleFault};
 use crate::names::{check_names, module_places};
 use crate::unknown::check_imports;
 use crate::walk::places_in_order;
 use kp_kore::{Definition, Module};
-use std::alloc::Global;
+use std::alloc::{AllocError, Global};
 
 /// The modules that the main one reaches: imports first, in order and each once, and then the module itself.
 ///
@@ -19,7 +21,11 @@ pub fn reached<'a>(
     definition: &'a Definition,
     main: &str,
 ) -> Result<Vec<&'a Module>, LoadError>
-    ensures { IfOk result (λ found. map (λ m. module_view m.now) found.items ≡ modules_reached (definition_view definition.now) main.now) }
+    ensures ok { IfOk result (λ found. map (λ m. module_view m.now) found.items ≡ modules_reached (definition_view definition.now) main.now) }
+    ensures once { OnOk result (AreOnce (names_of (definition_view definition.now).modules)) }
+    ensures main { OnOk result (module_named (definition_view definition.now).modules main.now ≡ None → ⊥) }
+    ensures none { OnOk result ((f : Fault) → IsImportFault (definition_view definition.now).modules main.now f → ⊥) }
+    ensures err { IfErr result (TellsFault (definition_view definition.now) main.now) }
 {
     let modules = definition.modules.as_slice();
     check_names(alloc, modules)?;
@@ -37,7 +43,7 @@ fn modules_at<'a>(
     alloc: Global,
     modules: &'a [Module],
     order: &[usize],
-) -> Result<Vec<&'a Module>, LoadError>
+) -> Result<Vec<&'a Module>, AllocError>
     requires { AllByRecursion (λ p. p < length modules.now) order.now }
     ensures { IfOk result (λ found. map (λ m. Some m.now) found.items ≡ map (λ p. slice_get modules.now p) order.now) }
 {

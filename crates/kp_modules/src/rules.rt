@@ -1,10 +1,22 @@
 // The rules that rewrite axioms make.
+ghost use Rattle.std.specs.Prelude.{◌≡◌, IfOk, IfErr, List, map, true};
+ghost use Rattle.kp_kore.specs.Syntax.{Text};
+ghost use Rattle.kp_kore.specs.View.{module_view, view};
+ghost use Rattle.kp_signature.specs.View.{signature_view};
+ghost use Rattle.kp_semantics.specs.Rules.{is_rewriting};
+ghost use Rattle.kp_semantics.specs.Theory.{rewrite_axioms as axioms_among, labels_of as labels_among};
+ghost use Rattle.kp_rules.specs.Index.{IsIndexOf};
+ghost use Rattle.kp_modules.specs.Axioms.{axiom_view, axioms_view};
+ghost use Rattle.kp_modules.specs.Faults.{TellsRule};
+ghost use Rattle.kp_modules.specs.Labels.{Counts};
+ghost use Rattle.kp_modules.specs.Made.{IsMadeOf, AreMadeOf, AreRewriting};
+
 use crate::axioms::{RewriteAxiom, rewrite_axioms};
 use crate::fault::{LoadError, ModuleFault};
 use crate::labels::{Labels, labels_of, rule_id};
 use kp_kore::Module;
-use kp_rules::{Rule, RuleBody, SortIndex, read_rule};
-use kp_signature::{Signature, VerifyError, verify};
+use kp_rules::{Rule, RuleError, SortIndex, read_rule};
+use kp_signature::Signature;
 use std::alloc::Global;
 
 /// The rules of these modules in order, or M6 of the first axiom that has it.
@@ -12,13 +24,30 @@ pub fn rules_of(
     alloc: Global,
     signature: &Signature,
     modules: &[&Module],
-) -> Result<Vec<Rule>, LoadError> {
+) -> Result<Vec<Rule>, LoadError>
+    ensures err { IfErr result TellsRule }
+    ensures ok { IfOk result (λ rules. AreMadeOf (signature_view signature.now) (labels_among (axioms_among (map (λ m. module_view m.now) modules.now))) (axioms_among (map (λ m. module_view m.now) modules.now)) rules.items) }
+{
     let axioms = rewrite_axioms(alloc, modules)?;
     let labels = labels_of(alloc, &axioms)?;
     let index = SortIndex::new(alloc, signature)?;
+    rules_among(alloc, signature, &index, &labels, &axioms)
+}
+
+fn rules_among(
+    alloc: Global,
+    signature: &Signature,
+    index: &SortIndex,
+    labels: &Labels,
+    axioms: &[RewriteAxiom<'_>],
+) -> Result<Vec<Rule>, LoadError>
+    requires index { IsIndexOf (signature_view signature.now) index.now }
+    ensures err { IfErr result TellsRule }
+    ensures ok { (names : List Text) → Counts names labels.now → AreRewriting (axioms_view axioms.now) → IfOk result (λ rules. AreMadeOf (signature_view signature.now) names (axioms_view axioms.now) rules.items) }
+{
     let mut rules = Vec::new(alloc);
-    for axiom in &axioms {
-        rules.push(rule_of(alloc, signature, &index, &labels, axiom)?)?;
+    for i in 0..axioms.len() {
+        rules.push(rule_of(alloc, signature, index, labels, &axioms[i])?)?;
     }
     Ok(rules)
 }
@@ -28,29 +57,21 @@ fn rule_of(
     signature: &Signature,
     index: &SortIndex,
     labels: &Labels,
-    axiom: &RewriteAxiom<'_>,
-) -> Result<Rule, LoadError> {
-    let (priority, body) = read_rule(alloc, signature, index, axiom.axiom)?;
-    check_body(alloc, signature, axiom, &body)?;
-    let id = rule_id(alloc, labels, axiom)?;
-    Ok(Rule { id, priority, body })
-}
-
-/// M6: a rule that isn't foreign has a verify fault.
-fn check_body(
-    alloc: Global,
-    signature: &Signature,
-    axiom: &RewriteAxiom<'_>,
-    body: &RuleBody,
-) -> Result<(), LoadError> {
-    match body {
-        RuleBody::Foreign(_) => Ok(()),
-        RuleBody::Rewrite(_) => match verify(alloc, signature, &axiom.axiom.pattern) {
-            Ok(_) => Ok(()),
-            Err(VerifyError::Memory) => Err(LoadError::Memory),
-            Err(_) => Err(LoadError::Fault(ModuleFault::RuleFault {
-                axiom: axiom.number,
-            })),
-        },
+    rewriting: &RewriteAxiom<'_>,
+) -> Result<Rule, LoadError>
+    requires index { IsIndexOf (signature_view signature.now) index.now }
+    ensures err { IfErr result TellsRule }
+    ensures ok { (names : List Text) → Counts names labels.now → is_rewriting (axiom_view rewriting.now).axiom_of.pattern ≡ true → IfOk result (λ r. IsMadeOf (signature_view signature.now) names (axiom_view rewriting.now) r) }
+{
+    match read_rule(alloc, signature, index, rewriting.axiom) {
+        Ok((priority, body)) => Ok(Rule {
+            id: rule_id(alloc, labels, rewriting)?,
+            priority,
+            body,
+        }),
+        Err(RuleError::Memory) => Err(LoadError::Memory),
+        Err(RuleError::Fault) => Err(LoadError::Fault(ModuleFault::RuleFault {
+            axiom: rewriting.number,
+        })),
     }
 }

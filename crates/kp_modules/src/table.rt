@@ -1,4 +1,14 @@
 // What is loaded of a definition.
+ghost use Rattle.std.specs.Prelude.{◌≡◌, ◌++◌, ◌∷◌, [], List, IfOk, IfErr, OnOk, map, string_bytes};
+ghost use Rattle.kp_kore.specs.Syntax.{Text};
+ghost use Rattle.kp_kore.specs.View.{module_view, definition_view};
+ghost use Rattle.kp_semantics.specs.Theory.{Theory, IsTheoryOf, modules_reached};
+ghost use Rattle.kp_modules.specs.Faults.{HasNoFault, TellsFault, TellsRule};
+ghost use Rattle.kp_modules.specs.Made.{IsRunOf};
+ghost use Rattle.kp_modules.specs.Names.{Lists, names_of as names_among};
+ghost use Rattle.kp_modules.specs.Reaching.{has};
+ghost use Rattle.kp_modules.specs.Tables.{rule_set_of, main_of, does_reach, RunsTable};
+
 use crate::duplicates::{check_sorts, check_symbols};
 use crate::fault::LoadError;
 use crate::order::reached;
@@ -7,6 +17,7 @@ use indexmap::IndexMap;
 use kp_kore::{Definition, Module, Name};
 use kp_rules::RuleSet;
 use kp_signature::Signature;
+use kp_sorts::is_regular;
 use std::alloc::{AllocError, Global};
 
 /// The rule set of a definition's main module, with the names of the modules that it reaches.
@@ -19,39 +30,75 @@ pub struct Table {
 
 impl Table {
     /// The signature and the rules in order.
-    pub fn rule_set(&self) -> &RuleSet {
+    pub fn rule_set(&self) -> &RuleSet
+        ensures { result.now ≡ rule_set_of self.now }
+    {
         &self.rule_set
     }
 
     /// The name of the main module.
-    pub fn main(&self) -> &str {
+    pub fn main(&self) -> &str
+        ensures { result.now ≡ main_of self.now }
+    {
         self.main.as_str()
     }
 
     /// Whether a module of this name is main or imported by it, directly or further on.
-    pub fn reaches(&self, name: &str) -> bool {
+    pub fn reaches(&self, name: &str) -> bool
+        ensures { result ≡ does_reach self.now name.now }
+    {
         self.names.contains_key(name)
     }
 }
 
 /// The table of a definition for its main module. Of several faults M5 and M8 come first, then the least.
-pub fn load(alloc: Global, definition: &Definition, main: &str) -> Result<Table, LoadError> {
+///
+/// Its rule set is the theory that the definition means for its main module, rule by rule.
+pub fn load(alloc: Global, definition: &Definition, main: &str) -> Result<Table, LoadError>
+    ensures loaded { IfOk result (λ table. (t : Theory) × IsTheoryOf (definition_view definition.now) main.now t × RunsTable t table) }
+    ensures main { IfOk result (λ table. main_of table ≡ main.now) }
+    ensures reaches { IfOk result (λ table. (n : Text) → does_reach table n ≡ has n (names_among (modules_reached (definition_view definition.now) main.now))) }
+    ensures none { OnOk result (HasNoFault (definition_view definition.now) main.now) }
+    ensures err { IfErr result (TellsFault (definition_view definition.now) main.now) }
+{
     let modules = reached(alloc, definition, main)?;
     check_sorts(alloc, &modules)?;
     check_symbols(alloc, &modules)?;
-    let signature = Signature::new(alloc, &modules)?;
-    let rules = rules_of(alloc, &signature, &modules)?;
     Ok(Table {
         main: String::from_str(alloc, main)?,
         names: names_of(alloc, &modules)?,
-        rule_set: RuleSet { signature, rules },
+        rule_set: rule_set(alloc, &modules)?,
     })
 }
 
-fn names_of(alloc: Global, modules: &[&Module]) -> Result<IndexMap<Name, ()>, AllocError> {
+/// The signature and the rules of these modules.
+fn rule_set(alloc: Global, modules: &[&Module]) -> Result<RuleSet, LoadError>
+    ensures err { IfErr result TellsRule }
+    ensures ok { IfOk result (IsRunOf (map (λ m. module_view m.now) modules.now)) }
+{
+    let signature = Signature::new(alloc, modules)?;
+    let rules = rules_of(alloc, &signature, modules)?;
+    let is_regular = is_regular(&signature);
+    Ok(RuleSet {
+        signature,
+        rules,
+        is_regular,
+    })
+}
+
+fn names_of(alloc: Global, modules: &[&Module]) -> Result<IndexMap<Name, ()>, AllocError>
+    ensures { IfOk result (λ names. Lists (names_among (map (λ m. module_view m.now) modules.now)) names) }
+{
     let mut names = IndexMap::new(alloc);
-    for module in modules {
-        names.insert(module.name.clone()?, ())?;
+    for i in 0..modules.len() {
+        add_name(&mut names, &modules[i].name)?;
     }
     Ok(names)
+}
+
+fn add_name(names: &mut IndexMap<Name, ()>, name: &Name) -> Result<(), AllocError>
+    ensures { (before : List Text) → Lists before names.old → OnOk result (Lists (before ++ string_bytes name.now ∷ []) names.new) }
+{
+    names.insert(name.clone()?, ())?;
+    Ok(())
 }

@@ -1,14 +1,19 @@
 // Whether each import in a module that main reaches names a module.
-ghost use Rattle.std.specs.Prelude.{◌≡◌, ◌+◌, ◌<◌, OnOk, length};
+ghost use Rattle.std.specs.Prelude.{◌≡◌, ◌+◌, ◌<◌, List, OnOk, IfErr, Some, length, map};
 ghost use Rattle.std.specs.List.{AllByRecursion};
-ghost use Rattle.kp_modules.specs.Names.{PlacesAreBelow};
-ghost use Rattle.kp_modules.specs.Walks.{unseen_in};
+ghost use Rattle.kp_kore.specs.Syntax.{Text};
+ghost use Rattle.kp_kore.specs.View.{module_view};
+ghost use Rattle.kp_kore.specs.declared.sentence.Module.{Module};
+ghost use Rattle.kp_signature.specs.Names.{Indexes, first_place};
+ghost use Rattle.kp_modules.specs.Faults.{TellsImport, TellsUnplaced};
+ghost use Rattle.kp_modules.specs.Names.{PlacesAreBelow, module_names};
+ghost use Rattle.kp_modules.specs.Walks.{unseen_in, import_names, IsReachedPlace, Stands};
 
 use crate::fault::LoadError;
-use crate::imports::{Mark, place_of, unseen};
+use crate::imports::{Mark, import_of, place_of, unseen};
 use crate::names::NamePlaces;
 use kp_kore::{Module, Sentence};
-use std::alloc::Global;
+use std::alloc::{AllocError, Global};
 
 /// M1 of the first import that names no module, from the module at `start` on, nearest first.
 pub fn check_imports(
@@ -19,6 +24,7 @@ pub fn check_imports(
 ) -> Result<(), LoadError>
     requires places { PlacesAreBelow places.now (length modules.now) }
     requires start { start < length modules.now }
+    ensures err { (main : Text) → Indexes (module_names modules.now) places.now → first_place main (module_names modules.now) ≡ Some start → IfErr result (TellsImport (map module_view modules.now) main) }
 {
     let mut marks = unseen(alloc, modules.len())?;
     let mut found = Vec::new(alloc);
@@ -43,21 +49,24 @@ fn note_imports(
     ensures len { length marks.new.items ≡ length marks.old.items }
     ensures found { AllByRecursion (λ p. p < length marks.old.items) found.new.items }
     ensures count { OnOk result (unseen_in marks.new.items + length found.new.items ≡ unseen_in marks.old.items + length found.old.items) }
+    ensures reached { (rows : List Module) (main : Text) → Stands rows main places.now sentences.now → AllByRecursion (IsReachedPlace rows main) found.old.items → OnOk result (AllByRecursion (IsReachedPlace rows main) found.new.items) }
+    ensures err { IfErr result (TellsUnplaced places.now (import_names sentences.now)) }
 {
-    for sentence in sentences {
-        if let Sentence::Import { name, .. } = sentence {
+    for i in 0..sentences.len() {
+        if let Some(name) = import_of(&sentences[i]) {
             note_place(marks, found, place_of(places, name)?)?;
         }
     }
     Ok(())
 }
 
-fn note_place(marks: &mut Vec<Mark>, found: &mut Vec<usize>, place: usize) -> Result<(), LoadError>
+fn note_place(marks: &mut Vec<Mark>, found: &mut Vec<usize>, place: usize) -> Result<(), AllocError>
     requires place { place < length marks.old.items }
     requires found { AllByRecursion (λ p. p < length marks.old.items) found.old.items }
     ensures len { length marks.new.items ≡ length marks.old.items }
     ensures found { AllByRecursion (λ p. p < length marks.old.items) found.new.items }
     ensures count { OnOk result (unseen_in marks.new.items + length found.new.items ≡ unseen_in marks.old.items + length found.old.items) }
+    ensures reached { (rows : List Module) (main : Text) → IsReachedPlace rows main place → AllByRecursion (IsReachedPlace rows main) found.old.items → OnOk result (AllByRecursion (IsReachedPlace rows main) found.new.items) }
 {
     if marks[place] == Mark::Unseen {
         found.push(place)?;

@@ -1,8 +1,10 @@
 // The walk over the modules that main reaches, depth first, imports before the module itself.
-ghost use Rattle.std.specs.Prelude.{◌≡◌, ◌<◌, IfOk, Some, length};
+ghost use Rattle.std.specs.Prelude.{◌≡◌, ◌<◌, IfOk, IfErr, Some, length, map};
 ghost use Rattle.std.specs.List.{AllByRecursion};
 ghost use Rattle.kp_kore.specs.Syntax.{Text};
+ghost use Rattle.kp_kore.specs.View.{module_view};
 ghost use Rattle.kp_signature.specs.Names.{Indexes, first_place};
+ghost use Rattle.kp_modules.specs.Faults.{TellsImport};
 ghost use Rattle.kp_modules.specs.Names.{PlacesAreBelow, module_names};
 ghost use Rattle.kp_modules.specs.Walks.{IsOver};
 
@@ -10,7 +12,7 @@ use crate::fault::{LoadError, ModuleFault};
 use crate::imports::{Import, Mark, is_entered, next_import, unseen};
 use crate::names::NamePlaces;
 use kp_kore::Module;
-use std::alloc::Global;
+use std::alloc::{AllocError, Global};
 
 /// A module that is open above another, and the number of its sentences up to the import of that one.
 #[derive(Clone, Copy)]
@@ -30,16 +32,18 @@ pub struct Walk {
 }
 
 impl Walk {
-    ghost use Rattle.std.specs.Prelude.{◌≡◌, ◌<◌, OnOk, IfOk, IsTrue, MatchBool, List, Some, length, false, slice_index_or};
+    ghost use Rattle.std.specs.Prelude.{◌≡◌, ◌<◌, OnOk, IfOk, IfErr, map, IsTrue, MatchBool, List, Some, length, false, slice_index_or};
     ghost use Rattle.kp_modules.specs.declared.imports.Mark.{Mark};
     ghost use Rattle.kp_modules.specs.Walks.{IsWithin, IsWalkOf, ComesTo, ComesToEnd, IsOver, work_left, is_done};
+    ghost use Rattle.kp_kore.specs.View.{module_view};
+    ghost use Rattle.kp_modules.specs.Faults.{TellsImport};
     ghost use Rattle.kp_modules.specs.Names.{module_names};
     ghost use Rattle.kp_signature.specs.Names.{first_place};
     ghost use Rattle.kp_kore.specs.Syntax.{Text};
     ghost use Rattle.kp_kore.specs.declared.sentence.Module.{Module};
 
     /// At the first sentence of one of so many modules.
-    pub fn start(alloc: Global, modules: usize, start: usize) -> Result<Walk, LoadError>
+    pub fn start(alloc: Global, modules: usize, start: usize) -> Result<Walk, AllocError>
         requires { start < modules }
         ensures within { IfOk result IsWithin }
         ensures len { IfOk result (λ w. length w.marks.items ≡ modules) }
@@ -65,6 +69,7 @@ impl Walk {
         ensures len { OnOk result (length self.new.marks.items ≡ length self.old.marks.items) }
         ensures nearer { OnOk result (work_left self.new < work_left self.old) }
         ensures way { (rows : List Module) (main : Text) → ComesTo rows main self.old import → OnOk result (IsWalkOf rows main self.new) }
+        ensures err { (rows : List Module) (main : Text) → ComesTo rows main self.old import → IfErr result (TellsImport (map module_view rows) main) }
     {
         if is_entered(&self.marks, import.place) {
             return Err(LoadError::Fault(ModuleFault::ImportCycle));
@@ -80,7 +85,7 @@ impl Walk {
     }
 
     /// Leaves the open module; tells whether one above it is open now.
-    pub fn leave(&mut self) -> Result<bool, LoadError>
+    pub fn leave(&mut self) -> Result<bool, AllocError>
         requires within { IsWithin self.old }
         ensures within { OnOk result (IsWithin self.new) }
         ensures len { OnOk result (length self.new.marks.items ≡ length self.old.marks.items) }
@@ -111,6 +116,7 @@ pub fn places_in_order(
     requires start { start < length modules.now }
     ensures within { IfOk result (λ order. AllByRecursion (λ p. p < length modules.now) order.items) }
     ensures order { (main : Text) → Indexes (module_names modules.now) places.now → first_place main (module_names modules.now) ≡ Some start → IfOk result (λ order. IsOver modules.now main order.items) }
+    ensures err { (main : Text) → Indexes (module_names modules.now) places.now → first_place main (module_names modules.now) ≡ Some start → IfErr result (TellsImport (map module_view modules.now) main) }
 {
     let mut walk = Walk::start(alloc, modules.len(), start)?;
     loop {

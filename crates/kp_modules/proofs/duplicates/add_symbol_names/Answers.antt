@@ -1,4 +1,4 @@
-use Rattle.std.proofs.Common.{rules, ◌≡◌, sym, ap, ◌∙◌, [], ◌∷◌, ◌++◌, map, take, get_or, string_bytes}
+use Rattle.std.proofs.Common.{rules, ◌≡◌, sym, ap, ◌∙◌, [], ◌∷◌, get_or, string_bytes}
 use Rattle.std.proofs.lemmas.List.{append-nil}
 use Rattle.kp_kore.specs.Signature.{symbols_in}
 use Rattle.kp_kore.specs.View.{sentence_view}

@@ -1,9 +1,14 @@
-use Rattle.std.proofs.Common.{◌≡◌, sym, subst, ◌∙◌, ◌<◌, length, map, slice_get, Some}
+use Rattle.std.proofs.Common.{◌≡◌, sym, subst, ◌∙◌, ◌<◌, length, map, slice_get, Some, None}
 use Rattle.std.specs.List.{AllByRecursion, filter_map}
-use Rattle.kp_kore.specs.View.{module_view}
+use Rattle.kp_kore.specs.View.{module_view, definition_view}
 use Rattle.kp_semantics.specs.Theory.{module_named, names_reached}
 use Rattle.kp_modules.specs.Walks.{IsOver}
+use Rattle.kp_modules.specs.Faults.{IsImportFault, IsFaultOf, TellsFault, no_main_module}
+use Rattle.kp_modules.specs.Names.{AreOnce, names_of}
+use Rattle.kp_modules.proofs.Acyclic.{found_named, no_import_fault}
+use Rattle.kp_modules.proofs.Chains.{exit, no_name, import_fault}
 use Rattle.kp_modules.proofs.Seen.{all_seen}
+use Rattle.kp_modules.proofs.Walking.{some_same}
 use Rattle.kp_modules.proofs.order.reached.Goals as goal
 
 pub check_imports-requires-clause-start : goal.check_imports-requires-clause-start
@@ -15,11 +20,47 @@ places_in_order-requires-clause-start c = c.in_ok-places.ensures.below c.args.ma
 pub modules_at-requires : goal.modules_at-requires
 modules_at-requires c = subst (λ xs. AllByRecursion (λ p. p < length c.as_slice-modules.result.now) xs) (sym c.as_slice.ensures.value) c.in_ok-order.ensures.within
 
-pub returns : goal.returns
-returns c =
+pub returns-in-None-clause-err : goal.returns-in-None-clause-err
+returns-in-None-clause-err c f e =
+    let none : module_named (map module_view c.as_slice-modules.result.now) c.args.main.now ≡ None = no_name c.as_slice-modules.result.now c.args.main.now (sym (c.in-None.ensures.value ∙ c.in_ok-places.ensures.index c.args.main.now)) in
+    subst (IsFaultOf (definition_view c.args.definition.now) c.args.main.now) (some_same no_main_module f e)
+    (subst (λ ms. module_named (map module_view ms) c.args.main.now ≡ None) c.as_slice-modules.ensures.value none)
+
+pub returns-in_err-check_imports-clause-err : goal.returns-in_err-check_imports-clause-err
+returns-in_err-check_imports-clause-err c =
+    let d = definition_view c.args.definition.now in
+    let main = c.args.main.now in
+    exit c.from_residual-in_err-check_imports.result (TellsFault d main) c.in_err-check_imports.field-0.0 c.from_residual-in_err-check_imports.ensures
+    (λ f h. import_fault d main f (subst (λ ms. IsImportFault (map module_view ms) main f) c.as_slice-modules.ensures.value
+    (c.in_err-check_imports.ensures.err main c.in_ok-places.ensures.index (sym (c.in-Some.ensures.value ∙ c.in_ok-places.ensures.index main)) f h)))
+
+pub returns-in_err-order-clause-err : goal.returns-in_err-order-clause-err
+returns-in_err-order-clause-err c =
+    let d = definition_view c.args.definition.now in
+    let main = c.args.main.now in
+    exit c.from_residual-in_err-order.result (TellsFault d main) c.in_err-order.field-0.0 c.from_residual-in_err-order.ensures
+    (λ f h. import_fault d main f (subst (λ ms. IsImportFault (map module_view ms) main f) c.as_slice-modules.ensures.value
+    (c.in_err-order.ensures.err main c.in_ok-places.ensures.index (sym (c.in-Some.ensures.value ∙ c.in_ok-places.ensures.index main)) f h)))
+
+pub returns-clause-ok : goal.returns-clause-ok
+returns-clause-ok c =
     let rows = c.as_slice-modules.result.now in
     let over : IsOver rows c.args.main.now c.in_ok-order.order.items = c.in_ok-order.ensures.order c.args.main.now c.in_ok-places.ensures.index (sym (c.in-Some.ensures.value ∙ c.in_ok-places.ensures.index c.args.main.now)) in
     let found = c.in_ok-modules_at.field-0.items in
     let at : map (λ m. Some m.now) found ≡ map (λ p. slice_get rows p) c.in_ok-order.order.items = subst (λ l. map (λ m. Some m.now) found ≡ map (λ p. slice_get rows p) l) c.as_slice.ensures.value c.in_ok-modules_at.ensures in
     subst (λ ms. map (λ m. module_view m.now) found ≡ filter_map (module_named (map module_view ms)) (names_reached (length (map module_view ms)) (map module_view ms) c.args.main.now)) c.as_slice-modules.ensures.value
     (all_seen rows c.args.main.now c.in_ok-order.order.items found over at)
+
+pub returns-clause-once : goal.returns-clause-once
+returns-clause-once c = subst (λ ms. AreOnce (names_of (map module_view ms))) c.as_slice-modules.ensures.value c.in_ok-check_names.ensures.ok
+
+pub returns-clause-main : goal.returns-clause-main
+returns-clause-main c h =
+    found_named (map module_view c.as_slice-modules.result.now) c.args.main.now c.in-Some.place.now (sym (c.in-Some.ensures.value ∙ c.in_ok-places.ensures.index c.args.main.now))
+    (subst (λ ms. module_named (map module_view ms) c.args.main.now ≡ None) (sym c.as_slice-modules.ensures.value) h)
+
+pub returns-clause-none : goal.returns-clause-none
+returns-clause-none c f h =
+    let rows = c.as_slice-modules.result.now in
+    let over : IsOver rows c.args.main.now c.in_ok-order.order.items = c.in_ok-order.ensures.order c.args.main.now c.in_ok-places.ensures.index (sym (c.in-Some.ensures.value ∙ c.in_ok-places.ensures.index c.args.main.now)) in
+    no_import_fault rows c.args.main.now c.in_ok-order.order.items over f (subst (λ ms. IsImportFault (map module_view ms) c.args.main.now f) (sym c.as_slice-modules.ensures.value) h)

@@ -1,4 +1,4 @@
-use Rattle.std.proofs.Common.{rules, ◌≡◌, ◌<◌, ◌≤◌, ◌+◌, ◌++◌, ◌∷◌, [], sym, ap, subst, ◌∙◌, take, get_or, length, string_bytes, true, false}
+use Rattle.std.proofs.Common.{rules, ◌≡◌, ◌≤◌, ◌+◌, ◌++◌, ◌∷◌, [], sym, ap, subst, ◌∙◌, take, get_or, length, string_bytes}
 use Rattle.std.proofs.lemmas.List.{take_all}
 use Rattle.kp_modules.specs.Names.{AreOnce, Lists, texts_of}
 use Rattle.kp_modules.specs.Reaching.{has}

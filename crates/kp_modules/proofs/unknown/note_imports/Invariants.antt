@@ -1,10 +1,13 @@
-use Rattle.std.proofs.Common.{◌≡◌, ◌+◌, ◌<◌, length}
+use Rattle.std.proofs.Common.{◌≡◌, ◌+◌, ◌<◌, List, length}
 use Rattle.std.specs.List.{AllByRecursion}
-use Rattle.kp_modules.specs.Walks.{unseen_in}
+use Rattle.kp_kore.specs.Syntax.{Text}
+use Rattle.kp_kore.specs.declared.sentence.Module.{Module}
+use Rattle.kp_modules.specs.Walks.{unseen_in, IsReachedPlace, Stands}
 use Rattle.kp_modules.proofs.unknown.note_imports.Given as goal
 
-abbrev pub invariant-loop-sentence : goal.invariant-loop-sentence
-invariant-loop-sentence l =
+abbrev pub invariant-loop-i : goal.invariant-loop-i
+invariant-loop-i l =
     (length l.marks.items ≡ length l.fn.marks.items)
     × AllByRecursion (λ p. p < length l.fn.marks.items) l.found.items
     × (unseen_in l.marks.items + length l.found.items ≡ unseen_in l.fn.marks.items + length l.fn.found.items)
+    × ((rows : List Module) (main : Text) → Stands rows main l.places l.sentences → AllByRecursion (IsReachedPlace rows main) l.fn.found.items → AllByRecursion (IsReachedPlace rows main) l.found.items)

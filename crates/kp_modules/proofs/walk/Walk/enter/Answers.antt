@@ -1,11 +1,36 @@
-use Rattle.std.proofs.Common.{◌≡◌, sym, ap, subst, ◌∙◌, set, get_or, false}
+use Rattle.std.proofs.Common.{◌≡◌, ◌<◌, sym, ap, subst, ◌∙◌, set, get_or, true, length, map, [], ◌∷◌}
+use Rattle.std.specs.List.{AllByRecursion}
+use Rattle.std.proofs.lemmas.List.{length-set}
+use Rattle.kp_kore.specs.View.{module_view}
+use Rattle.kp_modules.specs.Faults.{IsImportFault, import_cycle}
 use Rattle.kp_modules.specs.declared.imports.Mark.{Mark}
 use Rattle.kp_modules.specs.declared.imports.Mark.TheVariants as mark
 use Rattle.kp_modules.specs.Walks.{is_open, IsOnWay}
-use Rattle.kp_modules.proofs.Collect.{false_true}
+use Rattle.kp_modules.proofs.Collect.{false_true, all_append}
 use Rattle.kp_modules.proofs.Places.{named_below}
-use Rattle.kp_modules.proofs.Walking.{entered}
+use Rattle.kp_modules.proofs.Walking.{some_same, entered}
+use Rattle.kp_modules.proofs.Chains.{cycle}
 use Rattle.kp_modules.proofs.walk.Walk.enter.Goals as goal
+
+pub returns-then-is_entered-clause-err : goal.returns-then-is_entered-clause-err
+returns-then-is_entered-clause-err c rows main h f e =
+    let w = c.args.self.now in
+    let i = c.args.import in
+    let opened : is_open (get_or w.marks.items i.place mark.Open) ≡ true = ap (λ l. is_open (get_or l i.place mark.Open)) (sym c.deref.ensures.value) ∙ sym (c.is_entered.ensures mark.Open) ∙ c.if-is_entered.true in
+    subst (IsImportFault (map module_view rows) main) (some_same import_cycle f e) (cycle rows main w i h opened)
+
+pub returns-clause-within : goal.returns-clause-within
+returns-clause-within c =
+    let w = c.args.self.now in
+    let i = c.args.import in
+    let same : length (set w.marks.items i.place mark.Open) ≡ length w.marks.items = length-set w.marks.items i.place mark.Open in
+    record {
+      current = subst (λ k. i.place < k) (sym same) c.requires.place;
+      parents = subst (λ k. AllByRecursion (λ p. p.place < k) c.push.new.self.items) (sym same)
+          (subst (λ l. AllByRecursion (λ p. p.place < length w.marks.items) l) (sym c.in_ok-push.ensures.items)
+          (all_append (λ p. p.place < length w.marks.items) w.parents.items (record { place = w.current; from = i.from } ∷ []) c.requires.within.parents (c.requires.within.current, tt)));
+      finished = subst (λ k. AllByRecursion (λ p. p < k) w.done.items) (sym same) c.requires.within.finished;
+    }
 
 pub returns-clause-way : goal.returns-clause-way
 returns-clause-way c rows main h =

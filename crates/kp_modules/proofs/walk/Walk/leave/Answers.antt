@@ -1,8 +1,7 @@
-use Rattle.std.proofs.Common.{rules, ◌≡◌, sym, ap, subst, ◌∙◌, ℕ, ◌<◌, set, length, List, [], ◌∷◌, ◌++◌}
+use Rattle.std.proofs.Common.{rules, ◌≡◌, sym, subst, ◌∙◌, ◌<◌, set, length, [], ◌∷◌, ◌++◌}
 use Rattle.std.specs.List.{AllByRecursion}
 use Rattle.std.proofs.lemmas.List.{append-nil, length-set, nil_from_length}
 use Rattle.kp_modules.specs.declared.imports.Mark.TheVariants as mark
-use Rattle.kp_modules.specs.declared.walk.Parent.{Parent}
 use Rattle.kp_modules.specs.Reaching.{AllIn}
 use Rattle.kp_modules.specs.Walks.{IsOnWay, IsOver}
 use Rattle.kp_modules.proofs.Collect.{all_append}

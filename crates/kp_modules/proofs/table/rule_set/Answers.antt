@@ -1,0 +1,19 @@
+use Rattle.std.proofs.Common.{ap, ◌∙◌, map}
+use Rattle.kp_kore.specs.Signature.{signature_of}
+use Rattle.kp_kore.specs.View.{module_view}
+use Rattle.kp_modules.specs.Faults.{TellsRule}
+use Rattle.kp_modules.proofs.Chains.{exit}
+use Rattle.kp_modules.proofs.Ruled.{runs, sentences_seen}
+use Rattle.kp_modules.proofs.table.rule_set.Goals as goal
+
+pub returns-in_err-rules-clause-err : goal.returns-in_err-rules-clause-err
+returns-in_err-rules-clause-err c = exit c.from_residual-in_err-rules.result TellsRule c.in_err-rules.field-0.0 c.from_residual-in_err-rules.ensures c.in_err-rules.ensures.err
+
+pub returns-clause-ok : goal.returns-clause-ok
+returns-clause-ok c =
+    let ms = c.args.modules.now in
+    runs (map (λ m. module_view m.now) ms)
+    (record { signature = c.in_ok-signature.signature; rules = c.in_ok-rules.rules; is_regular = c.is_regular-is_regular.result })
+    (c.in_ok-signature.ensures ∙ ap signature_of (sentences_seen ms))
+    c.in_ok-rules.ensures.ok
+    c.is_regular-is_regular.ensures.regular

@@ -1,0 +1,25 @@
+-- What a table has.
+use Rattle.std.specs.Prelude.{Bool, string_bytes}
+use Rattle.std.specs.Option.{is_some}
+use Rattle.indexmap.specs.IndexMap.{get_by_text}
+use Rattle.kp_kore.specs.Syntax.{Text}
+use Rattle.kp_semantics.specs.Theory.{Theory}
+use Rattle.kp_rules.specs.Bodies.{RunsAs}
+use Rattle.kp_rules.specs.declared.rule.RuleSet.{RuleSet}
+use Rattle.kp_modules.specs.declared.table.Table.{Table}
+
+-- what `rule_set` answers
+abbrev pub rule_set_of : Table → RuleSet
+rule_set_of t = t.rule_set
+
+-- what `main` answers
+abbrev pub main_of : Table → Text
+main_of t = string_bytes t.main
+
+-- what `reaches` answers
+abbrev pub does_reach : Table → Text → Bool
+does_reach t n = is_some (get_by_text t.names n)
+
+-- the table's rule set is the theory, rule by rule
+abbrev pub RunsTable : Theory → Table → Type 0
+RunsTable theory table = RunsAs theory (rule_set_of table)
