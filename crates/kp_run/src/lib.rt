@@ -1,15 +1,12 @@
-// Runs of a rule set from one ground configuration: reading a state's term, one step, the run up to its bound, and
-// the one normal spelling in which a configuration is written.
+// Runs of a rule set from one ground configuration: one step, and the run up to its bound. A step is the only one of
+// the theory that the rule set is; specs/Runs.antt says what a run is.
 #![tactic(auto)]
 
 mod error;
+pub mod laws;
 mod run;
-mod spell;
-mod state;
 mod step;
 
-pub use error::{RunError, StateError};
+pub use error::RunError;
 pub use run::{Executed, Stop, execute};
-pub use spell::{spelled, spelled_depth};
-pub use state::{State, state_of};
 pub use step::next_state;

@@ -1,10 +1,14 @@
 ghost use Rattle.std.specs.Prelude.{◌≡◌, ◌<◌, ◌≤◌, IfOk};
+ghost use Rattle.kp_semantics.specs.Theory.{Theory};
+ghost use Rattle.kp_ground.specs.View.{value_view};
+ghost use Rattle.kp_rules.specs.Bodies.{RunsAs};
+ghost use Rattle.kp_run.specs.Runs.{IsAt, IsRunOf};
 ghost use Rattle.kp_run.specs.declared.run.Stop.TheVariants.{Stuck, DepthBound};
 
 use crate::error::RunError;
-use crate::state::State;
 use crate::step::next_state;
 use kp_rules::RuleSet;
+use kp_states::State;
 use std::alloc::Global;
 
 /// Why a run ends.
@@ -24,7 +28,7 @@ pub struct Executed {
     pub state: State,
 }
 
-/// Runs the rule set from a state for at most `bound` steps.
+/// Runs the rule set from a state for at most `bound` steps. Over a signature that isn't regular nothing is run.
 pub fn execute(
     alloc: Global,
     rules: &RuleSet,
@@ -33,8 +37,12 @@ pub fn execute(
 ) -> Result<Executed, RunError>
     ensures within { IfOk result (λ e. e.depth ≤ bound) }
     ensures stuck { IfOk result (λ e. e.stop ≡ Stuck → e.depth < bound) }
+    ensures is_run { (t : Theory) → RunsAs t rules.now → IsAt t state → IfOk result (λ e. IsRunOf t (value_view state.value) bound e) }
     ensures at_bound { IfOk result (λ e. e.stop ≡ DepthBound → e.depth ≡ bound) }
 {
+    if !rules.is_regular {
+        return Err(RunError::NotAnswered);
+    }
     let mut state = state;
     for depth in 0..bound {
         match next_state(alloc, rules, &state)? {

@@ -1,0 +1,244 @@
+-- From the code's rules to the rules of the theory.
+use Rattle.std.proofs.Common.{◌≡◌, refl, sym, subst, ◌∙◌, ℕ, ◌<◌, Bool, true, false, ◌↔◌, List, [], ◌∷◌, arith}
+use Rattle.std.specs.Prelude.{IsTrue}
+use Rattle.std.specs.List.{AllByRecursion}
+use Rattle.kp_kore.specs.Syntax.{KorePattern}
+use Rattle.kp_kore.specs.Parts.{SortedName, free_variables}
+use Rattle.kp_kore.specs.Signature.{KoreSignature}
+use Rattle.kp_kore.specs.View.{sort_view}
+use Rattle.kp_signature.specs.View.{signature_view}
+use Rattle.kp_semantics.specs.Value.{Value, HasSort}
+use Rattle.kp_semantics.specs.Sorted.{IsSorted, IsRegular}
+use Rattle.kp_semantics.specs.Instance.{Valuation, instance, IsTrueUnder, GivesSorts, AgreesOn, AgreesOff}
+use Rattle.kp_semantics.specs.Rules as model
+use Rattle.kp_semantics.specs.Theory.{Theory}
+use Rattle.kp_semantics.specs.Steps.{Fires, FiresUnder, LeadsTo, Rewrites, Steps, StepsBy, NoneBefore, NoneFires, IsUnknown, IsUnknownBy, AnyByRecursion}
+use Rattle.kp_semantics.proofs.InstanceLemmas.{same_instance}
+use Rattle.kp_ground.specs.Solves.{Solves}
+use Rattle.kp_ground.specs.View.{value_view}
+use Rattle.kp_rules.specs.Heads.{FiresAs}
+use Rattle.kp_rules.specs.Bodies.{IsTop, IsPlain, IsRewriteOf, IsBodyOf, IsCodeOf, RunsAs}
+use Rattle.kp_rules.specs.declared.rule.Rule.{Rule}
+use Rattle.kp_rules.specs.declared.rule.RuleBody.{RuleBody}
+use Rattle.kp_rules.specs.declared.rule.RuleBody.TheVariants.{Rewrite, Foreign}
+use Rattle.kp_rules.specs.declared.rule.Rewrite as code
+use Rattle.kp_rules.specs.declared.rule.RuleSet.{RuleSet}
+use Rattle.kp_rules.proofs.Fired.{fired_under}
+use Rattle.kp_states.specs.declared.state.State.{State}
+use Rattle.kp_run.specs.declared.step.Firing.{Firing}
+use Rattle.kp_run.specs.Runs.{IsAt, IsStuck, GoesOnlyTo}
+use Rattle.kp_run.specs.Turns.{BodyFires, MightRewrite, GoesAfter, IsFiring, OneAmong, IsAfterFiring}
+use Rattle.kp_run.proofs.Among.{all_along, one_all, one_any, of_the_one, of_some, zip_all, zip_any, zip_any_back, zip_one}
+
+-- ---- one rule
+
+same_firing : (g : KoreSignature) (m : model.RuleBody) (b : RuleBody) (u : Value) → IsSorted g u → IsBodyOf g m b → BodyFires g u b ↔ Fires g m u
+same_firing g (model.rewrite w) (Rewrite r) u s is = ((λ f. (f.0, (fired_under g w r is u s f.0).0 f.1)), (λ f. (f.0, (fired_under g w r is u s f.0).1 f.1)))
+same_firing g (model.foreign_rule l) (Foreign k) u s is = ((λ f. f), (λ f. f))
+same_firing g (model.rewrite w) (Foreign k) u s is = absurd is
+same_firing g (model.foreign_rule l) (Rewrite r) u s is = absurd is
+
+same_unknown : (g : KoreSignature) (m : model.RuleBody) (b : RuleBody) (u : Value) → IsSorted g u → IsBodyOf g m b → MightRewrite g u b ↔ IsUnknownBy g m u
+same_unknown g (model.rewrite w) (Rewrite r) u s is = ((λ f. f), (λ f. f))
+same_unknown g (model.foreign_rule l) (Foreign k) u s is = is u s
+same_unknown g (model.rewrite w) (Foreign k) u s is = absurd is
+same_unknown g (model.foreign_rule l) (Rewrite r) u s is = absurd is
+
+-- what is read is a rewrite of the theory
+record MeantBy (g : KoreSignature) (m : model.RuleBody) (r : code.Rewrite) : Type 0 where
+  meant : model.Rewrite
+  body : m ≡ model.rewrite meant
+  is : IsRewriteOf g meant r
+
+meant_by : (g : KoreSignature) (m : model.RuleBody) (r : code.Rewrite) → IsBodyOf g m (Rewrite r) → MeantBy g m r
+meant_by g (model.rewrite w) r is = record { meant = w; body = refl; is = is }
+meant_by g (model.foreign_rule l) r is = absurd is
+
+only_rewrites_fire : (g : KoreSignature) (u : Value) (b : RuleBody) → BodyFires g u b → (r : code.Rewrite) × (b ≡ Rewrite r)
+only_rewrites_fire g u (Rewrite r) f = (r, refl)
+only_rewrites_fire g u (Foreign k) f = absurd f
+
+-- what rewrites fires
+pub fires_first : (g : KoreSignature) (m : model.RuleBody) (u next : Value) → Rewrites g m u next → Fires g m u
+fires_first g (model.rewrite w) u next f = (f.0, f.1)
+fires_first g (model.foreign_rule l) u next f = absurd f
+
+-- ---- the rules of the theory
+
+unknown_here : (t : Theory) (rules : RuleSet) (u : Value) → RunsAs t rules → IsSorted t.signature u →
+    AnyByRecursion (λ r. MightRewrite t.signature u r.body) rules.rules.items ↔ IsUnknown t u
+unknown_here t rules u runs s =
+    let g = t.signature in (
+      zip_any (IsCodeOf g) (λ r. MightRewrite g u r.body) (λ m. IsUnknownBy g m.body u) (λ m r is k. (same_unknown g m.body r.body u s is.is_body).0 k) t.rules rules.rules.items runs.each,
+      zip_any_back (IsCodeOf g) (λ r. MightRewrite g u r.body) (λ m. IsUnknownBy g m.body u) (λ m r is k. (same_unknown g m.body r.body u s is.is_body).1 k) t.rules rules.rules.items runs.each,
+    )
+
+none_fires_here : (t : Theory) (rules : RuleSet) (u : Value) → RunsAs t rules → IsSorted t.signature u →
+    AllByRecursion (λ r. ¬ BodyFires t.signature u r.body) rules.rules.items → NoneFires t u
+none_fires_here t rules u runs s none =
+    let g = t.signature in
+    zip_all (IsCodeOf g) (λ r. ¬ BodyFires g u r.body) (λ m. ¬ Fires g m.body u) (λ m r is no f. no ((same_firing g m.body r.body u s is.is_body).1 f)) t.rules rules.rules.items runs.each none
+
+-- the rule of the theory whose firing it is
+record FiresWith (g : KoreSignature) (u : Value) (f : Firing) (m : model.RewriteRule) : Type 0 where
+  priority : m.priority ≡ f.priority
+  meant : MeantBy g m.body f.rewrite.now
+  solved : (v : Valuation) → Solves v f.bindings.items ↔ FiresAs g f.rewrite.now u v
+  solvable : (v : Valuation) × Solves v f.bindings.items
+
+abbrev FiresAfter : KoreSignature → Value → ℕ → model.RewriteRule → Type 0
+FiresAfter g u n m = Fires g m.body u → n < m.priority
+
+fires_with : (g : KoreSignature) (u : Value) (f : Firing) (m : model.RewriteRule) (r : Rule) → IsCodeOf g m r → IsFiring g u f r → FiresWith g u f m
+fires_with g u f m r is h = record {
+  priority = is.is_priority f.rewrite.now h.body ∙ h.priority;
+  meant = meant_by g m.body f.rewrite.now (subst (IsBodyOf g m.body) h.body is.is_body);
+  solved = h.solved;
+  solvable = h.solvable;
+}
+
+fires_after : (g : KoreSignature) (u : Value) (n : ℕ) (m : model.RewriteRule) (r : Rule) → IsSorted g u → IsCodeOf g m r → GoesAfter g u n r → FiresAfter g u n m
+fires_after g u n m r s is h = λ f.
+    let b : BodyFires g u r.body = (same_firing g m.body r.body u s is.is_body).1 f in
+    let e = only_rewrites_fire g u r.body b in
+    subst (λ k. n < k) (sym (is.is_priority e.0 e.1)) (h b)
+
+abbrev IsOneOf : Theory → Value → Firing → Type 0
+IsOneOf t u f = OneAmong (FiresWith t.signature u f) (FiresAfter t.signature u f.priority) t.rules
+
+one_of : (t : Theory) (rules : RuleSet) (u : Value) (f : Firing) → RunsAs t rules → IsSorted t.signature u →
+    OneAmong (IsFiring t.signature u f) (GoesAfter t.signature u f.priority) rules.rules.items → IsOneOf t u f
+one_of t rules u f runs s one =
+    let g = t.signature in
+    zip_one (IsCodeOf g) (IsFiring g u f) (GoesAfter g u f.priority) (FiresWith g u f) (FiresAfter g u f.priority)
+    (λ m r is h. fires_with g u f m r is h) (λ m r is h. fires_after g u f.priority m r s is h) t.rules rules.rules.items runs.each one
+
+-- ---- where a firing leads
+
+-- under each valuation that fires, the next value is the right term's instance
+right_value : (g : KoreSignature) (u : Value) (f : Firing) (next : State) (w : model.Rewrite) → IsRewriteOf g w f.rewrite.now → IsSorted g u → ((v : Valuation) → Solves v f.bindings.items ↔ FiresAs g f.rewrite.now u v) →
+    IsAfterFiring g f next → (v : Valuation) → FiresUnder g w v u → value_view next.value ≡ instance g v w.right
+right_value g u f next w is s solved after v fires = after.value v ((solved v).1 ((fired_under g w f.rewrite.now is u s v).1 fires)) ∙ is.right v
+
+-- a valuation that fires
+record Fired (g : KoreSignature) (u : Value) (w : model.Rewrite) : Type 0 where
+  valuation : Valuation
+  fires : FiresUnder g w valuation u
+
+fired : (g : KoreSignature) (u : Value) (f : Firing) (m : model.RewriteRule) → IsSorted g u → (h : FiresWith g u f m) → Fired g u h.meant.meant
+fired g u f m s h = record {
+  valuation = h.solvable.0;
+  fires = (fired_under g h.meant.meant f.rewrite.now h.meant.is u s h.solvable.0).0 ((h.solved h.solvable.0).0 h.solvable.1);
+}
+
+top_is_true : (g : KoreSignature) (v : Valuation) (p : KorePattern) → IsTop p → IsTrueUnder g v p
+top_is_true g v p h = subst (IsTrueUnder g v) (sym h.1) tt
+
+leads_to : (g : KoreSignature) (w : model.Rewrite) (v : Valuation) (next : Value) → IsPlain w → next ≡ instance g v w.right → LeadsTo g w v next
+leads_to g w v next plain e = record {
+  chosen = v;
+  agrees = λ y _. refl;
+  sorts = subst (GivesSorts g v) (sym plain.new_variables) tt;
+  ensured = all_along IsTop (IsTrueUnder g v) (λ p h. top_is_true g v p h) w.ensured plain.ensured;
+  result = e;
+}
+
+agree_everywhere : (v w : Valuation) → (xs : List SortedName) → ((x : _) → w x ≡ v x) → AgreesOn xs v w
+agree_everywhere v w [] a = tt
+agree_everywhere v w (x ∷ xs) a = (a x.name, agree_everywhere v w xs a)
+
+leads_only_to : (g : KoreSignature) (w : model.Rewrite) (v : Valuation) (other : Value) → IsPlain w → LeadsTo g w v other → other ≡ instance g v w.right
+leads_only_to g w v other plain to =
+    let off : AgreesOff [] v to.chosen = subst (λ xs. AgreesOff xs v to.chosen) plain.new_variables to.agrees in
+    to.result ∙ same_instance g v to.chosen w.right (agree_everywhere v to.chosen (free_variables w.right) (λ x. off x refl))
+
+rewrites_to : (g : KoreSignature) (u : Value) (f : Firing) (next : State) (m : model.RewriteRule) → IsSorted g u → IsAfterFiring g f next → FiresWith g u f m → Rewrites g m.body u (value_view next.value)
+rewrites_to g u f next m s after h =
+    let w = h.meant.meant in
+    let k = fired g u f m s h in
+    let plain : IsPlain w = h.meant.is.plain after.chooses in
+    subst (λ b. Rewrites g b u (value_view next.value)) (sym h.meant.body)
+    (k.valuation, k.fires, leads_to g w k.valuation (value_view next.value) plain (right_value g u f next w h.meant.is s h.solved after k.valuation k.fires))
+
+rewrites_only_to : (g : KoreSignature) (u : Value) (f : Firing) (next : State) (m : model.RewriteRule) (other : Value) → IsSorted g u → IsAfterFiring g f next → FiresWith g u f m → Rewrites g m.body u other → other ≡ value_view next.value
+rewrites_only_to g u f next m other s after h r =
+    let w = h.meant.meant in
+    let k : Rewrites g (model.rewrite w) u other = subst (λ b. Rewrites g b u other) h.meant.body r in
+    leads_only_to g w k.0 other (h.meant.is.plain after.chooses) k.2 ∙ sym (right_value g u f next w h.meant.is s h.solved after k.0 k.1)
+
+-- ---- the one step
+
+none_before : (t : Theory) (u : Value) (f : Firing) → IsOneOf t u f → NoneBefore t f.priority u
+none_before t u f one =
+    let g = t.signature in
+    one_all (FiresWith g u f) (FiresAfter g u f.priority) (λ m. m.priority < f.priority → ¬ Fires g m.body u)
+    (λ m h lt k. let same : m.priority ≡ f.priority = h.priority in absurd (omega arith))
+    (λ m h lt k. let later : f.priority < m.priority = h k in absurd (omega arith)) t.rules one
+
+some_step : (t : Theory) (u : Value) (f : Firing) (next : State) → IsSorted t.signature u → ¬ IsUnknown t u → IsOneOf t u f → IsAfterFiring t.signature f next → Steps t u (value_view next.value)
+some_step t u f next s known one after =
+    let g = t.signature in
+    one_any (FiresWith g u f) (FiresAfter g u f.priority) (λ m. StepsBy t m u (value_view next.value))
+    (λ m h. record { known = known; none_before = subst (λ n. NoneBefore t n u) (sym h.priority) (none_before t u f one); rewrites = rewrites_to g u f next m s after h }) t.rules one
+
+-- a rule that goes after it has no step
+no_step_after : (t : Theory) (u : Value) (f : Firing) (m : model.RewriteRule) (other : Value) → IsSorted t.signature u → IsOneOf t u f → FiresAfter t.signature u f.priority m → ¬ StepsBy t m u other
+no_step_after t u f m other s one later step =
+    let g = t.signature in
+    let lt : f.priority < m.priority = later (fires_first g m.body u other step.rewrites) in
+    of_some (λ n. n.priority < m.priority → ¬ Fires g n.body u) (FiresWith g u f) ⊥
+    (λ n none h. none (subst (λ k. k < m.priority) (sym h.priority) lt)
+    (subst (λ b. Fires g b u) (sym h.meant.body) (let k = fired g u f n s h in (k.valuation, k.fires))))
+    t.rules step.none_before (one_any (FiresWith g u f) (FiresAfter g u f.priority) (FiresWith g u f) (λ n h. h) t.rules one)
+
+only_step : (t : Theory) (u : Value) (f : Firing) (next : State) (other : Value) → IsSorted t.signature u → IsOneOf t u f → IsAfterFiring t.signature f next → Steps t u other → other ≡ value_view next.value
+only_step t u f next other s one after steps =
+    let g = t.signature in
+    of_some (λ m. StepsBy t m u other → other ≡ value_view next.value) (λ m. StepsBy t m u other) (other ≡ value_view next.value) (λ m k b. k b) t.rules
+    (one_all (FiresWith g u f) (FiresAfter g u f.priority) (λ m. StepsBy t m u other → other ≡ value_view next.value)
+    (λ m h b. rewrites_only_to g u f next m other s after h b.rewrites)
+    (λ m h b. absurd (no_step_after t u f m other s one h b)) t.rules one)
+    steps
+
+-- and the sort of what it leads to
+next_is_at : (t : Theory) (u : Value) (f : Firing) (next : State) → IsRegular t.signature → IsSorted t.signature u → IsOneOf t u f → IsAfterFiring t.signature f next → IsAt t next
+next_is_at t u f next regular s one after =
+    let g = t.signature in
+    of_the_one (FiresWith g u f) (FiresAfter g u f.priority) (IsAt t next)
+    (λ m h. let k = fired g u f m s h in
+    let w = h.meant.meant in
+    let plain : IsPlain w = h.meant.is.plain after.chooses in
+    after.sort (subst (HasSort g (sort_view f.rewrite.now.right_sort)) (sym (right_value g u f next w h.meant.is s h.solved after k.valuation k.fires))
+    (h.meant.is.sorted regular k.valuation k.fires.sorts plain.new_variables))) t.rules one
+
+goes_there : (t : Theory) (rules : RuleSet) (u : Value) (f : Firing) (next : State) → RunsAs t rules → rules.is_regular ≡ true → IsSorted t.signature u → ¬ IsUnknown t u →
+    OneAmong (IsFiring t.signature u f) (GoesAfter t.signature u f.priority) rules.rules.items → IsAfterFiring t.signature f next →
+    GoesOnlyTo t u (value_view next.value) × IsAt t next
+goes_there t rules u f next runs regular s known one after =
+    let one_in : IsOneOf t u f = one_of t rules u f runs s one in
+    ((some_step t u f next s known one_in after, λ other steps. only_step t u f next other s one_in after steps), next_is_at t u f next (runs.regular regular) s one_in after)
+
+-- ---- in the words of the code's signature
+
+-- none is unknown, as the code found
+known_here : (t : Theory) (rules : RuleSet) (u : Value) (b : Bool) → RunsAs t rules → IsSorted t.signature u → b ≡ false →
+    (IsSorted (signature_view rules.signature) u → IsTrue b ↔ AnyByRecursion (λ r. MightRewrite (signature_view rules.signature) u r.body) rules.rules.items) → ¬ IsUnknown t u
+known_here t rules u b runs s isnt told =
+    let there : IsSorted t.signature u → IsTrue b ↔ AnyByRecursion (λ r. MightRewrite t.signature u r.body) rules.rules.items =
+    subst (λ g. IsSorted g u → IsTrue b ↔ AnyByRecursion (λ r. MightRewrite g u r.body) rules.rules.items) runs.signature told in
+    λ unknown. let yes : b ≡ true = (there s).1 ((unknown_here t rules u runs s).1 unknown) in absurd (cc)
+
+pub stuck_here : (t : Theory) (rules : RuleSet) (u : Value) (b : Bool) → RunsAs t rules → IsSorted t.signature u → b ≡ false →
+    (IsSorted (signature_view rules.signature) u → IsTrue b ↔ AnyByRecursion (λ r. MightRewrite (signature_view rules.signature) u r.body) rules.rules.items) →
+    AllByRecursion (λ r. ¬ BodyFires (signature_view rules.signature) u r.body) rules.rules.items → IsStuck t u
+stuck_here t rules u b runs s isnt told none =
+    (none_fires_here t rules u runs s (subst (λ g. AllByRecursion (λ r. ¬ BodyFires g u r.body) rules.rules.items) runs.signature none), known_here t rules u b runs s isnt told)
+
+pub goes_here : (t : Theory) (rules : RuleSet) (u : Value) (b : Bool) (f : Firing) (next : State) → RunsAs t rules → rules.is_regular ≡ true → IsSorted t.signature u → b ≡ false →
+    (IsSorted (signature_view rules.signature) u → IsTrue b ↔ AnyByRecursion (λ r. MightRewrite (signature_view rules.signature) u r.body) rules.rules.items) →
+    OneAmong (IsFiring (signature_view rules.signature) u f) (GoesAfter (signature_view rules.signature) u f.priority) rules.rules.items → IsAfterFiring (signature_view rules.signature) f next →
+    GoesOnlyTo t u (value_view next.value) × IsAt t next
+goes_here t rules u b f next runs regular s isnt told one after =
+    goes_there t rules u f next runs regular s (known_here t rules u b runs s isnt told)
+    (subst (λ g. OneAmong (IsFiring g u f) (GoesAfter g u f.priority) rules.rules.items) runs.signature one)
+    (subst (λ g. IsAfterFiring g f next) runs.signature after)

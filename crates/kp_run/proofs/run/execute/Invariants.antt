@@ -1,0 +1,9 @@
+use Rattle.kp_semantics.specs.Theory.{Theory}
+use Rattle.kp_ground.specs.View.{value_view}
+use Rattle.kp_rules.specs.Bodies.{RunsAs}
+use Rattle.kp_run.specs.Runs.{IsAt, GoesOnlyIn}
+use Rattle.kp_run.proofs.run.execute.Given as goal
+
+abbrev pub invariant-loop-depth : goal.invariant-loop-depth
+invariant-loop-depth l =
+    (t : Theory) → RunsAs t l.rules → IsAt t l.fn.state → GoesOnlyIn t l.depth (value_view l.fn.state.value) (value_view l.state.value) × IsAt t l.state

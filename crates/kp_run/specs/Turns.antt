@@ -1,0 +1,59 @@
+-- What the rules of a rule set that fire on a value come to.
+use Rattle.std.specs.Prelude.{◌≡◌, ◌↔◌, ◌⊎◌, ◌<◌, ◌≤◌, ℕ, false, List, [], ◌∷◌}
+use Rattle.std.specs.List.{AllByRecursion}
+use Rattle.kp_kore.specs.Signature.{KoreSignature}
+use Rattle.kp_kore.specs.View.{sort_view}
+use Rattle.kp_semantics.specs.Value.{Value, HasSort}
+use Rattle.kp_semantics.specs.Instance.{Valuation}
+use Rattle.kp_ground.specs.Solves.{Solves}
+use Rattle.kp_ground.specs.Terms.{term_value}
+use Rattle.kp_ground.specs.TermView.{term_view}
+use Rattle.kp_ground.specs.View.{value_view}
+use Rattle.kp_rules.specs.Heads.{FiresAs}
+use Rattle.kp_rules.specs.Skeletons.{IsAdmitted}
+use Rattle.kp_rules.specs.declared.rule.Rule.{Rule}
+use Rattle.kp_rules.specs.declared.rule.RuleBody.{RuleBody}
+use Rattle.kp_rules.specs.declared.rule.RuleBody.TheVariants.{Rewrite, Foreign}
+use Rattle.kp_states.specs.declared.state.State.{State}
+use Rattle.kp_run.specs.declared.step.Firing.{Firing}
+use Rattle.kp_run.specs.declared.step.Turn.{Turn}
+use Rattle.kp_run.specs.declared.step.Turn.TheVariants.{Nobody, One, Several}
+
+-- the rule fires under some valuation
+abbrev pub BodyFires : KoreSignature → Value → RuleBody → Type 0
+BodyFires g u (Rewrite r) = (v : Valuation) × FiresAs g r u v
+BodyFires g u (Foreign k) = ⊥
+
+-- the rule is foreign, and the value may stand for its skeleton
+abbrev pub MightRewrite : KoreSignature → Value → RuleBody → Type 0
+MightRewrite g u (Rewrite r) = ⊥
+MightRewrite g u (Foreign k) = IsAdmitted g k u
+
+-- the rule doesn't fire, or its priority number is greater
+abbrev pub GoesAfter : KoreSignature → Value → ℕ → Rule → Type 0
+GoesAfter g u n r = BodyFires g u r.body → n < r.priority
+
+-- the rule fires, under exactly the valuations that the bindings allow, and there are some
+pub record IsFiring (g : KoreSignature) (u : Value) (f : Firing) (r : Rule) : Type 0 where
+  pub body : r.body ≡ Rewrite f.rewrite.now
+  pub priority : r.priority ≡ f.priority
+  pub solved : (v : Valuation) → Solves v f.bindings.items ↔ FiresAs g f.rewrite.now u v
+  pub solvable : (v : Valuation) × Solves v f.bindings.items
+
+-- P of one member of the list, Q of each other
+abbrev pub OneAmong : {X : Type 0} → (X → Type 0) → (X → Type 0) → List X → Type 0
+OneAmong P Q [] = ⊥
+OneAmong P Q (x ∷ xs) = (P x × AllByRecursion Q xs) ⊎ (Q x × OneAmong P Q xs)
+
+-- the rules come to this turn: none fires; one fires and all others go after it; or none has a smaller number
+abbrev pub IsTurn : KoreSignature → Value → List Rule → Turn → Type 0
+IsTurn g u rules Nobody = AllByRecursion (λ r. ¬ BodyFires g u r.body) rules
+IsTurn g u rules (One f) = OneAmong (IsFiring g u f) (GoesAfter g u f.priority) rules
+IsTurn g u rules (Several n) = AllByRecursion (λ r. BodyFires g u r.body → n ≤ r.priority) rules
+
+-- the state after a firing: its value is the right term's under the bindings, and it has the sort that it is written
+-- at where it has the right term's
+pub record IsAfterFiring (g : KoreSignature) (f : Firing) (next : State) : Type 0 where
+  pub chooses : f.rewrite.now.chooses ≡ false
+  pub value : (v : Valuation) → Solves v f.bindings.items → value_view next.value ≡ term_value v (term_view f.rewrite.now.right)
+  pub sort : HasSort g (sort_view f.rewrite.now.right_sort) (value_view next.value) → HasSort g (sort_view next.sort) (value_view next.value)
