@@ -1,3 +1,5 @@
+pub mod Ended
 pub mod Five
-pub mod Lines
+pub mod Runs
+pub mod Served
 pub mod Spelled

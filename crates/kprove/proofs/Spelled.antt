@@ -1,5 +1,5 @@
 -- Statuses and words.
-use Rattle.std.proofs.Common.{◌≡◌, ◌≢◌, ℕ, List, refl, arith}
+use Rattle.std.proofs.Common.{◌≢◌, ℕ, List, refl}
 use Rattle.kprove.specs.Statuses.{status_of}
 use Rattle.kprove.specs.Words.{SpellsStdio, SpellsSome}
 use Rattle.kprove.specs.declared.trouble.Trouble.{Trouble}

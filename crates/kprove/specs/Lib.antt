@@ -1,3 +1,4 @@
-pub mod Served
+pub mod Ends
+pub mod Right
 pub mod Statuses
 pub mod Words

@@ -1,8 +1,12 @@
-ghost use Rattle.std.specs.Prelude.{◌≡◌, ◌≢◌, ◌≤◌, ◌↔◌, ◌⊎◌, Err, IfOk, IfSome, IsErrOf, OnOk, map, string_bytes};
+ghost use Rattle.std.specs.Prelude.{◌≡◌, ◌≢◌, ◌≤◌, ◌↔◌, ◌⊎◌, ℕ, Err, IfOk, IsErrOf, List, OnOk, map, string_bytes};
+ghost use Rattle.std.specs.Io.KnownBytes.{Appends};
 ghost use Rattle.kp_io.specs.Outside.{Rose};
-ghost use Rattle.kprove.specs.Served.{GainsReply, IsReplyLine};
+ghost use Rattle.kp_modules.specs.Tables.{RunsTable};
+ghost use Rattle.kp_semantics.specs.Theory.{Theory};
+ghost use Rattle.kprove.specs.Ends.{IsReplyToRead, written};
+ghost use Rattle.kprove.specs.Right.{Serves};
 ghost use Rattle.kprove.specs.Statuses.{status_of};
-ghost use Rattle.kprove.specs.Words.{SpellsSome};
+ghost use Rattle.kprove.specs.Words.{SpellsStdio, SpellsSome};
 
 use crate::answer::answer;
 use crate::command::{Stdio, command_of};
@@ -28,7 +32,7 @@ pub fn run<H: Shelf, I: Source, O: Sink, E: Sink>(
     out: &mut O,
     err: &mut E,
 ) -> u8
-    ensures served { result ≡ 0 → GainsReply (O.held out.old) (O.held out.new) }
+    ensures served { result ≡ 0 → (name : List ℕ) × (main : List ℕ) × SpellsStdio (map string_bytes words.now) name main × Serves (H.names shelf.old) (I.left input.old) (O.held out.old) (O.held out.new) name main }
     ensures statuses { (result ≡ 0) ⊎ ((3 ≤ result) × (result ≤ 7)) }
     ensures usage { (result ≡ 3) ↔ ¬ SpellsSome (map string_bytes words.now) }
     ensures outside { result ≡ 6 → Rose (H.fault_count shelf.old) (H.fault_count shelf.new) ⊎ (Rose (I.fault_count input.old) (I.fault_count input.new) ⊎ Rose (O.fault_count out.old) (O.fault_count out.new)) }
@@ -66,7 +70,7 @@ fn serve_frame<H: Shelf, I: Source, O: Sink>(
     input: &mut I,
     out: &mut O,
 ) -> Result<(), Trouble>
-    ensures served { OnOk result (GainsReply (O.held out.old) (O.held out.new)) }
+    ensures served { OnOk result (Serves (H.names shelf.old) (I.left input.old) (O.held out.old) (O.held out.new) command.now.definition.now command.now.module_name.now) }
     ensures outside { IsErrOf result Trouble.Outside → Rose (H.fault_count shelf.old) (H.fault_count shelf.new) ⊎ (Rose (I.fault_count input.old) (I.fault_count input.new) ⊎ Rose (O.fault_count out.old) (O.fault_count out.new)) }
     ensures usage { result ≢ Err Trouble.Usage }
     ensures files_kept { H.names shelf.new ≡ H.names shelf.old }
@@ -76,10 +80,8 @@ fn serve_frame<H: Shelf, I: Source, O: Sink>(
 {
     let table = load_table(alloc, shelf, command)?;
     let bytes = read_all(alloc, input, FRAME_LIMIT);
-    match reply_to(alloc, &table, bytes)? {
-        Some(line) => put_line(out, &line),
-        None => Ok(()),
-    }
+    let reply = reply_to(alloc, &table, bytes)?;
+    put_reply(out, &reply)
 }
 
 /// The reply to the input: more than a frame may have is no frame.
@@ -88,7 +90,7 @@ fn reply_to(
     table: &Table,
     bytes: Result<Vec<u8>, LoadFault>,
 ) -> Result<Option<Vec<u8>>, Trouble>
-    ensures line { IfOk result (λ reply. IfSome reply (λ line. IsReplyLine line.items)) }
+    ensures reply { (t : Theory) → RunsTable t table.now → IfOk result (IsReplyToRead t bytes) }
     ensures outside { IsErrOf result Trouble.Outside → IsErrOf bytes LoadFault.Failed }
     ensures usage { result ≢ Err Trouble.Usage }
 {
@@ -100,10 +102,22 @@ fn reply_to(
     }
 }
 
+/// Writes a reply, where there is one.
+fn put_reply<O: Sink>(out: &mut O, reply: &Option<Vec<u8>>) -> Result<(), Trouble>
+    ensures gained { OnOk result (Appends (O.held out.old) (O.held out.new) (written reply.now)) }
+    ensures outside { IsErrOf result Trouble.Outside → Rose (O.fault_count out.old) (O.fault_count out.new) }
+    ensures usage { result ≢ Err Trouble.Usage }
+    ensures count { O.fault_count out.old ≤ O.fault_count out.new }
+{
+    match reply {
+        Some(line) => put_line(out, line),
+        None => Ok(()),
+    }
+}
+
 /// Writes a line.
 fn put_line<O: Sink>(out: &mut O, line: &[u8]) -> Result<(), Trouble>
-    requires { IsReplyLine line.now }
-    ensures served { OnOk result (GainsReply (O.held out.old) (O.held out.new)) }
+    ensures gained { OnOk result (Appends (O.held out.old) (O.held out.new) line.now) }
     ensures outside { IsErrOf result Trouble.Outside → Rose (O.fault_count out.old) (O.fault_count out.new) }
     ensures usage { result ≢ Err Trouble.Usage }
     ensures count { O.fault_count out.old ≤ O.fault_count out.new }

@@ -1,0 +1,89 @@
+-- A run from a ground state, whose end is spelled, is what a reply has to say.
+use Rattle.std.proofs.Common.{◌≡◌, ◌≤◌, ℕ, Bool, true, false, not, ◌&&◌, List, [], ◌∷◌, IsTrue, refl, sym, ◌∙◌, arith}
+use Rattle.std.specs.List.{AllByRecursion, list_all}
+use Rattle.kp_kore.specs.Syntax.{KorePattern, variable, set_variable, application, string_literal, literal, top, bottom, negation, next, conjunction, disjunction, implication, equivalence, rewriting, exists, forall, ceil, floor, equals, membership, mu, nu}
+use Rattle.kp_kore.specs.Parts.{is_term, free_variables, subpatterns}
+use Rattle.kp_kore.specs.Signature.{KoreSignature, meaning_of}
+use Rattle.kp_ground.specs.View.{value_view}
+use Rattle.kp_semantics.specs.Value.{Value}
+use Rattle.kp_semantics.specs.Instance.{Valuation, instance}
+use Rattle.kp_semantics.specs.Foreign.{none_within, has_interpreted_head, is_interpretation}
+use Rattle.kp_semantics.specs.Theory.{Theory}
+use Rattle.kp_semantics.specs.Replies.{IsComputed, IsRightExecuted, are_literals, is_open_call, is_wide_value}
+use Rattle.kp_semantics.proofs.InstanceLemmas.{one_instance}
+use Rattle.kp_run.proofs.Runs.{run_is_after, run_is_reached, run_has_reason}
+use Rattle.kp_run.specs.Runs.{IsRunOf, IsOnlyInstance, reason_of}
+use Rattle.kp_states.specs.Spelled.{IsSpellingOf}
+use Rattle.kp_run.specs.declared.run.Executed.{Executed}
+use Rattle.kp_run.specs.declared.run.Stop.{Stop}
+use Rattle.kp_run.specs.declared.run.Stop.TheVariants.{Stuck, DepthBound}
+
+-- a ground term's only instance is its value
+only_instance : (t : Theory) (s : KorePattern) (c : Value) → IsTrue (is_term s) → ((v : Valuation) → instance t.signature v s ≡ c) → IsOnlyInstance t s c
+only_instance t s c term means v u =
+    let one = one_instance t.signature v s u term in
+    ((λ i. one.0 i ∙ means v), (λ e. one.1 (e ∙ sym (means v))))
+
+-- without interpreted heads there is no open call
+closed_call : (i l : Bool) → not i ≡ true → (i && l) ≡ true → ⊥
+closed_call true l n o = absurd (cc n)
+closed_call false l n o = absurd (cc o)
+
+no_open_call : (g : KoreSignature) (p : KorePattern) → not (has_interpreted_head g p) ≡ true → is_open_call g p ≡ true → ⊥
+no_open_call g (application f ss ps) n o = closed_call (is_interpretation (meaning_of g f)) (are_literals ps) n o
+no_open_call g (variable x s) n o = absurd (cc o)
+no_open_call g (set_variable x s) n o = absurd (cc o)
+no_open_call g (string_literal t) n o = absurd (cc o)
+no_open_call g (literal s t) n o = absurd (cc o)
+no_open_call g (top s) n o = absurd (cc o)
+no_open_call g (bottom s) n o = absurd (cc o)
+no_open_call g (negation s q) n o = absurd (cc o)
+no_open_call g (next s q) n o = absurd (cc o)
+no_open_call g (conjunction s qs) n o = absurd (cc o)
+no_open_call g (disjunction s qs) n o = absurd (cc o)
+no_open_call g (implication s q r) n o = absurd (cc o)
+no_open_call g (equivalence s q r) n o = absurd (cc o)
+no_open_call g (rewriting s q r) n o = absurd (cc o)
+no_open_call g (exists s x t q) n o = absurd (cc o)
+no_open_call g (forall s x t q) n o = absurd (cc o)
+no_open_call g (ceil a s q) n o = absurd (cc o)
+no_open_call g (floor a s q) n o = absurd (cc o)
+no_open_call g (equals a s q r) n o = absurd (cc o)
+no_open_call g (membership a s q r) n o = absurd (cc o)
+no_open_call g (mu x s q) n o = absurd (cc o)
+no_open_call g (nu x s q) n o = absurd (cc o)
+
+both : (a b : Bool) → (a && b) ≡ true → (a ≡ true) × (b ≡ true)
+both true b e = (refl, e)
+both false b e = absurd (cc e)
+
+none_open : (g : KoreSignature) (ps : List KorePattern) → list_all (λ q. not (has_interpreted_head g q)) ps ≡ true
+    → AllByRecursion (λ q. is_open_call g q ≡ true → (v : Valuation) → IsTrue (is_wide_value (instance g v q))) ps
+none_open g [] h = tt
+none_open g (p ∷ ps) h =
+    let two = both (not (has_interpreted_head g p)) (list_all (λ q. not (has_interpreted_head g q)) ps) h in
+    ((λ o v. absurd (no_open_call g p two.0 o)), none_open g ps two.1)
+
+computed : (g : KoreSignature) (p : KorePattern) → IsTrue (none_within (has_interpreted_head g) p) → IsComputed g p
+computed g p h = none_open g (subpatterns p) h
+
+within : (t : Theory) (c : Value) (bound : ℕ) (e : Executed) → IsRunOf t c bound e → e.depth ≤ bound
+within t c bound e run = by_stop e.stop refl
+  where
+    by_stop : (s : Stop) → e.stop ≡ s → e.depth ≤ bound
+    by_stop Stuck is = let k = (run.stuck is).0 in omega arith
+    by_stop DepthBound is = let k = run.at_bound is in omega arith
+
+pub run_is_right : (t : Theory) (s s' : KorePattern) (c : Value) (bound : ℕ) (e : Executed) → IsRunOf t c bound e →
+    IsTrue (is_term s) → free_variables s ≡ [] → ((v : Valuation) → instance t.signature v s ≡ c) → IsSpellingOf t.signature (value_view e.state.value) s' →
+    IsRightExecuted t [] bound s (record { depth = e.depth; reason = reason_of e.stop; state = s' })
+run_is_right t s s' c bound e run term closed means spelling =
+    let first = only_instance t s c term means in
+    let last = only_instance t s' (value_view e.state.value) spelling.term spelling.meant in
+    record {
+      within_bound = within t c bound e run;
+      after = run_is_after t s s' c bound e run first last closed spelling.closed;
+      reached = run_is_reached t s c bound e run first closed;
+      computed = computed t.signature s' spelling.computed;
+      reason = run_has_reason t s' c bound e run last spelling.closed;
+    }
