@@ -9,6 +9,8 @@ mod definitions;
 #[cfg(test)]
 mod readers;
 #[cfg(test)]
+mod regularity;
+#[cfg(test)]
 mod replies;
 #[cfg(test)]
 mod rules;

@@ -1,5 +1,6 @@
 use kp_ground::Value;
 use kp_kore::{AxiomSentence, Module, Pattern, Sentence, Sort, SortSentence, SymbolSentence};
+use kp_rules::skeleton::skeleton_of_left;
 use kp_rules::{Rule, RuleBody, SortIndex, label_of, read_rule};
 use kp_signature::Signature;
 use std::alloc::Global;
@@ -216,5 +217,29 @@ fn a_foreign_rule_has_a_skeleton(rt: HostRuntime) -> Result<(), Fail> {
             assert!(rt; !skeleton.may_be(alloc, &signature, &pair(alloc, 9, 8)?)?);
         }
     }
+    Ok(())
+}
+
+fn number(alloc: Global, text: &str) -> Result<Pattern, Fail> {
+    Ok(Pattern::Literal {
+        sort: sort(alloc, "Int")?,
+        text: String::from_str(alloc, text)?,
+    })
+}
+
+/// In a foreign rule's left side pair("7", "seven"), the first is 7, and the second, which writes no number, any number.
+#[test]
+fn a_literal_that_writes_no_value_is_any_value(rt: HostRuntime) -> Result<(), Fail> {
+    let alloc = rt.alloc();
+    let signature = small(alloc)?;
+    let index = SortIndex::new(alloc, &signature)?;
+    let left = call(
+        alloc,
+        "pair",
+        two(alloc, number(alloc, "7")?, number(alloc, "seven")?)?,
+    )?;
+    let skeleton = skeleton_of_left(alloc, &signature, &index, &sort(alloc, "E")?, &left)?;
+    assert!(rt; skeleton.may_be(alloc, &signature, &pair(alloc, 7, 9)?)?);
+    assert!(rt; !skeleton.may_be(alloc, &signature, &pair(alloc, 8, 9)?)?);
     Ok(())
 }
