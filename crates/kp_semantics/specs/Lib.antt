@@ -1,9 +1,11 @@
 pub mod Arcs
+pub mod ClaimView
 pub mod Claims
 pub mod Foreign
 pub mod Forms
 pub mod Instance
 pub mod Interpretation
+pub mod Numbers
 pub mod Replies
 pub mod Rules
 pub mod Sorted

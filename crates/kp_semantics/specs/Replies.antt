@@ -1,5 +1,5 @@
 -- When the reply to an execute request is right.
--- Source: the K Haskell backend's JSON-RPC documentation (execute: reasons stuck and depth-bound).
+-- Source: the K Haskell backend's JSON-RPC documentation (execute: reasons stuck, depth-bound and aborted).
 use Rattle.std.specs.Prelude.{◌≡◌, ℕ, suc, ◌<◌, ◌≤◌, Bool, true, false, not, ◌&&◌, List, [], ◌++◌, IsTrue, codes}
 use Rattle.std.specs.List.{AllByRecursion, filter, list_any}
 use Rattle.std.specs.Fmt.{decimal}
@@ -12,7 +12,7 @@ use Rattle.kp_semantics.specs.Instance.{Valuation, instance, GivesSorts, AgreesO
 use Rattle.kp_semantics.specs.Rules.{RewriteRule}
 use Rattle.kp_semantics.specs.Foreign.{is_interpretation, fits_number}
 use Rattle.kp_semantics.specs.Theory.{Theory}
-use Rattle.kp_semantics.specs.Steps.{HasTurn, IsUnknown, StepsIn, IsFinal, NoneFires}
+use Rattle.kp_semantics.specs.Steps.{AnyByRecursion, HasTurn, IsUnknown, IsUnknownBy, StepsIn, IsFinal, NoneFires}
 
 -- ---- new variables
 
@@ -58,6 +58,8 @@ pub record After (t : Theory) (listed : List Text) (s s' : KorePattern) (d : ℕ
 
 pub data Reason : Type 0 where
   stuck depth_bound : Reason
+  -- aborted, because the foreign rule of this id might apply
+  aborted_by_rule : Text → Reason
 
 -- the state of the reply, the depth and the reason
 pub record Executed : Type 0 where
@@ -69,14 +71,25 @@ pub record Executed : Type 0 where
 abbrev pub HasInstance : KoreSignature → KorePattern → Type 0
 HasInstance g p = (v : Valuation) × (c : Value) × GivesSorts g v (free_variables p) × IsInstance g v p c
 
+-- some instance of the pattern is one of the rule's skeleton, where the rule is foreign
+pub record MeetsSkeleton (g : KoreSignature) (p : KorePattern) (r : RewriteRule) : Type 0 where
+  pub valuation : Valuation
+  pub configuration : Value
+  pub sorts : GivesSorts g valuation (free_variables p)
+  pub met : IsInstance g valuation p configuration
+  pub unknown : IsUnknownBy g r.body configuration
+
 -- stuck: below the bound; no rule fires on an instance, and none is unknown.
 -- depth-bound: at the bound; a state without predicates has an instance.
+-- aborted by a rule: below the bound; the state meets the skeleton of the foreign rule of this id.
 abbrev pub IsRightReason : Theory → ℕ → ℕ → KorePattern → Reason → Type 0
 IsRightReason t bound d s' stuck =
     (d < bound) × HasInstance t.signature s' ×
     ((v : Valuation) (c : Value) → GivesSorts t.signature v (free_variables s') → IsInstance t.signature v s' c → NoneFires t c × ¬ IsUnknown t c)
 IsRightReason t bound d s' depth_bound =
     (d ≡ bound) × (conjoined_predicates s' ≡ [] → HasInstance t.signature s')
+IsRightReason t bound d s' (aborted_by_rule id) =
+    (d < bound) × AnyByRecursion (λ r. (r.id ≡ id) × MeetsSkeleton t.signature s' r) t.rules
 
 -- an interpreted call with literals alone for arguments
 abbrev pub are_literals : KorePatterns → Bool

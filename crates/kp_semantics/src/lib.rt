@@ -1,6 +1,10 @@
 // What Kore means: values, instances, truth, rules, steps, runs, claims, and when a reply is right.
 // The definitions stand in specs/, to be read in the order Value, Interpretation, Instance, Rules, Foreign,
-// Theory, Steps, Claims, Replies. The functions here have no bodies: each carries laws of those definitions.
+// Theory, Steps, Claims, Replies. The functions here have no bodies: each carries laws of those definitions. The one
+// type of the code is a claim, which all that prove claims hand on.
 #![tactic(auto)]
 
+mod claim;
 pub mod laws;
+
+pub use claim::Claim;
