@@ -1,4 +1,4 @@
-ghost use Rattle.std.specs.Prelude.{◌≡◌, ◌↔◌, ◌+◌, ◌-◌, ◌^◌, IsTrue, Contains, min, if◌then◌else◌};
+ghost use Rattle.std.specs.Prelude.{◌≡◌, ◌↔◌, ◌+◌, ◌-◌, ◌^◌, IsTrue, Contains, min, ⊤, if◌then◌else◌};
 ghost use Rattle.kp_io.specs.Outside.{CountsFault};
 
 /// Which calls on something in memory fail: the first call has the number 1.
@@ -28,6 +28,15 @@ impl Calls {
         ensures { result ≡ self.now.faults }
     {
         self.faults
+    }
+
+    /// Counts a failure that no number named.
+    pub fn count_fault(&mut self)
+        ensures made { self.new.made ≡ self.old.made }
+        ensures failing { self.new.failing ≡ self.old.failing }
+        ensures faults { CountsFault self.old.faults self.new.faults ⊤ }
+    {
+        self.faults = self.faults.saturating_add(1);
     }
 
     /// Counts one more call, and says whether it fails.

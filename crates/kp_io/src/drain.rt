@@ -1,4 +1,4 @@
-ghost use Rattle.std.specs.Prelude.{◌≡◌, ◌↔◌, ◌<◌, ◌+◌, ◌-◌, ◌^◌, [], Some, IfOk, IsErrOf, Contains, length, min};
+ghost use Rattle.std.specs.Prelude.{◌≡◌, ◌↔◌, ◌<◌, ◌+◌, ◌-◌, ◌^◌, [], Some, IfOk, IsErr, IsErrOf, Contains, length, min};
 ghost use Rattle.std.specs.Io.{WritesAtMost};
 ghost use Rattle.std.specs.Io.KnownBytes.{WriteAppends};
 ghost use Rattle.kp_io.specs.Outside.{CountsFault};
@@ -50,7 +50,7 @@ impl Sink for Drain {
         ensures bound { WritesAtMost result bytes.now }
         ensures some { 0 < length bytes.now → IfOk result (λ n. 0 < n) }
         ensures bytes { WriteAppends (Some self.old.held.items) (Some self.new.held.items) result bytes.now }
-        ensures faults { CountsFault self.old.calls.faults self.new.calls.faults (IsErrOf result OutsideFault.Failed) }
+        ensures faults { CountsFault self.old.calls.faults self.new.calls.faults (IsErr result) }
         ensures fails { IsErrOf result OutsideFault.Failed ↔ Contains self.old.calls.failing.items self.new.calls.made }
         ensures made { self.new.calls.made ≡ min (self.old.calls.made + 1) (2 ^ 64 - 1) }
         ensures failing { self.new.calls.failing ≡ self.old.calls.failing }
@@ -58,7 +58,10 @@ impl Sink for Drain {
         if self.calls.next_fails() {
             return Err(OutsideFault::Failed);
         }
-        self.held.extend_from_slice(bytes)?;
+        if self.held.extend_from_slice(bytes).is_err() {
+            self.calls.count_fault();
+            return Err(OutsideFault::Memory);
+        }
         Ok(bytes.len())
     }
 }
@@ -67,15 +70,18 @@ impl Sink for Drain {
 #[derive(Drop)]
 pub struct SureDrain {
     held: Vec<u8>,
+    faults: u64,
 }
 
 impl SureDrain {
     /// An empty sink.
     pub fn new(alloc: Global) -> SureDrain
-        ensures { result.held.items ≡ [] }
+        ensures held { result.held.items ≡ [] }
+        ensures faults { result.faults ≡ 0 }
     {
         SureDrain {
             held: Vec::new(alloc),
+            faults: 0,
         }
     }
 
@@ -90,20 +96,23 @@ impl SureDrain {
 impl Sink for SureDrain {
     ghost held = { λ s. Some s.held.items };
 
-    ghost fault_count = { λ s. 0 };
+    ghost fault_count = { λ s. s.faults };
 
     fn faults(&self) -> u64 {
-        0
+        self.faults
     }
 
     fn put(&mut self, bytes: &[u8]) -> Result<usize, OutsideFault>
         ensures bound { WritesAtMost result bytes.now }
         ensures some { 0 < length bytes.now → IfOk result (λ n. 0 < n) }
         ensures bytes { WriteAppends (Some self.old.held.items) (Some self.new.held.items) result bytes.now }
-        ensures faults { CountsFault 0 0 (IsErrOf result OutsideFault.Failed) }
+        ensures faults { CountsFault self.old.faults self.new.faults (IsErr result) }
         ensures sure { IsErrOf result OutsideFault.Failed → ⊥ }
     {
-        self.held.extend_from_slice(bytes)?;
+        if self.held.extend_from_slice(bytes).is_err() {
+            self.faults = self.faults.saturating_add(1);
+            return Err(OutsideFault::Memory);
+        }
         Ok(bytes.len())
     }
 }

@@ -1,4 +1,4 @@
-ghost use Rattle.std.specs.Prelude.{◌≡◌, ◌<◌, ℕ, List, Option, IfOk, IsErrOf, length};
+ghost use Rattle.std.specs.Prelude.{◌≡◌, ◌<◌, ℕ, List, Option, IfOk, IsErr, length};
 ghost use Rattle.std.specs.Io.{WritesAtMost};
 ghost use Rattle.std.specs.Io.KnownBytes.{WriteAppends};
 ghost use Rattle.kp_io.specs.Outside.{CountsFault};
@@ -10,10 +10,10 @@ pub trait Sink {
     /// The bytes that were put, where they are told.
     ghost held: { Self → Option (List ℕ) };
 
-    /// How often the sink has failed.
+    /// How often the sink has failed, also for want of memory.
     ghost fault_count: { Self → ℕ };
 
-    /// How often the sink has failed.
+    /// How often the sink has failed, also for want of memory.
     fn faults(&self) -> u64
         ensures { result ≡ fault_count self.now };
 
@@ -22,5 +22,5 @@ pub trait Sink {
         ensures bound { WritesAtMost result bytes.now }
         ensures some { 0 < length bytes.now → IfOk result (λ n. 0 < n) }
         ensures bytes { WriteAppends (held self.old) (held self.new) result bytes.now }
-        ensures faults { CountsFault (fault_count self.old) (fault_count self.new) (IsErrOf result OutsideFault.Failed) };
+        ensures faults { CountsFault (fault_count self.old) (fault_count self.new) (IsErr result) };
 }

@@ -1,5 +1,5 @@
 // Loops over a source and a sink: all that is left, and all of a text.
-ghost use Rattle.std.specs.Prelude.{◌≡◌, ◌<◌, ◌≤◌, ℕ, IfOk, IfSome, IsErrOf, OnOk, OnErr, length, take};
+ghost use Rattle.std.specs.Prelude.{◌≡◌, ◌<◌, ◌≤◌, ℕ, IfOk, IfSome, IsErr, IsErrOf, OnOk, OnErr, length, take};
 ghost use Rattle.std.specs.Io.KnownBytes.{Appends, IsAtEnd};
 ghost use Rattle.kp_io.specs.Outside.{CountsFault};
 
@@ -38,7 +38,7 @@ pub fn read_all<S: Source>(
 pub fn put_all<K: Sink>(sink: &mut K, bytes: &[u8]) -> Result<(), OutsideFault>
     ensures whole { OnOk result (Appends (K.held sink.old) (K.held sink.new) bytes.now) }
     ensures front { OnErr result ((n : ℕ) × Appends (K.held sink.old) (K.held sink.new) (take n bytes.now)) }
-    ensures faults { CountsFault (K.fault_count sink.old) (K.fault_count sink.new) (IsErrOf result OutsideFault.Failed) }
+    ensures faults { CountsFault (K.fault_count sink.old) (K.fault_count sink.new) (IsErr result) }
 {
     let mut at = 0;
     while at < bytes.len() {
