@@ -4,7 +4,7 @@
     make.py KIND NUMBER [FILE]
 
 KIND is one of: rules, sorts, modules, chain, arguments, deep-sort, deep-pattern, deep-and, deep-fold, wide-fold,
-deep-attribute, labels, subsorts. NUMBER is how many. The text goes to FILE, or to standard output.
+deep-attribute, labels, subsorts, injections, sort-chain. NUMBER is how many. The text goes to FILE, or to standard output.
 """
 import sys
 
@@ -53,6 +53,23 @@ def subsorts(n):
         lines.append(f"  axiom{{R}} \\top{{R}}() [subsort{{SortX{i - 1}{{}}, SortX{i}{{}}}}()]\n")
     lines.append("  symbol Lblk{}(SortK{}) : SortS{} [constructor{}()]\n")
     lines.append("  axiom{} \\rewrites{SortS{}}(Lblk{}(inj{SortX0{}, SortK{}}(X:SortX0{})), Lbldone{}()) [label{}(\"k\")]\n")
+    return "[]\n" + module(HEAD + "".join(lines))
+
+
+def injections(n):
+    lines = [f"  sort SortX{i}{{}} []\n  symbol Lblx{i}{{}}() : SortX{i}{{}} [constructor{{}}()]\n" for i in range(n + 1)]
+    lines += [f"  axiom{{R}} \\top{{R}}() [subsort{{SortX{i}{{}}, SortX{i + 1}{{}}}}()]\n" for i in range(n)]
+    lines.append(f"  symbol Lblk{{}}(SortX{n}{{}}) : SortS{{}} [constructor{{}}()]\n")
+    lines += [f"  axiom{{}} \\rewrites{{SortS{{}}}}(Lblk{{}}(inj{{SortX{i}{{}}, SortX{n}{{}}}}(Lblx{i}{{}}())), Lbldone{{}}()) [label{{}}(\"k{i}\")]\n" for i in range(n)]
+    return "[]\n" + module(HEAD + "".join(lines))
+
+
+def sort_chain(n):
+    lines = [f"  sort SortX{i}{{}} []\n" for i in range(n + 1)]
+    lines += [f"  axiom{{R}} \\top{{R}}() [subsort{{SortX{i}{{}}, SortX{i + 1}{{}}}}()]\n" for i in range(n)]
+    lines.append("  symbol Lblx{}() : SortX0{} [constructor{}()]\n")
+    lines.append(f"  symbol Lblk{{}}(SortX{n}{{}}) : SortS{{}} [constructor{{}}()]\n")
+    lines.append(f"  axiom{{}} \\rewrites{{SortS{{}}}}(Lblk{{}}(inj{{SortX0{{}}, SortX{n}{{}}}}(Lblx{{}}())), Lbldone{{}}()) [label{{}}(\"k\")]\n")
     return "[]\n" + module(HEAD + "".join(lines))
 
 

@@ -4,7 +4,7 @@ pub mod Kinds
 pub mod Names
 pub mod Nodes
 pub mod Places
-pub mod Reach
+pub mod Order
 pub mod Scopes
 pub mod Table
 pub mod Texts

@@ -6,6 +6,7 @@
 mod applications;
 pub mod attributes;
 mod copies;
+mod edges;
 mod error;
 pub mod examples;
 mod hooked;
@@ -20,6 +21,7 @@ mod own;
 pub mod rules;
 mod scope;
 pub mod signature;
+mod sort_key;
 mod subsorts;
 mod table;
 mod text;

@@ -1,76 +1,111 @@
-// Which sorts lie below which.
-ghost use Rattle.std.specs.Prelude.{◌↔◌, ◌++◌, ◌∷◌, [], IfOk, OnOk, IsTrue, List, map};
-ghost use Rattle.std.specs.List.{Contains};
+// Which sorts lie below which: the sorts that subsort pairs name, by number, with the pairs as edges upwards.
+ghost use Rattle.std.specs.Prelude.{◌≡◌, ◌↔◌, ◌++◌, ◌∷◌, [], IfOk, OnOk, IsTrue, List, None, map};
 ghost use Rattle.kp_kore.specs.Syntax.{KoreSort};
+ghost use Rattle.kp_kore.specs.Signature.{IsBelow};
 ghost use Rattle.kp_kore.specs.View.{sort_view};
-ghost use Rattle.kp_signature.specs.Reach.{Grown, lent_sorts};
+ghost use Rattle.indexmap.specs.IndexMap.{get_by_text};
+ghost use Rattle.kp_signature.specs.Order.{IsNumber, IsOrderOf, IsOrderUpTo, sort_key as key_of};
 ghost use Rattle.kp_signature.specs.Table.{subsort_view};
 
+use crate::edges::{add_edge, has, reached_from};
+use crate::names::NamePlaces;
 use crate::signature::Signature;
+use crate::sort_key::sort_key;
 use crate::table::Subsort;
+use indexmap::IndexMap;
 use kp_kore::Sort;
 use std::alloc::{AllocError, Global};
 
+/// The sorts that subsort pairs name, by their keys: of each the numbers of those that a pair puts directly above it.
+#[derive(Drop)]
+pub struct SortOrder {
+    pub numbers: NamePlaces,
+    pub above: Vec<Vec<usize>>,
+}
+
+impl SortOrder {
+    /// The order that the pairs make.
+    pub fn new(alloc: Global, pairs: &[Subsort]) -> Result<SortOrder, AllocError>
+        ensures { IfOk result (IsOrderOf (map subsort_view pairs.now)) }
+    {
+        let mut order = SortOrder::empty(alloc);
+        for pair in pairs {
+            order.add_pair(alloc, pair)?;
+        }
+        Ok(order)
+    }
+
+    /// No pairs.
+    fn empty(alloc: Global) -> SortOrder
+        ensures { IsOrderUpTo [] [] result }
+    {
+        SortOrder {
+            numbers: IndexMap::new(alloc),
+            above: Vec::new(alloc),
+        }
+    }
+
+    fn add_pair(&mut self, alloc: Global, pair: &Subsort) -> Result<(), AllocError>
+        ensures { (pairs : List (KoreSort × KoreSort)) (sorts : List KoreSort) → IsOrderUpTo pairs sorts self.old → OnOk result ((all : List KoreSort) × IsOrderUpTo (pairs ++ subsort_view pair.now ∷ []) all self.new) }
+    {
+        let lower = self.number_for(alloc, &pair.lower)?;
+        let upper = self.number_for(alloc, &pair.upper)?;
+        Ok(add_edge(&mut self.above, lower, upper)?)
+    }
+
+    /// The number of a sort that some pair names.
+    fn number_of(&self, alloc: Global, sort: &Sort) -> Result<Option<usize>, AllocError>
+        ensures { IfOk result (λ o. o ≡ get_by_text self.now.numbers (key_of (sort_view sort.now))) }
+    {
+        let key = sort_key(alloc, sort)?;
+        Ok(self.numbers.get(key.as_str()).copied())
+    }
+
+    /// The number of a sort, a new one where it has none.
+    fn number_for(&mut self, alloc: Global, sort: &Sort) -> Result<usize, AllocError>
+        ensures { (pairs : List (KoreSort × KoreSort)) (sorts : List KoreSort) → IsOrderUpTo pairs sorts self.old → IfOk result (λ n. (more : List KoreSort) × IsNumber (sorts ++ more) n (sort_view sort.now) × IsOrderUpTo pairs (sorts ++ more) self.new) }
+    {
+        match self.number_of(alloc, sort)? {
+            Some(number) => Ok(number),
+            None => Ok(self.add_sort(alloc, sort)?),
+        }
+    }
+
+    fn add_sort(&mut self, alloc: Global, sort: &Sort) -> Result<usize, AllocError>
+        ensures { (pairs : List (KoreSort × KoreSort)) (sorts : List KoreSort) → IsOrderUpTo pairs sorts self.old → None ≡ get_by_text self.old.numbers (key_of (sort_view sort.now)) → IfOk result (λ n. IsNumber (sorts ++ sort_view sort.now ∷ []) n (sort_view sort.now) × IsOrderUpTo pairs (sorts ++ sort_view sort.now ∷ []) self.new) }
+    {
+        let key = sort_key(alloc, sort)?;
+        let number = self.above.len();
+        self.numbers.insert(key, number)?;
+        self.above.push(Vec::new(alloc))?;
+        Ok(number)
+    }
+
+    /// Whether a sort is another or lies below it.
+    fn is_below(&self, alloc: Global, lower: &Sort, upper: &Sort) -> Result<bool, AllocError>
+        ensures { (pairs : List (KoreSort × KoreSort)) → IsOrderOf pairs self.now → IfOk result (λ b. IsTrue b ↔ IsBelow pairs (sort_view lower.now) (sort_view upper.now)) }
+    {
+        if lower.equal(upper) {
+            return Ok(true);
+        }
+        let Some(from) = self.number_of(alloc, lower)? else {
+            return Ok(false);
+        };
+        let Some(to) = self.number_of(alloc, upper)? else {
+            return Ok(false);
+        };
+        let found = reached_from(alloc, &self.above, from)?;
+        Ok(has(&found, to))
+    }
+}
+
 impl Signature {
-    ghost use Rattle.kp_kore.specs.Signature.{IsBelow};
     ghost use Rattle.kp_signature.specs.View.{signature_view};
 
     /// Whether a sort is another or lies below it, by the pairs that the attributes `subsort{A,B}()` give.
     pub fn is_below(&self, alloc: Global, lower: &Sort, upper: &Sort) -> Result<bool, AllocError>
         ensures { IfOk result (λ b. IsTrue b ↔ IsBelow (signature_view self.now).subsorts (sort_view lower.now) (sort_view upper.now)) }
     {
-        let mut reached = Vec::new(alloc);
-        reached.push(lower)?;
-        let mut next: usize = 0;
-        while next < reached.len() {
-            let sort = reached[next];
-            if sort.equal(upper) {
-                return Ok(true);
-            }
-            add_uppers(self.subsorts(), sort, &mut reached)?;
-            next += 1;
-        }
-        Ok(false)
+        Ok(self.order.is_below(alloc, lower, upper)?)
     }
-}
-
-// Notes the sorts right above this one that aren't noted yet.
-fn add_uppers<'a>(
-    pairs: &'a [Subsort],
-    from: &Sort,
-    reached: &mut Vec<&'a Sort>,
-) -> Result<(), AllocError>
-    ensures { OnOk result (Grown (map subsort_view pairs.now) (sort_view from.now) (lent_sorts reached.old.items) (lent_sorts reached.new.items)) }
-{
-    for pair in pairs {
-        add_upper(pair, from, reached)?;
-    }
-    Ok(())
-}
-
-fn add_upper<'a>(
-    pair: &'a Subsort,
-    from: &Sort,
-    reached: &mut Vec<&'a Sort>,
-) -> Result<(), AllocError>
-    ensures { OnOk result ((pairs : List (KoreSort × KoreSort)) (before : List KoreSort) → Grown pairs (sort_view from.now) before (lent_sorts reached.old.items) → Grown (pairs ++ subsort_view pair.now ∷ []) (sort_view from.now) before (lent_sorts reached.new.items)) }
-{
-    if !pair.lower.equal(from) {
-        return Ok(());
-    }
-    if is_among(&pair.upper, reached) {
-        return Ok(());
-    }
-    Ok(reached.push(&pair.upper)?)
-}
-
-fn is_among(sort: &Sort, sorts: &[&Sort]) -> bool
-    ensures { IsTrue result ↔ Contains (lent_sorts sorts.now) (sort_view sort.now) }
-{
-    for other in sorts {
-        if other.equal(sort) {
-            return true;
-        }
-    }
-    false
 }

@@ -1,9 +1,11 @@
-ghost use Rattle.std.specs.Prelude.{◌≡◌, codes, string_bytes};
+ghost use Rattle.std.specs.Prelude.{◌≡◌, codes, map, string_bytes};
 ghost use Rattle.std.specs.Option.{option_map};
 ghost use Rattle.std.proofs.Props.{props};
+ghost use Rattle.kp_signature.specs.Order.{IsOrderOf};
 ghost use Rattle.kp_signature.specs.Table.{IsIndexed, table_view, name_hooked};
 
 use crate::hooked::first_hooked;
+use crate::order::SortOrder;
 use crate::table::{Subsort, Table};
 use kp_kore::{AliasSentence, Module, Name, Sort, SortSentence, SymbolSentence};
 use std::alloc::{AllocError, Global};
@@ -12,15 +14,17 @@ use std::alloc::{AllocError, Global};
 #[derive(Drop)]
 pub struct Signature {
     table: Table,
+    pub(crate) order: SortOrder,
     integers: Option<Name>,
     booleans: Option<Name>,
     ghost indexed: { IsIndexed table },
+    ghost ordered: { ∥ IsOrderOf (table_view table).subsorts order ∥₁ },
     ghost integers_named: { option_map string_bytes integers ≡ name_hooked (codes "INT.Int") (table_view table).sorts } by { Prim.hlevel props },
     ghost booleans_named: { option_map string_bytes booleans ≡ name_hooked (codes "BOOL.Bool") (table_view table).sorts } by { Prim.hlevel props },
 }
 
 impl Signature {
-    ghost use Rattle.std.specs.Prelude.{◌↔◌, IfOk, IsTrue, None, length, map};
+    ghost use Rattle.std.specs.Prelude.{◌↔◌, IfOk, IsTrue, None, length};
     ghost use Rattle.kp_kore.specs.Signature.{signature_of, symbol_declared, alias_declared, integer_sort, boolean_sort};
     ghost use Rattle.kp_kore.specs.View.{sort_view, sorts_view, sort_sentence_view, symbol_sentence_view, alias_sentence_view};
     ghost use Rattle.kp_kore.specs.Syntax.{KoreSorts, sort_of, no_sorts};
@@ -39,10 +43,12 @@ impl Signature {
         for module in modules {
             table.add_all(alloc, &module.sentences)?;
         }
+        let order = SortOrder::new(alloc, &table.subsorts)?;
         let integers = first_hooked(&table.sorts, "INT.Int")?;
         let booleans = first_hooked(&table.sorts, "BOOL.Bool")?;
         Ok(Signature {
             table,
+            order,
             integers,
             booleans,
         })

@@ -2,7 +2,8 @@ use Rattle.std.proofs.Common.{◌≡◌, sym, ap, subst, ◌∙◌, ◌+◌, ◌
 use Rattle.std.proofs.lemmas.List.{append-nil, take_more}
 use Rattle.std.proofs.lemmas.Grind.{flat_map-append}
 use Rattle.kp_kore.specs.View.{sentence_view}
-use Rattle.kp_signature.specs.Table.{IsTableOf}
+use Rattle.kp_signature.specs.Order.{IsOrderOf}
+use Rattle.kp_signature.specs.Table.{IsTableOf, subsort_view}
 use Rattle.kp_signature.specs.View.{sentences_of}
 use Rattle.kp_signature.proofs.signature.Signature.new.Goals as goal
 
@@ -19,3 +20,6 @@ loop-module-preserved c =
     ∙ ap (λ m. sentences_of (take i ms) ++ sentences_of (m ∷ [])) (sym c.module-item.is)
     ∙ ap (λ l. sentences_of (take i ms) ++ l) (append-nil own) in
     subst (IsTableOf c.add_all.new.self) (sym split) added
+
+pub invariant_of-result-clause-ordered : goal.invariant_of-result-clause-ordered
+invariant_of-result-clause-ordered c = ∣ subst (λ l. IsOrderOf (map subsort_view l) c.in_ok-order.order) c.deref-2.ensures.value c.in_ok-order.ensures ∣₁
