@@ -3,14 +3,15 @@ use Rattle.std.proofs.Common.{◌≡◌, refl, sym, ◌∙◌, ap₂, subst, ℕ
 use Rattle.std.specs.Bool.{Decides, beq}
 use Rattle.std.specs.List.{AllZip, AllByRecursion}
 use Rattle.std.specs.Borrow.{Bor}
-use Rattle.std.specs.Prelude.{Result, Ok, Err, IfOk}
+use Rattle.std.specs.Prelude.{Result, Ok, Err, IfOk, MatchBool, ⊤}
+use Rattle.kp_kore.specs.Parts.{is_term}
 use Rattle.kp_kore.specs.Syntax.{KoreSort, KorePattern, ceil, floor}
 use Rattle.kp_kore.specs.View.{view, patterns_view}
 use Rattle.kp_kore.specs.Signature.{KoreSignature}
 use Rattle.kp_kore.specs.declared.pattern.Pattern.{Pattern}
 use Rattle.kp_semantics.specs.Value.{Value, next_value, values_same}
 use Rattle.kp_semantics.proofs.SameLemmas.{same_values_decide}
-use Rattle.kp_semantics.specs.Instance.{Valuation, instances, IsTrueUnder, AllTrueUnder, SomeTrueUnder}
+use Rattle.kp_semantics.specs.Instance.{Valuation, instances, is_conjoined_pair, PairSame, IsTrueUnder, AllTrueUnder, SomeTrueUnder}
 use Rattle.kp_ground.specs.Terms.{term_values, left_values}
 use Rattle.kp_ground.specs.TermView.{term_view, terms_of}
 use Rattle.kp_ground.specs.LeftView.{left_view, lefts_of}
@@ -110,3 +111,10 @@ ceil_ok (Err x) g p q a s e h = tt
 pub floor_ok : {E : Type 0} (r : Result Condition E) (g : KoreSignature) (p q : KorePattern) (a s : KoreSort) → p ≡ floor a s q → IfOk r (λ c. (a s : KoreSort) → IsConditionOf g (floor a s q) c) → IfOk r (IsConditionOf g p)
 floor_ok (Ok c) g p q a s e h = subst (λ x. IsConditionOf g x c) (sym e) (h a s)
 floor_ok (Err x) g p q a s e h = tt
+
+-- a term has an instance: it is equal to itself
+pub defined_holds : (g : KoreSignature) (v : Valuation) (a s : KoreSort) (p : KorePattern) (b : Bool) → is_term p ≡ true → b ≡ true → Decides b (IsTrueUnder g v (ceil a s p))
+defined_holds g v a s p b t e = (
+  (λ h. subst (λ x. MatchBool x ⊤ (MatchBool (is_conjoined_pair p) (PairSame g v p) (IsTrueUnder g v p))) (sym t) tt),
+  (λ h. e),
+)

@@ -1,2 +1,6 @@
 pub mod Arity
 pub mod Compiled
+pub mod Literals
+pub mod Narrow
+pub mod Taken
+pub mod VerifiedParts

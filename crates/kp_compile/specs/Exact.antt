@@ -1,5 +1,5 @@
 -- What compiled terms, left terms and conditions have to do with their patterns.
-use Rattle.std.specs.Prelude.{◌≡◌, true, List}
+use Rattle.std.specs.Prelude.{◌≡◌, true, not, List}
 use Rattle.std.specs.Bool.{Decides}
 use Rattle.std.specs.List.{AllZip}
 use Rattle.kp_kore.specs.Syntax.{KoreSort, KorePattern, conjunction, no_patterns, next_pattern}
@@ -8,10 +8,11 @@ use Rattle.kp_kore.specs.Signature.{KoreSignature}
 use Rattle.kp_kore.specs.View.{view}
 use Rattle.kp_kore.specs.declared.pattern.Pattern.{Pattern}
 use Rattle.kp_semantics.specs.Instance.{Valuation, instance, IsTrueUnder}
-use Rattle.kp_ground.specs.Terms.{term_value, left_value}
+use Rattle.kp_semantics.specs.Numbers.{computes_wide}
+use Rattle.kp_ground.specs.Terms.{term_value, left_value, stays_narrow}
 use Rattle.kp_ground.specs.TermView.{term_view}
 use Rattle.kp_ground.specs.LeftView.{left_view}
-use Rattle.kp_ground.specs.Conditions.{condition_holds}
+use Rattle.kp_ground.specs.Conditions.{condition_holds, condition_narrow}
 use Rattle.kp_ground.specs.ConditionView.{condition_view}
 use Rattle.kp_ground.specs.declared.term.Term.{Term}
 use Rattle.kp_ground.specs.declared.left.Left.{Left}
@@ -21,7 +22,15 @@ use Rattle.kp_ground.specs.declared.condition.Condition.{Condition}
 abbrev pub IsTermOf : KoreSignature → KorePattern → Term → Type 0
 IsTermOf g p t = (v : Valuation) → term_value v (term_view t) ≡ instance g v p
 
--- the same of a left term
+-- the numbers beyond 128 bits that the term computes are those of the pattern's calls
+abbrev pub IsNarrowAs : KoreSignature → KorePattern → Term → Type 0
+IsNarrowAs g p t = (v : Valuation) → stays_narrow v (term_view t) ≡ not (computes_wide g v p)
+
+-- the same of a condition
+abbrev pub IsConditionNarrowAs : KoreSignature → KorePattern → Condition → Type 0
+IsConditionNarrowAs g p c = (v : Valuation) → condition_narrow v (condition_view c) ≡ not (computes_wide g v p)
+
+-- under every valuation the left term has the pattern's instance
 abbrev pub IsLeftOf : KoreSignature → KorePattern → Left → Type 0
 IsLeftOf g p l = (v : Valuation) → left_value v (left_view l) ≡ instance g v p
 
@@ -38,6 +47,12 @@ AreLeftsOf g = AllZip (λ p l. IsLeftOf g (view p) l)
 
 abbrev pub AreConditionsOf : KoreSignature → List Pattern → List Condition → Type 0
 AreConditionsOf g = AllZip (λ p c. IsConditionOf g (view p) c)
+
+abbrev pub AreTermsNarrowAs : KoreSignature → List Pattern → List Term → Type 0
+AreTermsNarrowAs g = AllZip (λ p t. IsNarrowAs g (view p) t)
+
+abbrev pub AreConditionsNarrowAs : KoreSignature → List Pattern → List Condition → Type 0
+AreConditionsNarrowAs g = AllZip (λ p c. IsConditionNarrowAs g (view p) c)
 
 -- the pattern is the conjunction of two terms
 pub record IsPairOf (p first second : KorePattern) : Type 0 where

@@ -1,3 +1,4 @@
 pub mod Exact
 pub mod Meanings
 pub mod Parts
+pub mod Verified

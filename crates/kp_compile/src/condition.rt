@@ -1,14 +1,18 @@
-ghost use Rattle.std.specs.Prelude.{◌≡◌, false, map, IfOk, MatchOption};
+ghost use Rattle.std.specs.Prelude.{◌≡◌, ◌||◌, false, not, map, IfOk, IfErr, MatchOption};
 ghost use Rattle.std.specs.Bool.{Decides};
-ghost use Rattle.std.specs.List.{AllByRecursion};
+ghost use Rattle.std.specs.List.{AllByRecursion, list_any};
 ghost use Rattle.kp_kore.specs.Syntax.{KoreSort, ceil, floor};
 ghost use Rattle.kp_kore.specs.View.{view};
 ghost use Rattle.kp_semantics.specs.Instance.{Valuation, instance, IsTrueUnder, is_conjoined_pair};
-ghost use Rattle.kp_ground.specs.Conditions.{always, denial, all_of, any_of, implied, equivalent, same, condition_holds};
+ghost use Rattle.kp_semantics.specs.Numbers.{computes_wide};
+ghost use Rattle.kp_ground.specs.Conditions.{denial, all_of, any_of, implied, equivalent, same, condition_holds, condition_narrow};
 ghost use Rattle.kp_ground.specs.ConditionView.{condition_view, conditions_of};
 ghost use Rattle.kp_ground.specs.TermView.{term_view};
 ghost use Rattle.kp_signature.specs.View.{signature_view};
-ghost use Rattle.kp_compile.specs.Exact.{IsConditionOf, AreConditionsOf, IsPairOf};
+ghost use Rattle.kp_compile.specs.Exact.{IsConditionOf, AreConditionsOf, IsConditionNarrowAs, AreConditionsNarrowAs, IsPairOf};
+ghost use Rattle.kp_compile.specs.Parts.{seen};
+ghost use Rattle.kp_compile.specs.Verified.{IsVerifiedTerm, IsVerifiedPredicate};
+ghost use Rattle.kp_compile.specs.declared.error.CompileError.TheVariants.{Memory};
 
 use crate::error::CompileError;
 use crate::shape::is_term;
@@ -79,19 +83,13 @@ fn make_same(
     left: &Pattern,
     right: &Pattern,
 ) -> Result<Condition, CompileError>
-    ensures { IfOk result (λ c. (v : Valuation) → Decides (condition_holds v (condition_view c)) (instance (signature_view signature.now) v (view left.now) ≡ instance (signature_view signature.now) v (view right.now))) }
+    ensures holds { IfOk result (λ c. (v : Valuation) → Decides (condition_holds v (condition_view c)) (instance (signature_view signature.now) v (view left.now) ≡ instance (signature_view signature.now) v (view right.now))) }
+    ensures narrow { IfOk result (λ c. (v : Valuation) → condition_narrow v (condition_view c) ≡ not (computes_wide (signature_view signature.now) v (view left.now) || computes_wide (signature_view signature.now) v (view right.now))) }
+    ensures refused { IfErr result (λ e. IsVerifiedTerm (signature_view signature.now) (view left.now) → IsVerifiedTerm (signature_view signature.now) (view right.now) → e ≡ Memory) }
 {
     let left = compile_term(alloc, signature, left)?;
     let right = compile_term(alloc, signature, right)?;
     Ok(make_equality(left, right))
-}
-
-/// A term always has an instance.
-fn defined(alloc: Global, signature: &Signature, term: &Pattern) -> Result<Condition, CompileError>
-    ensures { IfOk result (λ c. condition_view c ≡ always) }
-{
-    compile_term(alloc, signature, term)?;
-    Ok(Condition::Always)
 }
 
 /// The two terms of a conjunction of two terms.
@@ -117,7 +115,9 @@ fn condition_of(
     alloc: Global,
     signature: &Signature,
 ) -> Result<Condition, CompileError>
-    ensures { IfOk result (IsConditionOf (signature_view signature.now) (view pattern.now)) }
+    ensures holds { IfOk result (IsConditionOf (signature_view signature.now) (view pattern.now)) }
+    ensures narrow { IfOk result (IsConditionNarrowAs (signature_view signature.now) (view pattern.now)) }
+    ensures refused { IfErr result (λ e. IsVerifiedPredicate (signature_view signature.now) (view pattern.now) → e ≡ Memory) }
 {
     match pattern {
         Pattern::Top { .. } => Ok(Condition::Always),
@@ -144,26 +144,37 @@ fn condition_of(
             let right = condition_of(right, alloc, signature)?;
             Ok(make_equivalent(alloc, left, right)?)
         }
-        Pattern::Equals { left, right, .. } | Pattern::In { left, right, .. } => {
-            make_same(alloc, signature, left, right)
-        }
+        Pattern::Equals { left, right, .. } => make_same(alloc, signature, left, right),
+        Pattern::In { left, right, .. } => make_same(alloc, signature, left, right),
         Pattern::Ceil { pattern, .. } => ceil_of(pattern, alloc, signature),
         Pattern::Floor { pattern, .. } => floor_of(pattern, alloc, signature),
-        _ => Err(CompileError::Shape),
+        Pattern::Variable { .. }
+        | Pattern::SetVariable { .. }
+        | Pattern::Application { .. }
+        | Pattern::StringLiteral { .. }
+        | Pattern::Literal { .. }
+        | Pattern::Next { .. }
+        | Pattern::Rewrites { .. }
+        | Pattern::Exists { .. }
+        | Pattern::Forall { .. }
+        | Pattern::Mu { .. }
+        | Pattern::Nu { .. } => Err(CompileError::Shape),
     }
 }
 
-/// The condition that `\ceil` of a pattern is.
+/// The condition that `\ceil` of a pattern is: of a term its equality with itself, which computes its calls.
 #[cycle(compile)]
 fn ceil_of(
     pattern: &Pattern,
     alloc: Global,
     signature: &Signature,
 ) -> Result<Condition, CompileError>
-    ensures { IfOk result (λ c. (a s : KoreSort) → IsConditionOf (signature_view signature.now) (ceil a s (view pattern.now)) c) }
+    ensures holds { IfOk result (λ c. (a s : KoreSort) → IsConditionOf (signature_view signature.now) (ceil a s (view pattern.now)) c) }
+    ensures narrow { IfOk result (IsConditionNarrowAs (signature_view signature.now) (view pattern.now)) }
+    ensures refused { IfErr result (λ e. (a s : KoreSort) → IsVerifiedPredicate (signature_view signature.now) (ceil a s (view pattern.now)) → e ≡ Memory) }
 {
     if is_term(pattern) {
-        return defined(alloc, signature, pattern);
+        return make_same(alloc, signature, pattern, pattern);
     }
     match conjoined_pair(pattern) {
         Some((left, right)) => make_same(alloc, signature, left, right),
@@ -178,7 +189,9 @@ fn floor_of(
     alloc: Global,
     signature: &Signature,
 ) -> Result<Condition, CompileError>
-    ensures { IfOk result (λ c. (a s : KoreSort) → IsConditionOf (signature_view signature.now) (floor a s (view pattern.now)) c) }
+    ensures holds { IfOk result (λ c. (a s : KoreSort) → IsConditionOf (signature_view signature.now) (floor a s (view pattern.now)) c) }
+    ensures narrow { IfOk result (IsConditionNarrowAs (signature_view signature.now) (view pattern.now)) }
+    ensures refused { IfErr result (λ e. (a s : KoreSort) → IsVerifiedPredicate (signature_view signature.now) (floor a s (view pattern.now)) → e ≡ Memory) }
 {
     if is_term(pattern) {
         return Err(CompileError::Shape);
@@ -193,7 +206,9 @@ fn compile_each(
     alloc: Global,
     signature: &Signature,
 ) -> Result<Vec<Condition>, CompileError>
-    ensures { IfOk result (λ cs. AreConditionsOf (signature_view signature.now) patterns.now cs.items) }
+    ensures holds { IfOk result (λ cs. AreConditionsOf (signature_view signature.now) patterns.now cs.items) }
+    ensures narrow { IfOk result (λ cs. AreConditionsNarrowAs (signature_view signature.now) patterns.now cs.items) }
+    ensures refused { IfErr result (λ e. AllByRecursion (λ p. IsVerifiedPredicate (signature_view signature.now) (view p)) patterns.now → e ≡ Memory) }
 {
     let mut conditions = Vec::new(alloc);
     for pattern in patterns {
@@ -202,13 +217,16 @@ fn compile_each(
     Ok(conditions)
 }
 
-/// The conjunction of these predicates. A quantifier, or `\floor` of a term, is a Shape.
+/// The conjunction of these predicates, which computes the numbers beyond 128 bits that their calls compute. A
+/// quantifier, or `\floor` of a term, is a Shape; verified predicates without them are refused for want of memory alone.
 pub fn compile_condition(
     alloc: Global,
     signature: &Signature,
     predicates: &[&Pattern],
 ) -> Result<Condition, CompileError>
-    ensures { IfOk result (λ c. (v : Valuation) → Decides (condition_holds v (condition_view c)) (AllByRecursion (λ p. IsTrueUnder (signature_view signature.now) v (view p.now)) predicates.now)) }
+    ensures holds { IfOk result (λ c. (v : Valuation) → Decides (condition_holds v (condition_view c)) (AllByRecursion (λ p. IsTrueUnder (signature_view signature.now) v (view p.now)) predicates.now)) }
+    ensures narrow { IfOk result (λ c. (v : Valuation) → condition_narrow v (condition_view c) ≡ not (list_any (computes_wide (signature_view signature.now) v) (seen predicates.now))) }
+    ensures refused { IfErr result (λ e. AllByRecursion (IsVerifiedPredicate (signature_view signature.now)) (seen predicates.now) → e ≡ Memory) }
 {
     let mut conditions = Vec::new(alloc);
     for predicate in predicates {

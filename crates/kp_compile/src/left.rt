@@ -1,4 +1,6 @@
-ghost use Rattle.std.specs.Prelude.{◌≡◌, IfOk, map, string_bytes};
+ghost use Rattle.std.specs.Prelude.{◌≡◌, IfOk, IfErr, map, string_bytes};
+ghost use Rattle.std.specs.List.{AllByRecursion};
+ghost use Rattle.kp_kore.specs.Syntax.{KoreSorts, application};
 ghost use Rattle.kp_kore.specs.View.{view, patterns_view};
 ghost use Rattle.kp_kore.specs.Signature.{meaning_of as meaning_named};
 ghost use Rattle.kp_semantics.specs.Instance.{Valuation, applied, instances};
@@ -6,6 +8,8 @@ ghost use Rattle.kp_ground.specs.Terms.{left_built, left_value};
 ghost use Rattle.kp_ground.specs.LeftView.{left_view, lefts_of};
 ghost use Rattle.kp_signature.specs.View.{signature_view};
 ghost use Rattle.kp_compile.specs.Exact.{IsLeftOf, AreLeftsOf};
+ghost use Rattle.kp_compile.specs.Verified.{IsVerifiedLeftTerm};
+ghost use Rattle.kp_compile.specs.declared.error.CompileError.TheVariants.{Memory};
 
 use crate::error::CompileError;
 use crate::literal::literal_value;
@@ -30,7 +34,8 @@ fn make_built(constructor: Rc<String>, arguments: Vec<Left>) -> Left
 /// The left term that a pattern is, with the same value under every valuation.
 #[cycle(compile)]
 fn left_of(pattern: &Pattern, alloc: Global, signature: &Signature) -> Result<Left, CompileError>
-    ensures { IfOk result (IsLeftOf (signature_view signature.now) (view pattern.now)) }
+    ensures meaning { IfOk result (IsLeftOf (signature_view signature.now) (view pattern.now)) }
+    ensures refused { IfErr result (λ e. IsVerifiedLeftTerm (signature_view signature.now) (view pattern.now) → e ≡ Memory) }
 {
     match pattern {
         Pattern::Variable { name, .. } => Ok(Left::Variable {
@@ -56,7 +61,8 @@ fn compile_applied(
     signature: &Signature,
     name: &Name,
 ) -> Result<Left, CompileError>
-    ensures { IfOk result (λ t. (v : Valuation) → left_value v (left_view t) ≡ applied (meaning_named (signature_view signature.now) (string_bytes name.now)) (string_bytes name.now) (instances (signature_view signature.now) v (patterns_view arguments.now))) }
+    ensures meaning { IfOk result (λ t. (v : Valuation) → left_value v (left_view t) ≡ applied (meaning_named (signature_view signature.now) (string_bytes name.now)) (string_bytes name.now) (instances (signature_view signature.now) v (patterns_view arguments.now))) }
+    ensures refused { IfErr result (λ e. (ss : KoreSorts) → IsVerifiedLeftTerm (signature_view signature.now) (application (string_bytes name.now) ss (patterns_view arguments.now)) → e ≡ Memory) }
 {
     match meaning_of(signature, name) {
         Meaning::Injection => match arguments {
@@ -80,7 +86,8 @@ fn compile_each(
     alloc: Global,
     signature: &Signature,
 ) -> Result<Vec<Left>, CompileError>
-    ensures { IfOk result (λ ts. AreLeftsOf (signature_view signature.now) patterns.now ts.items) }
+    ensures meaning { IfOk result (λ ts. AreLeftsOf (signature_view signature.now) patterns.now ts.items) }
+    ensures refused { IfErr result (λ e. AllByRecursion (λ p. IsVerifiedLeftTerm (signature_view signature.now) (view p)) patterns.now → e ≡ Memory) }
 {
     let mut lefts = Vec::new(alloc);
     for pattern in patterns {
@@ -96,7 +103,8 @@ pub fn compile_left(
     signature: &Signature,
     pattern: &Pattern,
 ) -> Result<Left, CompileError>
-    ensures { IfOk result (IsLeftOf (signature_view signature.now) (view pattern.now)) }
+    ensures meaning { IfOk result (IsLeftOf (signature_view signature.now) (view pattern.now)) }
+    ensures refused { IfErr result (λ e. IsVerifiedLeftTerm (signature_view signature.now) (view pattern.now) → e ≡ Memory) }
 {
     left_of(pattern, alloc, signature)
 }

@@ -1,9 +1,13 @@
-ghost use Rattle.std.specs.Prelude.{◌≡◌, IfOk, string_bytes};
+ghost use Rattle.std.specs.Prelude.{◌≡◌, IfOk, IfErr, IsTrue, None, string_bytes};
 ghost use Rattle.std.specs.Str.Parse.{signed_digits_value};
+ghost use Rattle.kp_kore.specs.Syntax.{literal};
 ghost use Rattle.kp_kore.specs.View.{sort_view};
 ghost use Rattle.kp_semantics.specs.Instance.{literal_value as value_written};
 ghost use Rattle.kp_ground.specs.View.{value_view};
 ghost use Rattle.kp_signature.specs.View.{signature_view};
+ghost use Rattle.kp_signature.specs.Places.{Place};
+ghost use Rattle.kp_signature.specs.Verify.{is_numeral, fits_in_128_bits, first_fault};
+ghost use Rattle.kp_compile.specs.declared.error.CompileError.TheVariants.{Memory};
 
 use crate::error::CompileError;
 use kp_ground::Value;
@@ -14,7 +18,8 @@ use std::num::IntErrorKind;
 
 /// The number that a text writes.
 fn whole_number(text: &str) -> Result<i128, CompileError>
-    ensures { IfOk result (λ n. n ≡ signed_digits_value 10 text.now) }
+    ensures written { IfOk result (λ n. n ≡ signed_digits_value 10 text.now) }
+    ensures refused { IfErr result (λ e. IsTrue (is_numeral text.now) → IsTrue (fits_in_128_bits (signed_digits_value 10 text.now)) → e ≡ Memory) }
 {
     match text.parse::<i128>() {
         Ok(number) => Ok(number),
@@ -32,7 +37,8 @@ pub fn literal_value(
     sort: &Sort,
     text: &Name,
 ) -> Result<Value, CompileError>
-    ensures { IfOk result (λ u. value_view u ≡ value_written (signature_view signature.now) (sort_view sort.now) (string_bytes text.now)) }
+    ensures written { IfOk result (λ u. value_view u ≡ value_written (signature_view signature.now) (sort_view sort.now) (string_bytes text.now)) }
+    ensures refused { IfErr result (λ e. (c : Place) → first_fault (signature_view signature.now) c (literal (sort_view sort.now) (string_bytes text.now)) ≡ None → e ≡ Memory) }
 {
     if signature.is_integer_sort(sort) {
         Ok(Value::Whole {

@@ -1,4 +1,6 @@
-ghost use Rattle.std.specs.Prelude.{◌≡◌, IfOk, map, string_bytes};
+ghost use Rattle.std.specs.Prelude.{◌≡◌, IfOk, IfErr, map, string_bytes};
+ghost use Rattle.std.specs.List.{AllByRecursion};
+ghost use Rattle.kp_kore.specs.Syntax.{KoreSorts, application};
 ghost use Rattle.kp_kore.specs.View.{view, patterns_view};
 ghost use Rattle.kp_kore.specs.Signature.{meaning_of as meaning_named};
 ghost use Rattle.kp_semantics.specs.Instance.{Valuation, applied, instances};
@@ -6,7 +8,9 @@ ghost use Rattle.kp_ground.specs.HookView.{hook_view};
 ghost use Rattle.kp_ground.specs.Terms.{built, call, opposite, term_value};
 ghost use Rattle.kp_ground.specs.TermView.{term_view, terms_of};
 ghost use Rattle.kp_signature.specs.View.{signature_view};
-ghost use Rattle.kp_compile.specs.Exact.{IsTermOf, AreTermsOf};
+ghost use Rattle.kp_compile.specs.Exact.{IsTermOf, AreTermsOf, IsNarrowAs, AreTermsNarrowAs};
+ghost use Rattle.kp_compile.specs.Verified.{IsVerifiedTerm};
+ghost use Rattle.kp_compile.specs.declared.error.CompileError.TheVariants.{Memory};
 
 use crate::error::CompileError;
 use crate::function::Function;
@@ -58,7 +62,9 @@ fn make_opposite(alloc: Global, term: Term) -> Result<Term, AllocError>
 /// The term that a pattern is, with the same value under every valuation.
 #[cycle(compile)]
 fn term_of(pattern: &Pattern, alloc: Global, signature: &Signature) -> Result<Term, CompileError>
-    ensures { IfOk result (IsTermOf (signature_view signature.now) (view pattern.now)) }
+    ensures meaning { IfOk result (IsTermOf (signature_view signature.now) (view pattern.now)) }
+    ensures narrow { IfOk result (IsNarrowAs (signature_view signature.now) (view pattern.now)) }
+    ensures refused { IfErr result (λ e. IsVerifiedTerm (signature_view signature.now) (view pattern.now) → e ≡ Memory) }
 {
     match pattern {
         Pattern::Variable { name, .. } => Ok(Term::Variable {
@@ -84,7 +90,9 @@ fn compile_applied(
     signature: &Signature,
     name: &Name,
 ) -> Result<Term, CompileError>
-    ensures { IfOk result (λ t. (v : Valuation) → term_value v (term_view t) ≡ applied (meaning_named (signature_view signature.now) (string_bytes name.now)) (string_bytes name.now) (instances (signature_view signature.now) v (patterns_view arguments.now))) }
+    ensures meaning { IfOk result (λ t. (v : Valuation) → term_value v (term_view t) ≡ applied (meaning_named (signature_view signature.now) (string_bytes name.now)) (string_bytes name.now) (instances (signature_view signature.now) v (patterns_view arguments.now))) }
+    ensures narrow { IfOk result (λ t. (ss : KoreSorts) → IsNarrowAs (signature_view signature.now) (application (string_bytes name.now) ss (patterns_view arguments.now)) t) }
+    ensures refused { IfErr result (λ e. (ss : KoreSorts) → IsVerifiedTerm (signature_view signature.now) (application (string_bytes name.now) ss (patterns_view arguments.now)) → e ≡ Memory) }
 {
     match meaning_of(signature, name) {
         Meaning::Injection => match arguments {
@@ -122,7 +130,9 @@ fn compile_each(
     alloc: Global,
     signature: &Signature,
 ) -> Result<Vec<Term>, CompileError>
-    ensures { IfOk result (λ ts. AreTermsOf (signature_view signature.now) patterns.now ts.items) }
+    ensures meaning { IfOk result (λ ts. AreTermsOf (signature_view signature.now) patterns.now ts.items) }
+    ensures narrow { IfOk result (λ ts. AreTermsNarrowAs (signature_view signature.now) patterns.now ts.items) }
+    ensures refused { IfErr result (λ e. AllByRecursion (λ p. IsVerifiedTerm (signature_view signature.now) (view p)) patterns.now → e ≡ Memory) }
 {
     let mut terms = Vec::new(alloc);
     for pattern in patterns {
@@ -131,13 +141,16 @@ fn compile_each(
     Ok(terms)
 }
 
-/// The term that a pattern is: it has the pattern's instance under every valuation.
+/// The term that a pattern is: it has the pattern's instance under every valuation, and computes the numbers beyond 128
+/// bits that the pattern's calls compute. A verified term is refused for want of memory alone.
 pub fn compile_term(
     alloc: Global,
     signature: &Signature,
     pattern: &Pattern,
 ) -> Result<Term, CompileError>
-    ensures { IfOk result (IsTermOf (signature_view signature.now) (view pattern.now)) }
+    ensures meaning { IfOk result (IsTermOf (signature_view signature.now) (view pattern.now)) }
+    ensures narrow { IfOk result (IsNarrowAs (signature_view signature.now) (view pattern.now)) }
+    ensures refused { IfErr result (λ e. IsVerifiedTerm (signature_view signature.now) (view pattern.now) → e ≡ Memory) }
 {
     term_of(pattern, alloc, signature)
 }
