@@ -1,14 +1,14 @@
 -- Ground states: their sorts, their only instance, their foreign symbols.
-use Rattle.std.proofs.Common.{◌≡◌, refl, sym, ap, subst, ◌∙◌, ℕ, ◌+◌, ◌<◌, Bool, true, false, not, ◌&&◌, ◌↔◌, List, [], ◌∷◌, length, get_or, drop, Option, Some, None, Bor, arith}
-use Rattle.std.specs.Prelude.{IsTrue, if◌then◌else◌, string_bytes, String, Result, Ok, Err, IfOk}
+use Rattle.std.proofs.Common.{◌≡◌, refl, sym, ap, subst, ◌∙◌, ℕ, ◌+◌, ◌<◌, Bool, true, false, not, ◌&&◌, List, [], ◌∷◌, length, get_or, drop, Option, Some, None, Bor}
+use Rattle.std.specs.Prelude.{IsTrue, if◌then◌else◌, string_bytes, String, Result, Ok, Err, IfOk, IfErr, OnOk}
 use Rattle.std.specs.Option.{option_map}
 use Rattle.std.specs.declared.alloc.Global.{Global}
-use Rattle.kp_ground.specs.Terms.{term_value}
+use Rattle.kp_ground.specs.Terms.{stays_narrow, term_value}
 use Rattle.kp_ground.specs.TermView.{term_view}
 use Rattle.kp_ground.specs.View.{value_view}
 use Rattle.kp_ground.specs.declared.value.Value.{Value as Ground}
 use Rattle.kp_ground.specs.declared.term.Term.{Term}
-use Rattle.kp_compile.specs.Exact.{IsTermOf}
+use Rattle.kp_compile.specs.Exact.{IsTermOf, IsNarrowAs}
 use Rattle.std.specs.List.{list_all, filter_map, cons_option}
 use Rattle.std.proofs.lemmas.List.{drop_more}
 use Rattle.kp_kore.specs.Syntax.{Text, KoreSort, KorePattern, variable, set_variable, application, string_literal, literal, top, bottom, negation, next, conjunction, disjunction, implication, equivalence, rewriting, exists, forall, ceil, floor, equals, membership, mu, nu}
@@ -19,13 +19,16 @@ use Rattle.kp_kore.specs.declared.pattern.Pattern.{Pattern}
 use Rattle.kp_signature.specs.Places.{the_top}
 use Rattle.kp_signature.specs.Verify.{VerifiesAs}
 use Rattle.kp_semantics.specs.Value.{Value, truth, HasSort}
-use Rattle.kp_semantics.specs.Instance.{Valuation, instance, GivesSorts, IsInstance}
+use Rattle.kp_semantics.specs.Instance.{Valuation, instance, GivesSorts}
 use Rattle.kp_semantics.specs.Sorted.{IsRegular}
 use Rattle.kp_semantics.specs.Foreign.{none_within, has_foreign_head, is_foreign_meaning}
+use Rattle.kp_semantics.specs.Numbers.{computes_wide}
 use Rattle.kp_compile.specs.Parts.{seen}
 use Rattle.kp_sorts.proofs.SortedInstances.{term_is_sorted}
 use Rattle.kp_states.proofs.SpelledForms.{both_true}
-use Rattle.kp_states.specs.Spelled.{foreign_name, first_member, first_foreign, IsGroundState}
+use Rattle.kp_states.specs.Spelled.{foreign_name, first_member, first_foreign, IsGroundState, IsOtherShape, no_term, not_closed, wide}
+use Rattle.kp_states.specs.declared.error.StateError.{StateError}
+use Rattle.kp_states.specs.declared.error.StateError.TheVariants.{OtherShape}
 
 -- ---- foreign symbols
 
@@ -103,3 +106,30 @@ value_meant (Err e) g p t h k = tt
 
 pub none_told : (o : Option (String Global)) (x : Option Text) → option_map string_bytes o ≡ x → o ≡ None → x ≡ None
 none_told o x e f = sym e ∙ ap (option_map string_bytes) f
+
+-- ---- other shapes
+
+narrow_is_not_wide : (narrow wide : Bool) → narrow ≡ not wide → narrow ≡ true → wide ≡ false
+narrow_is_not_wide narrow true e f = absurd (cc)
+narrow_is_not_wide narrow false e f = refl
+
+wide_is_not_narrow : (narrow wide : Bool) → narrow ≡ not wide → narrow ≡ false → wide ≡ true
+wide_is_not_narrow narrow true e f = refl
+wide_is_not_narrow narrow false e f = absurd (cc)
+
+pub value_narrow : {E : Type 0} (r : Result Ground E) (g : KoreSignature) (p : KorePattern) (t : Term) → IsNarrowAs g p t → OnOk r ((v : Valuation) → stays_narrow v (term_view t) ≡ true) → OnOk r ((v : Valuation) → computes_wide g v p ≡ false)
+value_narrow (Ok u) g p t h k = λ v. narrow_is_not_wide _ _ (h v) (k v)
+value_narrow (Err e) g p t h k = tt
+
+pub value_wide : (r : Result Ground StateError) (g : KoreSignature) (p : KorePattern) (t : Term) → IsNarrowAs g p t → IfErr r (λ e. e ≡ OtherShape → (v : Valuation) → stays_narrow v (term_view t) ≡ false) → IfErr r (λ e. e ≡ OtherShape → IsOtherShape g p)
+value_wide (Ok u) g p t h k = tt
+value_wide (Err e) g p t h k = λ is. wide (λ v. wide_is_not_narrow _ _ (h v) (k is v))
+
+pub is_ground : (g : KoreSignature) (p : KorePattern) → IsTrue (is_term p) → free_variables p ≡ [] → ((v : Valuation) → computes_wide g v p ≡ false) → ¬ IsOtherShape g p
+is_ground g p t c n (no_term e) = absurd (cc)
+is_ground g p t c n (not_closed e) = e c
+is_ground g p t c n (wide w) =
+    let v : Valuation = λ x. truth true in
+    let narrow : computes_wide g v p ≡ false = n v in
+    let is : computes_wide g v p ≡ true = w v in
+    absurd (cc)

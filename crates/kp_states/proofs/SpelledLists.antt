@@ -1,6 +1,6 @@
 -- Spellings of lists of values, one by one.
 use Rattle.std.proofs.Common.{◌≡◌, refl, sym, ap, ap₂, subst, ◌∙◌, ℕ, zero, suc, ◌+◌, ◌<◌, ◌≤◌, min, List, [], ◌∷◌, ◌++◌, length, map, take, get_or, add-one, arith}
-use Rattle.kp_kore.specs.Syntax.{KorePattern, KorePatterns, no_patterns, next_pattern}
+use Rattle.kp_kore.specs.Syntax.{KorePatterns, no_patterns, next_pattern}
 use Rattle.kp_kore.specs.View.{view, sort_view, sorts_view, patterns_view}
 use Rattle.kp_kore.specs.Signature.{KoreSignature}
 use Rattle.kp_kore.specs.declared.sort.Sort.{Sort}

@@ -1,5 +1,5 @@
 -- The instance of a value's spelling is the value, and no interpreted call stands in it.
-use Rattle.std.proofs.Common.{◌≡◌, refl, sym, ap, ap₂, subst, ◌∙◌, ne_eqb, ℕ, ◌<◌, ◌^◌, ◌==◌, ◌≤◌, suc, neg_ℤ, Bool, true, false, not, ◌&&◌, ◌⊎◌, inl, inr, ℤ, pos, negsuc, List, [], ◌∷◌, ◌++◌, Option, Some, None, SFits, arith}
+use Rattle.std.proofs.Common.{◌≡◌, refl, sym, ap, ap₂, subst, ◌∙◌, ne_eqb, ℕ, ◌<◌, ◌^◌, ◌==◌, ◌≤◌, suc, neg_ℤ, Bool, true, false, not, ◌&&◌, ◌⊎◌, inl, inr, ℤ, pos, negsuc, List, [], ◌∷◌, ◌++◌, Option, Some, None, arith}
 use Rattle.std.specs.Prelude.{IsTrue, if◌then◌else◌, unwrap_or, codes, FitsSigned}
 use Rattle.std.specs.Int.{w128}
 use Rattle.std.specs.List.{list_all}
@@ -9,31 +9,22 @@ use Rattle.std.specs.Str.{bytes_eq}
 use Rattle.std.specs.Str.Parse.{IsNumeral, digits_value, signed_digits_value}
 use Rattle.std.proofs.lemmas.Fmt.{decimal_is_IsNumeral_wide}
 use Rattle.std.proofs.lemmas.List.Folds.{list_all-append}
-use Rattle.kp_kore.specs.Syntax.{Text, KoreSort, KoreSorts, no_sorts, next_sort, KorePattern, KorePatterns, application, literal, no_patterns, next_pattern, SymbolDeclaration}
+use Rattle.kp_kore.specs.Syntax.{Text, KoreSort, KoreSorts, no_sorts, next_sort, KorePattern, KorePatterns, application, literal, next_pattern}
 use Rattle.kp_kore.specs.Attributes.{sorts_equal}
 use Rattle.kp_kore.specs.Parts.{subpatterns, all_subpatterns}
-use Rattle.kp_kore.specs.Signature.{KoreSignature, SymbolMeaning, injection, construction, interpretation, foreign, meaning_of, symbol_meaning, symbol_declared, integer_sort, boolean_sort, is_the, is_integer_sort, is_boolean_sort, is_token_sort, IsHeadOf, IsSortOfHead, IsBelow, itself, constructor_of}
+use Rattle.kp_kore.specs.Signature.{KoreSignature, injection, construction, meaning_of, integer_sort, boolean_sort, is_the, is_integer_sort, is_boolean_sort, is_token_sort, IsSortOfHead, itself, constructor_of}
 use Rattle.kp_semantics.specs.Value.{Value, whole, truth, token, constructed, Values, no_values, next_value, HasSort, HaveSorts, ArgumentSorts}
 use Rattle.kp_semantics.specs.Instance.{Valuation, instance, instances, applied, literal_value}
 use Rattle.kp_semantics.specs.Sorted.{IsRegular}
-use Rattle.kp_semantics.specs.Foreign.{none_within, has_interpreted_head, is_interpretation}
+use Rattle.kp_semantics.specs.Foreign.{has_interpreted_head, is_interpretation}
 use Rattle.kp_semantics.proofs.SameLemmas.{sorts_equal-Decides}
-use Rattle.kp_states.specs.Spelled.{own_sort}
-use Rattle.kp_states.specs.Spelled.{spelling, spellings, places_of, home_of, placed, injected, injection_name, truth_text, has_two_sorts, NumbersFit, AllNumbersFit, IsSpellingOf}
-use Rattle.kp_states.proofs.SpelledForms.{both_true, spelling_term, spelling_closed}
+use Rattle.kp_states.specs.Spelled.{spelling, spellings, places_of, home_of, injected, injection_name, truth_text, has_two_sorts, NumbersFit, AllNumbersFit, IsSpellingOf}
+use Rattle.kp_states.proofs.SpelledForms.{both_true, left_true, right_true, spelling_term, spelling_closed}
 
 -- ---- inj is what it should be, or stands nowhere
 
 abbrev pub InjectsWell : KoreSignature → List KorePattern → Type 0
 InjectsWell g ps = (meaning_of g injection_name ≡ injection) ⊎ IsTrue (list_all (λ q. not (has_two_sorts q)) ps)
-
-left_true : (a b : Bool) → (a && b) ≡ true → a ≡ true
-left_true true b e = refl
-left_true false b e = absurd (cc)
-
-right_true : (a b : Bool) → (a && b) ≡ true → b ≡ true
-right_true true b e = e
-right_true false b e = absurd (cc)
 
 injects_left : (g : KoreSignature) (ps qs : List KorePattern) → InjectsWell g (ps ++ qs) → InjectsWell g ps
 injects_left g ps qs (inl e) = inl e

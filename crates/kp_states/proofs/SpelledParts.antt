@@ -12,6 +12,10 @@ use Rattle.kp_compile.specs.Parts.{seen}
 use Rattle.kp_semantics.proofs.SameLemmas.{sorts_equal-Decides}
 use Rattle.kp_states.specs.Spelled.{has_two_sorts, placed, injected}
 
+pub none_there : (b c : Bool) → b ≡ not c → b ≡ false → c ≡ true
+none_there b true e f = refl
+none_there b false e f = absurd (cc)
+
 pub two_sorts : (f : Text) (ss : List Sort) (ps : KorePatterns) → nat_eq (length ss) 2 ≡ has_two_sorts (application f (sorts_view ss) ps)
 two_sorts f [] ps = refl
 two_sorts f (a ∷ []) ps = refl

@@ -12,6 +12,7 @@ use Rattle.kp_kore.specs.Signature.{KoreSignature, integer_sort, boolean_sort, s
 use Rattle.kp_semantics.specs.Value.{Value, whole, truth, token, constructed, Values, no_values, next_value, HasSort}
 use Rattle.kp_semantics.specs.Instance.{Valuation, instance}
 use Rattle.kp_semantics.specs.Foreign.{none_within, has_interpreted_head, is_foreign_meaning}
+use Rattle.kp_semantics.specs.Numbers.{computes_wide}
 
 -- the sort of a value's head itself; of a constructor its declared result
 abbrev pub own_sort : KoreSignature → Value → Option KoreSort
@@ -71,6 +72,12 @@ abbrev pub has_two_sorts : KorePattern → Bool
 has_two_sorts (application f (next_sort a (next_sort b no_sorts)) ps) = true
 has_two_sorts _ = false
 
+-- neither an application nor a literal
+abbrev pub is_other_form : KorePattern → Bool
+is_other_form (application f ss ps) = false
+is_other_form (literal s t) = false
+is_other_form _ = true
+
 -- each whole number in it has 128 bits
 abbrev mutual
   pub NumbersFit : Value → Type 0
@@ -111,3 +118,10 @@ pub record IsGroundState (g : KoreSignature) (p : KorePattern) (s : KoreSort) (u
   pub closed : free_variables p ≡ []
   pub meant : (v : Valuation) → instance g v p ≡ u
   pub sorted : HasSort g s u
+
+-- why a pattern without foreign symbols is none: it is no term, it has a free variable, or a call in it computes a number
+-- beyond 128 bits
+pub data IsOtherShape (g : KoreSignature) (p : KorePattern) : Type 0 where
+  no_term : is_term p ≡ false → IsOtherShape g p
+  not_closed : ¬ (free_variables p ≡ []) → IsOtherShape g p
+  wide : ((v : Valuation) → computes_wide g v p ≡ true) → IsOtherShape g p

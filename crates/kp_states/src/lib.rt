@@ -5,8 +5,10 @@ mod error;
 mod own;
 mod spell;
 mod state;
+mod within;
 
 pub use error::{SpellingError, StateError};
 pub use own::own_sort;
-pub use spell::{spelled, spelled_depth};
+pub use spell::spelled;
 pub use state::{State, state_of};
+pub use within::is_within_written;

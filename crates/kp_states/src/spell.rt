@@ -1,5 +1,5 @@
 // The one normal spelling in which a configuration is written.
-ghost use Rattle.std.specs.Prelude.{◌≡◌, ◌↔◌, false, not, FitsSigned, IfOk, OnOk, IsTrue, map, string_bytes};
+ghost use Rattle.std.specs.Prelude.{◌≡◌, ◌↔◌, false, not, FitsSigned, IfOk, IfErr, OnOk, IsTrue, map, string_bytes};
 ghost use Rattle.std.specs.Fmt.{signed_decimal};
 ghost use Rattle.std.specs.Int.{w128};
 ghost use Rattle.std.specs.List.{list_all};
@@ -12,6 +12,7 @@ ghost use Rattle.kp_semantics.specs.Value as model;
 ghost use Rattle.kp_semantics.specs.Sorted.{IsRegular};
 ghost use Rattle.kp_semantics.specs.Foreign.{none_within};
 ghost use Rattle.kp_ground.specs.View.{value_view, values_of};
+ghost use Rattle.kp_states.specs.declared.error.SpellingError.TheVariants.{NoInjection};
 ghost use Rattle.kp_states.specs.Spelled as spec;
 ghost use Rattle.kp_states.specs.Spelled.{IsSpellingOf, spelling, spellings, bare_spelling, placed};
 
@@ -32,6 +33,9 @@ pub fn spelled(
     sort: &Sort,
 ) -> Result<Pattern, SpellingError>
     ensures normal { IfOk result (λ p. view p ≡ spelling (signature_view signature.now) (sort_view sort.now) (value_view value.now)) }
+    ensures written { IfOk result (λ p. IsTrue (none_within spec.is_other_form (view p))) }
+    ensures no_injection { IfErr result (λ e. e ≡ NoInjection → ¬ (meaning_named (signature_view signature.now) spec.injection_name ≡ injection)) }
+    ensures injects { IfErr result (λ e. e ≡ NoInjection → none_within spec.has_two_sorts (spelling (signature_view signature.now) (sort_view sort.now) (value_view value.now)) ≡ false) }
     ensures meant { IsRegular (signature_view signature.now) → model.HasSort (signature_view signature.now) (sort_view sort.now) (value_view value.now) → IfOk result (λ p. IsSpellingOf (signature_view signature.now) (value_view value.now) (view p)) }
 {
     let pattern = spelled_at(value, alloc, signature, sort)?;
@@ -56,7 +60,7 @@ fn has_injection(signature: &Signature) -> bool
 
 /// Whether a symbol at two sorts stands in the pattern.
 fn injects(alloc: Global, pattern: &Pattern) -> Result<bool, AllocError>
-    ensures { IfOk result (λ b. b ≡ false → IsTrue (none_within spec.has_two_sorts (view pattern.now))) }
+    ensures { IfOk result (λ b. b ≡ not (none_within spec.has_two_sorts (view pattern.now))) }
 {
     let parts = subpatterns(alloc, pattern)?;
     Ok(!are_others(&parts))
@@ -143,7 +147,7 @@ fn spelled_all(
 }
 
 /// The sort that a value is written at by itself.
-fn home_of(
+pub fn home_of(
     alloc: Global,
     signature: &Signature,
     value: &Value,
@@ -158,7 +162,7 @@ fn home_of(
 }
 
 /// The declared sorts of a constructor's arguments.
-fn places_of<'a>(signature: &'a Signature, constructor: &str) -> &'a [Sort]
+pub fn places_of<'a>(signature: &'a Signature, constructor: &str) -> &'a [Sort]
     ensures { sorts_view result.now ≡ spec.places_of (signature_view signature.now) constructor.now }
 {
     match signature.symbol(constructor) {
@@ -235,49 +239,4 @@ fn applied(
         sorts: Vec::new(alloc),
         arguments,
     })
-}
-/// Whether a value's own sort is the sort.
-fn is_at_home(signature: &Signature, value: &Value, sort: &Sort) -> bool {
-    match value {
-        Value::Whole { .. } => signature.is_integer_sort(sort),
-        Value::Truth { .. } => signature.is_boolean_sort(sort),
-        Value::Token { sort: own, .. } => own.equal(sort),
-        Value::Constructed { constructor, .. } => match signature.symbol(constructor) {
-            Some(symbol) => symbol.result_sort.equal(sort),
-            None => true,
-        },
-    }
-}
-
-/// How deep the normal spelling of a value at a sort is: each application, `inj` too, and the leaf.
-#[cycle(depth)]
-pub fn spelled_depth(signature: &Signature, value: &Value, sort: &Sort) -> usize {
-    let inner: usize = match value {
-        Value::Constructed {
-            constructor,
-            arguments,
-        } => depth_below(signature, constructor, arguments, sort),
-        _ => 0,
-    };
-    let depth = inner.saturating_add(1);
-    if is_at_home(signature, value, sort) {
-        depth
-    } else {
-        depth.saturating_add(1)
-    }
-}
-
-/// How deep the deepest argument is, each at its declared sort; 0 where there is none.
-#[cycle(depth)]
-fn depth_below(signature: &Signature, constructor: &str, values: &[Value], own: &Sort) -> usize {
-    let declaration = signature.symbol(constructor);
-    let mut deepest = 0;
-    for i in 0..values.len() {
-        let sort = match declaration {
-            Some(symbol) => symbol.arguments.get(i).unwrap_or(own),
-            None => own,
-        };
-        deepest = deepest.max(spelled_depth(signature, &values[i], sort));
-    }
-    deepest
 }

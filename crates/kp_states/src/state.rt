@@ -1,18 +1,23 @@
 // The state that a request gives.
-ghost use Rattle.std.specs.Prelude.{◌≡◌, [], IfErr, IfOk, OnOk, IsTrue, Some, None, string_bytes};
+ghost use Rattle.std.specs.Prelude.{◌≡◌, [], IfErr, IfOk, OnOk, IsTrue, true, false, Some, None, string_bytes};
 ghost use Rattle.std.specs.List.{filter_map};
 ghost use Rattle.std.specs.Option.{option_map};
 ghost use Rattle.kp_kore.specs.Parts.{is_term as term_test, free_variables};
 ghost use Rattle.kp_kore.specs.View.{view, sort_view};
 ghost use Rattle.kp_signature.specs.View.{signature_view};
-ghost use Rattle.kp_signature.specs.Verify.{VerifiesAs};
+ghost use Rattle.kp_signature.specs.Places.{Place};
+ghost use Rattle.kp_signature.specs.Verify.{VerifiesAs, first_fault};
 ghost use Rattle.kp_semantics.specs.Instance.{Valuation, instance};
 ghost use Rattle.kp_semantics.specs.Sorted.{IsRegular};
-ghost use Rattle.kp_ground.specs.Terms.{term_value};
+ghost use Rattle.kp_semantics.specs.Foreign.{none_within, has_foreign_head};
+ghost use Rattle.kp_semantics.specs.Numbers.{computes_wide};
+ghost use Rattle.kp_ground.specs.Terms.{stays_narrow, term_value};
 ghost use Rattle.kp_ground.specs.TermView.{term_view};
 ghost use Rattle.kp_ground.specs.View.{value_view};
 ghost use Rattle.kp_compile.specs.Parts.{seen};
-ghost use Rattle.kp_states.specs.Spelled.{IsGroundState, first_member, first_foreign as first_foreign_in, foreign_name as foreign_name_at};
+ghost use Rattle.kp_compile.specs.declared.error.CompileError.TheVariants as compiling;
+ghost use Rattle.kp_states.specs.declared.error.StateError.TheVariants.{OtherShape};
+ghost use Rattle.kp_states.specs.Spelled.{IsGroundState, IsOtherShape, first_member, first_foreign as first_foreign_in, foreign_name as foreign_name_at};
 ghost use Rattle.kp_states.specs.States.{IsNoForeign, IsTold};
 
 use crate::error::StateError;
@@ -38,7 +43,11 @@ pub fn state_of(
     sort: Sort,
 ) -> Result<State, StateError>
     ensures state { IsRegular (signature_view signature.now) → VerifiesAs (signature_view signature.now) (view pattern.now) (sort_view sort) → IfOk result (λ state. IsGroundState (signature_view signature.now) (view pattern.now) (sort_view state.sort) (value_view state.value)) }
+    ensures sort { IfOk result (λ state. state.sort ≡ sort) }
+    ensures no_foreign { OnOk result (first_foreign_in (signature_view signature.now) (view pattern.now) ≡ None) }
     ensures refused { IfErr result (IsTold (first_foreign_in (signature_view signature.now) (view pattern.now))) }
+    ensures other_shape { IsRegular (signature_view signature.now) → VerifiesAs (signature_view signature.now) (view pattern.now) (sort_view sort) → IfErr result (λ e. e ≡ OtherShape → IsOtherShape (signature_view signature.now) (view pattern.now)) }
+    ensures shape { IfOk result (λ _. ¬ IsOtherShape (signature_view signature.now) (view pattern.now)) }
 {
     match first_foreign(alloc, signature, pattern)? {
         Some(name) => Err(StateError::ForeignSymbol { name }),
@@ -94,7 +103,9 @@ fn value_of(alloc: Global, signature: &Signature, pattern: &Pattern) -> Result<V
     ensures term { OnOk result (IsTrue (term_test (view pattern.now))) }
     ensures closed { OnOk result (free_variables (view pattern.now) ≡ []) }
     ensures meant { IfOk result (λ u. (v : Valuation) → instance (signature_view signature.now) v (view pattern.now) ≡ value_view u) }
+    ensures narrow { OnOk result ((v : Valuation) → computes_wide (signature_view signature.now) v (view pattern.now) ≡ false) }
     ensures refused { IfErr result IsNoForeign }
+    ensures other_shape { IsRegular (signature_view signature.now) → (c : Place) → first_fault (signature_view signature.now) c (view pattern.now) ≡ None → IsTrue (none_within (has_foreign_head (signature_view signature.now)) (view pattern.now)) → IfErr result (λ e. e ≡ OtherShape → IsOtherShape (signature_view signature.now) (view pattern.now)) }
 {
     if !is_term(pattern) {
         return Err(StateError::OtherShape);
@@ -110,7 +121,8 @@ fn value_of(alloc: Global, signature: &Signature, pattern: &Pattern) -> Result<V
 
 /// Want of memory, or T2.
 fn refused(error: CompileError) -> StateError
-    ensures { IsNoForeign result }
+    ensures none_foreign { IsNoForeign result }
+    ensures other_shape { result ≡ OtherShape → ¬ (error ≡ compiling.Memory) }
 {
     match error {
         CompileError::Memory => StateError::Memory,
@@ -120,14 +132,16 @@ fn refused(error: CompileError) -> StateError
     }
 }
 
-/// The value of a term without variables.
+/// The value of a term without variables: so it lacks no binding.
 fn evaluated(alloc: Global, term: &Term) -> Result<Value, StateError>
     ensures meant { IfOk result (λ u. (v : Valuation) → value_view u ≡ term_value v (term_view term.now)) }
+    ensures narrow { OnOk result ((v : Valuation) → stays_narrow v (term_view term.now) ≡ true) }
     ensures refused { IfErr result IsNoForeign }
+    ensures wide { IfErr result (λ e. e ≡ OtherShape → (v : Valuation) → stays_narrow v (term_view term.now) ≡ false) }
 {
     match term.evaluate(alloc, &[]) {
         Ok(value) => Ok(value),
-        Err(EvaluationError::Memory) => Err(StateError::Memory),
-        Err(EvaluationError::Number | EvaluationError::Unbound) => Err(StateError::OtherShape),
+        Err(EvaluationError::Number) => Err(StateError::OtherShape),
+        Err(EvaluationError::Memory | EvaluationError::Unbound) => Err(StateError::Memory),
     }
 }

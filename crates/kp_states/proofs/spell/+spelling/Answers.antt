@@ -1,4 +1,4 @@
-use Rattle.std.proofs.Common.{rules, ◌≡◌, sym, ap, ◌∙◌, ◌≤◌, ◌<◌, min, length, map, take}
+use Rattle.std.proofs.Common.{rules, ap, ◌∙◌, ◌≤◌, min, length}
 use Rattle.kp_kore.specs.View.{patterns_view}
 use Rattle.kp_signature.specs.View.{signature_view}
 use Rattle.kp_states.proofs.SpelledLists.{next_spelled, all_spelled, next_fits, all_fit, sort_at, all_values}

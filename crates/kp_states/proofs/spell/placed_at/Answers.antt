@@ -1,4 +1,4 @@
-use Rattle.std.proofs.Common.{rules, ◌≡◌, sym}
+use Rattle.std.proofs.Common.{rules, ◌≡◌}
 use Rattle.kp_kore.specs.View.{view, sort_view}
 use Rattle.kp_states.proofs.SpelledParts.{placed_same, placed_ok}
 use Rattle.kp_states.proofs.spell.placed_at.Goals as goal

@@ -1,10 +1,12 @@
-use Rattle.std.proofs.Common.{◌≡◌, sym, subst, inl, inr}
+use Rattle.std.proofs.Common.{sym, subst, inl, inr}
 use Rattle.std.specs.Prelude.{IsTrue}
 use Rattle.kp_kore.specs.View.{view, sort_view}
 use Rattle.kp_signature.specs.View.{signature_view}
 use Rattle.kp_semantics.specs.Foreign.{none_within}
 use Rattle.kp_ground.specs.View.{value_view}
-use Rattle.kp_states.specs.Spelled.{IsSpellingOf, has_two_sorts}
+use Rattle.kp_states.specs.Spelled.{IsSpellingOf, has_two_sorts, is_other_form}
+use Rattle.kp_states.proofs.SpelledForms.{spelling_written}
+use Rattle.kp_states.proofs.SpelledParts.{none_there}
 use Rattle.kp_states.proofs.SpelledMeaning.{spelling_means}
 use Rattle.kp_states.proofs.spell.spelled.Goals as goal
 
@@ -17,4 +19,14 @@ pub returns-clause-meant : goal.returns-clause-meant
 returns-clause-meant c = λ r h.
     subst (IsSpellingOf (signature_view c.args.signature.now) (value_view c.args.value.now)) (sym c.in_ok-pattern.ensures.normal)
     (spelling_means (signature_view c.args.signature.now) (sort_view c.args.sort.now) (value_view c.args.value.now) r h (c.in_ok-pattern.ensures.fits h)
-    (inr (subst (λ p. IsTrue (none_within has_two_sorts p)) c.in_ok-pattern.ensures.normal (c.in_ok-injects.ensures c.if-branch.false))))
+    (inr (subst (λ p. IsTrue (none_within has_two_sorts p)) c.in_ok-pattern.ensures.normal (none_there c.in_ok-injects.field-0 (none_within has_two_sorts (view c.in_ok-pattern.pattern)) c.in_ok-injects.ensures c.if-branch.false))))
+
+pub returns-then-has_injection-clause-written : goal.returns-then-has_injection-clause-written
+returns-then-has_injection-clause-written c =
+    subst (λ p. IsTrue (none_within is_other_form p)) (sym c.in_ok-pattern.ensures.normal)
+    (spelling_written (signature_view c.args.signature.now) (sort_view c.args.sort.now) (value_view c.args.value.now))
+
+pub returns-clause-written : goal.returns-clause-written
+returns-clause-written c =
+    subst (λ p. IsTrue (none_within is_other_form p)) (sym c.in_ok-pattern.ensures.normal)
+    (spelling_written (signature_view c.args.signature.now) (sort_view c.args.sort.now) (value_view c.args.value.now))

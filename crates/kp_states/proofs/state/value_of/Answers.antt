@@ -1,7 +1,24 @@
+use Rattle.std.proofs.Common.{rules}
+use Rattle.std.specs.Prelude.{IsTrue}
+use Rattle.kp_kore.specs.Parts.{is_term}
 use Rattle.kp_kore.specs.View.{view}
 use Rattle.kp_signature.specs.View.{signature_view}
-use Rattle.kp_states.proofs.GroundStates.{value_meant}
+use Rattle.kp_states.proofs.GroundStates.{value_meant, value_narrow, value_wide}
+use Rattle.kp_states.proofs.Injections.{is_compiled}
 use Rattle.kp_states.proofs.state.value_of.Goals as goal
 
 pub returns-in-Ok-clause-meant : goal.returns-in-Ok-clause-meant
-returns-in-Ok-clause-meant c = value_meant c.evaluated.result (signature_view c.args.signature.now) (view c.args.pattern.now) c.in-Ok.term c.in-Ok.ensures c.evaluated.ensures.meant
+returns-in-Ok-clause-meant c = value_meant c.evaluated.result (signature_view c.args.signature.now) (view c.args.pattern.now) c.in-Ok.term c.in-Ok.ensures.meaning c.evaluated.ensures.meant
+
+pub returns-in-Ok-clause-narrow : goal.returns-in-Ok-clause-narrow
+returns-in-Ok-clause-narrow c = value_narrow c.evaluated.result (signature_view c.args.signature.now) (view c.args.pattern.now) c.in-Ok.term c.in-Ok.ensures.narrow c.evaluated.ensures.narrow
+
+pub returns-in-Ok-clause-other_shape : goal.returns-in-Ok-clause-other_shape
+returns-in-Ok-clause-other_shape c = λ regular place verified none.
+    value_wide c.evaluated.result (signature_view c.args.signature.now) (view c.args.pattern.now) c.in-Ok.term c.in-Ok.ensures.narrow c.evaluated.ensures.wide
+
+-- what is verified and without foreign symbols is compiled
+pub returns-in-Err-clause-other_shape : goal.returns-in-Err-clause-other_shape
+returns-in-Err-clause-other_shape c = λ regular place verified none is.
+    let term : IsTrue (is_term (view c.args.pattern.now)) = search rules in
+    absurd (c.refused.ensures.other_shape is (c.in-Err.ensures.refused (is_compiled (signature_view c.args.signature.now) place (view c.args.pattern.now) regular verified none term)))
