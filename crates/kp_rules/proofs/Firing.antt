@@ -1,6 +1,6 @@
 -- Where a rule fires, from its match, its tests and its condition.
-use Rattle.std.proofs.Common.{◌≡◌, refl, sym, subst, ◌∙◌, ℕ, ◌+◌, ◌<◌, Bool, true, false, ◌↔◌, List, [], ◌∷◌, length, get_or, drop}
-use Rattle.std.specs.Prelude.{⊤, Option, Some, None, Result, Ok, Err, Vec, MatchOption}
+use Rattle.std.proofs.Common.{◌≡◌, refl, sym, subst, ◌∙◌, ℕ, ◌+◌, ◌<◌, Bool, true, false, ◌↔◌, List, [], length, get_or, drop}
+use Rattle.std.specs.Prelude.{⊤, Option, Some, None, Ok, Err, Vec, MatchOption}
 use Rattle.std.specs.declared.alloc.Global.{Global}
 use Rattle.std.specs.List.{AllByRecursion}
 use Rattle.std.proofs.lemmas.List.{drop_more}
@@ -8,6 +8,7 @@ use Rattle.kp_kore.specs.Signature.{KoreSignature}
 use Rattle.kp_semantics.specs.Value as model
 use Rattle.kp_semantics.specs.Instance.{Valuation}
 use Rattle.kp_ground.specs.Solves.{Solves}
+use Rattle.kp_ground.specs.Matches.{IsSolvable}
 use Rattle.kp_ground.specs.Conditions.{condition_holds, condition_narrow}
 use Rattle.kp_ground.specs.ConditionView.{condition_view, GivesTruth}
 use Rattle.kp_ground.specs.declared.binding.Binding.{Binding}
@@ -15,7 +16,7 @@ use Rattle.kp_ground.specs.declared.evaluate.EvaluationError.{EvaluationError}
 use Rattle.kp_ground.specs.declared.evaluate.EvaluationError.TheVariants.{Memory, Number, Unbound}
 use Rattle.kp_rules.specs.declared.rule.Rewrite.{Rewrite}
 use Rattle.kp_rules.specs.declared.rule.SortTest.{SortTest}
-use Rattle.kp_rules.specs.Heads.{HasHead, FiresAs, Meets, FindsFiring, Binds, PassAs}
+use Rattle.kp_rules.specs.Heads.{HasHead, FiresAs, Meets, FindsFiring, IsWide, Binds, PassAs}
 
 -- all of a list pass exactly where what is left of it does
 abbrev pub Rests : KoreSignature → List Binding → List SortTest → ℕ → Type 0
@@ -75,3 +76,27 @@ pub fires_not_told : (g : KoreSignature) (r : Rewrite) (bindings : List Binding)
 fires_not_told g r bindings u Memory gives binds = tt
 fires_not_told g r bindings u Number gives binds = λ v m. gives v ((binds v).1 m.matches)
 fires_not_told g r bindings u Unbound gives binds = tt
+
+-- ---- numbers beyond 128 bits
+
+pub none_meets : (g : KoreSignature) (r : Rewrite) (bindings : List Binding) (u : model.Value) (passed : Bool) → passed ≡ false → Binds r bindings u → PassAs g r bindings passed →
+    (v : Valuation) → ¬ Meets g r v u
+none_meets g r bindings u passed e binds pass = λ v m.
+    let s : Solves v bindings = (binds v).1 m.matches in
+    let t : passed ≡ true = (pass v s).1 m.tests in
+    absurd (cc)
+
+pub narrow_told : (g : KoreSignature) (r : Rewrite) (bindings : List Binding) (u : model.Value) (holds : Bool) →
+    GivesTruth (Ok holds) bindings (condition_view r.condition) → Binds r bindings u →
+    (v : Valuation) → Meets g r v u → condition_narrow v (condition_view r.condition) ≡ true
+narrow_told g r bindings u holds gives binds = λ v m. (gives v ((binds v).1 m.matches)).1
+
+pub wide_told : (g : KoreSignature) (r : Rewrite) (bindings : List Binding) (u : model.Value) (passed : Bool) (e : EvaluationError) → passed ≡ true →
+    GivesTruth (Err e) bindings (condition_view r.condition) → Binds r bindings u → PassAs g r bindings passed → IsSolvable bindings → e ≡ Number → IsWide g r u
+wide_told g r bindings u passed e so gives binds pass solvable is =
+    let number : GivesTruth (Err Number) bindings (condition_view r.condition) = subst (λ x. GivesTruth (Err x) bindings (condition_view r.condition)) is gives in
+    record {
+      valuation = solvable.0;
+      meets = record { matches = (binds solvable.0).0 solvable.1; tests = (pass solvable.0 solvable.1).0 so };
+      wide = number solvable.0 solvable.1;
+    }

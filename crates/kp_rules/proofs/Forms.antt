@@ -1,5 +1,5 @@
 -- Conjunctions of two patterns, and of other numbers.
-use Rattle.std.proofs.Common.{◌≡◌, refl, ap, ◌∙◌, Bool, false, ◌&&◌, List, [], ◌∷◌, length, get_or}
+use Rattle.std.proofs.Common.{◌≡◌, refl, ap, ◌∙◌, false, ◌&&◌, List, [], ◌∷◌, length, get_or}
 use Rattle.kp_kore.specs.Syntax.{KoreSort, conjunction}
 use Rattle.kp_kore.specs.Parts.{is_term}
 use Rattle.kp_kore.specs.View.{view, patterns_view}

@@ -18,3 +18,4 @@ pub mod Sides
 pub mod SkeletonLemmas
 pub mod SplitLemmas
 pub mod TestLemmas
+pub mod VerifiedSides

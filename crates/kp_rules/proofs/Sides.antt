@@ -1,5 +1,5 @@
 -- Sides and shapes from their parts.
-use Rattle.std.proofs.Common.{◌≡◌, refl, ap, sym, ◌∙◌, Bool, true, false, not, cond, List, [], ◌∷◌, length, get_or, Option, Some, None, Bor}
+use Rattle.std.proofs.Common.{◌≡◌, refl, ap, ◌∙◌, not, cond, List, [], ◌∷◌, length, get_or, Option, Some, None, Bor}
 use Rattle.std.specs.Prelude.{unwrap_or}
 use Rattle.std.specs.List.{filter, list_all}
 use Rattle.std.specs.Option.{option_map}

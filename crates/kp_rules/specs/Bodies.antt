@@ -1,23 +1,27 @@
 -- Which rules of a theory the code's rules are.
-use Rattle.std.specs.Prelude.{◌≡◌, ◌↔◌, ℕ, true, false, List, [], Option, Some, None, IsTrue, string_bytes, ⊤}
+use Rattle.std.specs.Prelude.{◌≡◌, ◌↔◌, ℕ, true, false, not, min, [], Some, None, unwrap_or, IsTrue, string_bytes, ◌⊎◌}
 use Rattle.std.specs.Bool.{Decides}
-use Rattle.std.specs.List.{AllByRecursion, AllZip}
+use Rattle.std.specs.List.{AllByRecursion, AllZip, list_any}
 use Rattle.kp_kore.specs.Syntax.{KoreSort, KorePattern, top, Statement}
 use Rattle.kp_kore.specs.Parts.{is_term, free_variables}
 use Rattle.kp_kore.specs.Signature.{KoreSignature}
+use Rattle.kp_kore.specs.Sorting.{sort_of_term}
 use Rattle.kp_kore.specs.View.{sort_view}
 use Rattle.kp_signature.specs.View.{signature_view}
 use Rattle.kp_signature.specs.Places.{Place}
-use Rattle.kp_signature.specs.Verify.{first_fault}
+use Rattle.kp_signature.specs.Verify.{first_fault, VerifyFault, FailsWith}
 use Rattle.kp_semantics.specs.Value.{Value, HasSort}
 use Rattle.kp_semantics.specs.Sorted.{IsSorted, IsRegular}
 use Rattle.kp_semantics.specs.Instance.{Valuation, instance, IsTrueUnder, GivesSorts}
 use Rattle.kp_semantics.specs.Rules as model
-use Rattle.kp_semantics.specs.Foreign.{none_within, has_foreign_head, has_interpreted_head, Reads, IsSkeletonInstance}
+use Rattle.kp_semantics.specs.Foreign.{none_within, has_foreign_head, has_interpreted_head, IsRead, Reads, IsSkeletonInstance}
+use Rattle.kp_semantics.specs.Numbers.{computes_wide}
 use Rattle.kp_semantics.specs.Theory.{Theory}
-use Rattle.kp_ground.specs.Conditions.{condition_holds}
+use Rattle.kp_ground.specs.Conditions.{condition_holds, condition_narrow as is_condition_narrow}
 use Rattle.kp_ground.specs.ConditionView.{condition_view}
-use Rattle.kp_compile.specs.Exact.{IsLeftOf, IsTermOf}
+use Rattle.kp_sorts.specs.Regularity.{keeps_values_apart}
+use Rattle.kp_compile.specs.Exact.{IsLeftOf, IsTermOf, IsNarrowAs}
+use Rattle.kp_compile.specs.Verified.{misapplies_injection}
 use Rattle.kp_rules.specs.Heads.{HasHead}
 use Rattle.kp_rules.specs.Skeletons.{IsAdmitted}
 use Rattle.kp_rules.specs.declared.rule.Rule.{Rule}
@@ -25,6 +29,7 @@ use Rattle.kp_rules.specs.declared.rule.RuleBody.{RuleBody}
 use Rattle.kp_rules.specs.declared.rule.RuleBody.TheVariants.{Rewrite, Foreign}
 use Rattle.kp_rules.specs.declared.rule.RuleSet.{RuleSet}
 use Rattle.kp_rules.specs.declared.rule.Rewrite as code
+use Rattle.kp_rules.specs.declared.skeleton.Skeleton.{Skeleton}
 
 -- a term of variables, literals, constructors and inj, without a verify fault
 abbrev pub IsVerifiedLeft : KoreSignature → KorePattern → Type 0
@@ -52,6 +57,10 @@ pub record IsRewriteOf (g : KoreSignature) (m : model.Rewrite) (r : code.Rewrite
   pub right : IsTermOf g m.right r.right
   pub plain : r.chooses ≡ false → IsPlain m
   pub chooses : r.chooses ≡ true → ¬ IsPlain m
+  -- the numbers beyond 128 bits that they compute are those of the rewrite's patterns
+  pub right_narrow : IsNarrowAs g m.right r.right
+  pub condition_narrow : (v : Valuation) → is_condition_narrow v (condition_view r.condition) ≡ not (list_any (computes_wide g v) m.condition)
+  pub right_sort : sort_of_term g m.right ≡ Some (sort_view r.right_sort)
   pub sorted : IsRegular g → (v : Valuation) → GivesSorts g v (free_variables m.left) → m.new_variables ≡ [] → HasSort g (sort_view r.right_sort) (instance g v m.right)
 
 -- and the skeleton is the foreign rule's: it stands for the same values
@@ -67,15 +76,28 @@ pub record IsReadAs (g : KoreSignature) (a : Statement) (priority : ℕ) (body :
   pub reads : Reads g a.parameters a.attributes a.pattern meant
   pub is_body : IsBodyOf g meant body
   pub is_priority : (r : code.Rewrite) → body ≡ Rewrite r → model.priority_of a.attributes ≡ Some priority
+  pub is_foreign_priority : (k : Skeleton) → body ≡ Foreign k → min (unwrap_or (model.priority_of a.attributes) model.usual_priority) model.most_priority ≡ priority
 
--- the code's rule is the theory's; a foreign rule's priority is never asked
+-- the pattern has a verify fault, or applies inj to another number of arguments than one
+abbrev pub HasFault : KoreSignature → KorePattern → Type 0
+HasFault g p = ((f : VerifyFault) × FailsWith g p f) ⊎ (none_within (misapplies_injection g) p ≡ false)
+
+-- a rewrite axiom that is read has a fault
+pub record IsFaulty (g : KoreSignature) (a : Statement) : Type 0 where
+  pub rule : model.Rewrite
+  pub read : IsRead g a.parameters a.attributes a.pattern rule
+  pub has : HasFault g a.pattern
+
+-- the code's rule is the theory's; a foreign rule's priority is kept up to the greatest that a rule may have
 pub record IsCodeOf (g : KoreSignature) (m : model.RewriteRule) (r : Rule) : Type 0 where
   pub id : string_bytes r.id ≡ m.id
   pub is_body : IsBodyOf g m.body r.body
   pub is_priority : (w : code.Rewrite) → r.body ≡ Rewrite w → m.priority ≡ r.priority
+  pub is_foreign_priority : (k : Skeleton) → r.body ≡ Foreign k → min m.priority model.most_priority ≡ r.priority
 
 -- the code's rule set is the theory, rule by rule
 pub record RunsAs (t : Theory) (rules : RuleSet) : Type 0 where
   pub signature : signature_view rules.signature ≡ t.signature
   pub each : AllZip (IsCodeOf t.signature) t.rules rules.rules.items
+  pub tested : rules.is_regular ≡ keeps_values_apart t.signature
   pub regular : rules.is_regular ≡ true → IsRegular t.signature

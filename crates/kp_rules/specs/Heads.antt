@@ -38,6 +38,12 @@ Binds r bindings u = (v : Valuation) → Solves v bindings ↔ (left_value v (le
 abbrev pub PassAs : KoreSignature → Rewrite → List Binding → Bool → Type 0
 PassAs g r bindings b = (v : Valuation) → Solves v bindings → IsTrue b ↔ AllByRecursion (HasHead g v) r.tests.items
 
+-- the left side meets the value, and the condition computes a number beyond 128 bits
+pub record IsWide (g : KoreSignature) (r : Rewrite) (u : model.Value) : Type 0 where
+  pub valuation : Valuation
+  pub meets : Meets g r valuation u
+  pub wide : condition_narrow valuation (condition_view r.condition) ≡ false
+
 -- bindings are found exactly where a valuation fires, and are solved by exactly those; Number tells that the condition
 -- has a number beyond 128 bits under each valuation that meets the left side
 abbrev pub FindsFiring : Result (Option (Vec Binding Global)) EvaluationError → KoreSignature → Rewrite → model.Value → Type 0

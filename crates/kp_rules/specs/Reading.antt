@@ -1,6 +1,6 @@
 -- What is asked of a rewrite axiom that is read, by the parts of which the code asks it.
 use Rattle.std.specs.Prelude.{◌≡◌, ◌↔◌, Bool, true, false, not, ◌&&◌, nat_le, List, [], Option, Some, None, IsTrue, String}
-use Rattle.std.specs.List.{list_all, AllByRecursion}
+use Rattle.std.specs.List.{list_all, list_any, AllByRecursion}
 use Rattle.std.specs.declared.alloc.Global.{Global}
 use Rattle.indexmap.specs.IndexSet.{IndexSet, contains_text}
 use Rattle.kp_kore.specs.Syntax.{Text, KorePattern, KoreSort, exists, top, Statement}
@@ -12,9 +12,14 @@ use Rattle.kp_semantics.specs.Instance.{Valuation, instance, is_named, GivesSort
 use Rattle.kp_semantics.specs.Rules as model
 use Rattle.kp_semantics.specs.Foreign.{Reads, most_depth, is_wide_literal, has_foreign_head, has_interpreted_head, is_set_variable, is_quantifier, is_floor_of_term, repeats_literals_only, InjectionsSplit, is_read_priority}
 use Rattle.std.specs.Bool.{Decides}
-use Rattle.kp_ground.specs.Conditions.{condition_holds}
+use Rattle.kp_semantics.specs.Numbers.{computes_wide}
+use Rattle.kp_ground.specs.Conditions.{condition_holds, condition_narrow as is_condition_narrow}
 use Rattle.kp_ground.specs.ConditionView.{condition_view}
-use Rattle.kp_compile.specs.Exact.{IsLeftOf, IsTermOf}
+use Rattle.kp_compile.specs.Exact.{IsLeftOf, IsTermOf, IsNarrowAs}
+use Rattle.kp_compile.specs.Verified.{IsVerifiedTerm, IsVerifiedLeftTerm, IsVerifiedPredicate}
+use Rattle.kp_signature.specs.Verify.{VerifyFault}
+use Rattle.kp_rules.specs.declared.read.RuleError.{RuleError}
+use Rattle.kp_rules.specs.declared.read.RuleError.TheVariants.{Memory, Fault}
 use Rattle.kp_rules.specs.Heads.{HasHead}
 use Rattle.kp_rules.specs.Bodies.{IsBodyOf, IsVerifiedLeft}
 use Rattle.kp_rules.specs.Shapes.{seen, rewrite_seen}
@@ -76,10 +81,23 @@ pub record IsMadeOf (g : KoreSignature) (s : KoreSort) (m : model.Rewrite) (r : 
   pub tests : IsVerifiedLeft g m.left → (v : Valuation) → IsSorted g (instance g v m.left) → AllByRecursion (HasHead g v) r.tests.items ↔ GivesSorts g v (free_variables m.left)
   pub condition : (v : Valuation) → Decides (condition_holds v (condition_view r.condition)) (AllByRecursion (IsTrueUnder g v) m.condition)
   pub right : IsTermOf g m.right r.right
+  pub right_narrow : IsNarrowAs g m.right r.right
+  pub condition_narrow : (v : Valuation) → is_condition_narrow v (condition_view r.condition) ≡ not (list_any (computes_wide g v) m.condition)
   pub right_sort : sort_view r.right_sort ≡ s
+
+-- what is compiled of a rewrite is verified
+pub record IsSound (g : KoreSignature) (m : model.Rewrite) : Type 0 where
+  pub left : IsVerifiedLeftTerm g m.left
+  pub condition : AllByRecursion (IsVerifiedPredicate g) m.condition
+  pub right : IsVerifiedTerm g m.right
 
 -- a rule's body with what it is read from
 pub record IsReadBody (g : KoreSignature) (a : Statement) (body : RuleBody) : Type 0 where
   pub meant : model.RuleBody
   pub reads : Reads g a.parameters a.attributes a.pattern meant
   pub is_body : IsBodyOf g meant body
+
+-- what the error of a verification says: want of memory, or a fault
+abbrev pub rule_error : Option VerifyFault → RuleError
+rule_error (Some f) = Fault
+rule_error None = Memory

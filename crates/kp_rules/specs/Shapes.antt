@@ -1,11 +1,9 @@
 -- What the parts of a rewrite axiom are seen as.
-use Rattle.std.specs.Prelude.{List, map, Option, Some, None, string_bytes}
-use Rattle.std.specs.Borrow.{Bor}
+use Rattle.std.specs.Prelude.{List, map, Option, string_bytes}
 use Rattle.std.specs.Option.{option_map}
 use Rattle.kp_kore.specs.Syntax.{KorePattern}
 use Rattle.kp_kore.specs.Parts.{SortedName}
 use Rattle.kp_kore.specs.View.{view, sort_view}
-use Rattle.kp_kore.specs.declared.pattern.Pattern.{Pattern}
 use Rattle.kp_semantics.specs.Instance.{conjoined_predicates}
 use Rattle.kp_semantics.specs.Rules.{Rewrite, constrained_term, new_variables_of}
 pub use Rattle.kp_compile.specs.Parts.{seen}

@@ -1,5 +1,5 @@
 // Where a rule that is read fires.
-ghost use Rattle.std.specs.Prelude.{◌≡◌, ◌↔◌, IfOk, IsTrue, IfSome, MatchOption, true, false};
+ghost use Rattle.std.specs.Prelude.{◌≡◌, ◌↔◌, IfOk, IfErr, IsTrue, IfSome, MatchOption, true, false};
 ghost use Rattle.std.specs.List.{AllByRecursion};
 ghost use Rattle.kp_kore.specs.Signature.{KoreSignature};
 ghost use Rattle.kp_signature.specs.View.{signature_view};
@@ -10,7 +10,10 @@ ghost use Rattle.kp_ground.specs.Matches.{IsSolvable};
 ghost use Rattle.kp_ground.specs.Terms.{left_value};
 ghost use Rattle.kp_ground.specs.LeftView.{left_view};
 ghost use Rattle.kp_ground.specs.View.{value_view};
-ghost use Rattle.kp_rules.specs.Heads.{HasHead, FindsFiring, Binds, PassAs};
+ghost use Rattle.kp_ground.specs.Conditions.{condition_narrow};
+ghost use Rattle.kp_ground.specs.ConditionView.{condition_view};
+ghost use Rattle.kp_ground.specs.declared.evaluate.EvaluationError.TheVariants.{Number};
+ghost use Rattle.kp_rules.specs.Heads.{HasHead, Meets, FindsFiring, IsWide, Binds, PassAs};
 
 use crate::rule::{Rewrite, SortTest};
 use crate::values::has_sort;
@@ -67,6 +70,8 @@ impl Rewrite {
     ) -> Result<Option<Vec<Binding>>, EvaluationError>
         ensures firing { FindsFiring result (signature_view signature.now) self.now (value_view value.now) }
         ensures solvable { IfOk result (λ o. IfSome o (λ new. IsSolvable new.items)) }
+        ensures number { IfErr result (λ e. e ≡ Number → IsWide (signature_view signature.now) self.now (value_view value.now)) }
+        ensures narrow { IfOk result (λ o. (v : Valuation) → Meets (signature_view signature.now) self.now v (value_view value.now) → condition_narrow v (condition_view self.now.condition) ≡ true) }
     {
         match self.left.match_value(alloc, value, Vec::new(alloc))? {
             Some(bindings) => self.fires_with(alloc, signature, bindings),
@@ -83,6 +88,8 @@ impl Rewrite {
     ) -> Result<Option<Vec<Binding>>, EvaluationError>
         ensures solvable { IsSolvable bindings.items → IfOk result (λ o. IfSome o (λ new. IsSolvable new.items)) }
         ensures firing { (u : model.Value) → Binds self.now bindings.items u → FindsFiring result (signature_view signature.now) self.now u }
+        ensures number { (u : model.Value) → Binds self.now bindings.items u → IsSolvable bindings.items → IfErr result (λ e. e ≡ Number → IsWide (signature_view signature.now) self.now u) }
+        ensures narrow { (u : model.Value) → Binds self.now bindings.items u → IfOk result (λ o. (v : Valuation) → Meets (signature_view signature.now) self.now v u → condition_narrow v (condition_view self.now.condition) ≡ true) }
     {
         match pass(&self.tests, alloc, signature, &bindings)? {
             Some(passed) => self.fires_where(alloc, passed, bindings),
@@ -98,6 +105,8 @@ impl Rewrite {
     ) -> Result<Option<Vec<Binding>>, EvaluationError>
         ensures solvable { IsSolvable bindings.items → IfOk result (λ o. IfSome o (λ new. IsSolvable new.items)) }
         ensures firing { (g : KoreSignature) (u : model.Value) → Binds self.now bindings.items u → PassAs g self.now bindings.items passed → FindsFiring result g self.now u }
+        ensures number { (g : KoreSignature) (u : model.Value) → Binds self.now bindings.items u → PassAs g self.now bindings.items passed → IsSolvable bindings.items → IfErr result (λ e. e ≡ Number → IsWide g self.now u) }
+        ensures narrow { (g : KoreSignature) (u : model.Value) → Binds self.now bindings.items u → PassAs g self.now bindings.items passed → IfOk result (λ o. (v : Valuation) → Meets g self.now v u → condition_narrow v (condition_view self.now.condition) ≡ true) }
     {
         if !passed {
             return Ok(None);

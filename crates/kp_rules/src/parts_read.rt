@@ -1,11 +1,13 @@
 // What is asked of each part of a rewrite axiom.
-ghost use Rattle.std.specs.Prelude.{◌≡◌, ◌&&◌, IfOk, MatchBool, IsTrue, not, string_bytes};
+ghost use Rattle.std.specs.Prelude.{◌≡◌, ◌==◌, ◌&&◌, IfOk, MatchBool, IsTrue, length, not, string_bytes};
 ghost use Rattle.std.specs.List.{list_all, AllByRecursion};
-ghost use Rattle.kp_kore.specs.View.{view};
+ghost use Rattle.kp_kore.specs.Parts.{pattern_list};
+ghost use Rattle.kp_kore.specs.View.{view, patterns_view};
 ghost use Rattle.kp_semantics.specs.Foreign.{is_foreign_meaning, is_interpretation, has_foreign_head as foreign_head, has_interpreted_head as interpreted_head, is_set_variable as set_variable_test, is_quantifier as quantifier_test, is_floor_of_term as floor_test, is_wide_literal as wide_literal, writes_number, fits_number, InjectionsSplit};
 ghost use Rattle.std.specs.Str.Parse.{signed_digits_value};
 ghost use Rattle.kp_signature.specs.View.{signature_view};
 ghost use Rattle.kp_compile.specs.Meanings.{meaning_view};
+ghost use Rattle.kp_compile.specs.Verified.{is_injection_meaning, misapplies_injection as misapplied};
 ghost use Rattle.kp_rules.specs.Index.{IsIndexOf};
 ghost use Rattle.kp_rules.specs.Reading.{is_part_read, is_condition_part};
 ghost use Rattle.kp_rules.specs.Shapes.{seen};
@@ -58,6 +60,47 @@ fn has_interpreted_head(signature: &Signature, pattern: &Pattern) -> bool
         Pattern::Application { symbol, .. } => is_interpreted(meaning_of(signature, symbol)),
         _ => false,
     }
+}
+
+fn is_injection(meaning: Meaning) -> bool
+    ensures { result ≡ is_injection_meaning (meaning_view meaning) }
+{
+    match meaning {
+        Meaning::Injection => true,
+        _ => false,
+    }
+}
+
+fn is_one(patterns: &[Pattern]) -> bool
+    ensures { result ≡ (length (pattern_list (patterns_view patterns.now)) == 1) }
+{
+    patterns.len() == 1
+}
+
+/// Whether it applies `inj` to another number of arguments than one.
+fn misapplies_injection(signature: &Signature, pattern: &Pattern) -> bool
+    ensures { result ≡ misapplied (signature_view signature.now) (view pattern.now) }
+{
+    match pattern {
+        Pattern::Application {
+            symbol,
+            arguments,
+            ..
+        } => is_injection(meaning_of(signature, symbol)) && !is_one(arguments),
+        _ => false,
+    }
+}
+
+/// Whether each `inj` among the parts has one argument.
+pub fn inject_one(signature: &Signature, parts: &[&Pattern]) -> bool
+    ensures { result ≡ list_all (λ p. not (misapplied (signature_view signature.now) p)) (seen parts.now) }
+{
+    for part in parts {
+        if misapplies_injection(signature, part) {
+            return false;
+        }
+    }
+    true
 }
 
 fn is_set_variable(pattern: &Pattern) -> bool

@@ -1,24 +1,30 @@
 // From a rewrite axiom to its rule.
-ghost use Rattle.std.specs.Prelude.{◌≡◌, ℕ, not, Some, None, Option, IfOk, OnOk, MatchBool, IsTrue};
+ghost use Rattle.std.specs.Prelude.{◌≡◌, ℕ, not, true, min, Some, None, Option, unwrap_or, IfOk, IfErr, OnOk, MatchBool, IsTrue};
 ghost use Rattle.std.specs.List.{list_all};
 ghost use Rattle.indexmap.specs.IndexSet.{contains_text};
 ghost use Rattle.kp_kore.specs.Syntax.{KoreSort, KorePattern, rewriting};
 ghost use Rattle.kp_kore.specs.Parts.{free_variables};
 ghost use Rattle.kp_kore.specs.View.{view, sort_view, axiom_sentence_view};
 ghost use Rattle.kp_semantics.specs.Instance.{is_named};
-ghost use Rattle.kp_semantics.specs.Rules.{is_rewriting, constrained_term, foreign_rule};
-ghost use Rattle.kp_semantics.specs.Foreign.{is_read_priority};
+ghost use Rattle.kp_semantics.specs.Rules.{is_rewriting, constrained_term, foreign_rule, usual_priority, most_priority};
+ghost use Rattle.kp_semantics.specs.Foreign.{is_read_priority, none_within};
+ghost use Rattle.kp_signature.specs.Faults.{fault_view};
 ghost use Rattle.kp_signature.specs.Places.{the_top};
 ghost use Rattle.kp_signature.specs.Verify.{first_fault};
 ghost use Rattle.kp_signature.specs.View.{signature_view};
-ghost use Rattle.kp_rules.specs.Bodies.{IsReadAs, IsBodyOf};
+ghost use Rattle.kp_compile.specs.Verified.{misapplies_injection};
+ghost use Rattle.kp_compile.specs.declared.error.CompileError.TheVariants as compiling;
+ghost use Rattle.kp_rules.specs.Bodies.{IsReadAs, IsBodyOf, HasFault, IsFaulty};
 ghost use Rattle.kp_rules.specs.Index.{IsIndexOf};
 ghost use Rattle.kp_rules.specs.Priorities.{Tells};
-ghost use Rattle.kp_rules.specs.Reading.{IsStatementRead, IsReadBody, IsMadeOf, IsShapeRead, is_left_read, is_predicate_read, is_side_read, is_binder as binder_test, is_top_pattern, is_plain_by};
+ghost use Rattle.kp_rules.specs.Reading.{IsStatementRead, rule_error, IsReadBody, IsMadeOf, IsSound, IsShapeRead, is_left_read, is_predicate_read, is_side_read, is_binder as binder_test, is_top_pattern, is_plain_by};
 ghost use Rattle.kp_rules.specs.Shapes.{seen, rewrite_seen};
+ghost use Rattle.kp_rules.specs.declared.read.RuleError.TheVariants.{Memory, Fault};
 
 use crate::names::{NameSet, are_named, names_of, repeats_literals_only};
-use crate::parts_read::{all_split, are_condition_parts, are_read_parts, are_uninterpreted};
+use crate::parts_read::{
+    all_split, are_condition_parts, are_read_parts, are_uninterpreted, inject_one,
+};
 use crate::priority::{Priority, USUAL_PRIORITY, priority_of};
 use crate::rule::{Rewrite, RuleBody};
 use crate::shape::{Shape, Side, shape_of};
@@ -34,7 +40,7 @@ use std::alloc::{AllocError, Global};
 #[derive(Clone, Copy, Debug, PartialEq, Eq)]
 pub enum RuleError {
     Memory,
-    /// M6: the axiom has a verify fault, and isn't foreign.
+    /// M6: the axiom has a verify fault, or applies `inj` to another number of arguments than one, and isn't foreign.
     Fault,
 }
 
@@ -58,7 +64,9 @@ pub fn read_rule(
     statement: &AxiomSentence,
 ) -> Result<(u32, RuleBody), RuleError>
     requires index { IsIndexOf (signature_view signature.now) index.now }
-    ensures { IsTrue (is_rewriting (view statement.now.pattern)) → IfOk result (λ out. IsReadAs (signature_view signature.now) (axiom_sentence_view statement.now) out.0 out.1) }
+    ensures read { IsTrue (is_rewriting (view statement.now.pattern)) → IfOk result (λ out. IsReadAs (signature_view signature.now) (axiom_sentence_view statement.now) out.0 out.1) }
+    ensures fault { IsTrue (is_rewriting (view statement.now.pattern)) → IfErr result (λ e. e ≡ Fault → IsFaulty (signature_view signature.now) (axiom_sentence_view statement.now)) }
+    ensures unfaulty { IsTrue (is_rewriting (view statement.now.pattern)) → OnOk result (¬ IsFaulty (signature_view signature.now) (axiom_sentence_view statement.now)) }
 {
     match &statement.pattern {
         Pattern::Rewrites { sort, left, right } => {
@@ -69,8 +77,10 @@ pub fn read_rule(
     }
 }
 
+/// The number of a priority, else the one that a rule without it is kept with.
 fn number_of(priority: Priority) -> u32
-    ensures { (stated : Option ℕ) → Tells priority stated → IsTrue (is_read_priority stated) → stated ≡ Some result }
+    ensures stated { (stated : Option ℕ) → Tells priority stated → IsTrue (is_read_priority stated) → stated ≡ Some result }
+    ensures kept { (stated : Option ℕ) → Tells priority stated → min (unwrap_or stated usual_priority) most_priority ≡ result }
 {
     match priority {
         Priority::Number(number) => number,
@@ -91,7 +101,9 @@ fn body_of(
 ) -> Result<RuleBody, RuleError>
     requires index { IsIndexOf (signature_view signature.now) index.now }
     requires sides { view statement.now.pattern ≡ rewriting (sort_view sort.now) (view left.now) (view right.now) }
-    ensures { IfOk result (IsReadBody (signature_view signature.now) (axiom_sentence_view statement.now)) }
+    ensures read { IfOk result (IsReadBody (signature_view signature.now) (axiom_sentence_view statement.now)) }
+    ensures fault { IfErr result (λ e. e ≡ Fault → IsFaulty (signature_view signature.now) (axiom_sentence_view statement.now)) }
+    ensures unfaulty { OnOk result (¬ IsFaulty (signature_view signature.now) (axiom_sentence_view statement.now)) }
 {
     if !is_read_statement(alloc, signature, index, statement)? {
         return foreign_body(alloc, signature, index, sort, left);
@@ -114,20 +126,52 @@ fn foreign_body(
     left: &Pattern,
 ) -> Result<RuleBody, RuleError>
     requires index { IsIndexOf (signature_view signature.now) index.now }
-    ensures { IfOk result (IsBodyOf (signature_view signature.now) (foreign_rule (record { sort = sort_view sort.now; term = constrained_term (view left.now) }))) }
+    ensures body { IfOk result (IsBodyOf (signature_view signature.now) (foreign_rule (record { sort = sort_view sort.now; term = constrained_term (view left.now) }))) }
+    ensures fault { IfErr result (λ e. e ≡ Memory) }
 {
     let skeleton = skeleton_of_left(alloc, signature, index, sort, left)?;
     Ok(RuleBody::Foreign(skeleton))
 }
 
-/// The axiom's pattern has no verify fault.
+/// The axiom's pattern has no verify fault, and applies `inj` to one argument alone.
 fn check(alloc: Global, signature: &Signature, pattern: &Pattern) -> Result<(), RuleError>
-    ensures { OnOk result (first_fault (signature_view signature.now) the_top (view pattern.now) ≡ None) }
+    ensures verified { OnOk result (first_fault (signature_view signature.now) the_top (view pattern.now) ≡ None) }
+    ensures injections { OnOk result (none_within (misapplies_injection (signature_view signature.now)) (view pattern.now) ≡ true) }
+    ensures fault { IfErr result (λ e. e ≡ Fault → HasFault (signature_view signature.now) (view pattern.now)) }
+{
+    check_verified(alloc, signature, pattern)?;
+    let parts = subpatterns(alloc, pattern)?;
+    if inject_one(signature, &parts) {
+        Ok(())
+    } else {
+        Err(RuleError::Fault)
+    }
+}
+
+/// The pattern has no verify fault.
+fn check_verified(alloc: Global, signature: &Signature, pattern: &Pattern) -> Result<(), RuleError>
+    ensures verified { OnOk result (first_fault (signature_view signature.now) the_top (view pattern.now) ≡ None) }
+    ensures fault { IfErr result (λ e. e ≡ Fault → HasFault (signature_view signature.now) (view pattern.now)) }
 {
     match verify(alloc, signature, pattern) {
         Ok(_) => Ok(()),
-        Err(VerifyError::Memory) => Err(RuleError::Memory),
-        Err(_) => Err(RuleError::Fault),
+        Err(error) => Err(fault_of(&error)),
+    }
+}
+
+/// What the error of a verification says of the axiom.
+fn fault_of(error: &VerifyError) -> RuleError
+    ensures { result ≡ rule_error (fault_view error.now) }
+{
+    match error {
+        VerifyError::Memory => RuleError::Memory,
+        VerifyError::UnknownSort { .. }
+        | VerifyError::UnknownSymbol { .. }
+        | VerifyError::WrongNumber { .. }
+        | VerifyError::SortDiffers { .. }
+        | VerifyError::NumberTooWide { .. }
+        | VerifyError::TermTooDeep
+        | VerifyError::NoLiteral { .. } => RuleError::Fault,
     }
 }
 
@@ -248,15 +292,25 @@ fn rewrite_from(
     shape: &Shape<'_>,
     right: &Pattern,
 ) -> Result<Rewrite, RuleError>
-    ensures { IfOk result (λ w. IsMadeOf (signature_view signature.now) (sort_view sort.now) (rewrite_seen (view right.now) shape.now) w × (w.chooses ≡ not (is_plain_by (λ y. is_named y (free_variables (view shape.now.left.term.now))) (view right.now) (seen shape.now.right.predicates.items)))) }
+    ensures made { IfOk result (λ w. IsMadeOf (signature_view signature.now) (sort_view sort.now) (rewrite_seen (view right.now) shape.now) w × (w.chooses ≡ not (is_plain_by (λ y. is_named y (free_variables (view shape.now.left.term.now))) (view right.now) (seen shape.now.right.predicates.items)))) }
+    ensures sound { IfErr result (λ e. IsSound (signature_view signature.now) (rewrite_seen (view right.now) shape.now) → e ≡ Memory) }
 {
     let variables = shape.left.term.free_vars(alloc)?;
     let names = names_of(alloc, &variables)?;
     let chooses = chooses(alloc, &shape.right.predicates, right, &names)?;
     match compiled(alloc, signature, sort, shape, chooses) {
         Ok(rewrite) => Ok(rewrite),
-        Err(CompileError::Memory) => Err(RuleError::Memory),
-        Err(_) => Err(RuleError::Fault),
+        Err(error) => Err(refused(&error)),
+    }
+}
+
+/// What a refusal to compile says of the axiom: want of memory, which alone refuses a verified one, or a fault.
+fn refused(error: &CompileError) -> RuleError
+    ensures { error.now ≡ compiling.Memory → result ≡ Memory }
+{
+    match error {
+        CompileError::Memory => RuleError::Memory,
+        CompileError::Foreign(_) | CompileError::Shape | CompileError::Number => RuleError::Fault,
     }
 }
 
@@ -315,7 +369,8 @@ fn compiled(
     shape: &Shape<'_>,
     chooses: bool,
 ) -> Result<Rewrite, CompileError>
-    ensures { (r : KorePattern) → IfOk result (λ w. IsMadeOf (signature_view signature.now) (sort_view sort.now) (rewrite_seen r shape.now) w × (w.chooses ≡ chooses)) }
+    ensures made { (r : KorePattern) → IfOk result (λ w. IsMadeOf (signature_view signature.now) (sort_view sort.now) (rewrite_seen r shape.now) w × (w.chooses ≡ chooses)) }
+    ensures sound { (r : KorePattern) → IfErr result (λ e. IsSound (signature_view signature.now) (rewrite_seen r shape.now) → e ≡ compiling.Memory) }
 {
     let left = compile_left(alloc, signature, shape.left.term)?;
     let tests = sort_tests(alloc, signature, shape.left.term)?;

@@ -1,6 +1,7 @@
 // Which left variables a match must test.
-ghost use Rattle.std.specs.Prelude.{◌≡◌, ◌∷◌, [], ◌↔◌, true, IfOk, OnOk, string_bytes};
+ghost use Rattle.std.specs.Prelude.{◌≡◌, ◌∷◌, [], ◌↔◌, true, length, IfOk, IfErr, OnOk, string_bytes};
 ghost use Rattle.std.specs.List.{AllByRecursion};
+ghost use Rattle.kp_kore.specs.Syntax.{KoreSorts, application};
 ghost use Rattle.kp_kore.specs.Parts.{free_variables, all_free_variables};
 ghost use Rattle.kp_kore.specs.Signature.{KoreSignature, meaning_of as meaning_named};
 ghost use Rattle.kp_kore.specs.View.{view, patterns_view, sort_view, sorts_view};
@@ -8,6 +9,8 @@ ghost use Rattle.kp_signature.specs.View.{signature_view};
 ghost use Rattle.kp_semantics.specs.Value.{Value, HasSort, HaveSorts};
 ghost use Rattle.kp_semantics.specs.Sorted.{IsSorted};
 ghost use Rattle.kp_semantics.specs.Instance.{Valuation, instance, instances, applied, GivesSorts};
+ghost use Rattle.kp_compile.specs.Verified.{IsVerifiedLeftTerm};
+ghost use Rattle.kp_compile.specs.declared.error.CompileError.TheVariants.{Memory};
 ghost use Rattle.kp_rules.specs.Bodies.{IsVerifiedLeft};
 ghost use Rattle.kp_rules.specs.Heads.{HasHead};
 ghost use Rattle.kp_rules.specs.Tests.{IsGiven, Adds};
@@ -25,7 +28,8 @@ pub fn sort_tests(
     signature: &Signature,
     left: &Pattern,
 ) -> Result<Vec<SortTest>, CompileError>
-    ensures { IfOk result (λ tests. IsVerifiedLeft (signature_view signature.now) (view left.now) → (v : Valuation) → IsSorted (signature_view signature.now) (instance (signature_view signature.now) v (view left.now)) → AllByRecursion (HasHead (signature_view signature.now) v) tests.items ↔ GivesSorts (signature_view signature.now) v (free_variables (view left.now))) }
+    ensures tests { IfOk result (λ tests. IsVerifiedLeft (signature_view signature.now) (view left.now) → (v : Valuation) → IsSorted (signature_view signature.now) (instance (signature_view signature.now) v (view left.now)) → AllByRecursion (HasHead (signature_view signature.now) v) tests.items ↔ GivesSorts (signature_view signature.now) v (free_variables (view left.now))) }
+    ensures refused { IfErr result (λ e. IsVerifiedLeftTerm (signature_view signature.now) (view left.now) → e ≡ Memory) }
 {
     let mut tests = Vec::new(alloc);
     add_tests(left, alloc, signature, None, &mut tests)?;
@@ -41,7 +45,8 @@ fn add_tests(
     given: Option<&Sort>,
     tests: &mut Vec<SortTest>,
 ) -> Result<(), CompileError>
-    ensures { OnOk result ((v : Valuation) → IsGiven (signature_view signature.now) given.entry (instance (signature_view signature.now) v (view pattern.now)) → Adds (signature_view signature.now) v tests.old.items tests.new.items (free_variables (view pattern.now))) }
+    ensures tests { OnOk result ((v : Valuation) → IsGiven (signature_view signature.now) given.entry (instance (signature_view signature.now) v (view pattern.now)) → Adds (signature_view signature.now) v tests.old.items tests.new.items (free_variables (view pattern.now))) }
+    ensures refused { IfErr result (λ e. IsVerifiedLeftTerm (signature_view signature.now) (view pattern.now) → e ≡ Memory) }
 {
     match pattern {
         Pattern::Variable { name, sort } => Ok(add_test(alloc, name, sort, given, tests)?),
@@ -64,7 +69,8 @@ fn add_tests_of_applied(
     symbol: &Name,
     tests: &mut Vec<SortTest>,
 ) -> Result<(), CompileError>
-    ensures { OnOk result ((v : Valuation) → IsSorted (signature_view signature.now) (applied (meaning_named (signature_view signature.now) (string_bytes symbol.now)) (string_bytes symbol.now) (instances (signature_view signature.now) v (patterns_view arguments.now))) → Adds (signature_view signature.now) v tests.old.items tests.new.items (all_free_variables (patterns_view arguments.now))) }
+    ensures tests { OnOk result ((v : Valuation) → IsSorted (signature_view signature.now) (applied (meaning_named (signature_view signature.now) (string_bytes symbol.now)) (string_bytes symbol.now) (instances (signature_view signature.now) v (patterns_view arguments.now))) → Adds (signature_view signature.now) v tests.old.items tests.new.items (all_free_variables (patterns_view arguments.now))) }
+    ensures refused { IfErr result (λ e. (ss : KoreSorts) → IsVerifiedLeftTerm (signature_view signature.now) (application (string_bytes symbol.now) ss (patterns_view arguments.now)) → e ≡ Memory) }
 {
     match meaning_of(signature, symbol) {
         Meaning::Injection => match arguments {
@@ -77,7 +83,8 @@ fn add_tests_of_applied(
             }
             None => Err(CompileError::Shape),
         },
-        Meaning::Interpreted(_) | Meaning::Foreign => Err(CompileError::Shape),
+        Meaning::Interpreted(_) => Err(CompileError::Shape),
+        Meaning::Foreign => Err(CompileError::Shape),
     }
 }
 
@@ -90,7 +97,8 @@ fn add_tests_of_arguments(
     places: &[Sort],
     tests: &mut Vec<SortTest>,
 ) -> Result<(), CompileError>
-    ensures { OnOk result ((v : Valuation) → HaveSorts (signature_view signature.now) (sorts_view places.now) (instances (signature_view signature.now) v (patterns_view patterns.now)) → Adds (signature_view signature.now) v tests.old.items tests.new.items (all_free_variables (patterns_view patterns.now))) }
+    ensures tests { OnOk result ((v : Valuation) → HaveSorts (signature_view signature.now) (sorts_view places.now) (instances (signature_view signature.now) v (patterns_view patterns.now)) → Adds (signature_view signature.now) v tests.old.items tests.new.items (all_free_variables (patterns_view patterns.now))) }
+    ensures refused { IfErr result (λ e. length patterns.now ≡ length places.now → AllByRecursion (λ p. IsVerifiedLeftTerm (signature_view signature.now) (view p)) patterns.now → e ≡ Memory) }
 {
     if patterns.len() != places.len() {
         return Err(CompileError::Shape);

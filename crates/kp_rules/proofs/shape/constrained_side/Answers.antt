@@ -1,4 +1,4 @@
-use Rattle.std.proofs.Common.{◌≡◌, ◌∙◌, subst, not, map}
+use Rattle.std.proofs.Common.{◌≡◌, subst, not}
 use Rattle.std.specs.List.{filter}
 use Rattle.std.specs.Option.{option_map}
 use Rattle.kp_kore.specs.Parts.{is_term}

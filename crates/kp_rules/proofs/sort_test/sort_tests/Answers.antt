@@ -4,7 +4,7 @@ use Rattle.kp_signature.specs.View.{signature_view}
 use Rattle.kp_rules.proofs.TestLemmas.{all_added}
 use Rattle.kp_rules.proofs.sort_test.sort_tests.Goals as goal
 
-pub returns : goal.returns
-returns c = λ verified v sorted.
+pub returns-clause-tests : goal.returns-clause-tests
+returns-clause-tests c = λ verified v sorted.
     all_added (signature_view c.args.signature.now) v c.new-tests.result.items c.add_tests.new.tests.items (free_variables (view c.args.left.now))
-    c.new-tests.ensures.items (c.in_ok-add_tests.ensures v sorted)
+    c.new-tests.ensures.items (c.in_ok-add_tests.ensures.tests v sorted)

@@ -1,7 +1,7 @@
 use Rattle.std.proofs.Common.{rules, ◌≡◌, subst, true, false}
 use Rattle.std.specs.Prelude.{Ok, Err}
 use Rattle.kp_ground.specs.ConditionView.{condition_view, GivesTruth}
-use Rattle.kp_rules.proofs.Firing.{none_fires, fires_kept, fires_not_told}
+use Rattle.kp_rules.proofs.Firing.{none_fires, fires_kept, fires_not_told, none_meets, narrow_told, wide_told}
 use Rattle.kp_rules.proofs.rule.Rewrite.fires_where.Goals as goal
 
 pub returns-then-not-passed-clause-firing : goal.returns-then-not-passed-clause-firing
@@ -20,3 +20,19 @@ pub returns-in-Err-clause-firing : goal.returns-in-Err-clause-firing
 returns-in-Err-clause-firing c = λ g u binds pass.
     fires_not_told g c.args.self.now c.args.bindings.items u c.in-Err.error
     (subst (λ bs. GivesTruth (Err c.in-Err.error) bs (condition_view c.args.self.now.condition)) c.deref.ensures.value c.in-Err.ensures) binds
+
+pub returns-then-not-passed-clause-narrow : goal.returns-then-not-passed-clause-narrow
+returns-then-not-passed-clause-narrow c = λ g u binds pass v meets.
+    let so : c.args.passed ≡ false = search rules in
+    absurd (none_meets g c.args.self.now c.args.bindings.items u c.args.passed so binds pass v meets)
+
+pub returns-in-Ok-clause-narrow : goal.returns-in-Ok-clause-narrow
+returns-in-Ok-clause-narrow c = λ g u binds pass.
+    narrow_told g c.args.self.now c.args.bindings.items u c.in-Ok.holds
+    (subst (λ bs. GivesTruth (Ok c.in-Ok.holds) bs (condition_view c.args.self.now.condition)) c.deref.ensures.value c.in-Ok.ensures) binds
+
+pub returns-in-Err-clause-number : goal.returns-in-Err-clause-number
+returns-in-Err-clause-number c = λ g u binds pass solvable.
+    let so : c.args.passed ≡ true = search rules in
+    wide_told g c.args.self.now c.args.bindings.items u c.args.passed c.in-Err.error so
+    (subst (λ bs. GivesTruth (Err c.in-Err.error) bs (condition_view c.args.self.now.condition)) c.deref.ensures.value c.in-Err.ensures) binds pass solvable

@@ -16,3 +16,23 @@ returns-in-Some-clause-firing c = λ u binds.
     let told : IfSome o (PassAs g c.args.self.now c.args.bindings.items) =
     subst (λ bs. IfSome o (λ b. (v : Valuation) → Solves v bs → (b ≡ true) ↔ AllByRecursion (HasHead g v) c.args.self.now.tests.items)) c.deref-2.ensures.value tests in
     c.fires_where.ensures.firing g u binds (subst (λ p. IfSome p (PassAs g c.args.self.now c.args.bindings.items)) c.in-Some.is told)
+
+pub returns-in-Some-clause-number : goal.returns-in-Some-clause-number
+returns-in-Some-clause-number c = λ u binds solvable.
+    let g = signature_view c.args.signature.now in
+    let o = c.in_ok-passed.field-0 in
+    let tests : IfSome o (λ b. (v : Valuation) → Solves v c.deref-2.result.now → (b ≡ true) ↔ AllByRecursion (HasHead g v) c.args.self.now.tests.items) =
+    subst (λ ts. IfSome o (λ b. (v : Valuation) → Solves v c.deref-2.result.now → (b ≡ true) ↔ AllByRecursion (HasHead g v) ts)) c.deref.ensures.value c.in_ok-passed.ensures in
+    let told : IfSome o (PassAs g c.args.self.now c.args.bindings.items) =
+    subst (λ bs. IfSome o (λ b. (v : Valuation) → Solves v bs → (b ≡ true) ↔ AllByRecursion (HasHead g v) c.args.self.now.tests.items)) c.deref-2.ensures.value tests in
+    c.fires_where.ensures.number g u binds (subst (λ p. IfSome p (PassAs g c.args.self.now c.args.bindings.items)) c.in-Some.is told) solvable
+
+pub returns-in-Some-clause-narrow : goal.returns-in-Some-clause-narrow
+returns-in-Some-clause-narrow c = λ u binds.
+    let g = signature_view c.args.signature.now in
+    let o = c.in_ok-passed.field-0 in
+    let tests : IfSome o (λ b. (v : Valuation) → Solves v c.deref-2.result.now → (b ≡ true) ↔ AllByRecursion (HasHead g v) c.args.self.now.tests.items) =
+    subst (λ ts. IfSome o (λ b. (v : Valuation) → Solves v c.deref-2.result.now → (b ≡ true) ↔ AllByRecursion (HasHead g v) ts)) c.deref.ensures.value c.in_ok-passed.ensures in
+    let told : IfSome o (PassAs g c.args.self.now c.args.bindings.items) =
+    subst (λ bs. IfSome o (λ b. (v : Valuation) → Solves v bs → (b ≡ true) ↔ AllByRecursion (HasHead g v) c.args.self.now.tests.items)) c.deref-2.ensures.value tests in
+    c.fires_where.ensures.narrow g u binds (subst (λ p. IfSome p (PassAs g c.args.self.now c.args.bindings.items)) c.in-Some.is told)

@@ -1,4 +1,4 @@
-use Rattle.std.proofs.Common.{rules, refl, sym}
+use Rattle.std.proofs.Common.{rules, refl}
 use Rattle.kp_rules.proofs.SplitLemmas.{none_is_over}
 use Rattle.kp_rules.proofs.sort_index.SortIndex.covers.Goals as goal
 
