@@ -1,25 +1,20 @@
 -- Chains of imports, and the faults that they show.
-use Rattle.std.proofs.Common.{◌≤◌, count_by, arith, refl, ◌≡◌, sym, ap, subst, ◌∙◌, ℕ, ◌+◌, ◌<◌, Bool, true, false, ◌||◌, List, [], ◌∷◌, ◌++◌, length, map, take, drop, get_or, Some, None, String, Global, Result, Ok, Err, ◌⊎◌, inl, inr}
+use Rattle.std.proofs.Common.{◌≡◌, sym, ap, subst, ◌∙◌, ℕ, ◌+◌, ◌<◌, Bool, true, false, ◌||◌, List, [], ◌∷◌, ◌++◌, length, map, take, drop, get_or, Some, None, String, Global, Result, Ok, Err, ◌⊎◌, inl, inr}
 use Rattle.std.specs.Prelude.{IsErr, IsErrAnd, IfErr}
-use Rattle.std.specs.Borrow.{Bor}
-use Rattle.std.specs.List.{flat_map}
 use Rattle.std.specs.Str.{bytes_eq}
 use Rattle.std.proofs.lemmas.List.{map-append, take-append-drop}
 use Rattle.std.proofs.lemmas.List.Folds.{list_any-append}
 use Rattle.std.proofs.lemmas.Slice.Eq.{bytes_eq-Decides}
 use Rattle.indexmap.specs.IndexMap.{IndexMap, get_by_text}
-use Rattle.kp_kore.specs.Syntax.{Text, KoreModule, KoreDefinition}
-use Rattle.kp_kore.specs.Signature.{sorts_in, symbols_in}
+use Rattle.kp_kore.specs.Syntax.{Text, KoreModule}
 use Rattle.kp_kore.specs.View.{module_view, sentence_view}
 use Rattle.kp_kore.specs.declared.sentence.Module.{Module}
 use Rattle.kp_kore.specs.declared.sentence.Sentence.{Sentence}
-use Rattle.kp_semantics.specs.Theory.{imports_in, module_named, modules_reached}
+use Rattle.kp_semantics.specs.Theory.{imports_in, module_named}
 use Rattle.kp_signature.specs.Names.{Indexes, first_place}
-use Rattle.kp_signature.specs.Table.{sort_names, symbol_names}
-use Rattle.kp_signature.specs.View.{sentences_of}
 use Rattle.kp_signature.proofs.FirstPlaces.{no_row}
-use Rattle.kp_modules.specs.Faults.{Fault, unknown_import, import_cycle, duplicate_sort, duplicate_symbol, duplicate_module, rule_fault, no_main_module, Leads, stays, goes, IsCyclic, IsImportFault, IsFaultOf, IsRuleFault, HasNoFault, IsUnplaced}
-use Rattle.kp_modules.specs.Names.{names_of, module_names, IsRepeated, AreOnce}
+use Rattle.kp_modules.specs.Faults.{Fault, unknown_import, Leads, stays, goes, IsUnknown, IsCyclic, IsImportFault, IsUnplaced}
+use Rattle.kp_modules.specs.Names.{module_names}
 use Rattle.kp_modules.specs.Reaching.{has, imports_of}
 use Rattle.kp_modules.specs.Walks.{is_open, import_names, sentences_at, backwards, AreOpen, IsReachedPlace, Stands, IsWalkOf, ComesTo}
 use Rattle.kp_modules.specs.declared.fault.LoadError.{LoadError}
@@ -28,7 +23,6 @@ use Rattle.kp_modules.specs.declared.imports.Mark.TheVariants as mark
 use Rattle.kp_modules.specs.declared.walk.Parent.{Parent}
 use Rattle.kp_modules.specs.declared.walk.Walk.{Walk}
 use Rattle.kp_modules.proofs.Collect.{false_true, or_true, or_cases, has_more}
-use Rattle.kp_modules.proofs.Ruled.{sentences_seen}
 use Rattle.kp_modules.proofs.Sentences.{imports_in-append, one_further}
 use Rattle.kp_modules.proofs.Walking.{bytes_same, imports_at}
 
@@ -104,10 +98,14 @@ cycle rows main w i h opened = record {
 
 -- ---- an import of no module
 
+pub unknown_told : {S : Type 0} (rows : List Module) (main : Text) (places : IndexMap (String Global) ℕ S) (ss : List Sentence) → Stands rows main places ss → (f : Fault) → IsUnplaced places (import_names ss) f → (n : Text) × (f ≡ unknown_import n) × IsUnknown (map module_view rows) main n
+unknown_told rows main places ss s f u =
+    (u.name, u.told, record { importer = s.name; reached = s.reached; imports = ap (has u.name) s.imports ∙ u.among; unknown = no_name rows u.name (sym (s.indexes u.name) ∙ u.unknown) })
+
 pub unplaced : {S : Type 0} (rows : List Module) (main : Text) (places : IndexMap (String Global) ℕ S) (ss : List Sentence) → Stands rows main places ss → (f : Fault) → IsUnplaced places (import_names ss) f → IsImportFault (map module_view rows) main f
 unplaced rows main places ss s f u =
-    subst (IsImportFault (map module_view rows) main) (sym u.told)
-    (record { importer = s.name; reached = s.reached; imports = ap (has u.name) s.imports ∙ u.among; unknown = no_name rows u.name (sym (s.indexes u.name) ∙ u.unknown) })
+    let h = unknown_told rows main places ss s f u in
+    subst (IsImportFault (map module_view rows) main) (sym h.1) h.2
 
 -- ---- places that are reached
 
@@ -126,43 +124,3 @@ place_stands rows main places p ss h is e = record { name = h.name; reached = h.
 pub exit : {X : Type 0} (r : Result X LoadError) (P : LoadError → Type 0) (e : LoadError) → IsErr r × IsErrAnd r (λ y. y ≡ e) → P e → IfErr r P
 exit (Ok x) P e h p = tt
 exit (Err y) P e h p = subst P (sym h.1) p
-
--- a fault of imports
-pub import_fault : (d : KoreDefinition) (main : Text) (f : Fault) → IsImportFault d.modules main f → IsFaultOf d main f
-import_fault d main (unknown_import n) h = h
-import_fault d main import_cycle h = h
-import_fault d main (duplicate_sort n) h = absurd h
-import_fault d main (duplicate_symbol n) h = absurd h
-import_fault d main (duplicate_module n) h = absurd h
-import_fault d main (rule_fault i) h = absurd h
-import_fault d main no_main_module h = absurd h
-
--- a fault of names that sentences declare
-pub repeated_sort : (ms : List (Bor Module)) (d : KoreDefinition) (main : Text) (f : Fault) → map (λ m. module_view m.now) ms ≡ modules_reached d main →
-    (n : Text) × (f ≡ duplicate_sort n) × IsRepeated n (sort_names (sorts_in (sentences_of ms))) → IsFaultOf d main f
-repeated_sort ms d main f e h =
-    subst (IsFaultOf d main) (sym h.1) (subst (λ ss. IsRepeated h.0 (sort_names (sorts_in ss))) (sentences_seen ms ∙ ap (flat_map (λ m. m.sentences)) e) h.2)
-
-pub repeated_symbol : (ms : List (Bor Module)) (d : KoreDefinition) (main : Text) (f : Fault) → map (λ m. module_view m.now) ms ≡ modules_reached d main →
-    (n : Text) × (f ≡ duplicate_symbol n) × IsRepeated n (symbol_names (symbols_in (sentences_of ms))) → IsFaultOf d main f
-repeated_symbol ms d main f e h =
-    subst (IsFaultOf d main) (sym h.1) (subst (λ ss. IsRepeated h.0 (symbol_names (symbols_in ss))) (sentences_seen ms ∙ ap (flat_map (λ m. m.sentences)) e) h.2)
-
-pub rule_told : (d : KoreDefinition) (main : Text) (f : Fault) → IsRuleFault f → IsFaultOf d main f
-rule_told d main f h = subst (IsFaultOf d main) (sym h.1) tt
-
--- ---- what is loaded has no fault
-
-repeated_once : (n : Text) (names : List Text) → AreOnce names → IsRepeated n names → ⊥
-repeated_once n names h k = let most : count_by (bytes_eq n) names ≤ 1 = h n in absurd (omega arith)
-
-pub no_fault : (ms : List (Bor Module)) (d : KoreDefinition) (main : Text) → map (λ m. module_view m.now) ms ≡ modules_reached d main →
-    AreOnce (sort_names (sorts_in (sentences_of ms))) → AreOnce (symbol_names (symbols_in (sentences_of ms))) → AreOnce (names_of d.modules) → (module_named d.modules main ≡ None → ⊥) →
-    ((f : Fault) → IsImportFault d.modules main f → ⊥) → HasNoFault d main
-no_fault ms d main e sorts symbols modules found none (unknown_import n) h = absurd (none (unknown_import n) h)
-no_fault ms d main e sorts symbols modules found none import_cycle h = absurd (none import_cycle h)
-no_fault ms d main e sorts symbols modules found none (duplicate_sort n) h = absurd (repeated_once n (sort_names (sorts_in (flat_map (λ m. m.sentences) (modules_reached d main)))) (subst (λ ss. AreOnce (sort_names (sorts_in ss))) (sentences_seen ms ∙ ap (flat_map (λ m. m.sentences)) e) sorts) h)
-no_fault ms d main e sorts symbols modules found none (duplicate_symbol n) h = absurd (repeated_once n (symbol_names (symbols_in (flat_map (λ m. m.sentences) (modules_reached d main)))) (subst (λ ss. AreOnce (symbol_names (symbols_in ss))) (sentences_seen ms ∙ ap (flat_map (λ m. m.sentences)) e) symbols) h)
-no_fault ms d main e sorts symbols modules found none (duplicate_module n) h = absurd (repeated_once n (names_of d.modules) modules h)
-no_fault ms d main e sorts symbols modules found none (rule_fault i) h = (i, refl)
-no_fault ms d main e sorts symbols modules found none no_main_module h = absurd (found h)

@@ -4,6 +4,8 @@ pub mod Collect
 pub mod Declared
 pub mod Labelled
 pub mod Leaving
+pub mod Firsts
+pub mod Noting
 pub mod Places
 pub mod Ruled
 pub mod Seen

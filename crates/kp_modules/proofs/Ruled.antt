@@ -12,6 +12,7 @@ use Rattle.kp_signature.specs.View.{signature_view, sentences_of}
 use Rattle.kp_semantics.specs.Rules.{is_rewriting, priority_of, usual_priority}
 use Rattle.kp_semantics.specs.Sorted.{IsRegular}
 use Rattle.kp_semantics.specs.Theory.{NumberedAxiom, rewrite_axioms_from, rewrite_axioms, labels_of, rule_id}
+use Rattle.kp_sorts.specs.Regularity.{keeps_values_apart}
 use Rattle.kp_rules.specs.Bodies.{IsReadAs}
 use Rattle.kp_rules.specs.declared.rule.Rule.{Rule}
 use Rattle.kp_rules.specs.declared.rule.RuleSet.{RuleSet}
@@ -56,7 +57,7 @@ pub made : (g : KoreSignature) (labels : List Text) (a : NumberedAxiom) (r : Rul
 made g labels a r h e = record {
   meant = record { id = rule_id labels a; priority = unwrap_or (priority_of a.axiom_of.attributes) usual_priority; body = h.meant };
   is_rule = record { id = refl; priority = refl; body = h.reads };
-  is_code = record { id = e; is_body = h.is_body; is_priority = λ w is. ap (λ o. unwrap_or o usual_priority) (h.is_priority w is) };
+  is_code = record { id = e; is_body = h.is_body; is_priority = λ w is. ap (λ o. unwrap_or o usual_priority) (h.is_priority w is); is_foreign_priority = h.is_foreign_priority };
 }
 
 zip_push : {A B : Type 0} (R : A → B → Type 0) (xs : List A) (ys : List B) (x : A) (y : B) → AllZip R xs ys → R x y → AllZip R (xs ++ x ∷ []) (ys ++ y ∷ [])
@@ -75,7 +76,7 @@ more_made g labels xs rs a r h k = record {
   are_code = zip_push _ h.meant rs k.meant r h.are_code k.is_code;
 }
 
-axioms_more : (axioms : List RewriteAxiom) (i : ℕ) (a : RewriteAxiom) → i < length axioms → a ≡ get_or axioms i a → axioms_view (take (i + 1) axioms) ≡ axioms_view (take i axioms) ++ axiom_view a ∷ []
+pub axioms_more : (axioms : List RewriteAxiom) (i : ℕ) (a : RewriteAxiom) → i < length axioms → a ≡ get_or axioms i a → axioms_view (take (i + 1) axioms) ≡ axioms_view (take i axioms) ++ axiom_view a ∷ []
 axioms_more axioms i a h e =
     let more : i + 1 ≡ suc i = omega arith in
     ap (λ k. axioms_view (take k axioms)) more
@@ -95,10 +96,10 @@ pub sentences_seen : (ms : List (Bor Module)) → sentences_of ms ≡ flat_map (
 sentences_seen ms = sym (flat_map-map (λ m. m.sentences) (λ m. module_view m.now) ms)
 
 pub runs : (ms : List KoreModule) (rules : RuleSet) → signature_view rules.signature ≡ signature_of (flat_map (λ m. m.sentences) ms) →
-    AreMadeOf (signature_view rules.signature) (labels_of (rewrite_axioms ms)) (rewrite_axioms ms) rules.rules.items → (rules.is_regular ≡ true → IsRegular (signature_view rules.signature)) → IsRunOf ms rules
-runs ms rules e h regular = record {
+    AreMadeOf (signature_view rules.signature) (labels_of (rewrite_axioms ms)) (rewrite_axioms ms) rules.rules.items → rules.is_regular ≡ keeps_values_apart (signature_view rules.signature) → (rules.is_regular ≡ true → IsRegular (signature_view rules.signature)) → IsRunOf ms rules
+runs ms rules e h tested regular = record {
   theory = record { signature = signature_view rules.signature; rules = h.meant };
   signature = e;
   meant = h.are_rules;
-  runs = record { signature = refl; each = h.are_code; regular = regular };
+  runs = record { signature = refl; each = h.are_code; tested = tested; regular = regular };
 }

@@ -1,12 +1,13 @@
 -- The fault that an error tells, and when there is one.
-use Rattle.std.specs.Prelude.{◌≡◌, ℕ, true, List, Option, Some, None, string_bytes, codes, ⊤, String}
-use Rattle.std.specs.List.{flat_map}
+use Rattle.std.specs.Prelude.{◌≡◌, ℕ, ◌<◌, true, List, ◌∷◌, ◌++◌, Option, Some, None, string_bytes, codes, String}
+use Rattle.std.specs.List.{AllByRecursion, Contains, flat_map}
 use Rattle.std.specs.declared.alloc.Global.{Global}
 use Rattle.indexmap.specs.IndexMap.{IndexMap, get_by_text}
 use Rattle.kp_kore.specs.Syntax.{Text, KoreModule, KoreDefinition}
-use Rattle.kp_kore.specs.Signature.{sorts_in, symbols_in}
+use Rattle.kp_kore.specs.Signature.{KoreSignature, signature_of, sorts_in, symbols_in}
 use Rattle.kp_signature.specs.Table.{sort_names, symbol_names}
-use Rattle.kp_semantics.specs.Theory.{module_named, modules_reached}
+use Rattle.kp_semantics.specs.Theory.{NumberedAxiom, module_named, modules_reached, rewrite_axioms}
+use Rattle.kp_rules.specs.Bodies.{IsFaulty}
 use Rattle.kp_modules.specs.Names.{names_of, IsRepeated}
 use Rattle.kp_modules.specs.Reaching.{has, imports_of}
 use Rattle.kp_modules.specs.declared.fault.LoadError.{LoadError}
@@ -74,21 +75,73 @@ pub record IsCyclic (ms : List KoreModule) (main : Text) : Type 0 where
   pub imports : has next (imports_of ms name) ≡ true
   pub back : Leads ms next name
 
--- there is such a fault; of a rule's nothing is said here
+-- a rewrite axiom of this number among its module's axioms is faulty
+pub record IsFaultyAmong (g : KoreSignature) (axioms : List NumberedAxiom) (i : ℕ) : Type 0 where
+  pub rewriting : NumberedAxiom
+  pub among : Contains axioms rewriting
+  pub number : rewriting.number ≡ i
+  pub faulty : IsFaulty g rewriting.axiom_of
+
+abbrev pub AreSound : KoreSignature → List NumberedAxiom → Type 0
+AreSound g = AllByRecursion (λ a. ¬ IsFaulty g a.axiom_of)
+
+-- the first faulty one of these rewrite axioms has this number
+pub record IsFirstFaulty (g : KoreSignature) (axioms : List NumberedAxiom) (i : ℕ) : Type 0 where
+  pub before : List NumberedAxiom
+  pub rewriting : NumberedAxiom
+  pub after : List NumberedAxiom
+  pub are : axioms ≡ before ++ rewriting ∷ after
+  pub sound : AreSound g before
+  pub number : rewriting.number ≡ i
+  pub faulty : IsFaulty g rewriting.axiom_of
+
+-- the signature of the modules that main reaches
+abbrev pub signature_reached : KoreDefinition → Text → KoreSignature
+signature_reached d main = signature_of (flat_map (λ m. m.sentences) (modules_reached d main))
+
+-- their rewrite axioms, in order
+abbrev pub axioms_reached : KoreDefinition → Text → List NumberedAxiom
+axioms_reached d main = rewrite_axioms (modules_reached d main)
+
+-- there is such a fault
 abbrev pub IsFaultOf : KoreDefinition → Text → Fault → Type 0
 IsFaultOf d main (unknown_import n) = IsUnknown d.modules main n
 IsFaultOf d main import_cycle = IsCyclic d.modules main
 IsFaultOf d main (duplicate_sort n) = IsRepeated n (sort_names (sorts_in (flat_map (λ m. m.sentences) (modules_reached d main))))
 IsFaultOf d main (duplicate_symbol n) = IsRepeated n (symbol_names (symbols_in (flat_map (λ m. m.sentences) (modules_reached d main))))
 IsFaultOf d main (duplicate_module n) = IsRepeated n (names_of d.modules)
-IsFaultOf d main (rule_fault i) = ⊤
+IsFaultOf d main (rule_fault i) = IsFaultyAmong (signature_reached d main) (axioms_reached d main) i
 IsFaultOf d main no_main_module = module_named d.modules main ≡ None
 
--- the error is want of memory, or tells a fault that there is
-abbrev pub TellsFault : KoreDefinition → Text → LoadError → Type 0
-TellsFault d main e = (f : Fault) → fault_view e ≡ Some f → IsFaultOf d main f
+-- there is no fault
+abbrev pub HasNoFault : KoreDefinition → Text → Type 0
+HasNoFault d main = (f : Fault) → ¬ IsFaultOf d main f
 
--- the same of the two faults of imports
+-- ---- which comes first
+
+-- a kind of less rank comes before: M5, M8, and then the others by number
+abbrev pub rank : Fault → ℕ
+rank (duplicate_module n) = 0
+rank no_main_module = 1
+rank (unknown_import n) = 2
+rank import_cycle = 3
+rank (duplicate_sort n) = 4
+rank (duplicate_symbol n) = 5
+rank (rule_fault i) = 6
+
+-- the fault is there, and none of a kind that comes before; of faulty rewrite axioms it is the first one's
+pub record IsFirstFault (d : KoreDefinition) (main : Text) (f : Fault) : Type 0 where
+  pub is_fault : IsFaultOf d main f
+  pub first : (other : Fault) → rank other < rank f → ¬ IsFaultOf d main other
+  pub first_axiom : (i : ℕ) → f ≡ rule_fault i → IsFirstFaulty (signature_reached d main) (axioms_reached d main) i
+
+-- the error is want of memory, or tells the first fault
+abbrev pub TellsFirst : KoreDefinition → Text → LoadError → Type 0
+TellsFirst d main e = (f : Fault) → fault_view e ≡ Some f → IsFirstFault d main f
+
+-- ---- what is told of parts
+
+-- the two faults of imports
 abbrev pub IsImportFault : List KoreModule → Text → Fault → Type 0
 IsImportFault ms main (unknown_import n) = IsUnknown ms main n
 IsImportFault ms main import_cycle = IsCyclic ms main
@@ -97,15 +150,16 @@ IsImportFault ms main _ = ⊥
 abbrev pub TellsImport : List KoreModule → Text → LoadError → Type 0
 TellsImport ms main e = (f : Fault) → fault_view e ≡ Some f → IsImportFault ms main f
 
-abbrev pub IsRuleFault : Fault → Type 0
-IsRuleFault f = (i : ℕ) × (f ≡ rule_fault i)
+abbrev pub TellsUnknown : List KoreModule → Text → LoadError → Type 0
+TellsUnknown ms main e = (f : Fault) → fault_view e ≡ Some f → (n : Text) × (f ≡ unknown_import n) × IsUnknown ms main n
 
--- there is no fault but of rules
-abbrev pub HasNoFault : KoreDefinition → Text → Type 0
-HasNoFault d main = (f : Fault) → IsFaultOf d main f → IsRuleFault f
+-- the error tells the number of the first faulty one of these rewrite axioms
+abbrev pub TellsFaulty : KoreSignature → List NumberedAxiom → LoadError → Type 0
+TellsFaulty g axioms e = (f : Fault) → fault_view e ≡ Some f → (i : ℕ) × (f ≡ rule_fault i) × IsFirstFaulty g axioms i
 
-abbrev pub TellsRule : LoadError → Type 0
-TellsRule e = (f : Fault) → fault_view e ≡ Some f → IsRuleFault f
+-- the error tells this rewrite axiom's number, and the axiom is faulty
+abbrev pub TellsAxiom : KoreSignature → NumberedAxiom → LoadError → Type 0
+TellsAxiom g a e = (f : Fault) → fault_view e ≡ Some f → (f ≡ rule_fault a.number) × IsFaulty g a.axiom_of
 
 -- the error tells one of these names, which has no place
 pub record IsUnplaced {S : Type 0} (places : IndexMap (String Global) ℕ S) (names : List Text) (f : Fault) : Type 0 where

@@ -1,6 +1,6 @@
 -- Where a walk over modules stands.
 use Rattle.std.specs.Prelude.{◌≡◌, ℕ, ◌+◌, ◌*◌, ◌<◌, Bool, true, false, List, [], ◌∷◌, ◌++◌, length, map, take, ⊤, Option, Some, None, count_by, slice_get, slice_index_or, String}
-use Rattle.std.specs.List.{AllByRecursion, flat_map}
+use Rattle.std.specs.List.{AllByRecursion, Contains, flat_map}
 use Rattle.std.specs.Str.{bytes_eq}
 use Rattle.std.specs.declared.alloc.Global.{Global}
 use Rattle.indexmap.specs.IndexMap.{IndexMap, get_by_text}
@@ -71,6 +71,24 @@ pub record IsNext {S : Type 0} (places : IndexMap (String Global) ℕ S) (marks 
   pub are : import_names (take i.from ss) ≡ passed ++ name ∷ []
   pub rest : ArePassed places marks (import_names (take from ss)) passed
   pub found : get_by_text places name ≡ Some i.place
+
+-- ---- what is noted
+
+-- each place that isn't unseen is among these
+abbrev pub AreNoted : List Mark → List ℕ → Type 0
+AreNoted marks found = (p : ℕ) → is_unseen (slice_index_or marks p mark.Unseen) ≡ false → Contains found p
+
+-- more places are noted behind those that were there
+pub record NotedMore (marks : List Mark) (before after : List ℕ) : Type 0 where
+  pub more : List ℕ
+  pub is : after ≡ before ++ more
+  pub noted : AreNoted marks after
+
+-- the name's place is among these
+pub record IsNameNoted {S : Type 0} (places : IndexMap (String Global) ℕ S) (found : List ℕ) (n : Text) : Type 0 where
+  pub place : ℕ
+  pub at : get_by_text places n ≡ Some place
+  pub among : Contains found place
 
 -- ---- the walk
 

@@ -3,7 +3,7 @@ ghost use Rattle.std.specs.Prelude.{◌≡◌, ◌<◌, IfOk, IfErr, OnOk, None,
 ghost use Rattle.std.specs.List.{AllByRecursion};
 ghost use Rattle.kp_kore.specs.View.{module_view, definition_view};
 ghost use Rattle.kp_semantics.specs.Theory.{modules_reached, module_named};
-ghost use Rattle.kp_modules.specs.Faults.{Fault, TellsFault, IsImportFault};
+ghost use Rattle.kp_modules.specs.Faults.{Fault, TellsFirst, IsImportFault};
 ghost use Rattle.kp_modules.specs.Names.{AreOnce, names_of};
 
 use crate::fault::{LoadError, ModuleFault};
@@ -25,7 +25,7 @@ pub fn reached<'a>(
     ensures once { OnOk result (AreOnce (names_of (definition_view definition.now).modules)) }
     ensures main { OnOk result (module_named (definition_view definition.now).modules main.now ≡ None → ⊥) }
     ensures none { OnOk result ((f : Fault) → IsImportFault (definition_view definition.now).modules main.now f → ⊥) }
-    ensures err { IfErr result (TellsFault (definition_view definition.now) main.now) }
+    ensures err { IfErr result (TellsFirst (definition_view definition.now) main.now) }
 {
     let modules = definition.modules.as_slice();
     check_names(alloc, modules)?;

@@ -1,13 +1,14 @@
 // The rules that rewrite axioms make.
-ghost use Rattle.std.specs.Prelude.{◌≡◌, IfOk, IfErr, List, map, true};
+ghost use Rattle.std.specs.Prelude.{◌≡◌, IfOk, IfErr, OnOk, List, map, true};
 ghost use Rattle.kp_kore.specs.Syntax.{Text};
 ghost use Rattle.kp_kore.specs.View.{module_view, view};
 ghost use Rattle.kp_signature.specs.View.{signature_view};
 ghost use Rattle.kp_semantics.specs.Rules.{is_rewriting};
 ghost use Rattle.kp_semantics.specs.Theory.{rewrite_axioms as axioms_among, labels_of as labels_among};
+ghost use Rattle.kp_rules.specs.Bodies.{IsFaulty};
 ghost use Rattle.kp_rules.specs.Index.{IsIndexOf};
 ghost use Rattle.kp_modules.specs.Axioms.{axiom_view, axioms_view};
-ghost use Rattle.kp_modules.specs.Faults.{TellsRule};
+ghost use Rattle.kp_modules.specs.Faults.{AreSound, TellsAxiom, TellsFaulty};
 ghost use Rattle.kp_modules.specs.Labels.{Counts};
 ghost use Rattle.kp_modules.specs.Made.{IsMadeOf, AreMadeOf, AreRewriting};
 
@@ -25,7 +26,8 @@ pub fn rules_of(
     signature: &Signature,
     modules: &[&Module],
 ) -> Result<Vec<Rule>, LoadError>
-    ensures err { IfErr result TellsRule }
+    ensures err { IfErr result (TellsFaulty (signature_view signature.now) (axioms_among (map (λ m. module_view m.now) modules.now))) }
+    ensures sound { OnOk result (AreSound (signature_view signature.now) (axioms_among (map (λ m. module_view m.now) modules.now))) }
     ensures ok { IfOk result (λ rules. AreMadeOf (signature_view signature.now) (labels_among (axioms_among (map (λ m. module_view m.now) modules.now))) (axioms_among (map (λ m. module_view m.now) modules.now)) rules.items) }
 {
     let axioms = rewrite_axioms(alloc, modules)?;
@@ -42,7 +44,8 @@ fn rules_among(
     axioms: &[RewriteAxiom<'_>],
 ) -> Result<Vec<Rule>, LoadError>
     requires index { IsIndexOf (signature_view signature.now) index.now }
-    ensures err { IfErr result TellsRule }
+    ensures err { AreRewriting (axioms_view axioms.now) → IfErr result (TellsFaulty (signature_view signature.now) (axioms_view axioms.now)) }
+    ensures sound { AreRewriting (axioms_view axioms.now) → OnOk result (AreSound (signature_view signature.now) (axioms_view axioms.now)) }
     ensures ok { (names : List Text) → Counts names labels.now → AreRewriting (axioms_view axioms.now) → IfOk result (λ rules. AreMadeOf (signature_view signature.now) names (axioms_view axioms.now) rules.items) }
 {
     let mut rules = Vec::new(alloc);
@@ -60,7 +63,8 @@ fn rule_of(
     rewriting: &RewriteAxiom<'_>,
 ) -> Result<Rule, LoadError>
     requires index { IsIndexOf (signature_view signature.now) index.now }
-    ensures err { IfErr result TellsRule }
+    ensures err { is_rewriting (axiom_view rewriting.now).axiom_of.pattern ≡ true → IfErr result (TellsAxiom (signature_view signature.now) (axiom_view rewriting.now)) }
+    ensures sound { is_rewriting (axiom_view rewriting.now).axiom_of.pattern ≡ true → OnOk result (¬ IsFaulty (signature_view signature.now) (axiom_view rewriting.now).axiom_of) }
     ensures ok { (names : List Text) → Counts names labels.now → is_rewriting (axiom_view rewriting.now).axiom_of.pattern ≡ true → IfOk result (λ r. IsMadeOf (signature_view signature.now) names (axiom_view rewriting.now) r) }
 {
     match read_rule(alloc, signature, index, rewriting.axiom) {

@@ -1,9 +1,11 @@
 // What is loaded of a definition.
 ghost use Rattle.std.specs.Prelude.{◌≡◌, ◌++◌, ◌∷◌, [], List, IfOk, IfErr, OnOk, map, string_bytes};
 ghost use Rattle.kp_kore.specs.Syntax.{Text};
+ghost use Rattle.kp_kore.specs.Signature.{signature_of};
 ghost use Rattle.kp_kore.specs.View.{module_view, definition_view};
-ghost use Rattle.kp_semantics.specs.Theory.{Theory, IsTheoryOf, modules_reached};
-ghost use Rattle.kp_modules.specs.Faults.{HasNoFault, TellsFault, TellsRule};
+ghost use Rattle.kp_signature.specs.View.{sentences_of};
+ghost use Rattle.kp_semantics.specs.Theory.{Theory, IsTheoryOf, modules_reached, rewrite_axioms as axioms_among};
+ghost use Rattle.kp_modules.specs.Faults.{AreSound, HasNoFault, TellsFaulty, TellsFirst};
 ghost use Rattle.kp_modules.specs.Made.{IsRunOf};
 ghost use Rattle.kp_modules.specs.Names.{Lists, names_of as names_among};
 ghost use Rattle.kp_modules.specs.Reaching.{has};
@@ -59,7 +61,7 @@ pub fn load(alloc: Global, definition: &Definition, main: &str) -> Result<Table,
     ensures main { IfOk result (λ table. main_of table ≡ main.now) }
     ensures reaches { IfOk result (λ table. (n : Text) → does_reach table n ≡ has n (names_among (modules_reached (definition_view definition.now) main.now))) }
     ensures none { OnOk result (HasNoFault (definition_view definition.now) main.now) }
-    ensures err { IfErr result (TellsFault (definition_view definition.now) main.now) }
+    ensures err { IfErr result (TellsFirst (definition_view definition.now) main.now) }
 {
     let modules = reached(alloc, definition, main)?;
     check_sorts(alloc, &modules)?;
@@ -73,7 +75,8 @@ pub fn load(alloc: Global, definition: &Definition, main: &str) -> Result<Table,
 
 /// The signature and the rules of these modules.
 fn rule_set(alloc: Global, modules: &[&Module]) -> Result<RuleSet, LoadError>
-    ensures err { IfErr result TellsRule }
+    ensures err { IfErr result (TellsFaulty (signature_of (sentences_of modules.now)) (axioms_among (map (λ m. module_view m.now) modules.now))) }
+    ensures sound { OnOk result (AreSound (signature_of (sentences_of modules.now)) (axioms_among (map (λ m. module_view m.now) modules.now))) }
     ensures ok { IfOk result (IsRunOf (map (λ m. module_view m.now) modules.now)) }
 {
     let signature = Signature::new(alloc, modules)?;

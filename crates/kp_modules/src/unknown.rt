@@ -1,13 +1,13 @@
 // Whether each import in a module that main reaches names a module.
 ghost use Rattle.std.specs.Prelude.{◌≡◌, ◌+◌, ◌<◌, List, OnOk, IfErr, Some, length, map};
-ghost use Rattle.std.specs.List.{AllByRecursion};
+ghost use Rattle.std.specs.List.{AllByRecursion, Contains};
 ghost use Rattle.kp_kore.specs.Syntax.{Text};
 ghost use Rattle.kp_kore.specs.View.{module_view};
 ghost use Rattle.kp_kore.specs.declared.sentence.Module.{Module};
 ghost use Rattle.kp_signature.specs.Names.{Indexes, first_place};
-ghost use Rattle.kp_modules.specs.Faults.{TellsImport, TellsUnplaced};
+ghost use Rattle.kp_modules.specs.Faults.{IsUnknown, TellsUnknown, TellsUnplaced};
 ghost use Rattle.kp_modules.specs.Names.{PlacesAreBelow, module_names};
-ghost use Rattle.kp_modules.specs.Walks.{unseen_in, import_names, IsReachedPlace, Stands};
+ghost use Rattle.kp_modules.specs.Walks.{unseen_in, import_names, AreNoted, IsNameNoted, IsReachedPlace, NotedMore, Stands};
 
 use crate::fault::LoadError;
 use crate::imports::{Mark, import_of, place_of, unseen};
@@ -24,7 +24,8 @@ pub fn check_imports(
 ) -> Result<(), LoadError>
     requires places { PlacesAreBelow places.now (length modules.now) }
     requires start { start < length modules.now }
-    ensures err { (main : Text) → Indexes (module_names modules.now) places.now → first_place main (module_names modules.now) ≡ Some start → IfErr result (TellsImport (map module_view modules.now) main) }
+    ensures err { (main : Text) → Indexes (module_names modules.now) places.now → first_place main (module_names modules.now) ≡ Some start → IfErr result (TellsUnknown (map module_view modules.now) main) }
+    ensures known { (main : Text) → Indexes (module_names modules.now) places.now → first_place main (module_names modules.now) ≡ Some start → OnOk result ((n : Text) → ¬ IsUnknown (map module_view modules.now) main n) }
 {
     let mut marks = unseen(alloc, modules.len())?;
     let mut found = Vec::new(alloc);
@@ -50,6 +51,7 @@ fn note_imports(
     ensures found { AllByRecursion (λ p. p < length marks.old.items) found.new.items }
     ensures count { OnOk result (unseen_in marks.new.items + length found.new.items ≡ unseen_in marks.old.items + length found.old.items) }
     ensures reached { (rows : List Module) (main : Text) → Stands rows main places.now sentences.now → AllByRecursion (IsReachedPlace rows main) found.old.items → OnOk result (AllByRecursion (IsReachedPlace rows main) found.new.items) }
+    ensures noted { AreNoted marks.old.items found.old.items → OnOk result (NotedMore marks.new.items found.old.items found.new.items × AllByRecursion (IsNameNoted places.now found.new.items) (import_names sentences.now)) }
     ensures err { IfErr result (TellsUnplaced places.now (import_names sentences.now)) }
 {
     for i in 0..sentences.len() {
@@ -67,6 +69,7 @@ fn note_place(marks: &mut Vec<Mark>, found: &mut Vec<usize>, place: usize) -> Re
     ensures found { AllByRecursion (λ p. p < length marks.old.items) found.new.items }
     ensures count { OnOk result (unseen_in marks.new.items + length found.new.items ≡ unseen_in marks.old.items + length found.old.items) }
     ensures reached { (rows : List Module) (main : Text) → IsReachedPlace rows main place → AllByRecursion (IsReachedPlace rows main) found.old.items → OnOk result (AllByRecursion (IsReachedPlace rows main) found.new.items) }
+    ensures noted { AreNoted marks.old.items found.old.items → OnOk result (NotedMore marks.new.items found.old.items found.new.items × Contains found.new.items place) }
 {
     if marks[place] == Mark::Unseen {
         found.push(place)?;

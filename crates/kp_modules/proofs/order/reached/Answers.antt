@@ -1,12 +1,15 @@
 use Rattle.std.proofs.Common.{◌≡◌, sym, subst, ◌∙◌, ◌<◌, length, map, slice_get, Some, None}
 use Rattle.std.specs.List.{AllByRecursion, filter_map}
+use Rattle.kp_kore.specs.Syntax.{Text}
 use Rattle.kp_kore.specs.View.{module_view, definition_view}
+use Rattle.kp_signature.specs.Names.{first_place}
 use Rattle.kp_semantics.specs.Theory.{module_named, names_reached}
 use Rattle.kp_modules.specs.Walks.{IsOver}
-use Rattle.kp_modules.specs.Faults.{IsImportFault, IsFaultOf, TellsFault, no_main_module}
-use Rattle.kp_modules.specs.Names.{AreOnce, names_of}
+use Rattle.kp_modules.specs.Faults.{IsImportFault, IsFirstFault, IsUnknown, TellsFirst, duplicate_module, no_main_module, unknown_import}
+use Rattle.kp_modules.specs.Names.{AreOnce, IsRepeated, module_names, names_of}
 use Rattle.kp_modules.proofs.Acyclic.{found_named, no_import_fault}
-use Rattle.kp_modules.proofs.Chains.{exit, no_name, import_fault}
+use Rattle.kp_modules.proofs.Chains.{exit, no_name}
+use Rattle.kp_modules.proofs.Firsts.{first_of_modules, first_of_main, first_of_imports, first_of_cycles}
 use Rattle.kp_modules.proofs.Seen.{all_seen}
 use Rattle.kp_modules.proofs.Walking.{some_same}
 use Rattle.kp_modules.proofs.order.reached.Goals as goal
@@ -20,27 +23,47 @@ places_in_order-requires-clause-start c = c.in_ok-places.ensures.below c.args.ma
 pub modules_at-requires : goal.modules_at-requires
 modules_at-requires c = subst (λ xs. AllByRecursion (λ p. p < length c.as_slice-modules.result.now) xs) (sym c.as_slice.ensures.value) c.in_ok-order.ensures.within
 
+pub returns-in_err-check_names-clause-err : goal.returns-in_err-check_names-clause-err
+returns-in_err-check_names-clause-err c =
+    let d = definition_view c.args.definition.now in
+    let main = c.args.main.now in
+    exit c.from_residual.result (TellsFirst d main) c.in_err-check_names.field-0.0 c.from_residual.ensures
+    (λ f h. first_of_modules d main f
+    (subst (λ ms. (n : Text) × (f ≡ duplicate_module n) × IsRepeated n (names_of (map module_view ms))) c.as_slice-modules.ensures.value (c.in_err-check_names.ensures.err f h)))
+
 pub returns-in-None-clause-err : goal.returns-in-None-clause-err
 returns-in-None-clause-err c f e =
-    let none : module_named (map module_view c.as_slice-modules.result.now) c.args.main.now ≡ None = no_name c.as_slice-modules.result.now c.args.main.now (sym (c.in-None.ensures.value ∙ c.in_ok-places.ensures.index c.args.main.now)) in
-    subst (IsFaultOf (definition_view c.args.definition.now) c.args.main.now) (some_same no_main_module f e)
-    (subst (λ ms. module_named (map module_view ms) c.args.main.now ≡ None) c.as_slice-modules.ensures.value none)
+    let d = definition_view c.args.definition.now in
+    let main = c.args.main.now in
+    let rows = c.as_slice-modules.result.now in
+    let none : module_named (map module_view rows) main ≡ None = no_name rows main (sym (c.in-None.ensures.value ∙ c.in_ok-places.ensures.index main)) in
+    subst (IsFirstFault d main) (some_same no_main_module f e)
+    (first_of_main d main (subst (λ ms. AreOnce (names_of (map module_view ms))) c.as_slice-modules.ensures.value c.in_ok-check_names.ensures.ok)
+    (subst (λ ms. module_named (map module_view ms) main ≡ None) c.as_slice-modules.ensures.value none))
 
 pub returns-in_err-check_imports-clause-err : goal.returns-in_err-check_imports-clause-err
 returns-in_err-check_imports-clause-err c =
     let d = definition_view c.args.definition.now in
     let main = c.args.main.now in
-    exit c.from_residual-in_err-check_imports.result (TellsFault d main) c.in_err-check_imports.field-0.0 c.from_residual-in_err-check_imports.ensures
-    (λ f h. import_fault d main f (subst (λ ms. IsImportFault (map module_view ms) main f) c.as_slice-modules.ensures.value
-    (c.in_err-check_imports.ensures.err main c.in_ok-places.ensures.index (sym (c.in-Some.ensures.value ∙ c.in_ok-places.ensures.index main)) f h)))
+    let rows = c.as_slice-modules.result.now in
+    let at : first_place main (module_names rows) ≡ Some c.in-Some.place.now = sym (c.in-Some.ensures.value ∙ c.in_ok-places.ensures.index main) in
+    exit c.from_residual-in_err-check_imports.result (TellsFirst d main) c.in_err-check_imports.field-0.0 c.from_residual-in_err-check_imports.ensures
+    (λ f h. first_of_imports d main (subst (λ ms. AreOnce (names_of (map module_view ms))) c.as_slice-modules.ensures.value c.in_ok-check_names.ensures.ok)
+    (λ none. found_named (map module_view rows) main c.in-Some.place.now at (subst (λ ms. module_named (map module_view ms) main ≡ None) (sym c.as_slice-modules.ensures.value) none)) f
+    (subst (λ ms. (n : Text) × (f ≡ unknown_import n) × IsUnknown (map module_view ms) main n) c.as_slice-modules.ensures.value
+    (c.in_err-check_imports.ensures.err main c.in_ok-places.ensures.index at f h)))
 
 pub returns-in_err-order-clause-err : goal.returns-in_err-order-clause-err
 returns-in_err-order-clause-err c =
     let d = definition_view c.args.definition.now in
     let main = c.args.main.now in
-    exit c.from_residual-in_err-order.result (TellsFault d main) c.in_err-order.field-0.0 c.from_residual-in_err-order.ensures
-    (λ f h. import_fault d main f (subst (λ ms. IsImportFault (map module_view ms) main f) c.as_slice-modules.ensures.value
-    (c.in_err-order.ensures.err main c.in_ok-places.ensures.index (sym (c.in-Some.ensures.value ∙ c.in_ok-places.ensures.index main)) f h)))
+    let rows = c.as_slice-modules.result.now in
+    let at : first_place main (module_names rows) ≡ Some c.in-Some.place.now = sym (c.in-Some.ensures.value ∙ c.in_ok-places.ensures.index main) in
+    exit c.from_residual-in_err-order.result (TellsFirst d main) c.in_err-order.field-0.0 c.from_residual-in_err-order.ensures
+    (λ f h. first_of_cycles d main (subst (λ ms. AreOnce (names_of (map module_view ms))) c.as_slice-modules.ensures.value c.in_ok-check_names.ensures.ok)
+    (λ none. found_named (map module_view rows) main c.in-Some.place.now at (subst (λ ms. module_named (map module_view ms) main ≡ None) (sym c.as_slice-modules.ensures.value) none))
+    (subst (λ ms. (n : Text) → ¬ IsUnknown (map module_view ms) main n) c.as_slice-modules.ensures.value (c.in_ok-check_imports.ensures.known main c.in_ok-places.ensures.index at)) f
+    (subst (λ ms. IsImportFault (map module_view ms) main f) c.as_slice-modules.ensures.value (c.in_err-order.ensures.err main c.in_ok-places.ensures.index at f h)))
 
 pub returns-clause-ok : goal.returns-clause-ok
 returns-clause-ok c =

@@ -1,4 +1,3 @@
-use Rattle.std.proofs.Common.{rules}
 use Rattle.kp_signature.specs.View.{signature_view}
 use Rattle.kp_modules.specs.Axioms.{axiom_view}
 use Rattle.kp_modules.proofs.Ruled.{made}
@@ -9,5 +8,5 @@ returns-in_ok-rule_id-in-Ok-clause-ok c names is rewriting =
     let g = signature_view c.args.signature.now in
     let a = axiom_view c.args.rewriting.now in
     made g names a (record { id = c.in_ok-rule_id-in-Ok.field-0; priority = c.in-Ok.priority; body = c.in-Ok.body })
-    (c.in-Ok.ensures (search rules))
+    (c.in-Ok.ensures.read rewriting)
     (c.in_ok-rule_id-in-Ok.ensures names is)

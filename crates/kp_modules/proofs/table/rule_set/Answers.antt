@@ -1,13 +1,18 @@
-use Rattle.std.proofs.Common.{ap, ◌∙◌, map}
+use Rattle.std.proofs.Common.{ap, subst, ◌∙◌, map}
 use Rattle.kp_kore.specs.Signature.{signature_of}
 use Rattle.kp_kore.specs.View.{module_view}
-use Rattle.kp_modules.specs.Faults.{TellsRule}
+use Rattle.kp_semantics.specs.Theory.{rewrite_axioms}
+use Rattle.kp_signature.specs.View.{sentences_of}
+use Rattle.kp_modules.specs.Faults.{AreSound, TellsFaulty}
 use Rattle.kp_modules.proofs.Chains.{exit}
 use Rattle.kp_modules.proofs.Ruled.{runs, sentences_seen}
 use Rattle.kp_modules.proofs.table.rule_set.Goals as goal
 
 pub returns-in_err-rules-clause-err : goal.returns-in_err-rules-clause-err
-returns-in_err-rules-clause-err c = exit c.from_residual-in_err-rules.result TellsRule c.in_err-rules.field-0.0 c.from_residual-in_err-rules.ensures c.in_err-rules.ensures.err
+returns-in_err-rules-clause-err c =
+    let axioms = rewrite_axioms (map (λ m. module_view m.now) c.args.modules.now) in
+    exit c.from_residual-in_err-rules.result (TellsFaulty (signature_of (sentences_of c.args.modules.now)) axioms) c.in_err-rules.field-0.0 c.from_residual-in_err-rules.ensures
+    (subst (λ g. TellsFaulty g axioms c.in_err-rules.field-0.0) c.in_ok-signature.ensures c.in_err-rules.ensures.err)
 
 pub returns-clause-ok : goal.returns-clause-ok
 returns-clause-ok c =
@@ -16,4 +21,8 @@ returns-clause-ok c =
     (record { signature = c.in_ok-signature.signature; rules = c.in_ok-rules.rules; is_regular = c.is_regular-is_regular.result })
     (c.in_ok-signature.ensures ∙ ap signature_of (sentences_seen ms))
     c.in_ok-rules.ensures.ok
+    c.is_regular-is_regular.ensures.is
     c.is_regular-is_regular.ensures.regular
+
+pub returns-clause-sound : goal.returns-clause-sound
+returns-clause-sound c = subst (λ g. AreSound g (rewrite_axioms (map (λ m. module_view m.now) c.args.modules.now))) c.in_ok-signature.ensures c.in_ok-rules.ensures.sound

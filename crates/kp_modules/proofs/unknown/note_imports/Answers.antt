@@ -1,10 +1,13 @@
-use Rattle.std.proofs.Common.{rules, ◌≡◌, ◌<◌, sym, ap, subst, ◌∙◌, [], ◌∷◌, get_or, length, string_bytes}
+use Rattle.std.proofs.Common.{rules, ◌≡◌, ◌<◌, ◌+◌, sym, ap, subst, ◌∙◌, [], ◌∷◌, get_or, length, string_bytes, take}
+use Rattle.std.proofs.lemmas.List.{append-nil}
 use Rattle.std.specs.List.{AllByRecursion}
 use Rattle.kp_kore.specs.View.{sentence_view}
 use Rattle.kp_semantics.specs.Theory.{imports_in}
 use Rattle.kp_modules.specs.Faults.{TellsUnplaced}
 use Rattle.kp_modules.specs.Walks.{import_names, IsReachedPlace}
 use Rattle.kp_modules.proofs.Chains.{exit, imported_here, import_reached}
+use Rattle.kp_modules.proofs.Noting.{one_noted}
+use Rattle.kp_modules.proofs.Sentences.{one_further}
 use Rattle.kp_modules.proofs.unknown.note_imports.Goals as goal
 use Rattle.kp_modules.proofs.unknown.note_imports.Goals.{in-Some+in_ok-place_of+in_ok-note_place, in_default}
 
@@ -43,6 +46,13 @@ loop-i-preserved c =
                 (w.in_ok-note_place.ensures.reached rows main
                 (import_reached rows main c.args.places.now ss stands n w.in_ok-place_of.field-0 (imported_here ss i s n c.loop-i-test.true read own) w.in_ok-place_of.ensures.ok)
                 (c.loop-i.invariant.3 rows main stands all)),
+            λ start. rw w.marks-is (rw w.found-is (one_noted c.args.places.now c.loop-i.marks.items w.note_place.new.marks.items c.args.found.now.items c.loop-i.found.items w.note_place.new.found.items
+                (import_names (take i ss)) (import_names (take (i + 1) ss)) n w.in_ok-place_of.field-0 (c.loop-i.invariant.4 start)
+                (w.in_ok-note_place.ensures.noted (c.loop-i.invariant.4 start).0.noted) w.in_ok-place_of.ensures.ok (one_further ss i s (n ∷ []) c.loop-i-test.true read own))),
           )
-      | in_default w ↦ rw w.marks-is (rw w.found-is c.loop-i.invariant)
+      | in_default w ↦
+          let own : imports_in (sentence_view s ∷ []) ≡ [] = search rules in
+          let same : import_names (take (i + 1) ss) ≡ import_names (take i ss) = one_further ss i s [] c.loop-i-test.true read own ∙ append-nil (import_names (take i ss)) in
+          let old = c.loop-i.invariant in
+          rw w.marks-is (rw w.found-is (old.0, old.1, old.2, old.3, λ start. rw same (old.4 start)))
     ]
