@@ -1,21 +1,21 @@
 -- What a run says of the replies to it.
-use Rattle.std.proofs.Common.{◌≡◌, refl, sym, subst, ◌∙◌, ℕ, zero, suc, ◌+◌, ◌<◌, true, List, [], ◌∷◌, inl, inr, arith}
-use Rattle.std.specs.Prelude.{not}
+use Rattle.std.proofs.Common.{◌≡◌, refl, sym, subst, ◌∙◌, ℕ, zero, suc, ◌+◌, ◌<◌, ◌≤◌, true, List, [], ◌∷◌, inl, inr, arith}
+use Rattle.std.specs.Prelude.{not, string_bytes}
 use Rattle.std.specs.List.{AllByRecursion, filter}
-use Rattle.kp_kore.specs.Syntax.{KorePattern}
+use Rattle.kp_kore.specs.Syntax.{Text, KorePattern}
 use Rattle.kp_kore.specs.Parts.{SortedName, free_variables}
 use Rattle.kp_semantics.specs.Value.{Value, truth}
 use Rattle.kp_semantics.specs.Instance.{Valuation, GivesSorts, is_named}
 use Rattle.kp_semantics.specs.Rules.{RewriteRule}
 use Rattle.kp_semantics.specs.Theory.{Theory}
-use Rattle.kp_semantics.specs.Steps.{Fires, Steps, StepsBy, StepsIn, IsFinal, HasTurn, AnyByRecursion}
-use Rattle.kp_semantics.specs.Replies.{After, IsAfter, HasInstance, IsRightReason, is_listed, variables_beyond, IsFreshName, IsAbsent}
+use Rattle.kp_semantics.specs.Steps.{Fires, Steps, StepsBy, StepsIn, IsFinal, HasTurn, IsUnknown, IsUnknownBy, AnyByRecursion}
+use Rattle.kp_semantics.specs.Replies.{After, IsAfter, HasInstance, MeetsSkeleton, IsRightReason, is_listed, variables_beyond, IsFreshName, IsAbsent}
 use Rattle.kp_ground.specs.View.{value_view}
 use Rattle.kp_run.specs.declared.run.Executed.{Executed}
 use Rattle.kp_run.specs.declared.run.Stop.{Stop}
-use Rattle.kp_run.specs.declared.run.Stop.TheVariants.{Stuck, DepthBound}
-use Rattle.kp_run.specs.Runs.{GoesOnlyTo, GoesOnlyIn, IsStuck, IsRunOf, IsOnlyInstance, reason_of}
-use Rattle.kp_run.proofs.Among.{of_some}
+use Rattle.kp_run.specs.declared.run.Stop.TheVariants.{Stuck, DepthBound, ForeignRule}
+use Rattle.kp_run.specs.Runs.{GoesOnlyTo, GoesOnlyIn, IsStuck, IsUnknownAs, IsFirstUnknown, kept_priority, IsRunOf, IsOnlyInstance, reason_of}
+use Rattle.kp_run.proofs.Among.{of_some, between_any}
 use Rattle.kp_run.proofs.Theories.{fires_first}
 
 -- ---- steps
@@ -49,7 +49,7 @@ reached_before t zero c later (m, first, rest) = (c, refl)
 reached_before t (suc n) c later (m, first, rest) = let r = reached_before t n m later rest in (r.0, (m, first.0, r.1))
 
 -- who has a step isn't final
-not_final : (t : Theory) (c next : Value) → Steps t c next → ¬ IsFinal t c
+pub not_final : (t : Theory) (c next : Value) → Steps t c next → ¬ IsFinal t c
 not_final t c next steps (inl unknown) = known_steps t.rules steps
   where
     known_steps : (rs : List RewriteRule) → AnyByRecursion (λ r. StepsBy t r c next) rs → ⊥
@@ -102,6 +102,12 @@ run_is_reached t s c bound e run only none n is =
 has_instance : (t : Theory) (s : KorePattern) (c : Value) → IsOnlyInstance t s c → free_variables s ≡ [] → HasInstance t.signature s
 has_instance t s c only none = (some_valuation, c, without_sorts t s some_valuation none, (only some_valuation c).1 refl)
 
+-- a configuration for which a foreign rule is told is unknown
+pub first_is_unknown : (t : Theory) (c : Value) (id : Text) → IsFirstUnknown t c id → IsUnknown t c
+first_is_unknown t c id first =
+    between_any (IsUnknownAs t.signature c id first.0) (λ r. IsUnknownBy t.signature r.body c → first.0 < kept_priority r) (λ r. IsUnknownBy t.signature r.body c → first.0 ≤ kept_priority r)
+    (λ r. IsUnknownBy t.signature r.body c) (λ r h. h.unknown) t.rules first.1
+
 -- and the reason is right
 pub run_has_reason : (t : Theory) (s' : KorePattern) (c : Value) (bound : ℕ) (e : Executed) → IsRunOf t c bound e → IsOnlyInstance t s' (value_view e.state.value) → free_variables s' ≡ [] →
     IsRightReason t bound e.depth s' (reason_of e.stop)
@@ -111,4 +117,14 @@ run_has_reason t s' c bound e run only none = by_stop e.stop refl
     by_stop Stuck is =
         let k = run.stuck is in
         (k.0, has_instance t s' (value_view e.state.value) only none, λ v u sorts inst. subst (IsStuck t) (sym ((only v u).0 inst)) k.1)
+    by_stop (ForeignRule id) is =
+        let k = run.foreign id is in
+        let u = value_view e.state.value in
+        let number = k.1.0 in (
+          k.0,
+          between_any (IsUnknownAs t.signature u (string_bytes id) number) (λ r. IsUnknownBy t.signature r.body u → number < kept_priority r) (λ r. IsUnknownBy t.signature r.body u → number ≤ kept_priority r)
+              (λ r. (r.id ≡ string_bytes id) × MeetsSkeleton t.signature s' r)
+              (λ r h. (h.named, record { valuation = some_valuation; configuration = u; sorts = without_sorts t s' some_valuation none; met = (only some_valuation u).1 refl; unknown = h.unknown }))
+              t.rules k.1.1,
+        )
     by_stop DepthBound is = (run.at_bound is, λ _. has_instance t s' (value_view e.state.value) only none)

@@ -1,6 +1,6 @@
 -- From the code's rules to the rules of the theory.
-use Rattle.std.proofs.Common.{◌≡◌, refl, sym, subst, ◌∙◌, ℕ, ◌<◌, Bool, true, false, ◌↔◌, List, [], ◌∷◌, arith}
-use Rattle.std.specs.Prelude.{IsTrue}
+use Rattle.std.proofs.Common.{◌≡◌, refl, sym, ap, subst, ◌∙◌, ℕ, ◌<◌, ◌≤◌, true, ◌↔◌, List, [], ◌∷◌, Option, Some, None, Bor, arith}
+use Rattle.std.specs.Prelude.{string_bytes, MatchOption}
 use Rattle.std.specs.List.{AllByRecursion}
 use Rattle.kp_kore.specs.Syntax.{KorePattern}
 use Rattle.kp_kore.specs.Parts.{SortedName, free_variables}
@@ -12,7 +12,7 @@ use Rattle.kp_semantics.specs.Sorted.{IsSorted, IsRegular}
 use Rattle.kp_semantics.specs.Instance.{Valuation, instance, IsTrueUnder, GivesSorts, AgreesOn, AgreesOff}
 use Rattle.kp_semantics.specs.Rules as model
 use Rattle.kp_semantics.specs.Theory.{Theory}
-use Rattle.kp_semantics.specs.Steps.{Fires, FiresUnder, LeadsTo, Rewrites, Steps, StepsBy, NoneBefore, NoneFires, IsUnknown, IsUnknownBy, AnyByRecursion}
+use Rattle.kp_semantics.specs.Steps.{Fires, FiresUnder, LeadsTo, Rewrites, Steps, StepsBy, NoneBefore, NoneFires, IsUnknown, IsUnknownBy}
 use Rattle.kp_semantics.proofs.InstanceLemmas.{same_instance}
 use Rattle.kp_ground.specs.Solves.{Solves}
 use Rattle.kp_ground.specs.View.{value_view}
@@ -26,13 +26,14 @@ use Rattle.kp_rules.specs.declared.rule.RuleSet.{RuleSet}
 use Rattle.kp_rules.proofs.Fired.{fired_under}
 use Rattle.kp_states.specs.declared.state.State.{State}
 use Rattle.kp_run.specs.declared.step.Firing.{Firing}
-use Rattle.kp_run.specs.Runs.{IsAt, IsStuck, GoesOnlyTo}
-use Rattle.kp_run.specs.Turns.{BodyFires, MightRewrite, GoesAfter, IsFiring, OneAmong, IsAfterFiring}
-use Rattle.kp_run.proofs.Among.{all_along, one_all, one_any, of_the_one, of_some, zip_all, zip_any, zip_any_back, zip_one}
+use Rattle.kp_rules.specs.declared.skeleton.Skeleton.{Skeleton}
+use Rattle.kp_run.specs.Runs.{IsAt, IsStuck, IsUnknownAs, IsFirstUnknown, kept_priority, GoesOnlyTo}
+use Rattle.kp_run.specs.Turns.{BodyFires, MightRewrite, NoneMight, IsFirstForeign, GoesAfter, IsFiring, OneAmong, IsAfterFiring}
+use Rattle.kp_run.proofs.Among.{all_along, one_all, one_any, of_the_one, of_some, none_in, zip_all, zip_any_back, zip_one, zip_between}
 
 -- ---- one rule
 
-same_firing : (g : KoreSignature) (m : model.RuleBody) (b : RuleBody) (u : Value) → IsSorted g u → IsBodyOf g m b → BodyFires g u b ↔ Fires g m u
+pub same_firing : (g : KoreSignature) (m : model.RuleBody) (b : RuleBody) (u : Value) → IsSorted g u → IsBodyOf g m b → BodyFires g u b ↔ Fires g m u
 same_firing g (model.rewrite w) (Rewrite r) u s is = ((λ f. (f.0, (fired_under g w r is u s f.0).0 f.1)), (λ f. (f.0, (fired_under g w r is u s f.0).1 f.1)))
 same_firing g (model.foreign_rule l) (Foreign k) u s is = ((λ f. f), (λ f. f))
 same_firing g (model.rewrite w) (Foreign k) u s is = absurd is
@@ -45,18 +46,22 @@ same_unknown g (model.rewrite w) (Foreign k) u s is = absurd is
 same_unknown g (model.foreign_rule l) (Rewrite r) u s is = absurd is
 
 -- what is read is a rewrite of the theory
-record MeantBy (g : KoreSignature) (m : model.RuleBody) (r : code.Rewrite) : Type 0 where
-  meant : model.Rewrite
-  body : m ≡ model.rewrite meant
-  is : IsRewriteOf g meant r
+pub record MeantBy (g : KoreSignature) (m : model.RuleBody) (r : code.Rewrite) : Type 0 where
+  pub meant : model.Rewrite
+  pub body : m ≡ model.rewrite meant
+  pub is : IsRewriteOf g meant r
 
 meant_by : (g : KoreSignature) (m : model.RuleBody) (r : code.Rewrite) → IsBodyOf g m (Rewrite r) → MeantBy g m r
 meant_by g (model.rewrite w) r is = record { meant = w; body = refl; is = is }
 meant_by g (model.foreign_rule l) r is = absurd is
 
-only_rewrites_fire : (g : KoreSignature) (u : Value) (b : RuleBody) → BodyFires g u b → (r : code.Rewrite) × (b ≡ Rewrite r)
+pub only_rewrites_fire : (g : KoreSignature) (u : Value) (b : RuleBody) → BodyFires g u b → (r : code.Rewrite) × (b ≡ Rewrite r)
 only_rewrites_fire g u (Rewrite r) f = (r, refl)
 only_rewrites_fire g u (Foreign k) f = absurd f
+
+only_foreign_might : (g : KoreSignature) (u : Value) (b : RuleBody) → MightRewrite g u b → (k : Skeleton) × (b ≡ Foreign k)
+only_foreign_might g u (Rewrite r) f = absurd f
+only_foreign_might g u (Foreign k) f = (k, refl)
 
 -- what rewrites fires
 pub fires_first : (g : KoreSignature) (m : model.RuleBody) (u next : Value) → Rewrites g m u next → Fires g m u
@@ -65,13 +70,48 @@ fires_first g (model.foreign_rule l) u next f = absurd f
 
 -- ---- the rules of the theory
 
-unknown_here : (t : Theory) (rules : RuleSet) (u : Value) → RunsAs t rules → IsSorted t.signature u →
-    AnyByRecursion (λ r. MightRewrite t.signature u r.body) rules.rules.items ↔ IsUnknown t u
-unknown_here t rules u runs s =
+-- the first foreign rule of the code's is that of the theory
+first_there : (t : Theory) (rules : RuleSet) (u : Value) (f : Rule) → RunsAs t rules → IsSorted t.signature u →
+    IsFirstForeign t.signature u f rules.rules.items → IsFirstUnknown t u (string_bytes f.id)
+first_there t rules u f runs s first =
     let g = t.signature in (
-      zip_any (IsCodeOf g) (λ r. MightRewrite g u r.body) (λ m. IsUnknownBy g m.body u) (λ m r is k. (same_unknown g m.body r.body u s is.is_body).0 k) t.rules rules.rules.items runs.each,
-      zip_any_back (IsCodeOf g) (λ r. MightRewrite g u r.body) (λ m. IsUnknownBy g m.body u) (λ m r is k. (same_unknown g m.body r.body u s is.is_body).1 k) t.rules rules.rules.items runs.each,
+      f.priority,
+      zip_between (IsCodeOf g)
+          (λ r. (r ≡ f) × MightRewrite g u r.body) (λ r. MightRewrite g u r.body → f.priority < r.priority) (λ r. MightRewrite g u r.body → f.priority ≤ r.priority)
+          (IsUnknownAs g u (string_bytes f.id) f.priority) (λ m. IsUnknownBy g m.body u → f.priority < kept_priority m) (λ m. IsUnknownBy g m.body u → f.priority ≤ kept_priority m)
+          (λ m r is h. let k = only_foreign_might g u r.body h.1 in record {
+            named = sym is.id ∙ ap (λ x. string_bytes x.id) h.0;
+            numbered = is.is_foreign_priority k.0 k.1 ∙ ap (λ x. x.priority) h.0;
+            unknown = (same_unknown g m.body r.body u s is.is_body).0 h.1;
+          })
+          (λ m r is h k. let might : MightRewrite g u r.body = (same_unknown g m.body r.body u s is.is_body).1 k in
+          let e = only_foreign_might g u r.body might in
+          subst (λ n. f.priority < n) (sym (is.is_foreign_priority e.0 e.1)) (h might))
+          (λ m r is h k. let might : MightRewrite g u r.body = (same_unknown g m.body r.body u s is.is_body).1 k in
+          let e = only_foreign_might g u r.body might in
+          subst (λ n. f.priority ≤ n) (sym (is.is_foreign_priority e.0 e.1)) (h might))
+          t.rules rules.rules.items runs.each first,
     )
+
+first_here : (t : Theory) (rules : RuleSet) (u : Value) (f : Rule) → RunsAs t rules → IsSorted t.signature u →
+    IsFirstForeign (signature_view rules.signature) u f rules.rules.items → IsFirstUnknown t u (string_bytes f.id)
+first_here t rules u f runs s first = first_there t rules u f runs s (subst (λ g. IsFirstForeign g u f rules.rules.items) runs.signature first)
+
+-- where no foreign rule of the code's might rewrite the value, it isn't unknown
+known_here : (t : Theory) (rules : RuleSet) (u : Value) → RunsAs t rules → IsSorted t.signature u →
+    NoneMight (signature_view rules.signature) u rules.rules.items → ¬ IsUnknown t u
+known_here t rules u runs s none = λ unknown.
+    let g = t.signature in
+    none_in (λ r. ¬ MightRewrite g u r.body) (λ r. MightRewrite g u r.body) (λ r n h. n h) rules.rules.items
+    (subst (λ g. NoneMight g u rules.rules.items) runs.signature none)
+    (zip_any_back (IsCodeOf g) (λ r. MightRewrite g u r.body) (λ m. IsUnknownBy g m.body u) (λ m r is k. (same_unknown g m.body r.body u s is.is_body).1 k) t.rules rules.rules.items runs.each unknown)
+
+-- as the code finds it
+pub told_here : (t : Theory) (rules : RuleSet) (u : Value) (o : Option (Bor Rule)) → RunsAs t rules → IsSorted t.signature u →
+    (IsSorted (signature_view rules.signature) u → MatchOption o (NoneMight (signature_view rules.signature) u rules.rules.items) (λ f. IsFirstForeign (signature_view rules.signature) u f.now rules.rules.items)) →
+    MatchOption o (¬ IsUnknown t u) (λ f. IsFirstUnknown t u (string_bytes f.now.id))
+told_here t rules u None runs s told = known_here t rules u runs s (told (subst (λ g. IsSorted g u) (sym runs.signature) s))
+told_here t rules u (Some f) runs s told = first_here t rules u f.now runs s (told (subst (λ g. IsSorted g u) (sym runs.signature) s))
 
 none_fires_here : (t : Theory) (rules : RuleSet) (u : Value) → RunsAs t rules → IsSorted t.signature u →
     AllByRecursion (λ r. ¬ BodyFires t.signature u r.body) rules.rules.items → NoneFires t u
@@ -80,16 +120,16 @@ none_fires_here t rules u runs s none =
     zip_all (IsCodeOf g) (λ r. ¬ BodyFires g u r.body) (λ m. ¬ Fires g m.body u) (λ m r is no f. no ((same_firing g m.body r.body u s is.is_body).1 f)) t.rules rules.rules.items runs.each none
 
 -- the rule of the theory whose firing it is
-record FiresWith (g : KoreSignature) (u : Value) (f : Firing) (m : model.RewriteRule) : Type 0 where
-  priority : m.priority ≡ f.priority
-  meant : MeantBy g m.body f.rewrite.now
-  solved : (v : Valuation) → Solves v f.bindings.items ↔ FiresAs g f.rewrite.now u v
-  solvable : (v : Valuation) × Solves v f.bindings.items
+pub record FiresWith (g : KoreSignature) (u : Value) (f : Firing) (m : model.RewriteRule) : Type 0 where
+  pub priority : m.priority ≡ f.priority
+  pub meant : MeantBy g m.body f.rewrite.now
+  pub solved : (v : Valuation) → Solves v f.bindings.items ↔ FiresAs g f.rewrite.now u v
+  pub solvable : (v : Valuation) × Solves v f.bindings.items
 
-abbrev FiresAfter : KoreSignature → Value → ℕ → model.RewriteRule → Type 0
+abbrev pub FiresAfter : KoreSignature → Value → ℕ → model.RewriteRule → Type 0
 FiresAfter g u n m = Fires g m.body u → n < m.priority
 
-fires_with : (g : KoreSignature) (u : Value) (f : Firing) (m : model.RewriteRule) (r : Rule) → IsCodeOf g m r → IsFiring g u f r → FiresWith g u f m
+pub fires_with : (g : KoreSignature) (u : Value) (f : Firing) (m : model.RewriteRule) (r : Rule) → IsCodeOf g m r → IsFiring g u f r → FiresWith g u f m
 fires_with g u f m r is h = record {
   priority = is.is_priority f.rewrite.now h.body ∙ h.priority;
   meant = meant_by g m.body f.rewrite.now (subst (IsBodyOf g m.body) h.body is.is_body);
@@ -97,16 +137,16 @@ fires_with g u f m r is h = record {
   solvable = h.solvable;
 }
 
-fires_after : (g : KoreSignature) (u : Value) (n : ℕ) (m : model.RewriteRule) (r : Rule) → IsSorted g u → IsCodeOf g m r → GoesAfter g u n r → FiresAfter g u n m
+pub fires_after : (g : KoreSignature) (u : Value) (n : ℕ) (m : model.RewriteRule) (r : Rule) → IsSorted g u → IsCodeOf g m r → GoesAfter g u n r → FiresAfter g u n m
 fires_after g u n m r s is h = λ f.
     let b : BodyFires g u r.body = (same_firing g m.body r.body u s is.is_body).1 f in
     let e = only_rewrites_fire g u r.body b in
     subst (λ k. n < k) (sym (is.is_priority e.0 e.1)) (h b)
 
-abbrev IsOneOf : Theory → Value → Firing → Type 0
+abbrev pub IsOneOf : Theory → Value → Firing → Type 0
 IsOneOf t u f = OneAmong (FiresWith t.signature u f) (FiresAfter t.signature u f.priority) t.rules
 
-one_of : (t : Theory) (rules : RuleSet) (u : Value) (f : Firing) → RunsAs t rules → IsSorted t.signature u →
+pub one_of : (t : Theory) (rules : RuleSet) (u : Value) (f : Firing) → RunsAs t rules → IsSorted t.signature u →
     OneAmong (IsFiring t.signature u f) (GoesAfter t.signature u f.priority) rules.rules.items → IsOneOf t u f
 one_of t rules u f runs s one =
     let g = t.signature in
@@ -121,11 +161,11 @@ right_value : (g : KoreSignature) (u : Value) (f : Firing) (next : State) (w : m
 right_value g u f next w is s solved after v fires = after.value v ((solved v).1 ((fired_under g w f.rewrite.now is u s v).1 fires)) ∙ is.right v
 
 -- a valuation that fires
-record Fired (g : KoreSignature) (u : Value) (w : model.Rewrite) : Type 0 where
-  valuation : Valuation
-  fires : FiresUnder g w valuation u
+pub record Fired (g : KoreSignature) (u : Value) (w : model.Rewrite) : Type 0 where
+  pub valuation : Valuation
+  pub fires : FiresUnder g w valuation u
 
-fired : (g : KoreSignature) (u : Value) (f : Firing) (m : model.RewriteRule) → IsSorted g u → (h : FiresWith g u f m) → Fired g u h.meant.meant
+pub fired : (g : KoreSignature) (u : Value) (f : Firing) (m : model.RewriteRule) → IsSorted g u → (h : FiresWith g u f m) → Fired g u h.meant.meant
 fired g u f m s h = record {
   valuation = h.solvable.0;
   fires = (fired_under g h.meant.meant f.rewrite.now h.meant.is u s h.solvable.0).0 ((h.solved h.solvable.0).0 h.solvable.1);
@@ -152,7 +192,7 @@ leads_only_to g w v other plain to =
     let off : AgreesOff [] v to.chosen = subst (λ xs. AgreesOff xs v to.chosen) plain.new_variables to.agrees in
     to.result ∙ same_instance g v to.chosen w.right (agree_everywhere v to.chosen (free_variables w.right) (λ x. off x refl))
 
-rewrites_to : (g : KoreSignature) (u : Value) (f : Firing) (next : State) (m : model.RewriteRule) → IsSorted g u → IsAfterFiring g f next → FiresWith g u f m → Rewrites g m.body u (value_view next.value)
+pub rewrites_to : (g : KoreSignature) (u : Value) (f : Firing) (next : State) (m : model.RewriteRule) → IsSorted g u → IsAfterFiring g f next → FiresWith g u f m → Rewrites g m.body u (value_view next.value)
 rewrites_to g u f next m s after h =
     let w = h.meant.meant in
     let k = fired g u f m s h in
@@ -160,7 +200,7 @@ rewrites_to g u f next m s after h =
     subst (λ b. Rewrites g b u (value_view next.value)) (sym h.meant.body)
     (k.valuation, k.fires, leads_to g w k.valuation (value_view next.value) plain (right_value g u f next w h.meant.is s h.solved after k.valuation k.fires))
 
-rewrites_only_to : (g : KoreSignature) (u : Value) (f : Firing) (next : State) (m : model.RewriteRule) (other : Value) → IsSorted g u → IsAfterFiring g f next → FiresWith g u f m → Rewrites g m.body u other → other ≡ value_view next.value
+pub rewrites_only_to : (g : KoreSignature) (u : Value) (f : Firing) (next : State) (m : model.RewriteRule) (other : Value) → IsSorted g u → IsAfterFiring g f next → FiresWith g u f m → Rewrites g m.body u other → other ≡ value_view next.value
 rewrites_only_to g u f next m other s after h r =
     let w = h.meant.meant in
     let k : Rewrites g (model.rewrite w) u other = subst (λ b. Rewrites g b u other) h.meant.body r in
@@ -168,7 +208,7 @@ rewrites_only_to g u f next m other s after h r =
 
 -- ---- the one step
 
-none_before : (t : Theory) (u : Value) (f : Firing) → IsOneOf t u f → NoneBefore t f.priority u
+pub none_before : (t : Theory) (u : Value) (f : Firing) → IsOneOf t u f → NoneBefore t f.priority u
 none_before t u f one =
     let g = t.signature in
     one_all (FiresWith g u f) (FiresAfter g u f.priority) (λ m. m.priority < f.priority → ¬ Fires g m.body u)
@@ -182,7 +222,7 @@ some_step t u f next s known one after =
     (λ m h. record { known = known; none_before = subst (λ n. NoneBefore t n u) (sym h.priority) (none_before t u f one); rewrites = rewrites_to g u f next m s after h }) t.rules one
 
 -- a rule that goes after it has no step
-no_step_after : (t : Theory) (u : Value) (f : Firing) (m : model.RewriteRule) (other : Value) → IsSorted t.signature u → IsOneOf t u f → FiresAfter t.signature u f.priority m → ¬ StepsBy t m u other
+pub no_step_after : (t : Theory) (u : Value) (f : Firing) (m : model.RewriteRule) (other : Value) → IsSorted t.signature u → IsOneOf t u f → FiresAfter t.signature u f.priority m → ¬ StepsBy t m u other
 no_step_after t u f m other s one later step =
     let g = t.signature in
     let lt : f.priority < m.priority = later (fires_first g m.body u other step.rewrites) in
@@ -220,25 +260,15 @@ goes_there t rules u f next runs regular s known one after =
 
 -- ---- in the words of the code's signature
 
--- none is unknown, as the code found
-known_here : (t : Theory) (rules : RuleSet) (u : Value) (b : Bool) → RunsAs t rules → IsSorted t.signature u → b ≡ false →
-    (IsSorted (signature_view rules.signature) u → IsTrue b ↔ AnyByRecursion (λ r. MightRewrite (signature_view rules.signature) u r.body) rules.rules.items) → ¬ IsUnknown t u
-known_here t rules u b runs s isnt told =
-    let there : IsSorted t.signature u → IsTrue b ↔ AnyByRecursion (λ r. MightRewrite t.signature u r.body) rules.rules.items =
-    subst (λ g. IsSorted g u → IsTrue b ↔ AnyByRecursion (λ r. MightRewrite g u r.body) rules.rules.items) runs.signature told in
-    λ unknown. let yes : b ≡ true = (there s).1 ((unknown_here t rules u runs s).1 unknown) in absurd (cc)
-
-pub stuck_here : (t : Theory) (rules : RuleSet) (u : Value) (b : Bool) → RunsAs t rules → IsSorted t.signature u → b ≡ false →
-    (IsSorted (signature_view rules.signature) u → IsTrue b ↔ AnyByRecursion (λ r. MightRewrite (signature_view rules.signature) u r.body) rules.rules.items) →
+pub stuck_here : (t : Theory) (rules : RuleSet) (u : Value) → RunsAs t rules → IsSorted t.signature u → ¬ IsUnknown t u →
     AllByRecursion (λ r. ¬ BodyFires (signature_view rules.signature) u r.body) rules.rules.items → IsStuck t u
-stuck_here t rules u b runs s isnt told none =
-    (none_fires_here t rules u runs s (subst (λ g. AllByRecursion (λ r. ¬ BodyFires g u r.body) rules.rules.items) runs.signature none), known_here t rules u b runs s isnt told)
+stuck_here t rules u runs s known none =
+    (none_fires_here t rules u runs s (subst (λ g. AllByRecursion (λ r. ¬ BodyFires g u r.body) rules.rules.items) runs.signature none), known)
 
-pub goes_here : (t : Theory) (rules : RuleSet) (u : Value) (b : Bool) (f : Firing) (next : State) → RunsAs t rules → rules.is_regular ≡ true → IsSorted t.signature u → b ≡ false →
-    (IsSorted (signature_view rules.signature) u → IsTrue b ↔ AnyByRecursion (λ r. MightRewrite (signature_view rules.signature) u r.body) rules.rules.items) →
+pub goes_here : (t : Theory) (rules : RuleSet) (u : Value) (f : Firing) (next : State) → RunsAs t rules → rules.is_regular ≡ true → IsSorted t.signature u → ¬ IsUnknown t u →
     OneAmong (IsFiring (signature_view rules.signature) u f) (GoesAfter (signature_view rules.signature) u f.priority) rules.rules.items → IsAfterFiring (signature_view rules.signature) f next →
     GoesOnlyTo t u (value_view next.value) × IsAt t next
-goes_here t rules u b f next runs regular s isnt told one after =
-    goes_there t rules u f next runs regular s (known_here t rules u b runs s isnt told)
+goes_here t rules u f next runs regular s known one after =
+    goes_there t rules u f next runs regular s known
     (subst (λ g. OneAmong (IsFiring g u f) (GoesAfter g u f.priority) rules.rules.items) runs.signature one)
     (subst (λ g. IsAfterFiring g f next) runs.signature after)

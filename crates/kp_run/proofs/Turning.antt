@@ -1,8 +1,8 @@
 -- One more rule that fires, or doesn't.
-use Rattle.std.proofs.Common.{◌≡◌, sym, subst, ℕ, ◌<◌, ◌≤◌, List, [], ◌∷◌, ◌++◌, take, drop, length, get_or, ◌+◌, ◌∙◌, ap, Bool, true, false, ◌↔◌, inl, inr, arith}
-use Rattle.std.specs.Prelude.{IsTrue}
+use Rattle.std.proofs.Common.{◌≡◌, refl, sym, subst, ℕ, zero, suc, ◌<◌, ◌≤◌, List, [], ◌∷◌, ◌++◌, take, length, get_or, ◌+◌, ◌∙◌, ap, Bool, true, false, ◌↔◌, Option, Some, None, Bor, inl, inr, arith}
+use Rattle.std.specs.Prelude.{◌⊎◌, IsTrue, MatchOption}
 use Rattle.std.specs.List.{AllByRecursion}
-use Rattle.std.proofs.lemmas.List.{take_more, drop_more}
+use Rattle.std.proofs.lemmas.List.{take_more}
 use Rattle.kp_kore.specs.Signature.{KoreSignature}
 use Rattle.kp_semantics.specs.Value.{Value}
 use Rattle.kp_semantics.specs.Steps.{AnyByRecursion}
@@ -10,8 +10,9 @@ use Rattle.kp_rules.specs.declared.rule.Rule.{Rule}
 use Rattle.kp_run.specs.declared.step.Firing.{Firing}
 use Rattle.kp_run.specs.declared.step.Turn.{Turn}
 use Rattle.kp_run.specs.declared.step.Turn.TheVariants.{Nobody, One, Several}
-use Rattle.kp_run.specs.Turns.{BodyFires, MightRewrite, GoesAfter, IsFiring, OneAmong, IsTurn}
-use Rattle.kp_run.proofs.Among.{all_along, all_and_last, one_all, one_and_last, last_is_the_one}
+use Rattle.kp_run.specs.Causes.{TwoAmong}
+use Rattle.kp_run.specs.Turns.{BodyFires, BodyIsWide, MightRewrite, NoneMight, IsFirstForeign, GoesAfter, FiresAt, IsFiring, OneAmong, IsTurn}
+use Rattle.kp_run.proofs.Among.{all_along, all_and_last, one_all, one_any, one_and_last, last_is_the_one, two_and_last, two_and_more, between_all, between_and_last, last_between}
 
 -- no rule so far has a smaller number
 abbrev pub NoneSmaller : KoreSignature → Value → ℕ → List Rule → Type 0
@@ -54,11 +55,24 @@ first_fires g u f rules r none h =
     (all_along (λ q. ¬ BodyFires g u q.body) (GoesAfter g u f.priority) (λ q k b. absurd (k b)) rules none)
     h
 
+-- a firing's rule fires, at its number
+fires_at : (g : KoreSignature) (u : Value) (f : Firing) (r : Rule) (n : ℕ) → IsFiring g u f r → f.priority ≡ n → FiresAt g u n r
+fires_at g u f r n h e = (subst (BodyFires g u) (sym h.body) (h.solvable.0, (h.solved h.solvable.0).0 h.solvable.1), h.priority ∙ e)
+
+pub are_two : (g : KoreSignature) (u : Value) (f n : Firing) (rules : List Rule) (r : Rule) → IsOne g u f rules → IsFiring g u n r → n.priority ≡ f.priority → TwoAmong (FiresAt g u f.priority) (rules ++ r ∷ [])
+are_two g u f n rules r one h e =
+    two_and_last (FiresAt g u f.priority) rules r
+    (one_any (IsFiring g u f) (GoesAfter g u f.priority) (FiresAt g u f.priority) (λ q k. fires_at g u f q f.priority k refl) rules one)
+    (fires_at g u n r f.priority h e)
+
+pub still_two : (g : KoreSignature) (u : Value) (n : ℕ) (rules : List Rule) (r : Rule) → TwoAmong (FiresAt g u n) rules → TwoAmong (FiresAt g u n) (rules ++ r ∷ [])
+still_two g u n rules r two = two_and_more (FiresAt g u n) rules (r ∷ []) two
+
 -- a rule that doesn't fire leaves the turn as it was
 pub turn_stays : (g : KoreSignature) (u : Value) (turn : Turn) (rules : List Rule) (r : Rule) → IsTurn g u rules turn → ¬ BodyFires g u r.body → IsTurn g u (rules ++ r ∷ []) turn
 turn_stays g u Nobody rules r is isnt = all_and_last (λ q. ¬ BodyFires g u q.body) rules r is isnt
 turn_stays g u (One f) rules r is isnt = one_and_last (IsFiring g u f) (GoesAfter g u f.priority) rules r is (λ b. absurd (isnt b))
-turn_stays g u (Several n) rules r is isnt = all_and_last (λ q. BodyFires g u q.body → n ≤ q.priority) rules r is (λ b. absurd (isnt b))
+turn_stays g u (Several n) rules r is isnt = (all_and_last (λ q. BodyFires g u q.body → n ≤ q.priority) rules r is.0 (λ b. absurd (isnt b)), still_two g u n rules r is.1)
 
 -- ---- one item further in the loops
 
@@ -71,24 +85,78 @@ pub turn_on_more : (g : KoreSignature) (u : Value) (rules items : List Rule) (i 
 turn_on_more g u rules items i r turn e lt is h =
     turn_on_next g u rules i r turn (subst (λ rs. i < length rs) e lt) (subst (λ rs. r ≡ get_or rs i r) e is) h
 
-abbrev SomeMight : KoreSignature → Value → List Rule → Type 0
-SomeMight g u rules = AnyByRecursion (λ r. MightRewrite g u r.body) rules
+-- ---- foreign rules
 
-not_the_first : (g : KoreSignature) (u : Value) (r : Rule) (rules : List Rule) → ¬ MightRewrite g u r.body → SomeMight g u (r ∷ rules) → SomeMight g u rules
-not_the_first g u r rules isnt (inl m) = absurd (isnt m)
-not_the_first g u r rules isnt (inr m) = m
+-- one more rule that might rewrite the value
+pub told_next : (g : KoreSignature) (u : Value) (first r : Rule) (rules : List Rule) → IsFirstForeign g u first rules → MightRewrite g u r.body → r.priority < first.priority → IsFirstForeign g u r (rules ++ r ∷ [])
+told_next g u first r rules is might lt =
+    last_between (λ q. (q ≡ r) × MightRewrite g u q.body) (λ q. MightRewrite g u q.body → r.priority < q.priority) (λ q. MightRewrite g u q.body → r.priority ≤ q.priority) rules r
+    (between_all (λ q. (q ≡ first) × MightRewrite g u q.body) (λ q. MightRewrite g u q.body → first.priority < q.priority) (λ q. MightRewrite g u q.body → first.priority ≤ q.priority)
+    (λ q. MightRewrite g u q.body → r.priority < q.priority)
+    (λ q h _. subst (λ x. r.priority < x.priority) (sym h.0) lt)
+    (λ q h m. let later : first.priority < q.priority = h m in omega arith)
+    (λ q h m. let later : first.priority ≤ q.priority = h m in omega arith) rules is)
+    (refl, might)
 
-might_next : (g : KoreSignature) (u : Value) (rules : List Rule) (i : ℕ) (r : Rule) → i < length rules → r ≡ get_or rules i r → ¬ MightRewrite g u r.body →
-    SomeMight g u rules ↔ SomeMight g u (drop i rules) → SomeMight g u rules ↔ SomeMight g u (drop (i + 1) rules)
-might_next g u rules i r lt is isnt h =
-    let e : drop i rules ≡ r ∷ drop (i + 1) rules = drop_more rules i r lt ∙ ap (λ q. q ∷ drop (i + 1) rules) (sym is) in (
-      (λ m. not_the_first g u r (drop (i + 1) rules) isnt (subst (SomeMight g u) e (h.0 m))),
-      (λ m. h.1 (subst (SomeMight g u) (sym e) (inr m))),
-    )
+pub told_stays : (g : KoreSignature) (u : Value) (first r : Rule) (rules : List Rule) → IsFirstForeign g u first rules → first.priority ≤ r.priority → IsFirstForeign g u first (rules ++ r ∷ [])
+told_stays g u first r rules is le =
+    between_and_last (λ q. (q ≡ first) × MightRewrite g u q.body) (λ q. MightRewrite g u q.body → first.priority < q.priority) (λ q. MightRewrite g u q.body → first.priority ≤ q.priority) rules r is (λ _. le)
 
-pub might_more : (g : KoreSignature) (u : Value) (rules items : List Rule) (i : ℕ) (r : Rule) (b : Bool) → items ≡ rules → i < length items → r ≡ get_or items i r →
-    b ≡ false → IsTrue b ↔ MightRewrite g u r.body →
-    SomeMight g u rules ↔ SomeMight g u (drop i rules) → SomeMight g u rules ↔ SomeMight g u (drop (i + 1) rules)
-might_more g u rules items i r b e lt is isnt told h =
-    might_next g u rules i r (subst (λ rs. i < length rs) e lt) (subst (λ rs. r ≡ get_or rs i r) e is)
-    (λ m. let yes : b ≡ true = told.1 m in absurd (cc)) h
+pub told_alone : (g : KoreSignature) (u : Value) (r : Rule) (rules : List Rule) → NoneMight g u rules → MightRewrite g u r.body → IsFirstForeign g u r (rules ++ r ∷ [])
+told_alone g u r rules none might =
+    last_between (λ q. (q ≡ r) × MightRewrite g u q.body) (λ q. MightRewrite g u q.body → r.priority < q.priority) (λ q. MightRewrite g u q.body → r.priority ≤ q.priority) rules r
+    (all_along (λ q. ¬ MightRewrite g u q.body) (λ q. MightRewrite g u q.body → r.priority < q.priority) (λ q isnt m. absurd (isnt m)) rules none)
+    (refl, might)
+
+-- the first so far
+abbrev pub IsTold : KoreSignature → Value → List Rule → Option (Bor Rule) → Type 0
+IsTold g u rules first = MatchOption first (NoneMight g u rules) (λ f. IsFirstForeign g u f.now rules)
+
+-- one more that might not
+pub told_past : (g : KoreSignature) (u : Value) (first : Option (Bor Rule)) (r : Rule) (rules : List Rule) → IsTold g u rules first → ¬ MightRewrite g u r.body → IsTold g u (rules ++ r ∷ []) first
+told_past g u None r rules none isnt = all_and_last (λ q. ¬ MightRewrite g u q.body) rules r none isnt
+told_past g u (Some f) r rules is isnt =
+    between_and_last (λ q. (q ≡ f.now) × MightRewrite g u q.body) (λ q. MightRewrite g u q.body → f.now.priority < q.priority) (λ q. MightRewrite g u q.body → f.now.priority ≤ q.priority) rules r is (λ m. absurd (isnt m))
+
+pub told_more : (g : KoreSignature) (u : Value) (rules items : List Rule) (i : ℕ) (r : Rule) (first : Option (Bor Rule)) → items ≡ rules → i < length items → r ≡ get_or items i r →
+    IsTold g u (take i rules ++ r ∷ []) first → IsTold g u (take (i + 1) rules) first
+told_more g u rules items i r first e lt is h =
+    let inside : i < length rules = subst (λ rs. i < length rs) e lt in
+    let it : r ≡ get_or rules i r = subst (λ rs. r ≡ get_or rs i r) e is in
+    subst (λ rs. IsTold g u rs first) (sym (take_more rules i r inside ∙ ap (λ q. take i rules ++ q ∷ []) (sym it))) h
+
+-- a rule of the list whose condition is wide
+wide_among : (g : KoreSignature) (u : Value) (rules : List Rule) (i : ℕ) (r : Rule) → i < length rules → r ≡ get_or rules i r → BodyIsWide g u r.body → AnyByRecursion (λ q. BodyIsWide g u q.body) rules
+wide_among g u [] i r lt is h = absurd (omega arith)
+wide_among g u (q ∷ rules) zero r lt is h = inl (subst (λ k. BodyIsWide g u k.body) is h)
+wide_among g u (q ∷ rules) (suc i) r lt is h = inr (wide_among g u rules i r (omega arith) is h)
+
+pub wide_here_among : (g : KoreSignature) (u : Value) (rules items : List Rule) (i : ℕ) (r : Rule) → items ≡ rules → i < length items → r ≡ get_or items i r →
+    BodyIsWide g u r.body → AnyByRecursion (λ q. BodyIsWide g u q.body) rules
+wide_here_among g u rules items i r e lt is h =
+    wide_among g u rules i r (subst (λ rs. i < length rs) e lt) (subst (λ rs. r ≡ get_or rs i r) e is) h
+
+-- a number that isn't at most n, as the code found
+pub at_most_or_beyond : (d n : ℕ) → (d ≤ n) ⊎ (n < d)
+at_most_or_beyond zero n = inl (omega arith)
+at_most_or_beyond (suc d) zero = inr (omega arith)
+at_most_or_beyond (suc d) (suc n) = one_up (at_most_or_beyond d n)
+  where
+    one_up : (d ≤ n) ⊎ (n < d) → (suc d ≤ suc n) ⊎ (suc n < suc d)
+    one_up (inl le) = inl (omega arith)
+    one_up (inr lt) = inr (omega arith)
+
+pub is_beyond : (d n : ℕ) (b : Bool) → b ≡ false → IsTrue b ↔ (d ≤ n) → n < d
+is_beyond d n b isnt told = by_order (at_most_or_beyond d n)
+  where
+    by_order : (d ≤ n) ⊎ (n < d) → n < d
+    by_order (inl le) = let yes : b ≡ true = told.1 le in absurd (cc)
+    by_order (inr lt) = lt
+
+pub narrow_more : (g : KoreSignature) (u : Value) (rules items : List Rule) (i : ℕ) (r : Rule) → items ≡ rules → i < length items → r ≡ get_or items i r →
+    AllByRecursion (λ q. ¬ BodyIsWide g u q.body) (take i rules) → ¬ BodyIsWide g u r.body → AllByRecursion (λ q. ¬ BodyIsWide g u q.body) (take (i + 1) rules)
+narrow_more g u rules items i r e lt is h isnt =
+    let inside : i < length rules = subst (λ rs. i < length rs) e lt in
+    let it : r ≡ get_or rules i r = subst (λ rs. r ≡ get_or rs i r) e is in
+    subst (λ rs. AllByRecursion (λ q. ¬ BodyIsWide g u q.body) rs) (sym (take_more rules i r inside ∙ ap (λ q. take i rules ++ q ∷ []) (sym it)))
+    (all_and_last (λ q. ¬ BodyIsWide g u q.body) (take i rules) r h isnt)

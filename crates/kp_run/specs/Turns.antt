@@ -1,20 +1,26 @@
 -- What the rules of a rule set that fire on a value come to.
-use Rattle.std.specs.Prelude.{◌≡◌, ◌↔◌, ◌⊎◌, ◌<◌, ◌≤◌, ℕ, false, List, [], ◌∷◌}
+use Rattle.std.specs.Prelude.{◌≡◌, ◌↔◌, ◌⊎◌, ◌<◌, ◌≤◌, ℕ, true, false, List, [], ◌∷◌}
 use Rattle.std.specs.List.{AllByRecursion}
+use Rattle.kp_kore.specs.Syntax.{KoreSort}
+use Rattle.kp_kore.specs.Parts.{term_depth}
 use Rattle.kp_kore.specs.Signature.{KoreSignature}
 use Rattle.kp_kore.specs.View.{sort_view}
 use Rattle.kp_semantics.specs.Value.{Value, HasSort}
 use Rattle.kp_semantics.specs.Instance.{Valuation}
+use Rattle.kp_semantics.specs.Foreign.{most_depth}
 use Rattle.kp_ground.specs.Solves.{Solves}
-use Rattle.kp_ground.specs.Terms.{term_value}
+use Rattle.kp_ground.specs.Terms.{term_value, stays_narrow}
 use Rattle.kp_ground.specs.TermView.{term_view}
 use Rattle.kp_ground.specs.View.{value_view}
-use Rattle.kp_rules.specs.Heads.{FiresAs}
+use Rattle.kp_rules.specs.Heads.{FiresAs, IsWide}
 use Rattle.kp_rules.specs.Skeletons.{IsAdmitted}
 use Rattle.kp_rules.specs.declared.rule.Rule.{Rule}
 use Rattle.kp_rules.specs.declared.rule.RuleBody.{RuleBody}
 use Rattle.kp_rules.specs.declared.rule.RuleBody.TheVariants.{Rewrite, Foreign}
+use Rattle.kp_states.specs.Spelled.{spelling}
 use Rattle.kp_states.specs.declared.state.State.{State}
+use Rattle.kp_run.specs.Causes.{TwoAmong, IsWrittenAt}
+use Rattle.kp_run.specs.Runs.{OneBetween}
 use Rattle.kp_run.specs.declared.step.Firing.{Firing}
 use Rattle.kp_run.specs.declared.step.Turn.{Turn}
 use Rattle.kp_run.specs.declared.step.Turn.TheVariants.{Nobody, One, Several}
@@ -28,6 +34,17 @@ BodyFires g u (Foreign k) = ⊥
 abbrev pub MightRewrite : KoreSignature → Value → RuleBody → Type 0
 MightRewrite g u (Rewrite r) = ⊥
 MightRewrite g u (Foreign k) = IsAdmitted g k u
+
+-- no rule of the list might
+abbrev pub NoneMight : KoreSignature → Value → List Rule → Type 0
+NoneMight g u rules = AllByRecursion (λ r. ¬ MightRewrite g u r.body) rules
+
+-- of the foreign rules that might, this is the first of least priority number
+abbrev pub IsFirstForeign : KoreSignature → Value → Rule → List Rule → Type 0
+IsFirstForeign g u first rules = OneBetween
+    (λ r. (r ≡ first) × MightRewrite g u r.body)
+    (λ r. MightRewrite g u r.body → first.priority < r.priority)
+    (λ r. MightRewrite g u r.body → first.priority ≤ r.priority) rules
 
 -- the rule doesn't fire, or its priority number is greater
 abbrev pub GoesAfter : KoreSignature → Value → ℕ → Rule → Type 0
@@ -45,11 +62,16 @@ abbrev pub OneAmong : {X : Type 0} → (X → Type 0) → (X → Type 0) → Lis
 OneAmong P Q [] = ⊥
 OneAmong P Q (x ∷ xs) = (P x × AllByRecursion Q xs) ⊎ (Q x × OneAmong P Q xs)
 
--- the rules come to this turn: none fires; one fires and all others go after it; or none has a smaller number
+-- the rule fires, and this is its priority number
+abbrev pub FiresAt : KoreSignature → Value → ℕ → Rule → Type 0
+FiresAt g u n r = BodyFires g u r.body × (r.priority ≡ n)
+
+-- the rules come to this turn: none fires; one fires and all others go after it; or two fire and none has a smaller
+-- number
 abbrev pub IsTurn : KoreSignature → Value → List Rule → Turn → Type 0
 IsTurn g u rules Nobody = AllByRecursion (λ r. ¬ BodyFires g u r.body) rules
 IsTurn g u rules (One f) = OneAmong (IsFiring g u f) (GoesAfter g u f.priority) rules
-IsTurn g u rules (Several n) = AllByRecursion (λ r. BodyFires g u r.body → n ≤ r.priority) rules
+IsTurn g u rules (Several n) = AllByRecursion (λ r. BodyFires g u r.body → n ≤ r.priority) rules × TwoAmong (FiresAt g u n) rules
 
 -- the state after a firing: its value is the right term's under the bindings, and it has the sort that it is written
 -- at where it has the right term's
@@ -57,3 +79,28 @@ pub record IsAfterFiring (g : KoreSignature) (f : Firing) (next : State) : Type 
   pub chooses : f.rewrite.now.chooses ≡ false
   pub value : (v : Valuation) → Solves v f.bindings.items → value_view next.value ≡ term_value v (term_view f.rewrite.now.right)
   pub sort : HasSort g (sort_view f.rewrite.now.right_sort) (value_view next.value) → HasSort g (sort_view next.sort) (value_view next.value)
+
+-- ---- what isn't answered
+
+-- the rule's left side meets the value, and its condition computes a number beyond 128 bits
+abbrev pub BodyIsWide : KoreSignature → Value → RuleBody → Type 0
+BodyIsWide g u (Rewrite r) = IsWide g r u
+BodyIsWide g u (Foreign k) = ⊥
+
+-- the state after the firing has a written term deeper than a state may be
+pub record IsDeep (g : KoreSignature) (f : Firing) (state : KoreSort) : Type 0 where
+  pub next : State
+  pub after : IsAfterFiring g f next
+  pub written : IsWrittenAt g (sort_view f.rewrite.now.right_sort) state (sort_view next.sort)
+  pub deep : most_depth < term_depth (spelling g (sort_view next.sort) (value_view next.value))
+
+-- why no state follows a firing: it chooses, its right side computes a number beyond 128 bits, or it is deep
+pub data NotFollowed (g : KoreSignature) (f : Firing) (state : KoreSort) : Type 0 where
+  chooses : f.rewrite.now.chooses ≡ true → NotFollowed g f state
+  wide : ((v : Valuation) → Solves v f.bindings.items → stays_narrow v (term_view f.rewrite.now.right) ≡ false) → NotFollowed g f state
+  deep : IsDeep g f state → NotFollowed g f state
+
+-- and of a state that does follow: no number in the right side is beyond 128 bits, and it isn't too deep
+pub record IsFollowed (g : KoreSignature) (f : Firing) (next : State) : Type 0 where
+  pub narrow : (v : Valuation) → Solves v f.bindings.items → stays_narrow v (term_view f.rewrite.now.right) ≡ true
+  pub within : term_depth (spelling g (sort_view next.sort) (value_view next.value)) ≤ most_depth

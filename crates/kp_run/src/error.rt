@@ -5,9 +5,11 @@ use std::alloc::{AllocError, AllocFailed};
 #[derive(Clone, Copy, Debug, PartialEq, Eq)]
 pub enum RunError {
     Memory,
-    /// T2: a foreign rule's skeleton, two rules with their turn, a rule that chooses, a number of more than 128 bits,
-    /// or a term deeper than 48.
+    /// T2: two rules with their turn, a rule that chooses, a number of more than 128 bits, a term deeper than 48, or a
+    /// signature over which nothing is run. specs/Causes.antt says each.
     NotAnswered,
+    /// A rule has a variable that its left term hasn't: no rule that is read has one.
+    Unbound,
 }
 
 impl From<AllocError> for RunError {
@@ -22,10 +24,17 @@ impl From<AllocError> for RunError {
 }
 
 impl From<EvaluationError> for RunError {
+    ghost use Rattle.std.specs.Prelude.{◌≡◌};
+    ghost use Rattle.kp_ground.specs.declared.evaluate.EvaluationError.TheVariants as evaluating;
+    ghost use Rattle.kp_run.specs.declared.error.RunError.TheVariants as running;
+
+    ghost from_gives = { λ x e. e ≡ running.NotAnswered → x ≡ evaluating.Number };
+
     fn from(error: EvaluationError) -> Self {
         match error {
             EvaluationError::Memory => RunError::Memory,
-            EvaluationError::Number | EvaluationError::Unbound => RunError::NotAnswered,
+            EvaluationError::Number => RunError::NotAnswered,
+            EvaluationError::Unbound => RunError::Unbound,
         }
     }
 }

@@ -1,23 +1,27 @@
-ghost use Rattle.std.specs.Prelude.{◌≡◌, ◌<◌, ◌≤◌, IfOk};
+ghost use Rattle.std.specs.Prelude.{◌≡◌, ◌<◌, ◌≤◌, IfOk, IfErr, String};
 ghost use Rattle.kp_semantics.specs.Theory.{Theory};
 ghost use Rattle.kp_ground.specs.View.{value_view};
 ghost use Rattle.kp_rules.specs.Bodies.{RunsAs};
-ghost use Rattle.kp_run.specs.Runs.{IsAt, IsRunOf};
-ghost use Rattle.kp_run.specs.declared.run.Stop.TheVariants.{Stuck, DepthBound};
+ghost use Rattle.kp_run.specs.Causes.{IsNotAnswered};
+ghost use Rattle.kp_run.specs.Runs.{IsAt, IsRunOf, written_of};
+ghost use Rattle.kp_run.specs.declared.error.RunError.TheVariants.{NotAnswered};
+ghost use Rattle.kp_run.specs.declared.run.Stop.TheVariants.{Stuck, DepthBound, ForeignRule};
 
 use crate::error::RunError;
-use crate::step::next_state;
+use crate::step::{Next, next_state};
 use kp_rules::RuleSet;
 use kp_states::State;
 use std::alloc::Global;
 
 /// Why a run ends.
-#[derive(Clone, Copy, Debug, PartialEq, Eq)]
+#[derive(Drop)]
 pub enum Stop {
-    /// No rule fires.
+    /// No rule fires, and no foreign rule might.
     Stuck,
     /// So many steps were taken as may be.
     DepthBound,
+    /// A foreign rule might rewrite the last state: the rule's id.
+    ForeignRule { id: String },
 }
 
 /// The end of a run: the number of steps, why it ends, and the last state.
@@ -37,8 +41,11 @@ pub fn execute(
 ) -> Result<Executed, RunError>
     ensures within { IfOk result (λ e. e.depth ≤ bound) }
     ensures stuck { IfOk result (λ e. e.stop ≡ Stuck → e.depth < bound) }
-    ensures is_run { (t : Theory) → RunsAs t rules.now → IsAt t state → IfOk result (λ e. IsRunOf t (value_view state.value) bound e) }
+    ensures foreign { IfOk result (λ e. (id : String Global) → e.stop ≡ ForeignRule id → e.depth < bound) }
     ensures at_bound { IfOk result (λ e. e.stop ≡ DepthBound → e.depth ≡ bound) }
+    ensures is_run { (t : Theory) → RunsAs t rules.now → IsAt t state → IfOk result (λ e. IsRunOf t (value_view state.value) bound e) }
+    ensures answered { (t : Theory) → RunsAs t rules.now → IsAt t state → IfOk result (λ _. ¬ IsNotAnswered t (written_of state) bound) }
+    ensures not_answered { (t : Theory) → RunsAs t rules.now → IsAt t state → IfErr result (λ e. e ≡ NotAnswered → IsNotAnswered t (written_of state) bound) }
 {
     if !rules.is_regular {
         return Err(RunError::NotAnswered);
@@ -46,11 +53,18 @@ pub fn execute(
     let mut state = state;
     for depth in 0..bound {
         match next_state(alloc, rules, &state)? {
-            Some(next) => state = next,
-            None => {
+            Next::Stepped { state: next } => state = next,
+            Next::Stuck => {
                 return Ok(Executed {
                     depth,
                     stop: Stop::Stuck,
+                    state,
+                });
+            }
+            Next::ForeignRule { id } => {
+                return Ok(Executed {
+                    depth,
+                    stop: Stop::ForeignRule { id },
                     state,
                 });
             }

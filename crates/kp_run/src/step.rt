@@ -1,5 +1,7 @@
-ghost use Rattle.std.specs.Prelude.{◌≡◌, ◌↔◌, ◌++◌, ◌≤◌, List, [], ◌∷◌, IfOk, IsTrue, MatchOption, true, false};
+ghost use Rattle.std.specs.Prelude.{◌≡◌, ◌↔◌, ◌++◌, ◌≤◌, List, [], ◌∷◌, IfOk, IfErr, IsTrue, MatchOption, true, false};
 ghost use Rattle.std.specs.List.{AllByRecursion};
+ghost use Rattle.kp_kore.specs.Parts.{term_depth};
+ghost use Rattle.kp_kore.specs.Syntax.{KoreSort};
 ghost use Rattle.kp_kore.specs.Signature.{KoreSignature};
 ghost use Rattle.kp_kore.specs.View.{sort_view};
 ghost use Rattle.kp_signature.specs.View.{signature_view};
@@ -7,22 +9,35 @@ ghost use Rattle.kp_semantics.specs.Value as model;
 ghost use Rattle.kp_semantics.specs.Value.{HasSort};
 ghost use Rattle.kp_semantics.specs.Sorted.{IsSorted};
 ghost use Rattle.kp_semantics.specs.Theory.{Theory};
-ghost use Rattle.kp_semantics.specs.Steps.{AnyByRecursion};
+ghost use Rattle.kp_semantics.specs.Steps.{AnyByRecursion, IsUnknown};
 ghost use Rattle.kp_ground.specs.View.{value_view};
 ghost use Rattle.kp_rules.specs.Bodies.{RunsAs};
-ghost use Rattle.kp_run.specs.Runs.{IsStuck, IsAt, GoesOnlyTo};
-ghost use Rattle.kp_run.specs.Turns.{BodyFires, MightRewrite, GoesAfter, IsFiring, OneAmong, IsTurn, IsAfterFiring};
+ghost use Rattle.kp_run.specs.Causes.{TwoAmong, IsWrittenAt, IsNotStepped, IsNotAnswered};
+ghost use Rattle.kp_run.specs.Runs.{IsNext, IsWrittenNext, written_of};
+ghost use Rattle.kp_run.specs.Turns.{BodyFires, BodyIsWide, MightRewrite, NoneMight, IsFirstForeign, GoesAfter, FiresAt, IsFiring, OneAmong, IsTurn, IsAfterFiring, IsFollowed, NotFollowed};
+ghost use Rattle.kp_run.specs.declared.error.RunError.TheVariants.{NotAnswered};
 
 use crate::error::RunError;
 use kp_ground::{Binding, Value};
 use kp_kore::Sort;
 use kp_rules::{Rewrite, Rule, RuleBody, RuleSet};
 use kp_signature::Signature;
-use kp_states::{State, spelled_depth};
+use kp_states::{State, is_within_written};
 use std::alloc::{AllocError, Global};
 
 /// The deepest term that a state may have.
 const MOST_DEPTH: usize = 48;
+
+/// What comes after a state.
+#[derive(Drop)]
+pub enum Next {
+    /// Nothing: no rule fires, and no foreign rule might.
+    Stuck,
+    /// A foreign rule might rewrite it: the rule's id.
+    ForeignRule { id: String },
+    /// The only state that follows.
+    Stepped { state: State },
+}
 
 /// A rule that fires, with its priority and what its left term's variables are bound to.
 #[derive(Drop)]
@@ -55,16 +70,46 @@ fn might_rewrite(
     }
 }
 
-/// Whether some foreign rule might rewrite the value.
-fn is_unknown(alloc: Global, rules: &RuleSet, value: &Value) -> Result<bool, AllocError>
-    ensures { IsSorted (signature_view rules.now.signature) (value_view value.now) → IfOk result (λ b. IsTrue b ↔ AnyByRecursion (λ r. MightRewrite (signature_view rules.now.signature) (value_view value.now) r.body) rules.now.rules.items) }
+/// Of a foreign rule and those before it, the one that is told: of the smallest priority number the first.
+fn told_of<'a>(first: Option<&'a Rule>, rule: &'a Rule) -> &'a Rule
+    ensures { (g : KoreSignature) (u : model.Value) (rules : List Rule) → MatchOption first.entry (NoneMight g u rules) (λ f. IsFirstForeign g u f.now rules) → MightRewrite g u rule.now.body → IsFirstForeign g u result.now (rules ++ rule.now ∷ []) }
 {
-    for rule in &rules.rules {
-        if might_rewrite(alloc, &rules.signature, &rule.body, value)? {
-            return Ok(true);
+    match first {
+        Some(first) => {
+            if rule.priority < first.priority {
+                rule
+            } else {
+                first
+            }
         }
+        None => rule,
     }
-    Ok(false)
+}
+
+/// The foreign rule that is told, when one more rule is asked.
+fn told_after<'a>(first: Option<&'a Rule>, rule: &'a Rule, might: bool) -> Option<&'a Rule>
+    ensures { (g : KoreSignature) (u : model.Value) (rules : List Rule) → MatchOption first.entry (NoneMight g u rules) (λ f. IsFirstForeign g u f.now rules) → IsTrue might ↔ MightRewrite g u rule.now.body → MatchOption result (NoneMight g u (rules ++ rule.now ∷ [])) (λ f. IsFirstForeign g u f.now (rules ++ rule.now ∷ [])) }
+{
+    if might {
+        return Some(told_of(first, rule));
+    }
+    first
+}
+
+/// The foreign rule that is told of those that might rewrite the value: of the smallest priority number the first.
+fn foreign_on<'a>(
+    alloc: Global,
+    rules: &'a RuleSet,
+    value: &Value,
+) -> Result<Option<&'a Rule>, AllocError>
+    ensures { IsSorted (signature_view rules.now.signature) (value_view value.now) → IfOk result (λ o. MatchOption o (NoneMight (signature_view rules.now.signature) (value_view value.now) rules.now.rules.items) (λ f. IsFirstForeign (signature_view rules.now.signature) (value_view value.now) f.now rules.now.rules.items)) }
+{
+    let mut first = None;
+    for rule in &rules.rules {
+        let might = might_rewrite(alloc, &rules.signature, &rule.body, value)?;
+        first = told_after(first, rule, might);
+    }
+    Ok(first)
 }
 
 /// Who has the turn of two rules that fire: the smaller priority number.
@@ -82,7 +127,7 @@ fn sooner<'a>(first: Firing<'a>, second: Firing<'a>) -> Turn<'a>
 
 /// Who has the turn when one more rule fires beside several of this priority number.
 fn beside_several<'a>(priority: u32, firing: Firing<'a>) -> Turn<'a>
-    ensures { (g : KoreSignature) (u : model.Value) (rules : List Rule) (r : Rule) → AllByRecursion (λ r. BodyFires g u r.body → priority ≤ r.priority) rules → IsFiring g u firing.entry r → IsTurn g u (rules ++ r ∷ []) result }
+    ensures { (g : KoreSignature) (u : model.Value) (rules : List Rule) (r : Rule) → AllByRecursion (λ r. BodyFires g u r.body → priority ≤ r.priority) rules → TwoAmong (FiresAt g u priority) rules → IsFiring g u firing.entry r → IsTurn g u (rules ++ r ∷ []) result }
 {
     if firing.priority < priority {
         return Turn::One(firing);
@@ -108,7 +153,9 @@ fn firing_of<'a>(
     rule: &'a Rule,
     value: &Value,
 ) -> Result<Option<Firing<'a>>, RunError>
-    ensures { IfOk result (λ o. MatchOption o (¬ BodyFires (signature_view signature.now) (value_view value.now) rule.now.body) (λ f. IsFiring (signature_view signature.now) (value_view value.now) f rule.now)) }
+    ensures firing { IfOk result (λ o. MatchOption o (¬ BodyFires (signature_view signature.now) (value_view value.now) rule.now.body) (λ f. IsFiring (signature_view signature.now) (value_view value.now) f rule.now)) }
+    ensures wide { IfErr result (λ e. e ≡ NotAnswered → BodyIsWide (signature_view signature.now) (value_view value.now) rule.now.body) }
+    ensures narrow { IfOk result (λ _. ¬ BodyIsWide (signature_view signature.now) (value_view value.now) rule.now.body) }
 {
     match &rule.body {
         RuleBody::Foreign(_) => Ok(None),
@@ -135,7 +182,9 @@ fn turn_after<'a>(turn: Turn<'a>, firing: Option<Firing<'a>>) -> Turn<'a>
 
 /// The rules that have their turn on a value.
 fn turn_on<'a>(alloc: Global, rules: &'a RuleSet, value: &Value) -> Result<Turn<'a>, RunError>
-    ensures { IfOk result (λ turn. IsTurn (signature_view rules.now.signature) (value_view value.now) rules.now.rules.items turn) }
+    ensures turn { IfOk result (λ turn. IsTurn (signature_view rules.now.signature) (value_view value.now) rules.now.rules.items turn) }
+    ensures wide { IfErr result (λ e. e ≡ NotAnswered → AnyByRecursion (λ r. BodyIsWide (signature_view rules.now.signature) (value_view value.now) r.body) rules.now.rules.items) }
+    ensures narrow { IfOk result (λ _. AllByRecursion (λ r. ¬ BodyIsWide (signature_view rules.now.signature) (value_view value.now) r.body) rules.now.rules.items) }
 {
     let mut turn = Turn::Nobody;
     for rule in &rules.rules {
@@ -152,7 +201,8 @@ fn written_sort(
     right: &Sort,
     state: &Sort,
 ) -> Result<Sort, AllocError>
-    ensures { (u : model.Value) → HasSort (signature_view signature.now) (sort_view right.now) u → IfOk result (λ s. HasSort (signature_view signature.now) (sort_view s) u) }
+    ensures sort { (u : model.Value) → HasSort (signature_view signature.now) (sort_view right.now) u → IfOk result (λ s. HasSort (signature_view signature.now) (sort_view s) u) }
+    ensures written { IfOk result (λ s. IsWrittenAt (signature_view signature.now) (sort_view right.now) (sort_view state.now) (sort_view s)) }
 {
     if right.equal(state) {
         return right.copy(alloc);
@@ -163,21 +213,37 @@ fn written_sort(
     right.copy(alloc)
 }
 
-/// The state after one step; None where no rule fires.
-pub fn next_state(alloc: Global, rules: &RuleSet, state: &State) -> Result<Option<State>, RunError>
-    ensures { (t : Theory) → RunsAs t rules.now → IsSorted t.signature (value_view state.now.value) →
-        IfOk result (λ o. MatchOption o (IsStuck t (value_view state.now.value)) (λ next. GoesOnlyTo t (value_view state.now.value) (value_view next.value) × IsAt t next)) }
+/// What comes after a state: a foreign rule is told before any condition is looked at.
+pub fn next_state(alloc: Global, rules: &RuleSet, state: &State) -> Result<Next, RunError>
+    ensures next { (t : Theory) → RunsAs t rules.now → IsSorted t.signature (value_view state.now.value) → IfOk result (IsNext t (value_view state.now.value)) }
+    ensures written { (t : Theory) → RunsAs t rules.now → IsSorted t.signature (value_view state.now.value) → IfOk result (IsWrittenNext t (written_of state.now)) }
+    ensures answered { (t : Theory) → RunsAs t rules.now → IsSorted t.signature (value_view state.now.value) → IfOk result (λ _. ¬ IsNotAnswered t (written_of state.now) 1) }
+    ensures not_answered { (t : Theory) → RunsAs t rules.now → IsSorted t.signature (value_view state.now.value) → IfErr result (λ e. e ≡ NotAnswered → IsNotAnswered t (written_of state.now) 1) }
 {
     if !rules.is_regular {
         return Err(RunError::NotAnswered);
     }
-    if is_unknown(alloc, rules, &state.value)? {
-        return Err(RunError::NotAnswered);
+    match foreign_on(alloc, rules, &state.value)? {
+        Some(rule) => Ok(Next::ForeignRule {
+            id: rule.id.clone()?,
+        }),
+        None => known_next(alloc, rules, state),
     }
+}
+
+/// What comes after a state that no foreign rule might rewrite.
+fn known_next(alloc: Global, rules: &RuleSet, state: &State) -> Result<Next, RunError>
+    ensures next { (t : Theory) → RunsAs t rules.now → rules.now.is_regular ≡ true → IsSorted t.signature (value_view state.now.value) → ¬ IsUnknown t (value_view state.now.value) → IfOk result (IsNext t (value_view state.now.value)) }
+    ensures written { (t : Theory) → RunsAs t rules.now → rules.now.is_regular ≡ true → IsSorted t.signature (value_view state.now.value) → ¬ IsUnknown t (value_view state.now.value) → IfOk result (IsWrittenNext t (written_of state.now)) }
+    ensures answered { (t : Theory) → RunsAs t rules.now → IsSorted t.signature (value_view state.now.value) → ¬ IsUnknown t (value_view state.now.value) → IfOk result (λ _. ¬ IsNotStepped t (written_of state.now)) }
+    ensures not_answered { (t : Theory) → RunsAs t rules.now → IsSorted t.signature (value_view state.now.value) → ¬ IsUnknown t (value_view state.now.value) → IfErr result (λ e. e ≡ NotAnswered → IsNotStepped t (written_of state.now)) }
+{
     match turn_on(alloc, rules, &state.value)? {
-        Turn::Nobody => Ok(None),
+        Turn::Nobody => Ok(Next::Stuck),
         Turn::Several(_) => Err(RunError::NotAnswered),
-        Turn::One(firing) => Ok(Some(after(alloc, &rules.signature, state, &firing)?)),
+        Turn::One(firing) => Ok(Next::Stepped {
+            state: after(alloc, &rules.signature, state, &firing)?,
+        }),
     }
 }
 
@@ -188,14 +254,17 @@ fn after(
     state: &State,
     firing: &Firing,
 ) -> Result<State, RunError>
-    ensures { IfOk result (λ next. IsAfterFiring (signature_view signature.now) firing.now next) }
+    ensures after { IfOk result (λ next. IsAfterFiring (signature_view signature.now) firing.now next) }
+    ensures written { IfOk result (λ next. IsWrittenAt (signature_view signature.now) (sort_view firing.now.rewrite.now.right_sort) (sort_view state.now.sort) (sort_view next.sort)) }
+    ensures followed { IfOk result (λ next. IsFollowed (signature_view signature.now) firing.now next) }
+    ensures not_followed { IfErr result (λ e. e ≡ NotAnswered → NotFollowed (signature_view signature.now) firing.now (sort_view state.now.sort)) }
 {
     if firing.rewrite.chooses {
         return Err(RunError::NotAnswered);
     }
     let value = firing.rewrite.right.evaluate(alloc, &firing.bindings)?;
     let sort = written_sort(alloc, signature, &firing.rewrite.right_sort, &state.sort)?;
-    if spelled_depth(signature, &value, &sort) > MOST_DEPTH {
+    if !is_within_written(&value, alloc, signature, &sort, MOST_DEPTH)? {
         return Err(RunError::NotAnswered);
     }
     Ok(State { value, sort })

@@ -1,9 +1,15 @@
 use Rattle.kp_semantics.specs.Theory.{Theory}
 use Rattle.kp_ground.specs.View.{value_view}
 use Rattle.kp_rules.specs.Bodies.{RunsAs}
-use Rattle.kp_run.specs.Runs.{IsAt, GoesOnlyIn}
+use Rattle.kp_run.specs.Causes.{IsStateIn, StopsUntold}
+use Rattle.kp_run.specs.Runs.{IsAt, GoesOnlyIn, written_of}
+use Rattle.kp_run.proofs.States.{IsOnlyIn}
 use Rattle.kp_run.proofs.run.execute.Given as goal
 
 abbrev pub invariant-loop-depth : goal.invariant-loop-depth
-invariant-loop-depth l =
-    (t : Theory) → RunsAs t l.rules → IsAt t l.fn.state → GoesOnlyIn t l.depth (value_view l.fn.state.value) (value_view l.state.value) × IsAt t l.state
+invariant-loop-depth l = record {
+  goes : (t : Theory) → RunsAs t l.rules → IsAt t l.fn.state → GoesOnlyIn t l.depth (value_view l.fn.state.value) (value_view l.state.value) × IsAt t l.state;
+  states : (t : Theory) → RunsAs t l.rules → IsAt t l.fn.state → IsStateIn t l.depth (written_of l.fn.state) (written_of l.state);
+  only : (t : Theory) → RunsAs t l.rules → IsAt t l.fn.state → IsOnlyIn t l.depth (written_of l.fn.state) (written_of l.state);
+  told : (t : Theory) → RunsAs t l.rules → IsAt t l.fn.state → ¬ StopsUntold t (written_of l.fn.state) l.depth;
+}

@@ -1,16 +1,51 @@
-use Rattle.std.proofs.Common.{rules, subst}
+use Rattle.std.proofs.Common.{rules, ◌≡◌, subst, true, false}
 use Rattle.std.specs.Prelude.{Ok}
 use Rattle.kp_ground.specs.Outcomes.{Gives}
 use Rattle.kp_ground.specs.TermView.{term_view}
 use Rattle.kp_ground.specs.View.{value_view}
+use Rattle.kp_kore.specs.Parts.{term_depth}
+use Rattle.kp_kore.specs.View.{sort_view}
+use Rattle.kp_signature.specs.View.{signature_view}
+use Rattle.kp_states.specs.Spelled.{spelling}
+use Rattle.kp_run.specs.Turns.{deep}
+use Rattle.kp_states.specs.declared.state.State.{State}
+use Rattle.kp_run.proofs.Turning.{is_beyond}
 use Rattle.kp_run.proofs.step.after.Goals as goal
 
-pub returns : goal.returns
-returns c =
+pub returns-clause-after : goal.returns-clause-after
+returns-clause-after c =
     let gives : Gives (Ok c.in_ok-value.value) c.args.firing.now.bindings.items (term_view c.args.firing.now.rewrite.now.right) =
     subst (λ bs. Gives (Ok c.in_ok-value.value) bs (term_view c.args.firing.now.rewrite.now.right)) c.deref.ensures.value c.in_ok-value.ensures in
     record {
       chooses = search rules;
       value = λ v s. (gives v s).0;
-      sort = λ h. c.in_ok-sort.ensures (value_view c.in_ok-value.value) h;
+      sort = λ h. c.in_ok-sort.ensures.sort (value_view c.in_ok-value.value) h;
+    }
+
+pub returns-then-not-branch-clause-not_followed : goal.returns-then-not-branch-clause-not_followed
+returns-then-not-branch-clause-not_followed c = λ _.
+    let g = signature_view c.args.signature.now in
+    let next : State = record { value = c.in_ok-value.value; sort = c.in_ok-sort.sort } in
+    let gives : Gives (Ok c.in_ok-value.value) c.args.firing.now.bindings.items (term_view c.args.firing.now.rewrite.now.right) =
+    subst (λ bs. Gives (Ok c.in_ok-value.value) bs (term_view c.args.firing.now.rewrite.now.right)) c.deref.ensures.value c.in_ok-value.ensures in
+    let isnt : c.in_ok-is_within_written.field-0 ≡ false = search rules in
+    deep (record {
+      next = next;
+      after = record {
+        chooses = search rules;
+        value = λ v s. (gives v s).0;
+        sort = λ h. c.in_ok-sort.ensures.sort (value_view c.in_ok-value.value) h;
+      };
+      written = c.in_ok-sort.ensures.written;
+      deep = is_beyond (term_depth (spelling g (sort_view c.in_ok-sort.sort) (value_view c.in_ok-value.value))) 48 c.in_ok-is_within_written.field-0 isnt c.in_ok-is_within_written.ensures;
+    })
+
+pub returns-clause-followed : goal.returns-clause-followed
+returns-clause-followed c =
+    let gives : Gives (Ok c.in_ok-value.value) c.args.firing.now.bindings.items (term_view c.args.firing.now.rewrite.now.right) =
+    subst (λ bs. Gives (Ok c.in_ok-value.value) bs (term_view c.args.firing.now.rewrite.now.right)) c.deref.ensures.value c.in_ok-value.ensures in
+    let is : c.in_ok-is_within_written.field-0 ≡ true = search rules in
+    record {
+      narrow = λ v s. (gives v s).1;
+      within = c.in_ok-is_within_written.ensures.0 is;
     }

@@ -1,20 +1,60 @@
-use Rattle.std.proofs.Common.{rules, ◌≡◌, subst, true, false}
-use Rattle.kp_signature.specs.View.{signature_view}
+use Rattle.std.proofs.Common.{rules, ◌≡◌, subst, true}
+use Rattle.std.proofs.lemmas.Result.{IfOk-weaker}
+use Rattle.std.specs.Prelude.{MatchOption, string_bytes}
 use Rattle.kp_ground.specs.View.{value_view}
-use Rattle.kp_run.specs.Turns.{IsTurn}
-use Rattle.kp_run.proofs.Theories.{stuck_here, goes_here}
+use Rattle.kp_semantics.specs.Steps.{IsUnknown}
+use Rattle.kp_run.specs.Runs.{IsFirstUnknown, written_of}
+use Rattle.kp_run.proofs.Runs.{first_is_unknown}
+use Rattle.kp_run.proofs.States.{one_told, one_not_answered, answered_over}
+use Rattle.kp_run.proofs.Theories.{told_here}
 use Rattle.kp_run.proofs.step.next_state.Goals as goal
 
-pub returns-in-Nobody : goal.returns-in-Nobody
-returns-in-Nobody c = λ t runs s.
-    let known : c.in_ok-is_unknown.field-0 ≡ false = search rules in
-    stuck_here t c.args.rules.now (value_view c.args.state.now.value) c.in_ok-is_unknown.field-0 runs s known c.in_ok-is_unknown.ensures
-    (subst (IsTurn (signature_view c.args.rules.now.signature) (value_view c.args.state.now.value) c.args.rules.now.rules.items) c.in-Nobody.is c.in_ok-turn_on.ensures)
+pub returns-in_ok-clone-in-Some-clause-next : goal.returns-in_ok-clone-in-Some-clause-next
+returns-in_ok-clone-in-Some-clause-next c = λ t runs s.
+    let u = value_view c.args.state.now.value in
+    let told = told_here t c.args.rules.now u c.in_ok-rule.field-0 runs s c.in_ok-rule.ensures in
+    let first : IsFirstUnknown t u (string_bytes c.in-Some.rule.now.id) = subst (λ o. MatchOption o (¬ IsUnknown t u) (λ f. IsFirstUnknown t u (string_bytes f.now.id))) c.in-Some.is told in
+    let same : string_bytes c.in-Some.rule.now.id ≡ string_bytes c.in_ok-clone-in-Some.field-0 = search rules in
+    subst (IsFirstUnknown t u) same first
 
-pub returns-in_ok-after-in-One : goal.returns-in_ok-after-in-One
-returns-in_ok-after-in-One c = λ t runs s.
-    let known : c.in_ok-is_unknown.field-0 ≡ false = search rules in
+pub returns-in_ok-clone-in-Some-clause-answered : goal.returns-in_ok-clone-in-Some-clause-answered
+returns-in_ok-clone-in-Some-clause-answered c = λ t runs s.
+    let u = value_view c.args.state.now.value in
     let regular : c.args.rules.now.is_regular ≡ true = search rules in
-    goes_here t c.args.rules.now (value_view c.args.state.now.value) c.in_ok-is_unknown.field-0 c.in-One.firing c.in_ok-after-in-One.field-0 runs regular s known c.in_ok-is_unknown.ensures
-    (subst (IsTurn (signature_view c.args.rules.now.signature) (value_view c.args.state.now.value) c.args.rules.now.rules.items) c.in-One.is c.in_ok-turn_on.ensures)
-    c.in_ok-after-in-One.ensures
+    let told = told_here t c.args.rules.now u c.in_ok-rule.field-0 runs s c.in_ok-rule.ensures in
+    let first : IsFirstUnknown t u (string_bytes c.in-Some.rule.now.id) = subst (λ o. MatchOption o (¬ IsUnknown t u) (λ f. IsFirstUnknown t u (string_bytes f.now.id))) c.in-Some.is told in
+    answered_over t c.args.rules.now (written_of c.args.state.now) 1 runs regular
+    (one_told t (written_of c.args.state.now) (λ known. absurd (known (first_is_unknown t u (string_bytes c.in-Some.rule.now.id) first))))
+
+pub returns-in-None-clause-next : goal.returns-in-None-clause-next
+returns-in-None-clause-next c = λ t runs s.
+    let u = value_view c.args.state.now.value in
+    let regular : c.args.rules.now.is_regular ≡ true = search rules in
+    let told = told_here t c.args.rules.now u c.in_ok-rule.field-0 runs s c.in_ok-rule.ensures in
+    let known : ¬ IsUnknown t u = subst (λ o. MatchOption o (¬ IsUnknown t u) (λ f. IsFirstUnknown t u (string_bytes f.now.id))) c.in-None.is told in
+    c.known_next.ensures.next t runs regular s known
+
+pub returns-in-None-clause-written : goal.returns-in-None-clause-written
+returns-in-None-clause-written c = λ t runs s.
+    let u = value_view c.args.state.now.value in
+    let regular : c.args.rules.now.is_regular ≡ true = search rules in
+    let told = told_here t c.args.rules.now u c.in_ok-rule.field-0 runs s c.in_ok-rule.ensures in
+    let known : ¬ IsUnknown t u = subst (λ o. MatchOption o (¬ IsUnknown t u) (λ f. IsFirstUnknown t u (string_bytes f.now.id))) c.in-None.is told in
+    c.known_next.ensures.written t runs regular s known
+
+pub returns-in-None-clause-answered : goal.returns-in-None-clause-answered
+returns-in-None-clause-answered c = λ t runs s.
+    let u = value_view c.args.state.now.value in
+    let regular : c.args.rules.now.is_regular ≡ true = search rules in
+    let told = told_here t c.args.rules.now u c.in_ok-rule.field-0 runs s c.in_ok-rule.ensures in
+    let known : ¬ IsUnknown t u = subst (λ o. MatchOption o (¬ IsUnknown t u) (λ f. IsFirstUnknown t u (string_bytes f.now.id))) c.in-None.is told in
+    IfOk-weaker c.known_next.result _ _
+    (λ n stepped. answered_over t c.args.rules.now (written_of c.args.state.now) 1 runs regular (one_told t (written_of c.args.state.now) (λ _. stepped)))
+    (c.known_next.ensures.answered t runs s known)
+
+pub returns-in-None-clause-not_answered : goal.returns-in-None-clause-not_answered
+returns-in-None-clause-not_answered c = λ t runs s.
+    let u = value_view c.args.state.now.value in
+    let told = told_here t c.args.rules.now u c.in_ok-rule.field-0 runs s c.in_ok-rule.ensures in
+    let known : ¬ IsUnknown t u = subst (λ o. MatchOption o (¬ IsUnknown t u) (λ f. IsFirstUnknown t u (string_bytes f.now.id))) c.in-None.is told in
+    one_not_answered t (written_of c.args.state.now) c.known_next.result known (c.known_next.ensures.not_answered t runs s known)

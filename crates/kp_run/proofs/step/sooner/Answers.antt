@@ -1,5 +1,5 @@
-use Rattle.std.proofs.Common.{◌≤◌, arith}
-use Rattle.kp_run.proofs.Turning.{first_stays, second_leads, are_several}
+use Rattle.std.proofs.Common.{◌≡◌, ◌≤◌, arith}
+use Rattle.kp_run.proofs.Turning.{first_stays, second_leads, are_several, are_two}
 use Rattle.kp_run.proofs.step.sooner.Goals as goal
 
 pub returns-then-first-second : goal.returns-then-first-second
@@ -11,4 +11,5 @@ returns-then-second-first c = λ g u rules r one h. second_leads g u c.args.firs
 pub returns : goal.returns
 returns c = λ g u rules r one h.
     let le : c.args.first.priority ≤ c.args.second.priority = omega arith in
-    are_several g u c.args.first c.args.second rules r one h le
+    let same : c.args.second.priority ≡ c.args.first.priority = omega arith in
+    (are_several g u c.args.first c.args.second rules r one h le, are_two g u c.args.first c.args.second rules r one h same)
