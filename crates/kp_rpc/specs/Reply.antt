@@ -9,7 +9,7 @@ use Rattle.kp_kore.specs.Syntax.{Text, KoreSort, KorePattern, conjunction, no_pa
 use Rattle.kp_json.specs.Members.{object_of}
 use Rattle.kp_json.specs.Faults.{TreeFault, unknown_tag, missing_member, wrong_kind, wrong_format, nested_too_deep}
 use Rattle.kp_json.specs.Written.{wrapped_pattern}
-use Rattle.kp_semantics.specs.Replies.{Reason, stuck, depth_bound, IsRightExecuted}
+use Rattle.kp_semantics.specs.Replies.{Reason, stuck, depth_bound, aborted_by_rule, IsRightExecuted}
 use Rattle.kp_semantics.specs.Theory.{Theory}
 use Rattle.kp_rpc.specs.Request.{RequestId, id_tree, ExecuteRequest, bound_of}
 
@@ -18,6 +18,7 @@ use Rattle.kp_rpc.specs.Request.{RequestId, id_tree, ExecuteRequest, bound_of}
 abbrev pub reason_text : Reason → Text
 reason_text stuck = codes "stuck"
 reason_text depth_bound = codes "depth-bound"
+reason_text (aborted_by_rule id) = codes "aborted"
 
 -- a state: its term, and its predicate where there is one
 pub record WrittenState : Type 0 where
@@ -41,8 +42,9 @@ pub record ExecuteResult : Type 0 where
   pub reason : Reason
   pub state : WrittenState
 
--- {"depth":d,"reason":r,"state":S}
+-- {"depth":d,"reason":r,"state":S}, and of an aborted run {"depth":d,"foreign-rule":id,"reason":"aborted","state":S}
 abbrev pub result_object : ℕ → Reason → Data → Data
+result_object depth (aborted_by_rule id) state = object_of ((codes "depth", number (unsigned depth)) ∷ (codes "foreign-rule", string id) ∷ (codes "reason", string (codes "aborted")) ∷ (codes "state", state) ∷ [])
 result_object depth reason state = object_of ((codes "depth", number (unsigned depth)) ∷ (codes "reason", string (reason_text reason)) ∷ (codes "state", state) ∷ [])
 
 abbrev pub result_tree : ExecuteResult → Option Data

@@ -58,3 +58,4 @@ state_fault_view (state.NoModule name) = no_module (string_bytes name)
 abbrev pub reason_view : Reason → replies.Reason
 reason_view reason.Stuck = replies.stuck
 reason_view reason.DepthBound = replies.depth_bound
+reason_view (reason.AbortedByRule id) = replies.aborted_by_rule (string_bytes id)
