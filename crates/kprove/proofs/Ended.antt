@@ -1,36 +1,40 @@
 -- From what was read of a request, and the end of its run, to its reply.
-use Rattle.std.proofs.Common.{◌≡◌, ℕ, List, ◌++◌, Option, Some, None, Vec, ◌≢◌, refl, sym, ap, subst, ◌∙◌, inl, inr}
+use Rattle.std.proofs.Common.{◌≡◌, ◌⊎◌, ℕ, Bool, true, false, List, [], ◌∷◌, ◌++◌, Option, Some, None, IfNone, IfSome, Result, Ok, Vec, ◌≢◌, refl, sym, ap, subst, ◌∙◌, inl, inr}
 use Rattle.std.specs.Option.{option_and_then, option_map}
 use Rattle.std.specs.Prelude.{codes}
 use Rattle.std.specs.declared.alloc.Global.{Global}
 use Rattle.serde_json.specs.Data.{Data, object, Members}
 use Rattle.serde_json.specs.View.{view as data_view}
-use Rattle.kp_kore.specs.Syntax.{KoreSort, KorePattern}
-use Rattle.kp_kore.specs.Signature.{KoreSignature}
+use Rattle.kp_kore.specs.Syntax.{Text, KoreSort, KorePattern}
+use Rattle.kp_kore.specs.Signature.{KoreSignature, injection, meaning_of}
 use Rattle.kp_kore.specs.View.{sort_view}
 use Rattle.kp_ground.specs.View.{value_view}
+use Rattle.kp_io.specs.declared.fault.LoadFault.{LoadFault}
 use Rattle.kp_json.specs.Trees.{SpellsWrapped}
-use Rattle.kp_semantics.specs.Theory.{Theory}
-use Rattle.kp_semantics.specs.Value.{Value, HasSort}
+use Rattle.kp_semantics.specs.Value.{Value, HasSort, truth}
+use Rattle.kp_semantics.specs.Instance.{Valuation, instance}
 use Rattle.kp_semantics.specs.Sorted.{IsRegular}
-use Rattle.kp_signature.specs.Verify.{VerifiesAs}
 use Rattle.kp_semantics.specs.Replies.{IsRightExecuted, Reason}
-use Rattle.kp_rpc.specs.Frame.{IsFrame}
+use Rattle.kp_signature.specs.Verify.{VerifiesAs}
+use Rattle.kp_sorts.specs.Regularity.{keeps_values_apart}
+use Rattle.kp_rpc.specs.Frame.{IsFrame, IsWhite}
 use Rattle.kp_rpc.specs.Causes.{IsRefused}
 use Rattle.kp_rpc.specs.Request.{RequestId, ExecuteOptions, ExecuteRequest, HasParams, bound_of}
 use Rattle.kp_rpc.specs.Readings.{read_object, if_object, read_state}
-use Rattle.kp_rpc.specs.Reply.{RequestError, not_verified, other_shape, error_reply, result_reply, result_tree, reply_bytes}
-use Rattle.kp_rpc.specs.View.{id_view, options_view, state_fault_view}
+use Rattle.kp_rpc.specs.Reply.{RequestError, VerifyFault, not_verified, other_shape, error_reply, result_reply, result_tree, reply_bytes}
+use Rattle.kp_rpc.specs.View.{id_view, options_view, pattern_fault_view, state_fault_view}
 use Rattle.kp_rpc.specs.declared.fault.StateFault.{StateFault}
 use Rattle.kp_rpc.specs.declared.fault.StateFault.TheVariants as fault
 use Rattle.kp_rpc.specs.declared.request.Execute.{Execute}
-use Rattle.kp_run.specs.Runs.{reason_of}
-use Rattle.kp_states.specs.Spelled.{IsGroundState, IsSpellingOf}
+use Rattle.kp_modules.specs.Reaching.{has}
+use Rattle.kp_run.specs.Causes.{IsNotAnswered, StopsUntold}
+use Rattle.kp_run.specs.Runs.{reason_of, written_of}
+use Rattle.kp_states.specs.Spelled.{IsOtherShape, IsSpellingOf, first_foreign, injection_name}
 use Rattle.kp_states.specs.declared.state.State.{State}
 use Rattle.kp_run.specs.declared.run.Executed.{Executed}
 use Rattle.kprove.proofs.Runs.{run_is_right}
-use Rattle.kprove.specs.Ends.{IsRead, IsStatePattern, IsStateOf, IsEndOf, IsEndLine, IsFailureOf, IsWrongTree, IsWrongPattern, IsLineTo, IsLine, result_of, unanswered_bytes}
-use Rattle.kprove.specs.Right.{IsStateError, IsFaulted, IsAnswered}
+use Rattle.kprove.specs.Ends.{IsRead, IsStateAt, IsStatePattern, IsStateOf, IsEndOf, IsEndLine, IsFailureOf, IsListing, IsPlain, IsWrongTree, IsWrongPattern, IsLineTo, IsLine, IsReplyToRead, TellsName, options_of, result_of, unanswered_bytes}
+use Rattle.kprove.specs.Right.{IsElsewhere, IsReached, IsLeftOut, IsPatternFault, IsStateError, IsFaulted, IsAnswered, IsUntold, elsewhere, stops_at_rules, no_state, mixes_values, no_run, Setting}
 use Rattle.kprove.specs.declared.answer.Failure.{Failure}
 use Rattle.kprove.specs.declared.answer.Failure.TheVariants as failure
 
@@ -44,36 +48,70 @@ same_tree e r tree h =
     let told : Some tree ≡ Some (object r.state) = sym h ∙ (ap read_state r.tree ∙ state_told r.members r.state (options_view e.options) r.has_params) in
     cc told
 
+here : (e : Execute) (r : IsRead e) → read_state (data_view e.request) ≡ Some (object r.state)
+here e r = ap read_state r.tree ∙ state_told r.members r.state (options_view e.options) r.has_params
+
 pub has_tree : (e : Execute) → IsRead e → read_state (data_view e.request) ≢ None
 has_tree e r h =
     let told : None ≡ Some (object r.state) = sym h ∙ (ap read_state r.tree ∙ state_told r.members r.state (options_view e.options) r.has_params) in
     absurd (cc told)
 
-pub faulted : (t : Theory) (e : Execute) → IsRead e → (tree : Data) (error : RequestError) → read_state (data_view e.request) ≡ Some tree → IsStateError t.signature tree error
-    → IsFaulted t (data_view e.request) (error_reply (id_view e.id) error)
-faulted t e r tree error h w = record {
+pub faulted : (s : Setting) (e : Execute) → IsRead e → (tree : Data) (error : RequestError) → read_state (data_view e.request) ≡ Some tree → IsStateError s (options_of e) tree error
+    → IsFaulted s (data_view e.request) (error_reply (id_view e.id) error)
+faulted s e r tree error h w = record {
   id = id_view e.id;
   options = options_view e.options;
   is_execute = r;
   error = error;
-  because = subst (λ (d : Data). IsStateError t.signature d error) (same_tree e r tree h) w;
+  because = subst (λ (d : Data). IsStateError s (options_of e) d error) (same_tree e r tree h) w;
   reply_is = refl;
 }
 
-pub fault_line : (t : Theory) (e : Execute) → IsRead e → (tree : Data) (error : RequestError) → read_state (data_view e.request) ≡ Some tree → IsStateError t.signature tree error
-    → (line : List ℕ) → line ≡ reply_bytes (error_reply (id_view e.id) error) → IsLineTo t e line
-fault_line t e r tree error h w line l = (error_reply (id_view e.id) error, inl (faulted t e r tree error h w), l)
+pub fault_line : (s : Setting) (e : Execute) → IsRead e → (tree : Data) (error : RequestError) → read_state (data_view e.request) ≡ Some tree → IsStateError s (options_of e) tree error
+    → (line : List ℕ) → line ≡ reply_bytes (error_reply (id_view e.id) error) → IsLineTo s e line
+fault_line s e r tree error h w line l = (error_reply (id_view e.id) error, inl (faulted s e r tree error h w), l)
 
--- T2 of a state that has no fault
-pub unanswered : (t : Theory) (e : Execute) → IsRead e → (s : State) → IsStateOf t.signature e s → (line : List ℕ) → line ≡ unanswered_bytes e → IsLineTo t e line
-unanswered t e r s h line l =
-    fault_line t e r h.is_pattern.tree (not_verified other_shape) h.is_pattern.has (h.pattern, h.is_pattern.spells, (h.sort, h.verifies)) line l
+-- T2 of a state that is left out
+pub left_out : (s : Setting) (e : Execute) (state : State) (is : IsStateOf s.theory.signature e state) → IsReached s.names (options_of e).module_name → IsLeftOut s (options_of e) is.pattern is.sort
+    → IsStateError s (options_of e) is.is_pattern.tree (not_verified other_shape)
+left_out s e state is reached why = (reached, is.pattern, is.is_pattern.spells, (is.sort, is.verifies, is.is_state.no_foreign, why))
 
-pub answered : (t : Theory) (e : Execute) → IsRead e → (end : Executed) → IsEndOf t e end → (p : KorePattern) → IsSpellingOf t.signature (value_view end.state.value) p
-    → (tree : Data) → result_tree (result_of end p) ≡ Some tree → IsAnswered t (data_view e.request) (result_reply (id_view e.id) tree)
-answered t e r end h p sp tree w =
-    let s = h.is_start in
-    let request : ExecuteRequest = record { id = id_view e.id; state = s.pattern; options = options_view e.options } in
+pub unanswered : (s : Setting) (e : Execute) → IsRead e → (end : Executed) → IsEndOf s e end → ¬ (meaning_of s.theory.signature injection_name ≡ injection)
+    → (line : List ℕ) → line ≡ unanswered_bytes e → IsLineTo s e line
+unanswered s e r end h none line l =
+    fault_line s e r h.is_start.is_pattern.tree (not_verified other_shape) h.is_start.is_pattern.has (left_out s e h.start h.is_start h.reached (inr none)) line l
+
+-- ---- results
+
+some_valuation : Valuation
+some_valuation x = truth true
+
+-- the value of a ground state is the only one that it has under every valuation
+same_value : (g : KoreSignature) (p : KorePattern) (c d : Value) → ((v : Valuation) → instance g v p ≡ c) → ((v : Valuation) → instance g v p ≡ d) → c ≡ d
+same_value g p c d one two = sym (one some_valuation) ∙ two some_valuation
+
+both_empty : (xs ys : List Text) → xs ≡ [] → ys ≡ [] → xs ++ ys ≡ []
+both_empty [] [] a b = refl
+both_empty [] (y ∷ ys) a b = absurd (cc b)
+both_empty (x ∷ xs) ys a b = absurd (cc a)
+
+is_told : (s : Setting) (e : Execute) (end : Executed) (h : IsEndOf s e end) → ¬ IsUntold s (options_of e) h.is_start.pattern h.is_start.sort
+is_told s e end h (elsewhere x) = h.plain.here x
+is_told s e end h (stops_at_rules x) = x (both_empty (options_of e).cut_points (options_of e).terminals h.plain.cut_points h.plain.terminals)
+is_told s e end h (no_state x) = h.is_start.is_state.shape x
+is_told s e end h (mixes_values x) = h.told (inl x)
+is_told s e end h (no_run c means stops) =
+    let st = h.is_start in
+    let ground = st.is_state.ground st.regular st.verifies in
+    let at_value = subst (λ (u : Value). StopsUntold s.theory (record { value = u; sort = st.sort }) (bound_of (options_of e))) (same_value s.theory.signature st.pattern c (value_view h.start.value) means ground.meant) stops in
+    h.told (inr (subst (λ (k : KoreSort). StopsUntold s.theory (record { value = value_view h.start.value; sort = k }) (bound_of (options_of e))) (sym st.is_state.sort_is) at_value))
+
+pub answered : (s : Setting) (e : Execute) → IsRead e → (end : Executed) → IsEndOf s e end → (p : KorePattern) → IsSpellingOf s.theory.signature (value_view end.state.value) p
+    → (tree : Data) → result_tree (result_of end p) ≡ Some tree → IsAnswered s (data_view e.request) (result_reply (id_view e.id) tree)
+answered s e r end h p sp tree w =
+    let st = h.is_start in
+    let ground = st.is_state.ground st.regular st.verifies in
+    let request : ExecuteRequest = record { id = id_view e.id; state = st.pattern; options = options_view e.options } in
     record {
       members = r.members;
       tree = r.tree;
@@ -82,8 +120,10 @@ answered t e r end h p sp tree w =
         is_request = r.is_request;
         state = r.state;
         has_params = r.has_params;
-        spells = subst (λ (d : Data). SpellsWrapped d s.pattern) (same_tree e r s.is_pattern.tree s.is_pattern.has) s.is_pattern.spells;
+        spells = subst (λ (d : Data). SpellsWrapped d st.pattern) (same_tree e r st.is_pattern.tree st.is_pattern.has) st.is_pattern.spells;
       };
+      reached = h.reached;
+      is_told = record { sort = st.sort; verifies = st.verifies; no_foreign = st.is_state.no_foreign; told = is_told s e end h };
       right = record {
         result = result_of end p;
         tree = tree;
@@ -91,43 +131,104 @@ answered t e r end h p sp tree w =
         reply_is = refl;
         state = p;
         state_is = refl;
-        right = subst (λ (o : ExecuteOptions). IsRightExecuted t (o.cut_points ++ o.terminals) (bound_of o) s.pattern (record { depth = end.depth; reason = reason_of end.stop; state = p }))
-            (sym h.plain) (run_is_right t s.pattern p (value_view h.start.value) 10000 end h.run s.ground.term s.ground.closed s.ground.meant sp);
+        right = subst (λ (ids : List Text). IsRightExecuted s.theory ids (bound_of (options_of e)) st.pattern (record { depth = end.depth; reason = reason_of end.stop; state = p }))
+            (sym (both_empty (options_of e).cut_points (options_of e).terminals h.plain.cut_points h.plain.terminals))
+            (run_is_right s.theory st.pattern p (value_view h.start.value) (bound_of (options_of e)) end h.run ground.term ground.closed ground.meant sp);
       };
     }
 
 -- the line with the end of a run
-pub end_is_right : (t : Theory) (e : Execute) → IsRead e → (end : Executed) → IsEndOf t e end → (p : KorePattern) → IsSpellingOf t.signature (value_view end.state.value) p
-    → (line : Vec ℕ Global) → IsEndLine e end p line → IsLineTo t e line.items
-end_is_right t e r end h p sp line (inl x) = (result_reply (id_view e.id) x.0, inr (answered t e r end h p sp x.0 x.1), x.2)
-end_is_right t e r end h p sp line (inr x) = unanswered t e r h.start h.is_start line.items x
+pub end_is_right : (s : Setting) (e : Execute) → IsRead e → (end : Executed) → IsEndOf s e end → (p : KorePattern) → IsSpellingOf s.theory.signature (value_view end.state.value) p
+    → (line : Vec ℕ Global) → IsEndLine e end p line → IsLineTo s e line.items
+end_is_right s e r end h p sp line x = (result_reply (id_view e.id) x.0, inr (answered s e r end h p sp x.0 x.1), x.2)
 
 -- ---- failures
 
-wrong_tree : (g : KoreSignature) (tree : Data) (p : KorePattern) (f : Failure) → SpellsWrapped tree p → IsWrongPattern g p f → IsWrongTree g tree f
-wrong_tree g tree p failure.Memory s w = tt
-wrong_tree g tree p (failure.Fault (fault.Json f)) s w = absurd w
-wrong_tree g tree p (failure.Fault (fault.Verify f)) s w = (p, s, w)
-wrong_tree g tree p (failure.Fault (fault.NoModule name)) s w = absurd w
+wrong_tree : (s : Setting) (options : ExecuteOptions) (tree : Data) (p : KorePattern) (f : Failure) → IsReached s.names options.module_name → SpellsWrapped tree p
+    → IsWrongPattern s.theory.signature (IsLeftOut s options) p f → IsWrongTree s options tree f
+wrong_tree s options tree p failure.Memory reached sp w = tt
+wrong_tree s options tree p (failure.Fault (fault.Json f)) reached sp w = absurd w
+wrong_tree s options tree p (failure.Fault (fault.Verify f)) reached sp w = (reached, p, sp, w)
+wrong_tree s options tree p (failure.Fault (fault.NoModule name)) reached sp w = absurd w
 
-pub failure_of : (g h : KoreSignature) → g ≡ h → (e : Execute) (p : KorePattern) (f : Failure) → IsStatePattern e p → IsWrongPattern g p f → IsFailureOf h e f
-failure_of g h same e p f is w = (is.tree, is.has, wrong_tree h is.tree p f is.spells (subst (λ (k : KoreSignature). IsWrongPattern k p f) same w))
+pub failure_of : (g : KoreSignature) (s : Setting) → g ≡ s.theory.signature → (e : Execute) (p : KorePattern) (f : Failure) → IsReached s.names (options_of e).module_name → IsStatePattern e p
+    → IsWrongPattern g (IsLeftOut s (options_of e)) p f → IsFailureOf s e f
+failure_of g s same e p f reached is w =
+    (is.tree, is.has, wrong_tree s (options_of e) is.tree p f reached is.spells (subst (λ (k : KoreSignature). IsWrongPattern k (IsLeftOut s (options_of e)) p f) same w))
 
--- T2 of a pattern that has no fault
-pub unanswered_state : (g h : KoreSignature) → g ≡ h → (e : Execute) (p : KorePattern) (s : KoreSort) → IsStatePattern e p → VerifiesAs g p s
-    → (f : StateFault) → state_fault_view f ≡ not_verified other_shape → IsFailureOf h e (failure.Fault f)
-unanswered_state g h same e p s is v f t2 =
-    (is.tree, is.has, subst (λ (x : RequestError). IsStateError h is.tree x) (sym t2) (p, is.spells, (s, subst (λ (k : KoreSignature). VerifiesAs k p s) same v)))
+-- T2 of a verified pattern without foreign symbols
+pub t2_pattern : (g : KoreSignature) (LeftOut : KorePattern → KoreSort → Type 0) (p : KorePattern) (sort : KoreSort) (f : StateFault) → state_fault_view f ≡ not_verified other_shape
+    → VerifiesAs g p sort → first_foreign g p ≡ None → LeftOut p sort → IsWrongPattern g LeftOut p (failure.Fault f)
+t2_pattern g LeftOut p sort (fault.Json f) is v none out = absurd (cc is)
+t2_pattern g LeftOut p sort (fault.Verify f) is v none out =
+    let shape : pattern_fault_view f ≡ other_shape = cc is in
+    subst (λ (x : VerifyFault). IsPatternFault g LeftOut p x) (sym shape) (sort, v, none, out)
+t2_pattern g LeftOut p sort (fault.NoModule name) is v none out = absurd (cc is)
+
+-- another shape is left out, and over a signature that isn't regular each is
+pub shape_left_out : (g : KoreSignature) (s : Setting) → g ≡ s.theory.signature → (is_regular : Bool) → (is_regular ≡ true → IsRegular s.theory.signature) → is_regular ≡ keeps_values_apart s.theory.signature
+    → (options : ExecuteOptions) (p : KorePattern) (sort : KoreSort) → (IsRegular g → IsOtherShape g p) → IsLeftOut s options p sort
+shape_left_out g s same true regular tested options p sort h =
+    inl (no_state (subst (λ (k : KoreSignature). IsOtherShape k p) same (h (subst IsRegular (sym same) (regular refl)))))
+shape_left_out g s same false regular tested options p sort h = inl (mixes_values (sym tested))
+
+-- the module that the request names isn't reached
+pub name_failure : (s : Setting) (e : Execute) → IsRead e → (n : Text) (f : Failure) → (options_of e).module_name ≡ Some n → has n s.names ≡ false → TellsName n f → IsFailureOf s e f
+name_failure s e r n failure.Memory is unknown told = (object r.state, here e r, tt)
+name_failure s e r n (failure.Fault (fault.Json f)) is unknown told = absurd told
+name_failure s e r n (failure.Fault (fault.Verify f)) is unknown told = absurd told
+name_failure s e r n (failure.Fault (fault.NoModule name)) is unknown told =
+    (object r.state, here e r, (is ∙ ap Some (sym told), ap (λ x. has x s.names) told ∙ unknown))
+
+pub is_reached_at : (names : List Text) (o : Option Text) (n : Text) → o ≡ Some n → has n names ≡ true → IsReached names o
+is_reached_at names o n is reached = subst (λ (x : Option Text). IsReached names x) (sym is) reached
+
+-- T2 tells of a request that it is left out
+pub t2_failure : (s : Setting) (e : Execute) (state : State) (is : IsStateOf s.theory.signature e state) → IsReached s.names (options_of e).module_name → IsUntold s (options_of e) is.pattern is.sort
+    → (f : StateFault) → state_fault_view f ≡ not_verified other_shape → IsFailureOf s e (failure.Fault f)
+t2_failure s e state is reached why f t2 =
+    (is.is_pattern.tree, is.is_pattern.has, subst (λ (x : RequestError). IsStateError s (options_of e) is.is_pattern.tree x) (sym t2) (left_out s e state is reached (inl why)))
+
+not_empty : (xs ys : List Text) → ¬ (xs ≡ []) ⊎ ¬ (ys ≡ []) → ¬ (xs ++ ys ≡ [])
+not_empty [] ys (inl x) e = x refl
+not_empty [] ys (inr y) e = y e
+not_empty (x ∷ xs) ys h e = absurd (cc e)
+
+pub more_left_out : (s : Setting) (options : ExecuteOptions) (main : Text) → main ≡ s.main → (p : KorePattern) (sort : KoreSort) → IsElsewhere main options.module_name ⊎ IsListing options → IsUntold s options p sort
+more_left_out s options main same p sort (inl x) = elsewhere (subst (λ (m : Text). IsElsewhere m options.module_name) same x)
+more_left_out s options main same p sort (inr x) = stops_at_rules (not_empty options.cut_points options.terminals x)
+
+pub plain_at : (main there : Text) (options : ExecuteOptions) → main ≡ there → IsPlain main options → IsPlain there options
+plain_at main there options same h = subst (λ (m : Text). IsPlain m options) same h
+
+pub run_left_out : (s : Setting) (e : Execute) (state : State) (is : IsStateOf s.theory.signature e state) (bound : ℕ) → bound ≡ bound_of (options_of e) → IsNotAnswered s.theory (written_of state) bound → IsUntold s (options_of e) is.pattern is.sort
+run_left_out s e state is bound same (inl x) = mixes_values x
+run_left_out s e state is bound same (inr x) =
+    let ground = is.is_state.ground is.regular is.verifies in
+    no_run (value_view state.value) ground.meant
+    (subst (λ (n : ℕ). StopsUntold s.theory (record { value = value_view state.value; sort = is.sort }) n) same
+    (subst (λ (k : KoreSort). StopsUntold s.theory (record { value = value_view state.value; sort = k }) bound) is.is_state.sort_is x))
 
 -- ---- states
 
-state_here : (g : KoreSignature) (e : Execute) (p : KorePattern) (sort : KoreSort) (s : State) → IsStatePattern e p → VerifiesAs g p sort
-    → (IsRegular g → VerifiesAs g p sort → IsGroundState g p (sort_view s.sort) (value_view s.value)) → IsRegular g → IsStateOf g e s
-state_here g e p sort s is v ground regular = record { pattern = p; is_pattern = is; sort = sort; verifies = v; regular = regular; ground = ground regular v }
+state_here : (g : KoreSignature) (e : Execute) (p : KorePattern) (sort : KoreSort) (s : State) → IsStatePattern e p → VerifiesAs g p sort → IsStateAt g p sort s → IsRegular g → IsStateOf g e s
+state_here g e p sort s is v at regular = record { pattern = p; is_pattern = is; sort = sort; verifies = v; regular = regular; is_state = at }
 
-pub state_is : (g h : KoreSignature) → g ≡ h → (e : Execute) (p : KorePattern) (sort : KoreSort) (s : State) → IsStatePattern e p → VerifiesAs g p sort
-    → (IsRegular g → VerifiesAs g p sort → IsGroundState g p (sort_view s.sort) (value_view s.value)) → IsRegular h → IsStateOf h e s
-state_is g h same e p sort s is v ground = subst (λ (k : KoreSignature). IsRegular k → IsStateOf k e s) same (state_here g e p sort s is v ground)
+pub state_is : (g h : KoreSignature) → g ≡ h → (e : Execute) (p : KorePattern) (sort : KoreSort) (s : State) → IsStatePattern e p → VerifiesAs g p sort → IsStateAt g p sort s → IsRegular h → IsStateOf h e s
+state_is g h same e p sort s is v at = subst (λ (k : KoreSignature). IsRegular k → IsStateOf k e s) same (state_here g e p sort s is v at)
+
+-- the state's value has the sort that it is written at
+pub sorted_start : (g : KoreSignature) (e : Execute) (s : State) → IsStateOf g e s → HasSort g (sort_view s.sort) (value_view s.value)
+sorted_start g e s h = (h.is_state.ground h.regular h.verifies).sorted
+
+-- T2 of a state over a signature that mixes values
+pub mixed_failure : (g : KoreSignature) (s : Setting) → g ≡ s.theory.signature → keeps_values_apart s.theory.signature ≡ false → (e : Execute) (p : KorePattern) (sort : KoreSort) (state : State)
+    → IsReached s.names (options_of e).module_name → IsStatePattern e p → VerifiesAs g p sort → IsStateAt g p sort state
+    → (f : StateFault) → state_fault_view f ≡ not_verified other_shape → IsFailureOf s e (failure.Fault f)
+mixed_failure g s same mixed e p sort state reached is v at f t2 =
+    let error : IsPatternFault s.theory.signature (IsLeftOut s (options_of e)) p other_shape =
+    subst (λ (k : KoreSignature). IsPatternFault k (IsLeftOut s (options_of e)) p other_shape) same (sort, v, at.no_foreign, inl (mixes_values mixed)) in
+    (is.tree, is.has, subst (λ (x : RequestError). IsStateError s (options_of e) is.tree x) (sym t2) (reached, p, is.spells, error))
 
 pub spelled_at : (g h : KoreSignature) → g ≡ h → (s : KoreSort) (u : Value) (p : KorePattern) → (IsRegular g → HasSort g s u → IsSpellingOf g u p)
     → IsRegular h → HasSort h s u → IsSpellingOf h u p
@@ -148,11 +249,22 @@ pub end_line_is : (e : Execute) (end : Executed) (p : KorePattern) (line : Vec �
     option_map (λ (b : Vec ℕ Global). b.items) o ≡ option_map (λ (x : Data). reply_bytes (result_reply (id_view e.id) x)) (result_tree (record { depth = end.depth; reason = reason; state = record { term = p; predicate = None } }))
     → IsEndLine e end p line
 end_line_is e end p line o reason why is told =
-    inl (has_tree_of o line (id_view e.id) (result_tree (result_of end p)) is
-    (subst (λ (r : Reason). option_map (λ (b : Vec ℕ Global). b.items) o ≡ option_map (λ (x : Data). reply_bytes (result_reply (id_view e.id) x)) (result_tree (record { depth = end.depth; reason = r; state = record { term = p; predicate = None } }))) why told))
+    has_tree_of o line (id_view e.id) (result_tree (result_of end p)) is
+    (subst (λ (r : Reason). option_map (λ (b : Vec ℕ Global). b.items) o ≡ option_map (λ (x : Data). reply_bytes (result_reply (id_view e.id) x)) (result_tree (record { depth = end.depth; reason = r; state = record { term = p; predicate = None } }))) why told)
 
-pub refused_line : (t : Theory) (bytes : List ℕ) (id : RequestId) (error : RequestError) → IsRefused bytes id error → (line : List ℕ) → line ≡ reply_bytes (error_reply id error) → IsLine t bytes line
-refused_line t bytes id error because line l = (error_reply id error, inl (record { id = id; error = error; because = because; reply_is = refl }), l)
+pub read_reply : (s : Setting) (bytes : Vec ℕ Global) (reply : Option (Vec ℕ Global)) → IfNone reply (IsWhite bytes.items) → IfSome reply (λ _. ¬ IsWhite bytes.items) → IfSome reply (λ line. IsLine s bytes.items line.items)
+    → IsReplyToRead s (Ok bytes) reply
+read_reply s bytes None white seen line = white
+read_reply s bytes (Some l) white seen line = (seen, line)
 
-pub accepted_line : (t : Theory) (bytes : List ℕ) (e : Execute) → IsFrame bytes (data_view e.request) → (line : List ℕ) → IsLineTo t e line → IsLine t bytes line
-accepted_line t bytes e frame line l = (l.0, inr (data_view e.request, frame, l.1), l.2)
+pub read_reply_at : (s : Setting) (r : Result (Vec ℕ Global) LoadFault) (bytes : Vec ℕ Global) (read : List ℕ) (reply : Option (Vec ℕ Global)) → r ≡ Ok bytes → read ≡ bytes.items
+    → IfNone reply (IsWhite read) → IfSome reply (λ _. ¬ IsWhite read) → IfSome reply (λ line. IsLine s read line.items) → IsReplyToRead s r reply
+read_reply_at s r bytes read reply is same white seen line =
+    subst (λ (x : Result (Vec ℕ Global) LoadFault). IsReplyToRead s x reply) (sym is)
+    (read_reply s bytes reply (subst (λ (x : List ℕ). IfNone reply (IsWhite x)) same white) (subst (λ (x : List ℕ). IfSome reply (λ _. ¬ IsWhite x)) same seen) (subst (λ (x : List ℕ). IfSome reply (λ line. IsLine s x line.items)) same line))
+
+pub refused_line : (s : Setting) (bytes : List ℕ) (id : RequestId) (error : RequestError) → IsRefused bytes id error → (line : List ℕ) → line ≡ reply_bytes (error_reply id error) → IsLine s bytes line
+refused_line s bytes id error because line l = (error_reply id error, inl (record { id = id; error = error; because = because; reply_is = refl }), l)
+
+pub accepted_line : (s : Setting) (bytes : List ℕ) (e : Execute) → IsFrame bytes (data_view e.request) → (line : List ℕ) → IsLineTo s e line → IsLine s bytes line
+accepted_line s bytes e frame line l = (l.0, inr (data_view e.request, frame, l.1), l.2)

@@ -16,7 +16,7 @@ use Rattle.kp_run.specs.Runs.{IsRunOf, IsOnlyInstance, reason_of}
 use Rattle.kp_states.specs.Spelled.{IsSpellingOf}
 use Rattle.kp_run.specs.declared.run.Executed.{Executed}
 use Rattle.kp_run.specs.declared.run.Stop.{Stop}
-use Rattle.kp_run.specs.declared.run.Stop.TheVariants.{Stuck, DepthBound}
+use Rattle.kp_run.specs.declared.run.Stop.TheVariants.{Stuck, DepthBound, ForeignRule}
 
 -- a ground term's only instance is its value
 only_instance : (t : Theory) (s : KorePattern) (c : Value) → IsTrue (is_term s) → ((v : Valuation) → instance t.signature v s ≡ c) → IsOnlyInstance t s c
@@ -73,6 +73,7 @@ within t c bound e run = by_stop e.stop refl
     by_stop : (s : Stop) → e.stop ≡ s → e.depth ≤ bound
     by_stop Stuck is = let k = (run.stuck is).0 in omega arith
     by_stop DepthBound is = let k = run.at_bound is in omega arith
+    by_stop (ForeignRule id) is = let k = (run.foreign id is).0 in omega arith
 
 pub run_is_right : (t : Theory) (s s' : KorePattern) (c : Value) (bound : ℕ) (e : Executed) → IsRunOf t c bound e →
     IsTrue (is_term s) → free_variables s ≡ [] → ((v : Valuation) → instance t.signature v s ≡ c) → IsSpellingOf t.signature (value_view e.state.value) s' →

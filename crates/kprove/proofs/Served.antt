@@ -1,5 +1,5 @@
 -- From the parts of one answer to what is served.
-use Rattle.std.proofs.Common.{◌≡◌, zero, suc, ◌<◌, ◌≤◌, ℕ, List, [], ◌∷◌, length, Option, Some, None, IfSome, IfOk, IsErrOf, Result, Ok, Err, Vec, refl, sym, inl, inr, arith}
+use Rattle.std.proofs.Common.{◌≡◌, ◌⊎◌, zero, suc, ◌<◌, ◌≤◌, ℕ, List, [], ◌∷◌, length, Option, Some, None, IfSome, IfOk, IsErrOf, Result, Ok, Err, Vec, refl, sym, inl, inr, arith}
 use Rattle.std.proofs.lemmas.List.{append-nil}
 use Rattle.std.specs.Io.KnownBytes.{Appends}
 use Rattle.std.specs.declared.alloc.Global.{Global}
@@ -7,64 +7,57 @@ use Rattle.serde_json.specs.Data.{Data}
 use Rattle.kp_io.specs.Outside.{Names}
 use Rattle.kp_io.specs.declared.fault.LoadFault.{LoadFault}
 use Rattle.kp_io.specs.declared.fault.LoadFault.TheVariants as load
-use Rattle.kp_modules.specs.Tables.{RunsTable}
 use Rattle.kp_modules.specs.declared.table.Table.{Table}
-use Rattle.kp_semantics.specs.Theory.{Theory}
 use Rattle.kp_rpc.specs.Frame.{IsFrame, most_frame}
 use Rattle.kp_rpc.specs.Request.{id_null}
 use Rattle.kp_rpc.specs.Reply.{error_reply, parse_error, reply_bytes}
-use Rattle.kprove.specs.Ends.{IsTableOf, IsReplyToRead, written}
-use Rattle.kprove.specs.Right.{IsSilence, Answers, Serves}
+use Rattle.kprove.specs.Ends.{AnswersInput, IsTableOf, IsReplyToRead, written}
+use Rattle.kprove.specs.Right.{IsSilence, Answers, Serves, Setting}
 
 -- what isn't white, or is longer than a frame, and is no frame, is answered with a parse error
-no_frame : (t : Theory) (taken gained : List ℕ) → ¬ IsSilence taken → ((d : Data) → ¬ IsFrame taken d) → gained ≡ reply_bytes (error_reply id_null parse_error) → Answers t taken gained
+no_frame : (t : Setting) (taken gained : List ℕ) → ¬ IsSilence taken → ((d : Data) → ¬ IsFrame taken d) → gained ≡ reply_bytes (error_reply id_null parse_error) → Answers t taken gained
 no_frame t taken gained heard none is =
     inr (heard, error_reply id_null parse_error, inl (record { id = id_null; error = parse_error; because = (none, refl); reply_is = refl }), is)
 
-too_long : (t : Theory) (taken gained : List ℕ) → most_frame < length taken → gained ≡ reply_bytes (error_reply id_null parse_error) → Answers t taken gained
+too_long : (t : Setting) (taken gained : List ℕ) → most_frame < length taken → gained ≡ reply_bytes (error_reply id_null parse_error) → Answers t taken gained
 too_long t taken gained long is = no_frame t taken gained (λ s. let a = s.1 in absurd (omega arith)) (λ d f. let a = f.fits in absurd (omega arith)) is
 
 -- bytes that are longer stand for those that aren't told
-some_longer : (n : ℕ) → (xs : List ℕ) × (n < length xs)
+pub some_longer : (n : ℕ) → (xs : List ℕ) × (n < length xs)
 some_longer zero = (0 ∷ [], omega arith)
 some_longer (suc n) = let r = some_longer n in let l : n < length r.0 = r.1 in (0 ∷ r.0, omega arith)
 
--- the input that was read, with its answer
-pub record IsInput (t : Theory) (left : Option (List ℕ)) (gained : List ℕ) : Type 0 where
-  pub taken : List ℕ
-  pub taken_is : IfSome left (λ bytes. taken ≡ bytes)
-  pub answers : Answers t taken gained
+-- the input that was read, with what was gained of its answer
+long_input : (t : Setting) (left : Option (List ℕ)) (answer : List ℕ) (Gains : List ℕ → Type 0) → IfSome left (λ bytes. most_frame < length bytes) → answer ≡ reply_bytes (error_reply id_null parse_error) → Gains answer → AnswersInput t left Gains
+long_input t None answer Gains long is gains = let r = some_longer most_frame in record { taken = r.0; answer = answer; taken_is = tt; gains = gains; answers = too_long t r.0 answer r.1 is }
+long_input t (Some bytes) answer Gains long is gains = record { taken = bytes; answer = answer; taken_is = refl; gains = gains; answers = too_long t bytes answer long is }
 
-long_input : (t : Theory) (left : Option (List ℕ)) (gained : List ℕ) → IfSome left (λ bytes. most_frame < length bytes) → gained ≡ reply_bytes (error_reply id_null parse_error) → IsInput t left gained
-long_input t None gained long is = let r = some_longer most_frame in record { taken = r.0; taken_is = tt; answers = too_long t r.0 gained r.1 is }
-long_input t (Some bytes) gained long is = record { taken = bytes; taken_is = refl; answers = too_long t bytes gained long is }
-
-input_of : (t : Theory) (left : Option (List ℕ)) (r : Result (Vec ℕ Global) LoadFault) (reply : Option (Vec ℕ Global)) →
+pub input_of : (t : Setting) (left : Option (List ℕ)) (r : Result (Vec ℕ Global) LoadFault) (reply : Option (Vec ℕ Global)) (Gains : List ℕ → Type 0) →
     IfOk r (λ bytes. IfSome left (λ l. bytes.items ≡ l)) → IfOk r (λ bytes. length bytes.items ≤ most_frame) →
-    (IsErrOf r load.TooLong → IfSome left (λ l. most_frame < length l)) → IsReplyToRead t r reply → IsInput t left (written reply)
-input_of t left (Ok bytes) None whole within long h = record { taken = bytes.items; taken_is = whole; answers = inl ((h, within), refl) }
-input_of t left (Ok bytes) (Some line) whole within long h = record { taken = bytes.items; taken_is = whole; answers = inr ((λ s. h.0 s.0), h.1.0, h.1.1, h.1.2) }
-input_of t left (Err load.TooLong) None whole within long h = absurd h
-input_of t left (Err load.TooLong) (Some line) whole within long h = long_input t left line.items (long refl) h
-input_of t left (Err load.Failed) reply whole within long h = absurd h
-input_of t left (Err load.Memory) reply whole within long h = absurd h
+    (IsErrOf r load.TooLong → IfSome left (λ l. most_frame < length l)) → IsReplyToRead t r reply → Gains (written reply) → AnswersInput t left Gains
+input_of t left (Ok bytes) None Gains whole within long h gains = record { taken = bytes.items; answer = []; taken_is = whole; gains = gains; answers = inl ((h, within), refl) }
+input_of t left (Ok bytes) (Some line) Gains whole within long h gains = record { taken = bytes.items; answer = line.items; taken_is = whole; gains = gains; answers = inr ((λ s. h.0 s.0), h.1.0, h.1.1, h.1.2) }
+input_of t left (Err load.TooLong) None Gains whole within long h gains = absurd h
+input_of t left (Err load.TooLong) (Some line) Gains whole within long h gains = long_input t left line.items Gains (long refl) h gains
+input_of t left (Err load.Failed) reply Gains whole within long h gains = absurd h
+input_of t left (Err load.Memory) reply Gains whole within long h gains = absurd h
 
-pub serves : (names : Option Names) (left before after : Option (List ℕ)) (name main file : List ℕ) (table : Table) (r : Result (Vec ℕ Global) LoadFault) (reply : Option (Vec ℕ Global)) →
-    IfSome names (λ held. held name ≡ Some file) → IsTableOf file main table →
-    IfOk r (λ bytes. IfSome left (λ l. bytes.items ≡ l)) → IfOk r (λ bytes. length bytes.items ≤ most_frame) →
-    (IsErrOf r load.TooLong → IfSome left (λ l. most_frame < length l)) →
-    ((t : Theory) → RunsTable t table → IsReplyToRead t r reply) → Appends before after (written reply) → Serves names left before after name main
-serves names left before after name main file table r reply is table_is whole within long told gains =
-    let input = input_of table_is.theory left r reply whole within long (told table_is.theory table_is.runs) in
-    record {
-      file = file;
-      taken = input.taken;
-      gained = written reply;
-      file_is = is;
-      taken_is = input.taken_is;
-      gained_is = gains;
-      is_served = record { definition = table_is.definition; spells = table_is.spells; theory = table_is.theory; means = table_is.means; answers = input.answers };
-    }
+pub serves : (names : Option Names) (left : Option (List ℕ)) (Gains : List ℕ → Type 0) (name main file : List ℕ) (table : Table) →
+    IfSome names (λ held. held name ≡ Some file) → (is : IsTableOf file main table) → AnswersInput is.setting left Gains → Serves names left Gains name main
+serves names left Gains name main file table there is input = record {
+  file = file;
+  taken = input.taken;
+  answer = input.answer;
+  file_is = there;
+  taken_is = input.taken_is;
+  gains = input.gains;
+  is_served = record { faultless = is.faultless; definition = is.definition; spells = is.spells; setting = is.setting; is_setting = is.is_setting; answers = input.answers };
+}
+
+pub serves_front : (names : Option Names) (left : Option (List ℕ)) (Same : Type 0) (Gains : List ℕ → Type 0) (name main file : List ℕ) (table : Table) →
+    IfSome names (λ held. held name ≡ Some file) → (is : IsTableOf file main table) → Same ⊎ AnswersInput is.setting left Gains → Same ⊎ Serves names left Gains name main
+serves_front names left Same Gains name main file table there is (inl same) = inl same
+serves_front names left Same Gains name main file table there is (inr input) = inr (serves names left Gains name main file table there is input)
 
 -- nothing is gained by writing nothing
 pub gains_nothing : (held : Option (List ℕ)) → Appends held held []

@@ -1,9 +1,9 @@
 -- What is told between a request and its reply; for private clauses.
-use Rattle.std.specs.Prelude.{◌≡◌, ◌⊎◌, ℕ, List, [], Option, Some, None, Result, Ok, Err, Vec, ⊤}
+use Rattle.std.specs.Prelude.{◌≡◌, ◌⊎◌, ℕ, List, [], Option, Some, None, Result, Ok, Err, Vec, IfSome, string_bytes, ⊤}
 use Rattle.std.specs.declared.alloc.Global.{Global}
 use Rattle.serde_json.specs.Data.{Data}
 use Rattle.serde_json.specs.View.{view as data_view}
-use Rattle.kp_kore.specs.Syntax.{KoreSort, KorePattern, KoreDefinition}
+use Rattle.kp_kore.specs.Syntax.{Text, KoreSort, KorePattern, KoreDefinition}
 use Rattle.kp_kore.specs.Signature.{KoreSignature}
 use Rattle.kp_kore.specs.View.{sort_view}
 use Rattle.kp_io.specs.declared.fault.LoadFault.{LoadFault}
@@ -13,42 +13,50 @@ use Rattle.kp_json.specs.Trees.{SpellsWrapped}
 use Rattle.kp_signature.specs.Faults.{fault_view}
 use Rattle.kp_signature.specs.Verify.{FailsWith, VerifiesAs, VerifyFault}
 use Rattle.kp_signature.specs.declared.error.VerifyError.{VerifyError}
-use Rattle.kp_semantics.specs.Theory.{Theory, IsTheoryOf}
 use Rattle.kp_semantics.specs.Sorted.{IsRegular}
 use Rattle.kp_ground.specs.View.{value_view}
-use Rattle.kp_modules.specs.Tables.{RunsTable}
+use Rattle.kp_modules.specs.Reaching.{has}
+use Rattle.kp_modules.specs.Tables.{RunsTable, does_reach, main_of}
 use Rattle.kp_modules.specs.declared.table.Table.{Table}
-use Rattle.kp_run.specs.Runs.{IsRunOf, reason_of}
-use Rattle.kp_states.specs.Spelled.{IsGroundState}
+use Rattle.kp_run.specs.Causes.{IsNotAnswered}
+use Rattle.kp_run.specs.Runs.{IsRunOf, reason_of, written_of}
+use Rattle.kp_states.specs.Spelled.{IsGroundState, IsOtherShape, first_foreign}
 use Rattle.kp_states.specs.declared.state.State.{State}
 use Rattle.kp_run.specs.declared.run.Executed.{Executed}
 use Rattle.kp_rpc.specs.Frame.{IsWhite}
-use Rattle.kp_rpc.specs.Request.{ExecuteOptions, id_null}
+use Rattle.kp_rpc.specs.Request.{ExecuteOptions, bound_of, id_null}
 use Rattle.kp_rpc.specs.Causes.{IsExecuteTree}
 use Rattle.kp_rpc.specs.Readings.{read_state}
 use Rattle.kp_rpc.specs.Reply.{ExecuteResult, error_reply, not_verified, other_shape, parse_error, reply_bytes, result_reply, result_tree}
 use Rattle.kp_rpc.specs.View.{id_view, options_view, pattern_fault_view, state_fault_view}
 use Rattle.kp_rpc.specs.declared.fault.StateFault.TheVariants as fault
 use Rattle.kp_rpc.specs.declared.request.Execute.{Execute}
-use Rattle.kprove.specs.Right.{IsPatternFault, IsStateError, IsFaulted, IsAnswered, IsReply}
+use Rattle.kprove.specs.Faults.{IsFaultless}
+use Rattle.kprove.specs.Right.{Answers, IsElsewhere, IsReached, IsPatternFault, IsSetting, IsStateError, IsFaulted, IsAnswered, IsReply, Setting}
 use Rattle.kprove.specs.declared.answer.Failure.{Failure}
 use Rattle.kprove.specs.declared.answer.Failure.TheVariants as failure
 
--- the file's bytes spell a definition, of whose theory for the main module the table is
+-- the table is that of the setting
+pub record IsSettingOf (s : Setting) (table : Table) : Type 0 where
+  pub runs : RunsTable s.theory table
+  pub main_is : main_of table ≡ s.main
+  pub reaches : (n : Text) → does_reach table n ≡ has n s.names
+
+-- the file has no fault, and its bytes spell a definition, of whose setting for the main module the table is
 pub record IsTableOf (file main : List ℕ) (table : Table) : Type 0 where
+  pub faultless : IsFaultless file main
   pub definition : KoreDefinition
   pub spells : SpellsDefinition file definition
-  pub theory : Theory
-  pub means : IsTheoryOf definition main theory
-  pub runs : RunsTable theory table
+  pub setting : Setting
+  pub is_setting : IsSetting definition main setting
+  pub is_table : IsSettingOf setting table
 
 -- what was read of a request is what its tree is
 abbrev pub IsRead : Execute → Type 0
 IsRead e = IsExecuteTree (data_view e.request) (id_view e.id) (options_view e.options)
 
--- the options of a request that has none
-abbrev pub no_options : ExecuteOptions
-no_options = record { max_depth = None; module_name = None; cut_points = []; terminals = [] }
+abbrev pub options_of : Execute → ExecuteOptions
+options_of e = options_view e.options
 
 -- the request's state spells the pattern
 pub record IsStatePattern (e : Execute) (p : KorePattern) : Type 0 where
@@ -56,24 +64,43 @@ pub record IsStatePattern (e : Execute) (p : KorePattern) : Type 0 where
   pub has : read_state (data_view e.request) ≡ Some tree
   pub spells : SpellsWrapped tree p
 
--- a failure tells what is wrong with a tree, with a pattern; want of memory tells nothing
-abbrev pub IsWrongTree : KoreSignature → Data → Failure → Type 0
-IsWrongTree g tree failure.Memory = ⊤
-IsWrongTree g tree (failure.Fault f) = IsStateError g tree (state_fault_view f)
+-- ---- failures
 
-abbrev pub IsWrongPattern : KoreSignature → KorePattern → Failure → Type 0
-IsWrongPattern g p failure.Memory = ⊤
-IsWrongPattern g p (failure.Fault (fault.Json f)) = ⊥
-IsWrongPattern g p (failure.Fault (fault.Verify f)) = IsPatternFault g p (pattern_fault_view f)
-IsWrongPattern g p (failure.Fault (fault.NoModule name)) = ⊥
+-- a failure tells what is wrong with a pattern; want of memory tells nothing
+abbrev pub IsWrongPattern : KoreSignature → (KorePattern → KoreSort → Type 0) → KorePattern → Failure → Type 0
+IsWrongPattern g LeftOut p failure.Memory = ⊤
+IsWrongPattern g LeftOut p (failure.Fault (fault.Json f)) = ⊥
+IsWrongPattern g LeftOut p (failure.Fault (fault.Verify f)) = IsPatternFault g LeftOut p (pattern_fault_view f)
+IsWrongPattern g LeftOut p (failure.Fault (fault.NoModule name)) = ⊥
 
--- with the request's state
-abbrev pub IsFailureOf : KoreSignature → Execute → Failure → Type 0
-IsFailureOf g e f = (tree : Data) × (read_state (data_view e.request) ≡ Some tree) × IsWrongTree g tree f
+-- it tells this name of a module that isn't reached
+abbrev pub TellsName : Text → Failure → Type 0
+TellsName n failure.Memory = ⊤
+TellsName n (failure.Fault (fault.Json f)) = ⊥
+TellsName n (failure.Fault (fault.Verify f)) = ⊥
+TellsName n (failure.Fault (fault.NoModule name)) = string_bytes name ≡ n
+
+-- with a tree
+abbrev pub IsWrongTree : Setting → ExecuteOptions → Data → Failure → Type 0
+IsWrongTree s options tree failure.Memory = ⊤
+IsWrongTree s options tree (failure.Fault f) = IsStateError s options tree (state_fault_view f)
+
+-- with a request
+abbrev pub IsFailureOf : Setting → Execute → Failure → Type 0
+IsFailureOf s e f = (tree : Data) × (read_state (data_view e.request) ≡ Some tree) × IsWrongTree s (options_of e) tree f
 
 -- the error tells the pattern's first fault
 abbrev pub TellsFault : KoreSignature → KorePattern → VerifyError → Type 0
 TellsFault g p e = (f : VerifyFault) → fault_view e ≡ Some f → FailsWith g p f
+
+-- ---- states and runs
+
+-- the state is that of a verified pattern of this sort
+pub record IsStateAt (g : KoreSignature) (p : KorePattern) (sort : KoreSort) (s : State) : Type 0 where
+  pub no_foreign : first_foreign g p ≡ None
+  pub shape : ¬ IsOtherShape g p
+  pub sort_is : sort_view s.sort ≡ sort
+  pub ground : IsRegular g → VerifiesAs g p sort → IsGroundState g p (sort_view s.sort) (value_view s.value)
 
 -- the request's state has no fault, and is this ground state
 pub record IsStateOf (g : KoreSignature) (e : Execute) (s : State) : Type 0 where
@@ -82,22 +109,36 @@ pub record IsStateOf (g : KoreSignature) (e : Execute) (s : State) : Type 0 wher
   pub sort : KoreSort
   pub verifies : VerifiesAs g pattern sort
   pub regular : IsRegular g
-  pub ground : IsGroundState g pattern (sort_view s.sort) (value_view s.value)
+  pub is_state : IsStateAt g pattern sort s
 
--- the run of the request's state, for a request without options
-pub record IsEndOf (t : Theory) (e : Execute) (end : Executed) : Type 0 where
-  pub plain : options_view e.options ≡ no_options
+-- it has rules to stop at
+abbrev pub IsListing : ExecuteOptions → Type 0
+IsListing options = ¬ (options.cut_points ≡ []) ⊎ ¬ (options.terminals ≡ [])
+
+-- no module is asked for but main, and no rules to stop at
+pub record IsPlain (main : Text) (options : ExecuteOptions) : Type 0 where
+  pub here : ¬ IsElsewhere main options.module_name
+  pub cut_points : options.cut_points ≡ []
+  pub terminals : options.terminals ≡ []
+
+-- the run of the request's state, which is told
+pub record IsEndOf (s : Setting) (e : Execute) (end : Executed) : Type 0 where
+  pub reached : IsReached s.names (options_of e).module_name
+  pub plain : IsPlain s.main (options_of e)
   pub start : State
-  pub is_start : IsStateOf t.signature e start
-  pub run : IsRunOf t (value_view start.value) 10000 end
+  pub is_start : IsStateOf s.theory.signature e start
+  pub run : IsRunOf s.theory (value_view start.value) (bound_of (options_of e)) end
+  pub told : ¬ IsNotAnswered s.theory (written_of start) (bound_of (options_of e))
+
+-- ---- lines
 
 -- the line is a reply to the request's tree
-abbrev pub IsLineTo : Theory → Execute → List ℕ → Type 0
-IsLineTo t e line = (reply : Data) × (IsFaulted t (data_view e.request) reply ⊎ IsAnswered t (data_view e.request) reply) × (line ≡ reply_bytes reply)
+abbrev pub IsLineTo : Setting → Execute → List ℕ → Type 0
+IsLineTo s e line = (reply : Data) × (IsFaulted s (data_view e.request) reply ⊎ IsAnswered s (data_view e.request) reply) × (line ≡ reply_bytes reply)
 
 -- the line is a reply to the bytes
-abbrev pub IsLine : Theory → List ℕ → List ℕ → Type 0
-IsLine t bytes line = (reply : Data) × IsReply t bytes reply × (line ≡ reply_bytes reply)
+abbrev pub IsLine : Setting → List ℕ → List ℕ → Type 0
+IsLine s bytes line = (reply : Data) × IsReply s bytes reply × (line ≡ reply_bytes reply)
 
 -- the reply with T2
 abbrev pub unanswered_bytes : Execute → List ℕ
@@ -107,22 +148,30 @@ unanswered_bytes e = reply_bytes (error_reply (id_view e.id) (not_verified other
 abbrev pub result_of : Executed → KorePattern → ExecuteResult
 result_of end p = record { depth = end.depth; reason = reason_of end.stop; state = record { term = p; predicate = None } }
 
--- the line has the result, or T2 where that has no tree
+-- the line has the result
 abbrev pub IsEndLine : Execute → Executed → KorePattern → Vec ℕ Global → Type 0
-IsEndLine e end p line = ((tree : Data) × (result_tree (result_of end p) ≡ Some tree) × (line.items ≡ reply_bytes (result_reply (id_view e.id) tree))) ⊎ (line.items ≡ unanswered_bytes e)
+IsEndLine e end p line = (tree : Data) × (result_tree (result_of end p) ≡ Some tree) × (line.items ≡ reply_bytes (result_reply (id_view e.id) tree))
 
 -- ---- the input and the output
 
 -- the reply to what was read: none to white space; more than a frame may have is no frame
-abbrev pub IsReplyToRead : Theory → Result (Vec ℕ Global) LoadFault → Option (Vec ℕ Global) → Type 0
-IsReplyToRead t (Ok bytes) None = IsWhite bytes.items
-IsReplyToRead t (Ok bytes) (Some line) = ¬ IsWhite bytes.items × IsLine t bytes.items line.items
-IsReplyToRead t (Err load.TooLong) None = ⊥
-IsReplyToRead t (Err load.TooLong) (Some line) = line.items ≡ reply_bytes (error_reply id_null parse_error)
-IsReplyToRead t (Err load.Failed) reply = ⊥
-IsReplyToRead t (Err load.Memory) reply = ⊥
+abbrev pub IsReplyToRead : Setting → Result (Vec ℕ Global) LoadFault → Option (Vec ℕ Global) → Type 0
+IsReplyToRead s (Ok bytes) None = IsWhite bytes.items
+IsReplyToRead s (Ok bytes) (Some line) = ¬ IsWhite bytes.items × IsLine s bytes.items line.items
+IsReplyToRead s (Err load.TooLong) None = ⊥
+IsReplyToRead s (Err load.TooLong) (Some line) = line.items ≡ reply_bytes (error_reply id_null parse_error)
+IsReplyToRead s (Err load.Failed) reply = ⊥
+IsReplyToRead s (Err load.Memory) reply = ⊥
 
 -- what is written of a reply
 abbrev pub written : Option (Vec ℕ Global) → List ℕ
 written None = []
 written (Some line) = line.items
+
+-- to what was left a server of this setting wrote an answer
+pub record AnswersInput (s : Setting) (left : Option (List ℕ)) (Gains : List ℕ → Type 0) : Type 0 where
+  pub taken : List ℕ
+  pub answer : List ℕ
+  pub taken_is : IfSome left (λ bytes. taken ≡ bytes)
+  pub gains : Gains answer
+  pub answers : Answers s taken answer

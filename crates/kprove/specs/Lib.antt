@@ -1,4 +1,6 @@
 pub mod Ends
+pub mod Faults
 pub mod Right
 pub mod Statuses
+pub mod Troubles
 pub mod Words

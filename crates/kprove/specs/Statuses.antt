@@ -1,13 +1,75 @@
--- The program's statuses.
+-- How the program ends otherwise than by serving its input: its statuses, their causes, and the lines on standard error.
 -- Source: this project.
-use Rattle.std.specs.Prelude.{ℕ}
-use Rattle.kprove.specs.declared.trouble.Trouble.{Trouble}
-use Rattle.kprove.specs.declared.trouble.Trouble.TheVariants as trouble
+use Rattle.std.specs.Prelude.{◌≡◌, ◌⊎◌, ℕ, List, ◌++◌, Option, Some, None, IfSome, codes, ⊤}
+use Rattle.std.specs.Fmt.{decimal}
+use Rattle.std.specs.Io.KnownBytes.{Appends}
+use Rattle.kp_kore.specs.Syntax.{Text}
+use Rattle.kp_io.specs.Outside.{Names}
+use Rattle.kp_text.specs.Kinds.{kind_number}
+use Rattle.kp_modules.specs.Faults.{fault_code}
+use Rattle.kprove.specs.Faults.{FileFault, too_long, in_text, in_modules, IsFileFault, IsFaultless}
+use Rattle.kprove.specs.Right.{GainsFront}
+use Rattle.kprove.specs.Words.{SpellsStdio, SpellsSome}
 
--- the status of each way to end otherwise than by serving the input
-abbrev pub status_of : Trouble → ℕ
-status_of trouble.Usage = 3
-status_of (trouble.File name fault) = 4
-status_of (trouble.NoFile name) = 5
-status_of trouble.Outside = 6
-status_of trouble.Memory = 7
+-- the words are no command; the file of this name has a fault; there is no file of this name; the shelf, the input or
+-- the output failed; memory ran out
+pub data Ending : Type 0 where
+  usage : Ending
+  faulty : Text → FileFault → Ending
+  no_file : Text → Ending
+  outside : Ending
+  memory : Ending
+
+abbrev pub status_of : Ending → ℕ
+status_of usage = 3
+status_of (faulty name f) = 4
+status_of (no_file name) = 5
+status_of outside = 6
+status_of memory = 7
+
+-- ---- lines on standard error
+
+-- the words for a file's fault, behind the file's name
+abbrev pub fault_words : FileFault → Text
+fault_words too_long = codes ": too long\n"
+fault_words (in_text f) = codes ": text " ++ decimal (kind_number f.kind) ++ codes " at " ++ decimal f.at ++ codes "\n"
+fault_words (in_modules f) = codes ": " ++ fault_code f ++ codes "\n"
+
+abbrev pub line_of : Ending → Text
+line_of usage = codes "kprove: usage\n"
+line_of (faulty name f) = codes "kprove: " ++ name ++ fault_words f
+line_of (no_file name) = codes "kprove: no file " ++ name ++ codes "\n"
+line_of outside = codes "kprove: fault\n"
+line_of memory = codes "kprove: memory\n"
+
+-- the line was written, or a front of it where writing failed
+abbrev pub Tells : Type 0 → Option (List ℕ) → Option (List ℕ) → Text → Type 0
+Tells failed before after line = Appends before after line ⊎ (failed × GainsFront before after line)
+
+-- ---- causes
+
+-- why a program with these words ends so, over a shelf with these names; want of memory needs no cause
+abbrev pub IsCause : Option Names → List Text → Type 0 → Ending → Type 0
+IsCause names words failed usage = ¬ SpellsSome words
+IsCause names words failed (faulty name f) = (main : Text) × SpellsStdio words name main × (file : List ℕ) × IfSome names (λ held. held name ≡ Some file) × IsFileFault file main f
+IsCause names words failed (no_file name) = (main : Text) × SpellsStdio words name main × IfSome names (λ held. held name ≡ None)
+IsCause names words failed outside = failed
+IsCause names words failed memory = ⊤
+
+-- the status is that of an ending that has its cause, and standard error got its line
+pub record IsEnded (names : Option Names) (words : List Text) (failed : Type 0) (before after : Option (List ℕ)) (untold : Type 0) (status : ℕ) : Type 0 where
+  pub ending : Ending
+  pub status_is : status ≡ status_of ending
+  pub because : IsCause names words failed ending
+  pub told : Tells untold before after (line_of ending)
+
+-- ---- where it can't end so
+
+-- the words spell a command whose file is there and has no fault
+pub record IsServable (words : List Text) (held : Names) : Type 0 where
+  pub name : Text
+  pub main : Text
+  pub file : List ℕ
+  pub spells : SpellsStdio words name main
+  pub there : held name ≡ Some file
+  pub faultless : IsFaultless file main

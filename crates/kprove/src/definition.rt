@@ -1,10 +1,13 @@
-ghost use Rattle.std.specs.Prelude.{◌≡◌, ◌≢◌, ◌≤◌, ℕ, Err, IfOk, IfSome, IsErrOf, List, Some};
-ghost use Rattle.kp_io.specs.Outside.{Rose};
+ghost use Rattle.std.specs.Prelude.{◌≡◌, ◌≤◌, ℕ, IfErr, IfOk, IfSome, List, Some, length};
+ghost use Rattle.kp_io.specs.Outside.{Rose, load_limit};
 ghost use Rattle.kprove.specs.Ends.{IsTableOf};
+ghost use Rattle.kprove.specs.Statuses.{IsCause};
+ghost use Rattle.kprove.specs.Troubles.{IsFaulty, ending_of};
+ghost use Rattle.kprove.specs.Words.{SpellsStdio};
 
 use crate::command::Stdio;
-use crate::trouble::{Trouble, load_trouble, module_trouble, no_file, read_trouble};
-use kp_io::Shelf;
+use crate::trouble::{FileFault, Trouble, file_trouble, module_trouble, no_file, read_trouble};
+use kp_io::{LoadFault, Shelf};
 use kp_modules::{Table, load};
 use kp_text::read_definition;
 use std::alloc::Global;
@@ -12,24 +15,24 @@ use std::alloc::Global;
 /// The table of the definition that a command names.
 pub fn load_table<H: Shelf>(alloc: Global, shelf: &mut H, command: &Stdio) -> Result<Table, Trouble>
     ensures loaded { IfOk result (λ table. (file : List ℕ) × IfSome (H.names shelf.old) (λ held. held command.now.definition.now ≡ Some file) × IsTableOf file command.now.module_name.now table) }
+    ensures cause { (words : List (List ℕ)) → SpellsStdio words command.now.definition.now command.now.module_name.now → IfErr result (λ trouble. IsCause (H.names shelf.old) words (Rose (H.fault_count shelf.old) (H.fault_count shelf.new)) (ending_of trouble)) }
     ensures kept { H.names shelf.new ≡ H.names shelf.old }
     ensures never_falls { H.fault_count shelf.old ≤ H.fault_count shelf.new }
-    ensures outside { IsErrOf result Trouble.Outside → Rose (H.fault_count shelf.old) (H.fault_count shelf.new) }
-    ensures usage { result ≢ Err Trouble.Usage }
 {
     let name = command.definition;
     match shelf.load(alloc, name) {
         Ok(Some(bytes)) => table_of(alloc, name, &bytes, command.module_name),
         Ok(None) => Err(no_file(alloc, name)),
-        Err(fault) => Err(load_trouble(alloc, name, fault)),
+        Err(LoadFault::TooLong) => Err(file_trouble(alloc, name, FileFault::TooLong)),
+        Err(LoadFault::Failed) => Err(Trouble::Outside),
+        Err(LoadFault::Memory) => Err(Trouble::Memory),
     }
 }
 
 /// The table of the definition in a file, of this name, with these bytes.
 fn table_of(alloc: Global, name: &str, bytes: &[u8], main: &str) -> Result<Table, Trouble>
-    ensures table { IfOk result (IsTableOf bytes.now main.now) }
-    ensures outside { result ≢ Err Trouble.Outside }
-    ensures usage { result ≢ Err Trouble.Usage }
+    ensures table { length bytes.now ≤ load_limit → IfOk result (IsTableOf bytes.now main.now) }
+    ensures fault { length bytes.now ≤ load_limit → IfErr result (IsFaulty bytes.now name.now main.now) }
 {
     let definition = match read_definition(alloc, bytes) {
         Ok(definition) => definition,

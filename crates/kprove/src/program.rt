@@ -1,17 +1,16 @@
-ghost use Rattle.std.specs.Prelude.{◌≡◌, ◌≢◌, ◌≤◌, ◌↔◌, ◌⊎◌, ℕ, Err, IfOk, IsErrOf, List, OnOk, map, string_bytes};
+ghost use Rattle.std.specs.Prelude.{◌≡◌, ◌≢◌, ◌≤◌, ◌↔◌, ◌⊎◌, ℕ, IfErr, IfOk, IfSome, IsErrOf, List, OnErr, OnOk, map, string_bytes};
 ghost use Rattle.std.specs.Io.KnownBytes.{Appends};
 ghost use Rattle.kp_io.specs.Outside.{Rose};
-ghost use Rattle.kp_modules.specs.Tables.{RunsTable};
-ghost use Rattle.kp_semantics.specs.Theory.{Theory};
-ghost use Rattle.kprove.specs.Ends.{IsReplyToRead, written};
-ghost use Rattle.kprove.specs.Right.{Serves};
-ghost use Rattle.kprove.specs.Statuses.{status_of};
+ghost use Rattle.kprove.specs.Ends.{AnswersInput, IsReplyToRead, IsSettingOf, written};
+ghost use Rattle.kprove.specs.Right.{GainsFront, Serves, ServesWords, Setting};
+ghost use Rattle.kprove.specs.Statuses.{IsCause, IsEnded, IsServable, status_of};
+ghost use Rattle.kprove.specs.Troubles.{IsLate, ending_of};
 ghost use Rattle.kprove.specs.Words.{SpellsStdio, SpellsSome};
 
 use crate::answer::answer;
 use crate::command::{Stdio, command_of};
 use crate::definition::load_table;
-use crate::trouble::Trouble;
+use crate::trouble::{Trouble, ended, told};
 use kp_io::{LoadFault, OutsideFault, Shelf, Sink, Source, put_all, read_all};
 use kp_modules::Table;
 use kp_rpc::{Id, Refusal, refusal_text};
@@ -23,7 +22,6 @@ const FRAME_LIMIT: usize = 4_194_304;
 /// Does all that the program does, and answers its status: 0 where the input was served, 3 where the words spell no
 /// command, 4 where a file has a fault, 5 where a file isn't there, 6 where a count of faults of the shelf, the input
 /// or the output rose, 7 where memory ran out. At another status than 0 `err` gets a line that says why.
-#[tactic(auto, using(crate::proofs::Spelled::only_usage, crate::proofs::Spelled::none_spelled, crate::proofs::Spelled::some_spelled))]
 pub fn run<H: Shelf, I: Source, O: Sink, E: Sink>(
     alloc: Global,
     words: &[String],
@@ -32,18 +30,18 @@ pub fn run<H: Shelf, I: Source, O: Sink, E: Sink>(
     out: &mut O,
     err: &mut E,
 ) -> u8
-    ensures served { result ≡ 0 → (name : List ℕ) × (main : List ℕ) × SpellsStdio (map string_bytes words.now) name main × Serves (H.names shelf.old) (I.left input.old) (O.held out.old) (O.held out.new) name main }
-    ensures statuses { (result ≡ 0) ⊎ ((3 ≤ result) × (result ≤ 7)) }
+    ensures served { result ≡ 0 → ServesWords (H.names shelf.old) (I.left input.old) (Appends (O.held out.old) (O.held out.new)) (map string_bytes words.now) }
+    ensures ended { result ≢ 0 → IsEnded (H.names shelf.old) (map string_bytes words.now) (Rose (H.fault_count shelf.old) (H.fault_count shelf.new) ⊎ (Rose (I.fault_count input.old) (I.fault_count input.new) ⊎ Rose (O.fault_count out.old) (O.fault_count out.new))) (E.held err.old) (E.held err.new) (Rose (E.fault_count err.old) (E.fault_count err.new)) result }
     ensures usage { (result ≡ 3) ↔ ¬ SpellsSome (map string_bytes words.now) }
-    ensures outside { result ≡ 6 → Rose (H.fault_count shelf.old) (H.fault_count shelf.new) ⊎ (Rose (I.fault_count input.old) (I.fault_count input.new) ⊎ Rose (O.fault_count out.old) (O.fault_count out.new)) }
+    ensures complete { IfSome (H.names shelf.old) (λ held. IsServable (map string_bytes words.now) held → ¬ (Rose (H.fault_count shelf.old) (H.fault_count shelf.new) ⊎ (Rose (I.fault_count input.old) (I.fault_count input.new) ⊎ Rose (O.fault_count out.old) (O.fault_count out.new))) → (result ≡ 0) ⊎ (result ≡ 7)) }
+    ensures untold { result ≡ 0 → E.held err.new ≡ E.held err.old }
+    ensures untouched { 3 ≤ result → result ≤ 5 → (I.left input.new ≡ I.left input.old) × (O.held out.new ≡ O.held out.old) }
+    ensures front { result ≢ 0 → (O.held out.new ≡ O.held out.old) ⊎ ServesWords (H.names shelf.old) (I.left input.old) (GainsFront (O.held out.old) (O.held out.new)) (map string_bytes words.now) }
     ensures files_kept { H.names shelf.new ≡ H.names shelf.old }
-    ensures shelf_count { H.fault_count shelf.old ≤ H.fault_count shelf.new }
-    ensures input_count { I.fault_count input.old ≤ I.fault_count input.new }
-    ensures out_count { O.fault_count out.old ≤ O.fault_count out.new }
-    ensures err_count { E.fault_count err.old ≤ E.fault_count err.new }
+    ensures counts { (H.fault_count shelf.old ≤ H.fault_count shelf.new) × (I.fault_count input.old ≤ I.fault_count input.new) × (O.fault_count out.old ≤ O.fault_count out.new) × (E.fault_count err.old ≤ E.fault_count err.new) }
 {
     match command_of(words) {
-        None => ended(alloc, err, &Trouble::Usage),
+        None => told(err, "kprove: usage\n", 3),
         Some(command) => match serve_frame(alloc, &command, shelf, input, out) {
             Ok(()) => 0,
             Err(trouble) => ended(alloc, err, &trouble),
@@ -51,18 +49,7 @@ pub fn run<H: Shelf, I: Source, O: Sink, E: Sink>(
     }
 }
 
-/// Writes why the program ends, and answers its status. What fails in writing it changes no status.
-fn ended<E: Sink>(alloc: Global, err: &mut E, trouble: &Trouble) -> u8
-    ensures status { result ≡ status_of trouble.now }
-    ensures count { E.fault_count err.old ≤ E.fault_count err.new }
-{
-    if let Ok(text) = trouble.text(alloc) {
-        let _ = put_all(err, text.as_bytes());
-    }
-    trouble.status()
-}
-
-/// Reads the input as one frame and writes its reply.
+/// Reads the input as one frame and writes its reply, after the definition is loaded.
 fn serve_frame<H: Shelf, I: Source, O: Sink>(
     alloc: Global,
     command: &Stdio,
@@ -70,17 +57,36 @@ fn serve_frame<H: Shelf, I: Source, O: Sink>(
     input: &mut I,
     out: &mut O,
 ) -> Result<(), Trouble>
-    ensures served { OnOk result (Serves (H.names shelf.old) (I.left input.old) (O.held out.old) (O.held out.new) command.now.definition.now command.now.module_name.now) }
-    ensures outside { IsErrOf result Trouble.Outside → Rose (H.fault_count shelf.old) (H.fault_count shelf.new) ⊎ (Rose (I.fault_count input.old) (I.fault_count input.new) ⊎ Rose (O.fault_count out.old) (O.fault_count out.new)) }
-    ensures usage { result ≢ Err Trouble.Usage }
+    ensures served { OnOk result (Serves (H.names shelf.old) (I.left input.old) (Appends (O.held out.old) (O.held out.new)) command.now.definition.now command.now.module_name.now) }
+    ensures cause { (words : List (List ℕ)) → SpellsStdio words command.now.definition.now command.now.module_name.now → IfErr result (λ trouble. IsCause (H.names shelf.old) words (Rose (H.fault_count shelf.old) (H.fault_count shelf.new) ⊎ (Rose (I.fault_count input.old) (I.fault_count input.new) ⊎ Rose (O.fault_count out.old) (O.fault_count out.new))) (ending_of trouble)) }
+    ensures untouched { IfErr result (λ trouble. status_of (ending_of trouble) ≤ 5 → (I.left input.new ≡ I.left input.old) × (O.held out.new ≡ O.held out.old)) }
+    ensures front { OnErr result ((O.held out.new ≡ O.held out.old) ⊎ Serves (H.names shelf.old) (I.left input.old) (GainsFront (O.held out.old) (O.held out.new)) command.now.definition.now command.now.module_name.now) }
     ensures files_kept { H.names shelf.new ≡ H.names shelf.old }
     ensures shelf_count { H.fault_count shelf.old ≤ H.fault_count shelf.new }
     ensures input_count { I.fault_count input.old ≤ I.fault_count input.new }
     ensures out_count { O.fault_count out.old ≤ O.fault_count out.new }
 {
-    let table = load_table(alloc, shelf, command)?;
+    match load_table(alloc, shelf, command) {
+        Ok(table) => serve_table(alloc, &table, input, out),
+        Err(trouble) => Err(trouble),
+    }
+}
+
+/// Reads the input as one frame and writes a table's reply.
+fn serve_table<I: Source, O: Sink>(
+    alloc: Global,
+    table: &Table,
+    input: &mut I,
+    out: &mut O,
+) -> Result<(), Trouble>
+    ensures served { (s : Setting) → IsSettingOf s table.now → OnOk result (AnswersInput s (I.left input.old) (Appends (O.held out.old) (O.held out.new))) }
+    ensures late { IfErr result (IsLate (Rose (I.fault_count input.old) (I.fault_count input.new) ⊎ Rose (O.fault_count out.old) (O.fault_count out.new))) }
+    ensures front { (s : Setting) → IsSettingOf s table.now → OnErr result ((O.held out.new ≡ O.held out.old) ⊎ AnswersInput s (I.left input.old) (GainsFront (O.held out.old) (O.held out.new))) }
+    ensures input_count { I.fault_count input.old ≤ I.fault_count input.new }
+    ensures out_count { O.fault_count out.old ≤ O.fault_count out.new }
+{
     let bytes = read_all(alloc, input, FRAME_LIMIT);
-    let reply = reply_to(alloc, &table, bytes)?;
+    let reply = reply_to(alloc, table, bytes)?;
     put_reply(out, &reply)
 }
 
@@ -90,9 +96,8 @@ fn reply_to(
     table: &Table,
     bytes: Result<Vec<u8>, LoadFault>,
 ) -> Result<Option<Vec<u8>>, Trouble>
-    ensures reply { (t : Theory) → RunsTable t table.now → IfOk result (IsReplyToRead t bytes) }
-    ensures outside { IsErrOf result Trouble.Outside → IsErrOf bytes LoadFault.Failed }
-    ensures usage { result ≢ Err Trouble.Usage }
+    ensures reply { (s : Setting) → IsSettingOf s table.now → IfOk result (IsReplyToRead s bytes) }
+    ensures late { IfErr result (IsLate (IsErrOf bytes LoadFault.Failed)) }
 {
     match bytes {
         Ok(bytes) => Ok(answer(alloc, table, &bytes)?),
@@ -105,8 +110,8 @@ fn reply_to(
 /// Writes a reply, where there is one.
 fn put_reply<O: Sink>(out: &mut O, reply: &Option<Vec<u8>>) -> Result<(), Trouble>
     ensures gained { OnOk result (Appends (O.held out.old) (O.held out.new) (written reply.now)) }
-    ensures outside { IsErrOf result Trouble.Outside → Rose (O.fault_count out.old) (O.fault_count out.new) }
-    ensures usage { result ≢ Err Trouble.Usage }
+    ensures front { OnErr result (GainsFront (O.held out.old) (O.held out.new) (written reply.now)) }
+    ensures late { IfErr result (IsLate (Rose (O.fault_count out.old) (O.fault_count out.new))) }
     ensures count { O.fault_count out.old ≤ O.fault_count out.new }
 {
     match reply {
@@ -118,8 +123,8 @@ fn put_reply<O: Sink>(out: &mut O, reply: &Option<Vec<u8>>) -> Result<(), Troubl
 /// Writes a line.
 fn put_line<O: Sink>(out: &mut O, line: &[u8]) -> Result<(), Trouble>
     ensures gained { OnOk result (Appends (O.held out.old) (O.held out.new) line.now) }
-    ensures outside { IsErrOf result Trouble.Outside → Rose (O.fault_count out.old) (O.fault_count out.new) }
-    ensures usage { result ≢ Err Trouble.Usage }
+    ensures front { OnErr result (GainsFront (O.held out.old) (O.held out.new) line.now) }
+    ensures late { IfErr result (IsLate (Rose (O.fault_count out.old) (O.fault_count out.new))) }
     ensures count { O.fault_count out.old ≤ O.fault_count out.new }
 {
     match put_all(out, line) {

@@ -3,7 +3,8 @@ use kp_io::{Files, Shelf, SureBytes, SureDrain};
 use std::alloc::{AllocError, Global};
 use std::test::Fail;
 
-/// Rules that count down and choose by priority, in a module that two others import, with a foreign symbol beside them.
+/// Rules that count down and choose by priority, in a module that two others import, with a foreign symbol beside them; a
+/// foreign rule beside one whose condition doubles its number.
 const COUNTING: &str = r#"[]
 module BASE
   hooked-sort SortBool{} [hook{}("BOOL.Bool")]
@@ -14,9 +15,12 @@ module BASE
   sort SortS{} []
   symbol Lblcount{}(SortInt{}) : SortS{} [constructor{}()]
   symbol Lblother{}(SortInt{}) : SortInt{} []
+  symbol Lblodd{}(SortInt{}) : SortS{} [constructor{}()]
   symbol Lblpick{}(SortInt{}) : SortS{} [constructor{}()]
   symbol Lblpicked{}(SortInt{}) : SortS{} [constructor{}()]
   axiom{} \rewrites{SortS{}}(\and{SortS{}}(Lblcount{}(N:SortInt{}), \equals{SortBool{}, SortS{}}(Lblgt{}(N:SortInt{}, \dv{SortInt{}}("0")), \dv{SortBool{}}("true"))), Lblcount{}(Lblsub{}(N:SortInt{}, \dv{SortInt{}}("1")))) [label{}("dec")]
+  axiom{} \rewrites{SortS{}}(Lblodd{}(N:SortInt{}), Lblodd{}(Lblother{}(N:SortInt{}))) [label{}("odd")]
+  axiom{} \rewrites{SortS{}}(\and{SortS{}}(Lblodd{}(N:SortInt{}), \equals{SortBool{}, SortS{}}(Lblgt{}(Lbladd{}(N:SortInt{}, N:SortInt{}), \dv{SortInt{}}("0")), \dv{SortBool{}}("true"))), Lblpicked{}(N:SortInt{})) [label{}("double")]
 endmodule []
 module LEFT
   import BASE []
@@ -41,19 +45,25 @@ struct Answered {
     err: SureDrain,
 }
 
-/// Runs `stdio NAME --module MAIN` on an input, with the definition in the file `counting.kore`.
-fn served(alloc: Global, name: &str, main: &str, input: &str) -> Result<Answered, Fail> {
+/// Runs the program with these words, over a file `d.kore`, on an input.
+fn ran(alloc: Global, words: &[&str], definition: &str, input: &str) -> Result<Answered, Fail> {
     let mut files = Files::new(alloc, Vec::new(alloc));
-    files.store("counting.kore", COUNTING.as_bytes())?;
-    let mut words = Vec::new(alloc);
-    for word in ["kprove", "stdio", name, "--module", main] {
-        words.push(String::from_str(alloc, word)?)?;
+    files.store("d.kore", definition.as_bytes())?;
+    let mut spelled = Vec::new(alloc);
+    for word in words {
+        spelled.push(String::from_str(alloc, *word)?)?;
     }
     let mut source = SureBytes::new(input.as_bytes().to_vec(alloc)?);
     let mut out = SureDrain::new(alloc);
     let mut err = SureDrain::new(alloc);
-    let status = run(alloc, &words, &mut files, &mut source, &mut out, &mut err);
+    let status = run(alloc, &spelled, &mut files, &mut source, &mut out, &mut err);
     Ok(Answered { status, out, err })
+}
+
+/// Serves an input over the module COUNTING.
+fn served(alloc: Global, input: &str) -> Result<Answered, Fail> {
+    let words = ["kprove", "stdio", "d.kore", "--module", "COUNTING"];
+    ran(alloc, &words, COUNTING, input)
 }
 
 fn joined(alloc: Global, parts: &[&str]) -> Result<String, AllocError> {
@@ -90,51 +100,162 @@ fn applied(alloc: Global, symbol: &str, argument: &str) -> Result<String, AllocE
     )
 }
 
-/// The request to run a term.
-fn request(alloc: Global, term: &str) -> Result<String, AllocError> {
+/// The request to run a term, with more members of its params.
+fn request(alloc: Global, term: &str, members: &str) -> Result<String, AllocError> {
     joined(
         alloc,
         &[
             r#"{"jsonrpc":"2.0","id":1,"method":"execute","params":{"state":{"format":"KORE","version":1,"term":"#,
             term,
-            "}}}",
+            "}",
+            members,
+            "}}",
         ],
     )
 }
 
-/// The reply of a run that is stuck after so many steps.
-fn stuck(alloc: Global, depth: &str, term: &str) -> Result<String, AllocError> {
+/// The reply of a run that ended so.
+fn result(alloc: Global, told: &str, term: &str) -> Result<String, AllocError> {
     joined(
         alloc,
         &[
-            r#"{"id":1,"jsonrpc":"2.0","result":{"depth":"#,
-            depth,
-            r#","reason":"stuck","state":{"term":{"format":"KORE","term":"#,
+            r#"{"id":1,"jsonrpc":"2.0","result":{"#,
+            told,
+            r#","state":{"term":{"format":"KORE","term":"#,
             term,
             ",\"version\":1}}}}\n",
         ],
     )
 }
 
+/// The reply with an error.
+fn error(alloc: Global, told: &str, id: &str) -> Result<String, AllocError> {
+    joined(
+        alloc,
+        &[
+            r#"{"error":{"#,
+            told,
+            r#"},"id":"#,
+            id,
+            r#","jsonrpc":"2.0"}"#,
+            "\n",
+        ],
+    )
+}
+
 #[test]
-fn runs_end_where_no_rule_fires(rt: HostRuntime) -> Result<(), Fail> {
+fn runs_end_as_they_are_told(rt: HostRuntime) -> Result<(), Fail> {
     let alloc = rt.alloc();
+    let widest = "170141183460469231731687303715884105727";
+    let aborted = r#""depth":0,"foreign-rule":"odd","reason":"aborted""#;
     let rows = [
-        ("Lblcount", "+2", "2", "Lblcount", "0"),
-        ("Lblcount", "002", "2", "Lblcount", "0"),
-        ("Lblpicked", "+5", "0", "Lblpicked", "5"),
-        ("Lblpick", "9", "1", "Lblpicked", "1"),
-        ("Lblpick", "4", "1", "Lblpicked", "2"),
-        ("Lblpick", "0", "1", "Lblpicked", "3"),
+        (
+            "Lblcount",
+            "+2",
+            "",
+            r#""depth":2,"reason":"stuck""#,
+            "Lblcount",
+            "0",
+        ),
+        (
+            "Lblcount",
+            "002",
+            "",
+            r#""depth":2,"reason":"stuck""#,
+            "Lblcount",
+            "0",
+        ),
+        (
+            "Lblpicked",
+            "+5",
+            "",
+            r#""depth":0,"reason":"stuck""#,
+            "Lblpicked",
+            "5",
+        ),
+        (
+            "Lblpick",
+            "9",
+            "",
+            r#""depth":1,"reason":"stuck""#,
+            "Lblpicked",
+            "1",
+        ),
+        (
+            "Lblpick",
+            "4",
+            "",
+            r#""depth":1,"reason":"stuck""#,
+            "Lblpicked",
+            "2",
+        ),
+        (
+            "Lblpick",
+            "0",
+            "",
+            r#""depth":1,"reason":"stuck""#,
+            "Lblpicked",
+            "3",
+        ),
+        (
+            "Lblcount",
+            "2",
+            r#","max-depth":0"#,
+            r#""depth":0,"reason":"depth-bound""#,
+            "Lblcount",
+            "2",
+        ),
+        (
+            "Lblcount",
+            "0",
+            r#","max-depth":0"#,
+            r#""depth":0,"reason":"depth-bound""#,
+            "Lblcount",
+            "0",
+        ),
+        (
+            "Lblcount",
+            "2",
+            r#","max-depth":1"#,
+            r#""depth":1,"reason":"depth-bound""#,
+            "Lblcount",
+            "1",
+        ),
+        (
+            "Lblcount",
+            "2",
+            r#","max-depth":3"#,
+            r#""depth":2,"reason":"stuck""#,
+            "Lblcount",
+            "0",
+        ),
+        (
+            "Lblcount",
+            "2",
+            r#","max-depth":null"#,
+            r#""depth":2,"reason":"stuck""#,
+            "Lblcount",
+            "0",
+        ),
+        (
+            "Lblcount",
+            "2",
+            r#","module":"COUNTING""#,
+            r#""depth":2,"reason":"stuck""#,
+            "Lblcount",
+            "0",
+        ),
+        ("Lblodd", "1", "", aborted, "Lblodd", "1"),
+        ("Lblodd", widest, "", aborted, "Lblodd", widest),
     ];
-    for (symbol, text, depth, end, last) in &rows {
+    for (symbol, text, members, told, end, last) in &rows {
         let state = applied(alloc, *symbol, &number(alloc, *text)?)?;
         let reached = applied(alloc, *end, &number(alloc, *last)?)?;
-        let answered = served(alloc, "counting.kore", "COUNTING", &request(alloc, &state)?)?;
+        let answered = served(alloc, &request(alloc, &state, *members)?)?;
         assert_eq!(rt; answered.status, 0);
         assert_eq!(rt;
             answered.out.bytes(),
-            stuck(alloc, *depth, &reached)?.as_bytes()
+            result(alloc, *told, &reached)?.as_bytes()
         );
         assert_eq!(rt; answered.err.bytes().len(), 0);
     }
@@ -145,53 +266,95 @@ fn runs_end_where_no_rule_fires(rt: HostRuntime) -> Result<(), Fail> {
 fn other_inputs_have_their_replies(rt: HostRuntime) -> Result<(), Fail> {
     let alloc = rt.alloc();
     let one = number(alloc, "1")?;
-    let sum = joined(
-        alloc,
-        &[
-            r#"{"args":["#,
-            &one,
-            ",",
-            &number(alloc, "2")?,
-            r#"],"name":"Lbladd","sorts":[],"tag":"App"}"#,
-        ],
-    )?;
+    let counted = applied(alloc, "Lblcount", &one)?;
     let foreign = applied(alloc, "Lblcount", &applied(alloc, "Lblother", &one)?)?;
+    let parse = r#""code":-32700,"message":"Parse error""#;
+    let params = r#""code":-32602,"message":"Invalid params""#;
+    let t1 =
+        r#""code":2,"data":{"kind":"T1","name":"Lblother"},"message":"Could not verify pattern""#;
+    let t2 = r#""code":2,"data":{"kind":"T2"},"message":"Could not verify pattern""#;
+    let no_module = r#""code":3,"data":{"name":"NOPE"},"message":"Could not find module""#;
+    let get_model = r#"{"jsonrpc":"2.0","id":1,"method":"get-model","params":{}}"#;
     let rows = [
+        (request(alloc, &foreign, "")?, error(alloc, t1, "1")?),
         (
-            request(alloc, &applied(alloc, "Lblpicked", &sum)?)?,
-            stuck(
-                alloc,
-                "0",
-                &applied(alloc, "Lblpicked", &number(alloc, "3")?)?,
-            )?,
+            request(alloc, &foreign, r#","module":"NOPE""#)?,
+            error(alloc, no_module, "1")?,
         ),
         (
-            request(alloc, &foreign)?,
-            joined(
+            request(alloc, &counted, r#","module":"BASE""#)?,
+            error(alloc, t2, "1")?,
+        ),
+        (
+            request(alloc, &counted, r#","terminal-rules":["dec"]"#)?,
+            error(alloc, t2, "1")?,
+        ),
+        (
+            request(alloc, &counted, r#","max-depth":-1"#)?,
+            error(alloc, params, "1")?,
+        ),
+        (
+            joined(alloc, &[get_model])?,
+            error(alloc, r#""code":-32601,"message":"Method not found""#, "1")?,
+        ),
+        (
+            joined(alloc, &["[]"])?,
+            error(
                 alloc,
-                &[
-                    r#"{"error":{"code":2,"data":{"kind":"T1","name":"Lblother"},"message":"Could not verify pattern"},"id":1,"jsonrpc":"2.0"}"#,
-                    "\n",
-                ],
+                r#""code":-32600,"message":"Invalid Request""#,
+                "null",
             )?,
         ),
+        (nested(alloc, 128)?, error(alloc, parse, "null")?),
         (
             joined(alloc, &[r#"{"jsonrpc":"2.0","method":"exec"#])?,
-            joined(
-                alloc,
-                &[
-                    r#"{"error":{"code":-32700,"message":"Parse error"},"id":null,"jsonrpc":"2.0"}"#,
-                    "\n",
-                ],
-            )?,
+            error(alloc, parse, "null")?,
         ),
         (joined(alloc, &[" \n"])?, String::new(alloc)),
     ];
     for (input, reply) in &rows {
-        let answered = served(alloc, "counting.kore", "COUNTING", input)?;
+        let answered = served(alloc, input)?;
         assert_eq!(rt; answered.status, 0);
         assert_eq!(rt; answered.out.bytes(), reply.as_bytes());
         assert_eq!(rt; answered.err.bytes().len(), 0);
+    }
+    Ok(())
+}
+
+/// So many `[` and as many `]`.
+fn nested(alloc: Global, depth: usize) -> Result<String, AllocError> {
+    let mut text = String::new(alloc);
+    for _ in 0..depth {
+        text.push_str("[")?;
+    }
+    for _ in 0..depth {
+        text.push_str("]")?;
+    }
+    Ok(text)
+}
+
+#[test]
+fn other_endings_are_told(rt: HostRuntime) -> Result<(), Fail> {
+    let alloc = rt.alloc();
+    let importing = "[] module M import NOPE [] endmodule []";
+    let rows = [
+        ("stdio", "x.kore", "[]", 5, "kprove: no file x.kore\n"),
+        ("stdio", "d.kore", importing, 4, "kprove: d.kore: M1\n"),
+        (
+            "stdio",
+            "d.kore",
+            "[] modul",
+            4,
+            "kprove: d.kore: text 2 at 3\n",
+        ),
+        ("prove", "d.kore", "[]", 3, "kprove: usage\n"),
+    ];
+    for (command, name, definition, status, line) in &rows {
+        let words = ["kprove", *command, *name, "--module", "M"];
+        let answered = ran(alloc, &words, *definition, "")?;
+        assert_eq!(rt; answered.status, *status);
+        assert_eq!(rt; answered.out.bytes().len(), 0);
+        assert_eq!(rt; answered.err.bytes(), line.as_bytes());
     }
     Ok(())
 }

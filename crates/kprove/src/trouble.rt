@@ -1,6 +1,15 @@
-ghost use Rattle.std.specs.Prelude.{◌≡◌, ◌≢◌, ◌↔◌};
+ghost use Rattle.std.specs.Prelude.{◌≡◌, ◌≤◌, ◌++◌, codes, ℕ, IfErr, IfOk, List, length, string_bytes};
+ghost use Rattle.std.specs.Fmt.{decimal};
+ghost use Rattle.kp_io.specs.Outside.{Rose, load_limit};
+ghost use Rattle.kp_kore.specs.Syntax.{KoreDefinition};
+ghost use Rattle.kp_modules.specs.Faults.{TellsFirst};
+ghost use Rattle.kp_text.specs.Errors.{IsErrorOf};
+ghost use Rattle.kp_text.specs.Spelling.{IsDefinitionText, SpellsDefinition};
+ghost use Rattle.kprove.specs.Faults.{IsFileFault};
+ghost use Rattle.kprove.specs.Statuses.{Tells, faulty, line_of, memory, no_file};
+ghost use Rattle.kprove.specs.Troubles.{EndsAs, IsAbsent, IsFaulty, ending_of, file_fault_view};
 
-use kp_io::LoadFault;
+use kp_io::{Sink, put_all};
 use kp_modules::{LoadError, ModuleFault};
 use kp_text::{ReadError, TextFault};
 use std::alloc::{AllocError, Global};
@@ -13,11 +22,9 @@ pub enum FileFault {
     Module(ModuleFault),
 }
 
-/// Why the program ends otherwise than by serving its input.
+/// Why the program ends, with a command, otherwise than by serving its input.
 #[derive(Drop)]
 pub enum Trouble {
-    /// The words spell no command.
-    Usage,
     /// A file has a fault.
     File { name: String, fault: FileFault },
     /// There is no such file.
@@ -38,43 +45,51 @@ impl From<AllocError> for Trouble {
     }
 }
 
-impl Trouble {
-    ghost use Rattle.kprove.specs.Statuses.{status_of};
+/// The line where memory ran out.
+const MEMORY_LINE: &str = "kprove: memory\n";
 
-    /// The program's status.
-    pub fn status(&self) -> u8
-        ensures { result ≡ status_of self.now }
-    {
-        match self {
-            Trouble::Usage => 3,
-            Trouble::File { .. } => 4,
-            Trouble::NoFile { .. } => 5,
-            Trouble::Outside => 6,
-            Trouble::Memory => 7,
-        }
+/// Writes why the program ends, and answers its status: 7 where the line can't be made.
+pub fn ended<E: Sink>(alloc: Global, err: &mut E, trouble: &Trouble) -> u8
+    ensures ended { EndsAs (ending_of trouble.now) (Rose (E.fault_count err.old) (E.fault_count err.new)) (E.held err.old) (E.held err.new) result }
+    ensures count { E.fault_count err.old ≤ E.fault_count err.new }
+{
+    match trouble {
+        Trouble::File { name, fault } => told_if_made(err, fault_line(alloc, name, fault), 4),
+        Trouble::NoFile { name } => told_if_made(err, no_file_line(alloc, name), 5),
+        Trouble::Outside => told(err, "kprove: fault\n", 6),
+        Trouble::Memory => told(err, MEMORY_LINE, 7),
     }
+}
 
-    /// The line that is written on standard error.
-    pub fn text(&self, alloc: Global) -> Result<String, AllocError> {
-        match self {
-            Trouble::Usage => String::from_str(alloc, "kprove: usage\n"),
-            Trouble::File { name, fault } => fault_line(alloc, name, fault),
-            Trouble::NoFile { name } => format!(in alloc; "kprove: no file {name}\n"),
-            Trouble::Outside => String::from_str(alloc, "kprove: fault\n"),
-            Trouble::Memory => String::from_str(alloc, "kprove: memory\n"),
-        }
+/// Writes a line, and answers the status. What fails in writing it changes no status.
+pub fn told<E: Sink>(err: &mut E, line: &str, status: u8) -> u8
+    ensures status { result ≡ status }
+    ensures told { Tells (Rose (E.fault_count err.old) (E.fault_count err.new)) (E.held err.old) (E.held err.new) line.now }
+    ensures count { E.fault_count err.old ≤ E.fault_count err.new }
+{
+    let _ = put_all(err, line.as_bytes());
+    status
+}
+
+/// The same of a line, or of want of memory where it couldn't be made.
+fn told_if_made<E: Sink>(err: &mut E, line: Result<String, AllocError>, status: u8) -> u8
+    ensures made { IfOk line (λ made. (result ≡ status) × Tells (Rose (E.fault_count err.old) (E.fault_count err.new)) (E.held err.old) (E.held err.new) (string_bytes made)) }
+    ensures lost { IfErr line (λ _. (result ≡ 7) × Tells (Rose (E.fault_count err.old) (E.fault_count err.new)) (E.held err.old) (E.held err.new) (line_of memory)) }
+    ensures count { E.fault_count err.old ≤ E.fault_count err.new }
+{
+    match line {
+        Ok(line) => told(err, line.as_str(), status),
+        Err(_) => told(err, MEMORY_LINE, 7),
     }
 }
 
 /// `kprove: NAME: FAULT`.
-fn fault_line(alloc: Global, name: &str, fault: &FileFault) -> Result<String, AllocError> {
+fn fault_line(alloc: Global, name: &str, fault: &FileFault) -> Result<String, AllocError>
+    ensures { IfOk result (λ line. string_bytes line ≡ line_of (faulty name.now (file_fault_view fault.now))) }
+{
     match fault {
         FileFault::TooLong => format!(in alloc; "kprove: {name}: too long\n"),
-        FileFault::Text(fault) => {
-            let kind = fault.kind.number();
-            let at = fault.at;
-            format!(in alloc; "kprove: {name}: text {kind} at {at}\n")
-        }
+        FileFault::Text(fault) => text_line(alloc, name, fault.kind.number(), fault.at),
         FileFault::Module(fault) => {
             let code = fault.code();
             format!(in alloc; "kprove: {name}: {code}\n")
@@ -82,10 +97,23 @@ fn fault_line(alloc: Global, name: &str, fault: &FileFault) -> Result<String, Al
     }
 }
 
+/// `kprove: NAME: text KIND at OFFSET`.
+fn text_line(alloc: Global, name: &str, kind: u8, at: usize) -> Result<String, AllocError>
+    ensures { IfOk result (λ line. string_bytes line ≡ codes "kprove: " ++ name.now ++ codes ": text " ++ decimal kind ++ codes " at " ++ decimal at ++ codes "\n") }
+{
+    format!(in alloc; "kprove: {name}: text {kind} at {at}\n")
+}
+
+/// `kprove: no file NAME`.
+fn no_file_line(alloc: Global, name: &str) -> Result<String, AllocError>
+    ensures { IfOk result (λ line. string_bytes line ≡ line_of (no_file name.now)) }
+{
+    format!(in alloc; "kprove: no file {name}\n")
+}
+
 /// A fault of a file.
 pub fn file_trouble(alloc: Global, name: &str, fault: FileFault) -> Trouble
-    ensures usage { result ≢ Trouble.Usage }
-    ensures outside { result ≢ Trouble.Outside }
+    ensures { (file main : List ℕ) → IsFileFault file main (file_fault_view fault) → IsFaulty file name.now main result }
 {
     match String::from_str(alloc, name) {
         Ok(name) => Trouble::File { name, fault },
@@ -95,8 +123,7 @@ pub fn file_trouble(alloc: Global, name: &str, fault: FileFault) -> Trouble
 
 /// That a file isn't there.
 pub fn no_file(alloc: Global, name: &str) -> Trouble
-    ensures usage { result ≢ Trouble.Usage }
-    ensures outside { result ≢ Trouble.Outside }
+    ensures { IsAbsent name.now result }
 {
     match String::from_str(alloc, name) {
         Ok(name) => Trouble::NoFile { name },
@@ -104,22 +131,9 @@ pub fn no_file(alloc: Global, name: &str) -> Trouble
     }
 }
 
-/// Why a file wasn't loaded.
-pub fn load_trouble(alloc: Global, name: &str, fault: LoadFault) -> Trouble
-    ensures usage { result ≢ Trouble.Usage }
-    ensures outside { result ≡ Trouble.Outside → fault ≡ LoadFault.Failed }
-{
-    match fault {
-        LoadFault::Failed => Trouble::Outside,
-        LoadFault::TooLong => file_trouble(alloc, name, FileFault::TooLong),
-        LoadFault::Memory => Trouble::Memory,
-    }
-}
-
 /// Why a file's text wasn't read.
 pub fn read_trouble(alloc: Global, name: &str, error: ReadError) -> Trouble
-    ensures usage { result ≢ Trouble.Usage }
-    ensures outside { result ≢ Trouble.Outside }
+    ensures { (file main : List ℕ) → length file ≤ load_limit → IsErrorOf IsDefinitionText file error → IsFaulty file name.now main result }
 {
     match error {
         ReadError::Memory => Trouble::Memory,
@@ -129,8 +143,7 @@ pub fn read_trouble(alloc: Global, name: &str, error: ReadError) -> Trouble
 
 /// Why a definition's modules weren't loaded.
 pub fn module_trouble(alloc: Global, name: &str, error: LoadError) -> Trouble
-    ensures usage { result ≢ Trouble.Usage }
-    ensures outside { result ≢ Trouble.Outside }
+    ensures { (file main : List ℕ) (d : KoreDefinition) → length file ≤ load_limit → SpellsDefinition file d → TellsFirst d main error → IsFaulty file name.now main result }
 {
     match error {
         LoadError::Memory => Trouble::Memory,

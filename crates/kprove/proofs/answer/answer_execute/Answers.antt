@@ -5,7 +5,10 @@ use Rattle.kprove.specs.Ends.{IsFailureOf}
 use Rattle.kprove.proofs.Ended.{fault_line}
 use Rattle.kprove.proofs.answer.answer_execute.Goals as goal
 
+pub returns-in-Ok : goal.returns-in-Ok
+returns-in-Ok c = λ s is. c.answer_end.ensures s (c.rules_of.ensures s is) (c.in-Ok.ensures.found s is)
+
 pub returns-in-Err-Fault : goal.returns-in-Err-Fault
-returns-in-Err-Fault c = λ t runs.
-    let x = subst (IsFailureOf t.signature c.args.request.now) c.in-Err-Fault.field-0-is (c.in-Err-Fault.ensures.failed t runs) in
-    IfOk-weaker c.fault_text.result _ _ (λ line l. fault_line t c.args.request.now c.requires x.0 (state_fault_view c.in-Err-Fault.fault) x.1 x.2 line.items l) c.fault_text.ensures
+returns-in-Err-Fault c = λ s is.
+    let x = subst (IsFailureOf s c.args.request.now) c.in-Err-Fault.field-0-is (c.in-Err-Fault.ensures.failed s is) in
+    IfOk-weaker c.fault_text.result _ _ (λ line l. fault_line s c.args.request.now c.requires x.0 (state_fault_view c.in-Err-Fault.fault) x.1 x.2 line.items l) c.fault_text.ensures

@@ -3,4 +3,4 @@ use Rattle.kp_rules.specs.Bodies.{RunsAs}
 use Rattle.kprove.proofs.answer.rules_of.Goals as goal
 
 pub returns : goal.returns
-returns c = λ t runs. subst (RunsAs t) (sym c.rule_set.ensures) runs
+returns c = λ s is. subst (RunsAs s.theory) (sym c.rule_set.ensures) is.runs
