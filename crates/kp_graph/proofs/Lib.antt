@@ -1,0 +1,12 @@
+pub mod Places
+pub mod KeptLemmas
+pub mod StatusLemmas
+pub mod PathLemmas
+pub mod SaysLemmas
+pub mod Opened
+pub mod ShapeLemmas
+pub mod EdgeLemmas
+pub mod CallLemmas
+pub mod PendingLemmas
+pub mod CallKeeps
+pub mod SaidLemmas

@@ -1,0 +1,5 @@
+pub mod Kept
+pub mod Says
+pub mod Tree
+pub mod TreeView
+pub mod View

@@ -1,0 +1,68 @@
+use kp_kore::Pattern;
+use std::alloc::AllocError;
+
+/// The number of a node: the first made has 1, each other the next.
+#[derive(Clone, Copy, Debug, PartialEq, Eq)]
+pub struct NodeId {
+    pub number: usize,
+}
+
+/// What a node's state was found to do.
+#[derive(Clone, Copy, Debug, PartialEq, Eq)]
+pub enum TreeArc {
+    /// So many steps on is the state of the node `to`, where a terminal rule may have applied.
+    Edge {
+        depth: u64,
+        to: NodeId,
+        terminal: bool,
+    },
+    /// The state is one of the claim's right side.
+    Cover,
+    /// No rule applies to the state.
+    Stuck,
+}
+
+/// Why a node is held: it isn't asked about again.
+#[derive(Drop)]
+pub enum Why {
+    /// By a reply that gives no arc, its bytes.
+    Held(Vec<u8>),
+    /// The rounds that may be were used.
+    Rounds,
+    /// The nodes that may be were made.
+    Nodes,
+}
+
+/// Why a tree refuses a call.
+#[derive(Clone, Copy, Debug, PartialEq, Eq)]
+pub enum TreeFault {
+    /// K1: the tree has no such node.
+    NoSuchNode,
+    /// K2: the node has an arc, or is held.
+    NotOpen,
+    /// K3: the tree has as many nodes as it may.
+    TooManyNodes,
+    Memory,
+}
+
+impl From<AllocError> for TreeFault {
+    ghost use Rattle.std.specs.Prelude.{◌≡◌};
+    ghost use Rattle.kp_graph.specs.declared.node.TreeFault.TheVariants as faults;
+
+    ghost from_gives = { λ _ e. e ≡ faults.Memory };
+
+    fn from(_error: AllocError) -> Self {
+        TreeFault::Memory
+    }
+}
+
+/// A node as it is kept, with whether the path from node 1 to it holds an edge.
+#[derive(Drop)]
+pub struct Node {
+    pub state: Pattern,
+    pub parent: Option<NodeId>,
+    pub flagged: bool,
+    pub arc: Option<TreeArc>,
+    pub held: Option<Why>,
+    pub progress: bool,
+}
