@@ -82,7 +82,7 @@ fn results_by_their_bytes(rt: HostRuntime) -> Result<(), Fail> {
         sorts: Vec::new(alloc),
         arguments: Vec::new(alloc),
     };
-    let text = result_text(alloc, &Id::Unsigned(1), 3, Reason::Stuck, &done)?.ok_or("no tree")?;
+    let text = result_text(alloc, &Id::Unsigned(1), 3, &Reason::Stuck, &done)?.ok_or("no tree")?;
     assert_eq!(rt;
         text.as_slice(),
         b"{\"id\":1,\"jsonrpc\":\"2.0\",\"result\":{\"depth\":3,\"reason\":\"stuck\",\"state\":{\"term\":{\"format\":\"KORE\",\"term\":{\"args\":[],\"name\":\"Lbldone\",\"sorts\":[],\"tag\":\"App\"},\"version\":1}}}}\n".as_slice()
@@ -92,7 +92,7 @@ fn results_by_their_bytes(rt: HostRuntime) -> Result<(), Fail> {
         name: String::from_str(alloc, "S")?,
     };
     let open = Pattern::Variable { name, sort };
-    let text = result_text(alloc, &Id::Signed(-1), 10_000, Reason::DepthBound, &open)?.ok_or(
+    let text = result_text(alloc, &Id::Signed(-1), 10_000, &Reason::DepthBound, &open)?.ok_or(
         "no tree",
     )?;
     assert_eq!(rt;
