@@ -1,3 +1,4 @@
+use kp_kore::Module;
 use kp_signature::Signature;
 use kp_sorts::is_regular;
 use kp_text::read_definition;
@@ -27,7 +28,13 @@ fn regular_with(alloc: Global, sentences: &str) -> Result<bool, Fail> {
     for module in &definition.modules {
         modules.push(module)?;
     }
-    Ok(is_regular(&Signature::new(alloc, &modules)?))
+    regular_of(alloc, &modules)
+}
+
+/// Whether the signature of these modules is regular.
+fn regular_of(alloc: Global, modules: &[&Module]) -> Result<bool, Fail> {
+    let signature = Signature::new(alloc, modules)?;
+    Ok(is_regular(&signature))
 }
 
 #[test]
