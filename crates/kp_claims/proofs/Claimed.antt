@@ -1,6 +1,6 @@
 -- From the parts of a claim to the claim, and to its fault.
-use Rattle.std.proofs.Common.{◌≡◌, refl, sym, ap, subst, ◌∙◌, Bool, true, false, ◌&&◌, cond, List, Option, Some, None, ◌⊎◌, inl, inr, String, Global, string_bytes, Result, Ok, Err}
-use Rattle.std.specs.Prelude.{OnOk, IfErr, IsTrue}
+use Rattle.std.proofs.Common.{◌≡◌, refl, sym, ap, subst, ◌∙◌, Bool, true, false, ◌&&◌, cond, List, Option, Some, None, inl, inr, String, Global, string_bytes, Result, Ok, Err}
+use Rattle.std.specs.Prelude.{OnOk, IfErr}
 use Rattle.std.specs.Option.{option_map}
 use Rattle.kp_kore.specs.Parts.{is_term}
 use Rattle.kp_kore.specs.Syntax.{Text, KoreSort, KorePattern, Statement}

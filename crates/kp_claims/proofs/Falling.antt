@@ -1,5 +1,5 @@
 -- Places in a text fall: what stands further has fewer bytes left.
-use Rattle.std.proofs.Common.{◌≡◌, refl, sym, subst, ℕ, suc, ◌+◌, ◌*◌, ◌-◌, ◌<◌, ◌≤◌, Bool, true, false, ◌||◌, cond, List, [], ◌∷◌, ◌++◌, length, arith, nat_lt, encode_utf8, ◌==◌, inl, inr, ◌⊎◌}
+use Rattle.std.proofs.Common.{◌≡◌, ℕ, suc, ◌+◌, ◌*◌, ◌-◌, ◌<◌, ◌≤◌, Bool, true, false, ◌||◌, cond, List, [], ◌∷◌, ◌++◌, length, arith, nat_lt, encode_utf8, ◌==◌, inl, inr}
 use Rattle.std.specs.Char.{is_ascii_alphabetic, is_digit, digit_value}
 use Rattle.std.specs.Str.{all_scalars}
 use Rattle.kp_kore.specs.Syntax.{Text}

@@ -1,5 +1,5 @@
 -- Sides that verify in the claim without its word on paths verify by themselves, with its sort.
-use Rattle.std.proofs.Common.{◌≡◌, refl, sym, ap, subst, ◌∙◌, ℕ, Bool, true, false, ◌&&◌, cond, List, [], ◌∷◌, ◌++◌, Option, Some, None}
+use Rattle.std.proofs.Common.{◌≡◌, refl, sym, ap, subst, ◌∙◌, ℕ, Bool, true, false, ◌&&◌, List, [], ◌∷◌, ◌++◌, Option, Some, None}
 use Rattle.std.specs.List.{filter_map}
 use Rattle.std.proofs.lemmas.List.Elements.{filter_map-append}
 use Rattle.kp_kore.specs.Syntax.{Text, KoreSort, KoreSorts, no_sorts, next_sort, KorePattern, KorePatterns, variable, set_variable, application, string_literal, literal, top, bottom, negation, next, conjunction, disjunction, implication, equivalence, rewriting, exists, forall, ceil, floor, equals, membership, mu, nu, no_patterns, next_pattern}
@@ -13,7 +13,7 @@ use Rattle.kp_signature.proofs.Same.{sorts_equal-Decides}
 use Rattle.kp_states.specs.Spelled.{first_foreign, first_member, foreign_name}
 use Rattle.kp_claims.specs.Claims.{ClaimSides, has_none, is_ground}
 use Rattle.kp_claims.specs.Faults.{bare_claim}
-use Rattle.kp_claims.specs.Sides.{IsGroundAt, HasMeaning}
+use Rattle.kp_claims.specs.Sides.{HasMeaning}
 
 -- ---- the first of several
 

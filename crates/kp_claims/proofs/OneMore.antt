@@ -1,5 +1,5 @@
 -- One more sentence, and lists of claims.
-use Rattle.std.proofs.Common.{◌≡◌, refl, sym, ap, subst, ◌∙◌, ℕ, suc, ◌+◌, ◌<◌, ◌≤◌, Bool, true, false, ◌||◌, cond, List, [], ◌∷◌, ◌++◌, length, take, drop, get_or, map, Bor, Option, Some, Result, Ok, Err, is_some, arith}
+use Rattle.std.proofs.Common.{◌≡◌, refl, sym, ap, subst, ◌∙◌, ℕ, suc, ◌+◌, ◌<◌, Bool, true, false, ◌||◌, cond, List, [], ◌∷◌, ◌++◌, length, take, drop, get_or, Bor, Option, Some, Result, Ok, Err, is_some, arith}
 use Rattle.std.specs.Prelude.{IsErr, IsErrAnd, IfErr}
 use Rattle.std.specs.List.{AllZip, list_any}
 use Rattle.std.specs.Str.{bytes_eq}
@@ -12,7 +12,7 @@ use Rattle.kp_kore.specs.Signature.{KoreSignature}
 use Rattle.kp_kore.specs.View.{sentence_view}
 use Rattle.kp_kore.specs.declared.sentence.Sentence.{Sentence}
 use Rattle.kp_claims.specs.Claims.{counted}
-use Rattle.kp_claims.specs.Faults.{Fault, label_at, labels_of, IsFaultless, AreFaultless, IsFaultAt, IsFirstFault, IsErrorOf, IsTextError, TellsOf}
+use Rattle.kp_claims.specs.Faults.{label_at, labels_of, IsFaultless, AreFaultless, IsFaultAt, IsFirstFault, IsErrorOf, IsTextError, TellsOf}
 use Rattle.kp_claims.specs.Files.{SpellsFile}
 use Rattle.kp_claims.specs.Sentences.{seen}
 use Rattle.kp_claims.specs.declared.fault.ClaimError.{ClaimError}

@@ -1,7 +1,7 @@
 -- What weakAlwaysFinally takes.
 use Rattle.std.proofs.Common.{◌≡◌, refl, sym, ap, ◌∙◌, Bool, true, false, ◌&&◌, cond, List, [], ◌∷◌, length, get_or, Some, None, codes}
 use Rattle.std.specs.Str.{bytes_eq}
-use Rattle.kp_kore.specs.Syntax.{Text, KoreSort, no_sorts, next_sort, KorePattern, application, no_patterns, next_pattern}
+use Rattle.kp_kore.specs.Syntax.{Text, KoreSort, KorePattern, application}
 use Rattle.kp_kore.specs.Attributes.{sorts_equal}
 use Rattle.kp_kore.specs.View.{view, sort_view, sorts_view, patterns_view}
 use Rattle.kp_kore.specs.declared.sort.Sort.{Sort}

@@ -1,9 +1,9 @@
 -- The first fault of a claims file, from its faults as modules alone and as a definition: a definition begins with an
 -- opening bracket, modules with their keyword, so that from the first token on a text goes on as one of them at most.
-use Rattle.std.proofs.Common.{◌≡◌, refl, sym, ap, subst, ◌∙◌, ℕ, suc, ◌+◌, ◌-◌, ◌<◌, ◌≤◌, Bool, true, false, cond, List, [], ◌∷◌, ◌++◌, length, take, map, arith, rules, tests, nat_lt, codes, inl, inr, ◌⊎◌, min}
+use Rattle.std.proofs.Common.{◌≡◌, refl, sym, ap, subst, ◌∙◌, ℕ, suc, ◌<◌, ◌≤◌, Bool, true, false, cond, List, [], ◌∷◌, ◌++◌, length, take, arith, rules, tests, nat_lt, codes, inl, inr, ◌⊎◌, min}
 use Rattle.std.proofs.lemmas.List.{length-take}
 use Rattle.std.specs.Str.Lossy.{utf8_valid_len}
-use Rattle.kp_text.specs.Grammar.{Leveled, modules_tokens, definition_tokens}
+use Rattle.kp_text.specs.Grammar.{Leveled}
 use Rattle.kp_text.specs.Spelling.{tokens_of, IsShallow, IsModulesText, IsDefinitionText, Begins, BeginsShallow, TokenFault, FirstFault, offset, IsFaultOf}
 use Rattle.kp_text.specs.Tokens.{KoreToken, identifier, string_token, mark, Lexemes, finished, lexeme, broken, broken_string, lexemes, utf8_front, utf8_tail}
 use Rattle.kp_text.specs.declared.fault.FaultKind.{FaultKind}

@@ -1,5 +1,4 @@
 use Rattle.std.proofs.Common.{rules, ◌≡◌, ◌++◌, refl, sym, ap, subst, ◌∙◌, Some, None, option_to_list, string_bytes}
-use Rattle.kp_kore.specs.Syntax.{Text}
 use Rattle.kp_kore.specs.View.{view, patterns_view, axiom_sentence_view}
 use Rattle.kp_signature.specs.View.{signature_view}
 use Rattle.kp_claims.specs.Claims.{label_of}
