@@ -64,8 +64,8 @@ returns-in_ok-after-in-One-clause-answered c = λ t runs s known.
       written = c.in_ok-after-in-One.ensures.written;
     })
 
-pub after-in-One-requires-clause-matched : goal.after-in-One-requires-clause-matched
-after-in-One-requires-clause-matched c =
+pub after-requires-clause-matched : goal.after-requires-clause-matched
+after-requires-clause-matched c =
     match_of (signature_view c.args.rules.now.signature) (value_view c.args.state.now.value) c.in-One.firing c.in-One.firing.priority c.args.rules.now.rules.items
     (subst (IsTurn (signature_view c.args.rules.now.signature) (value_view c.args.state.now.value) c.args.rules.now.rules.items) c.in-One.is c.in_ok-turn_on.ensures.turn)
 
