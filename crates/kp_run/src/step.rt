@@ -326,5 +326,12 @@ fn is_shallow_after(
         bindings: &firing.bindings,
     };
     let right = &firing.rewrite.right;
-    is_right_within(&next.value, right, signature, &matched, &next.sort, MOST_DEPTH)
+    is_right_within(
+        &next.value,
+        right,
+        signature,
+        &matched,
+        &next.sort,
+        MOST_DEPTH,
+    )
 }

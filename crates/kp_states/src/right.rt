@@ -107,7 +107,13 @@ fn is_variable_within(
     ensures { IsTrue result → (v : Valuation) → IsMatchedUnder (signature_view signature.now) matched.now v → term_depth (spelling (signature_view signature.now) (sort_view sort.now) (v name.now)) ≤ levels }
 {
     let wanted = Wanted { name, sort, levels };
-    if is_held(matched.left, signature, matched.sort, matched.levels, &wanted) {
+    if is_held(
+        matched.left,
+        signature,
+        matched.sort,
+        matched.levels,
+        &wanted,
+    ) {
         return true;
     }
     match find_binding(matched.bindings, name) {
