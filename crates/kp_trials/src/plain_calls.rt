@@ -14,9 +14,7 @@ fn definition(alloc: Global) -> Result<Definition, Fail> {
 }
 
 fn pattern(alloc: Global) -> Result<Pattern, Fail> {
-    Ok(
-        read_pattern(alloc, "f{}(X:I{}, \\dv{I{}}(\"2\"))".as_bytes()).map_err(|_| "no pattern")?,
-    )
+    Ok(read_pattern(alloc, "f{}(X:I{}, \\dv{I{}}(\"2\"))".as_bytes()).map_err(|_| "no pattern")?)
 }
 
 #[test]
