@@ -9,8 +9,6 @@ mod compiling;
 #[cfg(test)]
 mod definitions;
 #[cfg(test)]
-mod plain_calls;
-#[cfg(test)]
 mod readers;
 #[cfg(test)]
 mod regularity;
