@@ -17,6 +17,8 @@ mod replies;
 #[cfg(test)]
 mod rules;
 #[cfg(test)]
+mod substituting;
+#[cfg(test)]
 mod trees;
 #[cfg(test)]
 mod verifying;

@@ -1,0 +1,2 @@
+pub mod Substituted
+pub mod SubstitutedForms
