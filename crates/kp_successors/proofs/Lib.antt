@@ -1,0 +1,4 @@
+pub mod ChosenSteps
+pub mod Constraints
+pub mod Lists
+pub mod PutIn
