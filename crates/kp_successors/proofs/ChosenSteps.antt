@@ -1,28 +1,28 @@
 -- The instances of a chosen pattern are where the rule leads.
-use Rattle.std.proofs.Common.{◌≡◌, refl, sym, ap, ap₂, subst, ◌∙◌, Bool, true, false, not, cond, ◌&&◌, ◌||◌, ◌↔◌, List, [], ◌∷◌, ◌++◌, map, inl, inr}
-use Rattle.std.specs.Prelude.{◌⊎◌, IsTrue, MatchBool}
-use Rattle.std.specs.List.{AllByRecursion, list_all, list_any, filter}
+use Rattle.std.proofs.Common.{◌≡◌, refl, sym, ap, subst, ◌∙◌, Bool, true, false, not, cond, ◌&&◌, ◌↔◌, List, [], ◌∷◌, ◌++◌, map}
+use Rattle.std.specs.Prelude.{◌⊎◌}
+use Rattle.std.specs.List.{AllByRecursion, list_all, filter}
 use Rattle.std.specs.Str.{bytes_eq}
 use Rattle.std.proofs.lemmas.List.{append_assoc}
 use Rattle.std.proofs.lemmas.List.Folds.{list_all-append, list_any-append}
 use Rattle.kp_kore.specs.Syntax.{Text, KoreSort, KorePattern, variable, set_variable, application, string_literal, literal, top, bottom, negation, next, conjunction, disjunction, implication, equivalence, rewriting, exists, forall, ceil, floor, equals, membership, mu, nu}
 use Rattle.kp_kore.specs.Attributes.{sorts_equal}
-use Rattle.kp_kore.specs.Parts.{SortedName, is_term, free_variables, all_free_variables}
+use Rattle.kp_kore.specs.Parts.{SortedName, free_variables, all_free_variables}
 use Rattle.kp_kore.specs.Signature.{KoreSignature}
 use Rattle.kp_kore.specs.View.{patterns_of}
 use Rattle.kp_semantics.specs.Value.{Value, HasSort}
-use Rattle.kp_semantics.specs.Instance.{Valuation, instance, GivesSorts, AgreesOff, AgreesOn, is_named, IsTrueUnder, IsInstance}
+use Rattle.kp_semantics.specs.Instance.{Valuation, instance, GivesSorts, AgreesOn, is_named, IsTrueUnder, IsInstance}
 use Rattle.kp_semantics.specs.Rules as model
-use Rattle.kp_semantics.specs.Steps.{FiresUnder, LeadsTo}
+use Rattle.kp_semantics.specs.Steps.{LeadsTo}
 use Rattle.kp_semantics.proofs.InstanceLemmas.{same_instance, agrees_first, agrees_second}
 use Rattle.kp_semantics.proofs.TruthLemmas.{same_truth}
 use Rattle.kp_rules.specs.Bodies.{IsLonePredicate, IsConstrained}
 use Rattle.kp_substitution.specs.Substitution.{ReplacedName, substituted, is_replaced, AreClosed, with_replaced}
 use Rattle.kp_substitution.proofs.Substituted.{substituted_instance, substituted_truth, substituted_is_term}
 use Rattle.kp_substitution.proofs.SubstitutedForms.{staying, substituted_free}
-use Rattle.kp_successors.specs.Choices.{is_among, is_top, equal_to_itself, constrained_by, free_beside, unused, ensured_with, chosen_pattern, is_known, AreNamed, SpellUnder, IsPutIn}
+use Rattle.kp_successors.specs.Choices.{is_among, is_top, equal_to_itself, free_beside, unused, ensured_with, chosen_pattern, is_known, AreNamed, SpellUnder, IsPutIn}
 use Rattle.kp_successors.specs.Instances.{IsSomeInstance}
-use Rattle.kp_successors.proofs.Lists.{all_weaker, all_joined, all_first, all_second, all_filtered, both_true, either_true, by_either, not_false, opposite}
+use Rattle.kp_successors.proofs.Lists.{all_joined, all_first, all_second, all_filtered, both_true, either_true, by_either}
 use Rattle.kp_successors.proofs.Constraints.{constrained_instance, constrained_free, all_lone_kept, lone_equalities, true_equalities}
 use Rattle.kp_successors.proofs.PutIn.{closed_spellings, put_in_already, joined, joined_off, known_agree, known_sorts, among_staying, new_stays, own_members}
 

@@ -1,16 +1,16 @@
 -- A term beside predicates: its instances and its free variables.
-use Rattle.std.proofs.Common.{◌≡◌, refl, sym, ap, ap₂, subst, ◌∙◌, Bool, true, false, not, cond, ◌↔◌, List, [], ◌∷◌, ◌++◌, map}
+use Rattle.std.proofs.Common.{◌≡◌, refl, sym, ap, ap₂, subst, ◌∙◌, true, false, not, cond, ◌↔◌, List, [], ◌∷◌, ◌++◌, map}
 use Rattle.std.specs.List.{AllByRecursion, filter}
 use Rattle.std.proofs.lemmas.List.{append-nil}
-use Rattle.kp_kore.specs.Syntax.{KoreSort, KorePattern, KorePatterns, variable, set_variable, application, string_literal, literal, top, bottom, negation, next, conjunction, disjunction, implication, equivalence, rewriting, exists, forall, ceil, floor, equals, membership, mu, nu, no_patterns, next_pattern}
-use Rattle.kp_kore.specs.Parts.{SortedName, is_term, free_variables, all_free_variables}
+use Rattle.kp_kore.specs.Syntax.{KoreSort, KorePattern, variable, set_variable, application, string_literal, literal, top, bottom, negation, next, conjunction, disjunction, implication, equivalence, rewriting, exists, forall, ceil, floor, equals, membership, mu, nu, next_pattern}
+use Rattle.kp_kore.specs.Parts.{SortedName, is_term, free_variables}
 use Rattle.kp_kore.specs.Signature.{KoreSignature}
 use Rattle.kp_kore.specs.View.{patterns_of}
 use Rattle.kp_semantics.specs.Value.{Value}
-use Rattle.kp_semantics.specs.Instance.{Valuation, instance, IsTrueUnder, conjuncts, all_conjuncts, conjoined_terms, conjoined_predicates, IsInstanceOfOne, IsConjunctionInstance, IsInstance}
+use Rattle.kp_semantics.specs.Instance.{Valuation, instance, IsTrueUnder, conjuncts, all_conjuncts, conjoined_terms, conjoined_predicates, IsInstanceOfOne, IsInstance}
 use Rattle.kp_semantics.proofs.InstanceLemmas.{one_instance}
 use Rattle.kp_rules.specs.Bodies.{IsLonePredicate, is_conjunction}
-use Rattle.kp_substitution.specs.Substitution.{ReplacedName, put_for, substituted, AreClosed}
+use Rattle.kp_substitution.specs.Substitution.{ReplacedName, substituted, AreClosed}
 use Rattle.kp_substitution.proofs.Substituted.{substituted_is_term}
 use Rattle.kp_successors.specs.Choices.{constrained_by, free_beside, equal_to_itself}
 

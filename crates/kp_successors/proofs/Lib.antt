@@ -1,4 +1,14 @@
+pub mod Answered
+pub mod Asking
 pub mod ChosenSteps
 pub mod Constraints
+pub mod Finding
+pub mod Following
 pub mod Lists
+pub mod Members
 pub mod PutIn
+pub mod Refused
+pub mod Spelling
+pub mod Stepping
+pub mod Taken
+pub mod Wide

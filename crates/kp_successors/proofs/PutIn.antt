@@ -1,17 +1,16 @@
 -- Valuations and sorts where the left term's variables are put in.
-use Rattle.std.proofs.Common.{◌≡◌, refl, sym, ap, ap₂, subst, ◌∙◌, Bool, true, false, not, cond, ◌&&◌, ◌||◌, List, [], ◌∷◌, ◌++◌, map, inl, inr}
-use Rattle.std.specs.Prelude.{◌⊎◌, IsTrue}
-use Rattle.std.specs.List.{AllByRecursion, list_all, list_any, filter}
+use Rattle.std.proofs.Common.{◌≡◌, refl, sym, ap, subst, ◌∙◌, Bool, true, false, not, cond, ◌&&◌, ◌||◌, List, [], ◌∷◌}
+use Rattle.std.specs.Prelude.{◌⊎◌}
+use Rattle.std.specs.List.{AllByRecursion, list_all}
 use Rattle.std.specs.Str.{bytes_eq}
 use Rattle.std.proofs.lemmas.Slice.Eq.{bytes_eq-Decides}
-use Rattle.kp_kore.specs.Syntax.{Text, KoreSort, KorePattern}
+use Rattle.kp_kore.specs.Syntax.{Text}
 use Rattle.kp_kore.specs.Attributes.{sorts_equal}
 use Rattle.kp_kore.specs.Parts.{SortedName}
 use Rattle.kp_kore.specs.Signature.{KoreSignature}
-use Rattle.kp_semantics.specs.Value.{Value, HasSort}
+use Rattle.kp_semantics.specs.Value.{HasSort}
 use Rattle.kp_semantics.specs.Instance.{Valuation, instance, GivesSorts, AgreesOff, AgreesOn, is_named}
 use Rattle.kp_semantics.proofs.SameLemmas.{same_sorts_decide}
-use Rattle.kp_states.specs.Spelled.{IsSpellingOf}
 use Rattle.kp_substitution.specs.Substitution.{ReplacedName, is_replaced, AreClosed, with_replaced}
 use Rattle.kp_substitution.proofs.SubstitutedForms.{staying}
 use Rattle.kp_successors.specs.Choices.{is_among, is_known, AreNamed, SpellUnder}

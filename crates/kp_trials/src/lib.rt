@@ -19,6 +19,8 @@ mod rules;
 #[cfg(test)]
 mod substituting;
 #[cfg(test)]
+mod successors;
+#[cfg(test)]
 mod trees;
 #[cfg(test)]
 mod verifying;

@@ -1,0 +1,47 @@
+-- What the code's rules come to on a value.
+use Rattle.std.specs.Prelude.{◌≡◌, ◌⊎◌, ◌≤◌, ℕ, false, List, [], ◌∷◌, Option, Some, None}
+use Rattle.std.specs.List.{AllByRecursion}
+use Rattle.kp_kore.specs.Syntax.{KorePattern}
+use Rattle.kp_kore.specs.Signature.{KoreSignature}
+use Rattle.kp_kore.specs.View.{view}
+use Rattle.kp_kore.specs.declared.pattern.Pattern.{Pattern}
+use Rattle.kp_semantics.specs.Value.{Value}
+use Rattle.kp_semantics.specs.Instance.{Valuation}
+use Rattle.kp_semantics.specs.Steps.{AnyByRecursion}
+use Rattle.kp_rules.specs.Heads.{FiresAs}
+use Rattle.kp_rules.specs.declared.rule.Rule.{Rule}
+use Rattle.kp_rules.specs.declared.rule.RuleBody.{RuleBody}
+use Rattle.kp_rules.specs.declared.rule.RuleBody.TheVariants.{Rewrite, Foreign}
+use Rattle.kp_run.specs.Turns.{BodyFires, FiresAt}
+use Rattle.kp_successors.specs.Nexts.{IsNextOf, is_right_narrow}
+use Rattle.kp_successors.specs.Successors.{FirstThen}
+
+-- the rule fires, and its right term computes a number beyond 128 bits
+abbrev pub RightIsWide : KoreSignature → Value → RuleBody → Type 0
+RightIsWide g u (Rewrite r) = (v : Valuation) × FiresAs g r u v × (is_right_narrow g r v ≡ false)
+RightIsWide g u (Foreign k) = ⊥
+
+-- the pattern that follows a rule
+abbrev pub Follows : KoreSignature → Value → RuleBody → KorePattern → Type 0
+Follows g u (Rewrite r) p = IsNextOf g r (FiresAs g r u) p
+Follows g u (Foreign k) p = ⊥
+
+-- and this is its priority number
+abbrev pub IsWideAt : KoreSignature → Value → ℕ → Rule → Type 0
+IsWideAt g u n r = (r.priority ≡ n) × RightIsWide g u r.body
+
+-- the pattern, if there is one
+abbrev pub next_list : Option Pattern → List KorePattern
+next_list None = []
+next_list (Some p) = view p ∷ []
+
+-- no rule fires, or this is the least priority number of those that do
+abbrev pub IsLeast : KoreSignature → Value → List Rule → Option ℕ → Type 0
+IsLeast g u rules None = AllByRecursion (λ r. ¬ BodyFires g u r.body) rules
+IsLeast g u rules (Some n) = AllByRecursion (λ r. BodyFires g u r.body → n ≤ r.priority) rules × AnyByRecursion (FiresAt g u n) rules
+
+-- one pattern for each rule that fires and has this priority number
+abbrev pub AreNexts : KoreSignature → Value → ℕ → List Rule → List KorePattern → Type 0
+AreNexts g u n [] ps = ps ≡ []
+AreNexts g u n (r ∷ rs) ps =
+    ((¬ FiresAt g u n r) × AreNexts g u n rs ps) ⊎ (FiresAt g u n r × FirstThen (Follows g u r.body) (AreNexts g u n rs) ps)

@@ -1,0 +1,72 @@
+// The least priority number of the rules that fire.
+ghost use Rattle.std.specs.Prelude.{◌≡◌, ◌↔◌, ◌++◌, ◌∷◌, [], ◌≤◌, List, IsTrue, IfOk, OnOk, IfErr};
+ghost use Rattle.std.specs.List.{AllByRecursion};
+ghost use Rattle.kp_kore.specs.Signature.{KoreSignature};
+ghost use Rattle.kp_signature.specs.View.{signature_view};
+ghost use Rattle.kp_semantics.specs.Value as model;
+ghost use Rattle.kp_semantics.specs.Steps.{AnyByRecursion};
+ghost use Rattle.kp_ground.specs.View.{value_view};
+ghost use Rattle.kp_rules.specs.declared.rule.Rule.{Rule};
+ghost use Rattle.kp_successors.specs.Errors.{IsCausedBy};
+ghost use Rattle.kp_run.specs.Turns.{BodyFires, BodyIsWide};
+ghost use Rattle.kp_successors.specs.Turns.{IsLeast};
+
+use crate::error::GroundError;
+use kp_ground::Value;
+use kp_rules::{Rule, RuleBody, RuleSet};
+use kp_signature::Signature;
+use std::alloc::Global;
+
+/// Whether the rule fires on the value; Number where its condition leaves 128 bits.
+fn fires(
+    alloc: Global,
+    signature: &Signature,
+    rule: &Rule,
+    value: &Value,
+) -> Result<bool, GroundError>
+    ensures fires { IfOk result (λ b. IsTrue b ↔ BodyFires (signature_view signature.now) (value_view value.now) rule.now.body) }
+    ensures narrow { OnOk result (¬ BodyIsWide (signature_view signature.now) (value_view value.now) rule.now.body) }
+    ensures refused { IfErr result (IsCausedBy (signature_view signature.now) (BodyIsWide (signature_view signature.now) (value_view value.now) rule.now.body)) }
+{
+    match &rule.body {
+        RuleBody::Foreign(_) => Ok(false),
+        RuleBody::Rewrite(rewrite) => Ok(rewrite.fires(alloc, signature, value)?.is_some()),
+    }
+}
+
+/// The least priority number when one more rule is asked.
+fn least_after(least: Option<u32>, priority: u32, fires: bool) -> Option<u32>
+    ensures { (g : KoreSignature) (u : model.Value) (rules : List Rule) (r : Rule) → IsLeast g u rules least → r.priority ≡ priority → IsTrue fires ↔ BodyFires g u r.body → IsLeast g u (rules ++ r ∷ []) result }
+{
+    if !fires {
+        return least;
+    }
+    match least {
+        None => Some(priority),
+        Some(number) => {
+            if priority < number {
+                Some(priority)
+            } else {
+                Some(number)
+            }
+        }
+    }
+}
+
+/// The least priority number of the rules that fire on the value.
+pub fn least_priority(
+    alloc: Global,
+    rules: &RuleSet,
+    value: &Value,
+) -> Result<Option<u32>, GroundError>
+    ensures least { IfOk result (λ o. IsLeast (signature_view rules.now.signature) (value_view value.now) rules.now.rules.items o) }
+    ensures narrow { OnOk result (AllByRecursion (λ r. ¬ BodyIsWide (signature_view rules.now.signature) (value_view value.now) r.body) rules.now.rules.items) }
+    ensures refused { IfErr result (IsCausedBy (signature_view rules.now.signature) (AnyByRecursion (λ r. BodyIsWide (signature_view rules.now.signature) (value_view value.now) r.body) rules.now.rules.items)) }
+{
+    let mut least = None;
+    for rule in &rules.rules {
+        let fires = fires(alloc, &rules.signature, rule, value)?;
+        least = least_after(least, rule.priority, fires);
+    }
+    Ok(least)
+}

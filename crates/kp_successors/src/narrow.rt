@@ -1,0 +1,106 @@
+// Numbers beyond 128 bits in the right term of a rule that chooses.
+ghost use Rattle.std.specs.Prelude.{◌≡◌, ◌&&◌, true, false, not, IfOk, OnOk, IfErr, map};
+ghost use Rattle.std.specs.List.{list_all, list_any};
+ghost use Rattle.kp_compile.specs.Parts.{seen};
+ghost use Rattle.kp_kore.specs.View.{view, sorted_variable_view};
+ghost use Rattle.kp_signature.specs.View.{signature_view};
+ghost use Rattle.kp_semantics.specs.Instance.{Valuation, is_named as named_among};
+ghost use Rattle.kp_semantics.specs.Numbers.{computes_wide};
+ghost use Rattle.kp_ground.specs.Solves.{Solves};
+ghost use Rattle.kp_successors.specs.WideParts.{holds_none, part_computes_wide};
+ghost use Rattle.kp_successors.specs.Errors.{IsCausedBy};
+ghost use Rattle.kp_successors.specs.Nexts.{new_of};
+
+use crate::error::GroundError;
+use crate::member::is_named;
+use kp_compile::{CompileError, compile_term, subpatterns};
+use kp_ground::Binding;
+use kp_kore::{Pattern, SortedVariable};
+use kp_rules::RightSide;
+use kp_signature::Signature;
+use std::alloc::{AllocError, Global};
+
+/// No part of the right term in which no new variable stands computes a number beyond 128 bits.
+pub fn narrow(
+    alloc: Global,
+    signature: &Signature,
+    side: &RightSide,
+    bindings: &[Binding],
+) -> Result<(), GroundError>
+    ensures narrow { OnOk result ((v : Valuation) → Solves v bindings.now → part_computes_wide (signature_view signature.now) v (new_of side.now) (view side.now.term) ≡ false) }
+    ensures refused { IfErr result (IsCausedBy (signature_view signature.now) ((v : Valuation) → Solves v bindings.now → part_computes_wide (signature_view signature.now) v (new_of side.now) (view side.now.term) ≡ true)) }
+{
+    let parts = subpatterns(alloc, &side.term)?;
+    narrow_parts(alloc, signature, side, &parts, bindings)
+}
+
+fn narrow_parts(
+    alloc: Global,
+    signature: &Signature,
+    side: &RightSide,
+    parts: &[&Pattern],
+    bindings: &[Binding],
+) -> Result<(), GroundError>
+    ensures narrow { OnOk result ((v : Valuation) → Solves v bindings.now → list_any (λ q. holds_none (new_of side.now) q && computes_wide (signature_view signature.now) v q) (seen parts.now) ≡ false) }
+    ensures refused { IfErr result (IsCausedBy (signature_view signature.now) ((v : Valuation) → Solves v bindings.now → list_any (λ q. holds_none (new_of side.now) q && computes_wide (signature_view signature.now) v q) (seen parts.now) ≡ true)) }
+{
+    for part in parts {
+        narrow_part(alloc, signature, side, part, bindings)?;
+    }
+    Ok(())
+}
+
+fn narrow_part(
+    alloc: Global,
+    signature: &Signature,
+    side: &RightSide,
+    part: &Pattern,
+    bindings: &[Binding],
+) -> Result<(), GroundError>
+    ensures narrow { OnOk result ((v : Valuation) → Solves v bindings.now → (holds_none (new_of side.now) (view part.now) && computes_wide (signature_view signature.now) v (view part.now)) ≡ false) }
+    ensures refused { IfErr result (IsCausedBy (signature_view signature.now) ((v : Valuation) → Solves v bindings.now → (holds_none (new_of side.now) (view part.now) && computes_wide (signature_view signature.now) v (view part.now)) ≡ true)) }
+{
+    if !has_no_new(alloc, side, part)? {
+        return Ok(());
+    }
+    evaluates(alloc, signature, part, bindings)
+}
+
+/// Whether no new variable stands in the part.
+fn has_no_new(alloc: Global, side: &RightSide, part: &Pattern) -> Result<bool, AllocError>
+    ensures { IfOk result (λ b. b ≡ holds_none (new_of side.now) (view part.now)) }
+{
+    let variables = part.free_vars(alloc)?;
+    Ok(are_old(&variables, &side.new_variables))
+}
+
+fn are_old(variables: &[SortedVariable], new_variables: &[SortedVariable]) -> bool
+    ensures { result ≡ list_all (λ x. not (named_among x.name (map sorted_variable_view new_variables.now))) (map sorted_variable_view variables.now) }
+{
+    for variable in variables {
+        if is_named(variable.name.as_str(), new_variables) {
+            return false;
+        }
+    }
+    true
+}
+
+/// The part has a value under the bindings.
+fn evaluates(
+    alloc: Global,
+    signature: &Signature,
+    part: &Pattern,
+    bindings: &[Binding],
+) -> Result<(), GroundError>
+    ensures narrow { OnOk result ((v : Valuation) → Solves v bindings.now → computes_wide (signature_view signature.now) v (view part.now) ≡ false) }
+    ensures refused { IfErr result (IsCausedBy (signature_view signature.now) ((v : Valuation) → Solves v bindings.now → computes_wide (signature_view signature.now) v (view part.now) ≡ true)) }
+{
+    match compile_term(alloc, signature, part) {
+        Ok(term) => {
+            let _value = term.evaluate(alloc, bindings)?;
+            Ok(())
+        }
+        Err(CompileError::Memory) => Err(GroundError::Memory),
+        Err(_) => Err(GroundError::Unbound),
+    }
+}

@@ -1,0 +1,151 @@
+// The pattern of one rule that has its turn.
+ghost use Rattle.std.specs.Prelude.{◌≡◌, ◌⊎◌, ◌++◌, true, false, IfOk, OnOk, IfErr, MatchOption, map};
+ghost use Rattle.std.specs.List.{AllByRecursion};
+ghost use Rattle.kp_kore.specs.View.{view};
+ghost use Rattle.kp_signature.specs.View.{signature_view};
+ghost use Rattle.kp_semantics.specs.Instance.{Valuation};
+ghost use Rattle.kp_semantics.specs.Steps.{AnyByRecursion};
+ghost use Rattle.kp_ground.specs.Solves.{Solves};
+ghost use Rattle.kp_ground.specs.View.{value_view};
+ghost use Rattle.kp_successors.specs.Errors.{IsCausedBy};
+ghost use Rattle.kp_successors.specs.Nexts.{PlainBy, ChosenBy, IsNextOf, is_right_narrow, left_of, new_of};
+ghost use Rattle.kp_successors.specs.WideParts.{part_computes_wide};
+ghost use Rattle.kp_rules.specs.Heads.{FiresAs};
+ghost use Rattle.kp_rules.specs.declared.rule.RuleBody.TheVariants as body;
+ghost use Rattle.kp_run.specs.Turns.{BodyIsWide, FiresAt};
+ghost use Rattle.kp_successors.specs.Turns.{RightIsWide, IsWideAt, Follows, AreNexts, next_list};
+ghost use Rattle.kp_ground.specs.Terms.{stays_narrow};
+ghost use Rattle.kp_ground.specs.TermView.{term_view};
+ghost use Rattle.kp_kore.specs.View.{sort_view};
+
+use crate::chosen::chosen;
+use crate::error::GroundError;
+use crate::member::is_known_side;
+use crate::narrow::narrow;
+use crate::put_in::put_in;
+use kp_ground::{Binding, Value};
+use kp_kore::{Pattern, Sort};
+use kp_rules::{Rewrite, RightSide, Rule, RuleBody, RuleSet};
+use kp_signature::Signature;
+use kp_states::spelled;
+use std::alloc::{AllocError, Global};
+
+/// The pattern of a rule that fires under these bindings.
+fn next_of(
+    alloc: Global,
+    signature: &Signature,
+    rewrite: &Rewrite,
+    bindings: &[Binding],
+) -> Result<Pattern, GroundError>
+    ensures next { IfOk result (λ p. IsNextOf (signature_view signature.now) rewrite.now (λ v. Solves v bindings.now) (view p)) }
+    ensures narrow { OnOk result ((v : Valuation) → Solves v bindings.now → is_right_narrow (signature_view signature.now) rewrite.now v ≡ true) }
+    ensures refused { IfErr result (IsCausedBy (signature_view signature.now) ((v : Valuation) → Solves v bindings.now → is_right_narrow (signature_view signature.now) rewrite.now v ≡ false)) }
+{
+    match &rewrite.choice {
+        Some(side) => choosing(alloc, signature, &rewrite.right_sort, side, bindings),
+        None => plain(alloc, signature, rewrite, bindings),
+    }
+}
+
+/// The right side with the values of the left term's variables.
+fn choosing(
+    alloc: Global,
+    signature: &Signature,
+    sort: &Sort,
+    side: &RightSide,
+    bindings: &[Binding],
+) -> Result<Pattern, GroundError>
+    ensures next { IfOk result (λ p. ChosenBy (signature_view signature.now) (sort_view sort.now) side.now (λ v. Solves v bindings.now) (view p)) }
+    ensures narrow { OnOk result ((v : Valuation) → Solves v bindings.now → part_computes_wide (signature_view signature.now) v (new_of side.now) (view side.now.term) ≡ false) }
+    ensures refused { IfErr result (IsCausedBy (signature_view signature.now) ((v : Valuation) → Solves v bindings.now → part_computes_wide (signature_view signature.now) v (new_of side.now) (view side.now.term) ≡ true)) }
+{
+    narrow(alloc, signature, side, bindings)?;
+    if !is_known_side(alloc, side)? {
+        return Err(GroundError::Unbound);
+    }
+    let replacements = put_in(alloc, signature, side, bindings)?;
+    Ok(chosen(alloc, sort, side, &replacements)?)
+}
+
+/// The normal spelling of the right term's value.
+fn plain(
+    alloc: Global,
+    signature: &Signature,
+    rewrite: &Rewrite,
+    bindings: &[Binding],
+) -> Result<Pattern, GroundError>
+    ensures next { IfOk result (λ p. PlainBy (signature_view signature.now) rewrite.now (λ v. Solves v bindings.now) (view p)) }
+    ensures narrow { OnOk result ((v : Valuation) → Solves v bindings.now → stays_narrow v (term_view rewrite.now.right) ≡ true) }
+    ensures refused { IfErr result (IsCausedBy (signature_view signature.now) ((v : Valuation) → Solves v bindings.now → stays_narrow v (term_view rewrite.now.right) ≡ false)) }
+{
+    let value = rewrite.right.evaluate(alloc, bindings)?;
+    Ok(spelled(alloc, signature, &value, &rewrite.right_sort)?)
+}
+
+/// The pattern of a rewrite that fires on the value.
+fn next_on(
+    alloc: Global,
+    signature: &Signature,
+    rewrite: &Rewrite,
+    value: &Value,
+) -> Result<Option<Pattern>, GroundError>
+    ensures next { IfOk result (λ o. MatchOption o (¬ ((v : Valuation) × FiresAs (signature_view signature.now) rewrite.now (value_view value.now) v))
+        (λ p. ((v : Valuation) × FiresAs (signature_view signature.now) rewrite.now (value_view value.now) v) × IsNextOf (signature_view signature.now) rewrite.now (FiresAs (signature_view signature.now) rewrite.now (value_view value.now)) (view p))) }
+    ensures narrow { OnOk result (¬ RightIsWide (signature_view signature.now) (value_view value.now) (body.Rewrite rewrite.now)) }
+    ensures refused { IfErr result (IsCausedBy (signature_view signature.now) (BodyIsWide (signature_view signature.now) (value_view value.now) (body.Rewrite rewrite.now) ⊎ RightIsWide (signature_view signature.now) (value_view value.now) (body.Rewrite rewrite.now))) }
+{
+    match rewrite.fires(alloc, signature, value)? {
+        Some(bindings) => Ok(Some(next_of(alloc, signature, rewrite, &bindings)?)),
+        None => Ok(None),
+    }
+}
+
+/// The pattern of a rule that fires on the value and has this priority number.
+fn next_at(
+    alloc: Global,
+    signature: &Signature,
+    rule: &Rule,
+    value: &Value,
+    priority: u32,
+) -> Result<Option<Pattern>, GroundError>
+    ensures next { IfOk result (λ o. MatchOption o (¬ FiresAt (signature_view signature.now) (value_view value.now) priority rule.now)
+        (λ p. FiresAt (signature_view signature.now) (value_view value.now) priority rule.now × Follows (signature_view signature.now) (value_view value.now) rule.now.body (view p))) }
+    ensures narrow { OnOk result (¬ IsWideAt (signature_view signature.now) (value_view value.now) priority rule.now) }
+    ensures refused { IfErr result (IsCausedBy (signature_view signature.now) (BodyIsWide (signature_view signature.now) (value_view value.now) rule.now.body ⊎ IsWideAt (signature_view signature.now) (value_view value.now) priority rule.now)) }
+{
+    if rule.priority != priority {
+        return Ok(None);
+    }
+    match &rule.body {
+        RuleBody::Foreign(_) => Ok(None),
+        RuleBody::Rewrite(rewrite) => next_on(alloc, signature, rewrite, value),
+    }
+}
+
+/// The patterns of the rules that fire on the value and have this priority number, in order.
+pub fn nexts_at(
+    alloc: Global,
+    rules: &RuleSet,
+    value: &Value,
+    priority: u32,
+) -> Result<Vec<Pattern>, GroundError>
+    ensures nexts { IfOk result (λ ps. AreNexts (signature_view rules.now.signature) (value_view value.now) priority rules.now.rules.items (map view ps.items)) }
+    ensures narrow { OnOk result (AllByRecursion (λ r. ¬ IsWideAt (signature_view rules.now.signature) (value_view value.now) priority r) rules.now.rules.items) }
+    ensures refused { IfErr result (IsCausedBy (signature_view rules.now.signature) (AnyByRecursion (λ r. BodyIsWide (signature_view rules.now.signature) (value_view value.now) r.body ⊎ IsWideAt (signature_view rules.now.signature) (value_view value.now) priority r) rules.now.rules.items)) }
+{
+    let mut found = Vec::new(alloc);
+    for rule in &rules.rules {
+        let next = next_at(alloc, &rules.signature, rule, value, priority)?;
+        add_next(&mut found, next)?;
+    }
+    Ok(found)
+}
+
+fn add_next(found: &mut Vec<Pattern>, next: Option<Pattern>) -> Result<(), AllocError>
+    ensures { OnOk result (map view found.new.items ≡ map view found.old.items ++ next_list next) }
+{
+    match next {
+        Some(pattern) => Ok(found.push(pattern)?),
+        None => Ok(()),
+    }
+}

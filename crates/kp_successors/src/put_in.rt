@@ -1,0 +1,71 @@
+// What stands for the left term's variables.
+ghost use Rattle.std.specs.Prelude.{◌≡◌, ◌++◌, ◌∷◌, [], IfOk, OnOk, IfErr, string_bytes};
+ghost use Rattle.kp_kore.specs.View.{view, sort_view};
+ghost use Rattle.kp_signature.specs.View.{signature_view};
+ghost use Rattle.kp_semantics.specs.Value.{HasSort};
+ghost use Rattle.kp_semantics.specs.Sorted.{IsRegular};
+ghost use Rattle.kp_semantics.specs.Instance.{Valuation};
+ghost use Rattle.kp_ground.specs.Solves.{Solves};
+ghost use Rattle.kp_states.specs.Spelled.{IsSpellingOf};
+ghost use Rattle.kp_substitution.specs.Seen.{replacements_view, replacement_view};
+ghost use Rattle.kp_successors.specs.Errors.{IsCausedBy};
+ghost use Rattle.kp_successors.specs.Nexts.{left_of, AreForLeft, Spell};
+
+use crate::error::GroundError;
+use crate::member::is_named;
+use kp_ground::Binding;
+use kp_ground::binding::find_binding;
+use kp_kore::SortedVariable;
+use kp_rules::RightSide;
+use kp_signature::Signature;
+use kp_states::spelled;
+use kp_substitution::Replacement;
+use std::alloc::{AllocError, Global};
+
+/// The spelled values of the left term's variables but those that are new.
+pub fn put_in(
+    alloc: Global,
+    signature: &Signature,
+    side: &RightSide,
+    bindings: &[Binding],
+) -> Result<Vec<Replacement>, GroundError>
+    ensures names { IfOk result (λ rs. AreForLeft side.now (replacements_view rs.items)) }
+    ensures spelled { IfOk result (λ rs. Spell (signature_view signature.now) (left_of side.now) (λ v. Solves v bindings.now) (replacements_view rs.items)) }
+    ensures refused { IfErr result (IsCausedBy (signature_view signature.now) ⊥) }
+{
+    let mut found = Vec::new(alloc);
+    for variable in &side.left_variables {
+        if !is_named(variable.name.as_str(), &side.new_variables) {
+            let replacement = replacement_of(alloc, signature, variable, bindings)?;
+            add(&mut found, replacement)?;
+        }
+    }
+    Ok(found)
+}
+
+fn add(found: &mut Vec<Replacement>, replacement: Replacement) -> Result<(), AllocError>
+    ensures { OnOk result (replacements_view found.new.items ≡ replacements_view found.old.items ++ replacement_view replacement ∷ []) }
+{
+    Ok(found.push(replacement)?)
+}
+
+fn replacement_of(
+    alloc: Global,
+    signature: &Signature,
+    variable: &SortedVariable,
+    bindings: &[Binding],
+) -> Result<Replacement, GroundError>
+    ensures name { IfOk result (λ r. string_bytes r.name ≡ string_bytes variable.now.name) }
+    ensures spelled { IfOk result (λ r. IsRegular (signature_view signature.now) → (v : Valuation) → Solves v bindings.now →
+        HasSort (signature_view signature.now) (sort_view variable.now.sort) (v (string_bytes variable.now.name)) →
+        IsSpellingOf (signature_view signature.now) (v (string_bytes variable.now.name)) (view r.term)) }
+    ensures refused { IfErr result (IsCausedBy (signature_view signature.now) ⊥) }
+{
+    match find_binding(bindings, variable.name.as_str()) {
+        Some(value) => Ok(Replacement {
+            name: variable.name.clone()?,
+            term: spelled(alloc, signature, value, &variable.sort)?,
+        }),
+        None => Err(GroundError::Unbound),
+    }
+}

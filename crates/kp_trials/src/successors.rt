@@ -1,0 +1,196 @@
+use kp_kore::Pattern;
+use kp_modules::load;
+use kp_successors::{GroundError, ground_step};
+use kp_text::{read_definition, read_pattern};
+use std::alloc::Global;
+use std::test::Fail;
+
+/// Rules with new variables, ensured conditions, equal priorities, wide numbers and foreign symbols.
+const CHOOSING: &str = r#"[]
+module CHOOSING
+  hooked-sort SortBool{} [hook{}("BOOL.Bool")]
+  hooked-sort SortInt{} [hook{}("INT.Int")]
+  hooked-symbol Lbladd{}(SortInt{}, SortInt{}) : SortInt{} [hook{}("INT.add")]
+  hooked-symbol Lblsub{}(SortInt{}, SortInt{}) : SortInt{} [hook{}("INT.sub")]
+  hooked-symbol Lblmul{}(SortInt{}, SortInt{}) : SortInt{} [hook{}("INT.mul")]
+  hooked-symbol Lblgt{}(SortInt{}, SortInt{}) : SortBool{} [hook{}("INT.gt")]
+  sort SortS{} []
+  symbol Lblcount{}(SortInt{}) : SortS{} [constructor{}()]
+  symbol Lblvg{}() : SortS{} [constructor{}()]
+  symbol Lblvh{}(SortInt{}) : SortS{} [constructor{}()]
+  symbol Lblpair{}(SortInt{}, SortInt{}) : SortS{} [constructor{}()]
+  symbol Lblodd{}(SortInt{}) : SortS{} [constructor{}()]
+  symbol Lblsq{}(SortInt{}) : SortS{} [constructor{}()]
+  symbol Lblboth{}(SortInt{}) : SortS{} [constructor{}()]
+  symbol Lbldone{}() : SortS{} [constructor{}()]
+  symbol Lblother{}(SortInt{}) : SortInt{} []
+  axiom{} \rewrites{SortS{}}(\and{SortS{}}(Lblcount{}(N:SortInt{}), \equals{SortBool{}, SortS{}}(Lblgt{}(N:SortInt{}, \dv{SortInt{}}("0")), \dv{SortBool{}}("true"))), Lblcount{}(Lblsub{}(N:SortInt{}, \dv{SortInt{}}("1")))) [label{}("dec")]
+  axiom{} \rewrites{SortS{}}(Lblvg{}(), Lblvh{}(Y:SortInt{})) [label{}("back")]
+  axiom{} \rewrites{SortS{}}(Lblvh{}(N:SortInt{}), \exists{SortS{}}(Y:SortInt{}, \and{SortS{}}(Lblpair{}(Y:SortInt{}, Lbladd{}(N:SortInt{}, \dv{SortInt{}}("1"))), \equals{SortBool{}, SortS{}}(Lblgt{}(Y:SortInt{}, N:SortInt{}), \dv{SortBool{}}("true"))))) [label{}("choose")]
+  axiom{} \rewrites{SortS{}}(Lblpair{}(N:SortInt{}, M:SortInt{}), \exists{SortS{}}(Y:SortInt{}, \and{SortS{}}(\top{SortS{}}(), Lblcount{}(M:SortInt{})))) [label{}("forget")]
+  axiom{} \rewrites{SortS{}}(Lblpair{}(N:SortInt{}, M:SortInt{}), Lblcount{}(N:SortInt{})) [label{}("first")]
+  axiom{} \rewrites{SortS{}}(Lblpair{}(N:SortInt{}, M:SortInt{}), Lbldone{}()) [label{}("late"), owise{}()]
+  axiom{} \rewrites{SortS{}}(Lblodd{}(N:SortInt{}), Lblodd{}(Lblother{}(N:SortInt{}))) [label{}("odd"), priority{}("60")]
+  axiom{} \rewrites{SortS{}}(Lblodd{}(M:SortInt{}), Lblodd{}(Lblother{}(M:SortInt{}))) [label{}("odder")]
+  axiom{} \rewrites{SortS{}}(Lblsq{}(N:SortInt{}), Lblpair{}(Y:SortInt{}, Lblmul{}(N:SortInt{}, N:SortInt{}))) [label{}("sq")]
+  axiom{} \rewrites{SortS{}}(Lblboth{}(N:SortInt{}), Lblcount{}(Lblmul{}(N:SortInt{}, N:SortInt{}))) [label{}("wide")]
+  axiom{} \rewrites{SortS{}}(Lblboth{}(N:SortInt{}), Lblodd{}(Lblother{}(N:SortInt{}))) [label{}("strange")]
+endmodule []
+"#;
+
+/// A term, and the patterns that follow, or how the step is refused.
+const ROWS: [(&str, &[&str], &str); 13] = [
+    (
+        r#"Lblcount{}(\dv{SortInt{}}("2"))"#,
+        &[r#"Lblcount{}(\dv{SortInt{}}("1"))"#],
+        "",
+    ),
+    (r#"Lblcount{}(\dv{SortInt{}}("0"))"#, &[], ""),
+    (
+        r#"Lblcount{}(Lbladd{}(\dv{SortInt{}}("1"), \dv{SortInt{}}("+1")))"#,
+        &[r#"Lblcount{}(\dv{SortInt{}}("1"))"#],
+        "",
+    ),
+    (r#"Lblvg{}()"#, &[r#"Lblvh{}(Y:SortInt{})"#], ""),
+    (
+        r#"Lblvh{}(\dv{SortInt{}}("3"))"#,
+        &[
+            r#"\and{SortS{}}(Lblpair{}(Y:SortInt{}, Lbladd{}(\dv{SortInt{}}("3"), \dv{SortInt{}}("1"))), \equals{SortBool{}, SortS{}}(Lblgt{}(Y:SortInt{}, \dv{SortInt{}}("3")), \dv{SortBool{}}("true")))"#,
+        ],
+        "",
+    ),
+    (
+        r#"Lblpair{}(\dv{SortInt{}}("5"), \dv{SortInt{}}("6"))"#,
+        &[
+            r#"\and{SortS{}}(Lblcount{}(\dv{SortInt{}}("6")), \equals{SortInt{}, SortS{}}(Y:SortInt{}, Y:SortInt{}))"#,
+            r#"Lblcount{}(\dv{SortInt{}}("5"))"#,
+        ],
+        "",
+    ),
+    (r#"Lblodd{}(\dv{SortInt{}}("1"))"#, &[], "odder"),
+    (
+        r#"Lblsq{}(\dv{SortInt{}}("170141183460469231731687303715884105727"))"#,
+        &[],
+        "G1",
+    ),
+    (
+        r#"Lblboth{}(\dv{SortInt{}}("170141183460469231731687303715884105727"))"#,
+        &[],
+        "G1",
+    ),
+    (r#"Lblboth{}(\dv{SortInt{}}("2"))"#, &[], "strange"),
+    (
+        r#"Lblcount{}(Lbladd{}(\dv{SortInt{}}("170141183460469231731687303715884105727"), \dv{SortInt{}}("1")))"#,
+        &[],
+        "G1",
+    ),
+    (r#"Lblcount{}(N:SortInt{})"#, &[], "unread"),
+    (
+        r#"Lblcount{}(Lblother{}(\dv{SortInt{}}("1")))"#,
+        &[],
+        "unread",
+    ),
+];
+
+/// What the example definition says of counting, of new variables and of foreign symbols.
+const TOYS: &str = r#"[]
+module BASIC
+  hooked-sort SortBool{} [hook{}("BOOL.Bool"), hasDomainValues{}()]
+  hooked-sort SortInt{} [hook{}("INT.Int"), hasDomainValues{}()]
+  symbol inj{From, To}(From) : To [sortInjection{}()]
+  hooked-symbol Lblsub{}(SortInt{}, SortInt{}) : SortInt{} [hook{}("INT.sub"), function{}()]
+  hooked-symbol Lbleq{}(SortInt{}, SortInt{}) : SortBool{} [hook{}("INT.eq"), function{}()]
+  hooked-symbol Lblgt{}(SortInt{}, SortInt{}) : SortBool{} [hook{}("INT.gt"), function{}()]
+endmodule []
+module TOYS
+  import BASIC []
+  sort SortS{} []
+  symbol Lblcount{}(SortInt{}) : SortS{} [constructor{}()]
+  symbol Lbldone{}() : SortS{} [constructor{}()]
+  symbol Lblodd{}(SortInt{}) : SortS{} [constructor{}()]
+  symbol Lblvg{}() : SortS{} [constructor{}()]
+  symbol Lblvh{}(SortInt{}) : SortS{} [constructor{}()]
+  symbol Lblother{}(SortInt{}) : SortInt{} [function{}()]
+  axiom{} \rewrites{SortS{}}(\and{SortS{}}(Lblcount{}(N:SortInt{}), \equals{SortBool{}, SortS{}}(Lblgt{}(N:SortInt{}, \dv{SortInt{}}("0")), \dv{SortBool{}}("true"))), Lblcount{}(Lblsub{}(N:SortInt{}, \dv{SortInt{}}("1")))) [label{}("TOYS.dec")]
+  axiom{} \rewrites{SortS{}}(\and{SortS{}}(Lblcount{}(N:SortInt{}), \equals{SortBool{}, SortS{}}(Lbleq{}(N:SortInt{}, \dv{SortInt{}}("0")), \dv{SortBool{}}("true"))), Lbldone{}()) [label{}("TOYS.stop")]
+  axiom{} \rewrites{SortS{}}(Lblodd{}(N:SortInt{}), Lblodd{}(Lblother{}(N:SortInt{}))) [label{}("TOYS.odd")]
+  axiom{} \rewrites{SortS{}}(Lblvg{}(), Lblvh{}(Y:SortInt{})) [label{}("TOYS.back")]
+endmodule []
+"#;
+
+const TOYS_ROWS: [(&str, &[&str], &str); 5] = [
+    (
+        r#"Lblcount{}(\dv{SortInt{}}("2"))"#,
+        &[r#"Lblcount{}(\dv{SortInt{}}("1"))"#],
+        "",
+    ),
+    (
+        r#"Lblcount{}(\dv{SortInt{}}("0"))"#,
+        &[r#"Lbldone{}()"#],
+        "",
+    ),
+    (r#"Lbldone{}()"#, &[], ""),
+    (r#"Lblvg{}()"#, &[r#"Lblvh{}(Y:SortInt{})"#], ""),
+    (r#"Lblodd{}(\dv{SortInt{}}("1"))"#, &[], "TOYS.odd"),
+];
+
+/// How the step is refused; nothing where it isn't.
+fn told(answer: &Result<Vec<Pattern>, GroundError>) -> &str {
+    match answer {
+        Ok(_) => "",
+        Err(GroundError::Number) => "G1",
+        Err(GroundError::Foreign { id }) => id.as_str(),
+        Err(GroundError::Unread) => "unread",
+        Err(_) => "other",
+    }
+}
+
+/// Whether the patterns are those that these texts spell.
+fn are_spelled(alloc: Global, patterns: &[Pattern], texts: &[&str]) -> Result<bool, Fail> {
+    if patterns.len() != texts.len() {
+        return Ok(false);
+    }
+    for i in 0..patterns.len().min(texts.len()) {
+        let wanted = read_pattern(alloc, texts[i].as_bytes()).map_err(|_| "pattern")?;
+        if !patterns[i].equal(&wanted) {
+            return Ok(false);
+        }
+    }
+    Ok(true)
+}
+
+/// Whether each row's term has the successors, or the refusal, that the row says.
+fn are_told(
+    alloc: Global,
+    definition: &str,
+    module: &str,
+    rows: &[(&str, &[&str], &str)],
+) -> Result<bool, Fail> {
+    let definition = read_definition(alloc, definition.as_bytes()).map_err(|_| "definition")?;
+    let table = load(alloc, &definition, module).map_err(|_| "load")?;
+    for (text, wanted, refusal) in rows {
+        let pattern = read_pattern(alloc, text.as_bytes()).map_err(|_| "pattern")?;
+        let answer = ground_step(alloc, table.rule_set(), &pattern);
+        if told(&answer) != *refusal {
+            return Ok(false);
+        }
+        if let Ok(patterns) = answer {
+            if !are_spelled(alloc, &patterns, wanted)? {
+                return Ok(false);
+            }
+        }
+    }
+    Ok(true)
+}
+
+#[test]
+fn successors_are_given_in_the_order_of_the_rules(rt: HostRuntime) -> Result<(), Fail> {
+    assert!(rt; are_told(rt.alloc(), CHOOSING, "CHOOSING", &ROWS)?);
+    Ok(())
+}
+
+#[test]
+fn the_example_counts_chooses_and_stops(rt: HostRuntime) -> Result<(), Fail> {
+    assert!(rt; are_told(rt.alloc(), TOYS, "TOYS", &TOYS_ROWS)?);
+    Ok(())
+}
