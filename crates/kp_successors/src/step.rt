@@ -24,8 +24,8 @@ use kp_rules::{Rule, RuleSet};
 use kp_run::foreign_on;
 use std::alloc::{AllocError, Global};
 
-/// One pattern for each rule that has its turn on a closed term (no other pattern is answered so), in the order of the rules: its instances are exactly the
-/// rule's successors. G1 where a number leaves 128 bits, else G2 where a foreign rule might rewrite the configuration.
+/// One pattern for each rule that has its turn on a closed term, in the order of the rules: its instances are exactly
+/// the rule's successors. G1 where a number leaves 128 bits, else G2 where a foreign rule might rewrite the term.
 pub fn ground_step(
     alloc: Global,
     rules: &RuleSet,
