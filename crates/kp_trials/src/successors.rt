@@ -1,5 +1,6 @@
 use kp_kore::Pattern;
 use kp_modules::load;
+use kp_rules::RuleSet;
 use kp_successors::{GroundError, ground_step};
 use kp_text::{read_definition, read_pattern};
 use std::alloc::Global;
@@ -134,14 +135,13 @@ const TOYS_ROWS: [(&str, &[&str], &str); 5] = [
     (r#"Lblodd{}(\dv{SortInt{}}("1"))"#, &[], "TOYS.odd"),
 ];
 
-/// How the step is refused; nothing where it isn't.
-fn told(answer: &Result<Vec<Pattern>, GroundError>) -> &str {
-    match answer {
-        Ok(_) => "",
-        Err(GroundError::Number) => "G1",
-        Err(GroundError::Foreign { id }) => id.as_str(),
-        Err(GroundError::Unread) => "unread",
-        Err(_) => "other",
+/// How the step is refused.
+fn told(error: &GroundError) -> &str {
+    match error {
+        GroundError::Number => "G1",
+        GroundError::Foreign { id } => id.as_str(),
+        GroundError::Unread => "unread",
+        _ => "other",
     }
 }
 
@@ -159,7 +159,27 @@ fn are_spelled(alloc: Global, patterns: &[Pattern], texts: &[&str]) -> Result<bo
     Ok(true)
 }
 
-/// Whether each row's term has the successors, or the refusal, that the row says.
+/// Whether the text's term has these successors, or this refusal.
+fn is_told(
+    alloc: Global,
+    rules: &RuleSet,
+    text: &str,
+    wanted: &[&str],
+    refusal: &str,
+) -> Result<bool, Fail> {
+    let pattern = read_pattern(alloc, text.as_bytes()).map_err(|_| "pattern")?;
+    match ground_step(alloc, rules, &pattern) {
+        Ok(patterns) => {
+            if !refusal.is_empty() {
+                return Ok(false);
+            }
+            are_spelled(alloc, &patterns, wanted)
+        }
+        Err(error) => Ok(told(&error) == refusal),
+    }
+}
+
+/// The same of each row, over a definition.
 fn are_told(
     alloc: Global,
     definition: &str,
@@ -169,15 +189,8 @@ fn are_told(
     let definition = read_definition(alloc, definition.as_bytes()).map_err(|_| "definition")?;
     let table = load(alloc, &definition, module).map_err(|_| "load")?;
     for (text, wanted, refusal) in rows {
-        let pattern = read_pattern(alloc, text.as_bytes()).map_err(|_| "pattern")?;
-        let answer = ground_step(alloc, table.rule_set(), &pattern);
-        if told(&answer) != *refusal {
+        if !is_told(alloc, table.rule_set(), text, wanted, refusal)? {
             return Ok(false);
-        }
-        if let Ok(patterns) = answer {
-            if !are_spelled(alloc, &patterns, wanted)? {
-                return Ok(false);
-            }
         }
     }
     Ok(true)
