@@ -148,11 +148,11 @@ IsSideFault g tree _ = ⊥
 -- why no result is told of two sides without a fault, of these sorts: another module than main is named; a side is no
 -- ground state; their sorts differ; the signature mixes whole numbers or truth values with other values
 pub data IsImpliesUntold (s : Setting) (name : Option Text) (a c : KorePattern) (sort other : KoreSort) : Type 0 where
-  elsewhere_too : IsElsewhere s.main name → IsImpliesUntold s name a c sort other
+  asked_elsewhere : IsElsewhere s.main name → IsImpliesUntold s name a c sort other
   no_antecedent : IsOtherShape s.theory.signature a → IsImpliesUntold s name a c sort other
   no_consequent : IsOtherShape s.theory.signature c → IsImpliesUntold s name a c sort other
   other_sorts : sort ≢ other → IsImpliesUntold s name a c sort other
-  mixes_values_too : keeps_values_apart s.theory.signature ≡ false → IsImpliesUntold s name a c sort other
+  shares_sorts : keeps_values_apart s.theory.signature ≡ false → IsImpliesUntold s name a c sort other
 
 -- the first cause in this order: the module that is named isn't reached; the antecedent has a fault; the consequent has
 -- one; no result is told of them

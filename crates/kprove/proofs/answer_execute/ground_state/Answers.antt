@@ -5,7 +5,7 @@ use Rattle.kp_states.specs.Spelled.{first_foreign}
 use Rattle.kp_states.specs.States.{IsTold}
 use Rattle.kprove.specs.Right.{IsLeftOut}
 use Rattle.kprove.proofs.Ended.{t2_pattern}
-use Rattle.kprove.proofs.answer.ground_state.Goals as goal
+use Rattle.kprove.proofs.answer_execute.ground_state.Goals as goal
 
 pub returns-in-Err-OtherShape-clause-failed : goal.returns-in-Err-OtherShape-clause-failed
 returns-in-Err-OtherShape-clause-failed c = λ s options verifies why.

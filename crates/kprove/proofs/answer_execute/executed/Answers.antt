@@ -3,8 +3,14 @@ use Rattle.kp_ground.specs.View.{value_view}
 use Rattle.kp_run.specs.Causes.{IsNotAnswered}
 use Rattle.kp_run.specs.Runs.{IsRunOf, written_of}
 use Rattle.kprove.specs.Ends.{options_of}
-use Rattle.kprove.proofs.Ended.{more_left_out, plain_at, run_left_out, sorted_start, t2_failure}
-use Rattle.kprove.proofs.answer.executed.Goals as goal
+use Rattle.std.proofs.lemmas.Result.{err_from_is_err_and}
+use Rattle.kprove.proofs.Ended.{name_failure, more_left_out, plain_at, run_left_out, sorted_start, t2_failure}
+use Rattle.kprove.proofs.answer_execute.executed.Goals as goal
+
+pub returns-in_err-check_module-clause-failed : goal.returns-in_err-check_module-clause-failed
+returns-in_err-check_module-clause-failed c = λ s is.
+    let p = err_from_is_err_and c.from_residual.result c.from_residual.ensures.1 in
+    rw (p.1, p.2) (name_failure s c.args.request.now c.requires _ (c.in_err-check_module.ensures.unknown s is))
 
 pub returns-then-asks_for_more-clause-failed : goal.returns-then-asks_for_more-clause-failed
 returns-then-asks_for_more-clause-failed c = λ s is.

@@ -1,7 +1,7 @@
 use Rattle.std.proofs.Common.{ap, sym}
 use Rattle.serde_json.specs.View.{view as data_view}
 use Rattle.kp_json.specs.View.{fault_view, fault_of}
-use Rattle.kprove.proofs.answer.pattern_at.Goals as goal
+use Rattle.kprove.proofs.answer_execute.pattern_at.Goals as goal
 
 pub returns-in-Err-Fault-clause-failed : goal.returns-in-Err-Fault-clause-failed
 returns-in-Err-Fault-clause-failed c = λ s reached.

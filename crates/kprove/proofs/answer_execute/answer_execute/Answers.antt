@@ -3,7 +3,7 @@ use Rattle.std.proofs.lemmas.Result.{IfOk-weaker}
 use Rattle.kp_rpc.specs.View.{state_fault_view}
 use Rattle.kprove.specs.Ends.{IsFailureOf}
 use Rattle.kprove.proofs.Ended.{fault_line}
-use Rattle.kprove.proofs.answer.answer_execute.Goals as goal
+use Rattle.kprove.proofs.answer_execute.answer_execute.Goals as goal
 
 pub returns-in-Ok : goal.returns-in-Ok
 returns-in-Ok c = λ s is. c.answer_end.ensures s (c.rules_of.ensures s is) (c.in-Ok.ensures.found s is)

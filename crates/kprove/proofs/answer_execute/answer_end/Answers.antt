@@ -6,7 +6,7 @@ use Rattle.kp_ground.specs.View.{value_view}
 use Rattle.kp_signature.specs.View.{signature_view}
 use Rattle.kp_states.specs.Spelled.{injection_name}
 use Rattle.kprove.proofs.Ended.{end_is_right, spelled_at, unanswered}
-use Rattle.kprove.proofs.answer.answer_end.Goals as goal
+use Rattle.kprove.proofs.answer_execute.answer_end.Goals as goal
 
 pub returns-in-Ok : goal.returns-in-Ok
 returns-in-Ok c = λ s runs h.

@@ -2,7 +2,7 @@ use Rattle.kp_kore.specs.View.{view}
 use Rattle.kp_rpc.specs.View.{id_view, reason_view}
 use Rattle.kprove.proofs.Ended.{end_line_is}
 use Rattle.kprove.proofs.Trees.{has_line}
-use Rattle.kprove.proofs.answer.end_line.Goals as goal
+use Rattle.kprove.proofs.answer_execute.end_line.Goals as goal
 
 pub returns : goal.returns
 returns c =

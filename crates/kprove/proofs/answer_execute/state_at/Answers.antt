@@ -2,14 +2,16 @@ use Rattle.std.proofs.Common.{sym, ◌∙◌}
 use Rattle.kp_kore.specs.View.{view, sort_view}
 use Rattle.kp_signature.specs.View.{signature_view}
 use Rattle.kprove.specs.Ends.{options_of}
+use Rattle.kprove.specs.Right.{IsLeftOut}
+use Rattle.kprove.proofs.Faulty.{wrong_weaker}
 use Rattle.kprove.proofs.Ended.{failure_of, mixed_failure, shape_left_out, state_is}
-use Rattle.kprove.proofs.answer.state_at.Goals as goal
+use Rattle.kprove.proofs.answer_execute.state_at.Goals as goal
 
 pub returns-in-Err-clause-failed : goal.returns-in-Err-clause-failed
 returns-in-Err-clause-failed c = λ s runs reached.
     let g = signature_view c.args.rules.now.signature in
     let p = view c.in_ok-pattern.pattern in
-    failure_of g s runs.signature c.args.request.now p c.verify_failure.result reached c.in_ok-pattern.ensures.found (c.verify_failure.ensures g s (options_of c.args.request.now) p c.in-Err.ensures.fault)
+    failure_of g s runs.signature c.args.request.now p c.verify_failure.result reached c.in_ok-pattern.ensures.found (wrong_weaker g (IsLeftOut s (options_of c.args.request.now)) p c.verify_failure.result (c.verify_failure.ensures g p c.in-Err.ensures.fault))
 
 pub returns-then-rules-clause-found : goal.returns-then-rules-clause-found
 returns-then-rules-clause-found c = λ t runs.
