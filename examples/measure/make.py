@@ -4,8 +4,9 @@
     make.py KIND NUMBER [FILE]
 
 KIND is one of: rules, sorts, modules, chain, arguments, deep-sort, deep-pattern, deep-and, deep-fold, wide-fold,
-deep-attribute, labels, subsorts, injections, sort-chain. NUMBER is how many. The text goes to FILE, or to standard output.
+deep-attribute, labels, subsorts, injections, sort-chain, beside, beside-request. NUMBER is how many. The text goes to FILE, or to standard output.
 """
+import json
 import sys
 
 HEAD = """  hooked-sort SortBool{} [hook{}("BOOL.Bool"), hasDomainValues{}()]
@@ -115,6 +116,32 @@ def wide_fold(n):
 
 def deep_attribute(n):
     return axiom("\\top{SortS{}}()", "a{}(" * n + ")" * n)
+
+
+def beside(n):
+    """A counter that stands beside a tree, which no rule touches; beside-request is the request of a tree of n nodes."""
+    body = HEAD + """  sort SortTree{} []
+  sort SortTop{} []
+  symbol Lblleaf{}() : SortTree{} [constructor{}()]
+  symbol Lblnode{}(SortTree{}, SortTree{}) : SortTree{} [constructor{}()]
+  symbol Lbltop{}(SortInt{}, SortTree{}) : SortTop{} [constructor{}()]
+  axiom{} \\rewrites{SortTop{}}(\\and{SortTop{}}(Lbltop{}(N:SortInt{}, T:SortTree{}), \\equals{SortBool{}, SortTop{}}(Lblgt{}(N:SortInt{}, \\dv{SortInt{}}("0")), \\dv{SortBool{}}("true"))), Lbltop{}(Lblsub{}(N:SortInt{}, \\dv{SortInt{}}("1")), T:SortTree{})) [label{}("top")]
+"""
+    return "[]\n" + module(body)
+
+
+def beside_request(n):
+    def applied(name, arguments):
+        return {"tag": "App", "name": name, "sorts": [], "args": arguments}
+
+    def tree(size):
+        if size < 3:
+            return applied("Lblleaf", [])
+        return applied("Lblnode", [tree((size - 1) // 2), tree(size - 1 - (size - 1) // 2)])
+
+    number = {"tag": "DV", "sort": {"tag": "SortApp", "name": "SortInt", "args": []}, "value": "10000"}
+    term = {"format": "KORE", "version": 1, "term": applied("Lbltop", [number, tree(n)])}
+    return json.dumps({"jsonrpc": "2.0", "id": 1, "method": "execute", "params": {"state": term}})
 
 
 def main():

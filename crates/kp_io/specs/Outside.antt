@@ -6,10 +6,11 @@ use Rattle.std.specs.Prelude.{◌≡◌, ◌≢◌, ◌⊎◌, ℕ, ◌-◌, ◌
 abbrev pub Rose : ℕ → ℕ → Type 0
 Rose before after = (before < after) ⊎ (after ≡ 2 ^ 64 - 1)
 
--- what a call does to the count of faults: it never falls, and rises where the call failed
+-- what a call does to the count of faults: it never falls, rises where the call failed, and else stays
 pub record CountsFault (before after : ℕ) (failed : Type 0) : Type 0 where
   pub never_falls : before ≤ after
   pub rose : failed → Rose before after
+  pub stays : ¬ failed → after ≡ before
 
 -- what a shelf maps: names to bytes
 abbrev pub Names : Type 0

@@ -103,6 +103,13 @@ fn the_hosts_streams_and_files_serve(rt: HostRuntime) -> Result<(), Fail> {
             Err(OutsideFault::Failed)
         );
         assert_eq!(rt; disk.faults(), 1);
+        assert!(rt;
+            matches!(
+                disk.load(rt.alloc(), "kp_io_test/kp_io_test"),
+                Err(LoadFault::Failed)
+            )
+        );
+        assert_eq!(rt; disk.faults(), 2);
     }
     Ok(())
 }

@@ -13,11 +13,12 @@ use Rattle.kp_signature.specs.View.{sentences_of}
 use Rattle.kp_rules.specs.Bodies.{IsFaulty}
 use Rattle.kp_modules.specs.Axioms.{axiom_view, axioms_view}
 use Rattle.kp_modules.specs.Faults.{Fault, unknown_import, import_cycle, duplicate_sort, duplicate_symbol, duplicate_module, rule_fault, no_main_module, rank, IsUnknown, IsCyclic, IsImportFault, IsFaultOf, IsFaultyAmong, IsFirstFaulty, IsFirstFault, AreSound, HasNoFault, signature_reached, axioms_reached}
-use Rattle.kp_modules.specs.Names.{names_of, IsRepeated, AreOnce}
+use Rattle.kp_modules.specs.Names.{names_of, IsFirstRepeated, AreOnce}
 use Rattle.kp_modules.specs.declared.axioms.RewriteAxiom.{RewriteAxiom}
 use Rattle.kp_modules.proofs.Collect.{all_append}
 use Rattle.kp_modules.proofs.Ruled.{axioms_more, sentences_seen}
 use Rattle.kp_modules.proofs.Seen.{all_at}
+use Rattle.kp_modules.proofs.Twice.{stands_twice}
 
 -- ---- rewrite axioms
 
@@ -57,8 +58,11 @@ faulty_among g axioms i h = record { rewriting = h.rewriting; among = subst (λ 
 none_faulty : (g : KoreSignature) (axioms : List NumberedAxiom) (i : ℕ) → AreSound g axioms → ¬ IsFaultyAmong g axioms i
 none_faulty g axioms i all h = subst (λ (a : NumberedAxiom). ¬ IsFaulty g a.axiom_of) h.among.2 (all_at (λ a. ¬ IsFaulty g a.axiom_of) axioms h.among.0 h.rewriting all h.among.1) h.faulty
 
-repeated_once : (n : Text) (names : List Text) → AreOnce names → ¬ IsRepeated n names
-repeated_once n names h k = let most : count_by (bytes_eq n) names ≤ 1 = h n in absurd (omega arith)
+repeated_once : (n : Text) (names : List Text) → AreOnce names → ¬ IsFirstRepeated n names
+repeated_once n names h k =
+    let most : count_by (bytes_eq n) names ≤ 1 = h n in
+    let twice : 1 < count_by (bytes_eq n) names = stands_twice n names k in
+    absurd (omega arith)
 
 -- ---- faults by rank
 
@@ -87,7 +91,7 @@ module _ (d : KoreDefinition) (main : Text) where
       no h e = omega arith
 
   -- M5
-  pub first_of_modules : (f : Fault) → (n : Text) × (f ≡ duplicate_module n) × IsRepeated n (names_of d.modules) → IsFirstFault d main f
+  pub first_of_modules : (f : Fault) → (n : Text) × (f ≡ duplicate_module n) × IsFirstRepeated n (names_of d.modules) → IsFirstFault d main f
   first_of_modules f h = subst (IsFirstFault d main) (sym h.1) (record {
     is_fault = h.2;
     first = none_before 0 (λ l. past 0 0 l (omega arith)) (λ l. past 1 0 l (omega arith)) (λ l. past 2 0 l (omega arith)) (λ l. past 3 0 l (omega arith)) (λ l. past 4 0 l (omega arith)) (λ l. past 5 0 l (omega arith)) (λ l. past 6 0 l (omega arith));
@@ -132,9 +136,9 @@ module _ (d : KoreDefinition) (main : Text) where
       sentences = sentences_seen ms ∙ ap (flat_map (λ m. m.sentences)) seen
 
       -- M3
-      pub first_of_sorts : (f : Fault) → (n : Text) × (f ≡ duplicate_sort n) × IsRepeated n (sort_names (sorts_in (sentences_of ms))) → IsFirstFault d main f
+      pub first_of_sorts : (f : Fault) → (n : Text) × (f ≡ duplicate_sort n) × IsFirstRepeated n (sort_names (sorts_in (sentences_of ms))) → IsFirstFault d main f
       first_of_sorts f h = subst (IsFirstFault d main) (sym h.1) (record {
-        is_fault = subst (λ ss. IsRepeated h.0 (sort_names (sorts_in ss))) sentences h.2;
+        is_fault = subst (λ ss. IsFirstRepeated h.0 (sort_names (sorts_in ss))) sentences h.2;
         first = none_before 4 (λ _. once) (λ _. found) (λ _ n. imports (unknown_import n)) (λ _. imports import_cycle) (λ l. past 4 4 l (omega arith)) (λ l. past 5 4 l (omega arith)) (λ l. past 6 4 l (omega arith));
         first_axiom = λ i e. absurd (cc);
       })
@@ -144,9 +148,9 @@ module _ (d : KoreDefinition) (main : Text) where
         sorts_once = subst (λ ss. AreOnce (sort_names (sorts_in ss))) sentences sorts
 
         -- M4
-        pub first_of_symbols : (f : Fault) → (n : Text) × (f ≡ duplicate_symbol n) × IsRepeated n (symbol_names (symbols_in (sentences_of ms))) → IsFirstFault d main f
+        pub first_of_symbols : (f : Fault) → (n : Text) × (f ≡ duplicate_symbol n) × IsFirstRepeated n (symbol_names (symbols_in (sentences_of ms))) → IsFirstFault d main f
         first_of_symbols f h = subst (IsFirstFault d main) (sym h.1) (record {
-          is_fault = subst (λ ss. IsRepeated h.0 (symbol_names (symbols_in ss))) sentences h.2;
+          is_fault = subst (λ ss. IsFirstRepeated h.0 (symbol_names (symbols_in ss))) sentences h.2;
           first = none_before 5 (λ _. once) (λ _. found) (λ _ n. imports (unknown_import n)) (λ _. imports import_cycle) (λ _. sorts_once) (λ l. past 5 5 l (omega arith)) (λ l. past 6 5 l (omega arith));
           first_axiom = λ i e. absurd (cc);
         })

@@ -2,12 +2,12 @@
 use Rattle.std.proofs.Common.{◌≡◌, refl, sym, ap, subst, ◌∙◌, ℕ, suc, ◌+◌, ◌<◌, ◌≤◌, Bool, true, false, ◌||◌, not, cond, List, [], ◌∷◌, ◌++◌, length, take, drop, get_or, count_by, string_bytes, String, Global, Bor, Option, Some, is_some, arith}
 use Rattle.std.specs.Str.{bytes_eq}
 use Rattle.std.proofs.Math.Seq.{take-suc}
-use Rattle.std.proofs.lemmas.List.{map-append, take-append-drop}
+use Rattle.std.proofs.lemmas.List.{append_assoc, map-append, take-append-drop}
 use Rattle.std.proofs.lemmas.List.Sums.{sum_by-append, sum_by-cons}
 use Rattle.std.proofs.lemmas.Slice.Eq.{bytes_eq-Decides}
 use Rattle.indexmap.specs.IndexMap.{IndexMap}
 use Rattle.kp_kore.specs.Syntax.{Text}
-use Rattle.kp_modules.specs.Names.{IsRepeated, AreOnce, Lists, texts_of}
+use Rattle.kp_modules.specs.Names.{IsFirstRepeated, AreOnce, Lists, texts_of}
 use Rattle.kp_modules.specs.Reaching.{has}
 use Rattle.kp_modules.proofs.Collect.{has_more, or_true, or_false, false_true}
 
@@ -56,12 +56,15 @@ once_more names x once new n = by (bytes_eq n x) refl
         omega arith
 
 -- a name that is there
-pub repeated : (names rest : List Text) (x : Text) → has x names ≡ true → IsRepeated x ((names ++ x ∷ []) ++ rest)
+repeated : (names rest : List Text) (x : Text) → has x names ≡ true → 1 < count_by (bytes_eq x) ((names ++ x ∷ []) ++ rest)
 repeated names rest x old =
     let some : 0 < count_by (bytes_eq x) names = some_counted x names old in
     let all : count_by (bytes_eq x) (names ++ x ∷ []) ≡ count_by (bytes_eq x) names + 1 = count_more x x names ∙ ap (λ b. count_by (bytes_eq x) names + cond b 1 0) ((bytes_eq-Decides x x).1 refl) in
     let most : count_by (bytes_eq x) (names ++ x ∷ []) ≤ count_by (bytes_eq x) ((names ++ x ∷ []) ++ rest) = count_most x (names ++ x ∷ []) rest in
     omega arith
+
+pub stands_twice : (n : Text) (names : List Text) → IsFirstRepeated n names → 1 < count_by (bytes_eq n) names
+stands_twice n names h = subst (λ l. 1 < count_by (bytes_eq n) l) (append_assoc h.before (n ∷ []) h.after ∙ sym h.are) (repeated h.before h.after n h.again)
 
 pub texts_more : (names : List (Bor (String Global))) (i : ℕ) (d : Bor (String Global)) → i < length names → texts_of (take (i + 1) names) ≡ texts_of (take i names) ++ string_bytes (get_or names i d).now ∷ []
 texts_more names i d h =
@@ -93,9 +96,16 @@ pub was_not_there : (b : Bool) → not b ≡ true → b ≡ false
 was_not_there true h = false_true h
 was_not_there false h = refl
 
-pub repeated_here : (names : List (Bor (String Global))) (i : ℕ) (d : Bor (String Global)) → i < length names → d ≡ get_or names i d → has (string_bytes d.now) (texts_of (take i names)) ≡ true → IsRepeated (string_bytes d.now) (texts_of names)
-repeated_here names i d within read old =
+pub repeated_here : (names : List (Bor (String Global))) (i : ℕ) (d : Bor (String Global)) → i < length names → d ≡ get_or names i d → AreOnce (texts_of (take i names)) → has (string_bytes d.now) (texts_of (take i names)) ≡ true →
+    IsFirstRepeated (string_bytes d.now) (texts_of names)
+repeated_here names i d within read once old =
     let up_to : texts_of (take (i + 1) names) ≡ texts_of (take i names) ++ string_bytes d.now ∷ [] = texts_more names i d within ∙ ap (λ x. texts_of (take i names) ++ string_bytes x.now ∷ []) (sym read) in
     let all : (texts_of (take i names) ++ string_bytes d.now ∷ []) ++ texts_of (drop (i + 1) names) ≡ texts_of names =
     ap (λ l. l ++ texts_of (drop (i + 1) names)) (sym up_to) ∙ sym (map-append (λ n. string_bytes n.now) (take (i + 1) names) (drop (i + 1) names)) ∙ ap texts_of (take-append-drop (i + 1) names) in
-    subst (IsRepeated (string_bytes d.now)) all (repeated (texts_of (take i names)) (texts_of (drop (i + 1) names)) (string_bytes d.now) old)
+    record {
+      before = texts_of (take i names);
+      after = texts_of (drop (i + 1) names);
+      are = sym all ∙ append_assoc (texts_of (take i names)) (string_bytes d.now ∷ []) (texts_of (drop (i + 1) names));
+      once = once;
+      again = old;
+    }

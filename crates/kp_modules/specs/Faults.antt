@@ -8,7 +8,7 @@ use Rattle.kp_kore.specs.Signature.{KoreSignature, signature_of, sorts_in, symbo
 use Rattle.kp_signature.specs.Table.{sort_names, symbol_names}
 use Rattle.kp_semantics.specs.Theory.{NumberedAxiom, module_named, modules_reached, rewrite_axioms}
 use Rattle.kp_rules.specs.Bodies.{IsFaulty}
-use Rattle.kp_modules.specs.Names.{names_of, IsRepeated}
+use Rattle.kp_modules.specs.Names.{names_of, IsFirstRepeated}
 use Rattle.kp_modules.specs.Reaching.{has, imports_of}
 use Rattle.kp_modules.specs.declared.fault.LoadError.{LoadError}
 use Rattle.kp_modules.specs.declared.fault.LoadError.TheVariants as error
@@ -20,7 +20,8 @@ pub data Fault : Type 0 where
   unknown_import : Text → Fault
   -- M2: a chain of imports leads from a reached module back to it
   import_cycle : Fault
-  -- M3, M4, M5: a sort or a symbol of the reached modules, or a module of the file, has its name twice
+  -- M3, M4, M5: a sort or a symbol of the reached modules, or a module of the file, has its name twice; the first
+  -- that stands a second time is told
   duplicate_sort : Text → Fault
   duplicate_symbol : Text → Fault
   duplicate_module : Text → Fault
@@ -107,9 +108,9 @@ axioms_reached d main = rewrite_axioms (modules_reached d main)
 abbrev pub IsFaultOf : KoreDefinition → Text → Fault → Type 0
 IsFaultOf d main (unknown_import n) = IsUnknown d.modules main n
 IsFaultOf d main import_cycle = IsCyclic d.modules main
-IsFaultOf d main (duplicate_sort n) = IsRepeated n (sort_names (sorts_in (flat_map (λ m. m.sentences) (modules_reached d main))))
-IsFaultOf d main (duplicate_symbol n) = IsRepeated n (symbol_names (symbols_in (flat_map (λ m. m.sentences) (modules_reached d main))))
-IsFaultOf d main (duplicate_module n) = IsRepeated n (names_of d.modules)
+IsFaultOf d main (duplicate_sort n) = IsFirstRepeated n (sort_names (sorts_in (flat_map (λ m. m.sentences) (modules_reached d main))))
+IsFaultOf d main (duplicate_symbol n) = IsFirstRepeated n (symbol_names (symbols_in (flat_map (λ m. m.sentences) (modules_reached d main))))
+IsFaultOf d main (duplicate_module n) = IsFirstRepeated n (names_of d.modules)
 IsFaultOf d main (rule_fault i) = IsFaultyAmong (signature_reached d main) (axioms_reached d main) i
 IsFaultOf d main no_main_module = module_named d.modules main ≡ None
 

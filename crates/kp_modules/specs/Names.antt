@@ -1,5 +1,5 @@
 -- Names of modules, and names that stand twice.
-use Rattle.std.specs.Prelude.{◌≡◌, ℕ, ◌<◌, ◌≤◌, List, map, Some, count_by, string_bytes}
+use Rattle.std.specs.Prelude.{◌≡◌, ℕ, ◌<◌, ◌≤◌, true, List, ◌∷◌, ◌++◌, map, Some, count_by, string_bytes}
 use Rattle.std.specs.Borrow.{Bor}
 use Rattle.std.specs.Option.{is_some}
 use Rattle.std.specs.List.{list_any}
@@ -17,13 +17,17 @@ names_of = map (λ m. m.name)
 abbrev pub module_names : List Module → List Text
 module_names ms = names_of (map module_view ms)
 
--- the name stands more than once
-abbrev pub IsRepeated : Text → List Text → Type 0
-IsRepeated n names = 1 < count_by (bytes_eq n) names
-
 -- each name stands at most once
 abbrev pub AreOnce : List Text → Type 0
 AreOnce names = (n : Text) → count_by (bytes_eq n) names ≤ 1
+
+-- the name is the first that stands a second time
+pub record IsFirstRepeated (n : Text) (names : List Text) : Type 0 where
+  pub before : List Text
+  pub after : List Text
+  pub are : names ≡ before ++ n ∷ after
+  pub once : AreOnce before
+  pub again : list_any (bytes_eq n) before ≡ true
 
 abbrev pub texts_of : List (Bor (String Global)) → List Text
 texts_of = map (λ n. string_bytes n.now)

@@ -6,7 +6,7 @@ ghost use Rattle.kp_kore.specs.Signature.{sorts_in, symbols_in};
 ghost use Rattle.kp_kore.specs.View.{sentence_view};
 ghost use Rattle.kp_signature.specs.Table.{sort_names as sorts_named, symbol_names as symbols_named};
 ghost use Rattle.kp_signature.specs.View.{sentences_of};
-ghost use Rattle.kp_modules.specs.Names.{texts_of, AreOnce, IsRepeated};
+ghost use Rattle.kp_modules.specs.Names.{texts_of, AreOnce, IsFirstRepeated};
 ghost use Rattle.kp_modules.specs.Faults.{Fault, fault_view, duplicate_sort, duplicate_symbol};
 
 use crate::fault::{LoadError, ModuleFault};
@@ -17,7 +17,7 @@ use std::alloc::{AllocError, Global};
 /// M3 of the first sort that is declared again.
 pub fn check_sorts(alloc: Global, modules: &[&Module]) -> Result<(), LoadError>
     ensures ok { OnOk result (AreOnce (sorts_named (sorts_in (sentences_of modules.now)))) }
-    ensures err { IfErr result (λ e. (f : Fault) → fault_view e ≡ Some f → (n : Text) × (f ≡ duplicate_sort n) × IsRepeated n (sorts_named (sorts_in (sentences_of modules.now)))) }
+    ensures err { IfErr result (λ e. (f : Fault) → fault_view e ≡ Some f → (n : Text) × (f ≡ duplicate_sort n) × IsFirstRepeated n (sorts_named (sorts_in (sentences_of modules.now)))) }
 {
     let names = sort_names(alloc, modules)?;
     match repeated_name(alloc, names.as_slice())? {
@@ -29,7 +29,7 @@ pub fn check_sorts(alloc: Global, modules: &[&Module]) -> Result<(), LoadError>
 /// M4 of the first symbol that is declared again.
 pub fn check_symbols(alloc: Global, modules: &[&Module]) -> Result<(), LoadError>
     ensures ok { OnOk result (AreOnce (symbols_named (symbols_in (sentences_of modules.now)))) }
-    ensures err { IfErr result (λ e. (f : Fault) → fault_view e ≡ Some f → (n : Text) × (f ≡ duplicate_symbol n) × IsRepeated n (symbols_named (symbols_in (sentences_of modules.now)))) }
+    ensures err { IfErr result (λ e. (f : Fault) → fault_view e ≡ Some f → (n : Text) × (f ≡ duplicate_symbol n) × IsFirstRepeated n (symbols_named (symbols_in (sentences_of modules.now)))) }
 {
     let names = symbol_names(alloc, modules)?;
     match repeated_name(alloc, names.as_slice())? {

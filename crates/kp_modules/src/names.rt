@@ -2,7 +2,7 @@
 ghost use Rattle.std.specs.Prelude.{◌≡◌, ◌<◌, ◌+◌, Some, take, OnOk, IfOk, IfErr, length, string_bytes, ◌++◌, ◌∷◌, [], List};
 ghost use Rattle.kp_kore.specs.Syntax.{Text};
 ghost use Rattle.kp_signature.specs.Names.{Indexes};
-ghost use Rattle.kp_modules.specs.Names.{module_names, texts_of, AreOnce, IsRepeated, PlacesAreBelow};
+ghost use Rattle.kp_modules.specs.Names.{module_names, texts_of, AreOnce, IsFirstRepeated, PlacesAreBelow};
 ghost use Rattle.kp_modules.specs.Faults.{Fault, fault_view, duplicate_module};
 
 use crate::fault::{LoadError, ModuleFault};
@@ -17,7 +17,7 @@ pub type NamePlaces = IndexMap<Name, usize>;
 /// M5 of the first name that two modules have.
 pub fn check_names(alloc: Global, modules: &[Module]) -> Result<(), LoadError>
     ensures ok { OnOk result (AreOnce (module_names modules.now)) }
-    ensures err { IfErr result (λ e. (f : Fault) → fault_view e ≡ Some f → (n : Text) × (f ≡ duplicate_module n) × IsRepeated n (module_names modules.now)) }
+    ensures err { IfErr result (λ e. (f : Fault) → fault_view e ≡ Some f → (n : Text) × (f ≡ duplicate_module n) × IsFirstRepeated n (module_names modules.now)) }
 {
     let names = names_in(alloc, modules)?;
     match repeated_name(alloc, names.as_slice())? {

@@ -1,7 +1,7 @@
 // Names that stand twice in a list.
 ghost use Rattle.std.specs.Prelude.{◌≡◌, ◌++◌, ◌∷◌, [], List, IfOk, MatchOption, not, string_bytes};
 ghost use Rattle.kp_kore.specs.Syntax.{Text};
-ghost use Rattle.kp_modules.specs.Names.{IsRepeated, AreOnce, Lists, texts_of};
+ghost use Rattle.kp_modules.specs.Names.{IsFirstRepeated, AreOnce, Lists, texts_of};
 ghost use Rattle.kp_modules.specs.Reaching.{has};
 
 use indexmap::IndexMap;
@@ -11,9 +11,9 @@ use std::alloc::{AllocError, Global};
 /// The names that were met so far.
 type Met = IndexMap<Name, ()>;
 
-/// A name that stands twice, where there is one.
+/// The first name that stands a second time, where there is one.
 pub fn repeated_name(alloc: Global, names: &[&Name]) -> Result<Option<Name>, AllocError>
-    ensures { IfOk result (λ o. MatchOption o (AreOnce (texts_of names.now)) (λ n. IsRepeated (string_bytes n) (texts_of names.now))) }
+    ensures { IfOk result (λ o. MatchOption o (AreOnce (texts_of names.now)) (λ n. IsFirstRepeated (string_bytes n) (texts_of names.now))) }
 {
     match first_repeated(alloc, names)? {
         Some(name) => Ok(Some(name.clone()?)),
@@ -23,7 +23,7 @@ pub fn repeated_name(alloc: Global, names: &[&Name]) -> Result<Option<Name>, All
 
 /// The first name that stands a second time.
 fn first_repeated<'a>(alloc: Global, names: &[&'a Name]) -> Result<Option<&'a Name>, AllocError>
-    ensures { IfOk result (λ o. MatchOption o (AreOnce (texts_of names.now)) (λ n. IsRepeated (string_bytes n.now) (texts_of names.now))) }
+    ensures { IfOk result (λ o. MatchOption o (AreOnce (texts_of names.now)) (λ n. IsFirstRepeated (string_bytes n.now) (texts_of names.now))) }
 {
     let mut met = IndexMap::new(alloc);
     for i in 0..names.len() {

@@ -1,3 +1,4 @@
+pub mod Constrained
 pub mod EdgeLemmas
 pub mod Fired
 pub mod Firing
@@ -8,6 +9,7 @@ pub mod InjectLemmas
 pub mod LeftTerms
 pub mod NameSets
 pub mod NewIndex
+pub mod NewVariables
 pub mod Numbers
 pub mod PlainRules
 pub mod ReadBodies

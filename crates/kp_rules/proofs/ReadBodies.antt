@@ -17,7 +17,7 @@ use Rattle.kp_semantics.specs.Foreign.{IsRead, Reads, none_within, has_foreign_h
 use Rattle.kp_signature.specs.Places.{Place, the_top}
 use Rattle.kp_signature.specs.Verify.{first_fault}
 use Rattle.kp_compile.specs.Verified.{misapplies_injection}
-use Rattle.kp_rules.specs.Bodies.{IsBodyOf, IsReadAs, IsRewriteOf, IsVerifiedLeft, HasFault, IsFaulty}
+use Rattle.kp_rules.specs.Bodies.{IsBodyOf, IsReadAs, IsRewriteOf, IsVerifiedLeft, IsConstrained, HasFault, IsFaulty}
 use Rattle.kp_rules.specs.Priorities.{Tells}
 use Rattle.kp_rules.specs.Reading.{IsStatementRead, IsReadBody, IsMadeOf, IsSound, IsShapeRead, is_side_read, is_plain_by}
 use Rattle.kp_rules.specs.Shapes.{seen}
@@ -27,6 +27,7 @@ use Rattle.kp_rules.specs.declared.rule.RuleBody.TheVariants.{Rewrite}
 use Rattle.kp_rules.specs.declared.rule.Rewrite as code
 use Rattle.kp_rules.specs.declared.shape.Shape.{Shape}
 use Rattle.kp_rules.proofs.ReadParts.{is_read, statement_read, side_read}
+use Rattle.kp_rules.proofs.Constrained.{is_constrained}
 use Rattle.kp_rules.proofs.LeftTerms.{left_is, constrained_is_term, left_passes}
 use Rattle.kp_rules.proofs.PlainRules.{plain, is_plain}
 use Rattle.kp_rules.proofs.VerifiedSides.{sound, right_has_sort}
@@ -49,11 +50,11 @@ opposite : (b : Bool) → not b ≡ false → b ≡ true
 opposite true h = refl
 opposite false h = absurd (cc)
 
-rewrite_is : (g : KoreSignature) (s : KoreSort) (r : KorePattern) (m : model.Rewrite) (w : code.Rewrite) → IsMadeOf g s m w → IsVerifiedLeft g m.left →
+rewrite_is : (g : KoreSignature) (s : KoreSort) (r : KorePattern) (m : model.Rewrite) (w : code.Rewrite) → IsConstrained m → IsMadeOf g s m w → IsVerifiedLeft g m.left →
     m.new_variables ≡ model.new_variables_of m.left r → w.chooses ≡ not (is_plain_by (λ y. is_named y (free_variables m.left)) r m.ensured) →
     sort_of_term g m.right ≡ Some s →
     (IsRegular g → (v : Valuation) → GivesSorts g v (free_variables m.left) → m.new_variables ≡ [] → HasSort g s (instance g v m.right)) → IsRewriteOf g m w
-rewrite_is g s r m w h verified new e right sorted = record {
+rewrite_is g s r m w constrained h verified new e right sorted = record {
   left = h.left;
   tests = h.tests verified;
   condition = h.condition;
@@ -64,6 +65,8 @@ rewrite_is g s r m w h verified new e right sorted = record {
   plain = λ f. plain m r new (opposite (is_plain_by (λ y. is_named y (free_variables m.left)) r m.ensured) (sym e ∙ f));
   chooses = λ t p. let so : is_plain_by (λ y. is_named y (free_variables m.left)) r m.ensured ≡ true = is_plain m r new p in
       let f : w.chooses ≡ false = e ∙ ap not so in absurd (cc);
+  choice = h.choice;
+  constrained = constrained;
   sorted = λ regular v gives none. subst (λ t. HasSort g t (instance g v m.right)) (sym h.right_sort) (sorted regular v gives none);
 }
 
@@ -89,7 +92,7 @@ rewrite_body g a s l r m w e place sorted statement shape side fault injections 
     record {
       meant = model.rewrite m;
       reads = read;
-      is_body = rewrite_is g s r m w made (verified_left g a s l r m e shape read (place none shape)) new chooses (right_has_sort g a s l r m e read fault injections) (sorted none shape own);
+      is_body = rewrite_is g s r m w (is_constrained s l r m shape) made (verified_left g a s l r m e shape read (place none shape)) new chooses (right_has_sort g a s l r m e read fault injections) (sorted none shape own);
     }
 
 -- ---- faults

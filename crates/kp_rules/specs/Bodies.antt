@@ -1,12 +1,12 @@
 -- Which rules of a theory the code's rules are.
-use Rattle.std.specs.Prelude.{◌≡◌, ◌↔◌, ℕ, true, false, not, min, [], Some, None, unwrap_or, IsTrue, string_bytes, ◌⊎◌}
+use Rattle.std.specs.Prelude.{◌≡◌, ◌↔◌, ℕ, Bool, true, false, not, min, [], map, Option, Some, None, unwrap_or, IsTrue, string_bytes, ◌⊎◌, ⊤}
 use Rattle.std.specs.Bool.{Decides}
 use Rattle.std.specs.List.{AllByRecursion, AllZip, list_any}
-use Rattle.kp_kore.specs.Syntax.{KoreSort, KorePattern, top, Statement}
+use Rattle.kp_kore.specs.Syntax.{KoreSort, KorePattern, top, conjunction, Statement}
 use Rattle.kp_kore.specs.Parts.{is_term, free_variables}
 use Rattle.kp_kore.specs.Signature.{KoreSignature}
 use Rattle.kp_kore.specs.Sorting.{sort_of_term}
-use Rattle.kp_kore.specs.View.{sort_view}
+use Rattle.kp_kore.specs.View.{view, sort_view, sorted_variable_view}
 use Rattle.kp_signature.specs.View.{signature_view}
 use Rattle.kp_signature.specs.Places.{Place}
 use Rattle.kp_signature.specs.Verify.{first_fault, VerifyFault, FailsWith}
@@ -29,6 +29,7 @@ use Rattle.kp_rules.specs.declared.rule.RuleBody.{RuleBody}
 use Rattle.kp_rules.specs.declared.rule.RuleBody.TheVariants.{Rewrite, Foreign}
 use Rattle.kp_rules.specs.declared.rule.RuleSet.{RuleSet}
 use Rattle.kp_rules.specs.declared.rule.Rewrite as code
+use Rattle.kp_rules.specs.declared.rule.RightSide.{RightSide}
 use Rattle.kp_rules.specs.declared.skeleton.Skeleton.{Skeleton}
 
 -- a term of variables, literals, constructors and inj, without a verify fault
@@ -47,6 +48,34 @@ pub record IsPlain (m : model.Rewrite) : Type 0 where
   pub new_variables : m.new_variables ≡ []
   pub ensured : AllByRecursion IsTop m.ensured
 
+-- the right side as its axiom has it: term, ensured condition and new variables, beside the left term's variables
+pub record IsSideOf (m : model.Rewrite) (s : RightSide) : Type 0 where
+  pub term : view s.term ≡ m.right
+  pub ensured : map view s.ensured.items ≡ m.ensured
+  pub new_variables : map sorted_variable_view s.new_variables.items ≡ m.new_variables
+  pub left_variables : map sorted_variable_view s.left_variables.items ≡ free_variables m.left
+
+-- it is kept exactly where the rule chooses
+abbrev pub IsChoiceOf : model.Rewrite → Bool → Option RightSide → Type 0
+IsChoiceOf m true (Some s) = IsSideOf m s
+IsChoiceOf m false None = ⊤
+IsChoiceOf m true None = ⊥
+IsChoiceOf m false (Some s) = ⊥
+
+abbrev pub is_conjunction : KorePattern → Bool
+is_conjunction (conjunction s ps) = true
+is_conjunction _ = false
+
+-- no term, and no conjunction
+pub record IsLonePredicate (p : KorePattern) : Type 0 where
+  pub no_term : is_term p ≡ false
+  pub no_conjunction : is_conjunction p ≡ false
+
+-- the right side is a term beside predicates, none of which is a conjunction
+pub record IsConstrained (m : model.Rewrite) : Type 0 where
+  pub right : is_term m.right ≡ true
+  pub ensured : AllByRecursion IsLonePredicate m.ensured
+
 -- the code's rule is the rewrite: its terms and its condition are the rewrite's, its tests pass on a value that has a
 -- sort exactly where the valuation gives the left term's variables values of their sorts, and the right term's
 -- instance has the sort that is noted
@@ -57,6 +86,8 @@ pub record IsRewriteOf (g : KoreSignature) (m : model.Rewrite) (r : code.Rewrite
   pub right : IsTermOf g m.right r.right
   pub plain : r.chooses ≡ false → IsPlain m
   pub chooses : r.chooses ≡ true → ¬ IsPlain m
+  pub choice : IsChoiceOf m r.chooses r.choice
+  pub constrained : IsConstrained m
   -- the numbers beyond 128 bits that they compute are those of the rewrite's patterns
   pub right_narrow : IsNarrowAs g m.right r.right
   pub condition_narrow : (v : Valuation) → is_condition_narrow v (condition_view r.condition) ≡ not (list_any (computes_wide g v) m.condition)

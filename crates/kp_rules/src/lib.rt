@@ -2,6 +2,7 @@
 // stand for; where a rule fires, and which values a foreign rule may rewrite.
 #![tactic(auto)]
 
+mod choice;
 mod depth;
 mod edges;
 pub mod fires;
@@ -25,7 +26,7 @@ mod values;
 pub use label::label_of;
 pub use priority::{Priority, USUAL_PRIORITY, priority_of};
 pub use read::{RuleError, read_rule};
-pub use rule::{Rewrite, Rule, RuleBody, RuleSet, SortTest};
+pub use rule::{Rewrite, RightSide, Rule, RuleBody, RuleSet, SortTest};
 pub use skeleton::Skeleton;
 pub use sort_index::SortIndex;
 pub use values::has_sort;

@@ -14,19 +14,20 @@ ghost use Rattle.kp_signature.specs.Verify.{first_fault};
 ghost use Rattle.kp_signature.specs.View.{signature_view};
 ghost use Rattle.kp_compile.specs.Verified.{misapplies_injection};
 ghost use Rattle.kp_compile.specs.declared.error.CompileError.TheVariants as compiling;
-ghost use Rattle.kp_rules.specs.Bodies.{IsReadAs, IsBodyOf, HasFault, IsFaulty};
+ghost use Rattle.kp_rules.specs.Bodies.{IsReadAs, IsBodyOf, IsChoiceOf, HasFault, IsFaulty};
 ghost use Rattle.kp_rules.specs.Index.{IsIndexOf};
 ghost use Rattle.kp_rules.specs.Priorities.{Tells};
 ghost use Rattle.kp_rules.specs.Reading.{IsStatementRead, rule_error, IsReadBody, IsMadeOf, IsSound, IsShapeRead, is_left_read, is_predicate_read, is_side_read, is_binder as binder_test, is_top_pattern, is_plain_by};
 ghost use Rattle.kp_rules.specs.Shapes.{seen, rewrite_seen};
 ghost use Rattle.kp_rules.specs.declared.read.RuleError.TheVariants.{Memory, Fault};
 
+use crate::choice::choice_of;
 use crate::names::{NameSet, are_named, names_of, repeats_literals_only};
 use crate::parts_read::{
     all_split, are_condition_parts, are_read_parts, are_uninterpreted, inject_one,
 };
 use crate::priority::{Priority, USUAL_PRIORITY, priority_of};
-use crate::rule::{Rewrite, RuleBody};
+use crate::rule::{Rewrite, RightSide, RuleBody};
 use crate::shape::{Shape, Side, shape_of};
 use crate::skeleton::{Skeleton, skeleton_of_left};
 use crate::sort_index::SortIndex;
@@ -298,7 +299,8 @@ fn rewrite_from(
     let variables = shape.left.term.free_vars(alloc)?;
     let names = names_of(alloc, &variables)?;
     let chooses = chooses(alloc, &shape.right.predicates, right, &names)?;
-    match compiled(alloc, signature, sort, shape, chooses) {
+    let choice = choice_of(alloc, shape, right, chooses)?;
+    match compiled(alloc, signature, sort, shape, chooses, choice) {
         Ok(rewrite) => Ok(rewrite),
         Err(error) => Err(refused(&error)),
     }
@@ -368,8 +370,9 @@ fn compiled(
     sort: &Sort,
     shape: &Shape<'_>,
     chooses: bool,
+    choice: Option<RightSide>,
 ) -> Result<Rewrite, CompileError>
-    ensures made { (r : KorePattern) → IfOk result (λ w. IsMadeOf (signature_view signature.now) (sort_view sort.now) (rewrite_seen r shape.now) w × (w.chooses ≡ chooses)) }
+    ensures made { (r : KorePattern) → IsChoiceOf (rewrite_seen r shape.now) chooses choice → IfOk result (λ w. IsMadeOf (signature_view signature.now) (sort_view sort.now) (rewrite_seen r shape.now) w × (w.chooses ≡ chooses)) }
     ensures sound { (r : KorePattern) → IfErr result (λ e. IsSound (signature_view signature.now) (rewrite_seen r shape.now) → e ≡ compiling.Memory) }
 {
     let left = compile_left(alloc, signature, shape.left.term)?;
@@ -383,5 +386,6 @@ fn compiled(
         right,
         right_sort: sort.copy(alloc)?,
         chooses,
+        choice,
     })
 }

@@ -1,6 +1,6 @@
 use crate::skeleton::Skeleton;
 use kp_ground::{Condition, Left, Term};
-use kp_kore::Sort;
+use kp_kore::{Pattern, Sort, SortedVariable};
 use kp_signature::Signature;
 
 /// A rule of a rule set. A smaller priority number goes first.
@@ -28,6 +28,19 @@ pub struct Rewrite {
     pub right_sort: Sort,
     /// A new variable or an ensured condition other than `\top`: more than one configuration may follow, or none.
     pub chooses: bool,
+    /// The right side of a rule that chooses, as its axiom has it.
+    pub choice: Option<RightSide>,
+}
+
+/// The right side of a rule: a term, what it ensures, and the variables that stand for other values each time.
+#[derive(Drop)]
+pub struct RightSide {
+    pub term: Pattern,
+    pub ensured: Vec<Pattern>,
+    /// Those that `\exists` binds at the top, and those that the left term hasn't.
+    pub new_variables: Vec<SortedVariable>,
+    /// The left term's, which have values when the rule fires.
+    pub left_variables: Vec<SortedVariable>,
 }
 
 /// A left variable whose place doesn't give its sort, as under `inj` or alone at the top.

@@ -171,7 +171,7 @@ fn add_binders<'a>(
 }
 
 /// What `\exists` binds at the top, and what stands under it.
-fn under_binders<'a>(alloc: Global, pattern: &'a Pattern) -> Result<Bound<'a>, AllocError>
+pub fn under_binders<'a>(alloc: Global, pattern: &'a Pattern) -> Result<Bound<'a>, AllocError>
     ensures found { IfOk result (λ b. variables_seen b.variables.items ≡ top_binders (view pattern.now)) }
     ensures rest { IfOk result (λ b. view b.pattern.now ≡ what_is_bound (view pattern.now)) }
 {

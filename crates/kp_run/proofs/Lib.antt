@@ -3,6 +3,7 @@ pub mod Among
 pub mod Answered
 pub mod Causes
 pub mod Runs
+pub mod Shallow
 pub mod States
 pub mod Theories
 pub mod Turning

@@ -174,7 +174,7 @@ fired g u f m s h = record {
 top_is_true : (g : KoreSignature) (v : Valuation) (p : KorePattern) → IsTop p → IsTrueUnder g v p
 top_is_true g v p h = subst (IsTrueUnder g v) (sym h.1) tt
 
-leads_to : (g : KoreSignature) (w : model.Rewrite) (v : Valuation) (next : Value) → IsPlain w → next ≡ instance g v w.right → LeadsTo g w v next
+pub leads_to : (g : KoreSignature) (w : model.Rewrite) (v : Valuation) (next : Value) → IsPlain w → next ≡ instance g v w.right → LeadsTo g w v next
 leads_to g w v next plain e = record {
   chosen = v;
   agrees = λ y _. refl;
@@ -187,7 +187,7 @@ agree_everywhere : (v w : Valuation) → (xs : List SortedName) → ((x : _) →
 agree_everywhere v w [] a = tt
 agree_everywhere v w (x ∷ xs) a = (a x.name, agree_everywhere v w xs a)
 
-leads_only_to : (g : KoreSignature) (w : model.Rewrite) (v : Valuation) (other : Value) → IsPlain w → LeadsTo g w v other → other ≡ instance g v w.right
+pub leads_only_to : (g : KoreSignature) (w : model.Rewrite) (v : Valuation) (other : Value) → IsPlain w → LeadsTo g w v other → other ≡ instance g v w.right
 leads_only_to g w v other plain to =
     let off : AgreesOff [] v to.chosen = subst (λ xs. AgreesOff xs v to.chosen) plain.new_variables to.agrees in
     to.result ∙ same_instance g v to.chosen w.right (agree_everywhere v to.chosen (free_variables w.right) (λ x. off x refl))

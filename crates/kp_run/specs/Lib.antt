@@ -1,3 +1,4 @@
 pub mod Causes
 pub mod Runs
+pub mod Shallow
 pub mod Turns

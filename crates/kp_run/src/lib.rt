@@ -9,4 +9,4 @@ mod step;
 
 pub use error::RunError;
 pub use run::{Executed, Stop, execute};
-pub use step::{Next, next_state};
+pub use step::{Next, foreign_on, next_state};

@@ -2,13 +2,13 @@ ghost use Rattle.std.specs.Prelude.{◌≡◌, ◌<◌, ◌≤◌, IfOk, IfErr, 
 ghost use Rattle.kp_semantics.specs.Theory.{Theory};
 ghost use Rattle.kp_ground.specs.View.{value_view};
 ghost use Rattle.kp_rules.specs.Bodies.{RunsAs};
-ghost use Rattle.kp_run.specs.Causes.{IsNotAnswered};
+ghost use Rattle.kp_run.specs.Causes.{IsNotAnswered, IsStateIn};
 ghost use Rattle.kp_run.specs.Runs.{IsAt, IsRunOf, written_of};
 ghost use Rattle.kp_run.specs.declared.error.RunError.TheVariants.{NotAnswered};
 ghost use Rattle.kp_run.specs.declared.run.Stop.TheVariants.{Stuck, DepthBound, ForeignRule};
 
 use crate::error::RunError;
-use crate::step::{Next, next_state};
+use crate::step::{Next, next_of};
 use kp_rules::RuleSet;
 use kp_states::State;
 use std::alloc::Global;
@@ -44,6 +44,7 @@ pub fn execute(
     ensures foreign { IfOk result (λ e. (id : String Global) → e.stop ≡ ForeignRule id → e.depth < bound) }
     ensures at_bound { IfOk result (λ e. e.stop ≡ DepthBound → e.depth ≡ bound) }
     ensures is_run { (t : Theory) → RunsAs t rules.now → IsAt t state → IfOk result (λ e. IsRunOf t (value_view state.value) bound e) }
+    ensures written { (t : Theory) → RunsAs t rules.now → IsAt t state → IfOk result (λ e. IsStateIn t e.depth (written_of state) (written_of e.state)) }
     ensures answered { (t : Theory) → RunsAs t rules.now → IsAt t state → IfOk result (λ _. ¬ IsNotAnswered t (written_of state) bound) }
     ensures not_answered { (t : Theory) → RunsAs t rules.now → IsAt t state → IfErr result (λ e. e ≡ NotAnswered → IsNotAnswered t (written_of state) bound) }
 {
@@ -51,9 +52,13 @@ pub fn execute(
         return Err(RunError::NotAnswered);
     }
     let mut state = state;
+    let mut is_counted = false;
     for depth in 0..bound {
-        match next_state(alloc, rules, &state)? {
-            Next::Stepped { state: next } => state = next,
+        match next_of(alloc, rules, &state, is_counted)? {
+            Next::Stepped { state: next } => {
+                state = next;
+                is_counted = true;
+            }
             Next::Stuck => {
                 return Ok(Executed {
                     depth,

@@ -1,6 +1,5 @@
 ghost use Rattle.std.specs.Prelude.{◌≡◌, ◌↔◌, ◌++◌, ◌≤◌, List, [], ◌∷◌, IfOk, IfErr, IsTrue, MatchOption, true, false};
 ghost use Rattle.std.specs.List.{AllByRecursion};
-ghost use Rattle.kp_kore.specs.Parts.{term_depth};
 ghost use Rattle.kp_kore.specs.Syntax.{KoreSort};
 ghost use Rattle.kp_kore.specs.Signature.{KoreSignature};
 ghost use Rattle.kp_kore.specs.View.{sort_view};
@@ -10,10 +9,15 @@ ghost use Rattle.kp_semantics.specs.Value.{HasSort};
 ghost use Rattle.kp_semantics.specs.Sorted.{IsSorted};
 ghost use Rattle.kp_semantics.specs.Theory.{Theory};
 ghost use Rattle.kp_semantics.specs.Steps.{AnyByRecursion, IsUnknown};
+ghost use Rattle.kp_semantics.specs.Instance.{Valuation};
+ghost use Rattle.kp_ground.specs.Solves.{Solves};
+ghost use Rattle.kp_ground.specs.Terms.{term_value};
+ghost use Rattle.kp_ground.specs.TermView.{term_view};
 ghost use Rattle.kp_ground.specs.View.{value_view};
 ghost use Rattle.kp_rules.specs.Bodies.{RunsAs};
 ghost use Rattle.kp_run.specs.Causes.{TwoAmong, IsWrittenAt, IsNotStepped, IsNotAnswered};
 ghost use Rattle.kp_run.specs.Runs.{IsNext, IsWrittenNext, written_of};
+ghost use Rattle.kp_run.specs.Shallow.{IsShallow, IsShallowNext, IsMatchOf};
 ghost use Rattle.kp_run.specs.Turns.{BodyFires, BodyIsWide, MightRewrite, NoneMight, IsFirstForeign, GoesAfter, FiresAt, IsFiring, OneAmong, IsTurn, IsAfterFiring, IsFollowed, NotFollowed};
 ghost use Rattle.kp_run.specs.declared.error.RunError.TheVariants.{NotAnswered};
 
@@ -22,7 +26,7 @@ use kp_ground::{Binding, Value};
 use kp_kore::Sort;
 use kp_rules::{Rewrite, Rule, RuleBody, RuleSet};
 use kp_signature::Signature;
-use kp_states::{State, is_within_written};
+use kp_states::{Matched, State, is_right_within, is_within_written};
 use std::alloc::{AllocError, Global};
 
 /// The deepest term that a state may have.
@@ -97,7 +101,7 @@ fn told_after<'a>(first: Option<&'a Rule>, rule: &'a Rule, might: bool) -> Optio
 }
 
 /// The foreign rule that is told of those that might rewrite the value: of the smallest priority number the first.
-fn foreign_on<'a>(
+pub fn foreign_on<'a>(
     alloc: Global,
     rules: &'a RuleSet,
     value: &Value,
@@ -220,6 +224,24 @@ pub fn next_state(alloc: Global, rules: &RuleSet, state: &State) -> Result<Next,
     ensures answered { (t : Theory) → RunsAs t rules.now → IsSorted t.signature (value_view state.now.value) → IfOk result (λ _. ¬ IsNotAnswered t (written_of state.now) 1) }
     ensures not_answered { (t : Theory) → RunsAs t rules.now → IsSorted t.signature (value_view state.now.value) → IfErr result (λ e. e ≡ NotAnswered → IsNotAnswered t (written_of state.now) 1) }
 {
+    next_of(alloc, rules, state, false)
+}
+
+/// What comes after a state, which may be known to be no deeper than a state may be: then what a step keeps of it isn't
+/// counted again.
+pub fn next_of(
+    alloc: Global,
+    rules: &RuleSet,
+    state: &State,
+    is_counted: bool,
+) -> Result<Next, RunError>
+    requires counted { IsTrue is_counted → IsShallow (signature_view rules.now.signature) state.now }
+    ensures next { (t : Theory) → RunsAs t rules.now → IsSorted t.signature (value_view state.now.value) → IfOk result (IsNext t (value_view state.now.value)) }
+    ensures written { (t : Theory) → RunsAs t rules.now → IsSorted t.signature (value_view state.now.value) → IfOk result (IsWrittenNext t (written_of state.now)) }
+    ensures answered { (t : Theory) → RunsAs t rules.now → IsSorted t.signature (value_view state.now.value) → IfOk result (λ _. ¬ IsNotAnswered t (written_of state.now) 1) }
+    ensures not_answered { (t : Theory) → RunsAs t rules.now → IsSorted t.signature (value_view state.now.value) → IfErr result (λ e. e ≡ NotAnswered → IsNotAnswered t (written_of state.now) 1) }
+    ensures counted { IfOk result (IsShallowNext (signature_view rules.now.signature)) }
+{
     if !rules.is_regular {
         return Err(RunError::NotAnswered);
     }
@@ -227,22 +249,29 @@ pub fn next_state(alloc: Global, rules: &RuleSet, state: &State) -> Result<Next,
         Some(rule) => Ok(Next::ForeignRule {
             id: rule.id.clone()?,
         }),
-        None => known_next(alloc, rules, state),
+        None => known_next(alloc, rules, state, is_counted),
     }
 }
 
 /// What comes after a state that no foreign rule might rewrite.
-fn known_next(alloc: Global, rules: &RuleSet, state: &State) -> Result<Next, RunError>
+fn known_next(
+    alloc: Global,
+    rules: &RuleSet,
+    state: &State,
+    is_counted: bool,
+) -> Result<Next, RunError>
+    requires counted { IsTrue is_counted → IsShallow (signature_view rules.now.signature) state.now }
     ensures next { (t : Theory) → RunsAs t rules.now → rules.now.is_regular ≡ true → IsSorted t.signature (value_view state.now.value) → ¬ IsUnknown t (value_view state.now.value) → IfOk result (IsNext t (value_view state.now.value)) }
     ensures written { (t : Theory) → RunsAs t rules.now → rules.now.is_regular ≡ true → IsSorted t.signature (value_view state.now.value) → ¬ IsUnknown t (value_view state.now.value) → IfOk result (IsWrittenNext t (written_of state.now)) }
     ensures answered { (t : Theory) → RunsAs t rules.now → IsSorted t.signature (value_view state.now.value) → ¬ IsUnknown t (value_view state.now.value) → IfOk result (λ _. ¬ IsNotStepped t (written_of state.now)) }
     ensures not_answered { (t : Theory) → RunsAs t rules.now → IsSorted t.signature (value_view state.now.value) → ¬ IsUnknown t (value_view state.now.value) → IfErr result (λ e. e ≡ NotAnswered → IsNotStepped t (written_of state.now)) }
+    ensures counted { IfOk result (IsShallowNext (signature_view rules.now.signature)) }
 {
     match turn_on(alloc, rules, &state.value)? {
         Turn::Nobody => Ok(Next::Stuck),
         Turn::Several(_) => Err(RunError::NotAnswered),
         Turn::One(firing) => Ok(Next::Stepped {
-            state: after(alloc, &rules.signature, state, &firing)?,
+            state: after(alloc, &rules.signature, state, &firing, is_counted)?,
         }),
     }
 }
@@ -253,7 +282,10 @@ fn after(
     signature: &Signature,
     state: &State,
     firing: &Firing,
+    is_counted: bool,
 ) -> Result<State, RunError>
+    requires counted { IsTrue is_counted → IsShallow (signature_view signature.now) state.now }
+    requires matched { IsMatchOf firing.now (value_view state.now.value) }
     ensures after { IfOk result (λ next. IsAfterFiring (signature_view signature.now) firing.now next) }
     ensures written { IfOk result (λ next. IsWrittenAt (signature_view signature.now) (sort_view firing.now.rewrite.now.right_sort) (sort_view state.now.sort) (sort_view next.sort)) }
     ensures followed { IfOk result (λ next. IsFollowed (signature_view signature.now) firing.now next) }
@@ -264,8 +296,42 @@ fn after(
     }
     let value = firing.rewrite.right.evaluate(alloc, &firing.bindings)?;
     let sort = written_sort(alloc, signature, &firing.rewrite.right_sort, &state.sort)?;
-    if !is_within_written(&value, alloc, signature, &sort, MOST_DEPTH)? {
+    let next = State { value, sort };
+    if !is_shallow_after(signature, state, firing, &next, is_counted) {
         return Err(RunError::NotAnswered);
     }
-    Ok(State { value, sort })
+    Ok(next)
+}
+
+/// Whether the state after a step is no deeper than a state may be.
+fn is_shallow_after(
+    signature: &Signature,
+    state: &State,
+    firing: &Firing,
+    next: &State,
+    is_counted: bool,
+) -> bool
+    requires counted { IsTrue is_counted → IsShallow (signature_view signature.now) state.now }
+    requires matched { IsMatchOf firing.now (value_view state.now.value) }
+    requires value { (v : Valuation) → Solves v firing.now.bindings.items → value_view next.now.value ≡ term_value v (term_view firing.now.rewrite.now.right) }
+    ensures { IsTrue result ↔ IsShallow (signature_view signature.now) next.now }
+{
+    if !is_counted {
+        return is_within_written(&next.value, signature, &next.sort, MOST_DEPTH);
+    }
+    let matched = Matched {
+        left: &firing.rewrite.left,
+        sort: &state.sort,
+        levels: MOST_DEPTH,
+        bindings: &firing.bindings,
+    };
+    let right = &firing.rewrite.right;
+    is_right_within(
+        &next.value,
+        right,
+        signature,
+        &matched,
+        &next.sort,
+        MOST_DEPTH,
+    )
 }

@@ -5,3 +5,4 @@ pub mod GroundStates
 pub mod Injections
 pub mod SpelledParts
 pub mod Depths
+pub mod Kept

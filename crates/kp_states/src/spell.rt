@@ -147,7 +147,7 @@ fn spelled_all(
 }
 
 /// The sort that a value is written at by itself.
-pub fn home_of(
+fn home_of(
     alloc: Global,
     signature: &Signature,
     value: &Value,

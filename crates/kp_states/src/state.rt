@@ -59,7 +59,7 @@ pub fn state_of(
 }
 
 /// The first foreign symbol that stands in a pattern.
-fn first_foreign(
+pub fn first_foreign(
     alloc: Global,
     signature: &Signature,
     pattern: &Pattern,

@@ -3,9 +3,13 @@
 #![tactic(auto)]
 
 #[cfg(test)]
+mod claims;
+#[cfg(test)]
 mod compiling;
 #[cfg(test)]
 mod definitions;
+#[cfg(test)]
+mod plain_calls;
 #[cfg(test)]
 mod readers;
 #[cfg(test)]

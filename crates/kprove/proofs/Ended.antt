@@ -14,6 +14,7 @@ use Rattle.kp_json.specs.Trees.{SpellsWrapped}
 use Rattle.kp_semantics.specs.Value.{Value, HasSort, truth}
 use Rattle.kp_semantics.specs.Instance.{Valuation, instance}
 use Rattle.kp_semantics.specs.Sorted.{IsRegular}
+use Rattle.kp_semantics.specs.Foreign.{none_within}
 use Rattle.kp_semantics.specs.Replies.{IsRightExecuted, Reason}
 use Rattle.kp_signature.specs.Verify.{VerifiesAs}
 use Rattle.kp_sorts.specs.Regularity.{keeps_values_apart}
@@ -27,12 +28,13 @@ use Rattle.kp_rpc.specs.declared.fault.StateFault.{StateFault}
 use Rattle.kp_rpc.specs.declared.fault.StateFault.TheVariants as fault
 use Rattle.kp_rpc.specs.declared.request.Execute.{Execute}
 use Rattle.kp_modules.specs.Reaching.{has}
-use Rattle.kp_run.specs.Causes.{IsNotAnswered, StopsUntold}
+use Rattle.kp_run.specs.Causes.{IsNotAnswered, IsStateIn, StopsUntold}
 use Rattle.kp_run.specs.Runs.{reason_of, written_of}
-use Rattle.kp_states.specs.Spelled.{IsOtherShape, IsSpellingOf, first_foreign, injection_name}
+use Rattle.kp_states.specs.Spelled.{IsOtherShape, IsSpellingOf, spelling, has_two_sorts, first_foreign, injection_name}
 use Rattle.kp_states.specs.declared.state.State.{State}
 use Rattle.kp_run.specs.declared.run.Executed.{Executed}
 use Rattle.kprove.proofs.Runs.{run_is_right}
+use Rattle.kprove.specs.Normal.{IsLater, HasNoSpelling}
 use Rattle.kprove.specs.Ends.{IsRead, IsStateAt, IsStatePattern, IsStateOf, IsEndOf, IsEndLine, IsFailureOf, IsListing, IsPlain, IsWrongTree, IsWrongPattern, IsLineTo, IsLine, IsReplyToRead, options_of, result_of, unanswered_bytes}
 use Rattle.kprove.specs.Right.{IsElsewhere, IsReached, IsLeftOut, IsPatternFault, IsStateError, IsFaulted, IsAnswered, IsUntold, elsewhere, stops_at_rules, no_state, mixes_values, no_run, Setting}
 use Rattle.kprove.specs.Sides.{IsUnreached}
@@ -77,10 +79,23 @@ pub left_out : (s : Setting) (e : Execute) (state : State) (is : IsStateOf s.the
     → IsStateError s (options_of e) is.is_pattern.tree (not_verified other_shape)
 left_out s e state is reached why = (reached, is.pattern, is.is_pattern.spells, (is.sort, is.verifies, is.is_state.no_foreign, why))
 
+-- the end of a run is so many steps on from the request's state
+later_at : (s : Setting) (e : Execute) (end : Executed) (h : IsEndOf s e end) → IsLater s.theory h.is_start.pattern h.is_start.sort end.depth (written_of end.state)
+later_at s e end h =
+    let st = h.is_start in
+    let ground = st.is_state.ground st.regular st.verifies in
+    record {
+      start = value_view h.start.value;
+      means = ground.meant;
+      reached = subst (λ (k : KoreSort). IsStateIn s.theory end.depth (record { value = value_view h.start.value; sort = k }) (written_of end.state)) st.is_state.sort_is h.ends;
+    }
+
 pub unanswered : (s : Setting) (e : Execute) → IsRead e → (end : Executed) → IsEndOf s e end → ¬ (meaning_of s.theory.signature injection_name ≡ injection)
+    → none_within has_two_sorts (spelling s.theory.signature (sort_view end.state.sort) (value_view end.state.value)) ≡ false
     → (line : List ℕ) → line ≡ unanswered_bytes e → IsLineTo s e line
-unanswered s e r end h none line l =
-    fault_line s e r h.is_start.is_pattern.tree (not_verified other_shape) h.is_start.is_pattern.has (left_out s e h.start h.is_start h.reached (inr none)) line l
+unanswered s e r end h none injects line l =
+    let out : HasNoSpelling s.theory h.is_start.pattern h.is_start.sort = record { steps = end.depth; later = written_of end.state; is_later = later_at s e end h; injects = injects; none = none } in
+    fault_line s e r h.is_start.is_pattern.tree (not_verified other_shape) h.is_start.is_pattern.has (left_out s e h.start h.is_start h.reached (inr out)) line l
 
 -- ---- results
 
@@ -108,8 +123,9 @@ is_told s e end h (no_run c means stops) =
     h.told (inr (subst (λ (k : KoreSort). StopsUntold s.theory (record { value = value_view h.start.value; sort = k }) (bound_of (options_of e))) (sym st.is_state.sort_is) at_value))
 
 pub answered : (s : Setting) (e : Execute) → IsRead e → (end : Executed) → IsEndOf s e end → (p : KorePattern) → IsSpellingOf s.theory.signature (value_view end.state.value) p
+    → p ≡ spelling s.theory.signature (sort_view end.state.sort) (value_view end.state.value)
     → (tree : Data) → result_tree (result_of end p) ≡ Some tree → IsAnswered s (data_view e.request) (result_reply (id_view e.id) tree)
-answered s e r end h p sp tree w =
+answered s e r end h p sp normal tree w =
     let st = h.is_start in
     let ground = st.is_state.ground st.regular st.verifies in
     let request : ExecuteRequest = record { id = id_view e.id; state = st.pattern; options = options_view e.options } in
@@ -136,12 +152,14 @@ answered s e r end h p sp tree w =
             (sym (both_empty (options_of e).cut_points (options_of e).terminals h.plain.cut_points h.plain.terminals))
             (run_is_right s.theory st.pattern p (value_view h.start.value) (bound_of (options_of e)) end h.run ground.term ground.closed ground.meant sp);
       };
+      normal = record { later = written_of end.state; is_later = later_at s e end h; spelled = normal };
     }
 
 -- the line with the end of a run
 pub end_is_right : (s : Setting) (e : Execute) → IsRead e → (end : Executed) → IsEndOf s e end → (p : KorePattern) → IsSpellingOf s.theory.signature (value_view end.state.value) p
+    → p ≡ spelling s.theory.signature (sort_view end.state.sort) (value_view end.state.value)
     → (line : Vec ℕ Global) → IsEndLine e end p line → IsLineTo s e line.items
-end_is_right s e r end h p sp line x = (result_reply (id_view e.id) x.0, inr (answered s e r end h p sp x.0 x.1), x.2)
+end_is_right s e r end h p sp normal line x = (result_reply (id_view e.id) x.0, inr (answered s e r end h p sp normal x.0 x.1), x.2)
 
 -- ---- failures
 

@@ -18,7 +18,7 @@ use Rattle.kp_ground.specs.View.{value_view}
 use Rattle.kp_modules.specs.Reaching.{has}
 use Rattle.kp_modules.specs.Tables.{RunsTable, does_reach, main_of}
 use Rattle.kp_modules.specs.declared.table.Table.{Table}
-use Rattle.kp_run.specs.Causes.{IsNotAnswered}
+use Rattle.kp_run.specs.Causes.{IsNotAnswered, IsStateIn}
 use Rattle.kp_run.specs.Runs.{IsRunOf, reason_of, written_of}
 use Rattle.kp_states.specs.Spelled.{IsGroundState, IsOtherShape, first_foreign}
 use Rattle.kp_states.specs.declared.state.State.{State}
@@ -128,6 +128,7 @@ pub record IsEndOf (s : Setting) (e : Execute) (end : Executed) : Type 0 where
   pub start : State
   pub is_start : IsStateOf s.theory.signature e start
   pub run : IsRunOf s.theory (value_view start.value) (bound_of (options_of e)) end
+  pub ends : IsStateIn s.theory end.depth (written_of start) (written_of end.state)
   pub told : ¬ IsNotAnswered s.theory (written_of start) (bound_of (options_of e))
 
 -- ---- lines

@@ -1,5 +1,6 @@
 pub mod Ends
 pub mod Faults
+pub mod Normal
 pub mod Right
 pub mod Sides
 pub mod Statuses

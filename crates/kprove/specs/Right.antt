@@ -9,7 +9,7 @@ use Rattle.std.specs.Prelude.{◌≡◌, ◌≢◌, ◌≤◌, ◌⊎◌, ℕ, t
 use Rattle.std.specs.Io.KnownBytes.{Appends}
 use Rattle.serde_json.specs.Data.{Data, object, Members}
 use Rattle.kp_kore.specs.Syntax.{Text, KoreSort, KorePattern, KoreDefinition}
-use Rattle.kp_kore.specs.Signature.{KoreSignature, injection, meaning_of}
+use Rattle.kp_kore.specs.Signature.{KoreSignature}
 use Rattle.kp_io.specs.Outside.{Names}
 use Rattle.kp_text.specs.Spelling.{SpellsDefinition}
 use Rattle.kp_json.specs.Faults.{fault, wrapped_reading}
@@ -22,7 +22,7 @@ use Rattle.kp_semantics.specs.Instance.{Valuation, instance}
 use Rattle.kp_semantics.specs.Theory.{Theory, IsTheoryOf, modules_reached}
 use Rattle.kp_modules.specs.Names.{names_of}
 use Rattle.kp_modules.specs.Reaching.{has}
-use Rattle.kp_states.specs.Spelled.{IsOtherShape, first_foreign, injection_name}
+use Rattle.kp_states.specs.Spelled.{IsOtherShape, first_foreign}
 use Rattle.kp_run.specs.Causes.{StopsUntold}
 use Rattle.kp_rpc.specs.Frame.{IsFrame, IsWhite, most_frame}
 use Rattle.kp_rpc.specs.Request.{RequestId, ExecuteOptions, ExecuteRequest, IsExecute, bound_of, ImpliesRequest, IsImplies}
@@ -30,6 +30,7 @@ use Rattle.kp_rpc.specs.Causes.{IsRefused, IsExecuteTree, IsImpliesTree}
 use Rattle.kp_rpc.specs.Implications.{IsRightImpliesReply}
 use Rattle.kp_rpc.specs.Reply.{VerifyFault, unknown_sort, unknown_symbol, other_number, sorts_differ, wide_number, deep_term, no_literal, foreign_symbol, other_shape, RequestError, no_module, no_pattern, not_verified, error_reply, reply_bytes, IsRightReply}
 use Rattle.kprove.specs.Faults.{IsFaultless}
+use Rattle.kprove.specs.Normal.{IsNormal, HasNoSpelling}
 use Rattle.kprove.specs.Words.{SpellsStdio}
 
 -- ---- what is served
@@ -70,9 +71,9 @@ pub data IsUntold (s : Setting) (options : ExecuteOptions) (p : KorePattern) (so
   mixes_values : keeps_values_apart s.theory.signature ≡ false → IsUntold s options p sort
   no_run : (c : Value) → ((v : Valuation) → instance s.theory.signature v p ≡ c) → StopsUntold s.theory (record { value = c; sort = sort }) (bound_of options) → IsUntold s options p sort
 
--- or its result may have no spelling, since no symbol is inj
+-- or a state of its run has no spelling
 abbrev pub IsLeftOut : Setting → ExecuteOptions → KorePattern → KoreSort → Type 0
-IsLeftOut s options p sort = IsUntold s options p sort ⊎ (meaning_of s.theory.signature injection_name ≢ injection)
+IsLeftOut s options p sort = IsUntold s options p sort ⊎ HasNoSpelling s.theory p sort
 
 -- ---- replies with a result
 
@@ -84,7 +85,7 @@ pub record IsTold (s : Setting) (request : ExecuteRequest) : Type 0 where
   pub told : ¬ IsUntold s request.options request.state sort
 
 -- the tree is a request of execute that names no module out of reach and whose run is told, and the reply has the right
--- result of its run over the theory
+-- result of its run over the theory, in the normal spelling
 pub record IsAnswered (s : Setting) (d reply : Data) : Type 0 where
   pub members : Members
   pub tree : d ≡ object members
@@ -93,6 +94,7 @@ pub record IsAnswered (s : Setting) (d reply : Data) : Type 0 where
   pub reached : IsReached s.names request.options.module_name
   pub is_told : IsTold s request
   pub right : IsRightReply s.theory request reply
+  pub normal : IsNormal s.theory request.state is_told.sort right.result.depth right.result.state.term
 
 -- ---- replies with an error
 

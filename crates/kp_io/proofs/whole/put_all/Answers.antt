@@ -1,4 +1,4 @@
-use Rattle.std.proofs.Common.{rules, arith}
+use Rattle.std.proofs.Common.{rules, ◌∙◌}
 use Rattle.std.proofs.Math.Seq.{take-add}
 use Rattle.std.proofs.KnownBytes.{Appends-trans}
 use Rattle.kp_io.proofs.Rests.{rest_is_drop}
@@ -9,5 +9,5 @@ loop-at-preserved g c = record {
   within = search rules;
   put = rw (take-add c.loop-at.at c.in_ok-at.field-0 c.args.bytes.now)
       (Appends-trans _ (g.K.Sink.held c.loop-at.sink) _ _ _ c.loop-at.invariant.put (rw (rest_is_drop c.loop-at.at c.args.bytes.now) at c.in_ok-at.ensures.bytes));
-  faults = omega arith;
+  faults = c.in_ok-at.ensures.faults.stays (λ e. cc e) ∙ c.loop-at.invariant.faults;
 }

@@ -1,4 +1,4 @@
-use Rattle.std.proofs.Common.{length, ◌-◌, ◌≤◌, take}
+use Rattle.std.proofs.Common.{length, ◌≡◌, ◌-◌, ◌≤◌, take}
 use Rattle.std.specs.Io.KnownBytes.{Appends}
 use Rattle.kp_io.proofs.whole.put_all.Given as goal
 
@@ -6,7 +6,7 @@ abbrev pub invariant-loop-at : goal.invariant-loop-at
 invariant-loop-at g l = record {
   within : l.at ≤ length l.bytes;
   put : Appends (g.K.Sink.held l.fn.sink) (g.K.Sink.held l.sink) (take l.at l.bytes);
-  faults : g.K.Sink.fault_count l.fn.sink ≤ g.K.Sink.fault_count l.sink;
+  faults : g.K.Sink.fault_count l.sink ≡ g.K.Sink.fault_count l.fn.sink;
 }
 
 abbrev pub decreases-loop-at : goal.decreases-loop-at

@@ -6,7 +6,7 @@ use Rattle.kp_signature.specs.Names.{first_place}
 use Rattle.kp_semantics.specs.Theory.{module_named, names_reached}
 use Rattle.kp_modules.specs.Walks.{IsOver}
 use Rattle.kp_modules.specs.Faults.{IsImportFault, IsFirstFault, IsUnknown, TellsFirst, duplicate_module, no_main_module, unknown_import}
-use Rattle.kp_modules.specs.Names.{AreOnce, IsRepeated, module_names, names_of}
+use Rattle.kp_modules.specs.Names.{AreOnce, IsFirstRepeated, module_names, names_of}
 use Rattle.kp_modules.proofs.Acyclic.{found_named, no_import_fault}
 use Rattle.kp_modules.proofs.Chains.{exit, no_name}
 use Rattle.kp_modules.proofs.Firsts.{first_of_modules, first_of_main, first_of_imports, first_of_cycles}
@@ -29,7 +29,7 @@ returns-in_err-check_names-clause-err c =
     let main = c.args.main.now in
     exit c.from_residual.result (TellsFirst d main) c.in_err-check_names.field-0.0 c.from_residual.ensures
     (λ f h. first_of_modules d main f
-    (subst (λ ms. (n : Text) × (f ≡ duplicate_module n) × IsRepeated n (names_of (map module_view ms))) c.as_slice-modules.ensures.value (c.in_err-check_names.ensures.err f h)))
+    (subst (λ ms. (n : Text) × (f ≡ duplicate_module n) × IsFirstRepeated n (names_of (map module_view ms))) c.as_slice-modules.ensures.value (c.in_err-check_names.ensures.err f h)))
 
 pub returns-in-None-clause-err : goal.returns-in-None-clause-err
 returns-in-None-clause-err c f e =

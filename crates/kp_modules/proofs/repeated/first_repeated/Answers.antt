@@ -12,7 +12,7 @@ returns-then-not-branch c =
     let x = c.index-names-i.result in
     let met = c.in_ok-meet.ensures (texts_of (take i names)) c.loop-i.invariant.1 in
     let read : x ≡ get_or names i x = search rules in
-    repeated_here names i x c.loop-i-test.true read (was_there (has (string_bytes x.now) (texts_of (take i names))) (sym met.0 ∙ c.if-not-branch.true))
+    repeated_here names i x c.loop-i-test.true read c.loop-i.invariant.0 (was_there (has (string_bytes x.now) (texts_of (take i names))) (sym met.0 ∙ c.if-not-branch.true))
 
 pub loop-i-preserved : goal.loop-i-preserved
 loop-i-preserved c =

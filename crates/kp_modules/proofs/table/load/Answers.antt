@@ -6,7 +6,7 @@ use Rattle.kp_semantics.specs.Theory.{modules_reached, rewrite_axioms}
 use Rattle.kp_signature.specs.Table.{sort_names, symbol_names}
 use Rattle.kp_signature.specs.View.{sentences_of}
 use Rattle.kp_modules.specs.Faults.{AreSound, TellsFaulty, TellsFirst, duplicate_symbol}
-use Rattle.kp_modules.specs.Names.{AreOnce, IsRepeated}
+use Rattle.kp_modules.specs.Names.{AreOnce, IsFirstRepeated}
 use Rattle.kp_modules.proofs.Chains.{exit}
 use Rattle.kp_modules.proofs.Firsts.{first_of_sorts, first_of_symbols, first_of_rules, no_fault}
 use Rattle.kp_modules.proofs.table.load.Goals as goal
@@ -28,7 +28,7 @@ returns-in_err-check_symbols-clause-err c =
     exit c.from_residual-in_err-check_symbols.result (TellsFirst d main) c.in_err-check_symbols.field-0.0 c.from_residual-in_err-check_symbols.ensures
     (λ f h. first_of_symbols d main c.in_ok-modules.ensures.once ms c.in_ok-modules.ensures.ok c.in_ok-modules.ensures.main c.in_ok-modules.ensures.none
     (subst (λ l. AreOnce (sort_names (sorts_in (sentences_of l)))) c.deref.ensures.value c.in_ok-check_sorts.ensures.ok) f
-    (subst (λ l. (n : Text) × (f ≡ duplicate_symbol n) × IsRepeated n (symbol_names (symbols_in (sentences_of l)))) c.deref-2.ensures.value (c.in_err-check_symbols.ensures.err f h)))
+    (subst (λ l. (n : Text) × (f ≡ duplicate_symbol n) × IsFirstRepeated n (symbol_names (symbols_in (sentences_of l)))) c.deref-2.ensures.value (c.in_err-check_symbols.ensures.err f h)))
 
 pub returns-in_err-rule_set-clause-err : goal.returns-in_err-rule_set-clause-err
 returns-in_err-rule_set-clause-err c =

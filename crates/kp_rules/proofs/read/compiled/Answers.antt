@@ -14,7 +14,7 @@ use Rattle.kp_rules.proofs.ReadBodies.{decides_seen}
 use Rattle.kp_rules.proofs.read.compiled.Goals as goal
 
 pub returns-clause-made : goal.returns-clause-made
-returns-clause-made c = λ r.
+returns-clause-made c = λ r choice.
     let g = signature_view c.args.signature.now in
     let condition = c.in_ok-condition.condition in (
       record {
@@ -26,6 +26,7 @@ returns-clause-made c = λ r.
         right_narrow = c.in_ok-right.ensures.narrow;
         condition_narrow = λ v. subst (λ ps. condition_narrow v (condition_view condition) ≡ not (list_any (computes_wide g v) (seen ps))) c.deref.ensures.value (c.in_ok-condition.ensures.narrow v);
         right_sort = c.in_ok-copy.ensures;
+        choice = choice;
       },
       refl,
     )

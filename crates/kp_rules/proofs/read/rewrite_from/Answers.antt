@@ -12,7 +12,7 @@ returns-in-Ok-clause-made c =
     let right = view c.args.right.now in
     let ensured = c.args.shape.now.right.predicates.items in
     let names = c.in_ok-names.names in
-    let made = c.in-Ok.ensures.made right in (
+    let made = c.in-Ok.ensures.made right c.in_ok-choice.ensures in (
       made.0,
       made.1
           ∙ subst (λ ps. c.in_ok-chooses.chooses ≡ not (is_plain_by (contains_text names) right (seen ps))) c.deref-2.ensures.value c.in_ok-chooses.ensures

@@ -3,8 +3,10 @@ use Rattle.std.proofs.lemmas.Result.{err_from_is_err_and}
 use Rattle.std.specs.Prelude.{string_bytes}
 use Rattle.kp_kore.specs.View.{sort_view}
 use Rattle.kp_semantics.specs.Sorted.{IsSorted}
+use Rattle.kp_signature.specs.View.{signature_view}
 use Rattle.kp_ground.specs.View.{value_view}
 use Rattle.kp_run.specs.Runs.{IsAt, IsStuck, IsFirstUnknown, GoesOnlyTo, IsNext, IsWrittenNext, written_of}
+use Rattle.kp_run.specs.Shallow.{IsShallowNext}
 use Rattle.kp_run.proofs.Runs.{goes_on, not_final, first_is_unknown}
 use Rattle.kp_run.proofs.States.{only_goes_on, states_go_on, told_at, told_more, ends_told, untold_later, answered_over}
 use Rattle.kp_run.proofs.run.execute.Goals as goal
@@ -30,6 +32,7 @@ loop-depth-preserved c = record {
       let sorted : IsSorted t.signature (value_view c.loop-depth.state.value) = (sort_view c.loop-depth.state.sort, (c.loop-depth.invariant.goes t runs at).1) in
       told_more t c.loop-depth.depth (written_of c.args.state) (written_of c.loop-depth.state) (c.loop-depth.invariant.told t runs at) (c.loop-depth.invariant.only t runs at)
       (told_at t (written_of c.loop-depth.state) (c.in_ok-next.ensures.answered t runs sorted));
+  counted = λ _. subst (IsShallowNext (signature_view c.args.rules.now.signature)) c.in-Stepped.is c.in_ok-next.ensures.counted;
 }
 
 pub returns-in_err-next-clause-not_answered : goal.returns-in_err-next-clause-not_answered

@@ -12,6 +12,12 @@ use Rattle.kp_states.specs.declared.state.State.{State}
 use Rattle.kp_run.proofs.Turning.{is_beyond}
 use Rattle.kp_run.proofs.step.after.Goals as goal
 
+pub is_shallow_after-requires-clause-value : goal.is_shallow_after-requires-clause-value
+is_shallow_after-requires-clause-value c =
+    let gives : Gives (Ok c.in_ok-value.value) c.args.firing.now.bindings.items (term_view c.args.firing.now.rewrite.now.right) =
+    subst (λ bs. Gives (Ok c.in_ok-value.value) bs (term_view c.args.firing.now.rewrite.now.right)) c.deref.ensures.value c.in_ok-value.ensures in
+    λ v s. (gives v s).0
+
 pub returns-clause-after : goal.returns-clause-after
 returns-clause-after c =
     let gives : Gives (Ok c.in_ok-value.value) c.args.firing.now.bindings.items (term_view c.args.firing.now.rewrite.now.right) =
@@ -22,13 +28,13 @@ returns-clause-after c =
       sort = λ h. c.in_ok-sort.ensures.sort (value_view c.in_ok-value.value) h;
     }
 
-pub returns-then-not-branch-clause-not_followed : goal.returns-then-not-branch-clause-not_followed
-returns-then-not-branch-clause-not_followed c = λ _.
+pub returns-then-not-is_shallow_after-clause-not_followed : goal.returns-then-not-is_shallow_after-clause-not_followed
+returns-then-not-is_shallow_after-clause-not_followed c = λ _.
     let g = signature_view c.args.signature.now in
     let next : State = record { value = c.in_ok-value.value; sort = c.in_ok-sort.sort } in
     let gives : Gives (Ok c.in_ok-value.value) c.args.firing.now.bindings.items (term_view c.args.firing.now.rewrite.now.right) =
     subst (λ bs. Gives (Ok c.in_ok-value.value) bs (term_view c.args.firing.now.rewrite.now.right)) c.deref.ensures.value c.in_ok-value.ensures in
-    let isnt : c.in_ok-is_within_written.field-0 ≡ false = search rules in
+    let isnt : c.is_shallow_after.result ≡ false = search rules in
     deep (record {
       next = next;
       after = record {
@@ -37,15 +43,15 @@ returns-then-not-branch-clause-not_followed c = λ _.
         sort = λ h. c.in_ok-sort.ensures.sort (value_view c.in_ok-value.value) h;
       };
       written = c.in_ok-sort.ensures.written;
-      deep = is_beyond (term_depth (spelling g (sort_view c.in_ok-sort.sort) (value_view c.in_ok-value.value))) 48 c.in_ok-is_within_written.field-0 isnt c.in_ok-is_within_written.ensures;
+      deep = is_beyond (term_depth (spelling g (sort_view c.in_ok-sort.sort) (value_view c.in_ok-value.value))) 48 c.is_shallow_after.result isnt c.is_shallow_after.ensures;
     })
 
 pub returns-clause-followed : goal.returns-clause-followed
 returns-clause-followed c =
     let gives : Gives (Ok c.in_ok-value.value) c.args.firing.now.bindings.items (term_view c.args.firing.now.rewrite.now.right) =
     subst (λ bs. Gives (Ok c.in_ok-value.value) bs (term_view c.args.firing.now.rewrite.now.right)) c.deref.ensures.value c.in_ok-value.ensures in
-    let is : c.in_ok-is_within_written.field-0 ≡ true = search rules in
+    let is : c.is_shallow_after.result ≡ true = search rules in
     record {
       narrow = λ v s. (gives v s).1;
-      within = c.in_ok-is_within_written.ensures.0 is;
+      within = c.is_shallow_after.ensures.0 is;
     }

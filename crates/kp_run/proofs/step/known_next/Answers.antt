@@ -5,6 +5,7 @@ use Rattle.kp_ground.specs.View.{value_view}
 use Rattle.kp_run.specs.Turns.{IsTurn}
 use Rattle.kp_run.proofs.Answered.{stuck_without, goes_without}
 use Rattle.kp_run.proofs.Causes.{wide_stops, several_stop, not_followed_stops, next_written, one_here}
+use Rattle.kp_run.proofs.Shallow.{match_of}
 use Rattle.kp_run.proofs.Theories.{stuck_here, goes_here}
 use Rattle.kp_run.proofs.step.known_next.Goals as goal
 
@@ -62,3 +63,11 @@ returns-in_ok-after-in-One-clause-answered c = λ t runs s known.
       followed = c.in_ok-after-in-One.ensures.followed;
       written = c.in_ok-after-in-One.ensures.written;
     })
+
+pub after-requires-clause-matched : goal.after-requires-clause-matched
+after-requires-clause-matched c =
+    match_of (signature_view c.args.rules.now.signature) (value_view c.args.state.now.value) c.in-One.firing c.in-One.firing.priority c.args.rules.now.rules.items
+    (subst (IsTurn (signature_view c.args.rules.now.signature) (value_view c.args.state.now.value) c.args.rules.now.rules.items) c.in-One.is c.in_ok-turn_on.ensures.turn)
+
+pub returns-in_ok-after-in-One-clause-counted : goal.returns-in_ok-after-in-One-clause-counted
+returns-in_ok-after-in-One-clause-counted c = c.in_ok-after-in-One.ensures.followed.within

@@ -30,6 +30,7 @@ returns-in-Ok-clause-found c = λ s is.
       start = c.in_ok-state.state;
       is_start = start;
       run = subst (λ n. IsRunOf s.theory (value_view c.in_ok-state.state.value) n c.in-Ok.end) c.bound_of.ensures (c.in-Ok.ensures.is_run s.theory runs (sorted_start s.theory.signature e c.in_ok-state.state start));
+      ends = c.in-Ok.ensures.written s.theory runs (sorted_start s.theory.signature e c.in_ok-state.state start);
       told = subst (λ n. ¬ IsNotAnswered s.theory (written_of c.in_ok-state.state) n) c.bound_of.ensures (c.in-Ok.ensures.answered s.theory runs (sorted_start s.theory.signature e c.in_ok-state.state start));
     }
 

@@ -7,7 +7,7 @@ use Rattle.kp_run.specs.Runs.{IsFirstUnknown, written_of}
 use Rattle.kp_run.proofs.Runs.{first_is_unknown}
 use Rattle.kp_run.proofs.States.{one_told, one_not_answered, answered_over}
 use Rattle.kp_run.proofs.Theories.{told_here}
-use Rattle.kp_run.proofs.step.next_state.Goals as goal
+use Rattle.kp_run.proofs.step.next_of.Goals as goal
 
 pub returns-in_ok-clone-in-Some-clause-next : goal.returns-in_ok-clone-in-Some-clause-next
 returns-in_ok-clone-in-Some-clause-next c = λ t runs s.

@@ -1,0 +1,13 @@
+use Rattle.std.proofs.Common.{sym, subst, IfErr, OnOk}
+use Rattle.kp_kore.specs.View.{sentence_view}
+use Rattle.kp_signature.specs.View.{signature_view}
+use Rattle.kp_claims.specs.Faults.{IsFaultAt, IsFaultless, TellsOf}
+use Rattle.kp_claims.proofs.read.claim_of_sentence.Goals as goal
+
+pub returns-in-Claim-clause-faultless : goal.returns-in-Claim-clause-faultless
+returns-in-Claim-clause-faultless c before is =
+    subst (λ s. OnOk c.claim_of.result (IsFaultless (signature_view c.args.signature.now) before (sentence_view s))) (sym c.in-Claim.is) (c.claim_of.ensures.faultless before is)
+
+pub returns-in-Claim-clause-err : goal.returns-in-Claim-clause-err
+returns-in-Claim-clause-err c before is =
+    subst (λ s. IfErr c.claim_of.result (TellsOf (IsFaultAt (signature_view c.args.signature.now) before (sentence_view s)))) (sym c.in-Claim.is) (c.claim_of.ensures.err before is)

@@ -1,0 +1,8 @@
+pub mod Claims
+pub mod Examples
+pub mod Faults
+pub mod Files
+pub mod Items
+pub mod Labels
+pub mod Sentences
+pub mod Sides

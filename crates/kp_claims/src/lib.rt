@@ -1,0 +1,18 @@
+// Reachability claims read from Kore text: the claims of a file in order, each with its label and its sides, or the first
+// fault. specs/Claims.antt says what a claim is, specs/Faults.antt which fault comes first. Today a claim is read that
+// goes from one ground term to another, over all paths, and is no circularity and depends on no other.
+#![tactic(auto)]
+
+pub mod examples;
+mod fault;
+mod file;
+mod item;
+mod label;
+mod outline;
+mod read;
+mod sentences;
+mod sides;
+
+pub use fault::{ClaimError, ClaimFault};
+pub use item::ClaimItem;
+pub use read::read_claims;

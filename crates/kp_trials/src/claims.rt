@@ -1,0 +1,154 @@
+use kp_claims::{ClaimError, ClaimItem, read_claims};
+use kp_signature::Signature;
+use kp_text::read_definition;
+use std::alloc::Global;
+use std::test::Fail;
+
+const DEFINITION: &str = r#"[]
+module COUNTING
+  hooked-sort SortInt{} [hook{}("INT.Int")]
+  hooked-symbol Lblmul{}(SortInt{}, SortInt{}) : SortInt{} [hook{}("INT.mul"), function{}()]
+  sort SortS{} []
+  symbol Lblcount{}(SortInt{}) : SortS{} [constructor{}()]
+  symbol Lbldone{}() : SortS{} [constructor{}()]
+  symbol Lblother{}(SortInt{}) : SortInt{} [function{}()]
+endmodule []
+"#;
+
+/// The labels, each ended by a space.
+fn labels(alloc: Global, items: &[ClaimItem]) -> Result<String, Fail> {
+    let mut text = String::new(alloc);
+    for item in items {
+        text.push_str(item.label.as_str())?;
+        text.push_str(" ")?;
+    }
+    Ok(text)
+}
+
+/// The labels of a file's claims over the definition, or what is wrong with it.
+fn told(alloc: Global, file: &str) -> Result<String, Fail> {
+    told_over(alloc, DEFINITION, file)
+}
+
+/// The same over another definition.
+fn told_over(alloc: Global, definition: &str, file: &str) -> Result<String, Fail> {
+    let Ok(definition) = read_definition(alloc, definition.as_bytes()) else {
+        return Err(Fail::from("no definition"));
+    };
+    let signature = Signature::new(alloc, &[&definition.modules[0]])?;
+    match read_claims(alloc, file.as_bytes(), &signature) {
+        Ok(items) => labels(alloc, &items),
+        Err(ClaimError::Memory) => Err(Fail::from("memory")),
+        Err(ClaimError::Text(fault)) => {
+            Ok(format!(in alloc; "text {} at {}", fault.kind.number(), fault.at)?)
+        }
+        Err(ClaimError::Fault(fault)) => Ok(String::from_str(alloc, fault.code())?),
+    }
+}
+
+/// A module with these sentences.
+fn file(alloc: Global, sentences: &str) -> Result<String, Fail> {
+    let mut text = String::from_str(alloc, "module SPEC import COUNTING [] ")?;
+    text.push_str(sentences)?;
+    text.push_str(" endmodule []")?;
+    Ok(text)
+}
+
+/// A constructor makes a value of the whole-number sort.
+const IRREGULAR: &str = r#"[]
+module COUNTING
+  hooked-sort SortInt{} [hook{}("INT.Int")]
+  hooked-symbol Lblmul{}(SortInt{}, SortInt{}) : SortInt{} [hook{}("INT.mul"), function{}()]
+  symbol Lblinfinity{}() : SortInt{} [constructor{}()]
+endmodule []
+"#;
+
+#[test]
+fn no_number_is_too_wide_where_nothing_is_run(rt: HostRuntime) -> Result<(), Fail> {
+    let alloc = rt.alloc();
+    let wide = file(
+        alloc,
+        r#"claim{} \implies{SortInt{}}(Lblinfinity{}(), weakAlwaysFinally{SortInt{}}(Lblmul{}(\dv{SortInt{}}("170141183460469231731687303715884105727"), \dv{SortInt{}}("2")))) [label{}("a")]"#,
+    )?;
+    assert_eq!(rt; told_over(alloc, IRREGULAR, wide.as_str())?.as_str(), "a ");
+    Ok(())
+}
+
+#[test]
+fn claims_or_the_first_fault(rt: HostRuntime) -> Result<(), Fail> {
+    let alloc = rt.alloc();
+    let two =
+        r#"claim{} \implies{SortS{}}(Lblcount{}(\dv{SortInt{}}("2")), weakAlwaysFinally{SortS{}}(Lbldone{}()))"#;
+    let wide =
+        r#"claim{} \implies{SortS{}}(Lbldone{}(), weakAlwaysFinally{SortS{}}(Lblcount{}(Lblmul{}(\dv{SortInt{}}("170141183460469231731687303715884105727"), \dv{SortInt{}}("2")))))"#;
+    let rows = [
+        (two, r#"[label{}("T.two")]"#, "T.two "),
+        (two, r#"[]"#, "C6"),
+        (two, r#"[label{}("a b")]"#, "C6"),
+        (two, r#"[label{}("a"), circularity{}()]"#, "C2"),
+        (two, r#"[depends{}("a"), label{}("b")]"#, "C2"),
+        (
+            r#"claim{} \implies{SortS{}}(Lbldone{}(), weakExistsFinally{SortS{}}(Lbldone{}()))"#,
+            "[]",
+            "C1",
+        ),
+        (
+            r#"claim{} \implies{SortS{}}(Lblcount{}(X:SortInt{}), weakAlwaysFinally{SortS{}}(Lbldone{}()))"#,
+            "[]",
+            "C2",
+        ),
+        (
+            r#"claim{} \implies{SortS{}}(Lblcount{}(Lblother{}(\dv{SortInt{}}("2"))), weakAlwaysFinally{SortS{}}(Lbldone{}()))"#,
+            r#"[label{}("a")]"#,
+            "C9",
+        ),
+        (
+            r#"claim{} \implies{SortS{}}(Lbldone{}(), weakAlwaysFinally{SortS{}}(\dv{SortInt{}}("2")))"#,
+            r#"[label{}("a")]"#,
+            "C9",
+        ),
+        (wide, r#"[label{}("a")]"#, "C2"),
+        (
+            r#"axiom{} \rewrites{SortS{}}(Lbldone{}(), Lbldone{}()) [] claim{} \top{S{}}()"#,
+            "[]",
+            "C2",
+        ),
+        (r#"axiom{} \top{SortS{}}()"#, "[]", ""),
+        (r#"sort S{} [] claim{} \top{SortS{}}()"#, "[]", "C2"),
+    ];
+    for (sentence, attributes, wanted) in rows {
+        let mut sentences = String::from_str(alloc, sentence)?;
+        sentences.push_str(" ")?;
+        sentences.push_str(attributes)?;
+        let text = file(alloc, sentences.as_str())?;
+        let got = told(alloc, text.as_str())?;
+        assert_eq!(rt; got.as_str(), wanted);
+    }
+    Ok(())
+}
+
+#[test]
+fn files_of_claims(rt: HostRuntime) -> Result<(), Fail> {
+    let alloc = rt.alloc();
+    let done = r#"claim{} \implies{SortS{}}(Lbldone{}(), weakAlwaysFinally{SortS{}}(Lbldone{}()))"#;
+    let same = format!(in alloc; "{done} [label{{}}(\"a\")] {done} [label{{}}(\"a\")]")?;
+    let others = format!(in alloc; "{done} [label{{}}(\"a\")] {done} [label{{}}(\"b\")]")?;
+    let twice = told(alloc, file(alloc, same.as_str())?.as_str())?;
+    assert_eq!(rt; twice.as_str(), "C7");
+    let both = told(alloc, file(alloc, others.as_str())?.as_str())?;
+    assert_eq!(rt; both.as_str(), "a b ");
+    let whole = format!(in alloc; "[] {}", file(alloc, others.as_str())?)?;
+    let defined = told(alloc, whole.as_str())?;
+    assert_eq!(rt; defined.as_str(), "a b ");
+    assert_eq!(rt;
+        told(alloc, "[] module M endmodul")?.as_str(),
+        "text 2 at 12"
+    );
+    assert_eq!(rt;
+        told(alloc, "module M endmodule x")?.as_str(),
+        "text 2 at 19"
+    );
+    assert_eq!(rt; told(alloc, "x")?.as_str(), "text 2 at 0");
+    assert_eq!(rt; told(alloc, "")?.as_str(), "text 5 at 0");
+    Ok(())
+}
