@@ -1,6 +1,6 @@
 -- Two ground terms of one sort imply one another exactly where their values are one; from what was read of a request of
 -- implies to its reply.
-use Rattle.std.proofs.Common.{◌≡◌, ◌≢◌, Bool, true, false, List, ℕ, [], Option, Some, None, IsTrue, Vec, unwrap_or, refl, sym, ap, subst, ◌∙◌, inl, inr, string_bytes}
+use Rattle.std.proofs.Common.{◌≡◌, ◌≢◌, true, false, List, ℕ, [], Option, Some, None, Vec, unwrap_or, refl, sym, ap, subst, ◌∙◌, inl, inr, string_bytes}
 use Rattle.std.specs.Option.{option_and_then, option_map}
 use Rattle.std.specs.Prelude.{codes}
 use Rattle.std.specs.declared.alloc.Global.{Global}
@@ -11,30 +11,29 @@ use Rattle.kp_kore.specs.Parts.{SortedName, is_term, free_variables}
 use Rattle.kp_kore.specs.Signature.{KoreSignature}
 use Rattle.kp_kore.specs.View.{sort_view}
 use Rattle.kp_semantics.specs.Value.{Value, HasSort, truth}
-use Rattle.kp_semantics.specs.Instance.{Valuation, instance, GivesSorts, IsInstance}
+use Rattle.kp_semantics.specs.Instance.{Valuation, GivesSorts, IsInstance}
 use Rattle.kp_semantics.specs.Replies.{HasInstance}
 use Rattle.kp_semantics.specs.Sorted.{IsRegular}
-use Rattle.kp_semantics.specs.Theory.{Theory}
 use Rattle.kp_semantics.proofs.InstanceLemmas.{one_instance}
 use Rattle.kp_json.specs.Trees.{SpellsWrapped}
 use Rattle.kp_ground.specs.View.{value_view}
 use Rattle.kp_signature.specs.Verify.{VerifiesAs}
 use Rattle.kp_sorts.specs.Regularity.{keeps_values_apart}
-use Rattle.kp_states.specs.Spelled.{IsGroundState, IsOtherShape, first_foreign}
+use Rattle.kp_states.specs.Spelled.{IsGroundState}
 use Rattle.kp_states.specs.declared.state.State.{State}
 use Rattle.kp_rpc.specs.Frame.{IsFrame}
-use Rattle.kp_rpc.specs.Implications.{DoesImply, HasInstancesAt, bound_variables, body_of, Chooses, IsWitness, IsCondition, witnessed, IsRightImplied}
+use Rattle.kp_rpc.specs.Implications.{DoesImply, HasInstancesAt, bound_variables, body_of, IsWitness, witnessed, IsRightImplied}
 use Rattle.kp_rpc.specs.Readings.{read_object, if_object, read_side}
-use Rattle.kp_rpc.specs.Reply.{ImpliesResult, not_valid, valid, RequestError, VerifyFault, not_verified, other_shape, error_reply, implied_tree, reply_bytes, result_reply}
+use Rattle.kp_rpc.specs.Reply.{ImpliesResult, not_valid, valid, RequestError, not_verified, other_shape, error_reply, implied_tree, reply_bytes, result_reply}
 use Rattle.kp_rpc.specs.Request.{RequestId, HasSides, ImpliesRequest}
-use Rattle.kp_rpc.specs.View.{id_view, name_view, pattern_fault_view, state_fault_view}
+use Rattle.kp_rpc.specs.View.{id_view, name_view, state_fault_view}
 use Rattle.kp_rpc.specs.declared.fault.StateFault.{StateFault}
 use Rattle.kp_rpc.specs.declared.fault.StateFault.TheVariants as fault
 use Rattle.kp_rpc.specs.declared.request.Implies.{Implies}
 use Rattle.kprove.proofs.Ended.{has_tree_of}
 use Rattle.kprove.specs.Ends.{IsLine, IsStateAt, IsWrongPattern}
-use Rattle.kprove.specs.Right.{IsElsewhere, IsReached, IsSide, IsSideFault, NoneLeftOut, IsImpliesError, unreached, in_antecedent, in_consequent, untold, IsImpliesUntold, asked_elsewhere, no_antecedent, no_consequent, other_sorts, shares_sorts, IsImpliesFaulted, IsImpliesAnswered, Setting}
-use Rattle.kprove.specs.Sides.{IsImpliesRead, side_tree, antecedent_tree, consequent_tree, IsUnreached, IsSideFailure, IsImpliesFailure, IsShaped, IsSideState, IsSideAt, AreCompared, AreBothCompared, AreApart, AreNotCompared, IsImpliedOf, IsImpliesLine, result_at, IsResultLine}
+use Rattle.kprove.specs.Right.{IsElsewhere, IsReached, IsSideFault, NoneLeftOut, IsImpliesError, unreached, in_antecedent, in_consequent, untold, IsImpliesUntold, asked_elsewhere, no_antecedent, no_consequent, other_sorts, shares_sorts, IsImpliesFaulted, IsImpliesAnswered, Setting}
+use Rattle.kprove.specs.Sides.{IsImpliesRead, side_tree, antecedent_tree, consequent_tree, IsUnreached, IsSideFailure, IsImpliesFailure, IsSideState, IsSideAt, AreCompared, AreBothCompared, AreApart, AreNotCompared, IsImpliedOf, IsImpliesLine, result_at, IsResultLine}
 use Rattle.kprove.specs.declared.failure.Failure.{Failure}
 use Rattle.kprove.specs.declared.failure.Failure.TheVariants as failure
 
@@ -135,12 +134,6 @@ tree_here key e d h = ap (λ x. unwrap_or x null) h
 
 pub side_is : (key : Text) (e : Implies) (d : Data) → Some d ≡ read_side key (data_view e.request) → d ≡ side_tree key e
 side_is key e d h = sym (tree_here key e d (sym h))
-
-pub has_antecedent : (e : Implies) → IsImpliesRead e → None ≡ read_side (codes "antecedent") (data_view e.request) → ⊥
-has_antecedent e r h = let both : None ≡ Some (object r.antecedent) = h ∙ antecedent_here e r in absurd (cc both)
-
-pub has_consequent : (e : Implies) → IsImpliesRead e → None ≡ read_side (codes "consequent") (data_view e.request) → ⊥
-has_consequent e r h = let both : None ≡ Some (object r.consequent) = h ∙ consequent_here e r in absurd (cc both)
 
 antecedent_is : (e : Implies) (r : IsImpliesRead e) → antecedent_tree e ≡ object r.antecedent
 antecedent_is e r = tree_here (codes "antecedent") e (object r.antecedent) (antecedent_here e r)

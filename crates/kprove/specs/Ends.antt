@@ -32,7 +32,7 @@ use Rattle.kp_rpc.specs.View.{id_view, options_view, pattern_fault_view, state_f
 use Rattle.kp_rpc.specs.declared.fault.StateFault.TheVariants as fault
 use Rattle.kp_rpc.specs.declared.request.Execute.{Execute}
 use Rattle.kprove.specs.Faults.{IsFaultless}
-use Rattle.kprove.specs.Right.{Answers, IsElsewhere, IsReached, IsPatternFault, IsSetting, IsStateError, NoneLeftOut, IsReply, IsReplyToExecute, Setting}
+use Rattle.kprove.specs.Right.{Answers, IsElsewhere, IsReached, IsPatternFault, IsSetting, IsStateError, IsReply, IsReplyToExecute, Setting}
 use Rattle.kprove.specs.declared.failure.Failure.{Failure}
 use Rattle.kprove.specs.declared.failure.Failure.TheVariants as failure
 

@@ -1,5 +1,5 @@
 -- What is told between a request of implies and its reply; for private clauses.
-use Rattle.std.specs.Prelude.{◌≡◌, ◌≢◌, true, false, List, ℕ, Option, Some, None, option_map, unwrap_or, codes, ⊤}
+use Rattle.std.specs.Prelude.{◌≡◌, ◌≢◌, true, false, List, ℕ, Option, Some, None, unwrap_or, codes, ⊤}
 use Rattle.serde_json.specs.Data.{Data, null}
 use Rattle.serde_json.specs.View.{view as data_view}
 use Rattle.kp_kore.specs.Syntax.{Text, KoreSort, KorePattern, top}

@@ -1,4 +1,4 @@
-use Rattle.std.proofs.Common.{◌≡◌, false, true, sym, ◌∙◌, subst}
+use Rattle.std.proofs.Common.{sym, ◌∙◌}
 use Rattle.std.proofs.lemmas.Result.{IfErr-weaker, IfOk-weaker, err_from_is_err_and}
 use Rattle.kprove.specs.Sides.{antecedent_tree, consequent_tree}
 use Rattle.kprove.proofs.Implied.{antecedent_failure, apart_failure, at_request, consequent_failure, elsewhere_failure, implied_of, mixed_failure, unreached_failure}
