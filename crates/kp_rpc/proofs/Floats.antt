@@ -6,7 +6,7 @@ use Rattle.kp_kore.specs.Syntax.{KoreSort, sort_of, sort_variable, KoreSorts, no
 use Rattle.kp_json.specs.Written.{sort_tree, sort_trees, one_part, one_list, first_and_rest, two_parts, pattern_tree, pattern_trees, wrapped, wrapped_pattern}
 use Rattle.kp_semantics.specs.Replies.{Reason}
 use Rattle.kp_rpc.specs.Request.{RequestId}
-use Rattle.kp_rpc.specs.Reply.{term_state, result_object, result_tree, result_reply, reply_bytes}
+use Rattle.kp_rpc.specs.Reply.{ImpliesResult, not_valid, valid, valid_object, implied_tree, term_state, result_object, result_tree, result_reply, reply_bytes}
 
 mutual
   sort_plain : (s : KoreSort) → has_float (sort_tree s) ≡ false
@@ -18,7 +18,7 @@ mutual
   sorts_plain (next_sort s ss) = rw (sort_plain s, sorts_plain ss) refl
 
 -- a tree, where there is one, has no float
-abbrev IsPlain : Option Data → Type 0
+abbrev pub IsPlain : Option Data → Type 0
 IsPlain None = Unit {0}
 IsPlain (Some d) = has_float d ≡ false
 
@@ -26,7 +26,7 @@ abbrev ArePlain : Option Items → Type 0
 ArePlain None = Unit {0}
 ArePlain (Some ds) = items_have_float ds ≡ false
 
-one_plain : (make : Data → Data) (x : Option Data) → ((d : Data) → has_float d ≡ false → has_float (make d) ≡ false) → IsPlain x → IsPlain (one_part make x)
+pub one_plain : (make : Data → Data) (x : Option Data) → ((d : Data) → has_float d ≡ false → has_float (make d) ≡ false) → IsPlain x → IsPlain (one_part make x)
 one_plain make None keeps h = tt
 one_plain make (Some d) keeps h = keeps d h
 
@@ -34,7 +34,7 @@ list_plain : (make : Items → Data) (x : Option Items) → ((ds : Items) → it
 list_plain make None keeps h = tt
 list_plain make (Some ds) keeps h = keeps ds h
 
-two_plain : (make : Data → Data → Data) (x y : Option Data) → ((d e : Data) → has_float d ≡ false → has_float e ≡ false → has_float (make d e) ≡ false) → IsPlain x → IsPlain y → IsPlain (two_parts make x y)
+pub two_plain : (make : Data → Data → Data) (x y : Option Data) → ((d e : Data) → has_float d ≡ false → has_float e ≡ false → has_float (make d e) ≡ false) → IsPlain x → IsPlain y → IsPlain (two_parts make x y)
 two_plain make None y keeps h k = tt
 two_plain make (Some d) None keeps h k = tt
 two_plain make (Some d) (Some e) keeps h k = keeps d e h k
@@ -82,3 +82,20 @@ pub result_written : (p : KorePattern) (d : Data) (id : RequestId) (depth : ℕ)
     → Some text ≡ option_map (λ t. reply_bytes (result_reply id t)) (result_tree (record { depth = depth; reason = reason; state = record { term = p; predicate = None } }))
 result_written p d id depth reason text e h =
     ap Some (h (wrapped_plain p d (sym e))) ∙ ap (λ x. option_map (λ t. reply_bytes (result_reply id t)) (option_map (result_object depth reason) (option_map term_state x))) e
+
+-- ---- the result of implies
+
+pub wrapped_is_plain : (p : KorePattern) → IsPlain (wrapped_pattern p)
+wrapped_is_plain p = one_plain wrapped (pattern_tree p) (λ d h. rw h refl) (pattern_plain p)
+
+implied_plain : (r : ImpliesResult) → IsPlain (implied_tree r)
+implied_plain not_valid = refl
+implied_plain (valid p q) = two_plain valid_object (wrapped_pattern p) (wrapped_pattern q) (λ d e h k. rw (h, k) refl) (wrapped_is_plain p) (wrapped_is_plain q)
+
+pub plain_is : (x : Option Data) (d : Data) → IsPlain x → Some d ≡ x → has_float d ≡ false
+plain_is None d h e = absurd (cc e)
+plain_is (Some t) d h e = let same : t ≡ d = cc e in ap has_float (sym same) ∙ h
+
+pub implied_written : (r : ImpliesResult) (d : Data) (id : RequestId) (text : List ℕ) → Some d ≡ implied_tree r
+    → (has_float d ≡ false → text ≡ reply_bytes (result_reply id d)) → Some text ≡ option_map (λ t. reply_bytes (result_reply id t)) (implied_tree r)
+implied_written r d id text e h = ap Some (h (plain_is (implied_tree r) d (implied_plain r) e)) ∙ ap (option_map (λ t. reply_bytes (result_reply id t))) e

@@ -1,5 +1,11 @@
+mod Answered
+mod Asked
 mod Floats
 mod HeadingsRead
 mod OptionsRead
 mod ParamsRead
+mod QuestionText
+mod ReadBack
 mod Texts
+mod TextsWritten
+mod Told

@@ -60,11 +60,11 @@ text_some (Some (string t)) u e = cc e
 text_some (Some (array ds)) u e = absurd (cc e)
 text_some (Some (object o)) u e = absurd (cc e)
 
-text_found : (o : Members) (key : Text) (t : Option Text) → read_text (get_member key o) ≡ Some t → TextAt o key t
+pub text_found : (o : Members) (key : Text) (t : Option Text) → read_text (get_member key o) ≡ Some t → TextAt o key t
 text_found o key None e = text_none (get_member key o) e
 text_found o key (Some u) e = text_some (get_member key o) u e
 
-text_told : (o : Members) (key : Text) (t : Option Text) → TextAt o key t → read_text (get_member key o) ≡ Some t
+pub text_told : (o : Members) (key : Text) (t : Option Text) → TextAt o key t → read_text (get_member key o) ≡ Some t
 text_told o key None (inl e) = ap read_text e
 text_told o key None (inr e) = ap read_text e
 text_told o key (Some u) e = ap read_text e

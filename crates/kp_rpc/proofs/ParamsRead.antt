@@ -1,11 +1,12 @@
 -- The params that are read are those that the request spells, and none else.
-use Rattle.std.proofs.Common.{◌≡◌, Option, Some, None, option_and_then, refl, ap, ◌∙◌}
+use Rattle.std.proofs.Common.{◌≡◌, Option, Some, None, option_and_then, refl, sym, ap, ◌∙◌}
 use Rattle.std.specs.Prelude.{codes}
 use Rattle.serde_json.specs.Data.{Data, null, boolean, number, string, array, object, Members}
-use Rattle.serde_json.specs.Find.{get_member}
-use Rattle.kp_rpc.specs.Request.{ExecuteOptions, HasParams}
-use Rattle.kp_rpc.specs.Readings.{if_object, read_object, read_options, read_state, read_all_options}
-use Rattle.kp_rpc.proofs.OptionsRead.{options_found, options_told}
+use Rattle.serde_json.specs.Find.{get, get_member}
+use Rattle.kp_kore.specs.Syntax.{Text}
+use Rattle.kp_rpc.specs.Request.{ExecuteOptions, HasParams, HasSides}
+use Rattle.kp_rpc.specs.Readings.{if_object, read_object, read_options, read_state, read_all_options, read_side, read_text, read_module}
+use Rattle.kp_rpc.proofs.OptionsRead.{options_found, options_told, text_found, text_told}
 
 pub record StateAndOptions (o : Members) (s : Data) (options : ExecuteOptions) : Type 0 where
   pub state : Members
@@ -43,3 +44,57 @@ state_told o state options h =
 pub options_all_told : (o state : Members) (options : ExecuteOptions) → HasParams o state options → read_all_options (object o) ≡ Some options
 options_all_told o state options h =
     ap (λ x. option_and_then read_options (option_and_then if_object x)) h.has_params ∙ options_told h.params options h.has_options
+
+-- ---- the sides of implies
+
+pub object_in : (x : Option Data) (d : Data) → option_and_then if_object x ≡ Some d → (q : Members) × (x ≡ Some (object q)) × (d ≡ object q)
+object_in None d e = absurd (cc e)
+object_in (Some null) d e = absurd (cc e)
+object_in (Some (boolean b)) d e = absurd (cc e)
+object_in (Some (number n)) d e = absurd (cc e)
+object_in (Some (string t)) d e = absurd (cc e)
+object_in (Some (array ds)) d e = absurd (cc e)
+object_in (Some (object q)) d e = (q, refl, cc e)
+
+present_in : {B : Type 0} (f : Data → Option B) (x : Option Data) (b : B) → option_and_then f x ≡ Some b → (d : Data) × (x ≡ Some d) × (f d ≡ Some b)
+present_in f None b e = absurd (cc e)
+present_in f (Some d) b e = (d, refl, e)
+
+-- params, with a member that is an object
+record Side (o : Members) (key : Text) (s : Data) : Type 0 where
+  pub params : Members
+  pub has_params : get_member (codes "params") o ≡ Some (object params)
+  pub side : Members
+  pub has_side : get_member key params ≡ Some (object side)
+
+side_found : (o : Members) (key : Text) (s : Data) → read_side key (object o) ≡ Some s → Side o key s
+side_found o key s e =
+    let params = present_in (read_object key) (read_object (codes "params") (object o)) s e in
+    let p = object_in (get_member (codes "params") o) params.0 params.1 in
+    let inside : read_object key (object p.0) ≡ Some s = ap (read_object key) (sym p.2) ∙ params.2 in
+    let q = object_in (get_member key p.0) s inside in
+    record { params = p.0; has_params = p.1; side = q.0; has_side = q.1 }
+
+pub record SidesAndName (o : Members) (name : Option Text) : Type 0 where
+  pub antecedent : Members
+  pub consequent : Members
+  pub sides : HasSides o antecedent consequent name
+
+pub sides_found : (o : Members) (a c : Data) (name : Option Text) → read_side (codes "antecedent") (object o) ≡ Some a → read_side (codes "consequent") (object o) ≡ Some c
+    → read_module (object o) ≡ Some name → SidesAndName o name
+sides_found o a c name e f m =
+    let left = side_found o (codes "antecedent") a e in
+    let inside : read_side (codes "consequent") (object o) ≡ read_object (codes "consequent") (object left.params) = ap (λ x. option_and_then (read_object (codes "consequent")) (option_and_then if_object x)) left.has_params in
+    let named : read_module (object o) ≡ read_text (get_member (codes "module") left.params) = ap (λ x. option_and_then (λ p. read_text (get (codes "module") p)) (option_and_then if_object x)) left.has_params in
+    let right = object_in (get_member (codes "consequent") left.params) c (sym inside ∙ f) in
+    record {
+      antecedent = left.side;
+      consequent = right.0;
+      sides = record { params = left.params; has_params = left.has_params; has_antecedent = left.has_side; has_consequent = right.1; has_module = text_found left.params (codes "module") name (sym named ∙ m) };
+    }
+
+pub side_told : (o p q : Members) (key : Text) → get_member (codes "params") o ≡ Some (object p) → get_member key p ≡ Some (object q) → read_side key (object o) ≡ Some (object q)
+side_told o p q key h k = ap (λ x. option_and_then (read_object key) (option_and_then if_object x)) h ∙ ap (option_and_then if_object) k
+
+pub module_told : (o a c : Members) (name : Option Text) → HasSides o a c name → read_module (object o) ≡ Some name
+module_told o a c name h = ap (λ x. option_and_then (λ p. read_text (get (codes "module") p)) (option_and_then if_object x)) h.has_params ∙ text_told h.params (codes "module") name h.has_module

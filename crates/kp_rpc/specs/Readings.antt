@@ -90,3 +90,10 @@ read_state d = option_and_then (read_object (codes "state")) (read_object (codes
 
 abbrev pub read_all_options : Data → Option ExecuteOptions
 read_all_options d = option_and_then read_options (read_object (codes "params") d)
+
+-- the sides in the params of implies, and its module
+abbrev pub read_side : Text → Data → Option Data
+read_side key d = option_and_then (read_object key) (read_object (codes "params") d)
+
+abbrev pub read_module : Data → Option (Option Text)
+read_module d = option_and_then (λ p. read_text (get (codes "module") p)) (read_object (codes "params") d)

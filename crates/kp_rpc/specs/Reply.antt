@@ -1,14 +1,14 @@
 -- Replies as JSON trees, and their bytes.
--- Source: JSON-RPC 2.0 (response objects, error codes); the K Haskell backend's JSON-RPC documentation (execute,
--- its codes and data).
-use Rattle.std.specs.Prelude.{◌≡◌, ℕ, negsuc, List, [], ◌∷◌, ◌++◌, Option, Some, None, codes}
+-- Source: JSON-RPC 2.0 (response objects, error codes); the K Haskell backend's JSON-RPC documentation (execute
+-- and implies, their codes and data).
+use Rattle.std.specs.Prelude.{◌≡◌, ℕ, negsuc, true, false, List, [], ◌∷◌, ◌++◌, Option, Some, None, codes}
 use Rattle.std.specs.Option.{option_map, option_and_then}
-use Rattle.serde_json.specs.Data.{Data, Num, unsigned, negative, number, string}
+use Rattle.serde_json.specs.Data.{Data, Num, unsigned, negative, boolean, number, string}
 use Rattle.serde_json.specs.Written.{compact_text}
 use Rattle.kp_kore.specs.Syntax.{Text, KoreSort, KorePattern, conjunction, no_patterns, next_pattern}
 use Rattle.kp_json.specs.Members.{object_of}
 use Rattle.kp_json.specs.Faults.{TreeFault, unknown_tag, missing_member, wrong_kind, wrong_format, nested_too_deep}
-use Rattle.kp_json.specs.Written.{wrapped_pattern}
+use Rattle.kp_json.specs.Written.{two_parts, wrapped_pattern}
 use Rattle.kp_semantics.specs.Replies.{Reason, stuck, depth_bound, aborted_by_rule, IsRightExecuted}
 use Rattle.kp_semantics.specs.Theory.{Theory}
 use Rattle.kp_rpc.specs.Request.{RequestId, id_tree, ExecuteRequest, bound_of}
@@ -49,6 +49,25 @@ result_object depth reason state = object_of ((codes "depth", number (unsigned d
 
 abbrev pub result_tree : ExecuteResult → Option Data
 result_tree r = option_map (result_object r.depth r.reason) (state_tree r.state)
+
+-- ---- results of implies
+
+-- whether the antecedent implies the consequent, and the predicate and the substitution under which it does
+pub data ImpliesResult : Type 0 where
+  not_valid : ImpliesResult
+  valid : KorePattern → KorePattern → ImpliesResult
+
+-- {"valid":false}
+abbrev pub not_valid_object : Data
+not_valid_object = object_of ((codes "valid", boolean false) ∷ [])
+
+-- {"condition":{"predicate":K,"substitution":K},"valid":true}
+abbrev pub valid_object : Data → Data → Data
+valid_object predicate substitution = object_of ((codes "condition", object_of ((codes "predicate", predicate) ∷ (codes "substitution", substitution) ∷ [])) ∷ (codes "valid", boolean true) ∷ [])
+
+abbrev pub implied_tree : ImpliesResult → Option Data
+implied_tree not_valid = Some not_valid_object
+implied_tree (valid predicate substitution) = two_parts valid_object (wrapped_pattern predicate) (wrapped_pattern substitution)
 
 -- ---- errors
 

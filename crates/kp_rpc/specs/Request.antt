@@ -1,5 +1,5 @@
 -- Requests as JSON trees.
--- Source: JSON-RPC 2.0 (request objects); the K Haskell backend's JSON-RPC documentation (execute).
+-- Source: JSON-RPC 2.0 (request objects); the K Haskell backend's JSON-RPC documentation (execute, implies).
 use Rattle.std.specs.Prelude.{◌≡◌, ◌⊎◌, ℕ, min, List, [], ◌∷◌, Option, Some, None, codes}
 use Rattle.serde_json.specs.Data.{Data, Num, unsigned, negative, null, number, string, array, object, Items, no_items, item, Members}
 use Rattle.kp_kore.specs.Syntax.{Text, KorePattern}
@@ -85,7 +85,17 @@ pub record HasParams (o : Members) (state : Members) (options : ExecuteOptions) 
   pub has_state : Has params (codes "state") (object state)
   pub has_options : HasOptions params options
 
--- ---- the request
+-- ---- params of implies
+
+-- params is an object whose antecedent and consequent are objects, and whose module, if any, is a text
+pub record HasSides (o : Members) (antecedent consequent : Members) (module_name : Option Text) : Type 0 where
+  pub params : Members
+  pub has_params : Has o (codes "params") (object params)
+  pub has_antecedent : Has params (codes "antecedent") (object antecedent)
+  pub has_consequent : Has params (codes "consequent") (object consequent)
+  pub has_module : TextAt params (codes "module") module_name
+
+-- ---- the requests
 
 pub record ExecuteRequest : Type 0 where
   pub id : RequestId
@@ -101,6 +111,24 @@ pub record IsExecute (o : Members) (request : ExecuteRequest) : Type 0 where
   pub state : Members
   pub has_params : HasParams o state request.options
   pub spells : SpellsWrapped (object state) request.state
+
+pub record ImpliesRequest : Type 0 where
+  pub id : RequestId
+  pub antecedent : KorePattern
+  pub consequent : KorePattern
+  pub module_name : Option Text
+
+abbrev pub implies_method : Text
+implies_method = codes "implies"
+
+-- the tree is this request
+pub record IsImplies (o : Members) (request : ImpliesRequest) : Type 0 where
+  pub is_request : IsRequest o request.id implies_method
+  pub antecedent : Members
+  pub consequent : Members
+  pub has_sides : HasSides o antecedent consequent request.module_name
+  pub spells_antecedent : SpellsWrapped (object antecedent) request.antecedent
+  pub spells_consequent : SpellsWrapped (object consequent) request.consequent
 
 -- the bound of a run: more than the most, and none, is the most
 abbrev pub most_depth : ℕ

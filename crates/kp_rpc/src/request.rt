@@ -1,7 +1,7 @@
 ghost use Rattle.std.specs.Prelude.{◌≡◌, ◌↔◌, Some, IfOk, IsTrue, option_map, option_and_then, codes};
 ghost use Rattle.serde_json.specs.Find.{get, as_str};
 ghost use Rattle.serde_json.specs.View.{view};
-ghost use Rattle.kp_rpc.specs.Request.{EchoesId, IsRequest, execute_method};
+ghost use Rattle.kp_rpc.specs.Request.{EchoesId, IsRequest, execute_method, implies_method};
 ghost use Rattle.kp_rpc.specs.View.{id_view};
 ghost use Rattle.kp_rpc.specs.Headings.{IsHeading, IsTreeParsed};
 ghost use Rattle.kp_rpc.specs.Outcomes.{IsParsed};
@@ -9,7 +9,9 @@ ghost use Rattle.serde_json.specs.Data.{Members, object};
 
 use crate::frame::{FrameError, frame_of};
 use crate::id::{Id, id_at};
-use crate::params::{Options, ParamsError, options_at, state_of};
+use crate::params::{
+    Options, ParamsError, antecedent_of, consequent_of, module_at, options_at, state_of,
+};
 use serde_json::Value;
 use std::alloc::{AllocError, Global};
 
@@ -30,11 +32,20 @@ pub struct Execute {
     pub options: Options,
 }
 
+/// A request of implies: the whole object, whose params have both sides, and what is read of it.
+#[derive(Drop)]
+pub struct Implies {
+    pub id: Id,
+    pub request: Value,
+    pub module_name: Option<String>,
+}
+
 /// What a frame asks for.
 #[derive(Drop)]
 pub enum Parsed {
     Refused(Id, Refusal),
-    Accepted(Execute),
+    Execute(Execute),
+    Implies(Implies),
 }
 
 // What the members beside the params tell.
@@ -43,17 +54,18 @@ enum Heading {
     NoRequest,
     OtherMethod(Id),
     Execute(Id),
+    Implies(Id),
 }
 
 // A member that is a text.
-fn member_text<'a>(value: &'a Value, key: &str) -> Option<&'a str>
+pub fn member_text<'a>(value: &'a Value, key: &str) -> Option<&'a str>
     ensures { option_map (λ t. t.now) result ≡ option_and_then as_str (get key.now (view value.now)) }
 {
     value.get(key).and_then(Value::as_str)
 }
 
 // Whether the object speaks version 2.0 of JSON-RPC.
-fn is_version_two(value: &Value) -> bool
+pub fn is_version_two(value: &Value) -> bool
     ensures { IsTrue result ↔ (option_and_then as_str (get (codes "jsonrpc") (view value.now)) ≡ Some (codes "2.0")) }
 {
     match member_text(value, "jsonrpc") {
@@ -87,6 +99,8 @@ fn heading_of(value: &Value) -> Result<Heading, AllocError>
     };
     if method == "execute" {
         Ok(Heading::Execute(id))
+    } else if method == "implies" {
+        Ok(Heading::Implies(id))
     } else {
         Ok(Heading::OtherMethod(id))
     }
@@ -101,10 +115,32 @@ fn execute_of(alloc: Global, id: Id, value: Value) -> Result<Parsed, AllocError>
         return Ok(Parsed::Refused(id, Refusal::InvalidParams));
     }
     match options_at(alloc, &value) {
-        Ok(options) => Ok(Parsed::Accepted(Execute {
+        Ok(options) => Ok(Parsed::Execute(Execute {
             id,
             request: value,
             options,
+        })),
+        Err(ParamsError::OtherKind) => Ok(Parsed::Refused(id, Refusal::InvalidParams)),
+        Err(ParamsError::Memory) => Err(AllocError),
+    }
+}
+
+// The request of implies in a tree whose heading is one.
+fn implies_of(alloc: Global, id: Id, value: Value) -> Result<Parsed, AllocError>
+    requires { (o : Members) × (view value ≡ object o) × IsRequest o (id_view id) implies_method }
+    ensures { IfOk result (λ p. IsTreeParsed (view value) p) }
+{
+    if antecedent_of(&value).is_none() {
+        return Ok(Parsed::Refused(id, Refusal::InvalidParams));
+    }
+    if consequent_of(&value).is_none() {
+        return Ok(Parsed::Refused(id, Refusal::InvalidParams));
+    }
+    match module_at(alloc, &value) {
+        Ok(module_name) => Ok(Parsed::Implies(Implies {
+            id,
+            request: value,
+            module_name,
         })),
         Err(ParamsError::OtherKind) => Ok(Parsed::Refused(id, Refusal::InvalidParams)),
         Err(ParamsError::Memory) => Err(AllocError),
@@ -119,10 +155,11 @@ fn tree_request(alloc: Global, value: Value) -> Result<Parsed, AllocError>
         Heading::NoRequest => Ok(Parsed::Refused(echoed_id(&value)?, Refusal::InvalidRequest)),
         Heading::OtherMethod(id) => Ok(Parsed::Refused(id, Refusal::MethodNotFound)),
         Heading::Execute(id) => execute_of(alloc, id, value),
+        Heading::Implies(id) => implies_of(alloc, id, value),
     }
 }
 
-/// What the bytes of a frame ask for: a request of execute, or the first cause why they are refused.
+/// What the bytes of a frame ask for: a request of execute or of implies, or the first cause why they are refused.
 pub fn request_of(alloc: Global, bytes: &[u8]) -> Result<Parsed, AllocError>
     ensures { IfOk result (λ p. IsParsed bytes.now p) }
 {

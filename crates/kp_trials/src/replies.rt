@@ -10,7 +10,7 @@ use std::test::Fail;
 fn refused(alloc: Global, bytes: &[u8]) -> Result<Vec<u8>, Fail> {
     match request_of(alloc, bytes)? {
         Parsed::Refused(id, refusal) => Ok(refusal_text(alloc, &id, refusal)?),
-        Parsed::Accepted(_) => Err(Fail::from("accepted")),
+        Parsed::Execute(_) | Parsed::Implies(_) => Err(Fail::from("accepted")),
     }
 }
 
@@ -44,11 +44,11 @@ fn frames_are_refused_or_accepted(rt: HostRuntime) -> Result<(), Fail> {
         alloc,
         br#" {"jsonrpc":"2.0","id":1,"method":"execute","params":{"state":{},"max-depth":5}} "#,
     )? {
-        Parsed::Accepted(execute) => {
+        Parsed::Execute(execute) => {
             assert!(rt; state_of(&execute.request).is_some());
             assert_eq!(rt; execute.options.max_depth, Some(5));
         }
-        Parsed::Refused(_, _) => return Err(Fail::from("refused")),
+        Parsed::Implies(_) | Parsed::Refused(_, _) => return Err(Fail::from("refused")),
     }
     Ok(())
 }

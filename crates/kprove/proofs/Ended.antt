@@ -35,10 +35,11 @@ use Rattle.kp_states.specs.declared.state.State.{State}
 use Rattle.kp_run.specs.declared.run.Executed.{Executed}
 use Rattle.kprove.proofs.Runs.{run_is_right}
 use Rattle.kprove.specs.Normal.{IsLater, HasNoSpelling}
-use Rattle.kprove.specs.Ends.{IsRead, IsStateAt, IsStatePattern, IsStateOf, IsEndOf, IsEndLine, IsFailureOf, IsListing, IsPlain, IsWrongTree, IsWrongPattern, IsLineTo, IsLine, IsReplyToRead, TellsName, options_of, result_of, unanswered_bytes}
+use Rattle.kprove.specs.Ends.{IsRead, IsStateAt, IsStatePattern, IsStateOf, IsEndOf, IsEndLine, IsFailureOf, IsListing, IsPlain, IsWrongTree, IsWrongPattern, IsLineTo, IsLine, IsReplyToRead, options_of, result_of, unanswered_bytes}
 use Rattle.kprove.specs.Right.{IsElsewhere, IsReached, IsLeftOut, IsPatternFault, IsStateError, IsFaulted, IsAnswered, IsUntold, elsewhere, stops_at_rules, no_state, mixes_values, no_run, Setting}
-use Rattle.kprove.specs.declared.answer.Failure.{Failure}
-use Rattle.kprove.specs.declared.answer.Failure.TheVariants as failure
+use Rattle.kprove.specs.Sides.{IsUnreached}
+use Rattle.kprove.specs.declared.failure.Failure.{Failure}
+use Rattle.kprove.specs.declared.failure.Failure.TheVariants as failure
 
 state_told : (o state : Members) (options : ExecuteOptions) → HasParams o state options → read_state (object o) ≡ Some (object state)
 state_told o state options h =
@@ -191,12 +192,11 @@ shape_left_out g s same true regular tested options p sort h =
 shape_left_out g s same false regular tested options p sort h = inl (mixes_values (sym tested))
 
 -- the module that the request names isn't reached
-pub name_failure : (s : Setting) (e : Execute) → IsRead e → (n : Text) (f : Failure) → (options_of e).module_name ≡ Some n → has n s.names ≡ false → TellsName n f → IsFailureOf s e f
-name_failure s e r n failure.Memory is unknown told = (object r.state, here e r, tt)
-name_failure s e r n (failure.Fault (fault.Json f)) is unknown told = absurd told
-name_failure s e r n (failure.Fault (fault.Verify f)) is unknown told = absurd told
-name_failure s e r n (failure.Fault (fault.NoModule name)) is unknown told =
-    (object r.state, here e r, (is ∙ ap Some (sym told), ap (λ x. has x s.names) told ∙ unknown))
+pub name_failure : (s : Setting) (e : Execute) → IsRead e → (f : Failure) → IsUnreached s (options_of e).module_name f → IsFailureOf s e f
+name_failure s e r failure.Memory told = (object r.state, here e r, tt)
+name_failure s e r (failure.Fault (fault.Json f)) told = absurd told
+name_failure s e r (failure.Fault (fault.Verify f)) told = absurd told
+name_failure s e r (failure.Fault (fault.NoModule name)) told = (object r.state, here e r, told)
 
 pub is_reached_at : (names : List Text) (o : Option Text) (n : Text) → o ≡ Some n → has n names ≡ true → IsReached names o
 is_reached_at names o n is reached = subst (λ (x : Option Text). IsReached names x) (sym is) reached
@@ -254,7 +254,7 @@ spelled_at g h same s u p f = subst (λ (k : KoreSignature). IsRegular k → Has
 
 -- ---- lines
 
-has_tree_of : (o : Option (Vec ℕ Global)) (line : Vec ℕ Global) (id : RequestId) (r : Option Data) → o ≡ Some line →
+pub has_tree_of : (o : Option (Vec ℕ Global)) (line : Vec ℕ Global) (id : RequestId) (r : Option Data) → o ≡ Some line →
     option_map (λ (b : Vec ℕ Global). b.items) o ≡ option_map (λ (x : Data). reply_bytes (result_reply id x)) r → (tree : Data) × (r ≡ Some tree) × (line.items ≡ reply_bytes (result_reply id tree))
 has_tree_of o line id None is e =
     let none : Some line.items ≡ None = sym (ap (option_map (λ (b : Vec ℕ Global). b.items)) is) ∙ e in
@@ -285,4 +285,4 @@ pub refused_line : (s : Setting) (bytes : List ℕ) (id : RequestId) (error : Re
 refused_line s bytes id error because line l = (error_reply id error, inl (record { id = id; error = error; because = because; reply_is = refl }), l)
 
 pub accepted_line : (s : Setting) (bytes : List ℕ) (e : Execute) → IsFrame bytes (data_view e.request) → (line : List ℕ) → IsLineTo s e line → IsLine s bytes line
-accepted_line s bytes e frame line l = (l.0, inr (data_view e.request, frame, l.1), l.2)
+accepted_line s bytes e frame line l = (l.0, inr (data_view e.request, frame, inl l.1), l.2)

@@ -1,6 +1,8 @@
 pub mod Causes
 pub mod Ended
+pub mod Faulty
 pub mod Five
+pub mod Implied
 pub mod Runs
 pub mod Served
 pub mod Spelled

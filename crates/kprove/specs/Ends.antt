@@ -32,9 +32,9 @@ use Rattle.kp_rpc.specs.View.{id_view, options_view, pattern_fault_view, state_f
 use Rattle.kp_rpc.specs.declared.fault.StateFault.TheVariants as fault
 use Rattle.kp_rpc.specs.declared.request.Execute.{Execute}
 use Rattle.kprove.specs.Faults.{IsFaultless}
-use Rattle.kprove.specs.Right.{Answers, IsElsewhere, IsReached, IsPatternFault, IsSetting, IsStateError, IsFaulted, IsAnswered, IsReply, Setting}
-use Rattle.kprove.specs.declared.answer.Failure.{Failure}
-use Rattle.kprove.specs.declared.answer.Failure.TheVariants as failure
+use Rattle.kprove.specs.Right.{Answers, IsElsewhere, IsReached, IsPatternFault, IsSetting, IsStateError, IsReply, IsReplyToExecute, Setting}
+use Rattle.kprove.specs.declared.failure.Failure.{Failure}
+use Rattle.kprove.specs.declared.failure.Failure.TheVariants as failure
 
 -- the table is that of the setting
 pub record IsSettingOf (s : Setting) (table : Table) : Type 0 where
@@ -135,7 +135,7 @@ pub record IsEndOf (s : Setting) (e : Execute) (end : Executed) : Type 0 where
 
 -- the line is a reply to the request's tree
 abbrev pub IsLineTo : Setting → Execute → List ℕ → Type 0
-IsLineTo s e line = (reply : Data) × (IsFaulted s (data_view e.request) reply ⊎ IsAnswered s (data_view e.request) reply) × (line ≡ reply_bytes reply)
+IsLineTo s e line = (reply : Data) × IsReplyToExecute s (data_view e.request) reply × (line ≡ reply_bytes reply)
 
 -- the line is a reply to the bytes
 abbrev pub IsLine : Setting → List ℕ → List ℕ → Type 0

@@ -1,9 +1,10 @@
 -- That what is written is right: from the bytes of the definition's file and of the input to the bytes of the reply.
 -- A reader needs nothing else: the file's bytes spell a definition; it means a theory for the main module; the input's
 -- bytes are white space, or a frame that is refused, or a request of execute, which is at fault or whose run over the
--- theory ends as the reply says.
+-- theory ends as the reply says, or a request of implies, which is at fault or whose sides imply one another over the
+-- theory as the reply says.
 -- Source: Kore text and K's rewriting (the theory and its runs), Kore JSON, JSON-RPC 2.0, the K Haskell backend's
--- JSON-RPC documentation (execute).
+-- JSON-RPC documentation (execute, implies).
 use Rattle.std.specs.Prelude.{◌≡◌, ◌≢◌, ◌≤◌, ◌⊎◌, ℕ, true, false, List, [], ◌++◌, length, take, Option, Some, None, IfSome, ⊤}
 use Rattle.std.specs.Io.KnownBytes.{Appends}
 use Rattle.serde_json.specs.Data.{Data, object, Members}
@@ -24,8 +25,9 @@ use Rattle.kp_modules.specs.Reaching.{has}
 use Rattle.kp_states.specs.Spelled.{IsOtherShape, first_foreign}
 use Rattle.kp_run.specs.Causes.{StopsUntold}
 use Rattle.kp_rpc.specs.Frame.{IsFrame, IsWhite, most_frame}
-use Rattle.kp_rpc.specs.Request.{RequestId, ExecuteOptions, ExecuteRequest, IsExecute, bound_of}
-use Rattle.kp_rpc.specs.Causes.{IsRefused, IsExecuteTree}
+use Rattle.kp_rpc.specs.Request.{RequestId, ExecuteOptions, ExecuteRequest, IsExecute, bound_of, ImpliesRequest, IsImplies}
+use Rattle.kp_rpc.specs.Causes.{IsRefused, IsExecuteTree, IsImpliesTree}
+use Rattle.kp_rpc.specs.Implications.{IsRightImpliesReply}
 use Rattle.kp_rpc.specs.Reply.{VerifyFault, unknown_sort, unknown_symbol, other_number, sorts_differ, wide_number, deep_term, no_literal, foreign_symbol, other_shape, RequestError, no_module, no_pattern, not_verified, error_reply, reply_bytes, IsRightReply}
 use Rattle.kprove.specs.Faults.{IsFaultless}
 use Rattle.kprove.specs.Normal.{IsNormal, HasNoSpelling}
@@ -126,17 +128,92 @@ pub record IsFaulted (s : Setting) (d reply : Data) : Type 0 where
   pub because : IsStateError s options (object is_execute.state) error
   pub reply_is : reply ≡ error_reply id error
 
--- the bytes are no request of execute; the reply tells their first fault
+-- ---- implies
+
+-- a side of implies without a fault: its tree spells the pattern, which verifies with this sort and has no foreign symbol
+pub record IsSide (g : KoreSignature) (tree : Data) (p : KorePattern) (sort : KoreSort) : Type 0 where
+  pub spells : SpellsWrapped tree p
+  pub verifies : VerifiesAs g p sort
+  pub no_foreign : first_foreign g p ≡ None
+
+-- no pattern is left out for a cause of its own
+abbrev pub NoneLeftOut : KorePattern → KoreSort → Type 0
+NoneLeftOut p sort = ⊥
+
+-- what is wrong with a side: its tree spells no pattern, for its first fault; else the pattern has a fault or a foreign
+-- symbol
+abbrev pub IsSideFault : KoreSignature → Data → RequestError → Type 0
+IsSideFault g tree (no_pattern f) = wrapped_reading tree ≡ fault f
+IsSideFault g tree (not_verified f) = (p : KorePattern) × SpellsWrapped tree p × IsPatternFault g NoneLeftOut p f
+IsSideFault g tree _ = ⊥
+
+-- why no result is told of two sides without a fault, of these sorts: another module than main is named; a side is no
+-- ground state; their sorts differ; the signature mixes whole numbers or truth values with other values
+pub data IsImpliesUntold (s : Setting) (name : Option Text) (a c : KorePattern) (sort other : KoreSort) : Type 0 where
+  asked_elsewhere : IsElsewhere s.main name → IsImpliesUntold s name a c sort other
+  no_antecedent : IsOtherShape s.theory.signature a → IsImpliesUntold s name a c sort other
+  no_consequent : IsOtherShape s.theory.signature c → IsImpliesUntold s name a c sort other
+  other_sorts : sort ≢ other → IsImpliesUntold s name a c sort other
+  shares_sorts : keeps_values_apart s.theory.signature ≡ false → IsImpliesUntold s name a c sort other
+
+-- the first cause in this order: the module that is named isn't reached; the antecedent has a fault; the consequent has
+-- one; no result is told of them
+pub data IsImpliesError (s : Setting) (name : Option Text) (antecedent consequent : Data) : RequestError → Type 0 where
+  unreached : (n : Text) → name ≡ Some n → has n s.names ≡ false → IsImpliesError s name antecedent consequent (no_module n)
+  in_antecedent : (e : RequestError) → IsReached s.names name → IsSideFault s.theory.signature antecedent e → IsImpliesError s name antecedent consequent e
+  in_consequent : (e : RequestError) (a : KorePattern) (sort : KoreSort) → IsReached s.names name → IsSide s.theory.signature antecedent a sort
+      → IsSideFault s.theory.signature consequent e → IsImpliesError s name antecedent consequent e
+  untold : (a c : KorePattern) (sort other : KoreSort) → IsReached s.names name → IsSide s.theory.signature antecedent a sort → IsSide s.theory.signature consequent c other
+      → IsImpliesUntold s name a c sort other → IsImpliesError s name antecedent consequent (not_verified other_shape)
+
+-- the tree is a request of implies that is at fault; the reply tells how, with the request's id
+pub record IsImpliesFaulted (s : Setting) (d reply : Data) : Type 0 where
+  pub id : RequestId
+  pub module_name : Option Text
+  pub is_implies : IsImpliesTree d id module_name
+  pub error : RequestError
+  pub because : IsImpliesError s module_name (object is_implies.antecedent) (object is_implies.consequent) error
+  pub reply_is : reply ≡ error_reply id error
+
+-- both sides that a request gives verify and have no foreign symbol, and no cause why no result is told
+pub record IsImpliesTold (s : Setting) (request : ImpliesRequest) : Type 0 where
+  pub sort : KoreSort
+  pub other : KoreSort
+  pub antecedent_verifies : VerifiesAs s.theory.signature request.antecedent sort
+  pub consequent_verifies : VerifiesAs s.theory.signature request.consequent other
+  pub antecedent_no_foreign : first_foreign s.theory.signature request.antecedent ≡ None
+  pub consequent_no_foreign : first_foreign s.theory.signature request.consequent ≡ None
+  pub told : ¬ IsImpliesUntold s request.module_name request.antecedent request.consequent sort other
+
+-- the tree is a request of implies that names no module out of reach and whose result is told, and the reply has the
+-- right result over the theory
+pub record IsImpliesAnswered (s : Setting) (d reply : Data) : Type 0 where
+  pub members : Members
+  pub tree : d ≡ object members
+  pub request : ImpliesRequest
+  pub is_request : IsImplies members request
+  pub reached : IsReached s.names request.module_name
+  pub is_told : IsImpliesTold s request
+  pub right : IsRightImpliesReply s.theory request reply
+
+-- ---- the bytes
+
+-- the bytes are no request of execute or of implies; the reply tells their first fault
 pub record IsRefusal (bytes : List ℕ) (reply : Data) : Type 0 where
   pub id : RequestId
   pub error : RequestError
   pub because : IsRefused bytes id error
   pub reply_is : reply ≡ error_reply id error
 
--- ---- the bytes
+-- the reply to the tree of a request
+abbrev pub IsReplyToExecute : Setting → Data → Data → Type 0
+IsReplyToExecute s d reply = IsFaulted s d reply ⊎ IsAnswered s d reply
+
+abbrev pub IsReplyToImplies : Setting → Data → Data → Type 0
+IsReplyToImplies s d reply = IsImpliesFaulted s d reply ⊎ IsImpliesAnswered s d reply
 
 abbrev pub IsReply : Setting → List ℕ → Data → Type 0
-IsReply s bytes reply = IsRefusal bytes reply ⊎ ((d : Data) × IsFrame bytes d × (IsFaulted s d reply ⊎ IsAnswered s d reply))
+IsReply s bytes reply = IsRefusal bytes reply ⊎ ((d : Data) × IsFrame bytes d × (IsReplyToExecute s d reply ⊎ IsReplyToImplies s d reply))
 
 -- white space alone, no longer than a frame, asks for no reply
 abbrev pub IsSilence : List ℕ → Type 0

@@ -2,8 +2,12 @@
 #![tactic(auto)]
 
 mod answer;
+mod answer_execute;
+mod answer_implies;
+mod asked;
 mod command;
 mod definition;
+mod failure;
 mod program;
 #[cfg(test)]
 mod tests;

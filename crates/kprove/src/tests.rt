@@ -18,6 +18,8 @@ module BASE
   symbol Lblodd{}(SortInt{}) : SortS{} [constructor{}()]
   symbol Lblpick{}(SortInt{}) : SortS{} [constructor{}()]
   symbol Lblpicked{}(SortInt{}) : SortS{} [constructor{}()]
+  symbol Lbldone{}() : SortS{} [constructor{}()]
+  symbol Lblgoal{}() : SortS{} [constructor{}()]
   axiom{} \rewrites{SortS{}}(\and{SortS{}}(Lblcount{}(N:SortInt{}), \equals{SortBool{}, SortS{}}(Lblgt{}(N:SortInt{}, \dv{SortInt{}}("0")), \dv{SortBool{}}("true"))), Lblcount{}(Lblsub{}(N:SortInt{}, \dv{SortInt{}}("1")))) [label{}("dec")]
   axiom{} \rewrites{SortS{}}(Lblodd{}(N:SortInt{}), Lblodd{}(Lblother{}(N:SortInt{}))) [label{}("odd")]
   axiom{} \rewrites{SortS{}}(\and{SortS{}}(Lblodd{}(N:SortInt{}), \equals{SortBool{}, SortS{}}(Lblgt{}(Lbladd{}(N:SortInt{}, N:SortInt{}), \dv{SortInt{}}("0")), \dv{SortBool{}}("true"))), Lblpicked{}(N:SortInt{})) [label{}("double")]
@@ -107,6 +109,53 @@ fn request(alloc: Global, term: &str, members: &str) -> Result<String, AllocErro
         &[
             r#"{"jsonrpc":"2.0","id":1,"method":"execute","params":{"state":{"format":"KORE","version":1,"term":"#,
             term,
+            "}",
+            members,
+            "}}",
+        ],
+    )
+}
+
+/// A symbol of no arguments.
+fn constant(alloc: Global, symbol: &str) -> Result<String, AllocError> {
+    joined(
+        alloc,
+        &[
+            r#"{"args":[],"name":""#,
+            symbol,
+            r#"","sorts":[],"tag":"App"}"#,
+        ],
+    )
+}
+
+/// The sum of two whole numbers.
+fn sum(alloc: Global, first: &str, second: &str) -> Result<String, AllocError> {
+    joined(
+        alloc,
+        &[
+            r#"{"args":["#,
+            &number(alloc, first)?,
+            ",",
+            &number(alloc, second)?,
+            r#"],"name":"Lbladd","sorts":[],"tag":"App"}"#,
+        ],
+    )
+}
+
+/// The request whether one term implies another, with more members of its params.
+fn question(
+    alloc: Global,
+    antecedent: &str,
+    consequent: &str,
+    members: &str,
+) -> Result<String, AllocError> {
+    joined(
+        alloc,
+        &[
+            r#"{"jsonrpc":"2.0","id":1,"method":"implies","params":{"antecedent":{"format":"KORE","version":1,"term":"#,
+            antecedent,
+            r#"},"consequent":{"format":"KORE","version":1,"term":"#,
+            consequent,
             "}",
             members,
             "}}",
@@ -311,6 +360,79 @@ fn other_inputs_have_their_replies(rt: HostRuntime) -> Result<(), Fail> {
             error(alloc, parse, "null")?,
         ),
         (joined(alloc, &[" \n"])?, String::new(alloc)),
+    ];
+    for (input, reply) in &rows {
+        let answered = served(alloc, input)?;
+        assert_eq!(rt; answered.status, 0);
+        assert_eq!(rt; answered.out.bytes(), reply.as_bytes());
+        assert_eq!(rt; answered.err.bytes().len(), 0);
+    }
+    Ok(())
+}
+
+#[test]
+fn implications_have_their_replies(rt: HostRuntime) -> Result<(), Fail> {
+    let alloc = rt.alloc();
+    let valid =
+        r#"{"id":1,"jsonrpc":"2.0","result":{"condition":{"predicate":{"format":"KORE","term":{"sort":{"args":[],"name":"SortS","tag":"SortApp"},"tag":"Top"},"version":1},"substitution":{"format":"KORE","term":{"sort":{"args":[],"name":"SortS","tag":"SortApp"},"tag":"Top"},"version":1}},"valid":true}}"#;
+    let not_valid = r#"{"id":1,"jsonrpc":"2.0","result":{"valid":false}}"#;
+    let valid = joined(alloc, &[valid, "\n"])?;
+    let not_valid = joined(alloc, &[not_valid, "\n"])?;
+    let t1 =
+        r#""code":2,"data":{"kind":"T1","name":"Lblother"},"message":"Could not verify pattern""#;
+    let t2 = r#""code":2,"data":{"kind":"T2"},"message":"Could not verify pattern""#;
+    let v2 =
+        r#""code":2,"data":{"kind":"V2","name":"Lblnope"},"message":"Could not verify pattern""#;
+    let no_module = r#""code":3,"data":{"name":"NOPE"},"message":"Could not find module""#;
+    let params = r#""code":-32602,"message":"Invalid params""#;
+    let done = constant(alloc, "Lbldone")?;
+    let goal = constant(alloc, "Lblgoal")?;
+    let nope = constant(alloc, "Lblnope")?;
+    let two = applied(alloc, "Lblcount", &number(alloc, "2")?)?;
+    let three = applied(alloc, "Lblcount", &number(alloc, "3")?)?;
+    let computed = applied(alloc, "Lblcount", &sum(alloc, "1", "1")?)?;
+    let foreign = applied(
+        alloc,
+        "Lblcount",
+        &applied(alloc, "Lblother", &number(alloc, "1")?)?,
+    )?;
+    let open = r#"{"name":"X","sort":{"args":[],"name":"SortS","tag":"SortApp"},"tag":"EVar"}"#;
+    let main = r#","module":"COUNTING""#;
+    let lost = r#","module":"NOPE""#;
+    let rows = [
+        (question(alloc, &done, &done, "")?, valid.clone()?),
+        (question(alloc, &done, &done, main)?, valid.clone()?),
+        (question(alloc, &done, &goal, "")?, not_valid.clone()?),
+        (question(alloc, &computed, &two, "")?, valid.clone()?),
+        (question(alloc, &two, &computed, "")?, valid.clone()?),
+        (question(alloc, &two, &three, "")?, not_valid.clone()?),
+        (question(alloc, &done, &nope, "")?, error(alloc, v2, "1")?),
+        (
+            question(alloc, &done, &foreign, "")?,
+            error(alloc, t1, "1")?,
+        ),
+        (question(alloc, open, &nope, "")?, error(alloc, v2, "1")?),
+        (question(alloc, open, &done, "")?, error(alloc, t2, "1")?),
+        (
+            question(alloc, &done, &number(alloc, "1")?, "")?,
+            error(alloc, t2, "1")?,
+        ),
+        (
+            question(alloc, &done, &done, r#","module":"BASE""#)?,
+            error(alloc, t2, "1")?,
+        ),
+        (
+            question(alloc, &nope, &done, lost)?,
+            error(alloc, no_module, "1")?,
+        ),
+        (
+            question(alloc, &nope, &foreign, "")?,
+            error(alloc, v2, "1")?,
+        ),
+        (
+            question(alloc, &done, &done, r#","module":1"#)?,
+            error(alloc, params, "1")?,
+        ),
     ];
     for (input, reply) in &rows {
         let answered = served(alloc, input)?;

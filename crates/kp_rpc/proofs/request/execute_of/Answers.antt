@@ -1,4 +1,4 @@
-use Rattle.std.proofs.Common.{◌≡◌, Some, refl}
+use Rattle.std.proofs.Common.{◌≡◌, Some, refl, inl}
 use Rattle.serde_json.specs.Data.{Data}
 use Rattle.serde_json.specs.View.{view}
 use Rattle.kp_rpc.specs.Readings.{read_state}
@@ -13,4 +13,4 @@ returns-in-Ok c =
 
 pub returns-in-Err-OtherKind : goal.returns-in-Err-OtherKind
 returns-in-Err-OtherKind c =
-    (c.requires.0, c.requires.1, c.requires.2, no_options_are (view c.args.value) (c.in-Err-OtherKind.ensures.only c.in-Err-OtherKind.field-0-is) c.requires.0 c.requires.1)
+    (c.requires.0, c.requires.1, inl (c.requires.2, no_options_are (view c.args.value) (c.in-Err-OtherKind.ensures.only c.in-Err-OtherKind.field-0-is) c.requires.0 c.requires.1))
