@@ -116,32 +116,6 @@ fn request(alloc: Global, term: &str, members: &str) -> Result<String, AllocErro
     )
 }
 
-/// A symbol of no arguments.
-fn constant(alloc: Global, symbol: &str) -> Result<String, AllocError> {
-    joined(
-        alloc,
-        &[
-            r#"{"args":[],"name":""#,
-            symbol,
-            r#"","sorts":[],"tag":"App"}"#,
-        ],
-    )
-}
-
-/// The sum of two whole numbers.
-fn sum(alloc: Global, first: &str, second: &str) -> Result<String, AllocError> {
-    joined(
-        alloc,
-        &[
-            r#"{"args":["#,
-            &number(alloc, first)?,
-            ",",
-            &number(alloc, second)?,
-            r#"],"name":"Lbladd","sorts":[],"tag":"App"}"#,
-        ],
-    )
-}
-
 /// The request whether one term implies another, with more members of its params.
 fn question(
     alloc: Global,
@@ -370,75 +344,98 @@ fn other_inputs_have_their_replies(rt: HostRuntime) -> Result<(), Fail> {
     Ok(())
 }
 
+const DONE: &str = r#"{"args":[],"name":"Lbldone","sorts":[],"tag":"App"}"#;
+
+const GOAL: &str = r#"{"args":[],"name":"Lblgoal","sorts":[],"tag":"App"}"#;
+
+const NOPE: &str = r#"{"args":[],"name":"Lblnope","sorts":[],"tag":"App"}"#;
+
+const ONE: &str = r#"{"sort":{"args":[],"name":"SortInt","tag":"SortApp"},"tag":"DV","value":"1"}"#;
+
+const TWO: &str =
+    r#"{"args":[{"sort":{"args":[],"name":"SortInt","tag":"SortApp"},"tag":"DV","value":"2"}],"name":"Lblcount","sorts":[],"tag":"App"}"#;
+
+const THREE: &str =
+    r#"{"args":[{"sort":{"args":[],"name":"SortInt","tag":"SortApp"},"tag":"DV","value":"3"}],"name":"Lblcount","sorts":[],"tag":"App"}"#;
+/// The count of one and one.
+const COMPUTED: &str =
+    r#"{"args":[{"args":[{"sort":{"args":[],"name":"SortInt","tag":"SortApp"},"tag":"DV","value":"1"},{"sort":{"args":[],"name":"SortInt","tag":"SortApp"},"tag":"DV","value":"1"}],"name":"Lbladd","sorts":[],"tag":"App"}],"name":"Lblcount","sorts":[],"tag":"App"}"#;
+
+const FOREIGN: &str =
+    r#"{"args":[{"args":[{"sort":{"args":[],"name":"SortInt","tag":"SortApp"},"tag":"DV","value":"1"}],"name":"Lblother","sorts":[],"tag":"App"}],"name":"Lblcount","sorts":[],"tag":"App"}"#;
+
+const OPEN: &str = r#"{"name":"X","sort":{"args":[],"name":"SortS","tag":"SortApp"},"tag":"EVar"}"#;
+
+const VALID: &str =
+    r#"{"id":1,"jsonrpc":"2.0","result":{"condition":{"predicate":{"format":"KORE","term":{"sort":{"args":[],"name":"SortS","tag":"SortApp"},"tag":"Top"},"version":1},"substitution":{"format":"KORE","term":{"sort":{"args":[],"name":"SortS","tag":"SortApp"},"tag":"Top"},"version":1}},"valid":true}}
+"#;
+
+const NOT_VALID: &str = r#"{"id":1,"jsonrpc":"2.0","result":{"valid":false}}
+"#;
+
+/// Whether the program replies so to the question whether one term implies another.
+fn is_replied(
+    alloc: Global,
+    antecedent: &str,
+    consequent: &str,
+    members: &str,
+    reply: &str,
+) -> Result<bool, Fail> {
+    let asked = question(alloc, antecedent, consequent, members)?;
+    let answered = served(alloc, &asked)?;
+    if answered.status != 0 {
+        return Ok(false);
+    }
+    Ok(answered.out.bytes() == reply.as_bytes())
+}
+
 #[test]
-fn implications_have_their_replies(rt: HostRuntime) -> Result<(), Fail> {
-    let alloc = rt.alloc();
-    let valid =
-        r#"{"id":1,"jsonrpc":"2.0","result":{"condition":{"predicate":{"format":"KORE","term":{"sort":{"args":[],"name":"SortS","tag":"SortApp"},"tag":"Top"},"version":1},"substitution":{"format":"KORE","term":{"sort":{"args":[],"name":"SortS","tag":"SortApp"},"tag":"Top"},"version":1}},"valid":true}}"#;
-    let not_valid = r#"{"id":1,"jsonrpc":"2.0","result":{"valid":false}}"#;
-    let valid = joined(alloc, &[valid, "\n"])?;
-    let not_valid = joined(alloc, &[not_valid, "\n"])?;
+fn a_term_implies_those_of_its_value(rt: HostRuntime) -> Result<(), Fail> {
+    let rows = [
+        (DONE, DONE, "", VALID),
+        (DONE, DONE, r#","module":"COUNTING""#, VALID),
+        (DONE, GOAL, "", NOT_VALID),
+        (COMPUTED, TWO, "", VALID),
+        (TWO, COMPUTED, "", VALID),
+        (TWO, THREE, "", NOT_VALID),
+    ];
+    for (antecedent, consequent, members, reply) in rows {
+        assert!(rt; is_replied(rt.alloc(), antecedent, consequent, members, reply)?);
+    }
+    Ok(())
+}
+
+#[test]
+fn faults_of_implications_are_told_in_order(rt: HostRuntime) -> Result<(), Fail> {
     let t1 =
         r#""code":2,"data":{"kind":"T1","name":"Lblother"},"message":"Could not verify pattern""#;
     let t2 = r#""code":2,"data":{"kind":"T2"},"message":"Could not verify pattern""#;
     let v2 =
         r#""code":2,"data":{"kind":"V2","name":"Lblnope"},"message":"Could not verify pattern""#;
-    let no_module = r#""code":3,"data":{"name":"NOPE"},"message":"Could not find module""#;
-    let params = r#""code":-32602,"message":"Invalid params""#;
-    let done = constant(alloc, "Lbldone")?;
-    let goal = constant(alloc, "Lblgoal")?;
-    let nope = constant(alloc, "Lblnope")?;
-    let two = applied(alloc, "Lblcount", &number(alloc, "2")?)?;
-    let three = applied(alloc, "Lblcount", &number(alloc, "3")?)?;
-    let computed = applied(alloc, "Lblcount", &sum(alloc, "1", "1")?)?;
-    let foreign = applied(
-        alloc,
-        "Lblcount",
-        &applied(alloc, "Lblother", &number(alloc, "1")?)?,
-    )?;
-    let open = r#"{"name":"X","sort":{"args":[],"name":"SortS","tag":"SortApp"},"tag":"EVar"}"#;
-    let main = r#","module":"COUNTING""#;
-    let lost = r#","module":"NOPE""#;
     let rows = [
-        (question(alloc, &done, &done, "")?, valid.clone()?),
-        (question(alloc, &done, &done, main)?, valid.clone()?),
-        (question(alloc, &done, &goal, "")?, not_valid.clone()?),
-        (question(alloc, &computed, &two, "")?, valid.clone()?),
-        (question(alloc, &two, &computed, "")?, valid.clone()?),
-        (question(alloc, &two, &three, "")?, not_valid.clone()?),
-        (question(alloc, &done, &nope, "")?, error(alloc, v2, "1")?),
+        (DONE, NOPE, "", v2),
+        (DONE, FOREIGN, "", t1),
+        (OPEN, NOPE, "", v2),
+        (OPEN, DONE, "", t2),
+        (DONE, ONE, "", t2),
+        (DONE, DONE, r#","module":"BASE""#, t2),
         (
-            question(alloc, &done, &foreign, "")?,
-            error(alloc, t1, "1")?,
+            NOPE,
+            DONE,
+            r#","module":"NOPE""#,
+            r#""code":3,"data":{"name":"NOPE"},"message":"Could not find module""#,
         ),
-        (question(alloc, open, &nope, "")?, error(alloc, v2, "1")?),
-        (question(alloc, open, &done, "")?, error(alloc, t2, "1")?),
+        (NOPE, FOREIGN, "", v2),
         (
-            question(alloc, &done, &number(alloc, "1")?, "")?,
-            error(alloc, t2, "1")?,
-        ),
-        (
-            question(alloc, &done, &done, r#","module":"BASE""#)?,
-            error(alloc, t2, "1")?,
-        ),
-        (
-            question(alloc, &nope, &done, lost)?,
-            error(alloc, no_module, "1")?,
-        ),
-        (
-            question(alloc, &nope, &foreign, "")?,
-            error(alloc, v2, "1")?,
-        ),
-        (
-            question(alloc, &done, &done, r#","module":1"#)?,
-            error(alloc, params, "1")?,
+            DONE,
+            DONE,
+            r#","module":7"#,
+            r#""code":-32602,"message":"Invalid params""#,
         ),
     ];
-    for (input, reply) in &rows {
-        let answered = served(alloc, input)?;
-        assert_eq!(rt; answered.status, 0);
-        assert_eq!(rt; answered.out.bytes(), reply.as_bytes());
-        assert_eq!(rt; answered.err.bytes().len(), 0);
+    for (antecedent, consequent, members, told) in rows {
+        let reply = error(rt.alloc(), told, "1")?;
+        assert!(rt; is_replied(rt.alloc(), antecedent, consequent, members, &reply)?);
     }
     Ok(())
 }
