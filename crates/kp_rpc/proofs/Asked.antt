@@ -16,10 +16,10 @@ use Rattle.kp_rpc.specs.declared.id.Id.{Id}
 use Rattle.kp_rpc.specs.declared.id.Id.TheVariants as id
 use Rattle.kp_rpc.specs.Questions.{to_execute, to_imply, IsLawfulId, with_number, with_text, text_items, with_texts, execute_params, implies_params, request_object, question_tree}
 
-apart : (q k : Text) → bytes_eq q k ≡ false → q ≡ k → ⊥
+pub apart : (q k : Text) → bytes_eq q k ≡ false → q ≡ k → ⊥
 apart q k e h = true≢false (sym ((bytes_eq-Decides q k).1 h) ∙ e)
 
-put_other : (q k : Text) (d : Data) (o : Members) → bytes_eq q k ≡ false → get_member q (put k d o) ≡ get_member q o
+pub put_other : (q k : Text) (d : Data) (o : Members) → bytes_eq q k ≡ false → get_member q (put k d o) ≡ get_member q o
 put_other q k d o e = get_member-put_other q k d o (apart q k e)
 
 -- ---- one member more, where there is something to say
@@ -40,7 +40,7 @@ number_here : (k : Text) (n : Option ℕ) (o p : Members) → Lacks o k → get_
 number_here k None o p lacks same = inl (same ∙ lacks)
 number_here k (Some n) o p lacks same = same ∙ get_member-put k (number (unsigned n)) o
 
-text_here : (k : Text) (t : Option Text) (o p : Members) → Lacks o k → get_member k p ≡ get_member k (with_text k t o) → TextAt p k t
+pub text_here : (k : Text) (t : Option Text) (o p : Members) → Lacks o k → get_member k p ≡ get_member k (with_text k t o) → TextAt p k t
 text_here k None o p lacks same = inl (same ∙ lacks)
 text_here k (Some t) o p lacks same = same ∙ get_member-put k (string t) o
 
@@ -63,7 +63,7 @@ ends = codes "terminal-rules"
 abbrev deep : Text
 deep = codes "max-depth"
 
-abbrev named : Text
+abbrev pub named : Text
 named = codes "module"
 
 abbrev state_key : Text
@@ -82,7 +82,7 @@ with_module o s = with_text named o.module_name (with_state o s)
 abbrev with_depth : ExecuteOptions → Data → Members
 with_depth o s = with_number deep o.max_depth (with_module o s)
 
-options_are : (o : ExecuteOptions) (s : Data) → HasOptions (execute_params o s) o
+pub options_are : (o : ExecuteOptions) (s : Data) → HasOptions (execute_params o s) o
 options_are o s =
     let p : Members = execute_params o s in
     let state_of : (q : Text) → bytes_eq q ends ≡ false → bytes_eq q state_key ≡ false → Lacks (with_state o s) q = λ q e f. put_other q state_key s (with_ends o s) f ∙ texts_other q ends o.terminals no_members e in
@@ -96,7 +96,7 @@ options_are o s =
       terminals = texts_here ends o.terminals no_members p refl (all_of ends refl ∙ depth_of ends refl ∙ module_of ends refl ∙ put_other ends state_key s (with_ends o s) refl);
     }
 
-state_is : (o : ExecuteOptions) (s : Data) → Has (execute_params o s) state_key s
+pub state_is : (o : ExecuteOptions) (s : Data) → Has (execute_params o s) state_key s
 state_is o s =
     texts_other state_key cuts o.cut_points (with_depth o s) refl ∙ number_other state_key deep o.max_depth (with_module o s) refl
     ∙ text_other state_key named o.module_name (with_state o s) refl ∙ get_member-put state_key s (with_ends o s)
@@ -104,7 +104,7 @@ state_is o s =
 -- ---- requests
 
 -- the members of a request
-abbrev request_members : RequestId → Text → Members → Members
+abbrev pub request_members : RequestId → Text → Members → Members
 request_members id method params = members_of ((codes "id", id_tree id) ∷ (codes "jsonrpc", string (codes "2.0")) ∷ (codes "method", string method) ∷ (codes "params", object params) ∷ [])
 
 request_is : (id : RequestId) (method : Text) (params : Members) → IsLawfulId id → IsRequest (request_members id method params) id method

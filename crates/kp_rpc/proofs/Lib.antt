@@ -1,11 +1,20 @@
 mod Answered
 mod Asked
+pub mod CompactRead
 mod Floats
 mod HeadingsRead
+pub mod IdsRead
+pub mod LinesRead
 mod OptionsRead
 mod ParamsRead
+pub mod PartsBack
+pub mod QuestionBack
 mod QuestionText
-mod ReadBack
+pub mod QuestionsRead
+pub mod ReadBack
+pub mod SortsBack
+pub mod StatesBack
+pub mod TermsBack
 mod Texts
 mod TextsWritten
 mod Told

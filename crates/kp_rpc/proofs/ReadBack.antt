@@ -28,7 +28,7 @@ pub record Back (d : Data) : Type 0 where
   pub numbers : HasNumbers (outline d)
   pub is : of_json (outline d) ≡ Some d
 
-record ItemsBack (ds : Items) : Type 0 where
+pub record ItemsBack (ds : Items) : Type 0 where
   pub numbers : ItemsHaveNumbers (items_outline ds)
   pub is : of_items (items_outline ds) ≡ Some ds
 
@@ -56,10 +56,10 @@ read_compact d b shallow =
     let fits : tree.depth j ≤ max_depth = subst (λ n. n ≤ max_depth) (sym (depth_kept d)) shallow in
     ap (λ o. option_and_then of_json (option_and_then (λ p. json.if_last p.0 p.1) o)) (ap (json.value max_depth) (same ∙ sym (append-nil (json_tokens j))) ∙ value-json_tokens j max_depth [] fits) ∙ b.is
 
-number_back : (n : ℕ) → n < 2 ^ 64 → Back (number (unsigned n))
+pub number_back : (n : ℕ) → n < 2 ^ 64 → Back (number (unsigned n))
 number_back n h = record { numbers = IsNumber-decimal n h; is = ap (option_map number) (number_of-decimal n h) }
 
-negative_back : (n : ℕ) → n < 2 ^ 63 → Back (number (negative (negsuc n)))
+pub negative_back : (n : ℕ) → n < 2 ^ 63 → Back (number (negative (negsuc n)))
 negative_back n h = record { numbers = IsNumber-signed_decimal (negsuc n) h; is = ap (option_map number) (number_of-negative n h) }
 
 -- ---- sorts
@@ -76,7 +76,7 @@ mutual
 -- ---- patterns
 
 -- a tree, where there is one, is what JSON makes of its outline
-abbrev IsBack : Option Data → Type 0
+abbrev pub IsBack : Option Data → Type 0
 IsBack None = Unit {0}
 IsBack (Some d) = Back d
 
@@ -84,7 +84,7 @@ abbrev AreBack : Option Items → Type 0
 AreBack None = Unit {0}
 AreBack (Some ds) = ItemsBack ds
 
-one_back : (make : Data → Data) (x : Option Data) → ((d : Data) → Back d → Back (make d)) → IsBack x → IsBack (one_part make x)
+pub one_back : (make : Data → Data) (x : Option Data) → ((d : Data) → Back d → Back (make d)) → IsBack x → IsBack (one_part make x)
 one_back make None keeps h = tt
 one_back make (Some d) keeps h = keeps d h
 
@@ -92,7 +92,7 @@ list_back : (make : Items → Data) (x : Option Items) → ((ds : Items) → Ite
 list_back make None keeps h = tt
 list_back make (Some ds) keeps h = keeps ds h
 
-two_back : (make : Data → Data → Data) (x y : Option Data) → ((d e : Data) → Back d → Back e → Back (make d e)) → IsBack x → IsBack y → IsBack (two_parts make x y)
+pub two_back : (make : Data → Data → Data) (x y : Option Data) → ((d e : Data) → Back d → Back e → Back (make d e)) → IsBack x → IsBack y → IsBack (two_parts make x y)
 two_back make None y keeps h k = tt
 two_back make (Some d) None keeps h k = tt
 two_back make (Some d) (Some e) keeps h k = keeps d e h k
@@ -130,18 +130,18 @@ mutual
 one_fits : 1 < 2 ^ 64
 one_fits = omega arith
 
-wrapped_back : (p : KorePattern) → IsBack (wrapped_pattern p)
+pub wrapped_back : (p : KorePattern) → IsBack (wrapped_pattern p)
 wrapped_back p =
     let version = number_back 1 one_fits in
     one_back wrapped (pattern_tree p) (λ d h. record { numbers = (tt, (h.numbers, (version.numbers, tt))); is = rw (h.is, version.is) refl }) (pattern_back p)
 
-plain_back : (x : Option Data) (d : Data) → IsBack x → x ≡ Some d → Back d
+pub plain_back : (x : Option Data) (d : Data) → IsBack x → x ≡ Some d → Back d
 plain_back None d h e = absurd (cc e)
 plain_back (Some t) d h e = let same : t ≡ d = cc e in subst Back same h
 
 -- ---- results
 
-id_back : (id : RequestId) → IsReadId id → Back (id_tree id)
+pub id_back : (id : RequestId) → IsReadId id → Back (id_tree id)
 id_back (id_text t) h = record { numbers = tt; is = refl }
 id_back (id_number (unsigned n)) h = number_back n h
 id_back (id_number (negative (pos n))) h = absurd h
@@ -149,10 +149,10 @@ id_back (id_number (negative (negsuc n))) h = negative_back n h
 id_back (id_number (float x)) h = absurd h
 id_back id_null h = record { numbers = tt; is = refl }
 
-reply_back : (id : RequestId) (result : Data) → IsReadId id → Back result → Back (result_reply id result)
+pub reply_back : (id : RequestId) (result : Data) → IsReadId id → Back result → Back (result_reply id result)
 reply_back id result lawful h = let i = id_back id lawful in record { numbers = (i.numbers, (tt, (h.numbers, tt))); is = rw (i.is, h.is) refl }
 
-object_back : (steps : ℕ) (reason : Reason) (state : Data) → steps < 2 ^ 64 → Back state → Back (result_object steps reason state)
+pub object_back : (steps : ℕ) (reason : Reason) (state : Data) → steps < 2 ^ 64 → Back state → Back (result_object steps reason state)
 object_back steps stuck state fits h = let n = number_back steps fits in record { numbers = (n.numbers, (tt, (h.numbers, tt))); is = rw (n.is, h.is) refl }
 object_back steps depth_bound state fits h = let n = number_back steps fits in record { numbers = (n.numbers, (tt, (h.numbers, tt))); is = rw (n.is, h.is) refl }
 object_back steps (aborted_by_rule id) state fits h = let n = number_back steps fits in record { numbers = (n.numbers, (tt, (tt, (h.numbers, tt)))); is = rw (n.is, h.is) refl }
@@ -165,7 +165,7 @@ both_back x None h k = tt
 both_back None (Some d) h k = tt
 both_back (Some p) (Some d) h k = record { numbers = (h.numbers, (k.numbers, tt)); is = rw (h.is, k.is) refl }
 
-state_back : (term : KorePattern) (predicate : Option KorePattern) → IsBack (state_tree (record { term = term; predicate = predicate }))
+pub state_back : (term : KorePattern) (predicate : Option KorePattern) → IsBack (state_tree (record { term = term; predicate = predicate }))
 state_back term None = one_back term_state (wrapped_pattern term) term_back (wrapped_back term)
 state_back term (Some p) = both_back (wrapped_pattern p) (wrapped_pattern term) (wrapped_back p) (wrapped_back term)
 
@@ -175,7 +175,7 @@ executed_read id x result lawful fits e shallow =
     let made : IsBack (result_tree x) = one_back (result_object x.depth x.reason) (state_tree x.state) (λ d h. object_back x.depth x.reason d fits h) (state_back x.state.term x.state.predicate) in
     read_compact (result_reply id result) (reply_back id result lawful (plain_back (result_tree x) result made e)) shallow
 
-implied_back : (x : ImpliesResult) → IsBack (implied_tree x)
+pub implied_back : (x : ImpliesResult) → IsBack (implied_tree x)
 implied_back not_valid = record { numbers = (tt, tt); is = refl }
 implied_back (valid p q) = two_back valid_object (wrapped_pattern p) (wrapped_pattern q) (λ d e h k. record { numbers = ((h.numbers, (k.numbers, tt)), (tt, tt)); is = rw (h.is, k.is) refl }) (wrapped_back p) (wrapped_back q)
 

@@ -308,7 +308,7 @@ never_empty : (ys : List ℕ) → [] ≡ ys ++ 10 ∷ [] → ⊥
 never_empty [] e = cc e
 never_empty (y ∷ ys) e = cc e
 
-same_front : (xs ys : List ℕ) → xs ++ 10 ∷ [] ≡ ys ++ 10 ∷ [] → xs ≡ ys
+pub same_front : (xs ys : List ℕ) → xs ++ 10 ∷ [] ≡ ys ++ 10 ∷ [] → xs ≡ ys
 same_front [] [] e = refl
 same_front [] (y ∷ ys) e = let tail : [] ≡ ys ++ 10 ∷ [] = cc e in absurd (never_empty ys tail)
 same_front (x ∷ xs) [] e = let tail : xs ++ 10 ∷ [] ≡ [] = cc e in absurd (never_empty xs (sym tail))

@@ -1,12 +1,14 @@
 -- What a client asks, as JSON trees: requests of execute and of implies, with the optional members that there are.
 -- Source: JSON-RPC 2.0 (request objects); the K Haskell backend's JSON-RPC documentation (execute, implies).
-use Rattle.std.specs.Prelude.{◌≡◌, ℕ, List, [], ◌∷◌, Option, Some, None, codes}
+use Rattle.std.specs.Prelude.{◌≡◌, ◌<◌, ◌^◌, ℕ, List, [], ◌∷◌, Option, Some, None, codes, ⊤}
 use Rattle.std.specs.Option.{option_map}
 use Rattle.serde_json.specs.Data.{Data, unsigned, number, string, array, object, Items, no_items, item, Members, no_members, put}
-use Rattle.kp_kore.specs.Syntax.{Text}
+use Rattle.kp_kore.specs.Syntax.{Text, KorePattern}
 use Rattle.kp_json.specs.Members.{object_of}
 use Rattle.kp_json.specs.Written.{two_parts, wrapped_pattern}
+use Rattle.kp_json.specs.Trees.{SpellsWrapped}
 use Rattle.kp_rpc.specs.Request.{RequestId, id_tree, IsIdTree, ExecuteOptions, ExecuteRequest, execute_method, ImpliesRequest, implies_method}
+use Rattle.kp_rpc.specs.Replied.{IsReadId}
 
 pub data Question : Type 0 where
   to_execute : ExecuteRequest → Question
@@ -53,3 +55,19 @@ request_object id method params =
 abbrev pub question_tree : Question → Option Data
 question_tree (to_execute q) = option_map (λ s. request_object q.id execute_method (execute_params q.options s)) (wrapped_pattern q.state)
 question_tree (to_imply q) = two_parts (λ a c. request_object q.id implies_method (implies_params q.module_name a c)) (wrapped_pattern q.antecedent) (wrapped_pattern q.consequent)
+
+-- ---- questions that are read as they were asked
+
+-- the tree that is written of the pattern spells no other pattern
+abbrev pub IsReadBack : KorePattern → Type 0
+IsReadBack p = (tree : Data) (q : KorePattern) → wrapped_pattern p ≡ Some tree → SpellsWrapped tree q → q ≡ p
+
+-- a number of 64 bits, or none
+abbrev pub IsReadNumber : Option ℕ → Type 0
+IsReadNumber None = ⊤
+IsReadNumber (Some n) = n < 2 ^ 64
+
+-- what is read of the question's text, if anything, is the question
+abbrev pub IsAskable : Question → Type 0
+IsAskable (to_execute q) = IsReadId q.id × IsReadNumber q.options.max_depth × IsReadBack q.state
+IsAskable (to_imply q) = IsReadId q.id × IsReadBack q.antecedent × IsReadBack q.consequent

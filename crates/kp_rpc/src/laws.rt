@@ -1,13 +1,17 @@
 // Laws of requests and replies.
-ghost use Rattle.std.specs.Prelude.{◌≡◌, ◌≤◌, ◌<◌, ◌^◌, Some, ℤ};
+ghost use Rattle.std.specs.Prelude.{◌≡◌, ◌≤◌, ◌<◌, ◌^◌, Some, ℤ, ℕ, List, true};
 ghost use Rattle.serde_json.specs.Read.{max_depth, read};
 ghost use Rattle.serde_json.specs.Written.{compact_text};
 ghost use Rattle.serde_json.specs.Find.{as_i64};
 ghost use Rattle.serde_json.specs.Data.{Data, object, Members, depth};
+ghost use Rattle.kp_kore.specs.Syntax.{KoreSort, KorePattern, top, bottom};
+ghost use Rattle.kp_kore.specs.Parts.{is_term};
 ghost use Rattle.kp_json.specs.Trees.{SpellsWrapped};
-ghost use Rattle.kp_rpc.specs.Request.{RequestId, ExecuteRequest, ImpliesRequest, IsExecute, IsImplies};
-ghost use Rattle.kp_rpc.specs.Questions.{IsLawfulId, question_tree, to_execute, to_imply};
-ghost use Rattle.kp_rpc.specs.Reply.{ExecuteResult, ImpliesResult, RequestError, error_parts, error_reply, implied_tree, reply_bytes, result_reply, result_tree};
+ghost use Rattle.kp_rpc.specs.Frame.{IsFrame};
+ghost use Rattle.kp_rpc.specs.Request.{RequestId, EchoesId, ExecuteRequest, ImpliesRequest, IsExecute, IsImplies};
+ghost use Rattle.kp_rpc.specs.Causes.{IsRefused};
+ghost use Rattle.kp_rpc.specs.Questions.{IsAskable, IsLawfulId, IsReadBack, question_tree, to_execute, to_imply};
+ghost use Rattle.kp_rpc.specs.Reply.{ExecuteResult, ImpliesResult, IsStatePattern, RequestError, WrittenState, error_parts, error_reply, implied_tree, reply_bytes, result_reply, result_tree};
 ghost use Rattle.kp_rpc.specs.Replied.{IsReadId, IsReplyOf, IsSpelledImplied, IsSpelledState, Method, ServerReply, TellsReply, execute, executed, failed, implied, implies};
 ghost use Rattle.kp_rpc.specs.View.{id_view};
 ghost use Rattle.kp_rpc.specs.declared.id.Id.{Id as SpecId};
@@ -76,4 +80,75 @@ pub fn a_line_tells_what_its_tree_tells()
 #[tactic(auto, using(crate::proofs::Told::one_reply))]
 pub fn a_reply_tells_one_thing()
     ensures { (method : Method) (d : Data) (r s : ServerReply) → TellsReply method d r → TellsReply method d s → r ≡ s }
+{}
+
+/// The line that is written of an error tells nothing but what its tree tells.
+pub fn an_errors_line_tells_what_its_tree_tells()
+    ensures { (method : Method) (id : RequestId) (e : RequestError) (r : ServerReply) → IsReadId id
+        → IsReplyOf method (reply_bytes (error_reply id e)) r → TellsReply method (error_reply id e) r }
+{}
+
+/// The line that is written of a result of execute tells nothing but what its tree tells, however deep it nests.
+pub fn a_runs_line_tells_what_its_tree_tells()
+    ensures { (method : Method) (id : RequestId) (x : ExecuteResult) (result : Data) (r : ServerReply) → IsReadId id → x.depth < 2 ^ 64
+        → result_tree x ≡ Some result → IsReplyOf method (reply_bytes (result_reply id result)) r → TellsReply method (result_reply id result) r }
+{}
+
+/// The line that is written of a result of implies tells nothing but what its tree tells, however deep it nests.
+pub fn an_implications_line_tells_what_its_tree_tells()
+    ensures { (method : Method) (id : RequestId) (x : ImpliesResult) (result : Data) (r : ServerReply) → IsReadId id
+        → implied_tree x ≡ Some result → IsReplyOf method (reply_bytes (result_reply id result)) r → TellsReply method (result_reply id result) r }
+{}
+
+/// The id that the reply to a frame carries is one that a reader of JSON can have read.
+pub fn the_id_of_a_frame_is_read()
+    ensures { (bytes : List ℕ) (d : Data) (id : RequestId) → IsFrame bytes d → EchoesId d id → IsReadId id }
+{}
+
+/// The id that the reply to refused bytes carries is one that a reader of JSON can have read.
+pub fn the_id_of_refused_bytes_is_read()
+    ensures { (bytes : List ℕ) (id : RequestId) (e : RequestError) → IsRefused bytes id e → IsReadId id }
+{}
+
+/// The tree that is written of a term spells no other pattern.
+#[tactic(auto, using(crate::proofs::TermsBack::term_back))]
+pub fn a_term_is_read_back()
+    ensures { (p : KorePattern) → is_term p ≡ true → IsReadBack p }
+{}
+
+/// The tree that is written of what a tree spells spells no other pattern.
+#[tactic(auto, using(crate::proofs::StatesBack::spelled_back))]
+pub fn what_was_read_is_read_back()
+    ensures { (d : Data) (p : KorePattern) → SpellsWrapped d p → IsReadBack p }
+{}
+
+/// The tree that is written of `\top` spells no other pattern.
+#[tactic(auto, using(crate::proofs::TermsBack::top_back))]
+pub fn top_is_read_back()
+    ensures { (s : KoreSort) → IsReadBack (top s) }
+{}
+
+/// The tree that is written of `\bottom` spells no other pattern.
+#[tactic(auto, using(crate::proofs::TermsBack::bottom_back))]
+pub fn bottom_is_read_back()
+    ensures { (s : KoreSort) → IsReadBack (bottom s) }
+{}
+
+/// The tree that is written of a state which was read spells no other pattern: of its term, and of the conjunction of
+/// its term and its predicate at any sort.
+#[tactic(auto, using(crate::proofs::StatesBack::state_read_back))]
+pub fn a_read_state_is_read_back()
+    ensures { (s : WrittenState) (p : KorePattern) → IsSpelledState s.term s.predicate → IsStatePattern s p → IsReadBack p }
+{}
+
+/// What is read of the text of a question of execute is that question, however deep it nests.
+pub fn what_is_read_of_a_question()
+    ensures { (q r : ExecuteRequest) (d : Data) (o : Members) (frame : List ℕ) → IsAskable (to_execute q) → question_tree (to_execute q) ≡ Some d
+        → frame ≡ compact_text d → IsFrame frame (object o) → IsExecute o r → r ≡ q }
+{}
+
+/// What is read of the text of a question of implies is that question, however deep it nests.
+pub fn what_is_read_of_a_question_to_imply()
+    ensures { (q r : ImpliesRequest) (d : Data) (o : Members) (frame : List ℕ) → IsAskable (to_imply q) → question_tree (to_imply q) ≡ Some d
+        → frame ≡ compact_text d → IsFrame frame (object o) → IsImplies o r → r ≡ q }
 {}
