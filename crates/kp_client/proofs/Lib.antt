@@ -1,0 +1,10 @@
+pub mod Made
+pub mod Nodes
+pub mod Trees
+pub mod StatesRead
+pub mod Right
+pub mod Said
+pub mod Hearing
+pub mod Playing
+pub mod Lines
+pub mod Places

@@ -1,0 +1,19 @@
+use Rattle.std.proofs.Common.{◌≡◌, sym, ap, ◌∙◌, subst, ℕ, List, Option, Some, option_map, Vec, Global}
+use Rattle.std.specs.Option.{IfNone}
+use Rattle.serde_json.specs.Written.{compact_text}
+use Rattle.kp_rpc.specs.Questions.{question_tree}
+use Rattle.kp_rpc.specs.Replied.{ServerReply, IsReplyOf}
+use Rattle.kp_rpc.specs.View.{method_view, question_view}
+use Rattle.kp_rpc.specs.declared.replied.ServerReply.{ServerReply as RustReply}
+use Rattle.kp_client.proofs.Hearing.{nothing}
+use Rattle.kp_client.proofs.hear.hear.Goals as goal
+
+pub returns-clause-heard : goal.returns-clause-heard
+returns-clause-heard g c =
+    let q = question_view c.args.question.now in
+    let m = method_view c.args.method in
+    let reads : Some c.deref.result.now ≡ option_map compact_text (question_tree q) =
+    ap Some c.deref.ensures.value ∙ sym (ap (option_map (λ (b : Vec ℕ Global). b.items)) c.in-Some.is) ∙ c.in_ok-frame.ensures.text in
+    let none = subst (λ (o : Option RustReply). IfNone o ((r : ServerReply) → ¬ IsReplyOf m c.deref-2.result.now r)) c.in-None.is c.in_ok-reply.ensures.none in
+    nothing (g.L.Link.told c.args.link.now) (g.L.Link.told c.ask.new.self) m q c.deref.result.now c.in_ok-line.line.items reads
+    (subst (λ (l : List ℕ). (r : ServerReply) → ¬ IsReplyOf m l r) c.deref-2.ensures.value none) c.in_ok-line.ensures.asked

@@ -1,0 +1,7 @@
+pub mod Answers
+pub mod Faults
+pub mod Links
+pub mod Report
+pub mod Rounds
+pub mod Sound
+pub mod View

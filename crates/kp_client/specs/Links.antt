@@ -1,0 +1,73 @@
+-- Links to a server: exchanges, what calls do to what a link tells, and when replies are right.
+-- Source: JSON-RPC 2.0 (requests, responses); the K Haskell backend's JSON-RPC documentation (execute, implies).
+use Rattle.std.specs.Prelude.{◌≡◌, ◌≤◌, ℕ, List, ◌++◌, Option, Some, option_map}
+use Rattle.std.specs.List.{AllByRecursion}
+use Rattle.serde_json.specs.Data.{Data, object, Members}
+use Rattle.serde_json.specs.Written.{compact_text}
+use Rattle.kp_kore.specs.Syntax.{Text, KorePattern}
+use Rattle.kp_semantics.specs.Theory.{Theory}
+use Rattle.kp_semantics.specs.Replies.{IsRightExecuted}
+use Rattle.kp_rpc.specs.Frame.{IsFrame}
+use Rattle.kp_rpc.specs.Request.{ExecuteRequest, IsExecute, ImpliesRequest, IsImplies, bound_of}
+use Rattle.kp_rpc.specs.Questions.{Question, question_tree}
+use Rattle.kp_rpc.specs.Reply.{ExecuteResult, ImpliesResult, IsStatePattern}
+use Rattle.kp_rpc.specs.Replied.{execute, executed, implies, implied, IsReplyOf}
+use Rattle.kp_rpc.specs.Implications.{IsMainAsked, IsRightImplied}
+
+-- a frame, and the line that replied to it
+pub record Exchange : Type 0 where
+  pub frame : List ℕ
+  pub reply : List ℕ
+
+-- the theory whose right replies a link gives, and the name of its main module
+pub record ToldTheory : Type 0 where
+  pub theory : Theory
+  pub main : Text
+
+-- what a link tells: what each exchange over it meets, the exchanges so far, and how often it has failed
+pub record LinkState : Type 1 where
+  pub meets : Exchange → Type 0
+  pub exchanges : Option (List Exchange)
+  pub faults : ℕ
+
+-- the bytes are the text of the question
+abbrev pub IsTextOf : Question → List ℕ → Type 0
+IsTextOf q bytes = (d : Data) × (question_tree q ≡ Some d) × (bytes ≡ compact_text d)
+
+-- the result of execute is right for the theory and the request, at whatever sort the state's conjunction is written
+abbrev pub IsRightRun : Theory → ExecuteRequest → ExecuteResult → Type 0
+IsRightRun t q x =
+    (s : KorePattern) → IsStatePattern x.state s →
+    IsRightExecuted t (q.options.cut_points ++ q.options.terminals) (bound_of q.options) q.state (record { depth = x.depth; reason = x.reason; state = s })
+
+-- the frame is a request of execute, and where it asks of the main module, the result is right for it
+pub record AsksForRun (t : ToldTheory) (frame : List ℕ) (x : ExecuteResult) : Type 0 where
+  pub members : Members
+  pub request : ExecuteRequest
+  pub is_frame : IsFrame frame (object members)
+  pub is_request : IsExecute members request
+  pub right : IsMainAsked t.main request.options.module_name → IsRightRun t.theory request x
+
+-- the same of a request of implies
+pub record AsksForImplication (t : ToldTheory) (frame : List ℕ) (x : ImpliesResult) : Type 0 where
+  pub members : Members
+  pub request : ImpliesRequest
+  pub is_frame : IsFrame frame (object members)
+  pub is_request : IsImplies members request
+  pub right : IsMainAsked t.main request.module_name → IsRightImplied t.theory.signature request.antecedent request.consequent x
+
+-- a reply tells a result only of a request, and the result is right for that request
+pub record IsRightExchange (t : ToldTheory) (e : Exchange) : Type 0 where
+  pub executes : (x : ExecuteResult) → IsReplyOf execute e.reply (executed x) → AsksForRun t e.frame x
+  pub implies_so : (x : ImpliesResult) → IsReplyOf implies e.reply (implied x) → AsksForImplication t e.frame x
+
+-- the link serves the theory: what its exchanges meet makes them right
+abbrev pub Serves : LinkState → ToldTheory → Type 0
+Serves a t = (e : Exchange) → a.meets e → IsRightExchange t e
+
+-- exactly these exchanges are made, and meet what the link tells, which later ones meet too
+pub record Makes (before after : LinkState) (es : List Exchange) : Type 0 where
+  pub keeps : (e : Exchange) → after.meets e → before.meets e
+  pub exchanges : after.exchanges ≡ option_map (λ earlier. earlier ++ es) before.exchanges
+  pub faults : before.faults ≤ after.faults
+  pub met : AllByRecursion before.meets es

@@ -1,0 +1,164 @@
+ghost use Rattle.std.specs.Prelude.{◌≡◌, ◌∷◌, [], IfOk, IsErrOf, List, Some, ℕ, option_map};
+ghost use Rattle.kp_io.specs.Outside.{Rose};
+ghost use Rattle.kp_kore.specs.Syntax.{KorePattern, conjunction};
+ghost use Rattle.kp_kore.specs.View.{view, sort_view, patterns_view};
+ghost use Rattle.kp_rpc.specs.Replied.{execute, executed, IsReadId};
+ghost use Rattle.kp_rpc.specs.Reply.{IsStatePattern};
+ghost use Rattle.serde_json.specs.Data.{unsigned};
+ghost use Rattle.kp_rpc.specs.Request.{RequestId, id_number};
+ghost use Rattle.kp_rpc.specs.View.{question_view, reply_view, run_view};
+ghost use Rattle.kp_client.specs.Answers.{IsHeard, IsStepAnswer};
+ghost use Rattle.kp_client.specs.Links.{Exchange, Makes};
+ghost use Rattle.kp_client.specs.Rounds.{step_question, Tells};
+ghost use Rattle.kp_client.specs.declared.outcome.ProveFault.TheVariants.{LinkFault};
+
+use crate::cover::{NO_PATTERN, PARSE_ERROR};
+use crate::hear::{Heard, hear};
+use crate::link::Link;
+use crate::outcome::ProveFault;
+use kp_kore::{Pattern, Sort};
+use kp_rpc::{Id, Method, Options, Question, Reason, Run, ServerReply};
+use std::alloc::{AllocError, Global};
+
+/// Where the steps from a state lead.
+#[derive(Drop)]
+pub enum StepAnswer {
+    /// So many steps on is this state.
+    Stepped(u64, Pattern),
+    /// Nowhere: the state is stuck.
+    Stuck,
+    /// No step is known, by this line.
+    Held(Vec<u8>),
+    /// The question is refused with this code.
+    Refused(i64),
+}
+
+// The question where so many steps from a state lead.
+fn step_question_of(
+    alloc: Global,
+    id: u64,
+    depth: u64,
+    state: &Pattern,
+) -> Result<Question, AllocError>
+    ensures { IfOk result (λ q. question_view q ≡ step_question depth (view state.now) (id_number (unsigned id))) }
+{
+    Ok(Question::Execute {
+        id: Id::Unsigned(id),
+        state: state.copy(alloc)?,
+        options: Options {
+            max_depth: Some(depth),
+            module_name: None,
+            cut_points: Vec::new(alloc),
+            terminals: Vec::new(alloc),
+        },
+    })
+}
+
+// A sort at which a term and this predicate may be joined: the predicate's, where it has one.
+fn sort_beside(alloc: Global, predicate: &Pattern) -> Result<Sort, AllocError> {
+    match predicate {
+        Pattern::Top { sort } => sort.copy(alloc),
+        Pattern::Not { sort, .. } => sort.copy(alloc),
+        Pattern::And { sort, .. } => sort.copy(alloc),
+        Pattern::Or { sort, .. } => sort.copy(alloc),
+        Pattern::Implies { sort, .. } => sort.copy(alloc),
+        Pattern::Exists { sort, .. } => sort.copy(alloc),
+        Pattern::Ceil { sort, .. } => sort.copy(alloc),
+        Pattern::Floor { sort, .. } => sort.copy(alloc),
+        Pattern::Equals { sort, .. } => sort.copy(alloc),
+        Pattern::In { sort, .. } => sort.copy(alloc),
+        _ => Ok(Sort::App {
+            name: String::from_str(alloc, "SortGeneratedTopCell")?,
+            arguments: Vec::new(alloc),
+        }),
+    }
+}
+
+// A conjunction of these patterns.
+fn conjunction_of(sort: Sort, patterns: Vec<Pattern>) -> Pattern
+    ensures { view result ≡ conjunction (sort_view sort) (patterns_view patterns.items) }
+{
+    Pattern::And { sort, patterns }
+}
+
+// The conjunction of a term and a predicate.
+fn joined(alloc: Global, term: Pattern, predicate: Pattern) -> Result<Pattern, AllocError>
+    ensures { IfOk result (λ p. IsStatePattern (record { term = view term; predicate = Some (view predicate) }) (view p)) }
+{
+    let sort = sort_beside(alloc, &predicate)?;
+    let mut patterns = Vec::new(alloc);
+    patterns.push(term)?;
+    patterns.push(predicate)?;
+    Ok(conjunction_of(sort, patterns))
+}
+
+// The state that a run ends in.
+fn state_of(alloc: Global, term: Pattern, predicate: Option<Pattern>) -> Result<Pattern, AllocError>
+    ensures { IfOk result (λ p. IsStatePattern (record { term = view term; predicate = option_map view predicate }) (view p)) }
+{
+    match predicate {
+        None => Ok(term),
+        Some(predicate) => joined(alloc, term, predicate),
+    }
+}
+
+// What a run says of the steps.
+fn run_answer(alloc: Global, run: Run, line: Vec<u8>) -> Result<StepAnswer, AllocError>
+    ensures { IfOk result (λ a. (depth : ℕ) (s : KorePattern) (e : Exchange) → e.reply ≡ line.items → Tells (step_question depth s) execute e (executed (run_view run))
+        → IsStepAnswer depth s (e ∷ []) a) }
+{
+    let Run {
+        depth,
+        reason,
+        term,
+        predicate,
+    } = run;
+    if depth > 0 {
+        return Ok(StepAnswer::Stepped(depth, state_of(alloc, term, predicate)?));
+    }
+    match reason {
+        Reason::Stuck => Ok(StepAnswer::Stuck),
+        Reason::DepthBound => Ok(StepAnswer::Held(line)),
+        Reason::AbortedByRule { id: _ } => Ok(StepAnswer::Held(line)),
+    }
+}
+
+// What a reply says of the steps.
+fn told_steps(alloc: Global, reply: ServerReply, line: Vec<u8>) -> Result<StepAnswer, AllocError>
+    ensures { IfOk result (λ a. (depth : ℕ) (s : KorePattern) (e : Exchange) → e.reply ≡ line.items → Tells (step_question depth s) execute e (reply_view reply)
+        → IsStepAnswer depth s (e ∷ []) a) }
+{
+    match reply {
+        ServerReply::Executed(run) => run_answer(alloc, run, line),
+        ServerReply::Failed { code } => Ok(StepAnswer::Refused(code)),
+        ServerReply::Implied(_) => Ok(StepAnswer::Refused(PARSE_ERROR)),
+    }
+}
+
+// What a question comes to says of the steps.
+fn step_answer_of(alloc: Global, heard: Heard) -> Result<StepAnswer, AllocError>
+    ensures { IfOk result (λ a. (depth : ℕ) (s : KorePattern) (i : RequestId) (es : List Exchange) → IsReadId i →
+        IsHeard execute (step_question depth s i) es heard → IsStepAnswer depth s es a) }
+{
+    match heard {
+        Heard::Told(reply, line) => told_steps(alloc, reply, line),
+        Heard::Nothing => Ok(StepAnswer::Refused(PARSE_ERROR)),
+        Heard::Unasked => Ok(StepAnswer::Refused(NO_PATTERN)),
+    }
+}
+
+/// Asks where so many steps from a state lead.
+pub fn ask_steps<L: Link>(
+    alloc: Global,
+    link: &mut L,
+    id: u64,
+    depth: u64,
+    state: &Pattern,
+) -> Result<StepAnswer, ProveFault>
+    ensures answer { IfOk result (λ a. (es : List Exchange) × Makes (L.told link.old) (L.told link.new) es × IsStepAnswer depth (view state.now) es a) }
+    ensures link_fault { IsErrOf result LinkFault → Rose (L.told link.old).faults (L.told link.new).faults }
+{
+    let question = step_question_of(alloc, id, depth, state)?;
+    let heard = hear(alloc, link, Method::Execute, &question)?;
+    Ok(step_answer_of(alloc, heard)?)
+}
