@@ -9,6 +9,8 @@ mod compiling;
 #[cfg(test)]
 mod definitions;
 #[cfg(test)]
+mod provers;
+#[cfg(test)]
 mod readers;
 #[cfg(test)]
 mod regularity;

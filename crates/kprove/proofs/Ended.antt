@@ -153,6 +153,7 @@ answered s e r end h p sp normal tree w =
             (run_is_right s.theory st.pattern p (value_view h.start.value) (bound_of (options_of e)) end h.run ground.term ground.closed ground.meant sp);
       };
       normal = record { later = written_of end.state; is_later = later_at s e end h; spelled = normal };
+      bare = refl;
     }
 
 -- the line with the end of a run

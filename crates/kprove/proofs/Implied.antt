@@ -43,11 +43,11 @@ some_valuation : Valuation
 some_valuation x = truth true
 
 -- a term binds nothing
-record BindsNothing (p : KorePattern) : Type 0 where
+pub record BindsNothing (p : KorePattern) : Type 0 where
   pub variables : bound_variables p ≡ []
   pub body : body_of p ≡ p
 
-binds_nothing : (p : KorePattern) → is_term p ≡ true → BindsNothing p
+pub binds_nothing : (p : KorePattern) → is_term p ≡ true → BindsNothing p
 binds_nothing (variable x s) h = record { variables = refl; body = refl }
 binds_nothing (set_variable x s) h = record { variables = refl; body = refl }
 binds_nothing (application f ss ps) h = record { variables = refl; body = refl }

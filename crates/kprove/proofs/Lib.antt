@@ -1,9 +1,14 @@
 pub mod Causes
+pub mod ClaimCauses
 pub mod Ended
 pub mod Faulty
-pub mod Five
 pub mod Implied
+pub mod LocalExchanges
+pub mod LocalReplies
+pub mod ProvableClaims
+pub mod Proving
 pub mod Runs
 pub mod Served
 pub mod Spelled
 pub mod Trees
+pub mod WordsRead

@@ -1,6 +1,12 @@
+pub mod ClaimFiles
+pub mod Commands
+pub mod Does
 pub mod Ends
 pub mod Faults
+pub mod Loaded
+pub mod LocalTold
 pub mod Normal
+pub mod Proofs
 pub mod Right
 pub mod Sides
 pub mod Statuses

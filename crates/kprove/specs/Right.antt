@@ -85,7 +85,7 @@ pub record IsTold (s : Setting) (request : ExecuteRequest) : Type 0 where
   pub told : ¬ IsUntold s request.options request.state sort
 
 -- the tree is a request of execute that names no module out of reach and whose run is told, and the reply has the right
--- result of its run over the theory, in the normal spelling
+-- result of its run over the theory, in the normal spelling and without a predicate
 pub record IsAnswered (s : Setting) (d reply : Data) : Type 0 where
   pub members : Members
   pub tree : d ≡ object members
@@ -95,6 +95,7 @@ pub record IsAnswered (s : Setting) (d reply : Data) : Type 0 where
   pub is_told : IsTold s request
   pub right : IsRightReply s.theory request reply
   pub normal : IsNormal s.theory request.state is_told.sort right.result.depth right.result.state.term
+  pub bare : right.result.state.predicate ≡ None
 
 -- ---- replies with an error
 

@@ -1,4 +1,4 @@
--- How the program ends otherwise than by serving its input: its statuses, their causes, and the lines on standard error.
+-- How the program ends otherwise than by doing what its command says: its statuses, their causes, and the lines on standard error.
 -- Source: this project.
 use Rattle.std.specs.Prelude.{◌≡◌, ◌⊎◌, ℕ, List, ◌++◌, Option, Some, None, IfSome, codes, ⊤}
 use Rattle.std.specs.Fmt.{decimal}
@@ -7,9 +7,10 @@ use Rattle.kp_kore.specs.Syntax.{Text}
 use Rattle.kp_io.specs.Outside.{Names}
 use Rattle.kp_text.specs.Kinds.{kind_number}
 use Rattle.kp_modules.specs.Faults.{fault_code}
-use Rattle.kprove.specs.Faults.{FileFault, too_long, in_text, in_modules, IsFileFault, IsFaultless}
+use Rattle.kprove.specs.Faults.{FileFault, too_long, in_text, in_modules, in_claims, IsFileFault, IsFaultless, IsClaimsFault, AreFaultlessClaims, claim_code}
+use Rattle.kprove.specs.Loaded.{IsLoaded}
 use Rattle.kprove.specs.Right.{GainsFront}
-use Rattle.kprove.specs.Words.{SpellsStdio, SpellsSome}
+use Rattle.kprove.specs.Words.{ProveWords, SpellsStdio, SpellsProve, SpellsSome, NamesDefinition}
 
 -- the words are no command; the file of this name has a fault; there is no file of this name; the shelf, the input or
 -- the output failed; memory ran out
@@ -34,6 +35,7 @@ abbrev pub fault_words : FileFault → Text
 fault_words too_long = codes ": too long\n"
 fault_words (in_text f) = codes ": text " ++ decimal (kind_number f.kind) ++ codes " at " ++ decimal f.at ++ codes "\n"
 fault_words (in_modules f) = codes ": " ++ fault_code f ++ codes "\n"
+fault_words (in_claims f) = codes ": " ++ claim_code f ++ codes "\n"
 
 abbrev pub line_of : Ending → Text
 line_of usage = codes "kprove: usage\n"
@@ -48,11 +50,38 @@ Tells failed before after line = Appends before after line ⊎ (failed × GainsF
 
 -- ---- causes
 
--- why a program with these words ends so, over a shelf with these names; want of memory needs no cause
+-- the words name this file as the definition's, and it has this fault
+pub record IsFaultyDefinition (names : Option Names) (words : List Text) (name : Text) (f : FileFault) : Type 0 where
+  pub main : Text
+  pub named : NamesDefinition words name main
+  pub file : List ℕ
+  pub there : IfSome names (λ held. held name ≡ Some file)
+  pub fault : IsFileFault file main f
+
+-- the words are those of prove and name this file as the claims', and their definition is loaded
+pub record AreClaimsOf (names : Option Names) (words : List Text) (name : Text) : Type 0 where
+  pub command : ProveWords
+  pub spells : SpellsProve words command
+  pub named : command.claims ≡ name
+  pub loaded : IsLoaded names command.definition command.main
+
+-- and it has this fault
+pub record AreFaultyClaims (names : Option Names) (words : List Text) (name : Text) (f : FileFault) : Type 0 where
+  pub claims : AreClaimsOf names words name
+  pub file : List ℕ
+  pub there : IfSome names (λ held. held name ≡ Some file)
+  pub fault : IsClaimsFault claims.loaded.setting.theory.signature file f
+
+-- there is no file of this name
+abbrev pub IsNowhere : Option Names → Text → Type 0
+IsNowhere names name = IfSome names (λ held. held name ≡ None)
+
+-- why a program with these words ends so, over a shelf with these names: the definition's file first, then the claims';
+-- want of memory needs no cause
 abbrev pub IsCause : Option Names → List Text → Type 0 → Ending → Type 0
 IsCause names words failed usage = ¬ SpellsSome words
-IsCause names words failed (faulty name f) = (main : Text) × SpellsStdio words name main × (file : List ℕ) × IfSome names (λ held. held name ≡ Some file) × IsFileFault file main f
-IsCause names words failed (no_file name) = (main : Text) × SpellsStdio words name main × IfSome names (λ held. held name ≡ None)
+IsCause names words failed (faulty name f) = IsFaultyDefinition names words name f ⊎ AreFaultyClaims names words name f
+IsCause names words failed (no_file name) = ((main : Text) × NamesDefinition words name main × IsNowhere names name) ⊎ (AreClaimsOf names words name × IsNowhere names name)
 IsCause names words failed outside = failed
 IsCause names words failed memory = ⊤
 
@@ -65,7 +94,7 @@ pub record IsEnded (names : Option Names) (words : List Text) (failed : Type 0) 
 
 -- ---- where it can't end so
 
--- the words spell a command whose file is there and has no fault
+-- the words spell stdio, and the definition's file is there and has no fault
 pub record IsServable (words : List Text) (held : Names) : Type 0 where
   pub name : Text
   pub main : Text
@@ -73,3 +102,16 @@ pub record IsServable (words : List Text) (held : Names) : Type 0 where
   pub spells : SpellsStdio words name main
   pub there : held name ≡ Some file
   pub faultless : IsFaultless file main
+
+-- the words spell prove, and both files are there and have no fault
+pub record IsProvable (words : List Text) (held : Names) : Type 0 where
+  pub command : ProveWords
+  pub spells : SpellsProve words command
+  pub loaded : IsLoaded (Some held) command.definition command.main
+  pub file : List ℕ
+  pub there : held command.claims ≡ Some file
+  pub faultless : AreFaultlessClaims loaded.setting.theory.signature file
+
+-- the words spell a command whose files are there and have no fault
+abbrev pub IsPossible : List Text → Names → Type 0
+IsPossible words held = IsServable words held ⊎ IsProvable words held

@@ -3,25 +3,28 @@ ghost use Rattle.kp_io.specs.Outside.{Rose, load_limit};
 ghost use Rattle.kprove.specs.Ends.{IsTableOf};
 ghost use Rattle.kprove.specs.Statuses.{IsCause};
 ghost use Rattle.kprove.specs.Troubles.{IsFaulty, ending_of};
-ghost use Rattle.kprove.specs.Words.{SpellsStdio};
+ghost use Rattle.kprove.specs.Words.{NamesDefinition};
 
-use crate::command::Stdio;
 use crate::trouble::{FileFault, Trouble, file_trouble, module_trouble, no_file, read_trouble};
 use kp_io::{LoadFault, Shelf};
 use kp_modules::{Table, load};
 use kp_text::read_definition;
 use std::alloc::Global;
 
-/// The table of the definition that a command names.
-pub fn load_table<H: Shelf>(alloc: Global, shelf: &mut H, command: &Stdio) -> Result<Table, Trouble>
-    ensures loaded { IfOk result (λ table. (file : List ℕ) × IfSome (H.names shelf.old) (λ held. held command.now.definition.now ≡ Some file) × IsTableOf file command.now.module_name.now table) }
-    ensures cause { (words : List (List ℕ)) → SpellsStdio words command.now.definition.now command.now.module_name.now → IfErr result (λ trouble. IsCause (H.names shelf.old) words (Rose (H.fault_count shelf.old) (H.fault_count shelf.new)) (ending_of trouble)) }
+/// The table of the definition in the file of this name, for this main module.
+pub fn load_table<H: Shelf>(
+    alloc: Global,
+    shelf: &mut H,
+    name: &str,
+    main: &str,
+) -> Result<Table, Trouble>
+    ensures loaded { IfOk result (λ table. (file : List ℕ) × IfSome (H.names shelf.old) (λ held. held name.now ≡ Some file) × IsTableOf file main.now table) }
+    ensures cause { (words : List (List ℕ)) → NamesDefinition words name.now main.now → IfErr result (λ trouble. IsCause (H.names shelf.old) words (Rose (H.fault_count shelf.old) (H.fault_count shelf.new)) (ending_of trouble)) }
     ensures kept { H.names shelf.new ≡ H.names shelf.old }
     ensures never_falls { H.fault_count shelf.old ≤ H.fault_count shelf.new }
 {
-    let name = command.definition;
     match shelf.load(alloc, name) {
-        Ok(Some(bytes)) => table_of(alloc, name, &bytes, command.module_name),
+        Ok(Some(bytes)) => table_of(alloc, name, &bytes, main),
         Ok(None) => Err(no_file(alloc, name)),
         Err(LoadFault::TooLong) => Err(file_trouble(alloc, name, FileFault::TooLong)),
         Err(LoadFault::Failed) => Err(Trouble::Outside),

@@ -5,10 +5,16 @@ mod answer;
 mod answer_execute;
 mod answer_implies;
 mod asked;
+mod claims;
 mod command;
 mod definition;
 mod failure;
+mod local;
+mod output;
 mod program;
+#[cfg(test)]
+mod prove_tests;
+mod prover;
 #[cfg(test)]
 mod tests;
 mod trouble;

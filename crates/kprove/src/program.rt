@@ -1,17 +1,21 @@
-ghost use Rattle.std.specs.Prelude.{◌≡◌, ◌≢◌, ◌≤◌, ◌↔◌, ◌⊎◌, ℕ, IfErr, IfOk, IfSome, IsErrOf, List, OnErr, OnOk, map, string_bytes};
+ghost use Rattle.std.specs.Prelude.{◌≡◌, ◌≤◌, ◌↔◌, ◌⊎◌, ℕ, IfErr, IfOk, IfSome, IsErrOf, List, OnErr, OnOk, map, string_bytes};
 ghost use Rattle.std.specs.Io.KnownBytes.{Appends};
 ghost use Rattle.kp_io.specs.Outside.{Rose};
-ghost use Rattle.kprove.specs.Ends.{AnswersInput, IsReplyToRead, IsSettingOf, written};
-ghost use Rattle.kprove.specs.Right.{GainsFront, Serves, ServesWords, Setting};
-ghost use Rattle.kprove.specs.Statuses.{IsCause, IsEnded, IsServable, status_of};
+ghost use Rattle.kprove.specs.Commands.{IsCommand};
+ghost use Rattle.kprove.specs.Does.{BeginsWords, DoesWords};
+ghost use Rattle.kprove.specs.Ends.{AnswersInput, IsReplyToRead, IsSettingOf};
+ghost use Rattle.kprove.specs.Right.{GainsFront, Serves, Setting};
+ghost use Rattle.kprove.specs.Statuses.{IsCause, IsEnded, IsPossible, status_of};
 ghost use Rattle.kprove.specs.Troubles.{IsLate, ending_of};
-ghost use Rattle.kprove.specs.Words.{SpellsStdio, SpellsSome};
+ghost use Rattle.kprove.specs.Words.{NamesDefinition, ProveWords, SpellsProve, SpellsSome};
 
 use crate::answer::answer;
-use crate::command::{Stdio, command_of};
+use crate::command::{Command, Stdio, command_of};
 use crate::definition::load_table;
+use crate::output::put_reply;
+use crate::prover::prove_file;
 use crate::trouble::{Trouble, ended, told};
-use kp_io::{LoadFault, OutsideFault, Shelf, Sink, Source, put_all, read_all};
+use kp_io::{LoadFault, Shelf, Sink, Source, read_all};
 use kp_modules::Table;
 use kp_rpc::{Id, Refusal, refusal_text};
 use std::alloc::Global;
@@ -19,9 +23,10 @@ use std::alloc::Global;
 /// The most bytes of a frame.
 const FRAME_LIMIT: usize = 4_194_304;
 
-/// Does all that the program does, and answers its status: 0 where the input was served, 3 where the words spell no
+/// Does all that the program does, and answers its status: 0 where the input was served, or where each claim passed, 1
+/// where a claim failed, 2 where none failed and some are pending or refused, 3 where the words spell no
 /// command, 4 where a file has a fault, 5 where a file isn't there, 6 where a count of faults of the shelf, the input
-/// or the output rose, 7 where memory ran out. At another status than 0 `err` gets a line that says why.
+/// or the output rose, 7 where memory ran out. From status 3 on `err` gets a line that says why.
 pub fn run<H: Shelf, I: Source, O: Sink, E: Sink>(
     alloc: Global,
     words: &[String],
@@ -30,22 +35,52 @@ pub fn run<H: Shelf, I: Source, O: Sink, E: Sink>(
     out: &mut O,
     err: &mut E,
 ) -> u8
-    ensures served { result ≡ 0 → ServesWords (H.names shelf.old) (I.left input.old) (Appends (O.held out.old) (O.held out.new)) (map string_bytes words.now) }
-    ensures ended { result ≢ 0 → IsEnded (H.names shelf.old) (map string_bytes words.now) (Rose (H.fault_count shelf.old) (H.fault_count shelf.new) ⊎ (Rose (I.fault_count input.old) (I.fault_count input.new) ⊎ Rose (O.fault_count out.old) (O.fault_count out.new))) (E.held err.old) (E.held err.new) (Rose (E.fault_count err.old) (E.fault_count err.new)) result }
+    // what the command says
+    ensures done { result ≤ 2 → DoesWords (H.names shelf.old) (I.left input.old) (Appends (O.held out.old) (O.held out.new)) (map string_bytes words.now) result }
+    // why it is another status, and what standard error got
+    ensures ended { 3 ≤ result → IsEnded (H.names shelf.old) (map string_bytes words.now) (Rose (H.fault_count shelf.old) (H.fault_count shelf.new) ⊎ (Rose (I.fault_count input.old) (I.fault_count input.new) ⊎ Rose (O.fault_count out.old) (O.fault_count out.new))) (E.held err.old) (E.held err.new) (Rose (E.fault_count err.old) (E.fault_count err.new)) result }
     ensures usage { (result ≡ 3) ↔ ¬ SpellsSome (map string_bytes words.now) }
-    ensures complete { IfSome (H.names shelf.old) (λ held. IsServable (map string_bytes words.now) held → ¬ (Rose (H.fault_count shelf.old) (H.fault_count shelf.new) ⊎ (Rose (I.fault_count input.old) (I.fault_count input.new) ⊎ Rose (O.fault_count out.old) (O.fault_count out.new))) → (result ≡ 0) ⊎ (result ≡ 7)) }
-    ensures untold { result ≡ 0 → E.held err.new ≡ E.held err.old }
+    ensures complete { IfSome (H.names shelf.old) (λ held. IsPossible (map string_bytes words.now) held → ¬ (Rose (H.fault_count shelf.old) (H.fault_count shelf.new) ⊎ (Rose (I.fault_count input.old) (I.fault_count input.new) ⊎ Rose (O.fault_count out.old) (O.fault_count out.new))) → (result ≤ 2) ⊎ (result ≡ 7)) }
+    ensures untold { result ≤ 2 → E.held err.new ≡ E.held err.old }
     ensures untouched { 3 ≤ result → result ≤ 5 → (I.left input.new ≡ I.left input.old) × (O.held out.new ≡ O.held out.old) }
-    ensures front { result ≢ 0 → (O.held out.new ≡ O.held out.old) ⊎ ServesWords (H.names shelf.old) (I.left input.old) (GainsFront (O.held out.old) (O.held out.new)) (map string_bytes words.now) }
+    ensures unread { (c : ProveWords) → SpellsProve (map string_bytes words.now) c → I.left input.new ≡ I.left input.old }
+    ensures front { 3 ≤ result → (O.held out.new ≡ O.held out.old) ⊎ BeginsWords (H.names shelf.old) (I.left input.old) (GainsFront (O.held out.old) (O.held out.new)) (map string_bytes words.now) }
     ensures files_kept { H.names shelf.new ≡ H.names shelf.old }
     ensures counts { (H.fault_count shelf.old ≤ H.fault_count shelf.new) × (I.fault_count input.old ≤ I.fault_count input.new) × (O.fault_count out.old ≤ O.fault_count out.new) × (E.fault_count err.old ≤ E.fault_count err.new) }
 {
     match command_of(words) {
         None => told(err, "kprove: usage\n", 3),
-        Some(command) => match serve_frame(alloc, &command, shelf, input, out) {
-            Ok(()) => 0,
+        Some(command) => match obey(alloc, &command, shelf, input, out) {
+            Ok(status) => status,
             Err(trouble) => ended(alloc, err, &trouble),
         },
+    }
+}
+
+/// Does what a command says.
+fn obey<H: Shelf, I: Source, O: Sink>(
+    alloc: Global,
+    command: &Command,
+    shelf: &mut H,
+    input: &mut I,
+    out: &mut O,
+) -> Result<u8, Trouble>
+    ensures done { (words : List (List ℕ)) → IsCommand words command.now → IfOk result (λ status. (status ≤ 2) × DoesWords (H.names shelf.old) (I.left input.old) (Appends (O.held out.old) (O.held out.new)) words status) }
+    ensures cause { (words : List (List ℕ)) → IsCommand words command.now → IfErr result (λ trouble. IsCause (H.names shelf.old) words (Rose (H.fault_count shelf.old) (H.fault_count shelf.new) ⊎ (Rose (I.fault_count input.old) (I.fault_count input.new) ⊎ Rose (O.fault_count out.old) (O.fault_count out.new))) (ending_of trouble)) }
+    ensures untouched { IfErr result (λ trouble. status_of (ending_of trouble) ≤ 5 → (I.left input.new ≡ I.left input.old) × (O.held out.new ≡ O.held out.old)) }
+    ensures unread { (words : List (List ℕ)) (c : ProveWords) → IsCommand words command.now → SpellsProve words c → I.left input.new ≡ I.left input.old }
+    ensures front { (words : List (List ℕ)) → IsCommand words command.now → OnErr result ((O.held out.new ≡ O.held out.old) ⊎ BeginsWords (H.names shelf.old) (I.left input.old) (GainsFront (O.held out.old) (O.held out.new)) words) }
+    ensures files_kept { H.names shelf.new ≡ H.names shelf.old }
+    ensures shelf_count { H.fault_count shelf.old ≤ H.fault_count shelf.new }
+    ensures input_count { I.fault_count input.old ≤ I.fault_count input.new }
+    ensures out_count { O.fault_count out.old ≤ O.fault_count out.new }
+{
+    match command {
+        Command::Stdio(stdio) => match serve_frame(alloc, stdio, shelf, input, out) {
+            Ok(()) => Ok(0),
+            Err(trouble) => Err(trouble),
+        },
+        Command::Prove(prove) => prove_file(alloc, prove, shelf, out),
     }
 }
 
@@ -58,7 +93,7 @@ fn serve_frame<H: Shelf, I: Source, O: Sink>(
     out: &mut O,
 ) -> Result<(), Trouble>
     ensures served { OnOk result (Serves (H.names shelf.old) (I.left input.old) (Appends (O.held out.old) (O.held out.new)) command.now.definition.now command.now.module_name.now) }
-    ensures cause { (words : List (List ℕ)) → SpellsStdio words command.now.definition.now command.now.module_name.now → IfErr result (λ trouble. IsCause (H.names shelf.old) words (Rose (H.fault_count shelf.old) (H.fault_count shelf.new) ⊎ (Rose (I.fault_count input.old) (I.fault_count input.new) ⊎ Rose (O.fault_count out.old) (O.fault_count out.new))) (ending_of trouble)) }
+    ensures cause { (words : List (List ℕ)) → NamesDefinition words command.now.definition.now command.now.module_name.now → IfErr result (λ trouble. IsCause (H.names shelf.old) words (Rose (H.fault_count shelf.old) (H.fault_count shelf.new) ⊎ (Rose (I.fault_count input.old) (I.fault_count input.new) ⊎ Rose (O.fault_count out.old) (O.fault_count out.new))) (ending_of trouble)) }
     ensures untouched { IfErr result (λ trouble. status_of (ending_of trouble) ≤ 5 → (I.left input.new ≡ I.left input.old) × (O.held out.new ≡ O.held out.old)) }
     ensures front { OnErr result ((O.held out.new ≡ O.held out.old) ⊎ Serves (H.names shelf.old) (I.left input.old) (GainsFront (O.held out.old) (O.held out.new)) command.now.definition.now command.now.module_name.now) }
     ensures files_kept { H.names shelf.new ≡ H.names shelf.old }
@@ -66,7 +101,7 @@ fn serve_frame<H: Shelf, I: Source, O: Sink>(
     ensures input_count { I.fault_count input.old ≤ I.fault_count input.new }
     ensures out_count { O.fault_count out.old ≤ O.fault_count out.new }
 {
-    match load_table(alloc, shelf, command) {
+    match load_table(alloc, shelf, command.definition, command.module_name) {
         Ok(table) => serve_table(alloc, &table, input, out),
         Err(trouble) => Err(trouble),
     }
@@ -104,32 +139,5 @@ fn reply_to(
         Err(LoadFault::TooLong) => Ok(Some(refusal_text(alloc, &Id::Null, Refusal::ParseError)?)),
         Err(LoadFault::Failed) => Err(Trouble::Outside),
         Err(LoadFault::Memory) => Err(Trouble::Memory),
-    }
-}
-
-/// Writes a reply, where there is one.
-fn put_reply<O: Sink>(out: &mut O, reply: &Option<Vec<u8>>) -> Result<(), Trouble>
-    ensures gained { OnOk result (Appends (O.held out.old) (O.held out.new) (written reply.now)) }
-    ensures front { OnErr result (GainsFront (O.held out.old) (O.held out.new) (written reply.now)) }
-    ensures late { IfErr result (IsLate (Rose (O.fault_count out.old) (O.fault_count out.new))) }
-    ensures count { O.fault_count out.old ≤ O.fault_count out.new }
-{
-    match reply {
-        Some(line) => put_line(out, line),
-        None => Ok(()),
-    }
-}
-
-/// Writes a line.
-fn put_line<O: Sink>(out: &mut O, line: &[u8]) -> Result<(), Trouble>
-    ensures gained { OnOk result (Appends (O.held out.old) (O.held out.new) line.now) }
-    ensures front { OnErr result (GainsFront (O.held out.old) (O.held out.new) line.now) }
-    ensures late { IfErr result (IsLate (Rose (O.fault_count out.old) (O.fault_count out.new))) }
-    ensures count { O.fault_count out.old ≤ O.fault_count out.new }
-{
-    match put_all(out, line) {
-        Ok(()) => Ok(()),
-        Err(OutsideFault::Failed) => Err(Trouble::Outside),
-        Err(OutsideFault::Memory) => Err(Trouble::Memory),
     }
 }

@@ -1,14 +1,17 @@
 ghost use Rattle.std.specs.Prelude.{◌≡◌, ◌≤◌, ◌++◌, codes, ℕ, IfErr, IfOk, List, length, string_bytes};
 ghost use Rattle.std.specs.Fmt.{decimal};
 ghost use Rattle.kp_io.specs.Outside.{Rose, load_limit};
+ghost use Rattle.kp_claims.specs.Faults.{IsErrorOf as AreErrorOf};
+ghost use Rattle.kp_kore.specs.Signature.{KoreSignature};
 ghost use Rattle.kp_kore.specs.Syntax.{KoreDefinition};
 ghost use Rattle.kp_modules.specs.Faults.{TellsFirst};
 ghost use Rattle.kp_text.specs.Errors.{IsErrorOf};
 ghost use Rattle.kp_text.specs.Spelling.{IsDefinitionText, SpellsDefinition};
-ghost use Rattle.kprove.specs.Faults.{IsFileFault};
+ghost use Rattle.kprove.specs.Faults.{IsClaimsFault, IsFileFault};
 ghost use Rattle.kprove.specs.Statuses.{Tells, faulty, line_of, memory, no_file};
-ghost use Rattle.kprove.specs.Troubles.{EndsAs, IsAbsent, IsFaulty, ending_of, file_fault_view};
+ghost use Rattle.kprove.specs.Troubles.{AreFaulty, EndsAs, IsAbsent, IsFaulty, ending_of, file_fault_view};
 
+use kp_claims::{ClaimError, ClaimFault};
 use kp_io::{Sink, put_all};
 use kp_modules::{LoadError, ModuleFault};
 use kp_text::{ReadError, TextFault};
@@ -20,9 +23,10 @@ pub enum FileFault {
     TooLong,
     Text(TextFault),
     Module(ModuleFault),
+    Claim(ClaimFault),
 }
 
-/// Why the program ends, with a command, otherwise than by serving its input.
+/// Why the program ends, with a command, otherwise than by doing what it says.
 #[derive(Drop)]
 pub enum Trouble {
     /// A file has a fault.
@@ -90,11 +94,16 @@ fn fault_line(alloc: Global, name: &str, fault: &FileFault) -> Result<String, Al
     match fault {
         FileFault::TooLong => format!(in alloc; "kprove: {name}: too long\n"),
         FileFault::Text(fault) => text_line(alloc, name, fault.kind.number(), fault.at),
-        FileFault::Module(fault) => {
-            let code = fault.code();
-            format!(in alloc; "kprove: {name}: {code}\n")
-        }
+        FileFault::Module(fault) => code_line(alloc, name, fault.code()),
+        FileFault::Claim(fault) => code_line(alloc, name, fault.code()),
     }
+}
+
+/// `kprove: NAME: CODE`.
+fn code_line(alloc: Global, name: &str, code: &str) -> Result<String, AllocError>
+    ensures { IfOk result (λ line. string_bytes line ≡ codes "kprove: " ++ name.now ++ codes ": " ++ code.now ++ codes "\n") }
+{
+    format!(in alloc; "kprove: {name}: {code}\n")
 }
 
 /// `kprove: NAME: text KIND at OFFSET`.
@@ -113,7 +122,8 @@ fn no_file_line(alloc: Global, name: &str) -> Result<String, AllocError>
 
 /// A fault of a file.
 pub fn file_trouble(alloc: Global, name: &str, fault: FileFault) -> Trouble
-    ensures { (file main : List ℕ) → IsFileFault file main (file_fault_view fault) → IsFaulty file name.now main result }
+    ensures definition { (file main : List ℕ) → IsFileFault file main (file_fault_view fault) → IsFaulty file name.now main result }
+    ensures claims { (g : KoreSignature) (file : List ℕ) → IsClaimsFault g file (file_fault_view fault) → AreFaulty g file name.now result }
 {
     match String::from_str(alloc, name) {
         Ok(name) => Trouble::File { name, fault },
@@ -148,5 +158,16 @@ pub fn module_trouble(alloc: Global, name: &str, error: LoadError) -> Trouble
     match error {
         LoadError::Memory => Trouble::Memory,
         LoadError::Fault(fault) => file_trouble(alloc, name, FileFault::Module(fault)),
+    }
+}
+
+/// Why no claims were read of a file.
+pub fn claim_trouble(alloc: Global, name: &str, error: ClaimError) -> Trouble
+    ensures { (g : KoreSignature) (file : List ℕ) → length file ≤ load_limit → AreErrorOf g file error → AreFaulty g file name.now result }
+{
+    match error {
+        ClaimError::Memory => Trouble::Memory,
+        ClaimError::Text(fault) => file_trouble(alloc, name, FileFault::Text(fault)),
+        ClaimError::Fault(fault) => file_trouble(alloc, name, FileFault::Claim(fault)),
     }
 }

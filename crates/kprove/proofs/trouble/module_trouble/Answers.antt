@@ -4,4 +4,4 @@ use Rattle.kprove.proofs.trouble.module_trouble.Goals as goal
 
 pub returns-in-Fault : goal.returns-in-Fault
 returns-in-Fault c = λ file main d fits spells tells.
-    c.file_trouble.ensures file main (fits, d, spells, tells (told_fault c.in-Fault.fault) (ap fault_view c.in-Fault.is))
+    c.file_trouble.ensures.definition file main (fits, d, spells, tells (told_fault c.in-Fault.fault) (ap fault_view c.in-Fault.is))

@@ -1,0 +1,12 @@
+-- What a link in the same process tells.
+-- Source: this project.
+use Rattle.std.specs.Prelude.{None}
+use Rattle.kp_modules.specs.declared.table.Table.{Table}
+use Rattle.kp_client.specs.Links.{LinkState}
+use Rattle.kprove.specs.Ends.{IsSettingOf}
+use Rattle.kprove.specs.Proofs.{IsRepliedBy}
+use Rattle.kprove.specs.Right.{Setting}
+
+-- each exchange is that of a server of each setting that the table is of; the exchanges aren't told, and none fails
+abbrev pub state_over : Table → LinkState
+state_over table = record { meets = λ e. (s : Setting) → IsSettingOf s table → IsRepliedBy s e; exchanges = None; faults = 0 }
