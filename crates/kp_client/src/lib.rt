@@ -8,7 +8,7 @@ mod ending;
 mod hear;
 mod link;
 mod outcome;
-pub mod prove;
+pub mod proving;
 pub mod report;
 mod round;
 mod script;
@@ -16,6 +16,6 @@ mod steps;
 
 pub use link::{Link, LinkError};
 pub use outcome::{Outcome, ProveFault, ProveOptions};
-pub use prove::prove_claim;
+pub use proving::{prove, prove_claim};
 pub use report::{Line, report_text};
 pub use script::{ScriptLink, Spoken};

@@ -1,7 +1,6 @@
 use kp_claims::ClaimItem;
-use kp_client::prove::prove;
 use kp_client::{
-    Line, Link, Outcome, ProveFault, ProveOptions, ScriptLink, prove_claim, report_text,
+    Line, Link, Outcome, ProveFault, ProveOptions, ScriptLink, prove, prove_claim, report_text,
 };
 use kp_graph::{NodeId, Status, Why};
 use kp_kore::{Pattern, Sort};

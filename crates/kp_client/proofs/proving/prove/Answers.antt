@@ -9,7 +9,7 @@ use Rattle.kp_client.specs.Rounds.{passed, failed_at}
 use Rattle.kp_client.specs.Sound.{AreReadBack, IsGround, IsStuckAt}
 use Rattle.kp_client.specs.View.{outcome_view}
 use Rattle.kp_client.proofs.Places.{claim_at}
-use Rattle.kp_client.proofs.prove.prove.Goals as goal
+use Rattle.kp_client.proofs.proving.prove.Goals as goal
 
 pub returns-clause-says : goal.returns-clause-says
 returns-clause-says g c i t at serves closed back =

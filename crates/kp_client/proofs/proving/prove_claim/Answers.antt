@@ -1,7 +1,7 @@
 use Rattle.std.proofs.Common.{◌<◌, ◌^◌, rules}
 use Rattle.kp_client.proofs.Trees.{from_proves, passed_proves}
 use Rattle.kp_client.proofs.Said.{proof_says, proof_holds, proof_fails}
-use Rattle.kp_client.proofs.prove.prove_claim.Goals as goal
+use Rattle.kp_client.proofs.proving.prove_claim.Goals as goal
 
 pub returns-clause-shape : goal.returns-clause-shape
 returns-clause-shape g c = let r = c.in_ok-play_rounds.ensures.proved in (from_proves _ _ r.exchanges _ _ r.proves).shape

@@ -5,7 +5,7 @@ use Rattle.kp_client.specs.Answers.{PlaysRound}
 use Rattle.kp_client.specs.Rounds.{most_rounds}
 use Rattle.kp_client.specs.View.{outcome_view, round_end}
 use Rattle.kp_client.proofs.Playing.{played_none, played_more, proved_in_round, settled_end, after_end, none_told, open_told}
-use Rattle.kp_client.proofs.prove.play_rounds.Goals as goal
+use Rattle.kp_client.proofs.proving.play_rounds.Goals as goal
 
 pub loop-round-init : goal.loop-round-init
 loop-round-init g c = played_none (g.L.Link.told c.args.link.now) (claim_view c.args.claim.now) c.args.max_depth (tree_view c.in_ok-tree.tree) c.in_ok-tree.ensures
