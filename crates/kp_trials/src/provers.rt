@@ -50,22 +50,6 @@ fn ran(alloc: Global, depth: u64, reason: &Reason, name: &str) -> Result<Vec<u8>
     Ok(result_text(alloc, &Id::Unsigned(2), depth, reason, &term)?.ok_or("no tree")?)
 }
 
-fn error(alloc: Global, text: &str) -> Result<Vec<u8>, Fail> {
-    Ok(text.as_bytes().to_vec(alloc)?)
-}
-
-/// The line of the claim's report over a script.
-fn line_over(alloc: Global, script: Vec<Vec<u8>>) -> Result<Vec<u8>, Fail> {
-    let mut link = ScriptLink::new(alloc, script);
-    let (outcome, _tree) = prove_claim(alloc, &mut link, &claim(alloc)?, &ProveOptions::default())?;
-    let mut lines = Vec::new(alloc);
-    lines.push(Line {
-        label: String::from_str(alloc, "L")?,
-        result: outcome,
-    })?;
-    Ok(report_text(alloc, &lines)?)
-}
-
 #[test]
 fn two_edges_and_a_cover_pass(rt: HostRuntime) -> Result<(), Fail> {
     let alloc = rt.alloc();
@@ -128,72 +112,6 @@ fn the_claim_at_a_place_is_proved(rt: HostRuntime) -> Result<(), Fail> {
 }
 
 #[test]
-fn a_stuck_node_fails(rt: HostRuntime) -> Result<(), Fail> {
-    let alloc = rt.alloc();
-    let mut script = Vec::new(alloc);
-    script.push(uncovered(alloc)?)?;
-    script.push(ran(alloc, 0, &Reason::Stuck, "start")?)?;
-    assert_eq!(rt;
-        line_over(alloc, script)?.as_slice(),
-        b"failed L node 1\n".as_slice()
-    );
-    Ok(())
-}
-
-#[test]
-fn held_nodes_are_pending(rt: HostRuntime) -> Result<(), Fail> {
-    let alloc = rt.alloc();
-    let mut script = Vec::new(alloc);
-    let undecided =
-        "{\"error\":{\"code\":5,\"message\":\"Implication check error\"},\"id\":1,\"jsonrpc\":\"2.0\"}\n";
-    script.push(error(alloc, undecided)?)?;
-    assert_eq!(rt;
-        line_over(alloc, script)?.as_slice(),
-        b"pending L node 1 undecided\n".as_slice()
-    );
-    let mut script = Vec::new(alloc);
-    script.push(uncovered(alloc)?)?;
-    let reason = Reason::AbortedByRule {
-        id: String::from_str(alloc, "R")?,
-    };
-    script.push(ran(alloc, 0, &reason, "start")?)?;
-    assert_eq!(rt;
-        line_over(alloc, script)?.as_slice(),
-        b"pending L node 1 foreign R\n".as_slice()
-    );
-    let mut script = Vec::new(alloc);
-    script.push(uncovered(alloc)?)?;
-    script.push(ran(alloc, 0, &Reason::DepthBound, "start")?)?;
-    assert_eq!(rt;
-        line_over(alloc, script)?.as_slice(),
-        b"pending L node 1 bound\n".as_slice()
-    );
-    Ok(())
-}
-
-#[test]
-fn a_refused_question_ends_the_proof(rt: HostRuntime) -> Result<(), Fail> {
-    let alloc = rt.alloc();
-    let mut script = Vec::new(alloc);
-    script.push(error(
-        alloc,
-        "{\"error\":{\"code\":2,\"message\":\"Could not verify pattern\"},\"id\":1,\"jsonrpc\":\"2.0\"}\n",
-    )?)?;
-    assert_eq!(rt;
-        line_over(alloc, script)?.as_slice(),
-        b"refused L code 2\n".as_slice()
-    );
-    let mut script = Vec::new(alloc);
-    script.push(uncovered(alloc)?)?;
-    script.push(error(alloc, "no reply\n")?)?;
-    assert_eq!(rt;
-        line_over(alloc, script)?.as_slice(),
-        b"refused L code -32700\n".as_slice()
-    );
-    Ok(())
-}
-
-#[test]
 fn a_link_that_fails_breaks_the_proof_off(rt: HostRuntime) -> Result<(), Fail> {
     let alloc = rt.alloc();
     let mut script = Vec::new(alloc);
@@ -202,32 +120,6 @@ fn a_link_that_fails_breaks_the_proof_off(rt: HostRuntime) -> Result<(), Fail> {
     let broken = prove_claim(alloc, &mut link, &claim(alloc)?, &ProveOptions::default());
     assert!(rt; matches!(broken, Err(ProveFault::LinkFault)));
     assert_eq!(rt; link.faults(), 1);
-    Ok(())
-}
-
-#[test]
-fn a_thousand_rounds_are_the_most(rt: HostRuntime) -> Result<(), Fail> {
-    let alloc = rt.alloc();
-    let mut script = Vec::new(alloc);
-    let no = uncovered(alloc)?;
-    let on = ran(alloc, 1, &Reason::DepthBound, "start")?;
-    for _round in 0..1000 {
-        script.push(no.to_vec(alloc)?)?;
-        script.push(on.to_vec(alloc)?)?;
-    }
-    let mut link = ScriptLink::new(alloc, script);
-    let (outcome, tree) = prove_claim(alloc, &mut link, &claim(alloc)?, &ProveOptions::default())?;
-    assert!(rt;
-        matches!(
-            outcome,
-            Outcome::Pending {
-                node: NodeId { number: 1001 },
-                why: Why::Rounds,
-            }
-        )
-    );
-    assert_eq!(rt; tree.len(), 1001);
-    assert_eq!(rt; link.spoken().len(), 2000);
     Ok(())
 }
 
