@@ -8,14 +8,23 @@ use Rattle.kp_semantics.specs.Claims.{ReachabilityClaim}
 use Rattle.kp_semantics.specs.Arcs.{EdgeSays, CoverSays, StuckSays}
 use Rattle.kp_semantics.specs.Replies as replies
 use Rattle.kp_semantics.specs.Replies.{After, IsAfter, IsRightReason, IsRightExecuted, variables_beyond, HasInstance}
-use Rattle.kp_rpc.specs.Request.{ExecuteRequest, ImpliesRequest}
+use Rattle.serde_json.specs.Data.{unsigned, negative, float}
+use Rattle.kp_rpc.specs.Request.{RequestId, id_text, id_number, id_null, ExecuteRequest, ImpliesRequest}
 use Rattle.kp_rpc.specs.Questions.{IsReadBack}
 use Rattle.kp_rpc.specs.Reply.{ExecuteResult, ImpliesResult, IsStatePattern, not_valid, valid}
-use Rattle.kp_rpc.specs.Replied.{execute, implies, executed, implied}
+use Rattle.kp_rpc.specs.Replied.{execute, implies, executed, implied, IsReadId}
 use Rattle.kp_rpc.specs.Implications.{DoesImply, IsMainAsked, IsRightImplied}
 use Rattle.kp_client.specs.Links.{Exchange, ToldTheory, IsRightExchange, IsRightRun, AsksForRun, AsksForImplication}
-use Rattle.kp_client.specs.Rounds.{cover_question, step_question, Tells}
+use Rattle.kp_client.specs.Rounds.{IsGivenId, cover_question, step_question, Tells}
 use Rattle.kp_rpc.proofs.QuestionsRead.{execute_read, implies_read}
+
+-- the id of a question is one that is read
+given_read : (i : RequestId) → IsGivenId i → IsReadId i
+given_read (id_text t) h = absurd h
+given_read (id_number (unsigned n)) h = h
+given_read (id_number (negative z)) h = absurd h
+given_read (id_number (float x)) h = absurd h
+given_read id_null h = absurd h
 
 -- ---- covers
 
@@ -40,7 +49,7 @@ implied_is_right : (t : ToldTheory) (claim : ReachabilityClaim) (s : KorePattern
 implied_is_right t claim s e x back back' right tells =
     let q : ImpliesRequest = record { id = tells.number; antecedent = s; consequent = claim.right; module_name = None } in
     let a : AsksForImplication t e.frame x = right.implies_so x tells.told in
-    let same : a.request ≡ q = implies_read q a.request tells.asked.0 a.members e.frame (tells.lawful, back, back') tells.asked.1 tells.asked.2 a.is_frame a.is_request in
+    let same : a.request ≡ q = implies_read q a.request tells.asked.0 a.members e.frame (given_read tells.number tells.lawful, back, back') tells.asked.1 tells.asked.2 a.is_frame a.is_request in
     subst (λ (r : ImpliesRequest). IsMainAsked t.main r.module_name → IsRightImplied t.theory.signature r.antecedent r.consequent x) same a.right tt
 
 pub cover_is_right : (t : ToldTheory) (claim : ReachabilityClaim) (s : KorePattern) (e : Exchange) (p q : KorePattern) → free_variables claim.right ≡ [] → IsReadBack s → IsReadBack claim.right → IsRightExchange t e → Tells (cover_question claim s) implies e (implied (valid p q)) → CoverSays t.theory claim s
@@ -58,7 +67,7 @@ run_is_right : (t : ToldTheory) (depth : ℕ) (s beyond : KorePattern) (e : Exch
 run_is_right t depth s beyond e x fits back right tells is =
     let q : ExecuteRequest = record { id = tells.number; state = s; options = record { max_depth = Some depth; module_name = None; cut_points = []; terminals = [] } } in
     let a : AsksForRun t e.frame x = right.executes x tells.told in
-    let same : a.request ≡ q = execute_read q a.request tells.asked.0 a.members e.frame (tells.lawful, fits, back) tells.asked.1 tells.asked.2 a.is_frame a.is_request in
+    let same : a.request ≡ q = execute_read q a.request tells.asked.0 a.members e.frame (given_read tells.number tells.lawful, fits, back) tells.asked.1 tells.asked.2 a.is_frame a.is_request in
     let run : IsRightRun t.theory q x = subst (λ (r : ExecuteRequest). IsMainAsked t.main r.options.module_name → IsRightRun t.theory r x) same a.right tt in
     (_, run beyond is)
 

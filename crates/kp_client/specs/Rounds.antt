@@ -1,16 +1,17 @@
 -- The rounds of a proof: what is asked of each node, and what the replies make of it.
 -- Source: pyk's APRProver (the cover is asked first, then the next steps; pending, stuck, covered nodes); the K Haskell
 -- backend's JSON-RPC documentation (execute, implies).
-use Rattle.std.specs.Prelude.{◌≡◌, ◌≢◌, ◌<◌, ◌≤◌, ℕ, suc, ℤ, pos, negsuc, List, [], ◌∷◌, ◌++◌, length, Option, Some, None, slice_get, false}
+use Rattle.std.specs.Prelude.{◌≡◌, ◌≢◌, ◌<◌, ◌≤◌, ◌^◌, ℕ, suc, ℤ, pos, negsuc, List, [], ◌∷◌, ◌++◌, length, Option, Some, None, slice_get, false}
 use Rattle.kp_kore.specs.Syntax.{KorePattern}
 use Rattle.kp_semantics.specs.Claims.{ReachabilityClaim}
 use Rattle.kp_semantics.specs.Replies as replies
 use Rattle.kp_graph.specs.Tree as graph
 use Rattle.kp_graph.specs.Tree.{ProofNode, HeldBy, node_at, open_nodes, first_nodes, with_arc, with_hold, with_edge}
-use Rattle.kp_rpc.specs.Request.{RequestId}
+use Rattle.serde_json.specs.Data.{unsigned}
+use Rattle.kp_rpc.specs.Request.{RequestId, id_number}
 use Rattle.kp_rpc.specs.Questions.{Question, to_execute, to_imply, question_tree}
 use Rattle.kp_rpc.specs.Reply.{ExecuteResult, not_valid, valid, IsStatePattern}
-use Rattle.kp_rpc.specs.Replied.{Method, execute, implies, ServerReply, executed, implied, failed, IsReplyOf, IsReadId}
+use Rattle.kp_rpc.specs.Replied.{Method, execute, implies, ServerReply, executed, implied, failed, IsReplyOf}
 use Rattle.kp_client.specs.Links.{Exchange, IsTextOf}
 
 -- ---- questions and their replies
@@ -23,16 +24,22 @@ cover_question claim s i = to_imply (record { id = i; antecedent = s; consequent
 abbrev pub step_question : ℕ → KorePattern → RequestId → Question
 step_question depth s i = to_execute (record { id = i; state = s; options = record { max_depth = Some depth; module_name = None; cut_points = []; terminals = [] } })
 
--- the question is asked under some id that can be read, and the reply tells this
+-- a number of 64 bits: such are the ids of the prover's questions
+abbrev pub IsGivenId : RequestId → Type 0
+IsGivenId (id_number (unsigned n)) = n < 2 ^ 64
+IsGivenId _ = ⊥
+
+-- the question is asked under such an id, and the reply tells this
 pub record Tells (question : RequestId → Question) (method : Method) (e : Exchange) (r : ServerReply) : Type 0 where
   pub number : RequestId
-  pub lawful : IsReadId number
+  pub lawful : IsGivenId number
   pub asked : IsTextOf (question number) e.frame
   pub told : IsReplyOf method e.reply r
 
 -- it is asked, and the reply is none to the method
 pub record TellsNothing (question : RequestId → Question) (method : Method) (e : Exchange) : Type 0 where
   pub number : RequestId
+  pub lawful : IsGivenId number
   pub asked : IsTextOf (question number) e.frame
   pub none : (r : ServerReply) → ¬ IsReplyOf method e.reply r
 

@@ -4,13 +4,13 @@ ghost use Rattle.kp_kore.specs.Syntax.{KorePattern};
 ghost use Rattle.kp_kore.specs.View.{view};
 ghost use Rattle.kp_semantics.specs.Claims.{ReachabilityClaim};
 ghost use Rattle.kp_semantics.specs.ClaimView.{claim_view};
-ghost use Rattle.kp_rpc.specs.Replied.{implies, failed, IsReadId};
+ghost use Rattle.kp_rpc.specs.Replied.{implies, failed};
 ghost use Rattle.serde_json.specs.Data.{unsigned};
 ghost use Rattle.kp_rpc.specs.Request.{RequestId, id_number};
 ghost use Rattle.kp_rpc.specs.View.{question_view, reply_view};
 ghost use Rattle.kp_client.specs.Answers.{IsHeard, IsCoverAnswer};
 ghost use Rattle.kp_client.specs.Links.{Exchange, Makes};
-ghost use Rattle.kp_client.specs.Rounds.{cover_question, Tells};
+ghost use Rattle.kp_client.specs.Rounds.{IsGivenId, cover_question, Tells};
 ghost use Rattle.kp_client.specs.declared.outcome.ProveFault.TheVariants.{LinkFault};
 
 use crate::hear::{Heard, hear};
@@ -84,7 +84,7 @@ fn told_cover(reply: ServerReply, line: Vec<u8>) -> CoverAnswer
 
 // What a question comes to says of the cover.
 fn cover_answer_of(heard: Heard) -> CoverAnswer
-    ensures { (claim : ReachabilityClaim) (s : KorePattern) (i : RequestId) (es : List Exchange) → IsReadId i →
+    ensures { (claim : ReachabilityClaim) (s : KorePattern) (i : RequestId) (es : List Exchange) → IsGivenId i →
         IsHeard implies (cover_question claim s i) es heard → IsCoverAnswer claim s es result }
 {
     match heard {

@@ -2,14 +2,14 @@ ghost use Rattle.std.specs.Prelude.{◌≡◌, ◌∷◌, [], IfOk, IsErrOf, Lis
 ghost use Rattle.kp_io.specs.Outside.{Rose};
 ghost use Rattle.kp_kore.specs.Syntax.{KorePattern, conjunction};
 ghost use Rattle.kp_kore.specs.View.{view, sort_view, patterns_view};
-ghost use Rattle.kp_rpc.specs.Replied.{execute, executed, IsReadId};
+ghost use Rattle.kp_rpc.specs.Replied.{execute, executed};
 ghost use Rattle.kp_rpc.specs.Reply.{IsStatePattern};
 ghost use Rattle.serde_json.specs.Data.{unsigned};
 ghost use Rattle.kp_rpc.specs.Request.{RequestId, id_number};
 ghost use Rattle.kp_rpc.specs.View.{question_view, reply_view, run_view};
 ghost use Rattle.kp_client.specs.Answers.{IsHeard, IsStepAnswer};
 ghost use Rattle.kp_client.specs.Links.{Exchange, Makes};
-ghost use Rattle.kp_client.specs.Rounds.{step_question, Tells};
+ghost use Rattle.kp_client.specs.Rounds.{IsGivenId, step_question, Tells};
 ghost use Rattle.kp_client.specs.declared.outcome.ProveFault.TheVariants.{LinkFault};
 
 use crate::cover::{NO_PATTERN, PARSE_ERROR};
@@ -137,7 +137,7 @@ fn told_steps(alloc: Global, reply: ServerReply, line: Vec<u8>) -> Result<StepAn
 
 // What a question comes to says of the steps.
 fn step_answer_of(alloc: Global, heard: Heard) -> Result<StepAnswer, AllocError>
-    ensures { IfOk result (λ a. (depth : ℕ) (s : KorePattern) (i : RequestId) (es : List Exchange) → IsReadId i →
+    ensures { IfOk result (λ a. (depth : ℕ) (s : KorePattern) (i : RequestId) (es : List Exchange) → IsGivenId i →
         IsHeard execute (step_question depth s i) es heard → IsStepAnswer depth s es a) }
 {
     match heard {

@@ -16,7 +16,7 @@ returns-in-Told c claim s i es lawful h =
 pub returns-in-Nothing : goal.returns-in-Nothing
 returns-in-Nothing c claim s i es lawful h =
     let t : IsHeard implies (cover_question claim s i) es heard.Nothing = subst (IsHeard implies (cover_question claim s i) es) c.in-Nothing.is h in
-    subst (λ fs. Refuses (cover_question claim s) implies fs (negsuc 32699) × (negsuc 32699 ≢ undecided_code)) (sym t.3) (by_no_reply t.0 (record { number = i; asked = t.1; none = t.2 }), unread_is_no_five)
+    subst (λ fs. Refuses (cover_question claim s) implies fs (negsuc 32699) × (negsuc 32699 ≢ undecided_code)) (sym t.3) (by_no_reply t.0 (record { number = i; lawful = lawful; asked = t.1; none = t.2 }), unread_is_no_five)
 
 pub returns-in-Unasked : goal.returns-in-Unasked
 returns-in-Unasked c claim s i es lawful h =
