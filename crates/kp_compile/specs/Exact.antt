@@ -1,15 +1,15 @@
 -- What compiled terms, left terms and conditions have to do with their patterns.
-use Rattle.std.specs.Prelude.{◌≡◌, true, not, List}
+use Rattle.std.specs.Prelude.{◌≡◌, Bool, true, not, List}
 use Rattle.std.specs.Bool.{Decides}
-use Rattle.std.specs.List.{AllZip}
-use Rattle.kp_kore.specs.Syntax.{KoreSort, KorePattern, conjunction, no_patterns, next_pattern}
-use Rattle.kp_kore.specs.Parts.{is_term}
+use Rattle.std.specs.List.{AllZip, list_any}
+use Rattle.kp_kore.specs.Syntax.{Text, KoreSort, KorePattern, conjunction, no_patterns, next_pattern}
+use Rattle.kp_kore.specs.Parts.{is_term, SortedName, free_variables}
 use Rattle.kp_kore.specs.Signature.{KoreSignature}
 use Rattle.kp_kore.specs.View.{view}
 use Rattle.kp_kore.specs.declared.pattern.Pattern.{Pattern}
 use Rattle.kp_semantics.specs.Instance.{Valuation, instance, IsTrueUnder}
 use Rattle.kp_semantics.specs.Numbers.{computes_wide}
-use Rattle.kp_ground.specs.Terms.{term_value, left_value, stays_narrow}
+use Rattle.kp_ground.specs.Terms.{term_value, left_value, stays_narrow, is_one_of, lacks}
 use Rattle.kp_ground.specs.TermView.{term_view}
 use Rattle.kp_ground.specs.LeftView.{left_view}
 use Rattle.kp_ground.specs.Conditions.{condition_holds, condition_narrow}
@@ -26,7 +26,15 @@ IsTermOf g p t = (v : Valuation) → term_value v (term_view t) ≡ instance g v
 abbrev pub IsNarrowAs : KoreSignature → KorePattern → Term → Type 0
 IsNarrowAs g p t = (v : Valuation) → stays_narrow v (term_view t) ≡ not (computes_wide g v p)
 
--- the same of a condition
+-- some of the variables isn't among these names
+abbrev pub some_unnamed : List Text → List SortedName → Bool
+some_unnamed xs vs = list_any (λ x. not (is_one_of x.name xs)) vs
+
+-- the variables of the term are those of the pattern
+abbrev pub HasVariablesOf : KorePattern → Term → Type 0
+HasVariablesOf p t = (xs : List Text) → lacks xs (term_view t) ≡ some_unnamed xs (free_variables p)
+
+-- the numbers beyond 128 bits that the condition computes are those of the predicate's calls
 abbrev pub IsConditionNarrowAs : KoreSignature → KorePattern → Condition → Type 0
 IsConditionNarrowAs g p c = (v : Valuation) → condition_narrow v (condition_view c) ≡ not (computes_wide g v p)
 
@@ -50,6 +58,9 @@ AreConditionsOf g = AllZip (λ p c. IsConditionOf g (view p) c)
 
 abbrev pub AreTermsNarrowAs : KoreSignature → List Pattern → List Term → Type 0
 AreTermsNarrowAs g = AllZip (λ p t. IsNarrowAs g (view p) t)
+
+abbrev pub HaveVariablesOf : List Pattern → List Term → Type 0
+HaveVariablesOf = AllZip (λ p t. HasVariablesOf (view p) t)
 
 abbrev pub AreConditionsNarrowAs : KoreSignature → List Pattern → List Condition → Type 0
 AreConditionsNarrowAs g = AllZip (λ p c. IsConditionNarrowAs g (view p) c)

@@ -1,16 +1,11 @@
-use kp_kore::Name;
 use std::alloc::{AllocError, AllocFailed};
 
 /// Why a pattern isn't compiled.
-#[derive(Drop)]
+#[derive(Clone, Copy, Debug, PartialEq, Eq)]
 pub enum CompileError {
     Memory,
-    /// The first symbol without a meaning, or alias, by its name.
-    Foreign(Name),
-    /// No pattern of the form that is wanted, or an application of another number of arguments than it takes.
+    /// It isn't verified, or not of the form that is wanted, or has a foreign symbol.
     Shape,
-    /// A whole number outside signed 128 bits.
-    Number,
 }
 
 impl From<AllocError> for CompileError {

@@ -75,7 +75,7 @@ fn compile_applied(
             Ok(make_built(shared, lefts))
         }
         Meaning::Interpreted(_) => Err(CompileError::Shape),
-        Meaning::Foreign => Err(CompileError::Foreign(name.clone()?)),
+        Meaning::Foreign => Err(CompileError::Shape),
     }
 }
 

@@ -14,7 +14,6 @@ use kp_ground::Value;
 use kp_kore::{Name, Sort};
 use kp_signature::Signature;
 use std::alloc::Global;
-use std::num::IntErrorKind;
 
 /// The number that a text writes.
 fn whole_number(text: &str) -> Result<i128, CompileError>
@@ -23,10 +22,7 @@ fn whole_number(text: &str) -> Result<i128, CompileError>
 {
     match text.parse::<i128>() {
         Ok(number) => Ok(number),
-        Err(error) => match error.kind() {
-            IntErrorKind::PosOverflow | IntErrorKind::NegOverflow => Err(CompileError::Number),
-            _ => Err(CompileError::Shape),
-        },
+        Err(_) => Err(CompileError::Shape),
     }
 }
 

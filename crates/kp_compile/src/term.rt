@@ -1,14 +1,15 @@
-ghost use Rattle.std.specs.Prelude.{◌≡◌, IfOk, IfErr, map, string_bytes};
+ghost use Rattle.std.specs.Prelude.{◌≡◌, IfOk, IfErr, List, map, string_bytes};
 ghost use Rattle.std.specs.List.{AllByRecursion};
-ghost use Rattle.kp_kore.specs.Syntax.{KoreSorts, application};
+ghost use Rattle.kp_kore.specs.Syntax.{Text, KoreSorts, application};
+ghost use Rattle.kp_kore.specs.Parts.{all_free_variables};
 ghost use Rattle.kp_kore.specs.View.{view, patterns_view};
 ghost use Rattle.kp_kore.specs.Signature.{meaning_of as meaning_named};
 ghost use Rattle.kp_semantics.specs.Instance.{Valuation, applied, instances};
 ghost use Rattle.kp_ground.specs.HookView.{hook_view};
-ghost use Rattle.kp_ground.specs.Terms.{built, call, opposite, term_value};
+ghost use Rattle.kp_ground.specs.Terms.{built, call, opposite, term_value, lacks};
 ghost use Rattle.kp_ground.specs.TermView.{term_view, terms_of};
 ghost use Rattle.kp_signature.specs.View.{signature_view};
-ghost use Rattle.kp_compile.specs.Exact.{IsTermOf, AreTermsOf, IsNarrowAs, AreTermsNarrowAs};
+ghost use Rattle.kp_compile.specs.Exact.{IsTermOf, AreTermsOf, IsNarrowAs, AreTermsNarrowAs, HasVariablesOf, HaveVariablesOf, some_unnamed};
 ghost use Rattle.kp_compile.specs.Verified.{IsVerifiedTerm};
 ghost use Rattle.kp_compile.specs.declared.error.CompileError.TheVariants.{Memory};
 
@@ -64,6 +65,7 @@ fn make_opposite(alloc: Global, term: Term) -> Result<Term, AllocError>
 fn term_of(pattern: &Pattern, alloc: Global, signature: &Signature) -> Result<Term, CompileError>
     ensures meaning { IfOk result (IsTermOf (signature_view signature.now) (view pattern.now)) }
     ensures narrow { IfOk result (IsNarrowAs (signature_view signature.now) (view pattern.now)) }
+    ensures variables { IfOk result (HasVariablesOf (view pattern.now)) }
     ensures refused { IfErr result (λ e. IsVerifiedTerm (signature_view signature.now) (view pattern.now) → e ≡ Memory) }
 {
     match pattern {
@@ -92,6 +94,7 @@ fn compile_applied(
 ) -> Result<Term, CompileError>
     ensures meaning { IfOk result (λ t. (v : Valuation) → term_value v (term_view t) ≡ applied (meaning_named (signature_view signature.now) (string_bytes name.now)) (string_bytes name.now) (instances (signature_view signature.now) v (patterns_view arguments.now))) }
     ensures narrow { IfOk result (λ t. (ss : KoreSorts) → IsNarrowAs (signature_view signature.now) (application (string_bytes name.now) ss (patterns_view arguments.now)) t) }
+    ensures variables { IfOk result (λ t. (xs : List Text) → lacks xs (term_view t) ≡ some_unnamed xs (all_free_variables (patterns_view arguments.now))) }
     ensures refused { IfErr result (λ e. (ss : KoreSorts) → IsVerifiedTerm (signature_view signature.now) (application (string_bytes name.now) ss (patterns_view arguments.now)) → e ≡ Memory) }
 {
     match meaning_of(signature, name) {
@@ -119,7 +122,7 @@ fn compile_applied(
             }
             _ => Err(CompileError::Shape),
         },
-        Meaning::Foreign => Err(CompileError::Foreign(name.clone()?)),
+        Meaning::Foreign => Err(CompileError::Shape),
     }
 }
 
@@ -132,6 +135,7 @@ fn compile_each(
 ) -> Result<Vec<Term>, CompileError>
     ensures meaning { IfOk result (λ ts. AreTermsOf (signature_view signature.now) patterns.now ts.items) }
     ensures narrow { IfOk result (λ ts. AreTermsNarrowAs (signature_view signature.now) patterns.now ts.items) }
+    ensures variables { IfOk result (λ ts. HaveVariablesOf patterns.now ts.items) }
     ensures refused { IfErr result (λ e. AllByRecursion (λ p. IsVerifiedTerm (signature_view signature.now) (view p)) patterns.now → e ≡ Memory) }
 {
     let mut terms = Vec::new(alloc);
@@ -141,8 +145,8 @@ fn compile_each(
     Ok(terms)
 }
 
-/// The term that a pattern is: it has the pattern's instance under every valuation, and computes the numbers beyond 128
-/// bits that the pattern's calls compute. A verified term is refused for want of memory alone.
+/// The term that a pattern is: it has the pattern's instance under every valuation, computes the numbers beyond 128
+/// bits that the pattern's calls compute, and has its variables. A verified term is refused for want of memory alone.
 pub fn compile_term(
     alloc: Global,
     signature: &Signature,
@@ -150,6 +154,7 @@ pub fn compile_term(
 ) -> Result<Term, CompileError>
     ensures meaning { IfOk result (IsTermOf (signature_view signature.now) (view pattern.now)) }
     ensures narrow { IfOk result (IsNarrowAs (signature_view signature.now) (view pattern.now)) }
+    ensures variables { IfOk result (HasVariablesOf (view pattern.now)) }
     ensures refused { IfErr result (λ e. IsVerifiedTerm (signature_view signature.now) (view pattern.now) → e ≡ Memory) }
 {
     term_of(pattern, alloc, signature)

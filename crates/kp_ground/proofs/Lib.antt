@@ -1,3 +1,4 @@
+pub mod Bound
 pub mod ConditionLemmas
 pub mod MatchLemmas
 pub mod TermLemmas

@@ -129,10 +129,10 @@ assigned_elsewhere : (x y : Text) (u : model.Value) (v : Valuation) (b : Bool) �
 assigned_elsewhere x y u v true e h = absurd (h (sym ((bytes_eq-Decides x y).0 e)))
 assigned_elsewhere x y u v false e h = rw e refl
 
-assigned_there : (x : Text) (u : model.Value) (v : Valuation) → assigned v x u x ≡ u
+pub assigned_there : (x : Text) (u : model.Value) (v : Valuation) → assigned v x u x ≡ u
 assigned_there x u v = rw ((bytes_eq-Decides x x).1 refl) refl
 
-solved_elsewhere : (x : Text) (u : model.Value) (v : Valuation) (bs : List Binding) → AllByRecursion (λ b. string_bytes b.name ≢ x) bs → Solves v bs → Solves (assigned v x u) bs
+pub solved_elsewhere : (x : Text) (u : model.Value) (v : Valuation) (bs : List Binding) → AllByRecursion (λ b. string_bytes b.name ≢ x) bs → Solves v bs → Solves (assigned v x u) bs
 solved_elsewhere x u v [] h s = tt
 solved_elsewhere x u v (b ∷ bs) h s = (assigned_elsewhere x (string_bytes b.name) u v (bytes_eq x (string_bytes b.name)) refl h.0 ∙ s.0, solved_elsewhere x u v bs h.1 s.1)
 

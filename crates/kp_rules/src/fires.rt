@@ -1,19 +1,19 @@
 // Where a rule that is read fires.
-ghost use Rattle.std.specs.Prelude.{◌≡◌, ◌↔◌, IfOk, IfErr, IsTrue, IfSome, MatchOption, true, false};
+ghost use Rattle.std.specs.Prelude.{◌≡◌, ◌↔◌, not, string_bytes, IfOk, IfErr, IsTrue, IfSome, IfNone, MatchOption, true, false};
 ghost use Rattle.std.specs.List.{AllByRecursion};
 ghost use Rattle.kp_kore.specs.Signature.{KoreSignature};
 ghost use Rattle.kp_signature.specs.View.{signature_view};
 ghost use Rattle.kp_semantics.specs.Value as model;
 ghost use Rattle.kp_semantics.specs.Instance.{Valuation};
-ghost use Rattle.kp_ground.specs.Solves.{Solves};
+ghost use Rattle.kp_ground.specs.Solves.{Solves, bound_names};
 ghost use Rattle.kp_ground.specs.Matches.{IsSolvable};
-ghost use Rattle.kp_ground.specs.Terms.{left_value};
+ghost use Rattle.kp_ground.specs.Terms.{left_value, is_one_of};
 ghost use Rattle.kp_ground.specs.LeftView.{left_view};
 ghost use Rattle.kp_ground.specs.View.{value_view};
 ghost use Rattle.kp_ground.specs.Conditions.{condition_narrow};
 ghost use Rattle.kp_ground.specs.ConditionView.{condition_view};
 ghost use Rattle.kp_ground.specs.declared.evaluate.EvaluationError.TheVariants.{Number};
-ghost use Rattle.kp_rules.specs.Heads.{HasHead, Meets, FindsFiring, IsWide, Binds, PassAs};
+ghost use Rattle.kp_rules.specs.Heads.{HasHead, Meets, FindsFiring, IsWide, Binds, PassAs, tests_lack};
 
 use crate::rule::{Rewrite, SortTest};
 use crate::values::has_sort;
@@ -29,7 +29,8 @@ fn passes(
     signature: &Signature,
     bindings: &[Binding],
 ) -> Result<Option<bool>, AllocError>
-    ensures { IfOk result (λ o. IfSome o (λ b. (v : Valuation) → Solves v bindings.now → IsTrue b ↔ HasHead (signature_view signature.now) v test.now)) }
+    ensures passed { IfOk result (λ o. IfSome o (λ b. (v : Valuation) → Solves v bindings.now → IsTrue b ↔ HasHead (signature_view signature.now) v test.now)) }
+    ensures unbound { IfOk result (λ o. IfNone o (not (is_one_of (string_bytes test.now.name) (bound_names bindings.now)) ≡ true)) }
 {
     match find_binding(bindings, test.name.as_str()) {
         Some(value) => Ok(Some(has_sort(alloc, signature, value, &test.sort)?)),
@@ -44,7 +45,8 @@ fn pass(
     signature: &Signature,
     bindings: &[Binding],
 ) -> Result<Option<bool>, AllocError>
-    ensures { IfOk result (λ o. IfSome o (λ b. (v : Valuation) → Solves v bindings.now → IsTrue b ↔ AllByRecursion (HasHead (signature_view signature.now) v) tests.now)) }
+    ensures passed { IfOk result (λ o. IfSome o (λ b. (v : Valuation) → Solves v bindings.now → IsTrue b ↔ AllByRecursion (HasHead (signature_view signature.now) v) tests.now)) }
+    ensures unbound { IfOk result (λ o. IfNone o (tests_lack (bound_names bindings.now) tests.now ≡ true)) }
 {
     for test in tests {
         match passes(test, alloc, signature, bindings)? {
@@ -87,7 +89,7 @@ impl Rewrite {
         bindings: Vec<Binding>,
     ) -> Result<Option<Vec<Binding>>, EvaluationError>
         ensures solvable { IsSolvable bindings.items → IfOk result (λ o. IfSome o (λ new. IsSolvable new.items)) }
-        ensures firing { (u : model.Value) → Binds self.now bindings.items u → FindsFiring result (signature_view signature.now) self.now u }
+        ensures firing { (u : model.Value) → Binds self.now bindings.items u → IsSolvable bindings.items → FindsFiring result (signature_view signature.now) self.now u }
         ensures number { (u : model.Value) → Binds self.now bindings.items u → IsSolvable bindings.items → IfErr result (λ e. e ≡ Number → IsWide (signature_view signature.now) self.now u) }
         ensures narrow { (u : model.Value) → Binds self.now bindings.items u → IfOk result (λ o. (v : Valuation) → Meets (signature_view signature.now) self.now v u → condition_narrow v (condition_view self.now.condition) ≡ true) }
     {
@@ -104,7 +106,7 @@ impl Rewrite {
         bindings: Vec<Binding>,
     ) -> Result<Option<Vec<Binding>>, EvaluationError>
         ensures solvable { IsSolvable bindings.items → IfOk result (λ o. IfSome o (λ new. IsSolvable new.items)) }
-        ensures firing { (g : KoreSignature) (u : model.Value) → Binds self.now bindings.items u → PassAs g self.now bindings.items passed → FindsFiring result g self.now u }
+        ensures firing { (g : KoreSignature) (u : model.Value) → Binds self.now bindings.items u → PassAs g self.now bindings.items passed → IsSolvable bindings.items → FindsFiring result g self.now u }
         ensures number { (g : KoreSignature) (u : model.Value) → Binds self.now bindings.items u → PassAs g self.now bindings.items passed → IsSolvable bindings.items → IfErr result (λ e. e ≡ Number → IsWide g self.now u) }
         ensures narrow { (g : KoreSignature) (u : model.Value) → Binds self.now bindings.items u → PassAs g self.now bindings.items passed → IfOk result (λ o. (v : Valuation) → Meets g self.now v u → condition_narrow v (condition_view self.now.condition) ≡ true) }
     {

@@ -1,5 +1,5 @@
 // From a rewrite axiom to its rule.
-ghost use Rattle.std.specs.Prelude.{◌≡◌, ℕ, not, true, min, Some, None, Option, unwrap_or, IfOk, IfErr, OnOk, MatchBool, IsTrue};
+ghost use Rattle.std.specs.Prelude.{◌≡◌, ℕ, not, true, false, min, Some, None, Ok, Option, unwrap_or, IfOk, IfErr, OnOk, MatchBool, IsTrue};
 ghost use Rattle.std.specs.List.{list_all};
 ghost use Rattle.indexmap.specs.IndexSet.{contains_text};
 ghost use Rattle.kp_kore.specs.Syntax.{KoreSort, KorePattern, rewriting};
@@ -20,6 +20,8 @@ ghost use Rattle.kp_rules.specs.Priorities.{Tells};
 ghost use Rattle.kp_rules.specs.Reading.{IsStatementRead, rule_error, IsReadBody, IsMadeOf, IsSound, IsShapeRead, is_left_read, is_predicate_read, is_side_read, is_binder as binder_test, is_top_pattern, is_plain_by};
 ghost use Rattle.kp_rules.specs.Shapes.{seen, rewrite_seen};
 ghost use Rattle.kp_rules.specs.declared.read.RuleError.TheVariants.{Memory, Fault};
+ghost use Rattle.kp_rules.specs.declared.rule.RuleBody.TheVariants as body;
+ghost use Rattle.kp_rules.specs.declared.skeleton.Skeleton.TheVariants as skeleton;
 
 use crate::choice::choice_of;
 use crate::names::{NameSet, are_named, names_of, repeats_literals_only};
@@ -57,7 +59,8 @@ impl From<AllocError> for RuleError {
 }
 
 /// The priority and the rule of an axiom whose pattern is a `\rewrites`. The priority is 50 where the text of
-/// `priority{}` is no number, and 4294967295 where it is larger; such a rule is foreign.
+/// `priority{}` is no number, and 4294967295 where it is larger; such a rule is foreign. Of another axiom: that of a
+/// rule about which nothing is known.
 pub fn read_rule(
     alloc: Global,
     signature: &Signature,
@@ -68,6 +71,7 @@ pub fn read_rule(
     ensures read { IsTrue (is_rewriting (view statement.now.pattern)) → IfOk result (λ out. IsReadAs (signature_view signature.now) (axiom_sentence_view statement.now) out.0 out.1) }
     ensures fault { IsTrue (is_rewriting (view statement.now.pattern)) → IfErr result (λ e. e ≡ Fault → IsFaulty (signature_view signature.now) (axiom_sentence_view statement.now)) }
     ensures unfaulty { IsTrue (is_rewriting (view statement.now.pattern)) → OnOk result (¬ IsFaulty (signature_view signature.now) (axiom_sentence_view statement.now)) }
+    ensures other { is_rewriting (view statement.now.pattern) ≡ false → result ≡ Ok (usual_priority, body.Foreign skeleton.Anything) }
 {
     match &statement.pattern {
         Pattern::Rewrites { sort, left, right } => {
@@ -312,7 +316,7 @@ fn refused(error: &CompileError) -> RuleError
 {
     match error {
         CompileError::Memory => RuleError::Memory,
-        CompileError::Foreign(_) | CompileError::Shape | CompileError::Number => RuleError::Fault,
+        CompileError::Shape => RuleError::Fault,
     }
 }
 

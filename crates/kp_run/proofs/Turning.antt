@@ -125,16 +125,15 @@ told_more g u rules items i r first e lt is h =
     let it : r ≡ get_or rules i r = subst (λ rs. r ≡ get_or rs i r) e is in
     subst (λ rs. IsTold g u rs first) (sym (take_more rules i r inside ∙ ap (λ q. take i rules ++ q ∷ []) (sym it))) h
 
--- a rule of the list whose condition is wide
-wide_among : (g : KoreSignature) (u : Value) (rules : List Rule) (i : ℕ) (r : Rule) → i < length rules → r ≡ get_or rules i r → BodyIsWide g u r.body → AnyByRecursion (λ q. BodyIsWide g u q.body) rules
-wide_among g u [] i r lt is h = absurd (omega arith)
-wide_among g u (q ∷ rules) zero r lt is h = inl (subst (λ k. BodyIsWide g u k.body) is h)
-wide_among g u (q ∷ rules) (suc i) r lt is h = inr (wide_among g u rules i r (omega arith) is h)
+-- a rule of the list
+among : (P : Rule → Type 0) (rules : List Rule) (i : ℕ) (r : Rule) → i < length rules → r ≡ get_or rules i r → P r → AnyByRecursion P rules
+among P [] i r lt is h = absurd (omega arith)
+among P (q ∷ rules) zero r lt is h = inl (subst P is h)
+among P (q ∷ rules) (suc i) r lt is h = inr (among P rules i r (omega arith) is h)
 
-pub wide_here_among : (g : KoreSignature) (u : Value) (rules items : List Rule) (i : ℕ) (r : Rule) → items ≡ rules → i < length items → r ≡ get_or items i r →
-    BodyIsWide g u r.body → AnyByRecursion (λ q. BodyIsWide g u q.body) rules
-wide_here_among g u rules items i r e lt is h =
-    wide_among g u rules i r (subst (λ rs. i < length rs) e lt) (subst (λ rs. r ≡ get_or rs i r) e is) h
+pub here_among : (P : Rule → Type 0) (rules items : List Rule) (i : ℕ) (r : Rule) → items ≡ rules → i < length items → r ≡ get_or items i r → P r → AnyByRecursion P rules
+here_among P rules items i r e lt is h =
+    among P rules i r (subst (λ rs. i < length rs) e lt) (subst (λ rs. r ≡ get_or rs i r) e is) h
 
 -- a number that isn't at most n, as the code found
 pub at_most_or_beyond : (d n : ℕ) → (d ≤ n) ⊎ (n < d)

@@ -28,7 +28,7 @@ impl From<EvaluationError> for RunError {
     ghost use Rattle.kp_ground.specs.declared.evaluate.EvaluationError.TheVariants as evaluating;
     ghost use Rattle.kp_run.specs.declared.error.RunError.TheVariants as running;
 
-    ghost from_gives = { λ x e. e ≡ running.NotAnswered → x ≡ evaluating.Number };
+    ghost from_gives = { λ x e. (e ≡ running.NotAnswered → x ≡ evaluating.Number) × (e ≡ running.Unbound → x ≡ evaluating.Unbound) };
 
     fn from(error: EvaluationError) -> Self {
         match error {

@@ -4,7 +4,8 @@ ghost use Rattle.kp_ground.specs.View.{value_view};
 ghost use Rattle.kp_rules.specs.Bodies.{RunsAs};
 ghost use Rattle.kp_run.specs.Causes.{IsNotAnswered, IsStateIn};
 ghost use Rattle.kp_run.specs.Runs.{IsAt, IsRunOf, written_of};
-ghost use Rattle.kp_run.specs.declared.error.RunError.TheVariants.{NotAnswered};
+ghost use Rattle.kp_run.specs.Turns.{SomeOpen};
+ghost use Rattle.kp_run.specs.declared.error.RunError.TheVariants.{NotAnswered, Unbound};
 ghost use Rattle.kp_run.specs.declared.run.Stop.TheVariants.{Stuck, DepthBound, ForeignRule};
 
 use crate::error::RunError;
@@ -47,6 +48,7 @@ pub fn execute(
     ensures written { (t : Theory) → RunsAs t rules.now → IsAt t state → IfOk result (λ e. IsStateIn t e.depth (written_of state) (written_of e.state)) }
     ensures answered { (t : Theory) → RunsAs t rules.now → IsAt t state → IfOk result (λ _. ¬ IsNotAnswered t (written_of state) bound) }
     ensures not_answered { (t : Theory) → RunsAs t rules.now → IsAt t state → IfErr result (λ e. e ≡ NotAnswered → IsNotAnswered t (written_of state) bound) }
+    ensures unbound { IfErr result (λ e. e ≡ Unbound → SomeOpen rules.now.rules.items) }
 {
     if !rules.is_regular {
         return Err(RunError::NotAnswered);

@@ -18,8 +18,9 @@ ghost use Rattle.kp_rules.specs.Bodies.{RunsAs};
 ghost use Rattle.kp_run.specs.Causes.{TwoAmong, IsWrittenAt, IsNotStepped, IsNotAnswered};
 ghost use Rattle.kp_run.specs.Runs.{IsNext, IsWrittenNext, written_of};
 ghost use Rattle.kp_run.specs.Shallow.{IsShallow, IsShallowNext, IsMatchOf};
-ghost use Rattle.kp_run.specs.Turns.{BodyFires, BodyIsWide, MightRewrite, NoneMight, IsFirstForeign, GoesAfter, FiresAt, IsFiring, OneAmong, IsTurn, IsAfterFiring, IsFollowed, NotFollowed};
-ghost use Rattle.kp_run.specs.declared.error.RunError.TheVariants.{NotAnswered};
+ghost use Rattle.kp_run.specs.Turns.{BodyFires, BodyIsWide, MightRewrite, NoneMight, IsFirstForeign, GoesAfter, FiresAt, IsFiring, OneAmong, IsTurn, IsAfterFiring, IsFollowed, NotFollowed, IsOpen, SomeOpen};
+ghost use Rattle.kp_rules.specs.declared.rule.RuleBody.TheVariants as body;
+ghost use Rattle.kp_run.specs.declared.error.RunError.TheVariants.{NotAnswered, Unbound};
 
 use crate::error::RunError;
 use kp_ground::{Binding, Value};
@@ -160,6 +161,7 @@ fn firing_of<'a>(
     ensures firing { IfOk result (λ o. MatchOption o (¬ BodyFires (signature_view signature.now) (value_view value.now) rule.now.body) (λ f. IsFiring (signature_view signature.now) (value_view value.now) f rule.now)) }
     ensures wide { IfErr result (λ e. e ≡ NotAnswered → BodyIsWide (signature_view signature.now) (value_view value.now) rule.now.body) }
     ensures narrow { IfOk result (λ _. ¬ BodyIsWide (signature_view signature.now) (value_view value.now) rule.now.body) }
+    ensures unbound { IfErr result (λ e. e ≡ Unbound → IsOpen rule.now.body) }
 {
     match &rule.body {
         RuleBody::Foreign(_) => Ok(None),
@@ -189,6 +191,7 @@ fn turn_on<'a>(alloc: Global, rules: &'a RuleSet, value: &Value) -> Result<Turn<
     ensures turn { IfOk result (λ turn. IsTurn (signature_view rules.now.signature) (value_view value.now) rules.now.rules.items turn) }
     ensures wide { IfErr result (λ e. e ≡ NotAnswered → AnyByRecursion (λ r. BodyIsWide (signature_view rules.now.signature) (value_view value.now) r.body) rules.now.rules.items) }
     ensures narrow { IfOk result (λ _. AllByRecursion (λ r. ¬ BodyIsWide (signature_view rules.now.signature) (value_view value.now) r.body) rules.now.rules.items) }
+    ensures unbound { IfErr result (λ e. e ≡ Unbound → SomeOpen rules.now.rules.items) }
 {
     let mut turn = Turn::Nobody;
     for rule in &rules.rules {
@@ -223,6 +226,7 @@ pub fn next_state(alloc: Global, rules: &RuleSet, state: &State) -> Result<Next,
     ensures written { (t : Theory) → RunsAs t rules.now → IsSorted t.signature (value_view state.now.value) → IfOk result (IsWrittenNext t (written_of state.now)) }
     ensures answered { (t : Theory) → RunsAs t rules.now → IsSorted t.signature (value_view state.now.value) → IfOk result (λ _. ¬ IsNotAnswered t (written_of state.now) 1) }
     ensures not_answered { (t : Theory) → RunsAs t rules.now → IsSorted t.signature (value_view state.now.value) → IfErr result (λ e. e ≡ NotAnswered → IsNotAnswered t (written_of state.now) 1) }
+    ensures unbound { IfErr result (λ e. e ≡ Unbound → SomeOpen rules.now.rules.items) }
 {
     next_of(alloc, rules, state, false)
 }
@@ -240,6 +244,7 @@ pub fn next_of(
     ensures written { (t : Theory) → RunsAs t rules.now → IsSorted t.signature (value_view state.now.value) → IfOk result (IsWrittenNext t (written_of state.now)) }
     ensures answered { (t : Theory) → RunsAs t rules.now → IsSorted t.signature (value_view state.now.value) → IfOk result (λ _. ¬ IsNotAnswered t (written_of state.now) 1) }
     ensures not_answered { (t : Theory) → RunsAs t rules.now → IsSorted t.signature (value_view state.now.value) → IfErr result (λ e. e ≡ NotAnswered → IsNotAnswered t (written_of state.now) 1) }
+    ensures unbound { IfErr result (λ e. e ≡ Unbound → SomeOpen rules.now.rules.items) }
     ensures counted { IfOk result (IsShallowNext (signature_view rules.now.signature)) }
 {
     if !rules.is_regular {
@@ -265,6 +270,7 @@ fn known_next(
     ensures written { (t : Theory) → RunsAs t rules.now → rules.now.is_regular ≡ true → IsSorted t.signature (value_view state.now.value) → ¬ IsUnknown t (value_view state.now.value) → IfOk result (IsWrittenNext t (written_of state.now)) }
     ensures answered { (t : Theory) → RunsAs t rules.now → IsSorted t.signature (value_view state.now.value) → ¬ IsUnknown t (value_view state.now.value) → IfOk result (λ _. ¬ IsNotStepped t (written_of state.now)) }
     ensures not_answered { (t : Theory) → RunsAs t rules.now → IsSorted t.signature (value_view state.now.value) → ¬ IsUnknown t (value_view state.now.value) → IfErr result (λ e. e ≡ NotAnswered → IsNotStepped t (written_of state.now)) }
+    ensures unbound { IfErr result (λ e. e ≡ Unbound → SomeOpen rules.now.rules.items) }
     ensures counted { IfOk result (IsShallowNext (signature_view rules.now.signature)) }
 {
     match turn_on(alloc, rules, &state.value)? {
@@ -290,6 +296,7 @@ fn after(
     ensures written { IfOk result (λ next. IsWrittenAt (signature_view signature.now) (sort_view firing.now.rewrite.now.right_sort) (sort_view state.now.sort) (sort_view next.sort)) }
     ensures followed { IfOk result (λ next. IsFollowed (signature_view signature.now) firing.now next) }
     ensures not_followed { IfErr result (λ e. e ≡ NotAnswered → NotFollowed (signature_view signature.now) firing.now (sort_view state.now.sort)) }
+    ensures unbound { IfErr result (λ e. e ≡ Unbound → IsOpen (body.Rewrite firing.now.rewrite.now)) }
 {
     if firing.rewrite.chooses {
         return Err(RunError::NotAnswered);

@@ -126,9 +126,7 @@ fn refused(error: CompileError) -> StateError
 {
     match error {
         CompileError::Memory => StateError::Memory,
-        CompileError::Foreign(_) | CompileError::Shape | CompileError::Number => {
-            StateError::OtherShape
-        }
+        CompileError::Shape => StateError::OtherShape,
     }
 }
 

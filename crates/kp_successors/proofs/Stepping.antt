@@ -119,7 +119,7 @@ refused_value t rules p s c Number runs state h = wide_pattern (λ v. subst (λ 
 refused_value t rules p s c (Foreign id) runs state h = absurd h
 refused_value t rules p s c Unread runs state h = inr (λ verified. h (subst (λ g. IsVerifiedTerm g p) (sym runs.signature) verified) state.closed)
 refused_value t rules p s c NoInjection runs state h = absurd h
-refused_value t rules p s c Unbound runs state h = tt
+refused_value t rules p s c Unbound runs state h = absurd h
 
 too_wide_by : (t : Theory) (p : KorePattern) (c u : Value) → c ≡ u → HasWideRule t u → IsTooWide t p c
 too_wide_by t p c u same (inl some) = wide_condition (subst (λ w. AnyByRecursion (λ r. HasWideCondition t.signature w r.body) t.rules) (sym same) some)

@@ -18,7 +18,8 @@ use Rattle.kp_successors.specs.declared.error.GroundError.TheVariants.{Memory, N
 abbrev pub LacksInjection : KoreSignature → Type 0
 LacksInjection g = ¬ (meaning_of g injection_name ≡ injection)
 
--- G1 only for this cause, NoInjection only where no symbol is inj, and neither G2 nor Unread
+-- G1 only for this cause, NoInjection only where no symbol is inj, and neither G2 nor Unread; Open.antt says what Unbound
+-- is told of
 abbrev pub IsCausedBy : KoreSignature → Type 0 → GroundError → Type 0
 IsCausedBy g Wide Memory = ⊤
 IsCausedBy g Wide Number = Wide
@@ -39,14 +40,14 @@ IsFromSpelling spelling.Memory e = e ≡ Memory
 IsFromSpelling spelling.NoInjection e = e ≡ NoInjection
 
 -- G1 only where a call of the pattern computes a number beyond 128 bits, Unread only where it isn't a verified closed
--- term without foreign symbols; neither G2 nor NoInjection
+-- term without foreign symbols; neither G2, NoInjection nor Unbound
 abbrev pub IsUnvalued : KoreSignature → KorePattern → GroundError → Type 0
 IsUnvalued g p Memory = ⊤
 IsUnvalued g p Number = (v : Valuation) → computes_wide g v p ≡ true
 IsUnvalued g p (Foreign id) = ⊥
 IsUnvalued g p Unread = IsVerifiedTerm g p → ¬ (free_variables p ≡ [])
 IsUnvalued g p NoInjection = ⊥
-IsUnvalued g p Unbound = ⊤
+IsUnvalued g p Unbound = ⊥
 
 -- G2 by the rule of this id
 abbrev pub IsForeignBy : Text → GroundError → Type 0

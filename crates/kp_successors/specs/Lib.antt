@@ -2,6 +2,7 @@ pub mod Choices
 pub mod Errors
 pub mod Instances
 pub mod Nexts
+pub mod Open
 pub mod Refusals
 pub mod Successors
 pub mod Turns

@@ -21,7 +21,8 @@ HasWideRule t c =
 
 -- G1 only where some number is beyond 128 bits; G2 only where none is, with the id of the foreign rule that goes first of
 -- those that might rewrite the configuration; Unread only where the signature doesn't keep values apart, or the pattern
--- isn't a verified term without foreign symbols; NoInjection only where no symbol is inj
+-- isn't a verified term without foreign symbols; NoInjection only where no symbol is inj. Open.antt says what Unbound is told
+-- of: it isn't of the theory
 abbrev pub IsRefusedFor : Theory → KorePattern → Value → GroundError → Type 0
 IsRefusedFor t p c Memory = ⊤
 IsRefusedFor t p c Number = IsTooWide t p c

@@ -10,6 +10,8 @@ ghost use Rattle.kp_rules.specs.declared.rule.Rule.{Rule};
 ghost use Rattle.kp_successors.specs.Errors.{IsCausedBy};
 ghost use Rattle.kp_run.specs.Turns.{BodyFires, BodyIsWide};
 ghost use Rattle.kp_successors.specs.Turns.{IsLeast};
+ghost use Rattle.kp_successors.specs.Open.{LeavesOpen, SomeLeavesOpen};
+ghost use Rattle.kp_successors.specs.declared.error.GroundError.TheVariants.{Unbound};
 
 use crate::error::GroundError;
 use kp_ground::Value;
@@ -27,6 +29,7 @@ fn fires(
     ensures fires { IfOk result (λ b. IsTrue b ↔ BodyFires (signature_view signature.now) (value_view value.now) rule.now.body) }
     ensures narrow { OnOk result (¬ BodyIsWide (signature_view signature.now) (value_view value.now) rule.now.body) }
     ensures refused { IfErr result (IsCausedBy (signature_view signature.now) (BodyIsWide (signature_view signature.now) (value_view value.now) rule.now.body)) }
+    ensures unbound { IfErr result (λ e. e ≡ Unbound → LeavesOpen (signature_view signature.now) rule.now.body) }
 {
     match &rule.body {
         RuleBody::Foreign(_) => Ok(false),
@@ -62,6 +65,7 @@ pub fn least_priority(
     ensures least { IfOk result (λ o. IsLeast (signature_view rules.now.signature) (value_view value.now) rules.now.rules.items o) }
     ensures narrow { OnOk result (AllByRecursion (λ r. ¬ BodyIsWide (signature_view rules.now.signature) (value_view value.now) r.body) rules.now.rules.items) }
     ensures refused { IfErr result (IsCausedBy (signature_view rules.now.signature) (AnyByRecursion (λ r. BodyIsWide (signature_view rules.now.signature) (value_view value.now) r.body) rules.now.rules.items)) }
+    ensures unbound { IfErr result (λ e. e ≡ Unbound → SomeLeavesOpen rules.now) }
 {
     let mut least = None;
     for rule in &rules.rules {

@@ -6,10 +6,14 @@ ghost use Rattle.kp_kore.specs.View.{view, sorted_variable_view};
 ghost use Rattle.kp_signature.specs.View.{signature_view};
 ghost use Rattle.kp_semantics.specs.Instance.{Valuation, is_named as named_among};
 ghost use Rattle.kp_semantics.specs.Numbers.{computes_wide};
-ghost use Rattle.kp_ground.specs.Solves.{Solves};
+ghost use Rattle.kp_kore.specs.Parts.{subpatterns as parts_of};
+ghost use Rattle.kp_semantics.specs.Steps.{AnyByRecursion};
+ghost use Rattle.kp_ground.specs.Solves.{Solves, bound_names};
 ghost use Rattle.kp_successors.specs.WideParts.{holds_none, part_computes_wide};
 ghost use Rattle.kp_successors.specs.Errors.{IsCausedBy};
 ghost use Rattle.kp_successors.specs.Nexts.{new_of};
+ghost use Rattle.kp_successors.specs.Open.{HasNoValue, IsOpenPart};
+ghost use Rattle.kp_successors.specs.declared.error.GroundError.TheVariants.{Unbound};
 
 use crate::error::GroundError;
 use crate::member::is_named;
@@ -29,6 +33,7 @@ pub fn narrow(
 ) -> Result<(), GroundError>
     ensures narrow { OnOk result ((v : Valuation) → Solves v bindings.now → part_computes_wide (signature_view signature.now) v (new_of side.now) (view side.now.term) ≡ false) }
     ensures refused { IfErr result (IsCausedBy (signature_view signature.now) ((v : Valuation) → Solves v bindings.now → part_computes_wide (signature_view signature.now) v (new_of side.now) (view side.now.term) ≡ true)) }
+    ensures unbound { IfErr result (λ e. e ≡ Unbound → AnyByRecursion (IsOpenPart (signature_view signature.now) (bound_names bindings.now) side.now) (parts_of (view side.now.term))) }
 {
     let parts = subpatterns(alloc, &side.term)?;
     narrow_parts(alloc, signature, side, &parts, bindings)
@@ -43,6 +48,7 @@ fn narrow_parts(
 ) -> Result<(), GroundError>
     ensures narrow { OnOk result ((v : Valuation) → Solves v bindings.now → list_any (λ q. holds_none (new_of side.now) q && computes_wide (signature_view signature.now) v q) (seen parts.now) ≡ false) }
     ensures refused { IfErr result (IsCausedBy (signature_view signature.now) ((v : Valuation) → Solves v bindings.now → list_any (λ q. holds_none (new_of side.now) q && computes_wide (signature_view signature.now) v q) (seen parts.now) ≡ true)) }
+    ensures unbound { IfErr result (λ e. e ≡ Unbound → AnyByRecursion (IsOpenPart (signature_view signature.now) (bound_names bindings.now) side.now) (seen parts.now)) }
 {
     for part in parts {
         narrow_part(alloc, signature, side, part, bindings)?;
@@ -59,6 +65,7 @@ fn narrow_part(
 ) -> Result<(), GroundError>
     ensures narrow { OnOk result ((v : Valuation) → Solves v bindings.now → (holds_none (new_of side.now) (view part.now) && computes_wide (signature_view signature.now) v (view part.now)) ≡ false) }
     ensures refused { IfErr result (IsCausedBy (signature_view signature.now) ((v : Valuation) → Solves v bindings.now → (holds_none (new_of side.now) (view part.now) && computes_wide (signature_view signature.now) v (view part.now)) ≡ true)) }
+    ensures unbound { IfErr result (λ e. e ≡ Unbound → IsOpenPart (signature_view signature.now) (bound_names bindings.now) side.now (view part.now)) }
 {
     if !has_no_new(alloc, side, part)? {
         return Ok(());
@@ -94,6 +101,7 @@ fn evaluates(
 ) -> Result<(), GroundError>
     ensures narrow { OnOk result ((v : Valuation) → Solves v bindings.now → computes_wide (signature_view signature.now) v (view part.now) ≡ false) }
     ensures refused { IfErr result (IsCausedBy (signature_view signature.now) ((v : Valuation) → Solves v bindings.now → computes_wide (signature_view signature.now) v (view part.now) ≡ true)) }
+    ensures unbound { IfErr result (λ e. e ≡ Unbound → HasNoValue (signature_view signature.now) (bound_names bindings.now) (view part.now)) }
 {
     match compile_term(alloc, signature, part) {
         Ok(term) => {

@@ -5,7 +5,7 @@ ghost use Rattle.kp_kore.specs.View.{view};
 ghost use Rattle.kp_signature.specs.View.{signature_view};
 ghost use Rattle.kp_semantics.specs.Instance.{Valuation};
 ghost use Rattle.kp_semantics.specs.Steps.{AnyByRecursion};
-ghost use Rattle.kp_ground.specs.Solves.{Solves};
+ghost use Rattle.kp_ground.specs.Solves.{Solves, bound_names};
 ghost use Rattle.kp_ground.specs.View.{value_view};
 ghost use Rattle.kp_successors.specs.Errors.{IsCausedBy};
 ghost use Rattle.kp_successors.specs.Nexts.{PlainBy, ChosenBy, IsNextOf, is_right_narrow, left_of, new_of};
@@ -14,9 +14,11 @@ ghost use Rattle.kp_rules.specs.Heads.{FiresAs};
 ghost use Rattle.kp_rules.specs.declared.rule.RuleBody.TheVariants as body;
 ghost use Rattle.kp_run.specs.Turns.{BodyIsWide, FiresAt};
 ghost use Rattle.kp_successors.specs.Turns.{RightIsWide, IsWideAt, Follows, AreNexts, next_list};
-ghost use Rattle.kp_ground.specs.Terms.{stays_narrow};
+ghost use Rattle.kp_ground.specs.Terms.{stays_narrow, lacks};
 ghost use Rattle.kp_ground.specs.TermView.{term_view};
 ghost use Rattle.kp_kore.specs.View.{sort_view};
+ghost use Rattle.kp_successors.specs.Open.{IsOpenSide, IsRightOpen, LeavesOpen, SomeLeavesOpen};
+ghost use Rattle.kp_successors.specs.declared.error.GroundError.TheVariants.{Unbound};
 
 use crate::chosen::chosen;
 use crate::error::GroundError;
@@ -40,6 +42,7 @@ fn next_of(
     ensures next { IfOk result (λ p. IsNextOf (signature_view signature.now) rewrite.now (λ v. Solves v bindings.now) (view p)) }
     ensures narrow { OnOk result ((v : Valuation) → Solves v bindings.now → is_right_narrow (signature_view signature.now) rewrite.now v ≡ true) }
     ensures refused { IfErr result (IsCausedBy (signature_view signature.now) ((v : Valuation) → Solves v bindings.now → is_right_narrow (signature_view signature.now) rewrite.now v ≡ false)) }
+    ensures unbound { IfErr result (λ e. e ≡ Unbound → IsRightOpen (signature_view signature.now) (bound_names bindings.now) rewrite.now rewrite.now.choice) }
 {
     match &rewrite.choice {
         Some(side) => choosing(alloc, signature, &rewrite.right_sort, side, bindings),
@@ -58,6 +61,7 @@ fn choosing(
     ensures next { IfOk result (λ p. ChosenBy (signature_view signature.now) (sort_view sort.now) side.now (λ v. Solves v bindings.now) (view p)) }
     ensures narrow { OnOk result ((v : Valuation) → Solves v bindings.now → part_computes_wide (signature_view signature.now) v (new_of side.now) (view side.now.term) ≡ false) }
     ensures refused { IfErr result (IsCausedBy (signature_view signature.now) ((v : Valuation) → Solves v bindings.now → part_computes_wide (signature_view signature.now) v (new_of side.now) (view side.now.term) ≡ true)) }
+    ensures unbound { IfErr result (λ e. e ≡ Unbound → IsOpenSide (signature_view signature.now) (bound_names bindings.now) side.now) }
 {
     narrow(alloc, signature, side, bindings)?;
     if !is_known_side(alloc, side)? {
@@ -77,6 +81,7 @@ fn plain(
     ensures next { IfOk result (λ p. PlainBy (signature_view signature.now) rewrite.now (λ v. Solves v bindings.now) (view p)) }
     ensures narrow { OnOk result ((v : Valuation) → Solves v bindings.now → stays_narrow v (term_view rewrite.now.right) ≡ true) }
     ensures refused { IfErr result (IsCausedBy (signature_view signature.now) ((v : Valuation) → Solves v bindings.now → stays_narrow v (term_view rewrite.now.right) ≡ false)) }
+    ensures unbound { IfErr result (λ e. e ≡ Unbound → lacks (bound_names bindings.now) (term_view rewrite.now.right) ≡ true) }
 {
     let value = rewrite.right.evaluate(alloc, bindings)?;
     Ok(spelled(alloc, signature, &value, &rewrite.right_sort)?)
@@ -93,6 +98,7 @@ fn next_on(
         (λ p. ((v : Valuation) × FiresAs (signature_view signature.now) rewrite.now (value_view value.now) v) × IsNextOf (signature_view signature.now) rewrite.now (FiresAs (signature_view signature.now) rewrite.now (value_view value.now)) (view p))) }
     ensures narrow { OnOk result (¬ RightIsWide (signature_view signature.now) (value_view value.now) (body.Rewrite rewrite.now)) }
     ensures refused { IfErr result (IsCausedBy (signature_view signature.now) (BodyIsWide (signature_view signature.now) (value_view value.now) (body.Rewrite rewrite.now) ⊎ RightIsWide (signature_view signature.now) (value_view value.now) (body.Rewrite rewrite.now))) }
+    ensures unbound { IfErr result (λ e. e ≡ Unbound → LeavesOpen (signature_view signature.now) (body.Rewrite rewrite.now)) }
 {
     match rewrite.fires(alloc, signature, value)? {
         Some(bindings) => Ok(Some(next_of(alloc, signature, rewrite, &bindings)?)),
@@ -112,6 +118,7 @@ fn next_at(
         (λ p. FiresAt (signature_view signature.now) (value_view value.now) priority rule.now × Follows (signature_view signature.now) (value_view value.now) rule.now.body (view p))) }
     ensures narrow { OnOk result (¬ IsWideAt (signature_view signature.now) (value_view value.now) priority rule.now) }
     ensures refused { IfErr result (IsCausedBy (signature_view signature.now) (BodyIsWide (signature_view signature.now) (value_view value.now) rule.now.body ⊎ IsWideAt (signature_view signature.now) (value_view value.now) priority rule.now)) }
+    ensures unbound { IfErr result (λ e. e ≡ Unbound → LeavesOpen (signature_view signature.now) rule.now.body) }
 {
     if rule.priority != priority {
         return Ok(None);
@@ -132,6 +139,7 @@ pub fn nexts_at(
     ensures nexts { IfOk result (λ ps. AreNexts (signature_view rules.now.signature) (value_view value.now) priority rules.now.rules.items (map view ps.items)) }
     ensures narrow { OnOk result (AllByRecursion (λ r. ¬ IsWideAt (signature_view rules.now.signature) (value_view value.now) priority r) rules.now.rules.items) }
     ensures refused { IfErr result (IsCausedBy (signature_view rules.now.signature) (AnyByRecursion (λ r. BodyIsWide (signature_view rules.now.signature) (value_view value.now) r.body ⊎ IsWideAt (signature_view rules.now.signature) (value_view value.now) priority r) rules.now.rules.items)) }
+    ensures unbound { IfErr result (λ e. e ≡ Unbound → SomeLeavesOpen rules.now) }
 {
     let mut found = Vec::new(alloc);
     for rule in &rules.rules {

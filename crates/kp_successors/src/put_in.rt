@@ -1,15 +1,18 @@
 // What stands for the left term's variables.
-ghost use Rattle.std.specs.Prelude.{◌≡◌, ◌++◌, ◌∷◌, [], IfOk, OnOk, IfErr, string_bytes};
+ghost use Rattle.std.specs.Prelude.{◌≡◌, ◌++◌, ◌∷◌, [], true, not, IfOk, OnOk, IfErr, string_bytes};
 ghost use Rattle.kp_kore.specs.View.{view, sort_view};
 ghost use Rattle.kp_signature.specs.View.{signature_view};
 ghost use Rattle.kp_semantics.specs.Value.{HasSort};
 ghost use Rattle.kp_semantics.specs.Sorted.{IsRegular};
 ghost use Rattle.kp_semantics.specs.Instance.{Valuation};
-ghost use Rattle.kp_ground.specs.Solves.{Solves};
+ghost use Rattle.kp_ground.specs.Solves.{Solves, bound_names};
+ghost use Rattle.kp_ground.specs.Terms.{is_one_of};
 ghost use Rattle.kp_states.specs.Spelled.{IsSpellingOf};
 ghost use Rattle.kp_substitution.specs.Seen.{replacements_view, replacement_view};
 ghost use Rattle.kp_successors.specs.Errors.{IsCausedBy};
 ghost use Rattle.kp_successors.specs.Nexts.{left_of, AreForLeft, Spell};
+ghost use Rattle.kp_successors.specs.Open.{left_lacks};
+ghost use Rattle.kp_successors.specs.declared.error.GroundError.TheVariants.{Unbound};
 
 use crate::error::GroundError;
 use crate::member::is_named;
@@ -32,6 +35,7 @@ pub fn put_in(
     ensures names { IfOk result (λ rs. AreForLeft side.now (replacements_view rs.items)) }
     ensures spelled { IfOk result (λ rs. Spell (signature_view signature.now) (left_of side.now) (λ v. Solves v bindings.now) (replacements_view rs.items)) }
     ensures refused { IfErr result (IsCausedBy (signature_view signature.now) ⊥) }
+    ensures unbound { IfErr result (λ e. e ≡ Unbound → left_lacks (bound_names bindings.now) side.now ≡ true) }
 {
     let mut found = Vec::new(alloc);
     for variable in &side.left_variables {
@@ -60,6 +64,7 @@ fn replacement_of(
         HasSort (signature_view signature.now) (sort_view variable.now.sort) (v (string_bytes variable.now.name)) →
         IsSpellingOf (signature_view signature.now) (v (string_bytes variable.now.name)) (view r.term)) }
     ensures refused { IfErr result (IsCausedBy (signature_view signature.now) ⊥) }
+    ensures unbound { IfErr result (λ e. e ≡ Unbound → not (is_one_of (string_bytes variable.now.name) (bound_names bindings.now)) ≡ true) }
 {
     match find_binding(bindings, variable.name.as_str()) {
         Some(value) => Ok(Replacement {

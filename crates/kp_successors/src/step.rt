@@ -12,7 +12,9 @@ ghost use Rattle.kp_rules.specs.Bodies.{RunsAs};
 ghost use Rattle.kp_states.specs.Spelled.{IsGroundState};
 ghost use Rattle.kp_successors.specs.Errors.{IsCausedBy, IsForeignBy};
 ghost use Rattle.kp_successors.specs.Successors.{AreSuccessors, IsTooWide};
+ghost use Rattle.kp_successors.specs.Open.{SomeLeavesOpen};
 ghost use Rattle.kp_successors.specs.Refusals.{HasWideRule, IsRefusedFor};
+ghost use Rattle.kp_successors.specs.declared.error.GroundError.TheVariants.{Unbound};
 
 use crate::error::GroundError;
 use crate::least::least_priority;
@@ -38,6 +40,7 @@ pub fn ground_step(
     ensures known { (t : Theory) (s : KoreSort) (c : model.Value) → RunsAs t rules.now → IsGroundState t.signature (view pattern.now) s c → OnOk result (¬ IsUnknown t c) }
     ensures narrow { (t : Theory) (s : KoreSort) (c : model.Value) → RunsAs t rules.now → IsGroundState t.signature (view pattern.now) s c → OnOk result (¬ IsTooWide t (view pattern.now) c) }
     ensures refused { (t : Theory) (s : KoreSort) (c : model.Value) → RunsAs t rules.now → IsGroundState t.signature (view pattern.now) s c → IfErr result (IsRefusedFor t (view pattern.now) c) }
+    ensures unbound { IfErr result (λ e. e ≡ Unbound → SomeLeavesOpen rules.now) }
 {
     if !rules.is_regular {
         return Err(GroundError::Unread);
@@ -65,6 +68,7 @@ fn nexts_of(alloc: Global, rules: &RuleSet, value: &Value) -> Result<Vec<Pattern
         IfOk result (λ ps. (¬ IsUnknown t (value_view value.now)) → AreSuccessors t (value_view value.now) t.rules (map view ps.items)) }
     ensures narrow { (t : Theory) → RunsAs t rules.now → IsSorted t.signature (value_view value.now) → OnOk result (¬ HasWideRule t (value_view value.now)) }
     ensures refused { (t : Theory) → RunsAs t rules.now → IsSorted t.signature (value_view value.now) → IfErr result (IsCausedBy t.signature (HasWideRule t (value_view value.now))) }
+    ensures unbound { IfErr result (λ e. e ≡ Unbound → SomeLeavesOpen rules.now) }
 {
     match least_priority(alloc, rules, value)? {
         Some(priority) => nexts_at(alloc, rules, value, priority),

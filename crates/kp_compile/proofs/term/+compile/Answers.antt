@@ -2,6 +2,7 @@ use Rattle.std.proofs.Common.{rules, ◌≡◌, ◌∙◌, sym, ap, ap₂, subst
 use Rattle.std.proofs.lemmas.Result.{err_from_is_err_and, IfErr-weaker, IfOk-weaker}
 use Rattle.kp_kore.specs.Hooks.{truth_negation}
 use Rattle.kp_kore.specs.Syntax.{application}
+use Rattle.kp_kore.specs.Parts.{free_variables}
 use Rattle.kp_kore.specs.View.{view, sorts_view, patterns_view}
 use Rattle.kp_kore.specs.Signature.{meaning_of, construction, injection, interpretation}
 use Rattle.kp_kore.specs.declared.pattern.Pattern.{the_lemmas}
@@ -9,12 +10,13 @@ use Rattle.kp_semantics.specs.Value.{constructed}
 use Rattle.kp_ground.specs.HookView.{hook_view}
 use Rattle.kp_ground.specs.TermView.{term_view}
 use Rattle.kp_signature.specs.View.{signature_view}
-use Rattle.kp_compile.specs.Exact.{IsTermOf, AreTermsOf, IsNarrowAs, AreTermsNarrowAs}
+use Rattle.kp_compile.specs.Exact.{IsTermOf, AreTermsOf, IsNarrowAs, AreTermsNarrowAs, HasVariablesOf, HaveVariablesOf, some_unnamed}
 use Rattle.kp_compile.specs.Meanings.{function_view, meaning_view}
 use Rattle.kp_compile.specs.Verified.{IsVerifiedTerm}
 use Rattle.kp_compile.proofs.Compiled.{zip_push, each_term}
 use Rattle.kp_compile.proofs.Narrow.{built_narrow, call_narrow, opposite_narrow}
 use Rattle.kp_compile.proofs.Taken.{call_takes_two, opposite_takes_one, inj_takes_one}
+use Rattle.kp_compile.proofs.Variables.{each_variable, of_one, of_two}
 use Rattle.kp_compile.proofs.VerifiedParts.{arguments, at_index}
 use Rattle.kp_compile.proofs.term.+compile.Goals as goal
 use Rattle.kp_compile.proofs.term.+compile.Goals.{compile_applied-in_default-via-then-arguments-lt1, compile_applied-in_default-via-else-arguments-lt1+else-arguments-lt2, compile_applied-in_default-arguments-via-then-arguments-lt2-2, compile_applied-in_default-arguments-via-else-arguments-lt2-2+else-arguments-lt3, compile_applied-in_default-arguments-2-via-then-arguments-lt1-2, compile_applied-in_default-arguments-2-via-else-arguments-lt1-2+else-arguments-lt2-3}
@@ -131,4 +133,32 @@ compile_each-loop-pattern-preserved t c = (
   subst (λ xs. AreTermsNarrowAs (signature_view c.args.signature.now) (take (c.loop-pattern.pattern-index + 1) c.args.patterns.now) xs) (sym c.in_ok-push.ensures.items)
       (zip_push (λ p x. IsNarrowAs (signature_view c.args.signature.now) (view p) x) c.loop-pattern.pattern-index c.args.patterns.now c.loop-pattern.terms.items c.pattern-item.result c.in_ok-term_of.field-0
       c.loop-pattern-test.true c.pattern-item.is c.loop-pattern.invariant.1 c.in_ok-term_of.ensures.narrow),
+  subst (λ xs. HaveVariablesOf (take (c.loop-pattern.pattern-index + 1) c.args.patterns.now) xs) (sym c.in_ok-push.ensures.items)
+      (zip_push (λ p x. HasVariablesOf (view p) x) c.loop-pattern.pattern-index c.args.patterns.now c.loop-pattern.terms.items c.pattern-item.result c.in_ok-term_of.field-0
+      c.loop-pattern-test.true c.pattern-item.is c.loop-pattern.invariant.2 c.in_ok-term_of.ensures.variables),
 )
+
+pub compile_applied-returns-in_ok-terms-in-Constructor-clause-variables : goal.compile_applied-returns-in_ok-terms-in-Constructor-clause-variables
+compile_applied-returns-in_ok-terms-in-Constructor-clause-variables t c = λ xs.
+    rw c.make_built.ensures (each_variable xs c.args.arguments.now c.in_ok-terms-in-Constructor.terms.items c.in_ok-terms-in-Constructor.ensures.variables)
+
+pub compile_applied-returns-in_ok-make_call-in-len2-clause-variables : goal.compile_applied-returns-in_ok-make_call-in-len2-clause-variables
+compile_applied-returns-in_ok-make_call-in-len2-clause-variables t c = λ xs.
+    rw c.in_ok-make_call-in-len2.ensures (of_two xs c.args.arguments.now c.left-item.result c.right-item.result _ _ (omega arith) c.left-item.is c.right-item.is
+    (c.in_ok-left-in-len2.ensures.variables xs) (c.in_ok-right-in-len2.ensures.variables xs))
+
+pub compile_applied-returns-in_ok-make_opposite-in-len1-arguments-clause-variables : goal.compile_applied-returns-in_ok-make_opposite-in-len1-arguments-clause-variables
+compile_applied-returns-in_ok-make_opposite-in-len1-arguments-clause-variables t c = λ xs.
+    rw c.in_ok-make_opposite-in-len1-arguments.ensures (of_one xs c.args.arguments.now c.argument-item-then-arguments-lt2-3.result _ (omega arith) c.argument-item-then-arguments-lt2-3.is
+    (c.in_ok-term-in-len1-arguments.ensures.variables xs))
+
+pub compile_applied-returns-in-len1-clause-variables : goal.compile_applied-returns-in-len1-clause-variables
+compile_applied-returns-in-len1-clause-variables t c =
+    IfOk-weaker c.term_of.result _ _ (λ x told xs. of_one xs c.args.arguments.now c.argument-item.result _ (omega arith) c.argument-item.is (told xs)) c.term_of.ensures.variables
+
+pub term_of-returns-in-Application-clause-variables : goal.term_of-returns-in-Application-clause-variables
+term_of-returns-in-Application-clause-variables t c =
+    let is : view c.args.pattern.now ≡ application (string_bytes c.in-Application.symbol) (sorts_view c.in-Application.sorts.items) (patterns_view c.in-Application.arguments.items) = search (rules, the_lemmas) in
+    IfOk-weaker c.compile_applied.result _ _
+    (λ x told xs. told xs ∙ ap (λ p. some_unnamed xs (free_variables p)) (sym (is ∙ ap (λ ps. application (string_bytes c.in-Application.symbol) (sorts_view c.in-Application.sorts.items) (patterns_view ps)) (sym c.deref.ensures.value))))
+    c.compile_applied.ensures.variables

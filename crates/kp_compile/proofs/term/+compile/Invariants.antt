@@ -1,9 +1,10 @@
 use Rattle.std.proofs.Common.{take}
 use Rattle.kp_signature.specs.View.{signature_view}
-use Rattle.kp_compile.specs.Exact.{AreTermsOf, AreTermsNarrowAs}
+use Rattle.kp_compile.specs.Exact.{AreTermsOf, AreTermsNarrowAs, HaveVariablesOf}
 use Rattle.kp_compile.proofs.term.+compile.Given as goal
 
 abbrev pub invariant-compile_each-loop-pattern : goal.invariant-compile_each-loop-pattern
 invariant-compile_each-loop-pattern l =
     AreTermsOf (signature_view l.signature) (take l.pattern-index l.patterns) l.terms.items
     × AreTermsNarrowAs (signature_view l.signature) (take l.pattern-index l.patterns) l.terms.items
+    × HaveVariablesOf (take l.pattern-index l.patterns) l.terms.items

@@ -16,7 +16,6 @@ use Rattle.kp_compile.proofs.VerifiedParts.{left_arguments, at_index}
 use Rattle.kp_rules.specs.Tests.{Adds}
 use Rattle.kp_rules.proofs.TestLemmas.{argument_added, under_application, under_injection, under_constructor}
 use Rattle.kp_rules.proofs.sort_test.+sort_tests.Goals as goal
-use Rattle.kp_rules.proofs.sort_test.+sort_tests.Goals.{add_tests_of_applied-in_default-via-then-arguments-lt1, add_tests_of_applied-in_default-via-else-arguments-lt1+else-arguments-lt2}
 
 pub add_tests-returns-in-Application-clause-tests : goal.add_tests-returns-in-Application-clause-tests
 add_tests-returns-in-Application-clause-tests t c =
@@ -77,7 +76,14 @@ pub add_tests_of_applied-returns-in_default-clause-refused : goal.add_tests_of_a
 add_tests_of_applied-returns-in_default-clause-refused t c = λ ss verified.
     let g = signature_view c.args.signature.now in
     let means : meaning_of g (string_bytes c.args.symbol.now) ≡ injection = ap (meaning_of g) (sym c.deref.ensures) ∙ sym c.meaning_of.ensures ∙ ap meaning_view c.in-Injection.is in
-    let other : length c.args.arguments.now ≡ 1 → ⊥ = λ e. elim c.in_default.branch [ add_tests_of_applied-in_default-via-then-arguments-lt1 w ↦ search rules | add_tests_of_applied-in_default-via-else-arguments-lt1+else-arguments-lt2 w ↦ search rules ] in
+    let other : length c.args.arguments.now ≡ 1 → ⊥ = λ e. search rules in
+    absurd (other (inj_takes_one g (string_bytes c.args.symbol.now) ss c.args.arguments.now means verified.term))
+
+pub add_tests_of_applied-returns-in_default-2-clause-refused : goal.add_tests_of_applied-returns-in_default-2-clause-refused
+add_tests_of_applied-returns-in_default-2-clause-refused t c = λ ss verified.
+    let g = signature_view c.args.signature.now in
+    let means : meaning_of g (string_bytes c.args.symbol.now) ≡ injection = ap (meaning_of g) (sym c.deref.ensures) ∙ sym c.meaning_of.ensures ∙ ap meaning_view c.in-Injection.is in
+    let other : length c.args.arguments.now ≡ 1 → ⊥ = λ e. search rules in
     absurd (other (inj_takes_one g (string_bytes c.args.symbol.now) ss c.args.arguments.now means verified.term))
 
 pub add_tests_of_applied-returns-in-Some-clause-refused : goal.add_tests_of_applied-returns-in-Some-clause-refused

@@ -78,3 +78,8 @@ returns-in-ForeignRule-clause-is_run c = λ t runs at.
           (c.loop-depth-test.true, subst (λ x. IsFirstUnknown t now (string_bytes x)) same first);
       at_bound = λ e. absurd (cc);
     }
+
+pub returns-in_err-next-clause-unbound : goal.returns-in_err-next-clause-unbound
+returns-in_err-next-clause-unbound c =
+    let p = err_from_is_err_and c.from_residual.result c.from_residual.ensures.1 in
+    rw (p.1, p.2) c.in_err-next.ensures.unbound

@@ -1,5 +1,6 @@
 use Rattle.std.proofs.Common.{rules, ◌≡◌, subst, true, false}
-use Rattle.std.specs.Prelude.{Ok}
+use Rattle.std.proofs.lemmas.Result.{err_from_is_err_and}
+use Rattle.std.specs.Prelude.{Ok, Err}
 use Rattle.kp_ground.specs.Outcomes.{Gives}
 use Rattle.kp_ground.specs.TermView.{term_view}
 use Rattle.kp_ground.specs.View.{value_view}
@@ -9,6 +10,7 @@ use Rattle.kp_signature.specs.View.{signature_view}
 use Rattle.kp_states.specs.Spelled.{spelling}
 use Rattle.kp_run.specs.Turns.{deep}
 use Rattle.kp_states.specs.declared.state.State.{State}
+use Rattle.kp_run.proofs.Open.{open_right}
 use Rattle.kp_run.proofs.Turning.{is_beyond}
 use Rattle.kp_run.proofs.step.after.Goals as goal
 
@@ -55,3 +57,11 @@ returns-clause-followed c =
       narrow = λ v s. (gives v s).1;
       within = c.is_shallow_after.ensures.0 is;
     }
+
+pub returns-in_err-value-clause-unbound : goal.returns-in_err-value-clause-unbound
+returns-in_err-value-clause-unbound c =
+    let p = err_from_is_err_and c.from_residual.result c.from_residual.ensures.1 in
+    let gives : Gives (Err c.in_err-value.field-0.0) c.args.firing.now.bindings.items (term_view c.args.firing.now.rewrite.now.right) =
+    subst (λ bs. Gives (Err c.in_err-value.field-0.0) bs (term_view c.args.firing.now.rewrite.now.right)) c.deref.ensures.value c.in_err-value.ensures in
+    let plain : c.args.firing.now.rewrite.now.chooses ≡ false = search rules in
+    rw p.1 (λ is. open_right c.args.firing.now (value_view c.args.state.now.value) c.in_err-value.field-0.0 c.requires.matched plain gives (p.2.1 is))

@@ -5,6 +5,7 @@ use Rattle.kp_ground.specs.View.{value_view}
 use Rattle.kp_run.specs.Turns.{IsTurn}
 use Rattle.kp_run.proofs.Answered.{stuck_without, goes_without}
 use Rattle.kp_run.proofs.Causes.{wide_stops, several_stop, not_followed_stops, next_written, one_here}
+use Rattle.kp_run.proofs.Open.{open_among}
 use Rattle.kp_run.proofs.Shallow.{match_of}
 use Rattle.kp_run.proofs.Theories.{stuck_here, goes_here}
 use Rattle.kp_run.proofs.step.known_next.Goals as goal
@@ -71,3 +72,15 @@ after-requires-clause-matched c =
 
 pub returns-in_ok-after-in-One-clause-counted : goal.returns-in_ok-after-in-One-clause-counted
 returns-in_ok-after-in-One-clause-counted c = c.in_ok-after-in-One.ensures.followed.within
+
+pub returns-in_err-turn_on-clause-unbound : goal.returns-in_err-turn_on-clause-unbound
+returns-in_err-turn_on-clause-unbound c =
+    let p = err_from_is_err_and c.from_residual.result c.from_residual.ensures.1 in
+    rw (p.1, p.2) c.in_err-turn_on.ensures.unbound
+
+pub returns-in_err-after-in-One-clause-unbound : goal.returns-in_err-after-in-One-clause-unbound
+returns-in_err-after-in-One-clause-unbound c =
+    let p = err_from_is_err_and c.from_residual-in_err-after-in-One.result c.from_residual-in_err-after-in-One.ensures.1 in
+    rw (p.1, p.2) (λ is. open_among (signature_view c.args.rules.now.signature) (value_view c.args.state.now.value) c.in-One.firing c.args.rules.now.rules.items
+    (subst (IsTurn (signature_view c.args.rules.now.signature) (value_view c.args.state.now.value) c.args.rules.now.rules.items) c.in-One.is c.in_ok-turn_on.ensures.turn)
+    (c.in_err-after-in-One.ensures.unbound is))

@@ -2,7 +2,8 @@ use Rattle.std.proofs.Common.{take}
 use Rattle.kp_signature.specs.View.{signature_view}
 use Rattle.kp_ground.specs.View.{value_view}
 use Rattle.std.proofs.lemmas.Result.{err_from_is_err_and}
-use Rattle.kp_run.proofs.Turning.{turn_on_more, wide_here_among, narrow_more}
+use Rattle.kp_run.specs.Turns.{BodyIsWide, IsOpen}
+use Rattle.kp_run.proofs.Turning.{turn_on_more, here_among, narrow_more}
 use Rattle.kp_run.proofs.step.turn_on.Goals as goal
 
 pub loop-rule-preserved : goal.loop-rule-preserved
@@ -20,5 +21,11 @@ loop-rule-preserved c =
 pub returns-in_err-firing-clause-wide : goal.returns-in_err-firing-clause-wide
 returns-in_err-firing-clause-wide c =
     let p = err_from_is_err_and c.from_residual.result c.from_residual.ensures.1 in
-    rw (p.1, p.2) (λ is. wide_here_among (signature_view c.args.rules.now.signature) (value_view c.args.value.now) c.args.rules.now.rules.items c.deref-rule-items.result.now c.loop-rule.rule-index c.rule-item.result
+    rw (p.1, p.2) (λ is. here_among (λ r. BodyIsWide (signature_view c.args.rules.now.signature) (value_view c.args.value.now) r.body) c.args.rules.now.rules.items c.deref-rule-items.result.now c.loop-rule.rule-index c.rule-item.result
     c.deref-rule-items.ensures.value c.loop-rule-test.true c.rule-item.is (c.in_err-firing.ensures.wide is))
+
+pub returns-in_err-firing-clause-unbound : goal.returns-in_err-firing-clause-unbound
+returns-in_err-firing-clause-unbound c =
+    let p = err_from_is_err_and c.from_residual.result c.from_residual.ensures.1 in
+    rw (p.1, p.2) (λ is. here_among (λ r. IsOpen r.body) c.args.rules.now.rules.items c.deref-rule-items.result.now c.loop-rule.rule-index c.rule-item.result
+    c.deref-rule-items.ensures.value c.loop-rule-test.true c.rule-item.is (c.in_err-firing.ensures.unbound is))

@@ -8,6 +8,7 @@ use Rattle.kp_successors.specs.Turns.{IsLeast}
 use Rattle.kp_run.proofs.Among.{all_and_last}
 use Rattle.kp_successors.proofs.Taken.{next_taken, some_member}
 use Rattle.kp_successors.proofs.Refused.{caused_by}
+use Rattle.kp_successors.specs.Open.{LeavesOpen}
 use Rattle.kp_successors.proofs.least.least_priority.Goals as goal
 
 pub loop-rule-preserved : goal.loop-rule-preserved
@@ -32,3 +33,9 @@ returns-in_err-fires-clause-refused c =
     rw (p.1, p.2) (caused_by g (BodyIsWide g u c.rule-item.result.body) _ c.in_err-fires.field-0.0
     (λ w. some_member (λ r. BodyIsWide g u r.body) rules c.deref-rule-items.result.now c.loop-rule.rule-index c.rule-item.result c.deref-rule-items.ensures.value c.loop-rule-test.true c.rule-item.is w)
     c.in_err-fires.ensures.refused)
+
+pub returns-in_err-fires-clause-unbound : goal.returns-in_err-fires-clause-unbound
+returns-in_err-fires-clause-unbound c =
+    let p = err_from_is_err_and c.from_residual.result c.from_residual.ensures.1 in
+    rw (p.1, p.2) (λ is. some_member (λ r. LeavesOpen (signature_view c.args.rules.now.signature) r.body) c.args.rules.now.rules.items c.deref-rule-items.result.now c.loop-rule.rule-index c.rule-item.result
+    c.deref-rule-items.ensures.value c.loop-rule-test.true c.rule-item.is (c.in_err-fires.ensures.unbound is))

@@ -11,6 +11,10 @@ use Rattle.kp_compile.specs.Parts.{seen}
 use Rattle.kp_successors.specs.Errors.{IsCausedBy}
 use Rattle.kp_successors.specs.Nexts.{new_of}
 use Rattle.kp_successors.specs.WideParts.{holds_none}
+use Rattle.kp_semantics.specs.Steps.{AnyByRecursion}
+use Rattle.kp_ground.specs.Solves.{bound_names}
+use Rattle.kp_successors.specs.Open.{IsOpenPart}
+use Rattle.kp_successors.specs.declared.error.GroundError.TheVariants.{Unbound}
 use Rattle.kp_successors.proofs.narrow.narrow.Goals as goal
 
 pub returns-clause-narrow : goal.returns-clause-narrow
@@ -24,3 +28,9 @@ returns-clause-refused c =
     let g = signature_view c.args.signature.now in
     let same : seen c.deref.result.now ≡ subpatterns (view c.args.side.now.term) = ap seen c.deref.ensures.value ∙ c.in_ok-parts.ensures in
     subst (λ ps. IfErr c.narrow_parts.result (IsCausedBy g ((v : Valuation) → Solves v c.args.bindings.now → list_any (λ q. holds_none (new_of c.args.side.now) q && computes_wide g v q) ps ≡ true))) same c.narrow_parts.ensures.refused
+
+pub returns-clause-unbound : goal.returns-clause-unbound
+returns-clause-unbound c =
+    let g = signature_view c.args.signature.now in
+    let same : seen c.deref.result.now ≡ subpatterns (view c.args.side.now.term) = ap seen c.deref.ensures.value ∙ c.in_ok-parts.ensures in
+    subst (λ ps. IfErr c.narrow_parts.result (λ e. e ≡ Unbound → AnyByRecursion (IsOpenPart g (bound_names c.args.bindings.now) c.args.side.now) ps)) same c.narrow_parts.ensures.unbound

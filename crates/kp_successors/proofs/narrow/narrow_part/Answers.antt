@@ -22,3 +22,8 @@ returns-clause-refused c =
     let yes : c.in_ok-has_no_new.field-0 ≡ true = search rules in
     let none : holds_none (new_of c.args.side.now) q ≡ true = sym c.in_ok-has_no_new.ensures ∙ yes in
     IfErr-weaker c.evaluates.result _ _ (λ e h. caused_by g _ _ e (λ w v s. both_of (holds_none (new_of c.args.side.now) q) (computes_wide g v q) none (w v s)) h) c.evaluates.ensures.refused
+
+pub returns-clause-unbound : goal.returns-clause-unbound
+returns-clause-unbound c =
+    let yes : c.in_ok-has_no_new.field-0 ≡ true = search rules in
+    IfErr-weaker c.evaluates.result _ _ (λ e h is. (sym c.in_ok-has_no_new.ensures ∙ yes, h is)) c.evaluates.ensures.unbound

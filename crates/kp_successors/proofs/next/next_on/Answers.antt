@@ -11,6 +11,10 @@ use Rattle.kp_rules.specs.Heads.{FindsFiring, FiresAs}
 use Rattle.kp_successors.specs.Nexts.{is_right_narrow}
 use Rattle.kp_successors.proofs.Refused.{caused_by}
 use Rattle.kp_successors.proofs.Finding.{next_moved, right_leaves}
+use Rattle.std.proofs.Common.{inl}
+use Rattle.kp_ground.specs.Solves.{bound_names}
+use Rattle.kp_successors.specs.Open.{IsRightOpen}
+use Rattle.kp_successors.proofs.Open.{side_open, right_open}
 use Rattle.kp_successors.proofs.next.next_on.Goals as goal
 
 pub returns-in_ok-next_of-in-Some-clause-next : goal.returns-in_ok-next_of-in-Some-clause-next
@@ -35,3 +39,19 @@ returns-in_err-next_of-in-Some-clause-refused c =
     rw (p.1, p.2) (caused_by g _ _ c.in_err-next_of-in-Some.field-0.0
     (λ w. right_leaves g r u c.in-Some.bindings.items solved some (subst (λ bs. (v : Valuation) → Solves v bs → is_right_narrow g r v ≡ false) c.deref.ensures.value w))
     c.in_err-next_of-in-Some.ensures.refused)
+
+pub returns-in_err-bindings-clause-unbound : goal.returns-in_err-bindings-clause-unbound
+returns-in_err-bindings-clause-unbound c =
+    let p = err_from_is_err_and c.from_residual.result c.from_residual.ensures.1 in
+    rw p.1 (λ is. inl (side_open c.in_err-bindings.field-0.0 p.0 (signature_view c.args.signature.now) c.args.rewrite.now (value_view c.args.value.now) p.2 c.in_err-bindings.ensures.firing is))
+
+pub returns-in_err-next_of-in-Some-clause-unbound : goal.returns-in_err-next_of-in-Some-clause-unbound
+returns-in_err-next_of-in-Some-clause-unbound c =
+    let g = signature_view c.args.signature.now in
+    let r = c.args.rewrite.now in
+    let u = value_view c.args.value.now in
+    let solved : (v : Valuation) → Solves v c.in-Some.bindings.items ↔ FiresAs g r u v = subst (λ o. FindsFiring (Ok o) g r u) c.in-Some.is c.in_ok-bindings.ensures.firing in
+    let some : IsSolvable c.in-Some.bindings.items = subst (λ o. IfSome o (λ new. IsSolvable new.items)) c.in-Some.is c.in_ok-bindings.ensures.solvable in
+    let p = err_from_is_err_and c.from_residual-in_err-next_of-in-Some.result c.from_residual-in_err-next_of-in-Some.ensures.1 in
+    rw (p.1, p.2) (λ is. right_open g r u c.in-Some.bindings.items solved some
+    (subst (λ bs. IsRightOpen g (bound_names bs) r r.choice) c.deref.ensures.value (c.in_err-next_of-in-Some.ensures.unbound is)))

@@ -10,6 +10,7 @@ use Rattle.kp_successors.specs.Turns.{AreNexts, IsWideAt}
 use Rattle.kp_successors.proofs.Asking.{nexts_after}
 use Rattle.kp_successors.proofs.Taken.{next_taken, some_member}
 use Rattle.kp_successors.proofs.Refused.{caused_by}
+use Rattle.kp_successors.specs.Open.{LeavesOpen}
 use Rattle.kp_successors.proofs.next.nexts_at.Goals as goal
 
 pub loop-rule-preserved : goal.loop-rule-preserved
@@ -36,3 +37,9 @@ returns-in_err-next-clause-refused c =
     rw (p.1, p.2) (caused_by g _ _ c.in_err-next.field-0.0
     (λ w. some_member (λ r. BodyIsWide g u r.body ⊎ IsWideAt g u n r) c.args.rules.now.rules.items c.deref-rule-items.result.now c.loop-rule.rule-index c.rule-item.result
     c.deref-rule-items.ensures.value c.loop-rule-test.true c.rule-item.is w) c.in_err-next.ensures.refused)
+
+pub returns-in_err-next-clause-unbound : goal.returns-in_err-next-clause-unbound
+returns-in_err-next-clause-unbound c =
+    let p = err_from_is_err_and c.from_residual.result c.from_residual.ensures.1 in
+    rw (p.1, p.2) (λ is. some_member (λ r. LeavesOpen (signature_view c.args.rules.now.signature) r.body) c.args.rules.now.rules.items c.deref-rule-items.result.now c.loop-rule.rule-index c.rule-item.result
+    c.deref-rule-items.ensures.value c.loop-rule-test.true c.rule-item.is (c.in_err-next.ensures.unbound is))

@@ -1,10 +1,12 @@
-use Rattle.std.proofs.Common.{rules, map, ◌≡◌, ◌∙◌, sym, ap, ap₂, refl, true, string_bytes}
+use Rattle.std.proofs.Common.{rules, map, ◌≡◌, ◌∙◌, sym, ap, ap₂, refl, true, not, subst, string_bytes}
 use Rattle.std.proofs.lemmas.Result.{err_from_is_err_and}
+use Rattle.kp_ground.proofs.Bound.{not_bound}
 use Rattle.kp_ground.proofs.TermLemmas.{err_of_arguments, term_values-terms_of, all_stay_narrow-terms_of}
 use Rattle.std.specs.List.{list_all}
 use Rattle.kp_semantics.specs.Value.{constructed}
 use Rattle.kp_ground.specs.View.{value_view, values_of}
-use Rattle.kp_ground.specs.Terms.{bound, built, term_value, stays_narrow}
+use Rattle.kp_ground.specs.Terms.{bound, built, term_value, stays_narrow, is_one_of}
+use Rattle.kp_ground.specs.Solves.{bound_names}
 use Rattle.kp_ground.specs.TermView.{term_view, terms_of}
 use Rattle.kp_ground.specs.declared.term.Term.{the_lemmas}
 use Rattle.kp_ground.proofs.term.Term.+evaluate.Goals as goal
@@ -13,6 +15,11 @@ pub evaluate-returns-in_ok-share-in-Some : goal.evaluate-returns-in_ok-share-in-
 evaluate-returns-in_ok-share-in-Some t c = λ v s.
     let is : term_view c.args.self.now ≡ bound (string_bytes c.in-Variable.name) = search (rules, the_lemmas) in
     rw is (c.in_ok-share-in-Some.ensures ∙ (sym (c.in-Some.ensures.found v s) ∙ ap v c.deref.ensures), refl)
+
+pub evaluate-returns-in-None : goal.evaluate-returns-in-None
+evaluate-returns-in-None t c =
+    let is : term_view c.args.self.now ≡ bound (string_bytes c.in-Variable.name) = search (rules, the_lemmas) in
+    rw is (subst (λ n. not (is_one_of n (bound_names c.args.bindings.now)) ≡ true) c.deref.ensures (not_bound c.deref.result.now c.args.bindings.now c.in-None.ensures.none))
 
 pub evaluate-returns-in_err-values-in-Built : goal.evaluate-returns-in_err-values-in-Built
 evaluate-returns-in_err-values-in-Built t c =

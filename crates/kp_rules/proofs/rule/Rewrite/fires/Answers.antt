@@ -39,3 +39,11 @@ returns-in-Some-clause-narrow c =
     let u = value_view c.args.value.now in
     let found = rw c.in-Some.is at c.in_ok-bindings.ensures.matches in
     c.fires_with.ensures.narrow u (first_bound c.args.self.now c.new.result.items c.in-Some.bindings.items u c.new.ensures.items found)
+
+pub returns-in-Some-clause-firing : goal.returns-in-Some-clause-firing
+returns-in-Some-clause-firing c =
+    let u = value_view c.args.value.now in
+    let found = rw c.in-Some.is at c.in_ok-bindings.ensures.matches in
+    let kept = rw c.in-Some.is at c.in_ok-bindings.ensures.solvable in
+    c.fires_with.ensures.firing u (first_bound c.args.self.now c.new.result.items c.in-Some.bindings.items u c.new.ensures.items found)
+    (kept (subst IsSolvable (sym c.new.ensures.items) ((λ x. truth false), tt)))

@@ -5,21 +5,21 @@ use Rattle.kp_rules.proofs.Firing.{none_fires, fires_kept, fires_not_told, none_
 use Rattle.kp_rules.proofs.rule.Rewrite.fires_where.Goals as goal
 
 pub returns-then-not-passed-clause-firing : goal.returns-then-not-passed-clause-firing
-returns-then-not-passed-clause-firing c = λ g u binds pass.
+returns-then-not-passed-clause-firing c = λ g u binds pass solvable.
     let so : c.args.passed ≡ false = search rules in
     none_fires g c.args.self.now c.args.bindings.items u c.args.passed so binds pass
 
 pub returns-in-Ok-clause-firing : goal.returns-in-Ok-clause-firing
-returns-in-Ok-clause-firing c = λ g u binds pass.
+returns-in-Ok-clause-firing c = λ g u binds pass solvable.
     let so : c.args.passed ≡ true = search rules in
     let gives : GivesTruth (Ok c.in-Ok.holds) c.args.bindings.items (condition_view c.args.self.now.condition) =
     subst (λ bs. GivesTruth (Ok c.in-Ok.holds) bs (condition_view c.args.self.now.condition)) c.deref.ensures.value c.in-Ok.ensures in
     fires_kept g c.args.self.now c.args.bindings.items u c.args.passed c.in-Ok.holds c.keep_if.result so gives c.keep_if.ensures binds pass
 
 pub returns-in-Err-clause-firing : goal.returns-in-Err-clause-firing
-returns-in-Err-clause-firing c = λ g u binds pass.
+returns-in-Err-clause-firing c = λ g u binds pass solvable.
     fires_not_told g c.args.self.now c.args.bindings.items u c.in-Err.error
-    (subst (λ bs. GivesTruth (Err c.in-Err.error) bs (condition_view c.args.self.now.condition)) c.deref.ensures.value c.in-Err.ensures) binds
+    (subst (λ bs. GivesTruth (Err c.in-Err.error) bs (condition_view c.args.self.now.condition)) c.deref.ensures.value c.in-Err.ensures) binds solvable
 
 pub returns-then-not-passed-clause-narrow : goal.returns-then-not-passed-clause-narrow
 returns-then-not-passed-clause-narrow c = λ g u binds pass v meets.
