@@ -3,5 +3,6 @@ pub mod Faults
 pub mod Links
 pub mod Report
 pub mod Rounds
+pub mod Script
 pub mod Sound
 pub mod View

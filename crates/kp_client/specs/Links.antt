@@ -1,6 +1,6 @@
 -- Links to a server: exchanges, what calls do to what a link tells, and when replies are right.
 -- Source: JSON-RPC 2.0 (requests, responses); the K Haskell backend's JSON-RPC documentation (execute, implies).
-use Rattle.std.specs.Prelude.{◌≡◌, ◌≤◌, ℕ, List, ◌++◌, Option, Some, option_map}
+use Rattle.std.specs.Prelude.{◌≡◌, ◌≤◌, ℕ, List, ◌++◌, map, Option, Some, option_map}
 use Rattle.std.specs.List.{AllByRecursion}
 use Rattle.serde_json.specs.Data.{Data, object, Members}
 use Rattle.serde_json.specs.Written.{compact_text}
@@ -24,10 +24,12 @@ pub record ToldTheory : Type 0 where
   pub theory : Theory
   pub main : Text
 
--- what a link tells: what each exchange over it meets, the exchanges so far, and how often it has failed
+-- what a link tells: what each exchange over it meets, the exchanges so far and the replies to come, where these are
+-- known, and how often it has failed
 pub record LinkState : Type 1 where
   pub meets : Exchange → Type 0
   pub exchanges : Option (List Exchange)
+  pub replies : Option (List (List ℕ))
   pub faults : ℕ
 
 -- the bytes are the text of the question
@@ -65,9 +67,11 @@ pub record IsRightExchange (t : ToldTheory) (e : Exchange) : Type 0 where
 abbrev pub Serves : LinkState → ToldTheory → Type 0
 Serves a t = (e : Exchange) → a.meets e → IsRightExchange t e
 
--- exactly these exchanges are made, and meet what the link tells, which later ones meet too
+-- exactly these exchanges are made, by the first of the replies to come, and meet what the link tells, which later ones
+-- meet too
 pub record Makes (before after : LinkState) (es : List Exchange) : Type 0 where
   pub keeps : (e : Exchange) → after.meets e → before.meets e
   pub exchanges : after.exchanges ≡ option_map (λ earlier. earlier ++ es) before.exchanges
+  pub replies : before.replies ≡ option_map (λ later. map (λ e. e.reply) es ++ later) after.replies
   pub faults : before.faults ≤ after.faults
   pub met : AllByRecursion before.meets es

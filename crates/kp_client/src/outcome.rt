@@ -15,7 +15,7 @@ pub enum Outcome {
     Refused { code: i64 },
 }
 
-/// How a claim is proved.
+/// How a claim is proved: by edges of one step, where nothing else is said.
 #[derive(Clone, Copy, Debug, PartialEq, Eq)]
 pub struct ProveOptions {
     /// How many steps an edge may have, from 1 to 10,000.
@@ -23,6 +23,10 @@ pub struct ProveOptions {
 }
 
 impl Default for ProveOptions {
+    ghost use Rattle.std.specs.Prelude.{◌≡◌};
+
+    ghost is_default = { λ o. o.max_depth ≡ 1 };
+
     fn default() -> Self {
         ProveOptions { max_depth: 1 }
     }

@@ -1,5 +1,6 @@
-ghost use Rattle.std.specs.Prelude.{◌≡◌, ◌∷◌, ◌++◌, [], ℕ, List, Some, None, ⊤, IfOk, IfErr, OnOk, OnErr};
+ghost use Rattle.std.specs.Prelude.{◌≡◌, ◌∷◌, ◌++◌, [], ⊤, IfOk, IfErr, OnOk, OnErr, length, map, option_map, slice_get};
 ghost use Rattle.kp_io.specs.Outside.{CountsFault};
+ghost use Rattle.kp_client.specs.Script.{script_state};
 ghost use Rattle.kp_client.specs.View.{exchanges_view};
 
 use crate::link::{Link, LinkError};
@@ -15,9 +16,12 @@ pub struct Spoken {
 /// A link in memory that gives the lines of a script in order, and fails behind the last.
 #[derive(Drop)]
 pub struct ScriptLink {
-    script: Vec<Vec<u8>>,
-    spoken: Vec<Spoken>,
-    faults: u64,
+    /// The lines that it gives, one for each question.
+    pub script: Vec<Vec<u8>>,
+    /// What was asked and replied so far, in order.
+    pub spoken: Vec<Spoken>,
+    /// How often it failed, up to the greatest number of 64 bits.
+    pub faults: u64,
 }
 
 impl ScriptLink {
@@ -34,16 +38,20 @@ impl ScriptLink {
         }
     }
 
-    /// What was asked and replied so far, in order.
-    pub fn spoken(&self) -> &[Spoken]
-        ensures { result.now ≡ self.now.spoken.items }
+    // The line that replies to the next question: none behind the last.
+    fn next_line(&self) -> Option<&[u8]>
+        ensures { option_map (λ line. line.now) result ≡ slice_get (map (λ line. line.items) self.now.script.items) (length self.now.spoken.items) }
     {
-        &self.spoken
+        match self.script.get(self.spoken.len()) {
+            Some(line) => Some(line),
+            None => None,
+        }
     }
 
     // Counts one more failure.
     fn count_fault(&mut self)
         ensures spoken { self.new.spoken ≡ self.old.spoken }
+        ensures script { self.new.script ≡ self.old.script }
         ensures rose { CountsFault self.old.faults self.new.faults ⊤ }
     {
         self.faults = self.faults.saturating_add(1);
@@ -54,6 +62,7 @@ impl ScriptLink {
         ensures noted { OnOk result (exchanges_view self.new.spoken.items ≡ exchanges_view self.old.spoken.items ++ record { frame = frame.items; reply = reply.items } ∷ []) }
         ensures kept { OnErr result (exchanges_view self.new.spoken.items ≡ exchanges_view self.old.spoken.items) }
         ensures faults { self.new.faults ≡ self.old.faults }
+        ensures script { self.new.script ≡ self.old.script }
         ensures memory { IfErr result (λ e. e ≡ LinkError.Memory) }
     {
         match self.spoken.push(Spoken { frame, reply }) {
@@ -71,14 +80,14 @@ fn copy_of(alloc: Global, bytes: &[u8]) -> Result<Vec<u8>, AllocError>
 }
 
 impl Link for ScriptLink {
-    ghost told = { λ s. record { meets = λ e. ⊤; exchanges = Some (exchanges_view s.spoken.items); faults = s.faults } };
+    ghost told = { λ s. script_state s };
 
     fn faults(&self) -> u64 {
         self.faults
     }
 
     fn ask(&mut self, alloc: Global, frame: &[u8]) -> Result<Vec<u8>, LinkError> {
-        match self.script.get(self.spoken.len()) {
+        match self.next_line() {
             Some(line) => {
                 let reply = copy_of(alloc, line)?;
                 let noted = copy_of(alloc, line)?;

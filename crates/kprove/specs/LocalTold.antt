@@ -7,6 +7,6 @@ use Rattle.kprove.specs.Ends.{IsSettingOf}
 use Rattle.kprove.specs.Proofs.{IsRepliedBy}
 use Rattle.kprove.specs.Right.{Setting}
 
--- each exchange is that of a server of each setting that the table is of; the exchanges aren't told, and none fails
+-- each exchange is that of a server of each setting that the table is of; neither the exchanges nor the replies to come are told, and none fails
 abbrev pub state_over : Table → LinkState
-state_over table = record { meets = λ e. (s : Setting) → IsSettingOf s table → IsRepliedBy s e; exchanges = None; faults = 0 }
+state_over table = record { meets = λ e. (s : Setting) → IsSettingOf s table → IsRepliedBy s e; exchanges = None; replies = None; faults = 0 }
