@@ -1,39 +1,13 @@
-use kp_kore::{Definition, Module, Name, Sentence};
 use kp_modules::{LoadError, reached};
+use kp_text::read_definition;
 use std::alloc::Global;
 use std::test::Fail;
 
-fn name(alloc: Global, text: &str) -> Result<Name, Fail> {
-    Ok(String::from_str(alloc, text)?)
-}
-
-// A module of this name with these imports.
-fn module(alloc: Global, text: &str, imports: &[&str]) -> Result<Module, Fail> {
-    let mut sentences = Vec::new(alloc);
-    for import in imports {
-        sentences.push(Sentence::Import {
-            name: name(alloc, *import)?,
-            attributes: Vec::new(alloc),
-        })?;
-    }
-    Ok(Module {
-        name: name(alloc, text)?,
-        sentences,
-        attributes: Vec::new(alloc),
-    })
-}
-
-fn definition(alloc: Global, modules: Vec<Module>) -> Definition {
-    Definition {
-        attributes: Vec::new(alloc),
-        modules,
-    }
-}
-
-// The names in order, each ended by a space, or the fault's code.
-fn order(alloc: Global, modules: Vec<Module>, main: &str) -> Result<String, Fail> {
+/// The names in order, each ended by a space, or the fault's code.
+fn order(alloc: Global, text: &str, main: &str) -> Result<String, Fail> {
+    let definition = read_definition(alloc, text.as_bytes()).map_err(|_| "no definition")?;
     let mut text = String::new(alloc);
-    match reached(alloc, &definition(alloc, modules), main) {
+    match reached(alloc, &definition, main) {
         Ok(found) => {
             for module in found {
                 text.push_str(module.name.as_str())?;
@@ -46,42 +20,29 @@ fn order(alloc: Global, modules: Vec<Module>, main: &str) -> Result<String, Fail
     Ok(text)
 }
 
-#[test]
-fn imports_come_first_and_once(rt: HostRuntime) -> Result<(), Fail> {
-    let alloc = rt.alloc();
-    let mut modules = Vec::new(alloc);
-    modules.push(module(alloc, "MAIN", &["B", "A", "B"])?)?;
-    modules.push(module(alloc, "A", &["C"])?)?;
-    modules.push(module(alloc, "B", &["D", "C"])?)?;
-    modules.push(module(alloc, "C", &[])?)?;
-    modules.push(module(alloc, "D", &[])?)?;
-    modules.push(module(alloc, "E", &["NOPE"])?)?;
-    let found = order(alloc, modules, "MAIN")?;
-    assert_eq!(rt; found.as_str(), "D C B A MAIN ");
-    Ok(())
-}
+/// Modules, and what is reached of MAIN.
+const ROWS: [(&str, &str); 5] = [
+    (
+        "[] module MAIN import B [] import A [] import B [] endmodule [] module A import C [] endmodule [] module B import D [] import C [] endmodule [] module C endmodule [] module D endmodule [] module E import NOPE [] endmodule []",
+        "D C B A MAIN ",
+    ),
+    (
+        "[] module MAIN import A [] endmodule [] module A import MAIN [] import NOPE [] endmodule []",
+        "M1",
+    ),
+    (
+        "[] module MAIN import A [] endmodule [] module A import MAIN [] endmodule []",
+        "M2",
+    ),
+    ("[] module A import A [] endmodule []", "M8"),
+    ("[] module A endmodule [] module A endmodule []", "M5"),
+];
 
 #[test]
-fn faults_are_told_in_order(rt: HostRuntime) -> Result<(), Fail> {
-    let alloc = rt.alloc();
-    let mut modules = Vec::new(alloc);
-    modules.push(module(alloc, "MAIN", &["A"])?)?;
-    modules.push(module(alloc, "A", &["MAIN", "NOPE"])?)?;
-    let found = order(alloc, modules, "MAIN")?;
-    assert_eq!(rt; found.as_str(), "M1");
-    let mut modules = Vec::new(alloc);
-    modules.push(module(alloc, "MAIN", &["A"])?)?;
-    modules.push(module(alloc, "A", &["MAIN"])?)?;
-    let found = order(alloc, modules, "MAIN")?;
-    assert_eq!(rt; found.as_str(), "M2");
-    let mut modules = Vec::new(alloc);
-    modules.push(module(alloc, "A", &["A"])?)?;
-    let found = order(alloc, modules, "MAIN")?;
-    assert_eq!(rt; found.as_str(), "M8");
-    let mut modules = Vec::new(alloc);
-    modules.push(module(alloc, "A", &[])?)?;
-    modules.push(module(alloc, "A", &[])?)?;
-    let found = order(alloc, modules, "MAIN")?;
-    assert_eq!(rt; found.as_str(), "M5");
+fn imports_come_first_and_once(rt: HostRuntime) -> Result<(), Fail> {
+    for (text, wanted) in ROWS {
+        let found = order(rt.alloc(), text, "MAIN")?;
+        assert_eq!(rt; found.as_str(), wanted);
+    }
     Ok(())
 }

@@ -23,6 +23,8 @@ mod substituting;
 #[cfg(test)]
 mod successors;
 #[cfg(test)]
+mod texts;
+#[cfg(test)]
 mod trees;
 #[cfg(test)]
 mod verifying;

@@ -67,7 +67,7 @@ fn two_edges_and_a_cover_pass(rt: HostRuntime) -> Result<(), Fail> {
     assert_eq!(rt; tree.status(), Status::Passed);
     let third = NodeId { number: 3 };
     assert!(rt; tree.has(third) && tree.state(third).equal(&state(alloc, "done")?));
-    let spoken = link.spoken();
+    let spoken = &link.spoken;
     assert_eq!(rt; spoken.len(), 5);
     assert_eq!(rt;
         spoken[0].frame.as_slice(),

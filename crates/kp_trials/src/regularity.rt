@@ -1,12 +1,9 @@
-use kp_kore::Module;
-use kp_signature::Signature;
+use crate::texts::signature;
 use kp_sorts::is_regular;
-use kp_text::read_definition;
 use std::alloc::Global;
 use std::test::Fail;
 
-const START: &str = r#"[]
-module VALUES
+const START: &str = r#"module VALUES
   hooked-sort SortInt{} [hook{}("INT.Int")]
   hooked-sort SortBool{} [hook{}("BOOL.Bool")]
   sort SortE{} []
@@ -21,19 +18,7 @@ fn regular_with(alloc: Global, sentences: &str) -> Result<bool, Fail> {
     let mut text = String::from_str(alloc, START)?;
     text.push_str(sentences)?;
     text.push_str(END)?;
-    let Ok(definition) = read_definition(alloc, text.as_bytes()) else {
-        return Err(Fail::from("no definition"));
-    };
-    let mut modules = Vec::new(alloc);
-    for module in &definition.modules {
-        modules.push(module)?;
-    }
-    regular_of(alloc, &modules)
-}
-
-/// Whether the signature of these modules is regular.
-fn regular_of(alloc: Global, modules: &[&Module]) -> Result<bool, Fail> {
-    let signature = Signature::new(alloc, modules)?;
+    let signature = signature(alloc, text.as_str())?;
     Ok(is_regular(&signature))
 }
 

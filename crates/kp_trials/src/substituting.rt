@@ -1,5 +1,5 @@
+use crate::texts::pattern;
 use kp_substitution::{Replacement, substitute};
-use kp_text::read_pattern;
 use std::alloc::Global;
 use std::test::Fail;
 
@@ -27,7 +27,7 @@ const ROWS: [(&str, &str); 5] = [
 fn replacement(alloc: Global, name: &str, term: &str) -> Result<Replacement, Fail> {
     Ok(Replacement {
         name: String::from_str(alloc, name)?,
-        term: read_pattern(alloc, term.as_bytes()).map_err(|_| "term")?,
+        term: pattern(alloc, term)?,
     })
 }
 
@@ -42,9 +42,9 @@ fn closed_terms_are_put_in_for_free_variables(rt: HostRuntime) -> Result<(), Fai
         .push(replacement(alloc, "Y", r#"Lblf{}()"#)?)
         .map_err(|_| "memory")?;
     for (text, wanted) in ROWS {
-        let pattern = read_pattern(alloc, text.as_bytes()).map_err(|_| "pattern")?;
-        let wanted = read_pattern(alloc, wanted.as_bytes()).map_err(|_| "wanted")?;
-        let found = substitute(alloc, &pattern, &replacements)?;
+        let before = pattern(alloc, text)?;
+        let wanted = pattern(alloc, wanted)?;
+        let found = substitute(alloc, &before, &replacements)?;
         assert!(rt; found.equal(&wanted));
     }
     Ok(())

@@ -1,8 +1,9 @@
+use crate::texts::pattern;
 use kp_kore::Pattern;
 use kp_modules::load;
 use kp_rules::RuleSet;
 use kp_successors::{GroundError, ground_step};
-use kp_text::{read_definition, read_pattern};
+use kp_text::read_definition;
 use std::alloc::Global;
 use std::test::Fail;
 
@@ -151,7 +152,7 @@ fn are_spelled(alloc: Global, patterns: &[Pattern], texts: &[&str]) -> Result<bo
         return Ok(false);
     }
     for i in 0..patterns.len().min(texts.len()) {
-        let wanted = read_pattern(alloc, texts[i].as_bytes()).map_err(|_| "pattern")?;
+        let wanted = pattern(alloc, texts[i])?;
         if !patterns[i].equal(&wanted) {
             return Ok(false);
         }
@@ -167,8 +168,8 @@ fn is_told(
     wanted: &[&str],
     refusal: &str,
 ) -> Result<bool, Fail> {
-    let pattern = read_pattern(alloc, text.as_bytes()).map_err(|_| "pattern")?;
-    match ground_step(alloc, rules, &pattern) {
+    let term = pattern(alloc, text)?;
+    match ground_step(alloc, rules, &term) {
         Ok(patterns) => {
             if !refusal.is_empty() {
                 return Ok(false);

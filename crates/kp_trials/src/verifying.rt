@@ -1,11 +1,10 @@
+use crate::texts::{pattern, signature};
 use kp_kore::Sort;
-use kp_signature::{Signature, VerifyError, sort_text, verify};
-use kp_text::{read_definition, read_pattern};
+use kp_signature::{VerifyError, sort_text, verify};
 use std::alloc::Global;
 use std::test::Fail;
 
-const DEFINITION: &str = r#"[]
-module COUNTING
+const COUNTING: &str = r#"module COUNTING
   hooked-sort SortInt{} [hook{}("INT.Int")]
   sort SortS{} []
   symbol Lblcount{}(SortInt{}) : SortS{} [constructor{}()]
@@ -42,17 +41,8 @@ fn sort_told(alloc: Global, code: &str, sort: &Sort) -> Result<String, Fail> {
 
 /// The sort of a pattern's text over the definition, or its first fault.
 fn verified(alloc: Global, text: &str) -> Result<String, Fail> {
-    let Ok(definition) = read_definition(alloc, DEFINITION.as_bytes()) else {
-        return Err(Fail::from("no definition"));
-    };
-    let mut modules = Vec::new(alloc);
-    for module in &definition.modules {
-        modules.push(module)?;
-    }
-    let signature = Signature::new(alloc, &modules)?;
-    let Ok(pattern) = read_pattern(alloc, text.as_bytes()) else {
-        return Err(Fail::from("no pattern"));
-    };
+    let signature = signature(alloc, COUNTING)?;
+    let pattern = pattern(alloc, text)?;
     match verify(alloc, &signature, &pattern) {
         Ok(sort) => Ok(sort_text(alloc, &sort)?),
         Err(error) => fault_text(alloc, error),
