@@ -1,6 +1,6 @@
 #!/usr/bin/env python3
 """check.py PROGRAM FIRST LAST: over random definitions, one for each number from FIRST to below LAST, what `kprove stdio` answers to
-requests of `execute` and what `kprove prove` reports of ground claims, against what `model.py` says. It prints each difference."""
+requests of `execute` and `implies` and what `kprove prove` reports of ground claims, against what `model.py` says. It prints each difference."""
 
 import collections
 import json
@@ -10,7 +10,7 @@ import sys
 import tempfile
 
 from definitions import Maker, claim_sides, claims_text
-from model import Wide, execute, prove, term_json, value_json, value_of, wrapped
+from model import Wide, execute, prove, sort_json, term_json, term_of, value_json, value_of, wrapped
 
 
 def line(reply):
@@ -28,6 +28,18 @@ def wanted_reply(definition, request_id, term, sort, bound):
     if reason == "aborted":
         result["foreign-rule"] = ended[4]
     return line({"id": request_id, "jsonrpc": "2.0", "result": result}), reason
+
+
+def wanted_implication(definition, antecedent, consequent):
+    """The reply to `implies` of two ground terms, each with its sort, and the word under which it is counted."""
+    (left, sort), (right, other) = antecedent, consequent
+    is_valid = value_of(left, {}) == value_of(right, {})
+    if sort != other:
+        error = {"code": 2, "data": {"kind": "T2"}, "message": "Could not verify pattern"}
+        return line({"error": error, "id": 1, "jsonrpc": "2.0"}), "T2"
+    top = wrapped({"sort": sort_json(sort), "tag": "Top"})
+    result = {"condition": {"predicate": top, "substitution": top}, "valid": True} if is_valid else {"valid": False}
+    return line({"id": 1, "jsonrpc": "2.0", "result": result}), "valid" if is_valid else "not valid"
 
 
 class Check:
@@ -54,6 +66,20 @@ class Check:
                 continue
             self.counts[word] += 1
             self.run(["stdio", path, "--module", "MAIN"], json.dumps(request).encode(), (0, reply), f"{name}, request {place}")
+
+    def implications(self, maker, path, name):
+        for place in range(3):
+            antecedent = maker.state()
+            try:
+                respelled = term_of(maker.definition, value_of(antecedent[0], {}), antecedent[1]), antecedent[1]
+                consequent = respelled if maker.chance(0.4) else maker.state()
+                reply, word = wanted_implication(maker.definition, antecedent, consequent)
+            except Wide:
+                continue
+            sides = {"antecedent": wrapped(term_json(antecedent[0])), "consequent": wrapped(term_json(consequent[0]))}
+            request = {"jsonrpc": "2.0", "id": 1, "method": "implies", "params": sides}
+            self.counts[word] += 1
+            self.run(["stdio", path, "--module", "MAIN"], json.dumps(request).encode(), (0, reply), f"{name}, implication {place}")
 
     def claims(self, maker, path, name):
         most_steps = maker.pick([None, 1, 2, 5, 100])
@@ -87,6 +113,7 @@ def main():
             with open(f"{room}/definition.kore", "w") as file:
                 file.write(maker.text())
             check.requests(maker, f"{room}/definition.kore", f"definition {number}")
+            check.implications(maker, f"{room}/definition.kore", f"definition {number}")
             check.claims(maker, f"{room}/definition.kore", f"definition {number}")
     print("differences:", check.differences, dict(check.counts))
     return 1 if check.differences else 0
