@@ -6,18 +6,18 @@ use std::alloc::Global;
 use std::test::Fail;
 
 /// The pattern of a text.
-pub fn pattern(alloc: Global, text: &str) -> Result<Pattern, Fail> {
+pub(crate) fn pattern(alloc: Global, text: &str) -> Result<Pattern, Fail> {
     Ok(read_pattern(alloc, text.as_bytes()).map_err(|_| "no pattern")?)
 }
 
 /// The signature of a module's text.
-pub fn signature(alloc: Global, text: &str) -> Result<Signature, Fail> {
+pub(crate) fn signature(alloc: Global, text: &str) -> Result<Signature, Fail> {
     let module = read_module(alloc, text.as_bytes()).map_err(|_| "no module")?;
     Ok(Signature::new(alloc, &[&module])?)
 }
 
 /// The last sentence of a module's text, an axiom.
-pub fn axiom(alloc: Global, text: &str) -> Result<AxiomSentence, Fail> {
+pub(crate) fn axiom(alloc: Global, text: &str) -> Result<AxiomSentence, Fail> {
     let mut module = read_module(alloc, text.as_bytes()).map_err(|_| "no module")?;
     match module.sentences.pop() {
         Some(Sentence::Axiom(axiom)) => Ok(axiom),
