@@ -98,6 +98,7 @@ class Verified:
 
     def __init__(self, definition):
         self.definition = definition
+        self.sorts = {}
 
     def refuse(self, kind, name):
         raise Fault(2, {"kind": kind, "name": name})
@@ -122,6 +123,8 @@ class Verified:
         self.fits(place, sort_text(tree["sort"]))
         if tree["tag"] == "DV":
             self.literal(tree["sort"]["name"], tree["value"])
+        else:
+            self.fits(self.sorts.setdefault(tree["name"], sort_text(tree["sort"])), sort_text(tree["sort"]))
         self.deep(depth)
         return sort_text(tree["sort"])
 
