@@ -1,4 +1,5 @@
 pub mod Made
+pub mod EachNode
 pub mod Nodes
 pub mod Trees
 pub mod StatesRead
@@ -6,5 +7,4 @@ pub mod Right
 pub mod Said
 pub mod Hearing
 pub mod Playing
-pub mod Lines
 pub mod Places

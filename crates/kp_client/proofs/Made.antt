@@ -1,6 +1,5 @@
 -- What calls do to what a link tells, one after another.
 use Rattle.std.proofs.Common.{◌≡◌, refl, sym, ◌∙◌, ap, ℕ, zero, suc, ◌≤◌, inl, inr, List, [], ◌∷◌, ◌++◌, map, length, drop, slice_get, Option, Some, None, option_map, append_assoc, arith}
-use Rattle.std.specs.Prelude.{⊤}
 use Rattle.std.specs.List.{AllByRecursion}
 use Rattle.kp_io.specs.Outside.{Rose}
 use Rattle.kp_client.specs.Links.{Exchange, LinkState, Makes}

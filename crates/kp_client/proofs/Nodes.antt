@@ -1,9 +1,10 @@
 -- The open node of the least number, and trees without an open node.
-use Rattle.std.proofs.Common.{◌≡◌, refl, sym, ◌∙◌, ap, ℕ, zero, suc, ◌+◌, ◌<◌, ◌≤◌, Bool, true, false, cond, inl, inr, Option, Some, None, is_none, List, [], ◌∷◌, length, slice_get, option_map, arith}
+use Rattle.std.proofs.Common.{◌≡◌, refl, sym, ◌∙◌, ap, ℕ, zero, suc, ◌+◌, ◌<◌, ◌≤◌, Bool, true, false, not, cond, inl, inr, Option, Some, None, is_none, List, [], ◌∷◌, length, slice_get, option_map, arith}
+use Rattle.std.specs.List.{AllByRecursion}
 use Rattle.std.proofs.lemmas.List.Sums.{sum_by-cons}
 use Rattle.std.proofs.lemmas.Option.{slice_get_within}
 use Rattle.kp_graph.specs.Tree.{ProofNode, NodeArc, HeldBy, IsNode, node_at, is_open, open_from, arc_fault}
-use Rattle.kp_graph.specs.Kept.{without_arc}
+use Rattle.kp_graph.specs.Kept.{is_settled, unsettled}
 use Rattle.kp_graph.proofs.Places.{at_place, none_open}
 use Rattle.kp_graph.proofs.Opened.{split}
 use Rattle.kp_client.specs.Rounds.{least_open, IsNoneHeld, IsFirstHeld}
@@ -44,26 +45,34 @@ open_at tree n e =
     let at : node_at tree n ≡ Some o.node = at_place tree n o.place number ∙ o.at in
     record { node = o.node; at = at; free = rw at (none_open o.node o.free); there = (omega arith, omega arith) }
 
--- where no node is open and none is held, each has an arc
-none_from : (k : ℕ) (tree : List ProofNode) → slice_get (open_from k tree) 0 ≡ None → ((i : ℕ) (x : ProofNode) → slice_get tree i ≡ Some x → x.held ≡ None) → without_arc tree ≡ 0
-none_from k [] e h = refl
-none_from k (x ∷ xs) e h = sum_by-cons (λ x. cond (is_none x.arc) 1 0) x xs ∙ by_arc x.arc x.held refl (h 0 x refl) e (none_from (k + 1) xs)
+-- what has an arc is settled: the prover makes no arc to no nodes
+abbrev pub IsSettledNode : ProofNode → Type 0
+IsSettledNode x = is_none x.arc ≡ false → is_settled x.arc ≡ true
+
+abbrev pub AreSettled : List ProofNode → Type 0
+AreSettled = AllByRecursion IsSettledNode
+
+-- where no node is open and none is held, each is settled
+none_from : (k : ℕ) (tree : List ProofNode) → AreSettled tree → slice_get (open_from k tree) 0 ≡ None → ((i : ℕ) (x : ProofNode) → slice_get tree i ≡ Some x → x.held ≡ None) → unsettled tree ≡ 0
+none_from k [] a e h = refl
+none_from k (x ∷ xs) a e h = sum_by-cons (λ x. cond (not (is_settled x.arc)) 1 0) x xs ∙ by_arc x.arc x.held refl (h 0 x refl) e (none_from (k + 1) xs a.1)
   where
     held_on : (i : ℕ) (y : ProofNode) → slice_get xs i ≡ Some y → y.held ≡ None
     held_on i y at = h (suc i) y at
 
-    by_arc : (a : Option NodeArc) (w : Option HeldBy) → x.arc ≡ a → w ≡ None → slice_get (open_from k (x ∷ xs)) 0 ≡ None → (slice_get (open_from (k + 1) xs) 0 ≡ None → ((i : ℕ) (y : ProofNode) → slice_get xs i ≡ Some y → y.held ≡ None) → without_arc xs ≡ 0) → cond (is_none x.arc) 1 0 + without_arc xs ≡ 0
+    by_arc : (b : Option NodeArc) (w : Option HeldBy) → x.arc ≡ b → w ≡ None → slice_get (open_from k (x ∷ xs)) 0 ≡ None → (slice_get (open_from (k + 1) xs) 0 ≡ None → ((i : ℕ) (y : ProofNode) → slice_get xs i ≡ Some y → y.held ≡ None) → unsettled xs ≡ 0) → cond (not (is_settled x.arc)) 1 0 + unsettled xs ≡ 0
     by_arc None w is none empty more =
         let free : is_open x ≡ true = rw (is, h 0 x refl) refl in
         let first : Some k ≡ None = rw free at empty in
         absurd (cc)
-    by_arc (Some a) w is none empty more =
+    by_arc (Some b) w is none empty more =
         let closed : is_open x ≡ false = rw is refl in
-        let rest : without_arc xs ≡ 0 = more (rw closed at empty) held_on in
-        rw is (omega arith)
+        let rest : unsettled xs ≡ 0 = more (rw closed at empty) held_on in
+        let settled : is_settled x.arc ≡ true = a.0 (ap is_none is) in
+        rw settled (omega arith)
 
-pub none_without : (tree : List ProofNode) → least_open tree ≡ None → IsNoneHeld tree → without_arc tree ≡ 0
-none_without tree e h = none_from 1 tree e (λ i x at. h (suc i) x at)
+pub none_unsettled : (tree : List ProofNode) → AreSettled tree → least_open tree ≡ None → IsNoneHeld tree → unsettled tree ≡ 0
+none_unsettled tree a e h = none_from 1 tree a e (λ i x at. h (suc i) x at)
 
 -- ---- held nodes
 

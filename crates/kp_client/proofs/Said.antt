@@ -9,7 +9,7 @@ use Rattle.kp_graph.specs.Tree.{ProofNode, HeldBy, node_at, arc_fault, with_arc}
 use Rattle.kp_graph.specs.Says.{TreeSays}
 use Rattle.kp_graph.proofs.Places.{at_place}
 use Rattle.kp_graph.proofs.Opened.{Opened, opened, changes, get_placed}
-use Rattle.kp_graph.proofs.SaidLemmas.{new_says, cover_says, stuck_says, hold_says, edge_says}
+use Rattle.kp_graph.proofs.SaidLemmas.{new_says, cover_says, stuck_says, hold_says, plain_edge_says}
 use Rattle.kp_graph.proofs.SaysLemmas.{passed_holds_closed}
 use Rattle.kp_rpc.specs.Questions.{IsReadBack}
 use Rattle.kp_rpc.specs.Implications.{DoesImply}
@@ -26,30 +26,30 @@ use Rattle.kp_client.proofs.Right.{cover_is_right, uncovered_is_right, edge_is_r
 
 -- ---- a round keeps what the arcs say
 
-says_stepping : (t : ToldTheory) (claim : ReachabilityClaim) (depth : ℕ) (tree : List ProofNode) (n : ℕ) (x : ProofNode) (es : List Exchange) (end : RoundEnd) → depth < 2 ^ 64 → IsReadBack x.state → TreeSays t.theory [] claim tree → arc_fault tree n ≡ None → node_at tree n ≡ Some x → AllByRecursion (IsRightExchange t) es → Stepping depth tree n x.state es end → TreeSays t.theory [] claim (end_tree end)
-says_stepping t claim depth tree n x es end fits back said free at right (rounds.edge e r beyond tells d p l) = edge_says t.theory [] claim tree n r.depth x beyond false said free at (edge_is_right t depth x.state beyond e r fits back right.0 tells d p)
-says_stepping t claim depth tree n x es end fits back said free at right (rounds.too_many e r tells d l) = hold_says t.theory [] claim tree n graph.nodes said
-says_stepping t claim depth tree n x es end fits back said free at right (rounds.stuck e r tells d w) = stuck_says t.theory [] claim tree n x said free at (stuck_is_right t depth x.state e r fits back right.0 tells d w)
-says_stepping t claim depth tree n x es end fits back said free at right (rounds.held e r tells d w) = hold_says t.theory [] claim tree n (graph.reply e.reply) said
+says_stepping : (t : ToldTheory) (claim : ReachabilityClaim) (depth : ℕ) (tree : List ProofNode) (n : ℕ) (x : ProofNode) (es : List Exchange) (end : RoundEnd) → depth < 2 ^ 64 → IsReadBack x.state → TreeSays t.theory [] [] claim tree → arc_fault tree n ≡ None → node_at tree n ≡ Some x → AllByRecursion (IsRightExchange t) es → Stepping depth tree n x.state es end → TreeSays t.theory [] [] claim (end_tree end)
+says_stepping t claim depth tree n x es end fits back said free at right (rounds.edge e r beyond tells d p l) = plain_edge_says t.theory [] [] claim tree n r.depth x [] beyond false said free at (edge_is_right t depth x.state beyond e r fits back right.0 tells d p)
+says_stepping t claim depth tree n x es end fits back said free at right (rounds.too_many e r tells d l) = hold_says t.theory [] [] claim tree n graph.nodes said free
+says_stepping t claim depth tree n x es end fits back said free at right (rounds.stuck e r tells d w) = stuck_says t.theory [] [] claim tree n x said free at (stuck_is_right t depth x.state e r fits back right.0 tells d w)
+says_stepping t claim depth tree n x es end fits back said free at right (rounds.held e r tells d w) = hold_says t.theory [] [] claim tree n (graph.reply e.reply) said free
 says_stepping t claim depth tree n x es end fits back said free at right (rounds.refused fs code r) = said
 
-says_round : (t : ToldTheory) (claim : ReachabilityClaim) (depth : ℕ) (tree : List ProofNode) (n : ℕ) (x : ProofNode) (es : List Exchange) (end : RoundEnd) → depth < 2 ^ 64 → free_variables claim.right ≡ [] → IsReadBack x.state → IsReadBack claim.right → TreeSays t.theory [] claim tree → arc_fault tree n ≡ None → node_at tree n ≡ Some x → AllByRecursion (IsRightExchange t) es → Round claim depth tree n x.state es end → TreeSays t.theory [] claim (end_tree end)
-says_round t claim depth tree n x es end fits closed back back' said free at right (rounds.covered e p q tells) = cover_says t.theory [] claim tree n x said free at (cover_is_right t claim x.state e p q closed back back' right.0 tells)
-says_round t claim depth tree n x es end fits closed back back' said free at right (rounds.undecided e tells) = hold_says t.theory [] claim tree n (graph.reply e.reply) said
+says_round : (t : ToldTheory) (claim : ReachabilityClaim) (depth : ℕ) (tree : List ProofNode) (n : ℕ) (x : ProofNode) (es : List Exchange) (end : RoundEnd) → depth < 2 ^ 64 → free_variables claim.right ≡ [] → IsReadBack x.state → IsReadBack claim.right → TreeSays t.theory [] [] claim tree → arc_fault tree n ≡ None → node_at tree n ≡ Some x → AllByRecursion (IsRightExchange t) es → Round claim depth tree n x.state es end → TreeSays t.theory [] [] claim (end_tree end)
+says_round t claim depth tree n x es end fits closed back back' said free at right (rounds.covered e p q tells) = cover_says t.theory [] [] claim tree n x said free at (cover_is_right t claim x.state e p q closed back back' right.0 tells)
+says_round t claim depth tree n x es end fits closed back back' said free at right (rounds.undecided e tells) = hold_says t.theory [] [] claim tree n (graph.reply e.reply) said free
 says_round t claim depth tree n x es end fits closed back back' said free at right (rounds.refused fs code r other) = said
 says_round t claim depth tree n x es end fits closed back back' said free at right (rounds.steps e fs last tells more) = says_stepping t claim depth tree n x fs last fits back said free at right.1 more
 
 -- ---- all rounds
 
-says_rounds : (t : ToldTheory) (claim : ReachabilityClaim) (depth k : ℕ) (tree : List ProofNode) (es : List Exchange) → depth < 2 ^ 64 → free_variables claim.right ≡ [] → AreReadBack claim → AllByRecursion (IsRightExchange t) es → Rounds claim depth k tree es → TreeSays t.theory [] claim tree
-says_rounds t claim depth k tree es fits closed back right none_yet = new_says t.theory [] claim
+says_rounds : (t : ToldTheory) (claim : ReachabilityClaim) (depth k : ℕ) (tree : List ProofNode) (es : List Exchange) → depth < 2 ^ 64 → free_variables claim.right ≡ [] → AreReadBack claim → AllByRecursion (IsRightExchange t) es → Rounds claim depth k tree es → TreeSays t.theory [] [] claim tree
+says_rounds t claim depth k tree es fits closed back right none_yet = new_says t.theory [] [] claim
 says_rounds t claim depth k tree es fits closed back right (one_more j before later fs more n x earlier least at round) =
     says_round t claim depth before n x more (goes_on later) fits closed (node_read before n x (rounds_read claim depth j before fs back.left earlier) at) back.right (says_rounds t claim depth j before fs fits closed back (all_front (IsRightExchange t) fs more right) earlier) (open_at before n least).free at (all_back (IsRightExchange t) fs more right) round
 
-says_proves : (t : ToldTheory) (claim : ReachabilityClaim) (depth : ℕ) (es : List Exchange) (tree : List ProofNode) (outcome : ProofOutcome) → depth < 2 ^ 64 → free_variables claim.right ≡ [] → AreReadBack claim → AllByRecursion (IsRightExchange t) es → Proves claim depth es tree outcome → TreeSays t.theory [] claim tree
+says_proves : (t : ToldTheory) (claim : ReachabilityClaim) (depth : ℕ) (es : List Exchange) (tree : List ProofNode) (outcome : ProofOutcome) → depth < 2 ^ 64 → free_variables claim.right ≡ [] → AreReadBack claim → AllByRecursion (IsRightExchange t) es → Proves claim depth es tree outcome → TreeSays t.theory [] [] claim tree
 says_proves t claim depth es tree outcome fits closed back right (in_round k before last fs more n x o rs l least at round) =
     says_round t claim depth before n x more (ends last o) fits closed (node_read before n x (rounds_read claim depth k before fs back.left rs) at) back.right (says_rounds t claim depth k before fs fits closed back (all_front (IsRightExchange t) fs more right) rs) (open_at before n least).free at (all_back (IsRightExchange t) fs more right) round
-says_proves t claim depth es tree outcome fits closed back right (after_rounds before fs n rs least) = hold_says t.theory [] claim before n graph.rounds (says_rounds t claim depth most_rounds before fs fits closed back right rs)
+says_proves t claim depth es tree outcome fits closed back right (after_rounds before fs n rs least) = hold_says t.theory [] [] claim before n graph.rounds (says_rounds t claim depth most_rounds before fs fits closed back right rs) (open_at before n least).free
 says_proves t claim depth es tree outcome fits closed back right (all_covered k before fs rs l least none) = says_rounds t claim depth k before fs fits closed back right rs
 says_proves t claim depth es tree outcome fits closed back right (some_held k before fs n why rs l least first) = says_rounds t claim depth k before fs fits closed back right rs
 
@@ -101,13 +101,13 @@ fails_proves t claim depth es tree outcome m fits back right (some_held k before
 
 -- ---- over a link that serves a theory
 
-pub proof_says : (before after : LinkState) (t : ToldTheory) (claim : ReachabilityClaim) (depth : ℕ) (tree : List ProofNode) (outcome : ProofOutcome) → depth < 2 ^ 64 → IsProved before after claim depth tree outcome → Serves before t → free_variables claim.right ≡ [] → AreReadBack claim → TreeSays t.theory [] claim tree
+pub proof_says : (before after : LinkState) (t : ToldTheory) (claim : ReachabilityClaim) (depth : ℕ) (tree : List ProofNode) (outcome : ProofOutcome) → depth < 2 ^ 64 → IsProved before after claim depth tree outcome → Serves before t → free_variables claim.right ≡ [] → AreReadBack claim → TreeSays t.theory [] [] claim tree
 proof_says before after t claim depth tree outcome fits h serves closed back = says_proves t claim depth h.exchanges tree outcome fits closed back (all_into before.meets (IsRightExchange t) serves h.exchanges h.makes.met) h.proves
 
 pub proof_holds : (before after : LinkState) (t : ToldTheory) (claim : ReachabilityClaim) (depth : ℕ) (tree : List ProofNode) (outcome : ProofOutcome) → depth < 2 ^ 64 → IsProved before after claim depth tree outcome → Serves before t → IsGround claim → AreReadBack claim → outcome ≡ passed → Holds t.theory claim
 proof_holds before after t claim depth tree outcome fits h serves ground back e =
     let from : IsFrom claim tree = from_proves claim depth h.exchanges tree outcome h.proves in
-    passed_holds_closed t.theory [] claim tree ground.left from.shape from.first (proof_says before after t claim depth tree outcome fits h serves ground.right back) (passed_proves claim depth h.exchanges tree outcome h.proves e)
+    passed_holds_closed t.theory claim tree ground.left from.shape from.first (proof_says before after t claim depth tree outcome fits h serves ground.right back) (passed_proves claim depth h.exchanges tree outcome h.proves e)
 
 pub proof_fails : (before after : LinkState) (t : ToldTheory) (claim : ReachabilityClaim) (depth : ℕ) (tree : List ProofNode) (outcome : ProofOutcome) (n : ℕ) → depth < 2 ^ 64 → IsProved before after claim depth tree outcome → Serves before t → AreReadBack claim → outcome ≡ failed_at n → IsStuckAt t.theory claim tree n
 proof_fails before after t claim depth tree outcome n fits h serves back e = fails_proves t claim depth h.exchanges tree outcome n fits back (all_into before.meets (IsRightExchange t) serves h.exchanges h.makes.met) h.proves e

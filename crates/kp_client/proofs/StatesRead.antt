@@ -1,13 +1,12 @@
 -- Each state of a proof's tree is read back, where the claim's left side is.
-use Rattle.std.proofs.Common.{◌≡◌, refl, subst, ℕ, zero, suc, ◌+◌, ◌-◌, Bool, false, Option, Some, None, List, [], ◌∷◌, ◌++◌, length, slice_get, set}
+use Rattle.std.proofs.Common.{◌≡◌, ℕ, ◌+◌, Bool, false, Option, Some, None, List, length}
 use Rattle.std.specs.Prelude.{codes}
-use Rattle.std.specs.Option.{option_map_or}
 use Rattle.std.specs.List.{AllByRecursion}
 use Rattle.serde_json.specs.Data.{Data}
 use Rattle.kp_kore.specs.Syntax.{KorePattern}
 use Rattle.kp_semantics.specs.Claims.{ReachabilityClaim}
 use Rattle.kp_graph.specs.Tree as graph
-use Rattle.kp_graph.specs.Tree.{ProofNode, NodeArc, HeldBy, node_at, changed, child_node, with_arc, with_hold, with_edge}
+use Rattle.kp_graph.specs.Tree.{ProofNode, NodeArc, HeldBy, node_at, child_node, with_arc, with_hold, with_edge}
 use Rattle.kp_rpc.specs.Questions.{IsReadBack}
 use Rattle.kp_rpc.specs.Reply.{ExecuteResult, IsStatePattern}
 use Rattle.kp_rpc.specs.Replied.{WrappedAt, OptionalAt, IsSpelledState, execute, executed, IsReplyOf}
@@ -15,6 +14,7 @@ use Rattle.kp_client.specs.Links.{Exchange}
 use Rattle.kp_client.specs.Rounds.{RoundEnd, goes_on, ends, Stepping, Round, Rounds, none_yet, one_more, step_question, Tells}
 use Rattle.kp_client.specs.Rounds as rounds
 use Rattle.kp_rpc.proofs.StatesBack.{state_read_back}
+use Rattle.kp_client.proofs.EachNode.{of_node, of_changed, of_more}
 use Rattle.kp_client.proofs.Trees.{end_tree}
 
 -- ---- nodes one after another
@@ -22,40 +22,17 @@ use Rattle.kp_client.proofs.Trees.{end_tree}
 abbrev pub AreStatesRead : List ProofNode → Type 0
 AreStatesRead = AllByRecursion (λ x. IsReadBack x.state)
 
-placed_read : (tree : List ProofNode) (i : ℕ) (x : ProofNode) → AreStatesRead tree → slice_get tree i ≡ Some x → IsReadBack x.state
-placed_read [] i x h at = absurd (cc)
-placed_read (y ∷ ys) zero x h at = let same : y ≡ x = cc in subst (λ (z : ProofNode). IsReadBack z.state) same h.0
-placed_read (y ∷ ys) (suc i) x h at = placed_read ys i x h.1 at
-
 pub node_read : (tree : List ProofNode) (n : ℕ) (x : ProofNode) → AreStatesRead tree → node_at tree n ≡ Some x → IsReadBack x.state
-node_read tree zero x h at = absurd (cc)
-node_read tree (suc i) x h at = placed_read tree i x h at
-
-set_read : (tree : List ProofNode) (i : ℕ) (y : ProofNode) → AreStatesRead tree → IsReadBack y.state → AreStatesRead (set tree i y)
-set_read [] i y h r = tt
-set_read (x ∷ xs) zero y h r = (r, h.1)
-set_read (x ∷ xs) (suc i) y h r = (h.0, set_read xs i y h.1 r)
-
--- a change that leaves states as they are
-changed_read : (f : ProofNode → ProofNode) (tree : List ProofNode) (n : ℕ) → ((x : ProofNode) → IsReadBack x.state → IsReadBack (f x).state) → AreStatesRead tree → AreStatesRead (changed f n tree)
-changed_read f tree n keeps h = by_node (node_at tree n) (λ x at. node_read tree n x h at)
-  where
-    by_node : (o : Option ProofNode) → ((x : ProofNode) → o ≡ Some x → IsReadBack x.state) → AreStatesRead (option_map_or (λ x. set tree (n - 1) (f x)) o tree)
-    by_node None reads = h
-    by_node (Some x) reads = set_read tree (n - 1) (f x) h (keeps x (reads x refl))
+node_read = of_node (λ x. IsReadBack x.state)
 
 arc_read : (tree : List ProofNode) (n : ℕ) (a : NodeArc) → AreStatesRead tree → AreStatesRead (with_arc n a tree)
-arc_read tree n a h = changed_read (λ x. record x { arc = Some a }) tree n (λ x r. r) h
+arc_read tree n a h = of_changed (λ x. IsReadBack x.state) (λ x. record x { arc = Some a }) tree n (λ x r. r) h
 
 hold_read : (tree : List ProofNode) (n : ℕ) (why : HeldBy) → AreStatesRead tree → AreStatesRead (with_hold n why tree)
-hold_read tree n why h = changed_read (λ x. record x { held = Some why }) tree n (λ x r. r) h
-
-more_read : (tree : List ProofNode) (z : ProofNode) → AreStatesRead tree → IsReadBack z.state → AreStatesRead (tree ++ z ∷ [])
-more_read [] z h r = (r, tt)
-more_read (x ∷ xs) z h r = (h.0, more_read xs z h.1 r)
+hold_read tree n why h = of_changed (λ x. IsReadBack x.state) (λ x. record x { held = Some why }) tree n (λ x r. r) h
 
 edge_read : (tree : List ProofNode) (n d : ℕ) (s : KorePattern) (terminal : Bool) → AreStatesRead tree → IsReadBack s → AreStatesRead (with_edge n d s terminal tree)
-edge_read tree n d s terminal h r = more_read (with_arc n (graph.edge d (length tree + 1) terminal) tree) (child_node n s terminal) (arc_read tree n (graph.edge d (length tree + 1) terminal) h) r
+edge_read tree n d s terminal h r = of_more (λ x. IsReadBack x.state) (with_arc n (graph.edge d (length tree + 1) terminal) tree) (child_node n s terminal) (arc_read tree n (graph.edge d (length tree + 1) terminal) h) r
 
 -- ---- the state of a reply
 

@@ -1,28 +1,30 @@
 -- Each round leaves a tree from the claim's left side, and no stuck node where the proof goes on.
-use Rattle.std.proofs.Common.{◌≡◌, refl, ◌∙◌, ap, ℕ, zero, suc, ◌+◌, Bool, true, false, Option, Some, None, List, [], ◌∷◌, ◌++◌, length, slice_get, set, option_map, arith}
+use Rattle.std.proofs.Common.{◌≡◌, refl, ◌∙◌, ap, ℕ, zero, suc, ◌+◌, Bool, true, false, ◌||◌, Option, Some, None, List, [], ◌∷◌, ◌++◌, length, slice_get, set, option_map, arith}
 use Rattle.std.specs.Option.{option_map_or}
 use Rattle.kp_kore.specs.Syntax.{KorePattern}
 use Rattle.kp_semantics.specs.Claims.{ReachabilityClaim}
 use Rattle.kp_graph.specs.Tree as graph
-use Rattle.kp_graph.specs.Tree.{ProofNode, NodeArc, HeldBy, IsTree, node_at, parent_of, is_child, arc_fault, leads_to, first_nodes, child_node, with_arc, with_hold, with_edge, status_of}
-use Rattle.kp_graph.specs.Kept.{some_stuck}
+use Rattle.kp_graph.specs.Tree.{ProofNode, NodeArc, HeldBy, IsTree, node_at, parent_of, is_child, arc_fault, leads_to, gives_progress, first_nodes, child_node, with_arc, with_hold, with_edge, status_of}
+use Rattle.kp_graph.specs.Kept.{is_settled, some_failed}
 use Rattle.kp_graph.specs.declared.status.Status.TheVariants.{Passed}
 use Rattle.kp_graph.proofs.Places.{same_look}
 use Rattle.kp_graph.proofs.Opened.{Opened, opened, changes}
 use Rattle.kp_graph.proofs.ShapeLemmas.{shape_with_arc, shape_with_hold}
-use Rattle.kp_graph.proofs.EdgeLemmas.{shape_with_edge}
-use Rattle.kp_graph.proofs.CallLemmas.{stuck_with_arc, stuck_with_hold, stuck_with_edge}
+use Rattle.kp_graph.proofs.GrowthLemmas.{shape_with_edge, failed_with_edge}
+use Rattle.kp_graph.proofs.CallLemmas.{failed_with_arc, failed_with_hold}
 use Rattle.kp_graph.proofs.StatusLemmas.{status_passed}
 use Rattle.kp_client.specs.Links.{Exchange}
 use Rattle.kp_client.specs.Rounds.{ProofOutcome, passed, failed_at, pending_at, refused_with, RoundEnd, goes_on, ends, Stepping, Round, Rounds, none_yet, one_more, Proves, in_round, after_rounds, all_covered, some_held, least_open, most_rounds}
 use Rattle.kp_client.specs.Rounds as rounds
-use Rattle.kp_client.proofs.Nodes.{open_at, none_without}
+use Rattle.kp_client.proofs.EachNode.{of_changed, of_more}
+use Rattle.kp_client.proofs.Nodes.{open_at, IsSettledNode, AreSettled, none_unsettled}
 
 -- ---- node 1 keeps its state
 
 pub record IsFrom (claim : ReachabilityClaim) (tree : List ProofNode) : Type 0 where
   pub shape : IsTree tree
   pub first : option_map (λ x. x.state) (node_at tree 1) ≡ Some claim.left
+  pub settled : AreSettled tree
 
 same_state : (o p : Option ProofNode) → option_map_or (λ x. Some x.state) o None ≡ option_map_or (λ x. Some x.state) p None → option_map (λ x. x.state) o ≡ option_map (λ x. x.state) p
 same_state None None e = refl
@@ -49,22 +51,32 @@ first_more (x ∷ xs) z s e = e
 
 -- ---- a tree from the left side
 
-no_lead_cover : (m : ℕ) → leads_to m (Some graph.cover) ≡ false
-no_lead_cover m = refl
+-- a leaf's arc leads to no node, and is settled
+record IsLeafArc (a : NodeArc) : Type 0 where
+  none : (m : ℕ) → leads_to m (Some a) ≡ false
+  still : (m : ℕ) → gives_progress m (Some a) ≡ false
+  settled : is_settled (Some a) ≡ true
 
-no_lead_stuck : (m : ℕ) → leads_to m (Some graph.stuck) ≡ false
-no_lead_stuck m = refl
+cover_leaf : IsLeafArc graph.cover
+cover_leaf = record { none = λ m. refl; still = λ m. refl; settled = refl }
 
-from_arc : (claim : ReachabilityClaim) (tree : List ProofNode) (n : ℕ) (a : NodeArc) → IsFrom claim tree → arc_fault tree n ≡ None → ((m : ℕ) → leads_to m (Some a) ≡ false) → IsFrom claim (with_arc n a tree)
-from_arc claim tree n a h free none = record { shape = shape_with_arc tree n a h.shape free none; first = first_arc tree n a free ∙ h.first }
+stuck_leaf : IsLeafArc graph.stuck
+stuck_leaf = record { none = λ m. refl; still = λ m. refl; settled = refl }
+
+settled_arc : (tree : List ProofNode) (n : ℕ) (a : NodeArc) → is_settled (Some a) ≡ true → AreSettled tree → AreSettled (with_arc n a tree)
+settled_arc tree n a is h = of_changed IsSettledNode (λ x. record x { arc = Some a }) tree n (λ x p e. is) h
+
+from_arc : (claim : ReachabilityClaim) (tree : List ProofNode) (n : ℕ) (a : NodeArc) → IsFrom claim tree → arc_fault tree n ≡ None → IsLeafArc a → IsFrom claim (with_arc n a tree)
+from_arc claim tree n a h free leaf = record { shape = shape_with_arc tree n a h.shape free leaf.none leaf.still; first = first_arc tree n a free ∙ h.first; settled = settled_arc tree n a leaf.settled h.settled }
 
 pub from_hold : (claim : ReachabilityClaim) (tree : List ProofNode) (n : ℕ) (why : HeldBy) → IsFrom claim tree → arc_fault tree n ≡ None → IsFrom claim (with_hold n why tree)
-from_hold claim tree n why h free = record { shape = shape_with_hold tree n why h.shape free; first = first_hold tree n why free ∙ h.first }
+from_hold claim tree n why h free = record { shape = shape_with_hold tree n why h.shape free; first = first_hold tree n why free ∙ h.first; settled = of_changed IsSettledNode (λ x. record x { held = Some why }) tree n (λ x p. p) h.settled }
 
 from_edge : (claim : ReachabilityClaim) (tree : List ProofNode) (n d : ℕ) (s : KorePattern) (terminal : Bool) → IsFrom claim tree → arc_fault tree n ≡ None → IsFrom claim (with_edge n d s terminal tree)
 from_edge claim tree n d s terminal h free = record {
   shape = shape_with_edge tree n d s terminal h.shape free;
   first = first_more (with_arc n (graph.edge d (length tree + 1) terminal) tree) (child_node n s terminal) claim.left (first_arc tree n (graph.edge d (length tree + 1) terminal) free ∙ h.first);
+  settled = of_more IsSettledNode (with_arc n (graph.edge d (length tree + 1) terminal) tree) (child_node n s terminal) (settled_arc tree n (graph.edge d (length tree + 1) terminal) refl h.settled) (λ e. absurd (cc));
 }
 
 -- the tree that a round leaves
@@ -75,32 +87,32 @@ end_tree (ends tree outcome) = tree
 from_stepping : (claim : ReachabilityClaim) (depth : ℕ) (tree : List ProofNode) (n : ℕ) (s : KorePattern) (es : List Exchange) (end : RoundEnd) → IsFrom claim tree → arc_fault tree n ≡ None → Stepping depth tree n s es end → IsFrom claim (end_tree end)
 from_stepping claim depth tree n s es end h free (rounds.edge e x beyond t d p l) = from_edge claim tree n x.depth beyond false h free
 from_stepping claim depth tree n s es end h free (rounds.too_many e x t d l) = from_hold claim tree n graph.nodes h free
-from_stepping claim depth tree n s es end h free (rounds.stuck e x t d r) = from_arc claim tree n graph.stuck h free no_lead_stuck
+from_stepping claim depth tree n s es end h free (rounds.stuck e x t d r) = from_arc claim tree n graph.stuck h free stuck_leaf
 from_stepping claim depth tree n s es end h free (rounds.held e x t d r) = from_hold claim tree n (graph.reply e.reply) h free
 from_stepping claim depth tree n s es end h free (rounds.refused fs code t) = h
 
 pub from_round : (claim : ReachabilityClaim) (depth : ℕ) (tree : List ProofNode) (n : ℕ) (s : KorePattern) (es : List Exchange) (end : RoundEnd) → IsFrom claim tree → arc_fault tree n ≡ None → Round claim depth tree n s es end → IsFrom claim (end_tree end)
-from_round claim depth tree n s es end h free (rounds.covered e p q t) = from_arc claim tree n graph.cover h free no_lead_cover
+from_round claim depth tree n s es end h free (rounds.covered e p q t) = from_arc claim tree n graph.cover h free cover_leaf
 from_round claim depth tree n s es end h free (rounds.undecided e t) = from_hold claim tree n (graph.reply e.reply) h free
 from_round claim depth tree n s es end h free (rounds.refused fs code t other) = h
 from_round claim depth tree n s es end h free (rounds.steps e fs last t more) = from_stepping claim depth tree n s fs last h free more
 
--- ---- no node is stuck where the proof goes on
+-- ---- no node has failed where the proof goes on
 
 abbrev IsCalm : RoundEnd → Type 0
-IsCalm (goes_on tree) = some_stuck tree ≡ false
+IsCalm (goes_on tree) = some_failed tree ≡ false
 IsCalm (ends tree outcome) = (outcome ≡ passed) → ⊥
 
-calm_stepping : (depth : ℕ) (tree : List ProofNode) (n : ℕ) (s : KorePattern) (es : List Exchange) (end : RoundEnd) → some_stuck tree ≡ false → arc_fault tree n ≡ None → Stepping depth tree n s es end → IsCalm end
-calm_stepping depth tree n s es end h free (rounds.edge e x beyond t d p l) = stuck_with_edge tree n x.depth beyond false free ∙ h
+calm_stepping : (depth : ℕ) (tree : List ProofNode) (n : ℕ) (s : KorePattern) (es : List Exchange) (end : RoundEnd) → some_failed tree ≡ false → arc_fault tree n ≡ None → Stepping depth tree n s es end → IsCalm end
+calm_stepping depth tree n s es end h free (rounds.edge e x beyond t d p l) = failed_with_edge tree n x.depth beyond false free ∙ h
 calm_stepping depth tree n s es end h free (rounds.too_many e x t d l) = λ o. absurd (cc)
 calm_stepping depth tree n s es end h free (rounds.stuck e x t d r) = λ o. absurd (cc)
-calm_stepping depth tree n s es end h free (rounds.held e x t d r) = stuck_with_hold tree n (graph.reply e.reply) free ∙ h
+calm_stepping depth tree n s es end h free (rounds.held e x t d r) = failed_with_hold tree n (graph.reply e.reply) free ∙ h
 calm_stepping depth tree n s es end h free (rounds.refused fs code t) = λ o. absurd (cc)
 
-calm_round : (claim : ReachabilityClaim) (depth : ℕ) (tree : List ProofNode) (n : ℕ) (s : KorePattern) (es : List Exchange) (end : RoundEnd) → some_stuck tree ≡ false → arc_fault tree n ≡ None → Round claim depth tree n s es end → IsCalm end
-calm_round claim depth tree n s es end h free (rounds.covered e p q t) = stuck_with_arc tree n graph.cover refl free ∙ h
-calm_round claim depth tree n s es end h free (rounds.undecided e t) = stuck_with_hold tree n (graph.reply e.reply) free ∙ h
+calm_round : (claim : ReachabilityClaim) (depth : ℕ) (tree : List ProofNode) (n : ℕ) (s : KorePattern) (es : List Exchange) (end : RoundEnd) → some_failed tree ≡ false → arc_fault tree n ≡ None → Round claim depth tree n s es end → IsCalm end
+calm_round claim depth tree n s es end h free (rounds.covered e p q t) = failed_with_arc tree n graph.cover free ∙ ap (λ b. b || false) h
+calm_round claim depth tree n s es end h free (rounds.undecided e t) = failed_with_hold tree n (graph.reply e.reply) free ∙ h
 calm_round claim depth tree n s es end h free (rounds.refused fs code t other) = λ o. absurd (cc)
 calm_round claim depth tree n s es end h free (rounds.steps e fs last t more) = calm_stepping depth tree n s fs last h free more
 
@@ -125,14 +137,16 @@ none_first claim = record {
   parent = λ p n e. absurd (no_child claim p n e);
   earlier = λ p n e. absurd (no_child claim p n e);
   held = refl;
+  start = refl;
+  progress = λ p n e. absurd (no_child claim p n e);
 }
 
 pub from_rounds : (claim : ReachabilityClaim) (depth k : ℕ) (tree : List ProofNode) (es : List Exchange) → Rounds claim depth k tree es → IsFrom claim tree
-from_rounds claim depth k tree es none_yet = record { shape = none_first claim; first = refl }
+from_rounds claim depth k tree es none_yet = record { shape = none_first claim; first = refl; settled = ((λ e. absurd (cc)), tt) }
 from_rounds claim depth k tree es (one_more j before later fs more n x earlier least at round) =
     from_round claim depth before n x.state more (goes_on later) (from_rounds claim depth j before fs earlier) (open_at before n least).free round
 
-pub calm_rounds : (claim : ReachabilityClaim) (depth k : ℕ) (tree : List ProofNode) (es : List Exchange) → Rounds claim depth k tree es → some_stuck tree ≡ false
+pub calm_rounds : (claim : ReachabilityClaim) (depth k : ℕ) (tree : List ProofNode) (es : List Exchange) → Rounds claim depth k tree es → some_failed tree ≡ false
 calm_rounds claim depth k tree es none_yet = refl
 calm_rounds claim depth k tree es (one_more j before later fs more n x earlier least at round) =
     calm_round claim depth before n x.state more (goes_on later) (calm_rounds claim depth j before fs earlier) (open_at before n least).free round
@@ -149,5 +163,5 @@ pub passed_proves : (claim : ReachabilityClaim) (depth : ℕ) (es : List Exchang
 passed_proves claim depth es tree outcome (in_round k before last fs more n x o rs l least at round) e =
     absurd (calm_round claim depth before n x.state more (ends last o) (calm_rounds claim depth k before fs rs) (open_at before n least).free round e)
 passed_proves claim depth es tree outcome (after_rounds before fs n rs least) e = absurd (cc)
-passed_proves claim depth es tree outcome (all_covered k before fs rs l least none) e = status_passed before (calm_rounds claim depth k before fs rs) (none_without before least none)
+passed_proves claim depth es tree outcome (all_covered k before fs rs l least none) e = status_passed before (calm_rounds claim depth k before fs rs) (none_unsettled before (from_rounds claim depth k before fs rs).settled least none)
 passed_proves claim depth es tree outcome (some_held k before fs n why rs l least first) e = absurd (cc)

@@ -1,7 +1,6 @@
 pub mod Answers
 pub mod Faults
 pub mod Links
-pub mod Report
 pub mod Rounds
 pub mod Script
 pub mod Sound

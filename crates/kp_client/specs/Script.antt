@@ -1,6 +1,6 @@
 -- What a link in memory tells.
 -- Source: this project.
-use Rattle.std.specs.Prelude.{List, map, length, drop, ℕ, Some, ⊤}
+use Rattle.std.specs.Prelude.{map, length, drop, Some, ⊤}
 use Rattle.kp_client.specs.Links.{LinkState}
 use Rattle.kp_client.specs.View.{exchanges_view}
 use Rattle.kp_client.specs.declared.script.ScriptLink.{ScriptLink}

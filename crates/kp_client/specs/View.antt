@@ -1,14 +1,12 @@
 -- What the Rust types of the prover stand for.
-use Rattle.std.specs.Prelude.{List, map, Option, Some, None, string_bytes}
+use Rattle.std.specs.Prelude.{List, map, Option, Some, None}
 use Rattle.kp_graph.specs.Tree.{ProofNode}
 use Rattle.kp_graph.specs.View.{why_view}
 use Rattle.kp_client.specs.Links.{Exchange}
 use Rattle.kp_client.specs.Rounds as rounds
 use Rattle.kp_client.specs.Rounds.{ProofOutcome, RoundEnd}
-use Rattle.kp_client.specs.Report.{ReportLine}
 use Rattle.kp_client.specs.declared.outcome.Outcome.{Outcome}
 use Rattle.kp_client.specs.declared.outcome.Outcome.TheVariants as outcome
-use Rattle.kp_client.specs.declared.report.Line.{Line}
 use Rattle.kp_client.specs.declared.script.Spoken.{Spoken}
 
 abbrev pub outcome_view : Outcome → ProofOutcome
@@ -16,9 +14,6 @@ outcome_view outcome.Passed = rounds.passed
 outcome_view (outcome.Failed node) = rounds.failed_at node.number
 outcome_view (outcome.Pending node why) = rounds.pending_at node.number (why_view why)
 outcome_view (outcome.Refused code) = rounds.refused_with code
-
-abbrev pub line_view : Line → ReportLine
-line_view l = record { label = string_bytes l.label; outcome = outcome_view l.result }
 
 -- a round that has an outcome ends the proof
 abbrev pub round_end : List ProofNode → Option Outcome → RoundEnd

@@ -1,6 +1,5 @@
 // The prover of reachability claims over a link to a server: it builds the tree of a proof by rounds of questions.
-// specs/Links.antt says what a link is, specs/Rounds.antt what each round asks and makes of the replies, specs/Report.antt
-// what is reported. Where a link serves a theory, its replies are right for it, and a claim that passes holds in it.
+// specs/Links.antt says what a link is, specs/Rounds.antt what each round asks and makes of the replies. Where a link serves a theory, its replies are right for it, and a claim that passes holds in it.
 #![tactic(auto)]
 
 mod cover;
@@ -9,7 +8,6 @@ mod hear;
 mod link;
 mod outcome;
 pub mod proving;
-pub mod report;
 mod round;
 mod script;
 mod steps;
@@ -17,5 +15,4 @@ mod steps;
 pub use link::{Link, LinkError};
 pub use outcome::{Outcome, ProveFault, ProveOptions};
 pub use proving::{prove, prove_claim};
-pub use report::{Line, report_text};
 pub use script::{ScriptLink, Spoken};

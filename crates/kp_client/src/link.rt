@@ -5,7 +5,7 @@ ghost use Rattle.kp_client.specs.Links.{LinkState, Makes};
 use std::alloc::{AllocError, Global};
 
 /// Why a link gave no reply.
-#[derive(Clone, Copy, Debug, PartialEq, Eq)]
+#[derive(Clone, Copy)]
 pub enum LinkError {
     /// The link failed: its count of faults rose.
     Failed,

@@ -16,7 +16,7 @@ pub enum Outcome {
 }
 
 /// How a claim is proved: by edges of one step, where nothing else is said.
-#[derive(Clone, Copy, Debug, PartialEq, Eq)]
+#[derive(Clone, Copy)]
 pub struct ProveOptions {
     /// How many steps an edge may have, from 1 to 10,000.
     pub max_depth: u64,
@@ -33,7 +33,7 @@ impl Default for ProveOptions {
 }
 
 /// Why a proof was broken off.
-#[derive(Clone, Copy, Debug, PartialEq, Eq)]
+#[derive(Clone, Copy, Debug)]
 pub enum ProveFault {
     /// The link failed: its count of faults rose.
     LinkFault,

@@ -103,7 +103,7 @@ pub fn prove_claim<L: Link>(
     ensures first { IfOk result (λ r. option_map (λ x. x.state) (node_at (tree_view r.1) 1) ≡ Some (claim_view claim.now).left) }
     ensures status { IfOk result (λ r. outcome_view r.0 ≡ passed → status_of (tree_view r.1) ≡ Passed) }
     // where the link serves a theory, and what is read of both sides' texts, if anything, is these sides
-    ensures says { (t : ToldTheory) → Serves (L.told link.old) t → free_variables (claim_view claim.now).right ≡ [] → AreReadBack (claim_view claim.now) → IfOk result (λ r. TreeSays t.theory [] (claim_view claim.now) (tree_view r.1)) }
+    ensures says { (t : ToldTheory) → Serves (L.told link.old) t → free_variables (claim_view claim.now).right ≡ [] → AreReadBack (claim_view claim.now) → IfOk result (λ r. TreeSays t.theory [] [] (claim_view claim.now) (tree_view r.1)) }
     ensures holds { (t : ToldTheory) → Serves (L.told link.old) t → IsGround (claim_view claim.now) → AreReadBack (claim_view claim.now) → IfOk result (λ r. outcome_view r.0 ≡ passed → Holds t.theory (claim_view claim.now)) }
     ensures stuck { (t : ToldTheory) (n : ℕ) → Serves (L.told link.old) t → AreReadBack (claim_view claim.now) → IfOk result (λ r. outcome_view r.0 ≡ failed_at n → IsStuckAt t.theory (claim_view claim.now) (tree_view r.1) n) }
     ensures link_fault { IsErrOf result LinkFault → Rose (L.told link.old).faults (L.told link.new).faults }
@@ -128,7 +128,7 @@ pub fn prove<L: Link>(
     ensures shape { IfOk result (λ r. IsTree (tree_view r.1)) }
     ensures first { (i : LabelledClaim) → slice_get (items_view claims.now) place ≡ Some i → IfOk result (λ r. option_map (λ x. x.state) (node_at (tree_view r.1) 1) ≡ Some i.claim.left) }
     ensures status { IfOk result (λ r. outcome_view r.0 ≡ passed → status_of (tree_view r.1) ≡ Passed) }
-    ensures says { (i : LabelledClaim) (t : ToldTheory) → slice_get (items_view claims.now) place ≡ Some i → Serves (L.told link.old) t → free_variables i.claim.right ≡ [] → AreReadBack i.claim → IfOk result (λ r. TreeSays t.theory [] i.claim (tree_view r.1)) }
+    ensures says { (i : LabelledClaim) (t : ToldTheory) → slice_get (items_view claims.now) place ≡ Some i → Serves (L.told link.old) t → free_variables i.claim.right ≡ [] → AreReadBack i.claim → IfOk result (λ r. TreeSays t.theory [] [] i.claim (tree_view r.1)) }
     ensures holds { (i : LabelledClaim) (t : ToldTheory) → slice_get (items_view claims.now) place ≡ Some i → Serves (L.told link.old) t → IsGround i.claim → AreReadBack i.claim → IfOk result (λ r. outcome_view r.0 ≡ passed → Holds t.theory i.claim) }
     ensures stuck { (i : LabelledClaim) (t : ToldTheory) (n : ℕ) → slice_get (items_view claims.now) place ≡ Some i → Serves (L.told link.old) t → AreReadBack i.claim → IfOk result (λ r. outcome_view r.0 ≡ failed_at n → IsStuckAt t.theory i.claim (tree_view r.1) n) }
     ensures link_fault { IsErrOf result LinkFault → Rose (L.told link.old).faults (L.told link.new).faults }

@@ -11,7 +11,8 @@ use Rattle.kp_kore.specs.Signature.{KoreSignature}
 use Rattle.kp_kore.specs.declared.pattern.Pattern.{Pattern}
 use Rattle.kp_semantics.specs.Value.{Value, next_value, values_same}
 use Rattle.kp_semantics.proofs.SameLemmas.{same_values_decide}
-use Rattle.kp_semantics.specs.Instance.{Valuation, instances, is_conjoined_pair, PairSame, IsTrueUnder, AllTrueUnder, SomeTrueUnder}
+use Rattle.kp_semantics.proofs.TruthLemmas.{decides_some}
+use Rattle.kp_semantics.specs.Instance.{Valuation, instances, is_conjoined_pair, PairSame, IsTrueUnder, AllTrueUnder, NoneTrueUnder}
 use Rattle.kp_ground.specs.Terms.{term_values, left_values}
 use Rattle.kp_ground.specs.TermView.{term_view, terms_of}
 use Rattle.kp_ground.specs.LeftView.{left_view, lefts_of}
@@ -87,11 +88,11 @@ each_true g v [] (c ∷ cs) z = absurd z
 each_true g v (p ∷ ps) [] z = absurd z
 each_true g v (p ∷ ps) (c ∷ cs) z = decides_both _ _ _ _ (z.0 v) (each_true g v ps cs z.1)
 
-pub some_true : (g : KoreSignature) (v : Valuation) (ps : List Pattern) (cs : List Condition) → AreConditionsOf g ps cs → Decides (any_holds v (conditions_of (map condition_view cs))) (SomeTrueUnder g v (patterns_view ps))
-some_true g v [] [] z = ((λ h. absurd (cc)), (λ h. absurd h))
+pub some_true : (g : KoreSignature) (v : Valuation) (ps : List Pattern) (cs : List Condition) → AreConditionsOf g ps cs → Decides (any_holds v (conditions_of (map condition_view cs))) (¬ NoneTrueUnder g v (patterns_view ps))
+some_true g v [] [] z = ((λ h. absurd (cc)), (λ n. absurd (n tt)))
 some_true g v [] (c ∷ cs) z = absurd z
 some_true g v (p ∷ ps) [] z = absurd z
-some_true g v (p ∷ ps) (c ∷ cs) z = decides_either _ _ _ _ (z.0 v) (some_true g v ps cs z.1)
+some_true g v (p ∷ ps) (c ∷ cs) z = decides_some _ _ _ _ (z.0 v) (some_true g v ps cs z.1)
 
 pub each_holds : (g : KoreSignature) (v : Valuation) (ps : List (Bor Pattern)) (cs : List Condition) → AllZip (λ p c. IsConditionOf g (view p.now) c) ps cs → Decides (all_hold v (conditions_of (map condition_view cs))) (AllByRecursion (λ p. IsTrueUnder g v (view p.now)) ps)
 each_holds g v [] [] z = ((λ h. tt), (λ h. refl))

@@ -1,7 +1,7 @@
 use std::alloc::{AllocError, AllocFailed};
 
 /// Why a pattern isn't compiled.
-#[derive(Clone, Copy, Debug, PartialEq, Eq)]
+#[derive(Clone, Copy)]
 pub enum CompileError {
     Memory,
     /// It isn't verified, or not of the form that is wanted, or has a foreign symbol.

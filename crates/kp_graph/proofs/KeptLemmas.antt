@@ -1,9 +1,10 @@
 -- What is kept beside the nodes, and what it tells.
 use Rattle.std.proofs.Common.{◌≡◌, refl, ◌∙◌, ap, ℕ, zero, suc, ◌+◌, ◌<◌, ◌≤◌, Bool, true, false, Some, ◌||◌, List, [], ◌∷◌, ◌++◌, length, slice_get, set, arith}
+use Rattle.std.specs.List.{AllByRecursion}
 use Rattle.std.proofs.Math.Bool.{or-false}
 use Rattle.std.proofs.lemmas.List.Folds.{list_any-append}
-use Rattle.kp_graph.specs.Tree.{ProofNode, is_open, open_from, is_stuck}
-use Rattle.kp_graph.specs.Kept.{before_open, some_stuck}
+use Rattle.kp_graph.specs.Tree.{ProofNode, is_open, open_from, is_failed}
+use Rattle.kp_graph.specs.Kept.{before_open, some_failed}
 
 -- ---- the nodes before the first open one
 
@@ -83,19 +84,23 @@ before_append (x ∷ xs) ys = by_test (is_open x) refl (before_append xs ys)
 
 -- ---- a tree that is changed at a node
 
-pub stuck_set : (tree : List ProofNode) (i : ℕ) (x y : ProofNode) → slice_get tree i ≡ Some x → is_stuck y.arc ≡ is_stuck x.arc → some_stuck (set tree i y) ≡ some_stuck tree
-stuck_set [] i x y at e = refl
-stuck_set (z ∷ zs) zero x y at e = let same : z ≡ x = cc in rw (same, e) refl
-stuck_set (z ∷ zs) (suc i) x y at e = ap (λ b. is_stuck z.arc || b) (stuck_set zs i x y at e)
+pub failed_set : (tree : List ProofNode) (i : ℕ) (x y : ProofNode) → slice_get tree i ≡ Some x → is_failed y.arc ≡ is_failed x.arc → some_failed (set tree i y) ≡ some_failed tree
+failed_set [] i x y at e = refl
+failed_set (z ∷ zs) zero x y at e = let same : z ≡ x = cc in rw (same, e) refl
+failed_set (z ∷ zs) (suc i) x y at e = ap (λ b. is_failed z.arc || b) (failed_set zs i x y at e)
 
-pub stuck_put : (tree : List ProofNode) (i : ℕ) (x y : ProofNode) → slice_get tree i ≡ Some x → is_stuck y.arc ≡ true → some_stuck (set tree i y) ≡ true
-stuck_put [] i x y at e = absurd (cc)
-stuck_put (z ∷ zs) zero x y at e = rw e refl
-stuck_put (z ∷ zs) (suc i) x y at e = by_test (is_stuck z.arc) (stuck_put zs i x y at e)
+pub failed_put : (tree : List ProofNode) (i : ℕ) (x y : ProofNode) → slice_get tree i ≡ Some x → is_failed y.arc ≡ true → some_failed (set tree i y) ≡ true
+failed_put [] i x y at e = absurd (cc)
+failed_put (z ∷ zs) zero x y at e = rw e refl
+failed_put (z ∷ zs) (suc i) x y at e = by_test (is_failed z.arc) (failed_put zs i x y at e)
   where
-    by_test : (b : Bool) → some_stuck (set zs i y) ≡ true → (b || some_stuck (set zs i y)) ≡ true
+    by_test : (b : Bool) → some_failed (set zs i y) ≡ true → (b || some_failed (set zs i y)) ≡ true
     by_test true more = refl
     by_test false more = more
 
-pub stuck_append : (tree : List ProofNode) (z : ProofNode) → is_stuck z.arc ≡ false → some_stuck (tree ++ z ∷ []) ≡ some_stuck tree
-stuck_append tree z e = list_any-append (λ x. is_stuck x.arc) tree (z ∷ []) ∙ rw e (or-false (some_stuck tree))
+pub failed_append : (tree zs : List ProofNode) → AllByRecursion (λ z. is_failed z.arc ≡ false) zs → some_failed (tree ++ zs) ≡ some_failed tree
+failed_append tree zs none = list_any-append (λ x. is_failed x.arc) tree zs ∙ ap (λ b. some_failed tree || b) (none_failed zs none) ∙ or-false (some_failed tree)
+  where
+    none_failed : (zs : List ProofNode) → AllByRecursion (λ z. is_failed z.arc ≡ false) zs → some_failed zs ≡ false
+    none_failed [] a = refl
+    none_failed (z ∷ zs) a = rw (a.0, none_failed zs a.1) refl

@@ -1,5 +1,5 @@
 -- An open node, and the list with another in its place.
-use Rattle.std.proofs.Common.{◌≡◌, refl, sym, ◌∙◌, ap, ℕ, zero, suc, ◌+◌, ◌-◌, ◌<◌, ◌≤◌, Bool, true, false, Option, Some, None, is_none, ◌&&◌, ◌⊎◌, inl, inr, List, [], ◌∷◌, ◌++◌, length, slice_get, set, arith}
+use Rattle.std.proofs.Common.{◌≡◌, refl, ◌∙◌, ap, ℕ, zero, suc, ◌+◌, ◌-◌, ◌<◌, ◌≤◌, Bool, true, false, Option, Some, None, is_none, ◌&&◌, ◌⊎◌, inl, inr, List, [], ◌∷◌, ◌++◌, length, slice_get, set, arith}
 use Rattle.std.specs.Option.{option_map_or}
 use Rattle.std.proofs.lemmas.Option.{slice_get_within}
 use Rattle.std.proofs.lemmas.List.{set-append_left}
@@ -44,15 +44,26 @@ changes f tree (suc i) o =
     let at : slice_get tree i ≡ Some o.node = ap (slice_get tree) same ∙ o.at in
     ap (λ v. option_map_or (λ x. set tree (suc i - 1) (f x)) v tree) at ∙ ap (λ k. set tree k (f o.node)) place
 
--- a node is changed before or after one more is added
-pub changes_front : (f : ProofNode → ProofNode) (tree : List ProofNode) (n : ℕ) (z : ProofNode) → arc_fault tree n ≡ None → changed f n (tree ++ z ∷ []) ≡ changed f n tree ++ z ∷ []
-changes_front f tree n z e =
-    let o : Opened tree n = opened tree n e in
-    let more : Opened (tree ++ z ∷ []) n = longer tree n z o in
-    changes f (tree ++ z ∷ []) n more ∙ set-append_left tree (z ∷ []) o.place (f o.node) o.within ∙ ap (λ l. l ++ z ∷ []) (sym (changes f tree n o))
+-- a node is changed before or after others are added
+pub changes_front : (f : ProofNode → ProofNode) (tree zs : List ProofNode) (i : ℕ) → i < length tree → changed f (i + 1) (tree ++ zs) ≡ changed f (i + 1) tree ++ zs
+changes_front f tree zs i within = by_node (slice_get tree i) refl
   where
-    longer : (tree : List ProofNode) (n : ℕ) (z : ProofNode) (o : Opened tree n) → Opened (tree ++ z ∷ []) n
-    longer tree n z o = record { node = o.node; place = o.place; number = o.number; within = slice_get_within (tree ++ z ∷ []) o.place o.node (get_front tree (z ∷ []) o.place o.within ∙ o.at); at = get_front tree (z ∷ []) o.place o.within ∙ o.at; arc = o.arc; held = o.held }
+    place : suc i - 1 ≡ i
+    place = omega arith
+
+    number : i + 1 ≡ suc i
+    number = omega arith
+
+    by_node : (o : Option ProofNode) → slice_get tree i ≡ o → changed f (i + 1) (tree ++ zs) ≡ changed f (i + 1) tree ++ zs
+    by_node None at = let none : ⊥ = past tree i within at in absurd none
+      where
+        past : (xs : List ProofNode) (i : ℕ) → i < length xs → slice_get xs i ≡ None → ⊥
+        past [] i l e = omega (arith, l)
+        past (x ∷ xs) zero l e = cc
+        past (x ∷ xs) (suc i) l e = past xs i (omega (arith, l)) e
+    by_node (Some x) at =
+        let front : slice_get (tree ++ zs) i ≡ Some x = get_front tree zs i within ∙ at in
+        rw (number, front, at, place) (set-append_left tree zs i (f x) within)
 
 -- ---- what stands where
 

@@ -2,7 +2,8 @@
 use Rattle.std.proofs.Common.{◌≡◌, refl, sym, ◌∙◌, ap, ℕ, suc, ◌+◌, ◌<◌, Bool, true, false, List, [], ◌∷◌, ◌++◌, map, length, drop, get_or, append_assoc, drop-cons, if◌then◌else◌, arith}
 use Rattle.std.proofs.lemmas.List.{length-map, map-append}
 use Rattle.std.proofs.lemmas.Option.{get_or_from_slice_get}
-use Rattle.kp_graph.specs.Tree.{is_open, open_from}
+use Rattle.kp_graph.specs.Tree.{ProofNode, is_open, open_from}
+use Rattle.kp_graph.specs.Kept.{before_open}
 use Rattle.kp_graph.specs.View.{node_view, nodes_view}
 use Rattle.kp_graph.specs.declared.node.Node.{Node}
 use Rattle.kp_graph.specs.declared.node.NodeId.{NodeId}
@@ -27,3 +28,12 @@ pub pending_else : (nodes items : List Node) (i : ℕ) (x : Node) (before after 
 pending_else nodes items i x before after all same within e o kept invariant =
     let here = from_place nodes i x false (rw same at within) (rw same at e) o in
     rw kept (ap (λ l. map (λ n. n.number) before ++ l) (sym here) ∙ invariant)
+
+-- the nodes before the first open one add nothing
+pub open_from_first : (n : ℕ) (tree : List ProofNode) → open_from (before_open tree + n) (drop (before_open tree) tree) ≡ open_from n tree
+open_from_first n [] = refl
+open_from_first n (x ∷ xs) = by_test (is_open x) refl (open_from_first (n + 1) xs)
+  where
+    by_test : (b : Bool) → is_open x ≡ b → open_from (before_open xs + (n + 1)) (drop (before_open xs) xs) ≡ open_from (n + 1) xs → open_from (before_open (x ∷ xs) + n) (drop (before_open (x ∷ xs)) (x ∷ xs)) ≡ open_from n (x ∷ xs)
+    by_test true o more = let zero : 0 + n ≡ n = omega arith in rw (o, zero) (rw o refl)
+    by_test false o more = let number : suc (before_open xs) + n ≡ before_open xs + (n + 1) = omega arith in rw (o, number) more

@@ -1,10 +1,10 @@
 -- Nodes by their numbers, and lists with one member in another's place.
-use Rattle.std.proofs.Common.{◌≡◌, refl, sym, ◌∙◌, ap, ℕ, zero, suc, ◌+◌, ◌-◌, ◌<◌, ◌≤◌, true, false, Option, Some, None, List, [], ◌∷◌, ◌++◌, length, slice_get, set, get_or, option_map, option_copied, Bor, arith}
+use Rattle.std.proofs.Common.{◌≡◌, refl, sym, ◌∙◌, ap, ℕ, zero, suc, ◌+◌, ◌-◌, ◌<◌, ◌≤◌, Bool, true, false, Option, Some, None, List, [], ◌∷◌, ◌++◌, length, slice_get, set, get_or, option_map, option_copied, Bor, arith}
 use Rattle.std.specs.Option.{option_map_or}
 use Rattle.std.proofs.lemmas.Option.{slice_get-map, slice_get_read, slice_get-get_or, get_or_from_slice_get}
 use Rattle.std.proofs.lemmas.List.{length-map, map-set}
 use Rattle.std.proofs.Math.Seq.{map-set_same}
-use Rattle.kp_graph.specs.Tree.{ProofNode, node_at, is_open, arc_fault, fault_of, changed}
+use Rattle.kp_graph.specs.Tree.{ProofNode, node_at, progress_at, is_open, arc_fault, fault_of, changed}
 use Rattle.kp_graph.specs.View.{node_view, nodes_view}
 use Rattle.kp_graph.specs.declared.node.Node.{Node}
 use Rattle.kp_graph.specs.declared.node.TreeFault.TheVariants.{NotOpen}
@@ -78,3 +78,14 @@ kept_at nodes i x within e = slice_get-map node_view nodes i ∙ ap (option_map 
 pub seen_through : (X Y : Type 0) (f : X → Y) (r : Option (Bor X)) (o : Option X) → option_copied r ≡ o → option_map (λ a. f a.now) r ≡ option_map f o
 seen_through X Y f None o e = rw (sym e) refl
 seen_through X Y f (Some a) o e = rw (sym e) refl
+
+-- the progress that is kept at a node
+pub kept_flag : (nodes : List Node) (n : ℕ) (x : Node) → 0 < n → n ≤ length (nodes_view nodes) → x ≡ get_or nodes (n - 1) x → progress_at (nodes_view nodes) n ≡ x.progress
+kept_flag nodes n x above within e = looked (node_at (nodes_view nodes) n) (read Bool (λ x. x.progress) nodes n x above within e)
+  where
+    looked : (o : Option ProofNode) → option_map (λ x. x.progress) o ≡ Some x.progress → option_map_or (λ x. x.progress) o false ≡ x.progress
+    looked None h = absurd (cc)
+    looked (Some y) h = cc
+
+pub kept_flag_at : (nodes : List Node) (n i : ℕ) (x : Node) → i + 1 ≡ n → i < length nodes → x ≡ get_or nodes i x → progress_at (nodes_view nodes) n ≡ x.progress
+kept_flag_at nodes n i x number within e = ap (λ o. option_map_or (λ y. y.progress) o false) (at_kept nodes n i number ∙ ap (option_map node_view) (slice_get_read nodes (length nodes) i x refl within e))

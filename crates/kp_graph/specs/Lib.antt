@@ -1,3 +1,4 @@
+pub mod Growth
 pub mod Kept
 pub mod Says
 pub mod Tree

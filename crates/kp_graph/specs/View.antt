@@ -1,18 +1,30 @@
 -- The nodes that the Rust types stand for.
-use Rattle.std.specs.Prelude.{List, map}
+use Rattle.std.specs.Prelude.{List, map, length, Option, String, string_bytes}
+use Rattle.std.specs.Global.{Global}
 use Rattle.std.specs.Option.{option_map}
+use Rattle.kp_kore.specs.Syntax.{Text}
 use Rattle.kp_kore.specs.View.{view}
-use Rattle.kp_graph.specs.Tree.{NodeArc, edge, cover, stuck, HeldBy, reply, rounds, nodes, ProofNode}
+use Rattle.kp_semantics.specs.Arcs.{BranchChild}
+use Rattle.kp_graph.specs.Tree.{NodeArc, edge, split, branch, cover, vacuous, stuck, terminal, HeldBy, reply, rounds, nodes, ProofNode, numbers_from}
 use Rattle.kp_graph.specs.declared.node.TreeArc.{TreeArc}
-use Rattle.kp_graph.specs.declared.node.TreeArc.TheVariants.{Edge, Cover, Stuck}
+use Rattle.kp_graph.specs.declared.node.TreeArc.TheVariants.{Edge, Split, Branch, Cover, Vacuous, Stuck, Terminal}
 use Rattle.kp_graph.specs.declared.node.Why.{Why}
 use Rattle.kp_graph.specs.declared.node.Why.TheVariants.{Held, Rounds, Nodes}
 use Rattle.kp_graph.specs.declared.node.Node.{Node}
+use Rattle.kp_graph.specs.declared.node.Child.{Child}
+
+-- the id of a rule, or none
+abbrev pub rule_view : Option (String Global) → Option Text
+rule_view = option_map string_bytes
 
 abbrev pub arc_view : TreeArc → NodeArc
-arc_view (Edge d to terminal) = edge d to.number terminal
+arc_view (Edge d to flagged) = edge d to.number flagged
+arc_view (Split first count) = split (numbers_from first.number count)
+arc_view (Branch rules first) = branch (map rule_view rules.items) (numbers_from first.number (length rules.items))
 arc_view Cover = cover
+arc_view Vacuous = vacuous
 arc_view Stuck = stuck
+arc_view Terminal = terminal
 
 abbrev pub why_view : Why → HeldBy
 why_view (Held bytes) = reply bytes.items
@@ -26,7 +38,11 @@ node_view x = record {
   flagged = x.flagged;
   arc = option_map arc_view x.arc;
   held = option_map why_view x.held;
+  progress = x.progress;
 }
 
 abbrev pub nodes_view : List Node → List ProofNode
 nodes_view = map node_view
+
+abbrev pub child_view : Child → BranchChild
+child_view k = record { state = view k.state; rule = rule_view k.rule }

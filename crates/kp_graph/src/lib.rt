@@ -1,5 +1,5 @@
-// The tree of a proof, as pyk's KCFG and APRProof keep one: nodes numbered from 1, each with its state, edges, covers,
-// stuck leaves, and nodes that are held. specs/Tree.antt says what each call does to the list of nodes, and what is
+// The tree of a proof, as pyk's KCFG and APRProof keep one: nodes numbered from 1, each with its state, edges, splits,
+// branches, covers, vacuous, stuck and terminal leaves, and nodes that are held. specs/Tree.antt says what each call does to the list of nodes, and what is
 // told of it; specs/Says.antt what the arcs say of the states, and that a passed tree makes its claim hold (laws.rt).
 #![tactic(auto)]
 
@@ -7,11 +7,9 @@ pub mod laws;
 mod node;
 mod nodes;
 mod status;
+mod steps;
 pub mod tree;
 
-pub use node::{NodeId, TreeArc, TreeFault, Why};
+pub use node::{Child, NodeId, TreeArc, TreeFault, Why};
 pub use status::Status;
 pub use tree::Tree;
-
-#[cfg(test)]
-mod tests;

@@ -8,7 +8,7 @@ pub struct NodeId {
 }
 
 /// What a node's state was found to do.
-#[derive(Clone, Copy, Debug, PartialEq, Eq)]
+#[derive(Drop)]
 pub enum TreeArc {
     /// So many steps on is the state of the node `to`, where a terminal rule may have applied.
     Edge {
@@ -16,10 +16,31 @@ pub enum TreeArc {
         to: NodeId,
         terminal: bool,
     },
+    /// The state is divided into those of so many nodes from `first` on.
+    Split {
+        first: NodeId,
+        count: usize,
+    },
+    /// What follows the state are those of the nodes from `first` on, each by the rule of this id, or by none.
+    Branch {
+        rules: Vec<Option<String>>,
+        first: NodeId,
+    },
     /// The state is one of the claim's right side.
     Cover,
+    /// The state has no instance.
+    Vacuous,
     /// No rule applies to the state.
     Stuck,
+    /// A terminal rule ended the run in the state, which isn't one of the claim's right side.
+    Terminal,
+}
+
+/// A state that follows a branch's, and the id of the rule by which it does; none where no rule fires.
+#[derive(Drop)]
+pub struct Child {
+    pub state: Pattern,
+    pub rule: Option<String>,
 }
 
 /// Why a node is held: it isn't asked about again.
@@ -56,7 +77,7 @@ impl From<AllocError> for TreeFault {
     }
 }
 
-/// A node as it is kept, with whether the path from node 1 to it holds an edge.
+/// A node as it is kept, with whether the path from node 1 to it has a step that is progress.
 #[derive(Drop)]
 pub struct Node {
     pub state: Pattern,

@@ -1,13 +1,15 @@
 // The nodes of a tree, as they are kept.
-ghost use Rattle.std.specs.Prelude.{◌≡◌, ◌↔◌, IsTrue, ◌+◌, ◌<◌, ◌≤◌, ◌∷◌, ◌++◌, [], length, Some, None, IfOk, IfErr, OnOk, OnErr, true};
+ghost use Rattle.std.specs.Prelude.{◌≡◌, ◌↔◌, IsTrue, ◌+◌, ◌<◌, ◌≤◌, ◌||◌, ◌∷◌, [], length, map, Some, None, IfOk, IfErr, OnOk, OnErr, false};
 ghost use Rattle.kp_kore.specs.View.{view};
-ghost use Rattle.kp_graph.specs.Tree.{edge, arc_fault, child_node, with_arc, with_hold, is_open as open_node};
-ghost use Rattle.kp_graph.specs.Kept.{before_open, progress_kept};
-ghost use Rattle.kp_graph.specs.View.{node_view, nodes_view, arc_view, why_view};
+ghost use Rattle.kp_semantics.specs.ClaimRules.{is_progress};
+ghost use Rattle.kp_graph.specs.Tree.{edge, split, branch, arc_fault, children_fault, open_node, numbers_from, with_arc, with_hold, with_children, is_open as is_open_node};
+ghost use Rattle.kp_graph.specs.Kept.{before_open};
+ghost use Rattle.kp_graph.specs.View.{node_view, nodes_view, arc_view, why_view, rule_view, child_view};
 
-use crate::node::{Node, NodeId, TreeArc, TreeFault, Why};
+use crate::node::{Child, Node, NodeId, TreeArc, TreeFault, Why};
+use crate::steps::is_step_progress;
 use kp_kore::Pattern;
-use std::alloc::AllocError;
+use std::alloc::{AllocError, Global};
 
 /// A tree has at most so many nodes.
 const MOST_NODES: usize = 10_000;
@@ -37,16 +39,33 @@ pub fn open_place(nodes: &[Node], node: NodeId) -> Result<usize, TreeFault>
 
 /// Whether a node has no arc and isn't held.
 pub fn is_open(node: &Node) -> bool
-    ensures { result ≡ open_node (node_view node.now) }
+    ensures { result ≡ is_open_node (node_view node.now) }
 {
     node.arc.is_none() && node.held.is_none()
 }
 
-/// Whether one more node may be made.
-pub fn has_room(nodes: &[Node]) -> bool
-    ensures { IsTrue result ↔ (length nodes.now < 10000) }
+/// Whether so many more nodes may be made.
+pub fn has_room(nodes: &[Node], count: usize) -> bool
+    ensures { IsTrue result ↔ (length nodes.now + count ≤ 10000) }
 {
-    nodes.len() < MOST_NODES
+    count <= MOST_NODES && nodes.len() <= MOST_NODES - count
+}
+
+/// The place of an open node that may get so many children, or K1, K2, K3.
+pub fn room_at(nodes: &[Node], node: NodeId, count: usize) -> Result<usize, TreeFault>
+    ensures fault { IfErr result (λ f. children_fault (nodes_view nodes.now) node.number count ≡ Some f) }
+    ensures opened { IfOk result (λ _. arc_fault (nodes_view nodes.now) node.number ≡ None) }
+    ensures room { IfOk result (λ _. children_fault (nodes_view nodes.now) node.number count ≡ None) }
+    ensures few { IfOk result (λ _. length nodes.now + count ≤ 10000) }
+    ensures place { IfOk result (λ i. i + 1 ≡ node.number) }
+    ensures within { IfOk result (λ i. i < length nodes.now) }
+{
+    let place = open_place(nodes, node)?;
+    if has_room(nodes, count) {
+        Ok(place)
+    } else {
+        Err(TreeFault::TooManyNodes)
+    }
 }
 
 /// An edge of so many steps to a node.
@@ -60,35 +79,128 @@ pub fn edge_to(depth: u64, to: NodeId, terminal: bool) -> TreeArc
     }
 }
 
-/// An open node with this state and parent, flagged where a terminal rule may have applied.
-pub fn open_child(state: Pattern, parent: NodeId, terminal: bool) -> Node
-    ensures node { node_view result ≡ child_node parent.number (view state) terminal }
-    ensures progress { result.progress ≡ true }
+/// A split into so many nodes.
+pub fn split_to(first: NodeId, count: usize) -> TreeArc
+    ensures { arc_view result ≡ split (numbers_from first.number count) }
+{
+    TreeArc::Split { first, count }
+}
+
+/// A branch to a node for each of these rules.
+pub fn branch_to(rules: Vec<Option<String>>, first: NodeId) -> TreeArc
+    ensures { arc_view result ≡ branch (map rule_view rules.items) (numbers_from first.number (length rules.items)) }
+{
+    TreeArc::Branch { rules, first }
+}
+
+/// An open node with this state and parent.
+pub fn new_node(state: Pattern, parent: NodeId, flagged: bool, progress: bool) -> Node
+    ensures { node_view result ≡ open_node parent.number (view state) flagged progress }
 {
     Node {
         state,
         parent: Some(parent),
-        flagged: terminal,
+        flagged,
         arc: None,
         held: None,
-        progress: true,
+        progress,
     }
 }
 
-/// One node more.
-pub fn add_node(nodes: &mut Vec<Node>, node: Node) -> Result<(), AllocError>
-    ensures added { OnOk result (nodes.new.items ≡ nodes.old.items ++ node ∷ []) }
+/// The nodes of a branch: open, with the progress of the node above or of their steps; and the rules of these.
+pub fn branch_nodes(
+    alloc: Global,
+    children: Vec<Child>,
+    parent: NodeId,
+    progress: bool,
+) -> Result<(Vec<Node>, Vec<Option<String>>), AllocError>
+    ensures nodes { IfOk result (λ r. nodes_view r.0.items ≡ map (λ k. open_node parent.number k.state false (progress || is_progress k.rule)) (map child_view children.items)) }
+    ensures rules { IfOk result (λ r. map rule_view r.1.items ≡ map (λ k. k.rule) (map child_view children.items)) }
+{
+    let mut nodes = Vec::new(alloc);
+    let mut rules = Vec::new(alloc);
+    for child in children {
+        let further = progress || is_step_progress(&child.rule);
+        nodes.push(new_node(child.state, parent, false, further))?;
+        rules.push(child.rule)?;
+    }
+    Ok((nodes, rules))
+}
+
+/// The nodes of a split: open, with the progress of the node above.
+pub fn part_nodes(
+    alloc: Global,
+    states: Vec<Pattern>,
+    parent: NodeId,
+    progress: bool,
+) -> Result<Vec<Node>, AllocError>
+    ensures { IfOk result (λ zs. nodes_view zs.items ≡ map (λ s. open_node parent.number s false progress) (map view states.items)) }
+{
+    let mut nodes = Vec::new(alloc);
+    for state in states {
+        nodes.push(new_node(state, parent, false, progress))?;
+    }
+    Ok(nodes)
+}
+
+/// How many nodes aren't settled, where an open one gets an arc to so many new ones.
+pub fn unsettled_after(before: usize, count: usize) -> usize
+    requires some { 1 ≤ before }
+    requires fits { before + count ≤ 20000 }
+    ensures none { count ≡ 0 → result ≡ before }
+    ensures more { 0 < count → result + 1 ≡ before + count }
+{
+    if count == 0 {
+        before
+    } else {
+        before - 1 + count
+    }
+}
+
+/// Whether some node has failed, where one more may have.
+pub fn either_failed(before: bool, now: bool) -> bool
+    ensures { result ≡ (before || now) }
+{
+    before || now
+}
+
+/// Puts one new node behind all others, and gives the node at this place an arc.
+pub fn add_one(
+    nodes: &mut Vec<Node>,
+    place: usize,
+    arc: TreeArc,
+    child: Node,
+) -> Result<(), AllocError>
+    requires { place < length nodes.old.items }
+    ensures added { OnOk result (nodes_view nodes.new.items ≡ with_children (place + 1) (arc_view arc) (node_view child ∷ []) (nodes_view nodes.old.items)) }
     ensures unchanged { OnErr result (nodes.new.items ≡ nodes.old.items) }
 {
-    nodes.push(node)?;
+    nodes.push(child)?;
+    give_arc(nodes, place, arc);
+    Ok(())
+}
+
+/// Puts new nodes behind all others, and gives the node at this place an arc.
+pub fn add_all(
+    nodes: &mut Vec<Node>,
+    place: usize,
+    arc: TreeArc,
+    children: Vec<Node>,
+) -> Result<(), AllocError>
+    requires { place < length nodes.old.items }
+    ensures added { OnOk result (nodes_view nodes.new.items ≡ with_children (place + 1) (arc_view arc) (nodes_view children.items) (nodes_view nodes.old.items)) }
+    ensures unchanged { OnErr result (nodes.new.items ≡ nodes.old.items) }
+{
+    let mut children = children;
+    nodes.append(&mut children)?;
+    give_arc(nodes, place, arc);
     Ok(())
 }
 
 /// Gives the node at this place an arc.
 pub fn give_arc(nodes: &mut [Node], place: usize, arc: TreeArc)
     requires { place < length nodes.old }
-    ensures arc { nodes_view nodes.new ≡ with_arc (place + 1) (arc_view arc) (nodes_view nodes.old) }
-    ensures progress { progress_kept nodes.new ≡ progress_kept nodes.old }
+    ensures { nodes_view nodes.new ≡ with_arc (place + 1) (arc_view arc) (nodes_view nodes.old) }
 {
     nodes[place].arc = Some(arc);
 }
@@ -96,8 +208,7 @@ pub fn give_arc(nodes: &mut [Node], place: usize, arc: TreeArc)
 /// Holds the node at this place.
 pub fn hold_node(nodes: &mut [Node], place: usize, why: Why)
     requires { place < length nodes.old }
-    ensures held { nodes_view nodes.new ≡ with_hold (place + 1) (why_view why) (nodes_view nodes.old) }
-    ensures progress { progress_kept nodes.new ≡ progress_kept nodes.old }
+    ensures { nodes_view nodes.new ≡ with_hold (place + 1) (why_view why) (nodes_view nodes.old) }
 {
     nodes[place].held = Some(why);
 }

@@ -1,9 +1,9 @@
 /// How a proof stands.
 #[derive(Clone, Copy, Debug, PartialEq, Eq)]
 pub enum Status {
-    /// Every leaf is a cover.
+    /// Every leaf is a cover or vacuous.
     Passed,
-    /// Some leaf is stuck.
+    /// Some leaf is stuck or terminal.
     Failed,
     /// Neither.
     Pending,

@@ -1,11 +1,12 @@
 ghost use Rattle.std.specs.Prelude.{◌≡◌};
 ghost use Rattle.kp_graph.specs.Tree.{IsTree};
-ghost use Rattle.kp_graph.specs.Kept.{before_open, some_stuck, without_arc as count_without_arc, progress_kept, has_parent};
+ghost use Rattle.kp_graph.specs.Kept.{before_open, some_failed as fails, unsettled as count_unsettled};
 ghost use Rattle.kp_graph.specs.View.{nodes_view};
 
-use crate::node::{Node, NodeId, TreeArc, TreeFault, Why};
+use crate::node::{Child, Node, NodeId, TreeArc, TreeFault, Why};
 use crate::nodes::{
-    add_node, edge_to, give_arc, has_room, hold_node, is_open, next_open, open_child, open_place,
+    add_all, add_one, branch_nodes, branch_to, edge_to, either_failed, give_arc, hold_node,
+    is_open, new_node, next_open, open_place, part_nodes, room_at, split_to, unsettled_after,
 };
 use crate::status::Status;
 use kp_kore::Pattern;
@@ -17,22 +18,22 @@ use std::alloc::{AllocError, Global};
 pub struct Tree {
     nodes: Vec<Node>,
     closed_before: usize,
-    stuck: bool,
-    without_arc: usize,
+    failed: bool,
+    unsettled: usize,
     ghost shape: { IsTree (nodes_view nodes.items) },
-    ghost progress: { progress_kept nodes.items ≡ has_parent (nodes_view nodes.items) },
     ghost first_open: { closed_before ≡ before_open (nodes_view nodes.items) },
-    ghost failed: { stuck ≡ some_stuck (nodes_view nodes.items) },
-    ghost unsettled: { without_arc ≡ count_without_arc (nodes_view nodes.items) },
+    ghost some_failed: { failed ≡ fails (nodes_view nodes.items) },
+    ghost counted: { unsettled ≡ count_unsettled (nodes_view nodes.items) },
 }
 
 impl Tree {
-    ghost use Rattle.std.specs.Prelude.{◌↔◌, IfOk, OnOk, OnErr, IsOk, IsTrue, IsOkUnless, Some, None, Ok, Err, length, map, slice_get};
+    ghost use Rattle.std.specs.Prelude.{◌↔◌, IfOk, OnOk, OnErr, IsOk, IsTrue, IsOkUnless, Some, None, Ok, Err, ℕ, false, true, length, map, slice_get};
     ghost use Rattle.std.specs.Option.{option_map};
     ghost use Rattle.kp_kore.specs.View.{view};
     ghost use Rattle.kp_semantics.specs.ClaimView.{claim_view};
-    ghost use Rattle.kp_graph.specs.Tree.{cover, stuck, first_nodes, with_arc, with_hold, with_edge, arc_fault, edge_fault, node_at, IsNode, open_nodes, HasProgress, status_of};
-    ghost use Rattle.kp_graph.specs.View.{arc_view, why_view};
+    ghost use Rattle.kp_graph.specs.Tree.{cover, vacuous, stuck, terminal, first_nodes, with_arc, with_hold, with_edge, with_split, with_branch, leads_to, gives_progress, is_failed, arc_fault, edge_fault, children_fault, node_at, IsNode, open_nodes, HasProgress, status_of};
+    ghost use Rattle.kp_graph.specs.View.{arc_view, why_view, child_view};
+    ghost use Rattle.kp_graph.specs.Kept.{is_settled};
     ghost use Rattle.kp_graph.specs.TreeView.{tree_view};
     ghost use Rattle.kp_graph.specs.declared.node.TreeFault.{TreeFault};
     ghost use Rattle.kp_graph.specs.declared.node.TreeFault.TheVariants.{Memory};
@@ -53,8 +54,8 @@ impl Tree {
         Ok(Tree {
             nodes,
             closed_before: 0,
-            stuck: false,
-            without_arc: 1,
+            failed: false,
+            unsettled: 1,
         })
     }
 
@@ -71,15 +72,67 @@ impl Tree {
         ensures memory { edge_fault (tree_view self.old) node.number ≡ None → IsOkUnless result Memory }
         ensures unchanged { OnErr result (tree_view self.new ≡ tree_view self.old) }
     {
-        let place = open_place(&self.nodes, node)?;
-        if !has_room(&self.nodes) {
-            return Err(TreeFault::TooManyNodes);
-        }
-        let to = NodeId {
+        let place = room_at(&self.nodes, node, 1)?;
+        let first = NodeId {
             number: self.nodes.len() + 1,
         };
-        add_node(&mut self.nodes, open_child(state, node, terminal))?;
-        give_arc(&mut self.nodes, place, edge_to(depth, to, terminal));
+        let child = new_node(state, node, terminal, true);
+        add_one(
+            &mut self.nodes,
+            place,
+            edge_to(depth, first, terminal),
+            child,
+        )?;
+        self.closed_before = next_open(&self.nodes, self.closed_before);
+        Ok(())
+    }
+
+    /// A split of an open node into new open nodes with these states.
+    pub fn split(
+        &mut self,
+        alloc: Global,
+        node: NodeId,
+        states: Vec<Pattern>,
+    ) -> Result<(), TreeFault>
+        ensures added { OnOk result (tree_view self.new ≡ with_split node.number (map view states.items) (tree_view self.old)) }
+        ensures refused { (f : TreeFault) → children_fault (tree_view self.old) node.number (length states.items) ≡ Some f → result ≡ Err f }
+        ensures memory { children_fault (tree_view self.old) node.number (length states.items) ≡ None → IsOkUnless result Memory }
+        ensures unchanged { OnErr result (tree_view self.new ≡ tree_view self.old) }
+    {
+        let count = states.len();
+        let place = room_at(&self.nodes, node, count)?;
+        let first = NodeId {
+            number: self.nodes.len() + 1,
+        };
+        let progress = self.nodes[place].progress;
+        let children = part_nodes(alloc, states, node, progress)?;
+        add_all(&mut self.nodes, place, split_to(first, count), children)?;
+        self.unsettled = unsettled_after(self.unsettled, count);
+        self.closed_before = next_open(&self.nodes, self.closed_before);
+        Ok(())
+    }
+
+    /// A branch of an open node to new open nodes with these states, each by the rule of its id or by none.
+    pub fn branch(
+        &mut self,
+        alloc: Global,
+        node: NodeId,
+        children: Vec<Child>,
+    ) -> Result<(), TreeFault>
+        ensures added { OnOk result (tree_view self.new ≡ with_branch node.number (map child_view children.items) (tree_view self.old)) }
+        ensures refused { (f : TreeFault) → children_fault (tree_view self.old) node.number (length children.items) ≡ Some f → result ≡ Err f }
+        ensures memory { children_fault (tree_view self.old) node.number (length children.items) ≡ None → IsOkUnless result Memory }
+        ensures unchanged { OnErr result (tree_view self.new ≡ tree_view self.old) }
+    {
+        let count = children.len();
+        let place = room_at(&self.nodes, node, count)?;
+        let first = NodeId {
+            number: self.nodes.len() + 1,
+        };
+        let progress = self.nodes[place].progress;
+        let (nodes, rules) = branch_nodes(alloc, children, node, progress)?;
+        add_all(&mut self.nodes, place, branch_to(rules, first), nodes)?;
+        self.unsettled = unsettled_after(self.unsettled, count);
         self.closed_before = next_open(&self.nodes, self.closed_before);
         Ok(())
     }
@@ -91,11 +144,17 @@ impl Tree {
         ensures accepted { arc_fault (tree_view self.old) node.number ≡ None → IsOk result }
         ensures unchanged { OnErr result (tree_view self.new ≡ tree_view self.old) }
     {
-        let place = open_place(&self.nodes, node)?;
-        give_arc(&mut self.nodes, place, TreeArc::Cover);
-        self.without_arc -= 1;
-        self.closed_before = next_open(&self.nodes, self.closed_before);
-        Ok(())
+        self.close(node, TreeArc::Cover, false)
+    }
+
+    /// The state of an open node has no instance.
+    pub fn vacuous(&mut self, node: NodeId) -> Result<(), TreeFault>
+        ensures added { OnOk result (tree_view self.new ≡ with_arc node.number vacuous (tree_view self.old)) }
+        ensures refused { (f : TreeFault) → arc_fault (tree_view self.old) node.number ≡ Some f → result ≡ Err f }
+        ensures accepted { arc_fault (tree_view self.old) node.number ≡ None → IsOk result }
+        ensures unchanged { OnErr result (tree_view self.new ≡ tree_view self.old) }
+    {
+        self.close(node, TreeArc::Vacuous, false)
     }
 
     /// No rule applies to the state of an open node.
@@ -105,12 +164,17 @@ impl Tree {
         ensures accepted { arc_fault (tree_view self.old) node.number ≡ None → IsOk result }
         ensures unchanged { OnErr result (tree_view self.new ≡ tree_view self.old) }
     {
-        let place = open_place(&self.nodes, node)?;
-        give_arc(&mut self.nodes, place, TreeArc::Stuck);
-        self.without_arc -= 1;
-        self.stuck = true;
-        self.closed_before = next_open(&self.nodes, self.closed_before);
-        Ok(())
+        self.close(node, TreeArc::Stuck, true)
+    }
+
+    /// A terminal rule ended the run in the state of an open node, which isn't covered.
+    pub fn terminal(&mut self, node: NodeId) -> Result<(), TreeFault>
+        ensures added { OnOk result (tree_view self.new ≡ with_arc node.number terminal (tree_view self.old)) }
+        ensures refused { (f : TreeFault) → arc_fault (tree_view self.old) node.number ≡ Some f → result ≡ Err f }
+        ensures accepted { arc_fault (tree_view self.old) node.number ≡ None → IsOk result }
+        ensures unchanged { OnErr result (tree_view self.new ≡ tree_view self.old) }
+    {
+        self.close(node, TreeArc::Terminal, true)
     }
 
     /// An open node gets no arc, and is no longer open.
@@ -126,13 +190,13 @@ impl Tree {
         Ok(())
     }
 
-    /// Passed where every leaf is a cover, failed where one is stuck, else pending.
+    /// Passed where every leaf is a cover or vacuous, failed where one is stuck or terminal, else pending.
     pub fn status(&self) -> Status
         ensures { result ≡ status_of (tree_view self.now) }
     {
-        if self.stuck {
+        if self.failed {
             Status::Failed
-        } else if self.without_arc == 0 {
+        } else if self.unsettled == 0 {
             Status::Passed
         } else {
             Status::Pending
@@ -144,10 +208,12 @@ impl Tree {
         ensures { IfOk result (λ ids. map (λ n. n.number) ids.items ≡ open_nodes (tree_view self.now)) }
     {
         let mut pending = Vec::new(alloc);
-        for (place, node) in self.nodes.iter().enumerate() {
-            if is_open(node) {
+        let mut place = self.closed_before;
+        while place < self.nodes.len() {
+            if is_open(&self.nodes[place]) {
                 pending.push(NodeId { number: place + 1 })?;
             }
+            place += 1;
         }
         Ok(pending)
     }
@@ -180,7 +246,7 @@ impl Tree {
         node.number > 0 && node.number <= self.nodes.len()
     }
 
-    /// Whether the path from node 1 to the node holds an edge.
+    /// Whether the path from node 1 to the node has a step that is progress.
     pub fn progress(&self, node: NodeId) -> bool
         requires { IsNode (tree_view self.now) node.number }
         ensures { IsTrue result ↔ HasProgress (tree_view self.now) node.number }
@@ -226,5 +292,24 @@ impl Tree {
         ensures { option_map (λ x. x.held) (node_at (tree_view self.now) node.number) ≡ Some (option_map (λ w. why_view w.now) result) }
     {
         self.nodes[node.number - 1].held.as_ref()
+    }
+
+    /// An open node becomes a leaf that its arc tells about.
+    fn close(&mut self, node: NodeId, arc: TreeArc, fails: bool) -> Result<(), TreeFault>
+        requires leaf { (m : ℕ) → leads_to m (Some (arc_view arc)) ≡ false }
+        requires still { (m : ℕ) → gives_progress m (Some (arc_view arc)) ≡ false }
+        requires settles { is_settled (Some (arc_view arc)) ≡ true }
+        requires fails { is_failed (Some (arc_view arc)) ≡ fails }
+        ensures added { OnOk result (tree_view self.new ≡ with_arc node.number (arc_view arc) (tree_view self.old)) }
+        ensures refused { (f : TreeFault) → arc_fault (tree_view self.old) node.number ≡ Some f → result ≡ Err f }
+        ensures accepted { arc_fault (tree_view self.old) node.number ≡ None → IsOk result }
+        ensures unchanged { OnErr result (tree_view self.new ≡ tree_view self.old) }
+    {
+        let place = open_place(&self.nodes, node)?;
+        give_arc(&mut self.nodes, place, arc);
+        self.unsettled -= 1;
+        self.failed = either_failed(self.failed, fails);
+        self.closed_before = next_open(&self.nodes, self.closed_before);
+        Ok(())
     }
 }

@@ -19,7 +19,7 @@ use std::alloc::{AllocError, AllocFailed, Global};
 use std::rc::Rc;
 
 /// Why a term has no value here.
-#[derive(Debug, PartialEq, Eq, Drop)]
+#[derive(Debug, Drop)]
 pub enum EvaluationError {
     Memory,
     /// A call computes a number beyond signed 128 bits.

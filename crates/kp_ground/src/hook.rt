@@ -1,7 +1,7 @@
 ghost use Rattle.std.specs.Prelude.{◌≡◌};
 
 /// Sum, difference, product of whole numbers.
-#[derive(Clone, Copy, Debug, PartialEq, Eq)]
+#[derive(Clone, Copy)]
 pub enum Arithmetic {
     Addition,
     Subtraction,
@@ -9,7 +9,7 @@ pub enum Arithmetic {
 }
 
 /// Comparisons of whole numbers.
-#[derive(Clone, Copy, Debug, PartialEq, Eq)]
+#[derive(Clone, Copy)]
 pub enum Comparison {
     Equal,
     Different,
@@ -20,7 +20,7 @@ pub enum Comparison {
 }
 
 /// Functions of two truth values.
-#[derive(Clone, Copy, Debug, PartialEq, Eq)]
+#[derive(Clone, Copy)]
 pub enum Connective {
     Both,
     Either,
@@ -30,7 +30,7 @@ pub enum Connective {
 }
 
 /// The functions of two values that have a meaning. `hook_view` in specs/HookView.antt says which.
-#[derive(Clone, Copy, Debug, PartialEq, Eq)]
+#[derive(Clone, Copy)]
 pub enum Hook {
     Arithmetic(Arithmetic),
     Comparison(Comparison),

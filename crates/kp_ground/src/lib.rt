@@ -21,6 +21,3 @@ pub use hook::{Arithmetic, Comparison, Connective, Hook};
 pub use left::Left;
 pub use term::Term;
 pub use value::Value;
-
-#[cfg(test)]
-mod tests;

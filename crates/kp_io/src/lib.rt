@@ -26,6 +26,3 @@ pub use sink::Sink;
 pub use source::Source;
 pub use stream::{Incoming, Outgoing};
 pub use whole::{put_all, read_all};
-
-#[cfg(test)]
-mod tests;

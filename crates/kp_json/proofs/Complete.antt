@@ -4,7 +4,7 @@ use Rattle.std.specs.Prelude.{codes}
 use Rattle.serde_json.specs.Data.{Data, array, object, Items, item, Members}
 use Rattle.kp_kore.specs.Syntax.{Text, KoreSort, KoreSorts, next_sort, KorePattern, negation, implication, equivalence, rewriting, exists, forall, ceil, floor, equals, membership, KorePatterns, no_patterns, next_pattern}
 use Rattle.kp_json.specs.Members.{Has, HasText, Lacks}
-use Rattle.kp_json.specs.Faults.{read, after, are_objects, sort_items, sort_reading, pattern_items, sort_alone, name_and_sort, sort_and_value, symbol_and_lists, sort_and_one, sort_and_two, sorts_and_one, sorts_and_two, bound_and_one, one_read, two_read, sort_and_members, pattern_within, wrapped_reading}
+use Rattle.kp_json.specs.Faults.{read, after, are_objects, sort_items, sort_reading, pattern_items, sort_alone, name_and_sort, sort_and_value, symbol_and_lists, sort_and_one, sort_and_two, sorts_and_one, sorts_and_two, bound_and_one, one_read, two_read, double_tagged, single_tagged, sort_and_members, pattern_within, wrapped_reading}
 use Rattle.kp_json.specs.Trees.{HasName, SpellsSort, sort_app, sort_var, SpellSorts, sorts_end, sorts_more, SortAt, SpellsPattern, evar, app, dv, top_tree, bottom_tree, not_tree, and_tree, or_tree, implies_tree, iff_tree, rewrites_tree, exists_tree, forall_tree, equals_tree, in_tree, ceil_tree, floor_tree, SpellPatterns, patterns_end, patterns_more, SpellsTwo, two_trees, SpellsMembers, listed, first_and_second, SpellsWrapped, wrapper}
 use Rattle.kp_json.proofs.Sorts.{sort_unfolds}
 
@@ -55,34 +55,43 @@ reads_at o key s h =
     record { members = r.members; has = h.has ∙ ap Some r.is; reads = r.reads }
 
 alone_reads : (o : Members) (s : KoreSort) → ReadsAt o (codes "sort") s → sort_alone o ≡ read s
+unfolding sort_alone
 alone_reads o s h = rw h.has h.reads
 
 name_and_sort_reads : (o : Members) (n : Text) (s : KoreSort) → HasName o (codes "name") n → ReadsAt o (codes "sort") s → name_and_sort o ≡ read (n, s)
+unfolding name_and_sort
 name_and_sort_reads o n s name h = rw (name.text, h.has, name.identifier, h.reads) refl
 
 sort_and_value_reads : (o : Members) (s : KoreSort) (t : Text) → ReadsAt o (codes "sort") s → HasText o (codes "value") t → sort_and_value o ≡ read (s, t)
+unfolding sort_and_value
 sort_and_value_reads o s t h value = rw (h.has, value, h.reads) refl
 
 symbol_and_lists_reads : (o : Members) (n : Text) (ts : Items) (ss : KoreSorts) (ds : Items) → HasName o (codes "name") n → Has o (codes "sorts") (array ts) → ReadSorts (codes "sorts") ts ss
     → Has o (codes "args") (array ds) → are_objects ds ≡ true → symbol_and_lists o ≡ read (n, ss, ds)
+unfolding symbol_and_lists
 symbol_and_lists_reads o n ts ss ds name sorts all args objects = rw (name.text, sorts, args, name.identifier, all.objects, objects, all.reads) refl
 
 sort_and_one_reads : (o : Members) (s : KoreSort) (d : Members) → ReadsAt o (codes "sort") s → Has o (codes "arg") (object d) → sort_and_one o ≡ read (s, d)
+unfolding sort_and_one
 sort_and_one_reads o s d h arg = rw (h.has, arg, h.reads) refl
 
 sort_and_two_reads : (first second : Text) (o : Members) (s : KoreSort) (d e : Members) → ReadsAt o (codes "sort") s → Has o first (object d) → Has o second (object e)
     → sort_and_two first second o ≡ read (s, d, e)
+unfolding sort_and_two
 sort_and_two_reads first second o s d e h one two = rw (h.has, one, two, h.reads) refl
 
 sorts_and_one_reads : (o : Members) (a s : KoreSort) (d : Members) → ReadsAt o (codes "argSort") a → ReadsAt o (codes "sort") s → Has o (codes "arg") (object d) → sorts_and_one o ≡ read (a, s, d)
+unfolding sorts_and_one
 sorts_and_one_reads o a s d below h arg = rw (below.has, h.has, arg, below.reads, h.reads) refl
 
 sorts_and_two_reads : (o : Members) (a s : KoreSort) (d e : Members) → ReadsAt o (codes "argSort") a → ReadsAt o (codes "sort") s → Has o (codes "first") (object d) → Has o (codes "second") (object e)
     → sorts_and_two o ≡ read (a, s, d, e)
+unfolding sorts_and_two
 sorts_and_two_reads o a s d e below h one two = rw (below.has, h.has, one, two, below.reads, h.reads) refl
 
 bound_and_one_reads : (o : Members) (s : KoreSort) (x : Text) (t : KoreSort) (d : Members) → ReadsAt o (codes "sort") s → HasName o (codes "var") x → ReadsAt o (codes "varSort") t → Has o (codes "arg") (object d)
     → bound_and_one o ≡ read (s, x, t, d)
+unfolding bound_and_one
 bound_and_one_reads o s x t d h name below arg = rw (h.has, name.text, below.has, arg, name.identifier, h.reads, below.reads) refl
 
 -- ---- patterns
@@ -126,6 +135,7 @@ listed_read n o s ds ps h has all = rw (h.has, has, all.objects, h.reads, all.re
 
 pair_read : (n : ℕ) (o : Members) (s : KoreSort) (p q : KorePattern) → ReadsAt o (codes "sort") s → Lacks o (codes "patterns") → ReadsTwo n o (codes "first") (codes "second") p q
     → sort_and_members (pattern_within n) o ≡ read (s, next_pattern p (next_pattern q no_patterns))
+unfolding sort_and_two
 pair_read n o s p q h lacks two = rw (h.has, lacks, two.left_has, two.right_has, h.has, h.reads, two.left, two.right) refl
 
 two_reads : (n : ℕ) (o : Members) (first second : Text) (s : KoreSort) (p q : KorePattern) (make : KoreSort → KorePattern → KorePattern → KorePattern)
@@ -150,6 +160,8 @@ one_reads : (n : ℕ) (o : Members) (s : KoreSort) (d : Data) (p : KorePattern)
 one_reads n o s d p h arg one = rw (sort_and_one_reads o s one.members h (arg ∙ ap Some one.is), one.reads) refl
 
 mutual
+  unfolding single_tagged double_tagged
+
   complete : (n : ℕ) (d : Data) (p : KorePattern) → SpellsPattern n d p → ReadsPattern n d p
   complete _ _ _ (evar n o name s tag name_is sort) = record { members = o; is = refl; reads = rw (tag, name_and_sort_reads o name s name_is (reads_at o _ s sort)) refl }
   complete _ _ _ (app n o name sorts ds ss ps tag name_is has_sorts spelled has_args all) =

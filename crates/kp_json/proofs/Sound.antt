@@ -89,11 +89,13 @@ sort_at : (o : Members) (key : Text) (d : Data) (t : Members) (s : KoreSort) →
 sort_at o key d t s has is spelled = record { tree = object t; has = has ∙ ap Some is; spells = spelled }
 
 pub alone_sound : (o : Members) → Gives (sort_alone o) (λ s. SortAt o (codes "sort") s)
+unfolding sort_alone
 alone_sound o =
     gives_next (member_found o (codes "sort")) (λ sort has. gives_next (tree_found (codes "sort") sort) (λ t is s reads.
     sort_at o (codes "sort") sort t s has is (sort_sound t s reads)))
 
 pub name_and_sort_sound : (o : Members) → Gives (name_and_sort o) (λ r. HasName o (codes "name") r.0 × SortAt o (codes "sort") r.1)
+unfolding name_and_sort
 name_and_sort_sound o =
     gives_next (member_found o (codes "name")) (λ name has_name. gives_next (member_found o (codes "sort")) (λ sort has_sort.
     gives_next (name_found (codes "name") name) (λ n is_name. gives_next (tree_found (codes "sort") sort) (λ t is_sort.
@@ -102,6 +104,7 @@ name_and_sort_sound o =
     (named o (codes "name") name n has_name is_name, sort_at o (codes "sort") sort t s has_sort is_sort spelled))))))
 
 pub sort_and_value_sound : (o : Members) → Gives (sort_and_value o) (λ r. SortAt o (codes "sort") r.0 × HasText o (codes "value") r.1)
+unfolding sort_and_value
 sort_and_value_sound o =
     gives_next (member_found o (codes "sort")) (λ sort has_sort. gives_next (member_found o (codes "value")) (λ value has_value.
     gives_next (tree_found (codes "sort") sort) (λ t is_sort. gives_next (text_found (codes "value") value) (λ v is_value.
@@ -113,6 +116,7 @@ abbrev pub SymbolAndLists : Members → Text × KoreSorts × Items → Type 0
 SymbolAndLists o r = HasName o (codes "name") r.0 × ((ts : Items) × (Has o (codes "sorts") (array ts)) × SpellSorts ts r.1) × Has o (codes "args") (array r.2)
 
 pub symbol_and_lists_sound : (o : Members) → Gives (symbol_and_lists o) (SymbolAndLists o)
+unfolding symbol_and_lists
 symbol_and_lists_sound o =
     gives_next (member_found o (codes "name")) (λ name has_name. gives_next (member_found o (codes "sorts")) (λ sorts has_sorts. gives_next (member_found o (codes "args")) (λ args has_args.
     gives_next (name_found (codes "name") name) (λ n is_name. gives_next (trees_found (codes "sorts") sorts) (λ ts is_sorts. gives_next (trees_found (codes "args") args) (λ ds is_args.
@@ -124,6 +128,7 @@ abbrev pub SortAndOne : Members → KoreSort × Members → Type 0
 SortAndOne o r = SortAt o (codes "sort") r.0 × Has o (codes "arg") (object r.1)
 
 pub sort_and_one_sound : (o : Members) → Gives (sort_and_one o) (SortAndOne o)
+unfolding sort_and_one
 sort_and_one_sound o =
     gives_next (member_found o (codes "sort")) (λ sort has_sort. gives_next (member_found o (codes "arg")) (λ arg has_arg.
     gives_next (tree_found (codes "sort") sort) (λ t is_sort. gives_next (tree_found (codes "arg") arg) (λ d is_arg.
@@ -135,6 +140,7 @@ abbrev pub SortAndTwo : Text → Text → Members → KoreSort × Members × Mem
 SortAndTwo first second o r = SortAt o (codes "sort") r.0 × Has o first (object r.1) × Has o second (object r.2)
 
 pub sort_and_two_sound : (first second : Text) (o : Members) → Gives (sort_and_two first second o) (SortAndTwo first second o)
+unfolding sort_and_two
 sort_and_two_sound first second o =
     gives_next (member_found o (codes "sort")) (λ sort has_sort. gives_next (member_found o first) (λ one has_one. gives_next (member_found o second) (λ two has_two.
     gives_next (tree_found (codes "sort") sort) (λ t is_sort. gives_next (tree_found first one) (λ d is_one. gives_next (tree_found second two) (λ e is_two.
@@ -146,6 +152,7 @@ abbrev pub SortsAndOne : Members → KoreSort × KoreSort × Members → Type 0
 SortsAndOne o r = SortAt o (codes "argSort") r.0 × SortAt o (codes "sort") r.1 × Has o (codes "arg") (object r.2)
 
 pub sorts_and_one_sound : (o : Members) → Gives (sorts_and_one o) (SortsAndOne o)
+unfolding sorts_and_one
 sorts_and_one_sound o =
     gives_next (member_found o (codes "argSort")) (λ below has_below. gives_next (member_found o (codes "sort")) (λ sort has_sort. gives_next (member_found o (codes "arg")) (λ arg has_arg.
     gives_next (tree_found (codes "argSort") below) (λ b is_below. gives_next (tree_found (codes "sort") sort) (λ t is_sort. gives_next (tree_found (codes "arg") arg) (λ d is_arg.
@@ -157,6 +164,7 @@ abbrev pub SortsAndTwo : Members → KoreSort × KoreSort × Members × Members 
 SortsAndTwo o r = SortAt o (codes "argSort") r.0 × SortAt o (codes "sort") r.1 × Has o (codes "first") (object r.2) × Has o (codes "second") (object r.3)
 
 pub sorts_and_two_sound : (o : Members) → Gives (sorts_and_two o) (SortsAndTwo o)
+unfolding sorts_and_two
 sorts_and_two_sound o =
     gives_next (member_found o (codes "argSort")) (λ below has_below. gives_next (member_found o (codes "sort")) (λ sort has_sort.
     gives_next (member_found o (codes "first")) (λ one has_one. gives_next (member_found o (codes "second")) (λ two has_two.
@@ -174,6 +182,7 @@ abbrev pub BoundAndOne : Members → KoreSort × Text × KoreSort × Members →
 BoundAndOne o r = SortAt o (codes "sort") r.0 × HasName o (codes "var") r.1 × SortAt o (codes "varSort") r.2 × Has o (codes "arg") (object r.3)
 
 pub bound_and_one_sound : (o : Members) → Gives (bound_and_one o) (BoundAndOne o)
+unfolding bound_and_one
 bound_and_one_sound o =
     gives_next (member_found o (codes "sort")) (λ sort has_sort. gives_next (member_found o (codes "var")) (λ var has_var.
     gives_next (member_found o (codes "varSort")) (λ bound has_bound. gives_next (member_found o (codes "arg")) (λ arg has_arg.
@@ -210,6 +219,7 @@ patterns_sound n pattern below key (item d ds) =
     gives_read (next_pattern p ps) (λ qs. SpellPatterns n (item d ds) qs) (patterns_more n d ds p ps (subst (λ e. SpellsPattern n e p) (sym is) spelled) more))))
 
 double_sound : (n : ℕ) (pattern : PatternReader) (o : Members) (tag : Text) → Below n pattern → HasText o (codes "tag") tag → Gives (double_tagged pattern o tag) (Here n o)
+unfolding double_tagged
 double_sound n pattern o tag below has =
     gives_tag tag (codes "Implies") (λ is. gives_next (sort_and_two_sound (codes "first") (codes "second") o) (λ r h. two_sound n pattern o r.1 r.2 (implication r.0) below (λ p q left right.
     implies_tree n o r.0 p q (tag_as o tag _ has is) h.0 (two_trees n o _ _ (object r.1) (object r.2) p q h.1 h.2 left right))))
@@ -224,6 +234,7 @@ double_sound n pattern o tag below has =
     (gives_fault _ _)))))
 
 single_sound : (n : ℕ) (pattern : PatternReader) (o : Members) (tag : Text) → Below n pattern → HasText o (codes "tag") tag → Gives (single_tagged pattern o tag) (Here n o)
+unfolding single_tagged
 single_sound n pattern o tag below has =
     gives_tag tag (codes "Not") (λ is. gives_next (sort_and_one_sound o) (λ r h. one_sound n pattern o r.1 (negation r.0) below (λ p spelled.
     not_tree n o r.0 (object r.1) p (tag_as o tag _ has is) h.0 h.1 spelled)))

@@ -66,10 +66,13 @@ sort_application sort o =
     after (name_in (codes "name") name) (λ n. after (trees_in (codes "args") args) (λ ds.
     after (sort_items sort (codes "args") ds) (λ ss. read (sort_of n ss))))))
 
+abbrev pub named_sort_variable : Members → Reading KoreSort
+named_sort_variable o = after (member_at o (codes "name")) (λ name. after (name_in (codes "name") name) (λ n. read (sort_variable n)))
+
 abbrev pub sort_tagged : (Members → Reading KoreSort) → Members → Text → Reading KoreSort
 sort_tagged sort o tag =
     if bytes_eq tag (codes "SortApp") then sort_application sort o
-    else (if bytes_eq tag (codes "SortVar") then after (member_at o (codes "name")) (λ name. after (name_in (codes "name") name) (λ n. read (sort_variable n)))
+    else (if bytes_eq tag (codes "SortVar") then named_sort_variable o
     else fault (unknown_tag tag))
 
 -- the sort of a tree that nests at most so deep
@@ -89,56 +92,71 @@ abbrev pub pattern_items : PatternReader → Text → Items → Reading KorePatt
 pattern_items pattern key no_items = read no_patterns
 pattern_items pattern key (item d ds) = after (tree_in key d) (λ o. after (pattern o) (λ p. after (pattern_items pattern key ds) (λ ps. read (next_pattern p ps))))
 
-abbrev pub sort_alone : Members → Reading KoreSort
+unfoldable pub sort_alone : Members → Reading KoreSort
 sort_alone o = after (member_at o (codes "sort")) (λ sort. after (tree_in (codes "sort") sort) sort_reading)
 
-abbrev pub name_and_sort : Members → Reading (Text × KoreSort)
+unfoldable pub name_and_sort : Members → Reading (Text × KoreSort)
 name_and_sort o =
     after (member_at o (codes "name")) (λ name. after (member_at o (codes "sort")) (λ sort.
     after (name_in (codes "name") name) (λ n. after (tree_in (codes "sort") sort) (λ t.
     after (sort_reading t) (λ s. read (n, s))))))
 
-abbrev pub sort_and_value : Members → Reading (KoreSort × Text)
+unfoldable pub sort_and_value : Members → Reading (KoreSort × Text)
 sort_and_value o =
     after (member_at o (codes "sort")) (λ sort. after (member_at o (codes "value")) (λ value.
     after (tree_in (codes "sort") sort) (λ t. after (text_in (codes "value") value) (λ v.
     after (sort_reading t) (λ s. read (s, v))))))
 
-abbrev pub symbol_and_lists : Members → Reading (Text × KoreSorts × Items)
+unfoldable pub symbol_and_lists : Members → Reading (Text × KoreSorts × Items)
 symbol_and_lists o =
     after (member_at o (codes "name")) (λ name. after (member_at o (codes "sorts")) (λ sorts. after (member_at o (codes "args")) (λ args.
     after (name_in (codes "name") name) (λ n. after (trees_in (codes "sorts") sorts) (λ ts. after (trees_in (codes "args") args) (λ ds.
     after (sort_items sort_reading (codes "sorts") ts) (λ ss. read (n, ss, ds))))))))
 
-abbrev pub sort_and_one : Members → Reading (KoreSort × Members)
+unfoldable pub sort_and_one : Members → Reading (KoreSort × Members)
 sort_and_one o =
     after (member_at o (codes "sort")) (λ sort. after (member_at o (codes "arg")) (λ arg.
     after (tree_in (codes "sort") sort) (λ t. after (tree_in (codes "arg") arg) (λ d.
     after (sort_reading t) (λ s. read (s, d))))))
 
-abbrev pub sort_and_two : Text → Text → Members → Reading (KoreSort × Members × Members)
+unfoldable pub sort_and_two : Text → Text → Members → Reading (KoreSort × Members × Members)
 sort_and_two first second o =
     after (member_at o (codes "sort")) (λ sort. after (member_at o first) (λ one. after (member_at o second) (λ two.
     after (tree_in (codes "sort") sort) (λ t. after (tree_in first one) (λ d. after (tree_in second two) (λ e.
     after (sort_reading t) (λ s. read (s, d, e))))))))
 
-abbrev pub sorts_and_one : Members → Reading (KoreSort × KoreSort × Members)
-sorts_and_one o =
-    after (member_at o (codes "argSort")) (λ below. after (member_at o (codes "sort")) (λ sort. after (member_at o (codes "arg")) (λ arg.
+abbrev pub sorts_and_one_in : Data → Data → Data → Reading (KoreSort × KoreSort × Members)
+sorts_and_one_in below sort arg =
     after (tree_in (codes "argSort") below) (λ b. after (tree_in (codes "sort") sort) (λ t. after (tree_in (codes "arg") arg) (λ d.
-    after (sort_reading b) (λ a. after (sort_reading t) (λ s. read (a, s, d)))))))))
+    after (sort_reading b) (λ a. after (sort_reading t) (λ s. read (a, s, d))))))
 
-abbrev pub sorts_and_two : Members → Reading (KoreSort × KoreSort × Members × Members)
+unfoldable pub sorts_and_one : Members → Reading (KoreSort × KoreSort × Members)
+sorts_and_one o =
+    after (member_at o (codes "argSort")) (λ below. after (member_at o (codes "sort")) (λ sort. after (member_at o (codes "arg")) (λ arg. sorts_and_one_in below sort arg)))
+
+abbrev pub sorts_and_two_of : Members → Members → Members → Members → Reading (KoreSort × KoreSort × Members × Members)
+sorts_and_two_of b t d e = after (sort_reading b) (λ a. after (sort_reading t) (λ s. read (a, s, d, e)))
+
+abbrev pub sorts_and_two_in : Data → Data → Data → Data → Reading (KoreSort × KoreSort × Members × Members)
+sorts_and_two_in below sort one two =
+    after (tree_in (codes "argSort") below) (λ b. after (tree_in (codes "sort") sort) (λ t. after (tree_in (codes "first") one) (λ d. after (tree_in (codes "second") two) (λ e. sorts_and_two_of b t d e))))
+
+unfoldable pub sorts_and_two : Members → Reading (KoreSort × KoreSort × Members × Members)
 sorts_and_two o =
     after (member_at o (codes "argSort")) (λ below. after (member_at o (codes "sort")) (λ sort. after (member_at o (codes "first")) (λ one. after (member_at o (codes "second")) (λ two.
-    after (tree_in (codes "argSort") below) (λ b. after (tree_in (codes "sort") sort) (λ t. after (tree_in (codes "first") one) (λ d. after (tree_in (codes "second") two) (λ e.
-    after (sort_reading b) (λ a. after (sort_reading t) (λ s. read (a, s, d, e)))))))))))
+    sorts_and_two_in below sort one two))))
 
-abbrev pub bound_and_one : Members → Reading (KoreSort × Text × KoreSort × Members)
+abbrev pub bound_and_one_of : Members → Text → Members → Members → Reading (KoreSort × Text × KoreSort × Members)
+bound_and_one_of t x u d = after (sort_reading t) (λ s. after (sort_reading u) (λ r. read (s, x, r, d)))
+
+abbrev pub bound_and_one_in : Data → Data → Data → Data → Reading (KoreSort × Text × KoreSort × Members)
+bound_and_one_in sort var var_sort arg =
+    after (tree_in (codes "sort") sort) (λ t. after (name_in (codes "var") var) (λ x. after (tree_in (codes "varSort") var_sort) (λ u. after (tree_in (codes "arg") arg) (λ d. bound_and_one_of t x u d))))
+
+unfoldable pub bound_and_one : Members → Reading (KoreSort × Text × KoreSort × Members)
 bound_and_one o =
     after (member_at o (codes "sort")) (λ sort. after (member_at o (codes "var")) (λ var. after (member_at o (codes "varSort")) (λ var_sort. after (member_at o (codes "arg")) (λ arg.
-    after (tree_in (codes "sort") sort) (λ t. after (name_in (codes "var") var) (λ x. after (tree_in (codes "varSort") var_sort) (λ u. after (tree_in (codes "arg") arg) (λ d.
-    after (sort_reading t) (λ s. after (sort_reading u) (λ r. read (s, x, r, d)))))))))))
+    bound_and_one_in sort var var_sort arg))))
 
 -- ---- patterns by their tags
 
@@ -148,7 +166,7 @@ one_read pattern make d = after (pattern d) (λ p. read (make p))
 abbrev pub two_read : PatternReader → (KorePattern → KorePattern → KorePattern) → Members → Members → Reading KorePattern
 two_read pattern make d e = after (pattern d) (λ p. after (pattern e) (λ q. read (make p q)))
 
-abbrev pub double_tagged : PatternReader → Members → Text → Reading KorePattern
+unfoldable pub double_tagged : PatternReader → Members → Text → Reading KorePattern
 double_tagged pattern o tag =
     if bytes_eq tag (codes "Implies") then after (sort_and_two (codes "first") (codes "second") o) (λ r. two_read pattern (implication r.0) r.1 r.2)
     else (if bytes_eq tag (codes "Iff") then after (sort_and_two (codes "first") (codes "second") o) (λ r. two_read pattern (equivalence r.0) r.1 r.2)
@@ -156,7 +174,7 @@ double_tagged pattern o tag =
     else (if bytes_eq tag (codes "Equals") then after (sorts_and_two o) (λ r. two_read pattern (equals r.0 r.1) r.2 r.3)
     else (if bytes_eq tag (codes "In") then after (sorts_and_two o) (λ r. two_read pattern (membership r.0 r.1) r.2 r.3) else fault (unknown_tag tag)))))
 
-abbrev pub single_tagged : PatternReader → Members → Text → Reading KorePattern
+unfoldable pub single_tagged : PatternReader → Members → Text → Reading KorePattern
 single_tagged pattern o tag =
     if bytes_eq tag (codes "Not") then after (sort_and_one o) (λ r. one_read pattern (negation r.0) r.1)
     else (if bytes_eq tag (codes "Exists") then after (bound_and_one o) (λ r. one_read pattern (exists r.0 r.1 r.2) r.3)

@@ -2,6 +2,7 @@
 #![tactic(auto)]
 
 mod fault;
+mod form;
 pub mod laws;
 mod member;
 mod parts;
@@ -11,6 +12,7 @@ mod tree;
 mod vecs;
 mod wrapper;
 mod write;
+mod written_sort;
 
 pub use fault::{JsonError, JsonFault};
 pub use wrapper::pattern_of;

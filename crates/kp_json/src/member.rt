@@ -1,4 +1,4 @@
-ghost use Rattle.std.specs.Prelude.{◌≡◌, ◌↔◌, IfOk, IfErr, IsTrue, string_bytes, option_map};
+ghost use Rattle.std.specs.Prelude.{◌≡◌, ◌↔◌, IfOk, IfErr, IsTrue, option_map};
 ghost use Rattle.std.specs.List.{list_all};
 ghost use Rattle.serde_json.specs.Find.{get_member};
 ghost use Rattle.serde_json.specs.View.{view, items_view, members_view};
@@ -44,13 +44,13 @@ pub fn text<'a>(alloc: Global, key: &str, value: &'a Value) -> Result<&'a str, J
 }
 
 // The name that the member must be.
-pub fn name(alloc: Global, key: &str, value: &Value) -> Result<String, JsonError>
-    ensures found { IfOk result (λ n. name_in key.now (view value.now) ≡ read (string_bytes n)) }
+pub fn name<'a>(alloc: Global, key: &str, value: &'a Value) -> Result<&'a str, JsonError>
+    ensures found { IfOk result (λ n. name_in key.now (view value.now) ≡ read n.now) }
     ensures fault { IfErr result (λ e. Tells e (name_in key.now (view value.now))) }
 {
     let text = text(alloc, key, value)?;
     if is_name(text.as_bytes()) {
-        Ok(String::from_str(alloc, text)?)
+        Ok(text)
     } else {
         Err(other_kind(alloc, key))
     }

@@ -1,19 +1,21 @@
 ghost use Rattle.std.specs.Prelude.{◌≡◌, IfOk, IfErr, string_bytes};
-ghost use Rattle.serde_json.specs.View.{items_view, members_view};
-ghost use Rattle.kp_kore.specs.View.{sort_view, sorts_view};
-ghost use Rattle.kp_json.specs.Faults.{read};
+ghost use Rattle.serde_json.specs.View.{view as data_view, items_view, members_view};
+ghost use Rattle.kp_kore.specs.Syntax.{variable, literal};
+ghost use Rattle.kp_kore.specs.View.{view, sort_view, sorts_view};
+ghost use Rattle.kp_json.specs.Faults.{read, after};
 ghost use Rattle.kp_json.specs.Faults as spec;
 ghost use Rattle.kp_json.specs.View.{Tells};
 
 use crate::fault::JsonError;
 use crate::member::{Object, member, name, text, tree, trees};
 use crate::sort::{sort_of, sorts_of};
-use kp_kore::{Name, Sort};
+use kp_kore::{Name, Pattern, Sort};
 use serde_json::Value;
 use std::alloc::Global;
 
 // What the members of each form are, but for the patterns below, which stay trees.
 
+#[tactic(auto, unfolding(crate::specs::Faults::sort_alone))]
 pub fn sort_alone(alloc: Global, object: &Object) -> Result<Sort, JsonError>
     ensures found { IfOk result (λ s. spec.sort_alone (members_view object.now.entries) ≡ read (sort_view s)) }
     ensures fault { IfErr result (λ e. Tells e (spec.sort_alone (members_view object.now.entries))) }
@@ -22,29 +24,39 @@ pub fn sort_alone(alloc: Global, object: &Object) -> Result<Sort, JsonError>
     sort_of(alloc, tree(alloc, "sort", sort)?)
 }
 
-pub fn name_and_sort(alloc: Global, object: &Object) -> Result<(Name, Sort), JsonError>
-    ensures found { IfOk result (λ r. spec.name_and_sort (members_view object.now.entries) ≡ read (string_bytes r.0, sort_view r.1)) }
-    ensures fault { IfErr result (λ e. Tells e (spec.name_and_sort (members_view object.now.entries))) }
+#[tactic(auto, unfolding(crate::specs::Faults::name_and_sort))]
+pub fn variable_of(alloc: Global, object: &Object) -> Result<Pattern, JsonError>
+    ensures found { IfOk result (λ p. after (spec.name_and_sort (members_view object.now.entries)) (λ r. read (variable r.0 r.1)) ≡ read (view p)) }
+    ensures fault { IfErr result (λ e. Tells e (after (spec.name_and_sort (members_view object.now.entries)) (λ r. read (variable r.0 r.1)))) }
 {
     let found = member(alloc, object, "name")?;
     let sort = member(alloc, object, "sort")?;
     let name = name(alloc, "name", found)?;
     let sort = tree(alloc, "sort", sort)?;
-    Ok((name, sort_of(alloc, sort)?))
+    let sort = sort_of(alloc, sort)?;
+    Ok(Pattern::Variable {
+        name: Name::from_str(alloc, name)?,
+        sort,
+    })
 }
 
-pub fn sort_and_value(alloc: Global, object: &Object) -> Result<(Sort, Name), JsonError>
-    ensures found { IfOk result (λ r. spec.sort_and_value (members_view object.now.entries) ≡ read (sort_view r.0, string_bytes r.1)) }
-    ensures fault { IfErr result (λ e. Tells e (spec.sort_and_value (members_view object.now.entries))) }
+#[tactic(auto, unfolding(crate::specs::Faults::sort_and_value))]
+pub fn literal_of(alloc: Global, object: &Object) -> Result<Pattern, JsonError>
+    ensures found { IfOk result (λ p. after (spec.sort_and_value (members_view object.now.entries)) (λ r. read (literal r.0 r.1)) ≡ read (view p)) }
+    ensures fault { IfErr result (λ e. Tells e (after (spec.sort_and_value (members_view object.now.entries)) (λ r. read (literal r.0 r.1)))) }
 {
     let sort = member(alloc, object, "sort")?;
     let value = member(alloc, object, "value")?;
     let sort = tree(alloc, "sort", sort)?;
     let value = text(alloc, "value", value)?;
     let sort = sort_of(alloc, sort)?;
-    Ok((sort, String::from_str(alloc, value)?))
+    Ok(Pattern::Literal {
+        sort,
+        text: Name::from_str(alloc, value)?,
+    })
 }
 
+#[tactic(auto, unfolding(crate::specs::Faults::symbol_and_lists))]
 pub fn symbol_and_lists<'a>(
     alloc: Global,
     object: &'a Object,
@@ -59,9 +71,10 @@ pub fn symbol_and_lists<'a>(
     let sorts = trees(alloc, "sorts", sorts)?;
     let arguments = trees(alloc, "args", arguments)?;
     let sorts = sorts_of(alloc, "sorts", sorts)?;
-    Ok((symbol, sorts, arguments))
+    Ok((Name::from_str(alloc, symbol)?, sorts, arguments))
 }
 
+#[tactic(auto, unfolding(crate::specs::Faults::sort_and_one))]
 pub fn sort_and_one<'a>(alloc: Global, object: &'a Object) -> Result<(Sort, &'a Object), JsonError>
     ensures found { IfOk result (λ r. spec.sort_and_one (members_view object.now.entries) ≡ read (sort_view r.0, members_view r.1.now.entries)) }
     ensures fault { IfErr result (λ e. Tells e (spec.sort_and_one (members_view object.now.entries))) }
@@ -73,6 +86,7 @@ pub fn sort_and_one<'a>(alloc: Global, object: &'a Object) -> Result<(Sort, &'a 
     Ok((sort_of(alloc, sort)?, below))
 }
 
+#[tactic(auto, unfolding(crate::specs::Faults::sort_and_two))]
 pub fn sort_and_two<'a>(
     alloc: Global,
     object: &'a Object,
@@ -91,6 +105,7 @@ pub fn sort_and_two<'a>(
     Ok((sort_of(alloc, sort)?, left, right))
 }
 
+#[tactic(auto, unfolding(crate::specs::Faults::sorts_and_one))]
 pub fn sorts_and_one<'a>(
     alloc: Global,
     object: &'a Object,
@@ -101,6 +116,18 @@ pub fn sorts_and_one<'a>(
     let argument_sort = member(alloc, object, "argSort")?;
     let sort = member(alloc, object, "sort")?;
     let below = member(alloc, object, "arg")?;
+    sorts_and_one_in(alloc, argument_sort, sort, below)
+}
+
+fn sorts_and_one_in<'a>(
+    alloc: Global,
+    argument_sort: &Value,
+    sort: &Value,
+    below: &'a Value,
+) -> Result<(Sort, Sort, &'a Object), JsonError>
+    ensures found { IfOk result (λ r. spec.sorts_and_one_in (data_view argument_sort.now) (data_view sort.now) (data_view below.now) ≡ read (sort_view r.0, sort_view r.1, members_view r.2.now.entries)) }
+    ensures fault { IfErr result (λ e. Tells e (spec.sorts_and_one_in (data_view argument_sort.now) (data_view sort.now) (data_view below.now))) }
+{
     let argument_sort = tree(alloc, "argSort", argument_sort)?;
     let sort = tree(alloc, "sort", sort)?;
     let below = tree(alloc, "arg", below)?;
@@ -108,6 +135,7 @@ pub fn sorts_and_one<'a>(
     Ok((argument_sort, sort_of(alloc, sort)?, below))
 }
 
+#[tactic(auto, unfolding(crate::specs::Faults::sorts_and_two))]
 pub fn sorts_and_two<'a>(
     alloc: Global,
     object: &'a Object,
@@ -119,14 +147,41 @@ pub fn sorts_and_two<'a>(
     let sort = member(alloc, object, "sort")?;
     let left = member(alloc, object, "first")?;
     let right = member(alloc, object, "second")?;
+    sorts_and_two_in(alloc, argument_sort, sort, left, right)
+}
+
+fn sorts_and_two_in<'a>(
+    alloc: Global,
+    argument_sort: &Value,
+    sort: &Value,
+    left: &'a Value,
+    right: &'a Value,
+) -> Result<(Sort, Sort, &'a Object, &'a Object), JsonError>
+    ensures found { IfOk result (λ r. spec.sorts_and_two_in (data_view argument_sort.now) (data_view sort.now) (data_view left.now) (data_view right.now) ≡ read (sort_view r.0, sort_view r.1, members_view r.2.now.entries, members_view r.3.now.entries)) }
+    ensures fault { IfErr result (λ e. Tells e (spec.sorts_and_two_in (data_view argument_sort.now) (data_view sort.now) (data_view left.now) (data_view right.now))) }
+{
     let argument_sort = tree(alloc, "argSort", argument_sort)?;
     let sort = tree(alloc, "sort", sort)?;
     let left = tree(alloc, "first", left)?;
     let right = tree(alloc, "second", right)?;
+    sorts_and_two_of(alloc, argument_sort, sort, left, right)
+}
+
+fn sorts_and_two_of<'a>(
+    alloc: Global,
+    argument_sort: &Object,
+    sort: &Object,
+    left: &'a Object,
+    right: &'a Object,
+) -> Result<(Sort, Sort, &'a Object, &'a Object), JsonError>
+    ensures found { IfOk result (λ r. spec.sorts_and_two_of (members_view argument_sort.now.entries) (members_view sort.now.entries) (members_view left.now.entries) (members_view right.now.entries) ≡ read (sort_view r.0, sort_view r.1, members_view r.2.now.entries, members_view r.3.now.entries)) }
+    ensures fault { IfErr result (λ e. Tells e (spec.sorts_and_two_of (members_view argument_sort.now.entries) (members_view sort.now.entries) (members_view left.now.entries) (members_view right.now.entries))) }
+{
     let argument_sort = sort_of(alloc, argument_sort)?;
     Ok((argument_sort, sort_of(alloc, sort)?, left, right))
 }
 
+#[tactic(auto, unfolding(crate::specs::Faults::bound_and_one))]
 pub fn bound_and_one<'a>(
     alloc: Global,
     object: &'a Object,
@@ -138,10 +193,37 @@ pub fn bound_and_one<'a>(
     let found = member(alloc, object, "var")?;
     let name_sort = member(alloc, object, "varSort")?;
     let below = member(alloc, object, "arg")?;
+    bound_and_one_in(alloc, sort, found, name_sort, below)
+}
+
+fn bound_and_one_in<'a>(
+    alloc: Global,
+    sort: &Value,
+    found: &Value,
+    name_sort: &Value,
+    below: &'a Value,
+) -> Result<(Sort, Name, Sort, &'a Object), JsonError>
+    ensures found { IfOk result (λ r. spec.bound_and_one_in (data_view sort.now) (data_view found.now) (data_view name_sort.now) (data_view below.now) ≡ read (sort_view r.0, string_bytes r.1, sort_view r.2, members_view r.3.now.entries)) }
+    ensures fault { IfErr result (λ e. Tells e (spec.bound_and_one_in (data_view sort.now) (data_view found.now) (data_view name_sort.now) (data_view below.now))) }
+{
     let sort = tree(alloc, "sort", sort)?;
     let name = name(alloc, "var", found)?;
     let name_sort = tree(alloc, "varSort", name_sort)?;
     let below = tree(alloc, "arg", below)?;
+    bound_and_one_of(alloc, sort, name, name_sort, below)
+}
+
+fn bound_and_one_of<'a>(
+    alloc: Global,
+    sort: &Object,
+    name: &str,
+    name_sort: &Object,
+    below: &'a Object,
+) -> Result<(Sort, Name, Sort, &'a Object), JsonError>
+    ensures found { IfOk result (λ r. spec.bound_and_one_of (members_view sort.now.entries) name.now (members_view name_sort.now.entries) (members_view below.now.entries) ≡ read (sort_view r.0, string_bytes r.1, sort_view r.2, members_view r.3.now.entries)) }
+    ensures fault { IfErr result (λ e. Tells e (spec.bound_and_one_of (members_view sort.now.entries) name.now (members_view name_sort.now.entries) (members_view below.now.entries))) }
+{
     let sort = sort_of(alloc, sort)?;
-    Ok((sort, name, sort_of(alloc, name_sort)?, below))
+    let name_sort = sort_of(alloc, name_sort)?;
+    Ok((sort, Name::from_str(alloc, name)?, name_sort, below))
 }

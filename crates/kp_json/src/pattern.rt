@@ -8,8 +8,8 @@ ghost use Rattle.kp_json.specs.View.{Tells};
 use crate::fault::{JsonError, JsonFault, missing, no_tag};
 use crate::member::{Object, find, member, tag, tree, trees};
 use crate::parts::{
-    bound_and_one, name_and_sort, sort_alone, sort_and_one, sort_and_two, sort_and_value,
-    sorts_and_one, sorts_and_two, symbol_and_lists,
+    bound_and_one, literal_of, sort_alone, sort_and_one, sort_and_two, sorts_and_one,
+    sorts_and_two, symbol_and_lists, variable_of,
 };
 use crate::sort::sort_of;
 use crate::vecs::{conjunction, disjunction, two};
@@ -43,11 +43,9 @@ fn pattern_tagged(
     ensures fault { IfErr result (λ e. Tells e (spec.pattern_tagged (pattern_within below) (members_view object.now.entries) tag.now)) }
 {
     if tag == "EVar" {
-        let (name, sort) = name_and_sort(alloc, object)?;
-        Ok(Pattern::Variable { name, sort })
+        variable_of(alloc, object)
     } else if tag == "DV" {
-        let (sort, text) = sort_and_value(alloc, object)?;
-        Ok(Pattern::Literal { sort, text })
+        literal_of(alloc, object)
     } else if tag == "Top" {
         let sort = sort_alone(alloc, object)?;
         Ok(Pattern::Top { sort })
@@ -89,6 +87,7 @@ fn listed_tagged(
 }
 
 #[cycle(pattern)]
+#[tactic(auto, unfolding(crate::specs::Faults::single_tagged))]
 fn single_tagged(
     alloc: Global,
     below: usize,
@@ -142,6 +141,7 @@ fn single_tagged(
 }
 
 #[cycle(pattern)]
+#[tactic(auto, unfolding(crate::specs::Faults::double_tagged))]
 fn double_tagged(
     alloc: Global,
     below: usize,

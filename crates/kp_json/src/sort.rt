@@ -7,7 +7,7 @@ ghost use Rattle.kp_json.specs.View.{Tells};
 
 use crate::fault::{JsonError, no_tag};
 use crate::member::{Object, member, name, tag, tree, trees};
-use kp_kore::Sort;
+use kp_kore::{Name, Sort};
 use serde_json::Value;
 use std::alloc::Global;
 
@@ -30,11 +30,21 @@ fn sort_tagged(alloc: Global, object: &Object, tag: &str) -> Result<Sort, JsonEr
     if tag == "SortApp" {
         sort_application(alloc, object)
     } else if tag == "SortVar" {
-        let name = name(alloc, "name", member(alloc, object, "name")?)?;
-        Ok(Sort::Variable { name })
+        named_sort_variable(alloc, object)
     } else {
         Err(no_tag(alloc, tag))
     }
+}
+
+fn named_sort_variable(alloc: Global, object: &Object) -> Result<Sort, JsonError>
+    ensures found { IfOk result (λ s. spec.named_sort_variable (members_view object.now.entries) ≡ read (sort_view s)) }
+    ensures fault { IfErr result (λ e. Tells e (spec.named_sort_variable (members_view object.now.entries))) }
+{
+    let found = member(alloc, object, "name")?;
+    let name = name(alloc, "name", found)?;
+    Ok(Sort::Variable {
+        name: Name::from_str(alloc, name)?,
+    })
 }
 
 #[cycle(sort)]
@@ -47,7 +57,10 @@ fn sort_application(alloc: Global, object: &Object) -> Result<Sort, JsonError>
     let name = name(alloc, "name", found)?;
     let sorts = trees(alloc, "args", list)?;
     let arguments = sorts_of(alloc, "args", sorts)?;
-    Ok(Sort::App { name, arguments })
+    Ok(Sort::App {
+        name: Name::from_str(alloc, name)?,
+        arguments,
+    })
 }
 
 // The sorts that the trees spell, one by one.

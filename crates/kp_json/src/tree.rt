@@ -1,150 +1,76 @@
+// Objects that are written, member by member: the last goes in first, as in `members_of`. No owned `Value` is kept
+// where memory may run out, since its derived drop would be proved at each such place.
 ghost use Rattle.std.specs.Prelude.{◌≡◌, [], ◌∷◌, IfOk, codes};
-ghost use Rattle.serde_json.specs.Data.{string, array};
-ghost use Rattle.serde_json.specs.View.{view, items_view};
+ghost use Rattle.serde_json.specs.Data.{string, array, object, put as with_member};
+ghost use Rattle.serde_json.specs.View.{items_view, members_view};
 ghost use Rattle.kp_json.specs.Written.{tagged};
 ghost use Rattle.kp_json.specs.Written as spec;
 
-use serde_json::{Value, json};
+use crate::member::Object;
+use serde_json::{Map, Value, put};
 use std::alloc::{AllocError, Global};
 
-// The objects that are written, member by member.
-
-pub fn wrapped(alloc: Global, term: Value) -> Result<Value, AllocError>
-    ensures { IfOk result (λ v. view v ≡ spec.wrapped (view term)) }
+pub fn with_text(
+    alloc: Global,
+    mut members: Object,
+    key: &str,
+    text: &str,
+) -> Result<Object, AllocError>
+    ensures { IfOk result (λ o. members_view o.entries ≡ with_member key.now (string text.now) (members_view members.entries)) }
 {
-    json!(in alloc; {"format": "KORE", "version": 1u64, "term": term})
+    let text = String::from_str(alloc, text)?;
+    put(&mut members, alloc, key, Value::String(text))?;
+    Ok(members)
+}
+
+pub fn with_tree(
+    alloc: Global,
+    mut members: Object,
+    key: &str,
+    tree: Object,
+) -> Result<Object, AllocError>
+    ensures { IfOk result (λ o. members_view o.entries ≡ with_member key.now (object (members_view tree.entries)) (members_view members.entries)) }
+{
+    put(&mut members, alloc, key, Value::Object(tree))?;
+    Ok(members)
+}
+
+pub fn with_trees(
+    alloc: Global,
+    mut members: Object,
+    key: &str,
+    trees: Vec<Value>,
+) -> Result<Object, AllocError>
+    ensures { IfOk result (λ o. members_view o.entries ≡ with_member key.now (array (items_view trees.items)) (members_view members.entries)) }
+{
+    put(&mut members, alloc, key, Value::Array(trees))?;
+    Ok(members)
+}
+
+pub fn wrapped(alloc: Global, term: Object) -> Result<Object, AllocError>
+    ensures { IfOk result (λ o. object (members_view o.entries) ≡ spec.wrapped (object (members_view term.entries))) }
+{
+    let mut members = with_tree(alloc, Map::new(alloc), "term", term)?;
+    put(&mut members, alloc, "version", Value::from(1u64))?;
+    with_text(alloc, members, "format", "KORE")
 }
 
 pub fn sort_application(
     alloc: Global,
     name: &str,
     arguments: Vec<Value>,
-) -> Result<Value, AllocError>
-    ensures { IfOk result (λ v. view v ≡ tagged (codes "SortApp")
+) -> Result<Object, AllocError>
+    ensures { IfOk result (λ o. object (members_view o.entries) ≡ tagged (codes "SortApp")
         ((codes "name", string name.now) ∷ (codes "args", array (items_view arguments.items)) ∷ [])) }
 {
-    json!(in alloc; {"tag": "SortApp", "name": name, "args": arguments})
+    let members = with_trees(alloc, Map::new(alloc), "args", arguments)?;
+    let members = with_text(alloc, members, "name", name)?;
+    with_text(alloc, members, "tag", "SortApp")
 }
 
-pub fn sort_variable(alloc: Global, name: &str) -> Result<Value, AllocError>
-    ensures { IfOk result (λ v. view v ≡ tagged (codes "SortVar") ((codes "name", string name.now) ∷ [])) }
+pub fn sort_variable(alloc: Global, name: &str) -> Result<Object, AllocError>
+    ensures { IfOk result (λ o. object (members_view o.entries) ≡ tagged (codes "SortVar") ((codes "name", string name.now) ∷ [])) }
 {
-    json!(in alloc; {"tag": "SortVar", "name": name})
-}
-
-pub fn variable(alloc: Global, name: &str, sort: Value) -> Result<Value, AllocError>
-    ensures { IfOk result (λ v. view v ≡ tagged (codes "EVar")
-        ((codes "name", string name.now) ∷ (codes "sort", view sort) ∷ [])) }
-{
-    json!(in alloc; {"tag": "EVar", "name": name, "sort": sort})
-}
-
-pub fn application(
-    alloc: Global,
-    symbol: &str,
-    sorts: Vec<Value>,
-    arguments: Vec<Value>,
-) -> Result<Value, AllocError>
-    ensures { IfOk result (λ v. view v ≡ tagged (codes "App")
-        ((codes "name", string symbol.now) ∷ (codes "sorts", array (items_view sorts.items)) ∷ (codes "args", array (items_view arguments.items)) ∷ [])) }
-{
-    json!(in alloc; {"tag": "App", "name": symbol, "sorts": sorts, "args": arguments})
-}
-
-pub fn literal(alloc: Global, sort: Value, text: &str) -> Result<Value, AllocError>
-    ensures { IfOk result (λ v. view v ≡ tagged (codes "DV")
-        ((codes "sort", view sort) ∷ (codes "value", string text.now) ∷ [])) }
-{
-    json!(in alloc; {"tag": "DV", "sort": sort, "value": text})
-}
-
-pub fn alone(alloc: Global, tag: &str, sort: Value) -> Result<Value, AllocError>
-    ensures { IfOk result (λ v. view v ≡ tagged tag.now ((codes "sort", view sort) ∷ [])) }
-{
-    json!(in alloc; {"tag": tag, "sort": sort})
-}
-
-pub fn one_below(alloc: Global, tag: &str, sort: Value, below: Value) -> Result<Value, AllocError>
-    ensures { IfOk result (λ v. view v ≡ tagged tag.now
-        ((codes "sort", view sort) ∷ (codes "arg", view below) ∷ [])) }
-{
-    json!(in alloc; {"tag": tag, "sort": sort, "arg": below})
-}
-
-pub fn list_below(
-    alloc: Global,
-    tag: &str,
-    sort: Value,
-    below: Vec<Value>,
-) -> Result<Value, AllocError>
-    ensures { IfOk result (λ v. view v ≡ tagged tag.now
-        ((codes "sort", view sort) ∷ (codes "patterns", array (items_view below.items)) ∷ [])) }
-{
-    json!(in alloc; {"tag": tag, "sort": sort, "patterns": below})
-}
-
-pub fn two_below(
-    alloc: Global,
-    tag: &str,
-    sort: Value,
-    first: Value,
-    second: Value,
-) -> Result<Value, AllocError>
-    ensures { IfOk result (λ v. view v ≡ tagged tag.now
-        ((codes "sort", view sort) ∷ (codes "first", view first) ∷ (codes "second", view second) ∷ [])) }
-{
-    json!(in alloc; {"tag": tag, "sort": sort, "first": first, "second": second})
-}
-
-pub fn rewriting(
-    alloc: Global,
-    sort: Value,
-    source: Value,
-    dest: Value,
-) -> Result<Value, AllocError>
-    ensures { IfOk result (λ v. view v ≡ tagged (codes "Rewrites")
-        ((codes "sort", view sort) ∷ (codes "source", view source) ∷ (codes "dest", view dest) ∷ [])) }
-{
-    json!(in alloc; {"tag": "Rewrites", "sort": sort, "source": source, "dest": dest})
-}
-
-pub fn bound(
-    alloc: Global,
-    tag: &str,
-    sort: Value,
-    name: &str,
-    name_sort: Value,
-    below: Value,
-) -> Result<Value, AllocError>
-    ensures { IfOk result (λ v. view v ≡ tagged tag.now
-        ((codes "sort", view sort) ∷ (codes "var", string name.now) ∷ (codes "varSort", view name_sort) ∷ (codes "arg", view below) ∷ [])) }
-{
-    json!(in alloc; {"tag": tag, "sort": sort, "var": name, "varSort": name_sort, "arg": below})
-}
-
-pub fn sorted_one(
-    alloc: Global,
-    tag: &str,
-    argument_sort: Value,
-    sort: Value,
-    below: Value,
-) -> Result<Value, AllocError>
-    ensures { IfOk result (λ v. view v ≡ tagged tag.now
-        ((codes "argSort", view argument_sort) ∷ (codes "sort", view sort) ∷ (codes "arg", view below) ∷ [])) }
-{
-    json!(in alloc; {"tag": tag, "argSort": argument_sort, "sort": sort, "arg": below})
-}
-
-pub fn sorted_two(
-    alloc: Global,
-    tag: &str,
-    argument_sort: Value,
-    sort: Value,
-    first: Value,
-    second: Value,
-) -> Result<Value, AllocError>
-    ensures { IfOk result (λ v. view v ≡ tagged tag.now
-        ((codes "argSort", view argument_sort) ∷ (codes "sort", view sort) ∷ (codes "first", view first) ∷ (codes "second", view second) ∷ [])) }
-{
-    json!(in alloc; {"tag": tag, "argSort": argument_sort, "sort": sort, "first": first, "second": second})
+    let members = with_text(alloc, Map::new(alloc), "name", name)?;
+    with_text(alloc, members, "tag", "SortVar")
 }

@@ -1,12 +1,14 @@
-ghost use Rattle.std.specs.Prelude.{◌≡◌, IfOk, IfErr, None, Some, string_bytes, option_map};
-ghost use Rattle.serde_json.specs.View.{view as data_view, items_view};
-ghost use Rattle.kp_kore.specs.View.{view, sort_view, sorts_view, patterns_view};
-ghost use Rattle.kp_json.specs.Written.{sort_tree, sort_trees, pattern_tree, pattern_trees, wrapped_pattern};
+ghost use Rattle.std.specs.Prelude.{◌≡◌, IfOk, IfErr, Some, option_map};
+ghost use Rattle.serde_json.specs.Data.{object};
+ghost use Rattle.serde_json.specs.View.{view as data_view, items_view, members_view};
+ghost use Rattle.kp_kore.specs.View.{view, patterns_view};
+ghost use Rattle.kp_json.specs.Written.{pattern_tree, pattern_trees, wrapped_pattern};
 ghost use Rattle.kp_json.specs.View.{Untold};
 
-use crate::tree;
-use kp_kore::{Pattern, Sort};
-use serde_json::Value;
+use crate::member::Object;
+use crate::{form, tree};
+use kp_kore::Pattern;
+use serde_json::{Value, push};
 use std::alloc::{AllocError, AllocFailed, Global};
 
 /// The wrapper of a pattern's tree; none where Kore JSON has no tag for it (set variables, string patterns, `\next`,
@@ -18,8 +20,8 @@ use std::alloc::{AllocError, AllocFailed, Global};
 pub fn value_of(alloc: Global, pattern: &Pattern) -> Result<Option<Value>, AllocError>
     ensures { IfOk result (λ o. option_map data_view o ≡ wrapped_pattern (view pattern.now)) }
 {
-    match pattern_value(alloc, pattern) {
-        Ok(term) => Ok(Some(tree::wrapped(alloc, term)?)),
+    match pattern_object(alloc, pattern) {
+        Ok(term) => Ok(Some(Value::Object(tree::wrapped(alloc, term)?))),
         Err(Unwritten::NoTag) => Ok(None),
         Err(Unwritten::Memory) => Err(AllocError),
     }
@@ -55,95 +57,36 @@ impl<T: Drop> From<AllocFailed<T>> for Unwritten {
     }
 }
 
-// The tree of a sort.
-#[cycle(sort)]
-fn sort_value(alloc: Global, sort: &Sort) -> Result<Value, AllocError>
-    ensures { IfOk result (λ v. data_view v ≡ sort_tree (sort_view sort.now)) }
-{
-    match sort {
-        Sort::App { name, arguments } => {
-            let arguments = sort_values(alloc, arguments)?;
-            tree::sort_application(alloc, name, arguments)
-        }
-        Sort::Variable { name } => tree::sort_variable(alloc, name),
-    }
-}
-
-#[cycle(sort)]
-fn sort_values(alloc: Global, sorts: &[Sort]) -> Result<Vec<Value>, AllocError>
-    ensures { IfOk result (λ vs. items_view vs.items ≡ sort_trees (sorts_view sorts.now)) }
-{
-    let mut values = Vec::new(alloc);
-    for sort in sorts {
-        values.push(sort_value(alloc, sort)?)?;
-    }
-    Ok(values)
-}
-
-// The tree of a pattern.
+// The members of a pattern's tree.
 #[cycle(pattern)]
-fn pattern_value(alloc: Global, pattern: &Pattern) -> Result<Value, Unwritten>
-    ensures written { IfOk result (λ v. pattern_tree (view pattern.now) ≡ Some (data_view v)) }
+fn pattern_object(alloc: Global, pattern: &Pattern) -> Result<Object, Unwritten>
+    ensures written { IfOk result (λ o. pattern_tree (view pattern.now) ≡ Some (object (members_view o.entries))) }
     ensures unwritten { IfErr result (λ e. Untold e (pattern_tree (view pattern.now))) }
 {
     match pattern {
-        Pattern::Variable { name, sort } => {
-            let sort = sort_value(alloc, sort)?;
-            Ok(tree::variable(alloc, name, sort)?)
-        }
+        Pattern::Variable { name, sort } => Ok(form::variable(alloc, name, sort)?),
+        Pattern::Literal { sort, text } => Ok(form::literal(alloc, sort, text)?),
+        Pattern::Top { sort } => Ok(form::alone(alloc, "Top", sort)?),
+        Pattern::Bottom { sort } => Ok(form::alone(alloc, "Bottom", sort)?),
         Pattern::Application {
             symbol,
             sorts,
             arguments,
         } => {
-            let sorts = sort_values(alloc, sorts)?;
             let arguments = pattern_values(alloc, arguments)?;
-            Ok(tree::application(alloc, symbol, sorts, arguments)?)
-        }
-        Pattern::Literal { sort, text } => {
-            let sort = sort_value(alloc, sort)?;
-            Ok(tree::literal(alloc, sort, text)?)
-        }
-        Pattern::Top { sort } => {
-            let sort = sort_value(alloc, sort)?;
-            Ok(tree::alone(alloc, "Top", sort)?)
-        }
-        Pattern::Bottom { sort } => {
-            let sort = sort_value(alloc, sort)?;
-            Ok(tree::alone(alloc, "Bottom", sort)?)
-        }
-        Pattern::Not { sort, pattern } => {
-            let sort = sort_value(alloc, sort)?;
-            let below = pattern_value(alloc, pattern)?;
-            Ok(tree::one_below(alloc, "Not", sort, below)?)
+            Ok(form::application(alloc, symbol, sorts, arguments)?)
         }
         Pattern::And { sort, patterns } => {
-            let sort = sort_value(alloc, sort)?;
             let below = pattern_values(alloc, patterns)?;
-            Ok(tree::list_below(alloc, "And", sort, below)?)
+            Ok(form::list_below(alloc, "And", sort, below)?)
         }
         Pattern::Or { sort, patterns } => {
-            let sort = sort_value(alloc, sort)?;
             let below = pattern_values(alloc, patterns)?;
-            Ok(tree::list_below(alloc, "Or", sort, below)?)
+            Ok(form::list_below(alloc, "Or", sort, below)?)
         }
-        Pattern::Implies { sort, left, right } => {
-            let sort = sort_value(alloc, sort)?;
-            let first = pattern_value(alloc, left)?;
-            let second = pattern_value(alloc, right)?;
-            Ok(tree::two_below(alloc, "Implies", sort, first, second)?)
-        }
-        Pattern::Iff { sort, left, right } => {
-            let sort = sort_value(alloc, sort)?;
-            let first = pattern_value(alloc, left)?;
-            let second = pattern_value(alloc, right)?;
-            Ok(tree::two_below(alloc, "Iff", sort, first, second)?)
-        }
-        Pattern::Rewrites { sort, left, right } => {
-            let sort = sort_value(alloc, sort)?;
-            let source = pattern_value(alloc, left)?;
-            let dest = pattern_value(alloc, right)?;
-            Ok(tree::rewriting(alloc, sort, source, dest)?)
+        Pattern::Not { sort, pattern } => {
+            let below = pattern_object(alloc, pattern)?;
+            Ok(form::one_below(alloc, "Not", sort, below)?)
         }
         Pattern::Exists {
             sort,
@@ -151,10 +94,8 @@ fn pattern_value(alloc: Global, pattern: &Pattern) -> Result<Value, Unwritten>
             name_sort,
             pattern,
         } => {
-            let sort = sort_value(alloc, sort)?;
-            let name_sort = sort_value(alloc, name_sort)?;
-            let below = pattern_value(alloc, pattern)?;
-            Ok(tree::bound(alloc, "Exists", sort, name, name_sort, below)?)
+            let below = pattern_object(alloc, pattern)?;
+            Ok(form::bound(alloc, "Exists", sort, name, name_sort, below)?)
         }
         Pattern::Forall {
             sort,
@@ -162,30 +103,39 @@ fn pattern_value(alloc: Global, pattern: &Pattern) -> Result<Value, Unwritten>
             name_sort,
             pattern,
         } => {
-            let sort = sort_value(alloc, sort)?;
-            let name_sort = sort_value(alloc, name_sort)?;
-            let below = pattern_value(alloc, pattern)?;
-            Ok(tree::bound(alloc, "Forall", sort, name, name_sort, below)?)
+            let below = pattern_object(alloc, pattern)?;
+            Ok(form::bound(alloc, "Forall", sort, name, name_sort, below)?)
         }
         Pattern::Ceil {
             argument_sort,
             sort,
             pattern,
         } => {
-            let argument_sort = sort_value(alloc, argument_sort)?;
-            let sort = sort_value(alloc, sort)?;
-            let below = pattern_value(alloc, pattern)?;
-            Ok(tree::sorted_one(alloc, "Ceil", argument_sort, sort, below)?)
+            let below = pattern_object(alloc, pattern)?;
+            Ok(form::sorted_one(alloc, "Ceil", argument_sort, sort, below)?)
         }
         Pattern::Floor {
             argument_sort,
             sort,
             pattern,
         } => {
-            let argument_sort = sort_value(alloc, argument_sort)?;
-            let sort = sort_value(alloc, sort)?;
-            let below = pattern_value(alloc, pattern)?;
-            Ok(tree::sorted_one(alloc, "Floor", argument_sort, sort, below)?)
+            let below = pattern_object(alloc, pattern)?;
+            Ok(form::sorted_one(alloc, "Floor", argument_sort, sort, below)?)
+        }
+        Pattern::Implies { sort, left, right } => {
+            let first = pattern_object(alloc, left)?;
+            let second = pattern_object(alloc, right)?;
+            Ok(form::two_below(alloc, "Implies", sort, first, second)?)
+        }
+        Pattern::Iff { sort, left, right } => {
+            let first = pattern_object(alloc, left)?;
+            let second = pattern_object(alloc, right)?;
+            Ok(form::two_below(alloc, "Iff", sort, first, second)?)
+        }
+        Pattern::Rewrites { sort, left, right } => {
+            let source = pattern_object(alloc, left)?;
+            let dest = pattern_object(alloc, right)?;
+            Ok(form::rewriting(alloc, sort, source, dest)?)
         }
         Pattern::Equals {
             argument_sort,
@@ -193,11 +143,9 @@ fn pattern_value(alloc: Global, pattern: &Pattern) -> Result<Value, Unwritten>
             left,
             right,
         } => {
-            let argument_sort = sort_value(alloc, argument_sort)?;
-            let sort = sort_value(alloc, sort)?;
-            let first = pattern_value(alloc, left)?;
-            let second = pattern_value(alloc, right)?;
-            Ok(tree::sorted_two(alloc, "Equals", argument_sort, sort, first, second)?)
+            let first = pattern_object(alloc, left)?;
+            let second = pattern_object(alloc, right)?;
+            Ok(form::sorted_two(alloc, "Equals", argument_sort, sort, first, second)?)
         }
         Pattern::In {
             argument_sort,
@@ -205,11 +153,9 @@ fn pattern_value(alloc: Global, pattern: &Pattern) -> Result<Value, Unwritten>
             left,
             right,
         } => {
-            let argument_sort = sort_value(alloc, argument_sort)?;
-            let sort = sort_value(alloc, sort)?;
-            let first = pattern_value(alloc, left)?;
-            let second = pattern_value(alloc, right)?;
-            Ok(tree::sorted_two(alloc, "In", argument_sort, sort, first, second)?)
+            let first = pattern_object(alloc, left)?;
+            let second = pattern_object(alloc, right)?;
+            Ok(form::sorted_two(alloc, "In", argument_sort, sort, first, second)?)
         }
         Pattern::SetVariable { .. }
         | Pattern::StringLiteral { .. }
@@ -226,7 +172,8 @@ fn pattern_values(alloc: Global, patterns: &[Pattern]) -> Result<Vec<Value>, Unw
 {
     let mut values = Vec::new(alloc);
     for pattern in patterns {
-        values.push(pattern_value(alloc, pattern)?)?;
+        let tree = pattern_object(alloc, pattern)?;
+        push(&mut values, Value::Object(tree))?;
     }
     Ok(values)
 }

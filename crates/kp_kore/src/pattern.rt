@@ -1,7 +1,6 @@
 use crate::sort::{Name, Sort};
 
 /// A pattern. `view` in specs/View.antt says what each form stands for.
-#[derive(Drop)]
 pub enum Pattern {
     Variable {
         name: Name,
@@ -107,4 +106,107 @@ pub enum Pattern {
         sort: Sort,
         pattern: Box<Pattern>,
     },
+}
+
+// Written out: a derived one is proved again in each crate that owns such a value.
+impl Drop for Pattern {
+    fn drop(self) {
+        match self {
+            Pattern::Variable {
+                name: _name,
+                sort: _sort,
+            } => {}
+            Pattern::SetVariable {
+                name: _name,
+                sort: _sort,
+            } => {}
+            Pattern::Application {
+                symbol: _symbol,
+                sorts: _sorts,
+                arguments: _arguments,
+            } => {}
+            Pattern::StringLiteral { text: _text } => {}
+            Pattern::Literal {
+                sort: _sort,
+                text: _text,
+            } => {}
+            Pattern::Top { sort: _sort } => {}
+            Pattern::Bottom { sort: _sort } => {}
+            Pattern::Not {
+                sort: _sort,
+                pattern: _pattern,
+            } => {}
+            Pattern::Next {
+                sort: _sort,
+                pattern: _pattern,
+            } => {}
+            Pattern::And {
+                sort: _sort,
+                patterns: _patterns,
+            } => {}
+            Pattern::Or {
+                sort: _sort,
+                patterns: _patterns,
+            } => {}
+            Pattern::Implies {
+                sort: _sort,
+                left: _left,
+                right: _right,
+            } => {}
+            Pattern::Iff {
+                sort: _sort,
+                left: _left,
+                right: _right,
+            } => {}
+            Pattern::Rewrites {
+                sort: _sort,
+                left: _left,
+                right: _right,
+            } => {}
+            Pattern::Exists {
+                sort: _sort,
+                name: _name,
+                name_sort: _name_sort,
+                pattern: _pattern,
+            } => {}
+            Pattern::Forall {
+                sort: _sort,
+                name: _name,
+                name_sort: _name_sort,
+                pattern: _pattern,
+            } => {}
+            Pattern::Ceil {
+                argument_sort: _argument_sort,
+                sort: _sort,
+                pattern: _pattern,
+            } => {}
+            Pattern::Floor {
+                argument_sort: _argument_sort,
+                sort: _sort,
+                pattern: _pattern,
+            } => {}
+            Pattern::Equals {
+                argument_sort: _argument_sort,
+                sort: _sort,
+                left: _left,
+                right: _right,
+            } => {}
+            Pattern::In {
+                argument_sort: _argument_sort,
+                sort: _sort,
+                left: _left,
+                right: _right,
+            } => {}
+            Pattern::Mu {
+                name: _name,
+                sort: _sort,
+                pattern: _pattern,
+            } => {}
+            Pattern::Nu {
+                name: _name,
+                sort: _sort,
+                pattern: _pattern,
+            } => {}
+        }
+    }
 }

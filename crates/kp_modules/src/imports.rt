@@ -27,7 +27,7 @@ pub fn place_of(places: &NamePlaces, name: &Name) -> Result<usize, LoadError>
 }
 
 /// Whether the walk over modules has come to a module, and has left it.
-#[derive(Clone, Copy, PartialEq, Eq)]
+#[derive(Clone, Copy)]
 pub enum Mark {
     Unseen,
     Open,

@@ -8,7 +8,7 @@ use serde_json::Value;
 use std::alloc::Global;
 
 /// Why bytes give no frame.
-#[derive(Clone, Copy, Debug, Drop)]
+#[derive(Clone, Copy, Drop)]
 pub enum FrameError {
     Memory,
     NoFrame,

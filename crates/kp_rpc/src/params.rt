@@ -32,7 +32,7 @@ pub fn bound_of(options: &Options) -> u64
 }
 
 /// Why params aren't read.
-#[derive(Clone, Copy, Debug, Drop)]
+#[derive(Clone, Copy, Drop)]
 pub enum ParamsError {
     Memory,
     OtherKind,

@@ -18,7 +18,7 @@ use serde_json::Value;
 use std::alloc::{AllocError, Global};
 
 /// A method of the server.
-#[derive(Clone, Copy, Debug, PartialEq, Eq, Drop)]
+#[derive(Clone, Copy, Drop)]
 pub enum Method {
     Execute,
     Implies,

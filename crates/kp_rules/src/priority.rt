@@ -17,7 +17,7 @@ pub const USUAL_PRIORITY: u32 = 50;
 const OWISE_PRIORITY: u32 = 200;
 
 /// What attributes say of a rule's priority.
-#[derive(Clone, Copy, Debug, PartialEq, Eq)]
+#[derive(Clone, Copy)]
 pub enum Priority {
     Number(u32),
     /// Above 4294967295.

@@ -40,7 +40,7 @@ use kp_signature::{Signature, VerifyError, verify};
 use std::alloc::{AllocError, Global};
 
 /// Why a rewrite axiom makes no rule.
-#[derive(Clone, Copy, Debug, PartialEq, Eq)]
+#[derive(Clone, Copy, Debug)]
 pub enum RuleError {
     Memory,
     /// M6: the axiom has a verify fault, or applies `inj` to another number of arguments than one, and isn't foreign.

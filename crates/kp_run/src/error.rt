@@ -2,7 +2,7 @@ use kp_ground::EvaluationError;
 use std::alloc::{AllocError, AllocFailed};
 
 /// Why a run isn't answered.
-#[derive(Clone, Copy, Debug, PartialEq, Eq)]
+#[derive(Clone, Copy)]
 pub enum RunError {
     Memory,
     /// T2: two rules with their turn, a rule that chooses, a number of more than 128 bits, a term deeper than 48, or a

@@ -1,6 +1,6 @@
 -- Valuations, instances of terms and of conjunctions, and the truth of predicates.
 -- Source: matching logic (valuations; patterns as what matches), in the words of the K framework's Kore language.
-use Rattle.std.specs.Prelude.{◌≡◌, Bool, true, false, not, ◌&&◌, ◌||◌, ◌⊎◌, ◌↔◌, List, [], ◌∷◌, ◌++◌, if◌then◌else◌, codes, ⊤, MatchBool}
+use Rattle.std.specs.Prelude.{◌≡◌, Bool, true, false, not, ◌&&◌, ◌||◌, ◌↔◌, List, [], ◌∷◌, ◌++◌, if◌then◌else◌, codes, ⊤, MatchBool}
 use Rattle.std.specs.List.{filter, AllByRecursion, list_any}
 use Rattle.std.specs.Str.{bytes_eq}
 use Rattle.std.specs.Str.Parse.{signed_digits_value}
@@ -101,7 +101,8 @@ abbrev pub PairSame : KoreSignature → Valuation → KorePattern → Type 0
 PairSame g v (conjunction s (next_pattern p (next_pattern q no_patterns))) = instance g v p ≡ instance g v q
 PairSame g v _ = ⊥
 
--- A predicate is true under a valuation. \exists and \forall range over the values of the sort.
+-- A predicate is true under a valuation, classically: \or is that not all members are false, \exists that not every value
+-- of the sort makes it false. \forall is of every value of the sort.
 -- \ceil of a term is true, of two conjoined terms their equality; \floor of a term is true where its
 -- value is the only one of its sort; of a predicate both are that predicate.
 abbrev mutual
@@ -110,10 +111,10 @@ abbrev mutual
   IsTrueUnder g v (bottom s) = ⊥
   IsTrueUnder g v (negation s p) = ¬ IsTrueUnder g v p
   IsTrueUnder g v (conjunction s ps) = AllTrueUnder g v ps
-  IsTrueUnder g v (disjunction s ps) = SomeTrueUnder g v ps
+  IsTrueUnder g v (disjunction s ps) = ¬ NoneTrueUnder g v ps
   IsTrueUnder g v (implication s p q) = IsTrueUnder g v p → IsTrueUnder g v q
   IsTrueUnder g v (equivalence s p q) = IsTrueUnder g v p ↔ IsTrueUnder g v q
-  IsTrueUnder g v (exists s x t p) = (u : Value) × HasSort g t u × IsTrueUnder g (assigned v x u) p
+  IsTrueUnder g v (exists s x t p) = ¬ ((u : Value) → HasSort g t u → ¬ IsTrueUnder g (assigned v x u) p)
   IsTrueUnder g v (forall s x t p) = (u : Value) → HasSort g t u → IsTrueUnder g (assigned v x u) p
   IsTrueUnder g v (equals a s p q) = instance g v p ≡ instance g v q
   IsTrueUnder g v (membership a s p q) = instance g v p ≡ instance g v q
@@ -125,9 +126,9 @@ abbrev mutual
   AllTrueUnder g v no_patterns = ⊤
   AllTrueUnder g v (next_pattern p ps) = IsTrueUnder g v p × AllTrueUnder g v ps
 
-  pub SomeTrueUnder : KoreSignature → Valuation → KorePatterns → Type 0
-  SomeTrueUnder g v no_patterns = ⊥
-  SomeTrueUnder g v (next_pattern p ps) = IsTrueUnder g v p ⊎ SomeTrueUnder g v ps
+  pub NoneTrueUnder : KoreSignature → Valuation → KorePatterns → Type 0
+  NoneTrueUnder g v no_patterns = ⊤
+  NoneTrueUnder g v (next_pattern p ps) = ¬ IsTrueUnder g v p × NoneTrueUnder g v ps
 
 -- ---- conjunctions of one term and predicates
 

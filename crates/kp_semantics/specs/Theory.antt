@@ -90,6 +90,11 @@ pub record IsRuleOf (g : KoreSignature) (labels : List Text) (a : NumberedAxiom)
   pub priority : r.priority ≡ unwrap_or (priority_of a.axiom_of.attributes) usual_priority
   pub body : Reads g a.axiom_of.parameters a.axiom_of.attributes a.axiom_of.pattern r.body
 
+-- the theory that these axioms make over a signature
+pub record IsTheoryOfAxioms (g : KoreSignature) (axioms : List NumberedAxiom) (t : Theory) : Type 0 where
+  pub signature : t.signature ≡ g
+  pub rules : AllZip (IsRuleOf g (labels_of axioms)) axioms t.rules
+
 -- the theory that a definition means for its main module
 pub record IsTheoryOf (d : KoreDefinition) (main : Text) (t : Theory) : Type 0 where
   pub signature : t.signature ≡ signature_of (flat_map (λ m. m.sentences) (modules_reached d main))

@@ -1,19 +1,27 @@
 // Laws of the definitions.
 ghost use Rattle.std.specs.Prelude.{◌≡◌, ◌<◌, ◌↔◌, ◌⊎◌, ◌-◌, ◌^◌, ℕ, pos, negsuc, neg_ℤ, true, false, List, [], ◌∷◌, IsTrue, Some, None, codes, ⊤, length, ◌+◌};
-ghost use Rattle.std.specs.List.{Contains};
-ghost use Rattle.kp_kore.specs.Syntax.{Text, KoreSort, KoreSorts, no_sorts, next_sort, KorePattern, KorePatterns, no_patterns, next_pattern, application, conjunction, disjunction, top, bottom, exists, forall, string_literal};
-ghost use Rattle.kp_kore.specs.Parts.{is_term, free_variables};
+ghost use Rattle.std.specs.Prelude.{◌++◌};
+ghost use Rattle.std.specs.List.{Contains, AllByRecursion};
+ghost use Rattle.kp_kore.specs.Syntax.{Text, KoreSort, KoreSorts, no_sorts, next_sort, KorePattern, KorePatterns, no_patterns, next_pattern, application, conjunction, disjunction, negation, implication, top, bottom, exists, forall, string_literal};
+ghost use Rattle.kp_kore.specs.Parts.{SortedName, is_term, free_variables};
 ghost use Rattle.kp_kore.specs.Signature.{KoreSignature, meaning_of, injection};
 ghost use Rattle.kp_kore.specs.Hooks.{Hook, Arithmetic, addition, subtraction, multiplication, equal, different, less, at_most, greater, at_least, both, either, implies, same, other, whole_arithmetic, whole_comparison, truth_connective, truth_negation, values_equal, values_different, hook_table, hook_named};
 ghost use Rattle.kp_semantics.specs.Value.{Value, whole, truth, HasSort, values_same, no_values, next_value};
 ghost use Rattle.kp_semantics.specs.Forms.{injected, marked, marked_by, two, wholes, truths};
 ghost use Rattle.kp_semantics.specs.Interpretation.{interpreted};
 ghost use Rattle.kp_semantics.specs.Instance.{Valuation, AgreesOn, instance, IsInstance, IsConjunctionInstance, IsTrueUnder};
-ghost use Rattle.kp_semantics.specs.Rules.{RewriteRule, priority_of};
+ghost use Rattle.kp_semantics.specs.Rules.{RewriteRule, RuleBody, priority_of};
 ghost use Rattle.kp_semantics.specs.Arcs.{PlainProof, HasNoFreshName};
 ghost use Rattle.kp_semantics.specs.Claims.{ReachabilityClaim, Holds};
 ghost use Rattle.kp_semantics.specs.Theory.{Theory};
-ghost use Rattle.kp_semantics.specs.Steps.{Fires, HasTurn};
+ghost use Rattle.kp_semantics.specs.Steps.{Fires, HasTurn, NoneFires};
+ghost use Rattle.kp_semantics.specs.Replies.{After, Executed, IsRightExecuted as IsRightGround};
+ghost use Rattle.kp_semantics.specs.AtHand.{HasNewNames};
+ghost use Rattle.kp_semantics.specs.Onward.{Leads, Passes};
+ghost use Rattle.kp_semantics.specs.Executions.{Options, listed_in, IsRightExecuted};
+ghost use Rattle.kp_semantics.specs.Ground.{executed_of};
+ghost use Rattle.kp_semantics.specs.Scopes.{LeadsIn, IsWithin, AreExtended};
+ghost use Rattle.kp_semantics.specs.Division.{Part, reading, IsPartOf, IsHeldBy, Divides, NoneOf};
 
 /// A term has exactly one instance under a valuation.
 #[tactic(auto, using(crate::proofs::InstanceLemmas::one_instance))]
@@ -156,7 +164,92 @@ pub fn truth_depends_on_the_free_variables_alone()
         AgreesOn (free_variables p) v w → IsTrueUnder g v p ↔ IsTrueUnder g w p }
 {}
 
+/// Truth that can't be refuted is truth.
+#[tactic(auto, using(crate::proofs::TruthLemmas::stable_truth))]
+pub fn what_is_not_refuted_is_true()
+    ensures { (g : KoreSignature) (p : KorePattern) (v : Valuation) → ¬ ¬ IsTrueUnder g v p → IsTrueUnder g v p }
+{}
+
+/// The connectives and quantifiers are classical: not both is one of the opposites, p implies q where p is false or q is
+/// true, denied twice is itself, and what doesn't hold for all has a counterexample.
+#[tactic(auto, using(crate::proofs::TruthLemmas::not_both, crate::proofs::TruthLemmas::implied_either, crate::proofs::TruthLemmas::twice_denied, crate::proofs::TruthLemmas::not_all))]
+pub fn connectives_and_quantifiers_are_classical()
+    ensures not_both { (g : KoreSignature) (v : Valuation) (s : KoreSort) (p q : KorePattern) →
+        IsTrueUnder g v (negation s (conjunction s (next_pattern p (next_pattern q no_patterns))))
+        ↔ IsTrueUnder g v (disjunction s (next_pattern (negation s p) (next_pattern (negation s q) no_patterns))) }
+    ensures implied { (g : KoreSignature) (v : Valuation) (s : KoreSort) (p q : KorePattern) →
+        IsTrueUnder g v (implication s p q)
+        ↔ IsTrueUnder g v (disjunction s (next_pattern (negation s p) (next_pattern q no_patterns))) }
+    ensures twice { (g : KoreSignature) (v : Valuation) (s : KoreSort) (p : KorePattern) →
+        IsTrueUnder g v (negation s (negation s p)) ↔ IsTrueUnder g v p }
+    ensures not_all { (g : KoreSignature) (v : Valuation) (s t : KoreSort) (x : Text) (p : KorePattern) →
+        IsTrueUnder g v (negation s (forall s x t p)) ↔ IsTrueUnder g v (exists s x t (negation s p)) }
+{}
+
 /// A tree of edges and splits from a claim's left side, whose leaves are covers or vacuous, makes the claim hold.
 pub fn a_plain_proof_is_sound()
     ensures { (t : Theory) (claim : ReachabilityClaim) → HasNoFreshName claim → PlainProof t claim claim.left → Holds t claim }
+{}
+
+/// The instances of a pattern depend on its free variables alone, also of a conjunction and under `\exists`.
+#[tactic(auto, using(crate::proofs::ConjunctionLemmas::same_pattern_instance))]
+pub fn instances_of_patterns_depend_on_the_free_variables_alone()
+    ensures { (g : KoreSignature) (p : KorePattern) (v w : Valuation) (u : Value) →
+        AgreesOn (free_variables p) v w → IsInstance g v p u → IsInstance g w p u }
+{}
+
+/// What is so many steps after a state are two facts: where the steps lead, and what they pass.
+pub fn after_is_to_lead_and_to_pass()
+    ensures leads { (t : Theory) (listed : List Text) (s s' : KorePattern) (d : ℕ) → After t listed s s' d → Leads t s s' d }
+    ensures passes { (t : Theory) (listed : List Text) (s s' : KorePattern) (d : ℕ) → After t listed s s' d → Passes t listed s d }
+    ensures both { (t : Theory) (listed : List Text) (s s' : KorePattern) (d : ℕ) →
+        Leads t s s' d → Passes t listed s d → After t listed s s' d }
+{}
+
+/// A reply to a request without variables that is right by the three reasons of ground runs is right by the seven.
+pub fn right_ground_replies_are_right()
+    ensures { (t : Theory) (o : Options) (request : KorePattern) (reply : Executed) →
+        free_variables request ≡ [] → IsRightGround t (listed_in o) o.bound request reply →
+        IsRightExecuted t o request (executed_of reply) }
+{}
+
+/// Runs over scopes compose, whatever variables the state between them has lost.
+pub fn runs_compose()
+    ensures { (t : Theory) (a b d : List SortedName) (s s' s'' : KorePattern) (n m : ℕ) →
+        IsWithin t.signature a b → IsWithin t.signature b d →
+        LeadsIn t a b s s' n → LeadsIn t b d s' s'' m → LeadsIn t a d s s'' (n + m) }
+{}
+
+/// A run over a scope leads where the variables of its two states say.
+#[tactic(auto, using(crate::proofs::RunLemmas::leads_of))]
+pub fn runs_over_a_scope_lead()
+    ensures { (t : Theory) (s s' : KorePattern) (greater : List SortedName) (d : ℕ) →
+        IsWithin t.signature (free_variables s') greater → AreExtended t.signature s s' greater → HasNewNames s s s' →
+        LeadsIn t (free_variables s) greater s s' d → Leads t s s' d }
+{}
+
+/// A division of which one part is divided further, where one rule more doesn't fire, is a division; a part that holds
+/// nothing falls away.
+pub fn parts_divide()
+    ensures excluded { (g : KoreSignature) (bodies : List RuleBody) (body : RuleBody) (s p : Part) (ps qs rs : List Part) →
+        Divides (reading g) g (NoneOf g bodies) s (ps ++ p ∷ qs) → IsPartOf (reading g) g s p →
+        AllByRecursion (IsPartOf (reading g) g p) rs → Divides (reading g) g (λ c. ¬ Fires g body c) p rs →
+        Divides (reading g) g (NoneOf g (body ∷ bodies)) s (ps ++ (rs ++ qs)) }
+    ensures empty { (g : KoreSignature) (bodies : List RuleBody) (s p : Part) (ps qs : List Part) →
+        Divides (reading g) g (NoneOf g bodies) s (ps ++ p ∷ qs) →
+        ((v : Valuation) (c : Value) → ¬ IsHeldBy (reading g) g s p v c) →
+        Divides (reading g) g (NoneOf g bodies) s (ps ++ qs) }
+{}
+
+/// Where `turns` are all rules that may have a turn on a configuration: if none of these fires, no rule fires; if none
+/// of a smaller priority number fires, a rule that fires has its turn. Nothing decides whether a rule fires.
+#[tactic(auto, using(crate::proofs::TurnLemmas::none_fires, crate::proofs::TurnLemmas::has_turn))]
+pub fn excluding_the_turns_is_enough()
+    ensures none { (t : Theory) (turns : List RewriteRule) (c : Value) →
+        ((r : RewriteRule) → Contains t.rules r → HasTurn t r c → Contains turns r) →
+        AllByRecursion (λ r. ¬ Fires t.signature r.body c) turns → NoneFires t c }
+    ensures turn { (t : Theory) (turns : List RewriteRule) (r : RewriteRule) (c : Value) →
+        ((q : RewriteRule) → Contains t.rules q → HasTurn t q c → Contains turns q) →
+        AllByRecursion (λ q. q.priority < r.priority → ¬ Fires t.signature q.body c) turns →
+        Fires t.signature r.body c → HasTurn t r c }
 {}

@@ -5,7 +5,6 @@
 
 mod applications;
 pub mod attributes;
-mod copies;
 mod edges;
 mod error;
 pub mod examples;

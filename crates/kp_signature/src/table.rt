@@ -1,4 +1,3 @@
-use crate::copies::{copy_alias_sentence, copy_sort_sentence, copy_symbol_sentence};
 use crate::names::{NamePlaces, note_name};
 use crate::subsorts::add_subsorts;
 use indexmap::IndexMap;
@@ -77,7 +76,7 @@ impl Table {
         ensures { (sentences : List KoreSentence) → IsTableOf self.old sentences → OnOk result (IsTableOf self.new (sentences ++ sort_sentence (sort_sentence_view declaration.now) ∷ [])) }
     {
         note_name(&mut self.sort_places, &declaration.name, self.sorts.len())?;
-        Ok(self.sorts.push(copy_sort_sentence(alloc, declaration)?)?)
+        Ok(self.sorts.push(declaration.copy(alloc)?)?)
     }
 
     fn add_symbol(&mut self, alloc: Global, declaration: &SymbolSentence) -> Result<(), AllocError>
@@ -88,10 +87,7 @@ impl Table {
             &declaration.name,
             self.symbols.len(),
         )?;
-        Ok(
-            self.symbols
-                .push(copy_symbol_sentence(alloc, declaration)?)?,
-        )
+        Ok(self.symbols.push(declaration.copy(alloc)?)?)
     }
 
     fn add_alias(&mut self, alloc: Global, declaration: &AliasSentence) -> Result<(), AllocError>
@@ -102,6 +98,6 @@ impl Table {
             &declaration.name,
             self.aliases.len(),
         )?;
-        Ok(self.aliases.push(copy_alias_sentence(alloc, declaration)?)?)
+        Ok(self.aliases.push(declaration.copy(alloc)?)?)
     }
 }

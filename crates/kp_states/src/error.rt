@@ -12,7 +12,7 @@ pub enum StateError {
 }
 
 /// Why a value isn't spelled.
-#[derive(Clone, Copy, Debug, PartialEq, Eq)]
+#[derive(Clone, Copy)]
 pub enum SpellingError {
     Memory,
     /// An `inj` would stand in it, and the signature has none.

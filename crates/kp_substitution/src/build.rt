@@ -47,66 +47,66 @@ pub fn disjunction_of(
     })
 }
 
-pub fn negation_of(alloc: Global, sort: &Sort, pattern: Pattern) -> Result<Pattern, AllocError>
-    ensures { IfOk result (λ p. view p ≡ negation (sort_view sort.now) (view pattern)) }
+pub fn negation_of(alloc: Global, sort: &Sort, pattern: Box<Pattern>) -> Result<Pattern, AllocError>
+    ensures { IfOk result (λ p. view p ≡ negation (sort_view sort.now) (view pattern.value)) }
 {
     Ok(Pattern::Not {
         sort: sort.copy(alloc)?,
-        pattern: Box::new(alloc, pattern)?,
+        pattern,
     })
 }
 
-pub fn next_of(alloc: Global, sort: &Sort, pattern: Pattern) -> Result<Pattern, AllocError>
-    ensures { IfOk result (λ p. view p ≡ next (sort_view sort.now) (view pattern)) }
+pub fn next_of(alloc: Global, sort: &Sort, pattern: Box<Pattern>) -> Result<Pattern, AllocError>
+    ensures { IfOk result (λ p. view p ≡ next (sort_view sort.now) (view pattern.value)) }
 {
     Ok(Pattern::Next {
         sort: sort.copy(alloc)?,
-        pattern: Box::new(alloc, pattern)?,
+        pattern,
     })
 }
 
 pub fn implication_of(
     alloc: Global,
     sort: &Sort,
-    left: Pattern,
-    right: Pattern,
+    left: Box<Pattern>,
+    right: Box<Pattern>,
 ) -> Result<Pattern, AllocError>
-    ensures { IfOk result (λ p. view p ≡ implication (sort_view sort.now) (view left) (view right)) }
+    ensures { IfOk result (λ p. view p ≡ implication (sort_view sort.now) (view left.value) (view right.value)) }
 {
     Ok(Pattern::Implies {
         sort: sort.copy(alloc)?,
-        left: Box::new(alloc, left)?,
-        right: Box::new(alloc, right)?,
+        left,
+        right,
     })
 }
 
 pub fn equivalence_of(
     alloc: Global,
     sort: &Sort,
-    left: Pattern,
-    right: Pattern,
+    left: Box<Pattern>,
+    right: Box<Pattern>,
 ) -> Result<Pattern, AllocError>
-    ensures { IfOk result (λ p. view p ≡ equivalence (sort_view sort.now) (view left) (view right)) }
+    ensures { IfOk result (λ p. view p ≡ equivalence (sort_view sort.now) (view left.value) (view right.value)) }
 {
     Ok(Pattern::Iff {
         sort: sort.copy(alloc)?,
-        left: Box::new(alloc, left)?,
-        right: Box::new(alloc, right)?,
+        left,
+        right,
     })
 }
 
 pub fn rewriting_of(
     alloc: Global,
     sort: &Sort,
-    left: Pattern,
-    right: Pattern,
+    left: Box<Pattern>,
+    right: Box<Pattern>,
 ) -> Result<Pattern, AllocError>
-    ensures { IfOk result (λ p. view p ≡ rewriting (sort_view sort.now) (view left) (view right)) }
+    ensures { IfOk result (λ p. view p ≡ rewriting (sort_view sort.now) (view left.value) (view right.value)) }
 {
     Ok(Pattern::Rewrites {
         sort: sort.copy(alloc)?,
-        left: Box::new(alloc, left)?,
-        right: Box::new(alloc, right)?,
+        left,
+        right,
     })
 }
 
@@ -115,15 +115,15 @@ pub fn exists_of(
     sort: &Sort,
     name: &Name,
     name_sort: &Sort,
-    pattern: Pattern,
+    pattern: Box<Pattern>,
 ) -> Result<Pattern, AllocError>
-    ensures { IfOk result (λ p. view p ≡ exists (sort_view sort.now) (string_bytes name.now) (sort_view name_sort.now) (view pattern)) }
+    ensures { IfOk result (λ p. view p ≡ exists (sort_view sort.now) (string_bytes name.now) (sort_view name_sort.now) (view pattern.value)) }
 {
     Ok(Pattern::Exists {
         sort: sort.copy(alloc)?,
         name: name.clone()?,
         name_sort: name_sort.copy(alloc)?,
-        pattern: Box::new(alloc, pattern)?,
+        pattern,
     })
 }
 
@@ -132,15 +132,15 @@ pub fn forall_of(
     sort: &Sort,
     name: &Name,
     name_sort: &Sort,
-    pattern: Pattern,
+    pattern: Box<Pattern>,
 ) -> Result<Pattern, AllocError>
-    ensures { IfOk result (λ p. view p ≡ forall (sort_view sort.now) (string_bytes name.now) (sort_view name_sort.now) (view pattern)) }
+    ensures { IfOk result (λ p. view p ≡ forall (sort_view sort.now) (string_bytes name.now) (sort_view name_sort.now) (view pattern.value)) }
 {
     Ok(Pattern::Forall {
         sort: sort.copy(alloc)?,
         name: name.clone()?,
         name_sort: name_sort.copy(alloc)?,
-        pattern: Box::new(alloc, pattern)?,
+        pattern,
     })
 }
 
@@ -148,14 +148,14 @@ pub fn ceil_of(
     alloc: Global,
     argument_sort: &Sort,
     sort: &Sort,
-    pattern: Pattern,
+    pattern: Box<Pattern>,
 ) -> Result<Pattern, AllocError>
-    ensures { IfOk result (λ p. view p ≡ ceil (sort_view argument_sort.now) (sort_view sort.now) (view pattern)) }
+    ensures { IfOk result (λ p. view p ≡ ceil (sort_view argument_sort.now) (sort_view sort.now) (view pattern.value)) }
 {
     Ok(Pattern::Ceil {
         argument_sort: argument_sort.copy(alloc)?,
         sort: sort.copy(alloc)?,
-        pattern: Box::new(alloc, pattern)?,
+        pattern,
     })
 }
 
@@ -163,14 +163,14 @@ pub fn floor_of(
     alloc: Global,
     argument_sort: &Sort,
     sort: &Sort,
-    pattern: Pattern,
+    pattern: Box<Pattern>,
 ) -> Result<Pattern, AllocError>
-    ensures { IfOk result (λ p. view p ≡ floor (sort_view argument_sort.now) (sort_view sort.now) (view pattern)) }
+    ensures { IfOk result (λ p. view p ≡ floor (sort_view argument_sort.now) (sort_view sort.now) (view pattern.value)) }
 {
     Ok(Pattern::Floor {
         argument_sort: argument_sort.copy(alloc)?,
         sort: sort.copy(alloc)?,
-        pattern: Box::new(alloc, pattern)?,
+        pattern,
     })
 }
 
@@ -178,16 +178,16 @@ pub fn equals_of(
     alloc: Global,
     argument_sort: &Sort,
     sort: &Sort,
-    left: Pattern,
-    right: Pattern,
+    left: Box<Pattern>,
+    right: Box<Pattern>,
 ) -> Result<Pattern, AllocError>
-    ensures { IfOk result (λ p. view p ≡ equals (sort_view argument_sort.now) (sort_view sort.now) (view left) (view right)) }
+    ensures { IfOk result (λ p. view p ≡ equals (sort_view argument_sort.now) (sort_view sort.now) (view left.value) (view right.value)) }
 {
     Ok(Pattern::Equals {
         argument_sort: argument_sort.copy(alloc)?,
         sort: sort.copy(alloc)?,
-        left: Box::new(alloc, left)?,
-        right: Box::new(alloc, right)?,
+        left,
+        right,
     })
 }
 
@@ -195,16 +195,16 @@ pub fn membership_of(
     alloc: Global,
     argument_sort: &Sort,
     sort: &Sort,
-    left: Pattern,
-    right: Pattern,
+    left: Box<Pattern>,
+    right: Box<Pattern>,
 ) -> Result<Pattern, AllocError>
-    ensures { IfOk result (λ p. view p ≡ membership (sort_view argument_sort.now) (sort_view sort.now) (view left) (view right)) }
+    ensures { IfOk result (λ p. view p ≡ membership (sort_view argument_sort.now) (sort_view sort.now) (view left.value) (view right.value)) }
 {
     Ok(Pattern::In {
         argument_sort: argument_sort.copy(alloc)?,
         sort: sort.copy(alloc)?,
-        left: Box::new(alloc, left)?,
-        right: Box::new(alloc, right)?,
+        left,
+        right,
     })
 }
 
@@ -212,14 +212,14 @@ pub fn mu_of(
     alloc: Global,
     name: &Name,
     sort: &Sort,
-    pattern: Pattern,
+    pattern: Box<Pattern>,
 ) -> Result<Pattern, AllocError>
-    ensures { IfOk result (λ p. view p ≡ mu (string_bytes name.now) (sort_view sort.now) (view pattern)) }
+    ensures { IfOk result (λ p. view p ≡ mu (string_bytes name.now) (sort_view sort.now) (view pattern.value)) }
 {
     Ok(Pattern::Mu {
         name: name.clone()?,
         sort: sort.copy(alloc)?,
-        pattern: Box::new(alloc, pattern)?,
+        pattern,
     })
 }
 
@@ -227,13 +227,13 @@ pub fn nu_of(
     alloc: Global,
     name: &Name,
     sort: &Sort,
-    pattern: Pattern,
+    pattern: Box<Pattern>,
 ) -> Result<Pattern, AllocError>
-    ensures { IfOk result (λ p. view p ≡ nu (string_bytes name.now) (sort_view sort.now) (view pattern)) }
+    ensures { IfOk result (λ p. view p ≡ nu (string_bytes name.now) (sort_view sort.now) (view pattern.value)) }
 {
     Ok(Pattern::Nu {
         name: name.clone()?,
         sort: sort.copy(alloc)?,
-        pattern: Box::new(alloc, pattern)?,
+        pattern,
     })
 }

@@ -64,11 +64,11 @@ fn put(
             build::application_of(alloc, symbol, sorts, arguments)
         }
         Pattern::Not { sort, pattern } => {
-            let pattern = put(pattern, alloc, replacements)?;
+            let pattern = put_box(pattern, alloc, replacements)?;
             build::negation_of(alloc, sort, pattern)
         }
         Pattern::Next { sort, pattern } => {
-            let pattern = put(pattern, alloc, replacements)?;
+            let pattern = put_box(pattern, alloc, replacements)?;
             build::next_of(alloc, sort, pattern)
         }
         Pattern::And { sort, patterns } => {
@@ -80,18 +80,18 @@ fn put(
             build::disjunction_of(alloc, sort, patterns)
         }
         Pattern::Implies { sort, left, right } => {
-            let left = put(left, alloc, replacements)?;
-            let right = put(right, alloc, replacements)?;
+            let left = put_box(left, alloc, replacements)?;
+            let right = put_box(right, alloc, replacements)?;
             build::implication_of(alloc, sort, left, right)
         }
         Pattern::Iff { sort, left, right } => {
-            let left = put(left, alloc, replacements)?;
-            let right = put(right, alloc, replacements)?;
+            let left = put_box(left, alloc, replacements)?;
+            let right = put_box(right, alloc, replacements)?;
             build::equivalence_of(alloc, sort, left, right)
         }
         Pattern::Rewrites { sort, left, right } => {
-            let left = put(left, alloc, replacements)?;
-            let right = put(right, alloc, replacements)?;
+            let left = put_box(left, alloc, replacements)?;
+            let right = put_box(right, alloc, replacements)?;
             build::rewriting_of(alloc, sort, left, right)
         }
         Pattern::Exists {
@@ -101,7 +101,7 @@ fn put(
             pattern,
         } => {
             let others = hide(alloc, name, replacements)?;
-            let pattern = put(pattern, alloc, &others)?;
+            let pattern = put_box(pattern, alloc, &others)?;
             build::exists_of(alloc, sort, name, name_sort, pattern)
         }
         Pattern::Forall {
@@ -111,7 +111,7 @@ fn put(
             pattern,
         } => {
             let others = hide(alloc, name, replacements)?;
-            let pattern = put(pattern, alloc, &others)?;
+            let pattern = put_box(pattern, alloc, &others)?;
             build::forall_of(alloc, sort, name, name_sort, pattern)
         }
         Pattern::Ceil {
@@ -119,7 +119,7 @@ fn put(
             sort,
             pattern,
         } => {
-            let pattern = put(pattern, alloc, replacements)?;
+            let pattern = put_box(pattern, alloc, replacements)?;
             build::ceil_of(alloc, argument_sort, sort, pattern)
         }
         Pattern::Floor {
@@ -127,7 +127,7 @@ fn put(
             sort,
             pattern,
         } => {
-            let pattern = put(pattern, alloc, replacements)?;
+            let pattern = put_box(pattern, alloc, replacements)?;
             build::floor_of(alloc, argument_sort, sort, pattern)
         }
         Pattern::Equals {
@@ -136,8 +136,8 @@ fn put(
             left,
             right,
         } => {
-            let left = put(left, alloc, replacements)?;
-            let right = put(right, alloc, replacements)?;
+            let left = put_box(left, alloc, replacements)?;
+            let right = put_box(right, alloc, replacements)?;
             build::equals_of(alloc, argument_sort, sort, left, right)
         }
         Pattern::In {
@@ -146,8 +146,8 @@ fn put(
             left,
             right,
         } => {
-            let left = put(left, alloc, replacements)?;
-            let right = put(right, alloc, replacements)?;
+            let left = put_box(left, alloc, replacements)?;
+            let right = put_box(right, alloc, replacements)?;
             build::membership_of(alloc, argument_sort, sort, left, right)
         }
         Pattern::Mu {
@@ -155,7 +155,7 @@ fn put(
             sort,
             pattern,
         } => {
-            let pattern = put(pattern, alloc, replacements)?;
+            let pattern = put_box(pattern, alloc, replacements)?;
             build::mu_of(alloc, name, sort, pattern)
         }
         Pattern::Nu {
@@ -163,10 +163,21 @@ fn put(
             sort,
             pattern,
         } => {
-            let pattern = put(pattern, alloc, replacements)?;
+            let pattern = put_box(pattern, alloc, replacements)?;
             build::nu_of(alloc, name, sort, pattern)
         }
     }
+}
+
+#[cycle(put)]
+fn put_box(
+    pattern: &Pattern,
+    alloc: Global,
+    replacements: &[&Replacement],
+) -> Result<Box<Pattern>, AllocError>
+    ensures { IfOk result (λ p. view p.value ≡ substituted (lent_view replacements.now) (view pattern.now)) }
+{
+    Ok(Box::new(alloc, put(pattern, alloc, replacements)?)?)
 }
 
 #[cycle(put)]

@@ -42,7 +42,7 @@ pub struct TextFault {
 }
 
 /// Why a part of a text wasn't read: for want of memory, or for a fault where so many bytes are left.
-#[derive(Clone, Copy, Debug, PartialEq, Eq)]
+#[derive(Clone, Copy)]
 pub enum Failure {
     Memory,
     Fault { left: usize, kind: FaultKind },

@@ -1,26 +1,26 @@
 /// `\top` and `\bottom`.
-#[derive(Clone, Copy, Debug, PartialEq, Eq)]
+#[derive(Clone, Copy)]
 pub enum Constant {
     Top,
     Bottom,
 }
 
 /// `\not` and `\next`.
-#[derive(Clone, Copy, Debug, PartialEq, Eq)]
+#[derive(Clone, Copy)]
 pub enum Unary {
     Not,
     Next,
 }
 
 /// `\and` and `\or`.
-#[derive(Clone, Copy, Debug, PartialEq, Eq)]
+#[derive(Clone, Copy)]
 pub enum Variadic {
     And,
     Or,
 }
 
 /// `\implies`, `\iff` and `\rewrites`.
-#[derive(Clone, Copy, Debug, PartialEq, Eq)]
+#[derive(Clone, Copy)]
 pub enum Binary {
     Implies,
     Iff,
@@ -28,42 +28,42 @@ pub enum Binary {
 }
 
 /// `\exists` and `\forall`.
-#[derive(Clone, Copy, Debug, PartialEq, Eq)]
+#[derive(Clone, Copy)]
 pub enum Quantifier {
     Exists,
     Forall,
 }
 
 /// `\ceil` and `\floor`.
-#[derive(Clone, Copy, Debug, PartialEq, Eq)]
+#[derive(Clone, Copy)]
 pub enum Rounding {
     Ceil,
     Floor,
 }
 
 /// `\equals` and `\in`.
-#[derive(Clone, Copy, Debug, PartialEq, Eq)]
+#[derive(Clone, Copy)]
 pub enum Comparison {
     Equals,
     In,
 }
 
 /// `\mu` and `\nu`.
-#[derive(Clone, Copy, Debug, PartialEq, Eq)]
+#[derive(Clone, Copy)]
 pub enum FixedPoint {
     Mu,
     Nu,
 }
 
 /// `\left-assoc` and `\right-assoc`.
-#[derive(Clone, Copy, Debug, PartialEq, Eq)]
+#[derive(Clone, Copy)]
 pub enum Side {
     Left,
     Right,
 }
 
 /// What may stand behind a backslash, by the form of what follows it.
-#[derive(Clone, Copy, Debug, PartialEq, Eq)]
+#[derive(Clone, Copy)]
 pub enum Keyword {
     Constant(Constant),
     Unary(Unary),

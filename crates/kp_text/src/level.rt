@@ -2,7 +2,7 @@ ghost use Rattle.std.specs.Prelude.{◌≡◌, ◌≤◌};
 ghost use Rattle.kp_text.specs.Grammar.{first_level, below, in_fold, first_in_fold};
 
 /// Where a pattern stands: at which level of nesting as written and as meant, and which level it reaches by beginning.
-#[derive(Clone, Copy, Debug, PartialEq, Eq)]
+#[derive(Clone, Copy)]
 pub struct Level {
     pub written: usize,
     pub meant: usize,

@@ -8,7 +8,7 @@ use crate::tail::Tail;
 use std::alloc::{AllocError, Global};
 
 /// A token of Kore text.
-#[derive(Debug, Drop)]
+#[derive(Drop)]
 pub enum Token {
     Identifier(String),
     /// A backslash and an identifier, as `\and`.
@@ -22,7 +22,7 @@ pub enum Token {
 }
 
 /// What stands next in a text. A place is told by how many bytes are left there.
-#[derive(Debug, Drop)]
+#[derive(Drop)]
 pub enum Ahead<'a> {
     Finished,
     Token {

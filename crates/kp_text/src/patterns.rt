@@ -19,7 +19,7 @@ use kp_kore::Pattern;
 use std::alloc::Global;
 
 /// How a pattern begins.
-#[derive(Debug, Drop)]
+#[derive(Drop)]
 pub enum Beginning {
     Name(String),
     SetVariable,

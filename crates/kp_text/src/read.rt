@@ -11,7 +11,7 @@ use kp_kore::{Definition, Module, Pattern};
 use std::alloc::Global;
 
 /// Why a text wasn't read: for want of memory, or for its first fault.
-#[derive(Clone, Copy, Debug, PartialEq, Eq)]
+#[derive(Clone, Copy)]
 pub enum ReadError {
     Memory,
     Fault(TextFault),

@@ -22,7 +22,7 @@ use kp_kore::{
 use std::alloc::Global;
 
 /// The words that begin a sentence, and the one that ends a module.
-#[derive(Clone, Copy, Debug, PartialEq, Eq)]
+#[derive(Clone, Copy)]
 pub enum SentenceWord {
     End,
     Import,

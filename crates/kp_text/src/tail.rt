@@ -4,7 +4,7 @@ ghost use Rattle.kp_text.specs.Tokens.{tail_kind};
 use crate::fault::FaultKind;
 
 /// What follows the longest front of a text that is UTF-8.
-#[derive(Clone, Copy, Debug, PartialEq, Eq)]
+#[derive(Clone, Copy)]
 pub enum Tail {
     /// Nothing: the text is UTF-8.
     Whole,

@@ -50,7 +50,7 @@ vg_steps_by_back next s = elim s [
 ]
 
 -- the value chosen for Y is a whole number
-back_leads : (next : Value) → StepsBy toys back_rule vg_value next → (k : ℤ) × (next ≡ vh_value k)
+pub back_leads : (next : Value) → StepsBy toys back_rule vg_value next → (k : ℤ) × (next ≡ vh_value k)
 back_leads next s =
     let chosen : (k : ℤ) × (s.rewrites.2.chosen (codes "Y") ≡ whole k) = int_values (s.rewrites.2.chosen (codes "Y")) s.rewrites.2.sorts.0 in
     (chosen.0, s.rewrites.2.result ∙ ap (λ u. constructed (codes "Lblvh") (next_value u no_values)) chosen.1)

@@ -3,8 +3,8 @@ use Rattle.std.proofs.Common.{◌≡◌, refl, sym, ◌∙◌, ap, subst, inl, i
 use Rattle.std.specs.Prelude.{codes}
 use Rattle.kp_semantics.specs.Value.{Value, whole, constructed, no_values, next_value}
 use Rattle.kp_semantics.specs.Instance.{Valuation, assigned, instance}
-use Rattle.kp_semantics.specs.Steps.{Steps, IsFinal, IsUnknown, Fires, IsCompleteRun, AnyByRecursion}
-use Rattle.kp_semantics.specs.Claims.{Holds, IsReached}
+use Rattle.kp_semantics.specs.Steps.{Steps, IsFinal, IsUnknown, Fires, IsCompleteRun}
+use Rattle.kp_semantics.specs.Claims.{Holds, IsReached, Misses}
 use Rattle.kp_toys.specs.ToysTheory.{toys, toys_signature, van_rule}
 use Rattle.kp_toys.specs.ToysValues.{vf_value, vg_value, vh_value}
 use Rattle.kp_toys.specs.ToysClaims.{back_to_start, back_somewhere}
@@ -108,20 +108,20 @@ vh_final k = inr (
 
 pub not_back_to_start : ¬ Holds toys back_to_start
 not_back_to_start holds =
-    elim (holds 2 (λ x. whole (pos 0)) (vf_value (pos 0)) (vg_value ∷ vh_value (pos 1) ∷ [])
+    holds 2 (λ x. whole (pos 0)) (vf_value (pos 0)) (vg_value ∷ vh_value (pos 1) ∷ [])
     (int_has_sort (pos 0), tt)
     (record { term = refl; predicates = tt })
     (vf_steps (pos 0), (vg_steps (pos 1), vh_final (pos 1)))
-    (omega arith)) [
-      | inl r ↦ differ (vf_value (pos 0)) (instance toys_signature r.chosen back_to_start.right) refl r.met.term
-      | inr s ↦ elim s [
-        | inl r ↦ differ vg_value (instance toys_signature r.chosen back_to_start.right) refl r.met.term
-        | inr s ↦ elim s [
-          | inl r ↦ differ (vh_value (pos 1)) (vh_value (pos 0)) refl (r.met.term ∙ ap (λ u. constructed (codes "Lblvh") (next_value u no_values)) r.agrees.0)
-          | inr s ↦ s
-        ]
-      ]
-    ]
+    (omega arith) (
+      (λ r. differ (vf_value (pos 0)) (instance toys_signature r.chosen back_to_start.right) refl r.met.term),
+      (
+        (λ r. differ vg_value (instance toys_signature r.chosen back_to_start.right) refl r.met.term),
+        (
+          (λ r. differ (vh_value (pos 1)) (vh_value (pos 0)) refl (r.met.term ∙ ap (λ u. constructed (codes "Lblvh") (next_value u no_values)) r.agrees.0)),
+          tt,
+        ),
+      ),
+    )
 
 -- ---- vf(X) to vh(Y) holds
 
@@ -137,16 +137,16 @@ reached_at v k = record {
   met = record { term = refl; predicates = tt };
 }
 
--- from vg each complete run reaches vh
-from_vg : (v : Valuation) (c : Value) (more : List Value) → c ≡ vg_value → IsCompleteRun toys c more → AnyByRecursion (IsReached toys_signature back_somewhere v) (c ∷ more)
-from_vg v c [] e f = absurd (vg_not_final (subst (IsFinal toys) e f))
-from_vg v c (next ∷ more) e run =
+-- from vg no complete run misses vh
+from_vg : (v : Valuation) (c : Value) (more : List Value) → c ≡ vg_value → IsCompleteRun toys c more → ¬ Misses toys_signature back_somewhere v (c ∷ more)
+from_vg v c [] e f misses = vg_not_final (subst (IsFinal toys) e f)
+from_vg v c (next ∷ more) e run misses =
     let p : (k : ℤ) × (next ≡ vh_value k) = (vg_steps_exactly next).0 (subst (λ c. Steps toys c next) e run.0) in
-    inr (inl (subst (IsReached toys_signature back_somewhere v) (sym p.1) (reached_at v p.0)))
+    misses.1.0 (subst (IsReached toys_signature back_somewhere v) (sym p.1) (reached_at v p.0))
 
-from_vf : (v : Valuation) (k : ℤ) (c : Value) (more : List Value) → c ≡ vf_value k → IsCompleteRun toys c more → AnyByRecursion (IsReached toys_signature back_somewhere v) (c ∷ more)
-from_vf v k c [] e f = absurd (vf_not_final k (subst (IsFinal toys) e f))
-from_vf v k c (next ∷ more) e run = inr (from_vg v next more (vf_steps_to k next (subst (λ c. Steps toys c next) e run.0)) run.1)
+from_vf : (v : Valuation) (k : ℤ) (c : Value) (more : List Value) → c ≡ vf_value k → IsCompleteRun toys c more → ¬ Misses toys_signature back_somewhere v (c ∷ more)
+from_vf v k c [] e f misses = vf_not_final k (subst (IsFinal toys) e f)
+from_vf v k c (next ∷ more) e run misses = from_vg v next more (vf_steps_to k next (subst (λ c. Steps toys c next) e run.0)) run.1 misses.1
 
 pub back_somewhere_holds : Holds toys back_somewhere
 back_somewhere_holds n v c more sorts met run within =

@@ -13,17 +13,17 @@ use Rattle.kp_toys.specs.SmallTheories.{keeping}
 use Rattle.kp_toys.proofs.Choosing.{off_one}
 use Rattle.kp_toys.proofs.Matching.{int_has_sort, differ}
 
-abbrev on_vh : Value → Value
+abbrev pub on_vh : Value → Value
 on_vh u = constructed (codes "Lblvh") (next_value u no_values)
 
-abbrev on_vf : Value → Value
+abbrev pub on_vf : Value → Value
 on_vf u = constructed (codes "Lblvf") (next_value u no_values)
 
 under_vf : (u w : Value) → on_vf u ≡ on_vf w → u ≡ w
 under_vf u w e = cc
 
 -- from vf(u) the one step leads to vh(u)
-keeps : (u next : Value) → Steps keeping (on_vf u) next → next ≡ on_vh u
+pub keeps : (u next : Value) → Steps keeping (on_vf u) next → next ≡ on_vh u
 keeps u next s = elim s [
   | inl a ↦ a.rewrites.2.result ∙ ap on_vh (a.rewrites.2.agrees (codes "N") refl ∙ under_vf (a.rewrites.0 (codes "N")) u a.rewrites.1.matches)
   | inr a ↦ absurd a

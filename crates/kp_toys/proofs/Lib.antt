@@ -1,7 +1,16 @@
+pub mod AtOnce
 pub mod Choosing
 pub mod Claimed
+pub mod CountReplies
+pub mod Counting
+pub mod Firing
+pub mod Implications
 pub mod Keeping
 pub mod Matching
 pub mod Means
+pub mod Miscounted
+pub mod Picking
+pub mod Renaming
 pub mod Replied
 pub mod Sorts
+pub mod Stopping

@@ -14,10 +14,10 @@ use Rattle.kp_semantics.specs.Rules.{Rewrite, RewriteRule, RuleBody, rewrite, fo
 use Rattle.kp_semantics.specs.Steps.{Fires, IsUnknown, Steps, StepsBy, NoneBefore, Rewrites, IsFinal, NoneFires, AnyByRecursion}
 use Rattle.kp_semantics.proofs.SameLemmas.{same_values_decide}
 use Rattle.kp_toys.specs.Toys.{n, sort_int, sort_s, call}
-use Rattle.kp_toys.specs.ToysTheory.{toys, toys_signature, dec_rule, stop_rule}
+use Rattle.kp_toys.specs.ToysTheory.{toys, toys_signature, dec_rule, stop_rule, back_rule}
 use Rattle.kp_toys.specs.ToysValues.{count, done_value, odd, vg_value, vh_value}
 
-false_true : false ≡ true → ⊥
+pub false_true : false ≡ true → ⊥
 false_true e = cc
 
 -- values that the test tells apart differ, and so do texts
@@ -59,21 +59,21 @@ count_known k = known (count k) (λ s. texts_differ (codes "Lblcount") (codes "L
 -- ---- count
 
 -- what stands under count
-under_count : (u : Value) (k : ℤ) → constructed (codes "Lblcount") (next_value u no_values) ≡ count k → u ≡ whole k
+pub under_count : (u : Value) (k : ℤ) → constructed (codes "Lblcount") (next_value u no_values) ≡ count k → u ≡ whole k
 under_count u k e = cc
 
 pub int_has_sort : (k : ℤ) → HasSort toys_signature sort_int (whole k)
 int_has_sort k = (sort_int, refl, itself sort_int)
 
 -- count(k) for the number of a call
-abbrev counted : Value → Value
+abbrev pub counted : Value → Value
 counted u = constructed (codes "Lblcount") (next_value u no_values)
 
-minus_one : Value → Value
+unfoldable pub minus_one : Value → Value
 minus_one u = interpreted (whole_arithmetic subtraction) (next_value u (next_value (whole (pos 1)) no_values))
 
 -- dec leads from count(k) to count(k - 1)
-dec_leads : (k : ℤ) (next : Value) → StepsBy toys dec_rule (count k) next → next ≡ counted (minus_one (whole k))
+pub dec_leads : (k : ℤ) (next : Value) → StepsBy toys dec_rule (count k) next → next ≡ counted (minus_one (whole k))
 unfolding minus_one
 dec_leads k next s =
     let u : s.rewrites.0 (codes "N") ≡ whole k = under_count (s.rewrites.0 (codes "N")) k s.rewrites.1.matches in
@@ -81,17 +81,17 @@ dec_leads k next s =
     s.rewrites.2.result ∙ ap (λ x. counted (interpreted (whole_arithmetic subtraction) (next_value x (next_value (whole (pos 1)) no_values)))) w
 
 -- dec fires on count(k) only where k > 0, stop only where k = 0
-dec_condition : (k : ℤ) → Fires toys_signature dec_rule.body (count k) → interpreted (whole_comparison greater) (next_value (whole k) (next_value (whole (pos 0)) no_values)) ≡ truth true
+pub dec_condition : (k : ℤ) → Fires toys_signature dec_rule.body (count k) → interpreted (whole_comparison greater) (next_value (whole k) (next_value (whole (pos 0)) no_values)) ≡ truth true
 dec_condition k f =
     let u : f.0 (codes "N") ≡ whole k = under_count (f.0 (codes "N")) k f.1.matches in
     subst (λ x. interpreted (whole_comparison greater) (next_value x (next_value (whole (pos 0)) no_values)) ≡ truth true) u f.1.condition.0
 
-stop_condition : (k : ℤ) → Fires toys_signature stop_rule.body (count k) → interpreted (whole_comparison equal) (next_value (whole k) (next_value (whole (pos 0)) no_values)) ≡ truth true
+pub stop_condition : (k : ℤ) → Fires toys_signature stop_rule.body (count k) → interpreted (whole_comparison equal) (next_value (whole k) (next_value (whole (pos 0)) no_values)) ≡ truth true
 stop_condition k f =
     let u : f.0 (codes "N") ≡ whole k = under_count (f.0 (codes "N")) k f.1.matches in
     subst (λ x. interpreted (whole_comparison equal) (next_value x (next_value (whole (pos 0)) no_values)) ≡ truth true) u f.1.condition.0
 
-falsehood : truth false ≡ truth true → ⊥
+pub falsehood : truth false ≡ truth true → ⊥
 falsehood e = cc
 
 -- a step by a rule whose left term has another head
@@ -133,9 +133,9 @@ count_steps k next s = elim s [
 ]
 
 -- dec steps from count(k) where k > 0, stop where k = 0
-dec_steps : (k : ℤ) (next : Value) → interpreted (whole_comparison greater) (next_value (whole k) (next_value (whole (pos 0)) no_values)) ≡ truth true → next ≡ counted (minus_one (whole k)) → Steps toys (count k) next
+pub dec_step : (k : ℤ) (next : Value) → interpreted (whole_comparison greater) (next_value (whole k) (next_value (whole (pos 0)) no_values)) ≡ truth true → next ≡ counted (minus_one (whole k)) → StepsBy toys dec_rule (count k) next
 unfolding minus_one
-dec_steps k next positive e = inl (record {
+dec_step k next positive e = record {
   known = count_known k;
   none_before = none_before (count k);
   rewrites = (
@@ -143,18 +143,24 @@ dec_steps k next positive e = inl (record {
     record { sorts = (int_has_sort k, tt); matches = refl; condition = (positive, tt) },
     record { chosen = λ x. whole k; agrees = λ x _. refl; sorts = tt; ensured = tt; result = e },
   );
-})
+}
+
+pub stop_step : (k : ℤ) (next : Value) → interpreted (whole_comparison equal) (next_value (whole k) (next_value (whole (pos 0)) no_values)) ≡ truth true → next ≡ done_value → StepsBy toys stop_rule (count k) next
+stop_step k next zero e = record {
+  known = count_known k;
+  none_before = none_before (count k);
+  rewrites = (
+    (λ x. whole k),
+    record { sorts = (int_has_sort k, tt); matches = refl; condition = (zero, tt) },
+    record { chosen = λ x. whole k; agrees = λ x _. refl; sorts = tt; ensured = tt; result = e },
+  );
+}
+
+dec_steps : (k : ℤ) (next : Value) → interpreted (whole_comparison greater) (next_value (whole k) (next_value (whole (pos 0)) no_values)) ≡ truth true → next ≡ counted (minus_one (whole k)) → Steps toys (count k) next
+dec_steps k next positive e = inl (dec_step k next positive e)
 
 stop_steps : (next : Value) → next ≡ done_value → Steps toys (count (pos 0)) next
-stop_steps next e = inr (inl (record {
-  known = count_known (pos 0);
-  none_before = none_before (count (pos 0));
-  rewrites = (
-    (λ x. whole (pos 0)),
-    record { sorts = (int_has_sort (pos 0), tt); matches = refl; condition = (refl, tt) },
-    record { chosen = λ x. whole (pos 0); agrees = λ x _. refl; sorts = tt; ensured = tt; result = e },
-  );
-}))
+stop_steps next e = inr (inl (stop_step (pos 0) next refl e))
 
 -- count(2) steps to count(1) alone
 pub count_two : (next : Value) → Steps toys (count (pos 2)) next ↔ (next ≡ count (pos 1))
@@ -179,11 +185,14 @@ count_one next = (
 )
 
 -- count(k) isn't final where a rule fires
-dec_fires : (k : ℤ) → interpreted (whole_comparison greater) (next_value (whole k) (next_value (whole (pos 0)) no_values)) ≡ truth true → Fires toys_signature dec_rule.body (count k)
+pub dec_fires : (k : ℤ) → interpreted (whole_comparison greater) (next_value (whole k) (next_value (whole (pos 0)) no_values)) ≡ truth true → Fires toys_signature dec_rule.body (count k)
 dec_fires k positive = ((λ x. whole k), record { sorts = (int_has_sort k, tt); matches = refl; condition = (positive, tt) })
 
-stop_fires : Fires toys_signature stop_rule.body (count (pos 0))
-stop_fires = ((λ x. whole (pos 0)), record { sorts = (int_has_sort (pos 0), tt); matches = refl; condition = (refl, tt) })
+pub stop_fires_at : (k : ℤ) → interpreted (whole_comparison equal) (next_value (whole k) (next_value (whole (pos 0)) no_values)) ≡ truth true → Fires toys_signature stop_rule.body (count k)
+stop_fires_at k zero = ((λ x. whole k), record { sorts = (int_has_sort k, tt); matches = refl; condition = (zero, tt) })
+
+pub stop_fires : Fires toys_signature stop_rule.body (count (pos 0))
+stop_fires = stop_fires_at (pos 0) refl
 
 pub positive_not_final : (k : ℤ) → interpreted (whole_comparison greater) (next_value (whole k) (next_value (whole (pos 0)) no_values)) ≡ truth true → ¬ IsFinal toys (count k)
 positive_not_final k positive f = elim f [ inl u ↦ count_known k u | inr n ↦ n.0 (dec_fires k positive) ]
@@ -244,8 +253,8 @@ odd_unknown k = inr (inr (inr (inr (inr (inr (inl ((λ x. whole k), (refl, ((ref
 pub vg_known : ¬ IsUnknown toys vg_value
 vg_known = known vg_value (λ s. texts_differ (codes "Lblvg") (codes "Lblodd") refl s.1.0)
 
-pub vg_steps : (k : ℤ) → Steps toys vg_value (vh_value k)
-vg_steps k = inr (inr (inr (inr (inr (inr (inr (inr (inr (inl (record {
+pub vg_step : (k : ℤ) → StepsBy toys back_rule vg_value (vh_value k)
+vg_step k = record {
   known = vg_known;
   none_before = none_before vg_value;
   rewrites = (
@@ -253,7 +262,10 @@ vg_steps k = inr (inr (inr (inr (inr (inr (inr (inr (inr (inl (record {
     record { sorts = tt; matches = refl; condition = tt },
     record { chosen = λ x. whole k; agrees = λ x _. refl; sorts = (int_has_sort k, tt); ensured = tt; result = refl },
   );
-}))))))))))
+}
+
+pub vg_steps : (k : ℤ) → Steps toys vg_value (vh_value k)
+vg_steps k = inr (inr (inr (inr (inr (inr (inr (inr (inr (inl (vg_step k))))))))))
 
 pub done_final : IsFinal toys done_value
 done_final = inr done_fires_none

@@ -14,28 +14,31 @@ false_true : false ≡ true → ⊥
 false_true e = cc
 
 -- where the steps from count(2) lead
-after_one : (c later : Value) → c ≡ count (pos 2) → StepsIn toys 1 c later → later ≡ count (pos 1)
+pub after_one : (c later : Value) → c ≡ count (pos 2) → StepsIn toys 1 c later → later ≡ count (pos 1)
 after_one c later e s = s.2 ∙ (count_two s.0).0 (subst (λ c. Steps toys c s.0) e s.1)
 
-after_two : (c later : Value) → c ≡ count (pos 2) → StepsIn toys 2 c later → later ≡ count (pos 0)
+pub after_two : (c later : Value) → c ≡ count (pos 2) → StepsIn toys 2 c later → later ≡ count (pos 0)
 after_two c later e s =
     let first : s.0 ≡ count (pos 1) = (count_two s.0).0 (subst (λ c. Steps toys c s.0) e s.1) in
     s.2.2 ∙ (count_one s.2.0).0 (subst (λ c. Steps toys c s.2.0) first s.2.1)
 
-after_three : (c later : Value) → c ≡ count (pos 2) → StepsIn toys 3 c later → later ≡ done_value
+pub after_three : (c later : Value) → c ≡ count (pos 2) → StepsIn toys 3 c later → later ≡ done_value
 after_three c later e s =
     let first : s.0 ≡ count (pos 1) = (count_two s.0).0 (subst (λ c. Steps toys c s.0) e s.1) in
     let second : s.2.0 ≡ count (pos 0) = (count_one s.2.0).0 (subst (λ c. Steps toys c s.2.0) first s.2.1) in
     s.2.2.2 ∙ (count_zero s.2.2.0).0 (subst (λ c. Steps toys c s.2.2.0) second s.2.2.1)
 
-to_zero : (v : Valuation) → IsAfter toys (count_of (integer (codes "2"))) v 2 (count (pos 0))
+pub to_one : (v : Valuation) → IsAfter toys (count_of (integer (codes "2"))) v 1 (count (pos 1))
+to_one v = (count (pos 2), record { term = refl; predicates = tt }, (count (pos 1), (count_two _).1 refl, refl))
+
+pub to_zero : (v : Valuation) → IsAfter toys (count_of (integer (codes "2"))) v 2 (count (pos 0))
 to_zero v = (count (pos 2), record { term = refl; predicates = tt }, (count (pos 1), (count_two _).1 refl, (count (pos 0), (count_one _).1 refl, refl)))
 
-to_done : (v : Valuation) (later : Value) → later ≡ done_value → IsAfter toys (count_of (integer (codes "2"))) v 3 later
+pub to_done : (v : Valuation) (later : Value) → later ≡ done_value → IsAfter toys (count_of (integer (codes "2"))) v 3 later
 to_done v later e = (count (pos 2), record { term = refl; predicates = tt }, (count (pos 1), (count_two _).1 refl, (count (pos 0), (count_one _).1 refl, (done_value, (count_zero _).1 refl, e))))
 
 -- none on the way is final
-on_the_way : (v : Valuation) (n : ℕ) (c : Value) → n < 3 → IsAfter toys (count_of (integer (codes "2"))) v n c → ¬ IsFinal toys c
+pub on_the_way : (v : Valuation) (n : ℕ) (c : Value) → n < 3 → IsAfter toys (count_of (integer (codes "2"))) v n c → ¬ IsFinal toys c
 on_the_way v zero c lt a f = positive_not_final (pos 2) refl (subst (IsFinal toys) (a.2 ∙ a.1.term) f)
 on_the_way v (suc zero) c lt a f = positive_not_final (pos 1) refl (subst (IsFinal toys) (after_one a.0 c a.1.term a.2) f)
 on_the_way v (suc (suc zero)) c lt a f = zero_not_final (subst (IsFinal toys) (after_two a.0 c a.1.term a.2) f)

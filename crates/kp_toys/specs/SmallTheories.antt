@@ -61,3 +61,10 @@ shadowed = record { signature = toys_signature; rules = foreign_from lone ∷ fr
 -- a foreign rule from count(N - 1): what stands for the call may be any whole number
 abbrev pub from_call : Theory
 from_call = record { signature = toys_signature; rules = foreign_from (count_of (call (codes "Lblsub") (n ∷ integer (codes "1") ∷ []))) ∷ [] }
+
+-- two rules of one priority fire on lone
+abbrev pub at_once_by_two : Theory
+at_once_by_two = record {
+  signature = toys_signature;
+  rules = from_lone 50 done [] ∷ record { id = codes "S.other"; priority = 50; body = rewrite (record { left = lone; condition = []; new_variables = []; right = goal_of_lone; ensured = [] }) } ∷ [];
+}

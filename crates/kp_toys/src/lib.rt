@@ -2,6 +2,8 @@
 // and what the definitions of kp_semantics say of it: each function here has no body and carries examples.
 #![tactic(auto)]
 
+pub mod implying;
 pub mod reading;
+pub mod replying;
 pub mod running;
 pub mod stepping;

@@ -1,5 +1,5 @@
-// Tests of the public calls of the crates below with ample memory, by values from outside. They stand here together,
-// since a crate with tests is proved twice.
+// Tests of the public calls with ample memory, by values from outside: of signatures, rules, claims and what they do. They
+// stand here together, since a crate with tests is proved twice.
 #![tactic(auto)]
 
 #[cfg(test)]
@@ -9,13 +9,7 @@ mod compiling;
 #[cfg(test)]
 mod definitions;
 #[cfg(test)]
-mod provers;
-#[cfg(test)]
-mod readers;
-#[cfg(test)]
 mod regularity;
-#[cfg(test)]
-mod replies;
 #[cfg(test)]
 mod rules;
 #[cfg(test)]
@@ -24,7 +18,5 @@ mod substituting;
 mod successors;
 #[cfg(test)]
 mod texts;
-#[cfg(test)]
-mod trees;
 #[cfg(test)]
 mod verifying;

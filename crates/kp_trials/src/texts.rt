@@ -18,9 +18,9 @@ pub(crate) fn signature(alloc: Global, text: &str) -> Result<Signature, Fail> {
 
 /// The last sentence of a module's text, an axiom.
 pub(crate) fn axiom(alloc: Global, text: &str) -> Result<AxiomSentence, Fail> {
-    let mut module = read_module(alloc, text.as_bytes()).map_err(|_| "no module")?;
-    match module.sentences.pop() {
-        Some(Sentence::Axiom(axiom)) => Ok(axiom),
+    let module = read_module(alloc, text.as_bytes()).map_err(|_| "no module")?;
+    match module.sentences.last() {
+        Some(Sentence::Axiom(axiom)) => Ok(axiom.copy(alloc)?),
         _ => Err(Fail::from("no axiom")),
     }
 }

@@ -9,6 +9,9 @@ const COUNTING: &str = r#"module COUNTING
   sort SortS{} []
   symbol Lblcount{}(SortInt{}) : SortS{} [constructor{}()]
   symbol Lbldone{}() : SortS{} [constructor{}()]
+  sort SortK{} []
+  symbol inj{From, To}(From) : To [sortInjection{}()]
+  axiom{} \top{SortK{}}() [subsort{SortInt{}, SortK{}}()]
 endmodule []
 "#;
 
@@ -62,6 +65,8 @@ fn patterns_have_their_sort_or_their_first_fault(rt: HostRuntime) -> Result<(), 
             "V5 170141183460469231731687303715884105728",
         ),
         (r#"Lblcount{}(\dv{SortInt{}}("two"))"#, "V7 two"),
+        (r#"inj{SortInt{}, SortK{}}(\dv{SortInt{}}("2"))"#, "SortK{}"),
+        ("inj{SortK{}, SortInt{}}(K:SortK{})", "V4 SortInt{}"),
     ];
     for (text, told) in &rows {
         let found = verified(rt.alloc(), *text)?;

@@ -1,26 +1,9 @@
-// The program kprove: `run` does all that it does, over a shelf, a source and sinks; `main` makes the real ones.
+// The program kprove: `run` of kp_program does all that it does, over a shelf, a source and sinks; `main` makes the real
+// ones.
 #![tactic(auto)]
 
-mod answer;
-mod answer_execute;
-mod answer_implies;
-mod asked;
-mod claims;
-mod command;
-mod definition;
-mod failure;
-mod local;
-mod output;
-mod program;
-#[cfg(test)]
-mod prove_tests;
-mod prover;
-#[cfg(test)]
-mod tests;
-mod trouble;
-
-use crate::program::run;
 use kp_io::{Disk, Incoming, Outgoing};
+use kp_program::run;
 use std::alloc::AllocError;
 use std::env;
 use std::io::ErrorKind;

@@ -15,7 +15,7 @@ pub returns-clause-says : goal.returns-clause-says
 returns-clause-says g c i t at serves closed back =
     let x = c.index-claims-place.result in
     let same : claim_view x.claim ≡ i.claim = claim_at c.args.claims.now c.args.place x i c.requires.place c.index-claims-place.is at in
-    subst (λ (claim : ReachabilityClaim). free_variables claim.right ≡ [] → AreReadBack claim → IfOk c.prove_claim.result (λ r. TreeSays t.theory [] claim (tree_view r.1))) same
+    subst (λ (claim : ReachabilityClaim). free_variables claim.right ≡ [] → AreReadBack claim → IfOk c.prove_claim.result (λ r. TreeSays t.theory [] [] claim (tree_view r.1))) same
     (c.prove_claim.ensures.says t serves) closed back
 
 pub returns-clause-holds : goal.returns-clause-holds

@@ -11,12 +11,6 @@ loop-variable-preserved-in-Continue-1 c =
     taken_along (λ x. not (contains_text names x.name)) c.push.new.self.items c.loop-variable.found.items c.in-Some.variable c.loop-variable.variable-iterator.rest.items c.next.new.self.rest.items _
     new pushed c.in-Some.ensures.steps.0 c.loop-variable.invariant
 
-pub loop-variable-preserved-else-not-contains : goal.loop-variable-preserved-else-not-contains
-loop-variable-preserved-else-not-contains c =
-    let names = c.args.names.now in
-    let old : not (contains_text names (string_bytes c.in-Some.variable.name)) ≡ false = search rules in
-    left_out (λ x. not (contains_text names x.name)) c.loop-variable.found.items c.in-Some.variable c.loop-variable.variable-iterator.rest.items c.next.new.self.rest.items _ old c.in-Some.ensures.steps.0 c.loop-variable.invariant
-
 pub loop-variable-preserved : goal.loop-variable-preserved
 loop-variable-preserved c =
     let names = c.args.names.now in

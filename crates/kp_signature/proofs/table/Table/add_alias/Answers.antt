@@ -10,7 +10,7 @@ pub returns : goal.returns
 returns c sentences t = record {
   sorts = kept sort_sentence_view c.args.self.now.sorts.items (sorts_in sentences) (sorts_in (sentences ++ alias_sentence (alias_sentence_view c.args.declaration.now) ∷ [])) t.sorts (sorts_in-append sentences (alias_sentence (alias_sentence_view c.args.declaration.now) ∷ []));
   symbols = kept symbol_sentence_view c.args.self.now.symbols.items (symbols_in sentences) (symbols_in (sentences ++ alias_sentence (alias_sentence_view c.args.declaration.now) ∷ [])) t.symbols (symbols_in-append sentences (alias_sentence (alias_sentence_view c.args.declaration.now) ∷ []));
-  aliases = pushed alias_sentence_view c.args.self.now.aliases.items c.push.new.self.items c.in_ok-copy_alias_sentence.field-0 (aliases_in sentences) (aliases_in (sentences ++ alias_sentence (alias_sentence_view c.args.declaration.now) ∷ [])) (alias_sentence_view c.args.declaration.now) t.aliases c.in_ok-push.ensures.items c.in_ok-copy_alias_sentence.ensures (aliases_in-append sentences (alias_sentence (alias_sentence_view c.args.declaration.now) ∷ []));
+  aliases = pushed alias_sentence_view c.args.self.now.aliases.items c.push.new.self.items c.in_ok-copy.field-0 (aliases_in sentences) (aliases_in (sentences ++ alias_sentence (alias_sentence_view c.args.declaration.now) ∷ [])) (alias_sentence_view c.args.declaration.now) t.aliases c.in_ok-push.ensures.items c.in_ok-copy.ensures (aliases_in-append sentences (alias_sentence (alias_sentence_view c.args.declaration.now) ∷ []));
   subsorts = kept subsort_view c.args.self.now.subsorts.items (subsorts_in sentences) (subsorts_in (sentences ++ alias_sentence (alias_sentence_view c.args.declaration.now) ∷ [])) t.subsorts (subsorts_in-append sentences (alias_sentence (alias_sentence_view c.args.declaration.now) ∷ []));
   sort_places = kept_places (λ d. d.name) c.args.self.now.sort_places (sorts_in sentences) (sorts_in (sentences ++ alias_sentence (alias_sentence_view c.args.declaration.now) ∷ [])) t.sort_places (sorts_in-append sentences (alias_sentence (alias_sentence_view c.args.declaration.now) ∷ []));
   symbol_places = kept_places (λ d. d.name) c.args.self.now.symbol_places (symbols_in sentences) (symbols_in (sentences ++ alias_sentence (alias_sentence_view c.args.declaration.now) ∷ [])) t.symbol_places (symbols_in-append sentences (alias_sentence (alias_sentence_view c.args.declaration.now) ∷ []));

@@ -8,7 +8,7 @@ use Rattle.kp_signature.proofs.table.Table.add_sort.Goals as goal
 
 pub returns : goal.returns
 returns c sentences t = record {
-  sorts = pushed sort_sentence_view c.args.self.now.sorts.items c.push.new.self.items c.in_ok-copy_sort_sentence.field-0 (sorts_in sentences) (sorts_in (sentences ++ sort_sentence (sort_sentence_view c.args.declaration.now) ∷ [])) (sort_sentence_view c.args.declaration.now) t.sorts c.in_ok-push.ensures.items c.in_ok-copy_sort_sentence.ensures (sorts_in-append sentences (sort_sentence (sort_sentence_view c.args.declaration.now) ∷ []));
+  sorts = pushed sort_sentence_view c.args.self.now.sorts.items c.push.new.self.items c.in_ok-copy.field-0 (sorts_in sentences) (sorts_in (sentences ++ sort_sentence (sort_sentence_view c.args.declaration.now) ∷ [])) (sort_sentence_view c.args.declaration.now) t.sorts c.in_ok-push.ensures.items c.in_ok-copy.ensures (sorts_in-append sentences (sort_sentence (sort_sentence_view c.args.declaration.now) ∷ []));
   symbols = kept symbol_sentence_view c.args.self.now.symbols.items (symbols_in sentences) (symbols_in (sentences ++ sort_sentence (sort_sentence_view c.args.declaration.now) ∷ [])) t.symbols (symbols_in-append sentences (sort_sentence (sort_sentence_view c.args.declaration.now) ∷ []));
   aliases = kept alias_sentence_view c.args.self.now.aliases.items (aliases_in sentences) (aliases_in (sentences ++ sort_sentence (sort_sentence_view c.args.declaration.now) ∷ [])) t.aliases (aliases_in-append sentences (sort_sentence (sort_sentence_view c.args.declaration.now) ∷ []));
   subsorts = kept subsort_view c.args.self.now.subsorts.items (subsorts_in sentences) (subsorts_in (sentences ++ sort_sentence (sort_sentence_view c.args.declaration.now) ∷ [])) t.subsorts (subsorts_in-append sentences (sort_sentence (sort_sentence_view c.args.declaration.now) ∷ []));

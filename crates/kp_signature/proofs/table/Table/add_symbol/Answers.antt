@@ -9,7 +9,7 @@ use Rattle.kp_signature.proofs.table.Table.add_symbol.Goals as goal
 pub returns : goal.returns
 returns c sentences t = record {
   sorts = kept sort_sentence_view c.args.self.now.sorts.items (sorts_in sentences) (sorts_in (sentences ++ symbol_sentence (symbol_sentence_view c.args.declaration.now) ∷ [])) t.sorts (sorts_in-append sentences (symbol_sentence (symbol_sentence_view c.args.declaration.now) ∷ []));
-  symbols = pushed symbol_sentence_view c.args.self.now.symbols.items c.push.new.self.items c.in_ok-copy_symbol_sentence.field-0 (symbols_in sentences) (symbols_in (sentences ++ symbol_sentence (symbol_sentence_view c.args.declaration.now) ∷ [])) (symbol_sentence_view c.args.declaration.now) t.symbols c.in_ok-push.ensures.items c.in_ok-copy_symbol_sentence.ensures (symbols_in-append sentences (symbol_sentence (symbol_sentence_view c.args.declaration.now) ∷ []));
+  symbols = pushed symbol_sentence_view c.args.self.now.symbols.items c.push.new.self.items c.in_ok-copy.field-0 (symbols_in sentences) (symbols_in (sentences ++ symbol_sentence (symbol_sentence_view c.args.declaration.now) ∷ [])) (symbol_sentence_view c.args.declaration.now) t.symbols c.in_ok-push.ensures.items c.in_ok-copy.ensures (symbols_in-append sentences (symbol_sentence (symbol_sentence_view c.args.declaration.now) ∷ []));
   aliases = kept alias_sentence_view c.args.self.now.aliases.items (aliases_in sentences) (aliases_in (sentences ++ symbol_sentence (symbol_sentence_view c.args.declaration.now) ∷ [])) t.aliases (aliases_in-append sentences (symbol_sentence (symbol_sentence_view c.args.declaration.now) ∷ []));
   subsorts = kept subsort_view c.args.self.now.subsorts.items (subsorts_in sentences) (subsorts_in (sentences ++ symbol_sentence (symbol_sentence_view c.args.declaration.now) ∷ [])) t.subsorts (subsorts_in-append sentences (symbol_sentence (symbol_sentence_view c.args.declaration.now) ∷ []));
   sort_places = kept_places (λ d. d.name) c.args.self.now.sort_places (sorts_in sentences) (sorts_in (sentences ++ symbol_sentence (symbol_sentence_view c.args.declaration.now) ∷ [])) t.sort_places (sorts_in-append sentences (symbol_sentence (symbol_sentence_view c.args.declaration.now) ∷ []));

@@ -1,0 +1,10 @@
+pub mod Callers
+pub mod Cells
+pub mod Closure
+pub mod RoundSteps
+pub mod Rounds
+pub mod RowSteps
+pub mod Sizes
+pub mod Steps
+pub mod Values
+pub mod Views

@@ -1,0 +1,6 @@
+use Rattle.std.proofs.Common.{◌≡◌, ◌<◌, ℕ, get_or, None}
+use Rattle.kp_diff.specs.Bounds.{no_bounds}
+use Rattle.kp_diff.proofs.rows.free_one.Given as goal
+
+abbrev pub invariant-loop-y : goal.invariant-loop-y
+invariant-loop-y l = (y : ℕ) → y < l.y → get_or l.row y None ≡ no_bounds l.fn.x y

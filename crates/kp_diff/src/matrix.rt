@@ -1,0 +1,103 @@
+ghost use Rattle.std.specs.Prelude.{◌≡◌, ◌≢◌, ◌↔◌, ◌⊎◌, ◌≤◌, ◌+◌, ℕ, ℤ, pos, suc, length, IfOk, IsTrue, Some};
+ghost use Rattle.kp_diff.specs.Bounds.{Meets, no_bounds, narrower, IsClosed, HaveBits, IsWithinWeight};
+ghost use Rattle.kp_diff.specs.Rows.{Differences, bounds_of, values_of, rows_of, IsMatrix};
+
+use crate::elimination::narrow;
+use crate::rows::{free_all, free_rows, zeros};
+use crate::valuation::solve;
+use crate::weight::is_light;
+use std::alloc::{AllocError, Global};
+use std::marker::Model;
+
+/// Whether some values meet all bounds.
+pub enum Outcome {
+    /// The matrix holds such values.
+    Yes,
+    /// There are none.
+    No,
+}
+
+/// Bounds on the differences of `size` variables and the number zero, which is place 0, and a value for each.
+#[derive(Drop)]
+pub struct Matrix {
+    size: usize,
+    rows: Vec<Vec<Option<i128>>>,
+    values: Vec<i128>,
+}
+
+impl Model for Matrix {
+    ghost Value = { Differences };
+
+    ghost view = { λ m. record { size = m.size; rows = rows_of m.rows.items; values = m.values.items } };
+
+    ghost invariant = { λ m. IsMatrix m.size (rows_of m.rows.items) m.values.items };
+}
+
+impl Matrix {
+    /// No bounds but that nothing differs from itself. All values are zero.
+    pub fn new(alloc: Global, size: usize) -> Result<Matrix, AllocError>
+        ensures size { IfOk result (λ m. m.size ≡ size) }
+        ensures free { IfOk result (λ m. (x y : ℕ) → x ≤ size → y ≤ size → bounds_of m x y ≡ no_bounds x y) }
+        ensures zero { IfOk result (λ m. (x : ℕ) → x ≤ size → values_of m x ≡ pos 0) }
+    {
+        let rows = free_rows(alloc, size)?;
+        let values = zeros(alloc, size)?;
+        Ok(Matrix { size, rows, values })
+    }
+
+    /// How many variables there are.
+    pub fn size(&self) -> usize
+        ensures { result ≡ self.now.size }
+    {
+        self.size
+    }
+
+    /// Adds `x - y <= c`. Of two bounds on one difference the narrower stays.
+    pub fn bound(&mut self, x: usize, y: usize, c: i128)
+        requires { (x ≤ self.old.size) × (y ≤ self.old.size) }
+        ensures size { self.new.size ≡ self.old.size }
+        ensures here { bounds_of self.new x y ≡ narrower (bounds_of self.old x y) (Some c) }
+        ensures elsewhere { (i j : ℕ) → (i ≢ x) ⊎ (j ≢ y) → bounds_of self.new i j ≡ bounds_of self.old i j }
+        ensures values { (i : ℕ) → values_of self.new i ≡ values_of self.old i }
+    {
+        narrow(&mut self.rows, x, y, c);
+    }
+
+    /// Takes all bounds away.
+    pub fn clear(&mut self)
+        ensures size { self.new.size ≡ self.old.size }
+        ensures free { (x y : ℕ) → x ≤ self.old.size → y ≤ self.old.size → bounds_of self.new x y ≡ no_bounds x y }
+        ensures values { (i : ℕ) → values_of self.new i ≡ values_of self.old i }
+    {
+        free_all(&mut self.rows, self.size);
+    }
+
+    /// Whether the variables and the bits of the largest constant are together at most 126, as `feasible` wants.
+    pub fn is_within_weight(&self) -> bool
+        ensures { IsTrue result ↔ IsWithinWeight self.now.size (bounds_of self.now) }
+    {
+        is_light(&self.rows, self.size)
+    }
+
+    /// Whether some values meet all bounds. Yes closes the bounds, and writes such values.
+    pub fn feasible(&mut self) -> Outcome
+        requires { IsWithinWeight self.old.size (bounds_of self.old) }
+        ensures size { self.new.size ≡ self.old.size }
+        ensures yes { result ≡ Outcome.Yes → Meets self.old.size (bounds_of self.old) (values_of self.new) }
+        ensures closed { result ≡ Outcome.Yes → IsClosed self.old.size (bounds_of self.new) }
+        ensures kept { result ≡ Outcome.No → (i : ℕ) → values_of self.new i ≡ values_of self.old i }
+        ensures no { result ≡ Outcome.No → (values : ℕ → ℤ) → ¬ Meets self.old.size (bounds_of self.old) values }
+        ensures same { (values : ℕ → ℤ) → Meets self.old.size (bounds_of self.old) values ↔ Meets self.old.size (bounds_of self.new) values }
+        ensures bits { (bits : ℕ) → HaveBits bits self.old.size (bounds_of self.old) → HaveBits (suc (self.old.size + bits)) self.old.size (bounds_of self.new) }
+    {
+        solve(&mut self.rows, self.size, &mut self.values)
+    }
+
+    /// The value of a variable, or of place 0.
+    pub fn value(&self, x: usize) -> i128
+        requires { x ≤ self.now.size }
+        ensures { result ≡ values_of self.now x }
+    {
+        self.values[x]
+    }
+}

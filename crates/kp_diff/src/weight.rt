@@ -1,0 +1,48 @@
+ghost use Rattle.std.specs.Prelude.{◌≡◌, ◌↔◌, ◌<◌, ◌≤◌, ◌^◌, ◌-◌, ℕ, suc, length, get_or, List, [], None, IsTrue};
+ghost use Rattle.kp_diff.specs.Bounds.{IsBelow, IsWithinWeight};
+ghost use Rattle.kp_diff.specs.Rows.{rows_of, bound_in, IsSquare};
+
+/// Whether a bound, without its sign, is below a limit.
+fn is_below(bound: Option<i128>, limit: u128) -> bool
+    ensures { IsTrue result ↔ IsBelow limit bound }
+{
+    match bound {
+        Some(c) => c.unsigned_abs() < limit,
+        None => true,
+    }
+}
+
+/// Whether all bounds of a row are below a limit.
+fn is_row_below(row: &[Option<i128>], limit: u128) -> bool
+    ensures { IsTrue result ↔ ((y : ℕ) → y < length row.now → IsBelow limit (get_or row.now y None)) }
+{
+    for bound in row {
+        if !is_below(*bound, limit) {
+            return false;
+        }
+    }
+    true
+}
+
+/// Whether all bounds are below a limit.
+fn are_rows_below(rows: &[Vec<Option<i128>>], limit: u128) -> bool
+    ensures { IsTrue result ↔ ((x : ℕ) → x < length rows.now → (y : ℕ) → y < length (get_or (rows_of rows.now) x []) → IsBelow limit (bound_in (rows_of rows.now) x y)) }
+{
+    for row in rows {
+        if !is_row_below(row, limit) {
+            return false;
+        }
+    }
+    true
+}
+
+/// Whether the variables and the bits of the largest constant are together at most 126.
+pub fn is_light(rows: &[Vec<Option<i128>>], size: usize) -> bool
+    requires { IsSquare (suc size) (rows_of rows.now) }
+    ensures { IsTrue result ↔ IsWithinWeight size (bound_in (rows_of rows.now)) }
+{
+    if size > 126 {
+        return false;
+    }
+    are_rows_below(rows, 2u128.pow((126 - size) as u32))
+}

@@ -1,0 +1,12 @@
+pub mod PrintedTexts
+pub mod ReadModules
+pub mod ReadPatterns
+pub mod ReadSorts
+pub mod ReadStrings
+pub mod ReadTokens
+pub mod SoundModules
+pub mod SoundPatterns
+pub mod SoundSorts
+pub mod SoundTokens
+pub mod Spellable
+pub mod SpellableModules

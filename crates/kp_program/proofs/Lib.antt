@@ -1,0 +1,9 @@
+pub mod Causes
+pub mod ClaimCauses
+pub mod LocalExchanges
+pub mod LocalReplies
+pub mod ProvableClaims
+pub mod Proving
+pub mod Served
+pub mod Spelled
+pub mod WordsRead

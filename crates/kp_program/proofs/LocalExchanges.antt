@@ -1,0 +1,158 @@
+-- The line with which a server of a setting replies to a frame makes a right exchange for the setting's theory.
+use Rattle.std.proofs.Common.{◌≡◌, ◌<◌, ◌≤◌, ◌^◌, ◌++◌, ℕ, Bool, true, false, List, [], ◌∷◌, Option, Some, None, refl, sym, ap, subst, ◌∙◌, inl, inr, arith}
+use Rattle.serde_json.specs.Data.{Data, object, Members}
+use Rattle.kp_kore.specs.Syntax.{Text, KoreSort, KorePattern, top, bottom}
+use Rattle.kp_kore.specs.Parts.{is_term}
+use Rattle.kp_semantics.specs.Replies.{IsRightExecuted}
+use Rattle.kp_semantics.specs.Theory.{Theory}
+use Rattle.kp_states.specs.Spelled.{no_term}
+use Rattle.kp_states.proofs.SpelledForms.{spelling_term}
+use Rattle.kp_rpc.specs.Frame.{IsFrame}
+use Rattle.kp_rpc.specs.Implications.{bound_variables, IsCondition, witnessed, vacuous, IsRightImplied}
+use Rattle.kp_rpc.specs.Questions.{IsReadBack}
+use Rattle.kp_rpc.specs.Replied.{IsReadId}
+use Rattle.kp_rpc.specs.Reply.{ExecuteResult, ImpliesResult, not_valid, valid, IsStatePattern, RequestError, error_reply, result_reply, reply_bytes}
+use Rattle.kp_rpc.specs.Request.{RequestId, IsRequest, ExecuteRequest, bound_of, most_depth}
+use Rattle.kp_rpc.proofs.IdsRead.{id_read, refused_read}
+use Rattle.kp_rpc.proofs.TermsBack.{term_back, top_back, bottom_back}
+use Rattle.kp_client.specs.Links.{Exchange, ToldTheory, IsRightRun, IsRightExchange}
+use Rattle.kp_server.proofs.Implied.{binds_nothing}
+use Rattle.kp_program.proofs.LocalReplies.{error_tells_no_run, error_tells_no_implication, run_told, run_tells_no_implication, IsResultReadBack, implication_told, implication_tells_no_run}
+use Rattle.kp_server.specs.Right.{IsLine, IsRefusal, IsFaulted, IsAnswered, IsImpliesFaulted, IsImpliesAnswered}
+use Rattle.kp_program.specs.Proofs.{told_theory, IsRepliedBy}
+use Rattle.kp_server.specs.Setting.{Setting}
+use Rattle.kp_server.specs.Untold.{IsImpliesUntold, no_consequent}
+
+-- ---- errors
+
+-- the line of an error makes a right exchange for every theory
+with_error : (t : ToldTheory) (frame line : List ℕ) (id : RequestId) (e : RequestError) → IsReadId id → line ≡ reply_bytes (error_reply id e) → IsRightExchange t (record { frame = frame; reply = line })
+with_error t frame line id e lawful is = record {
+  executes = λ x h. absurd (error_tells_no_run id e line x lawful is h);
+  implies_so = λ x h. absurd (error_tells_no_implication id e line x lawful is h);
+}
+
+at_reply : (line : List ℕ) (reply made : Data) → line ≡ reply_bytes reply → reply ≡ made → line ≡ reply_bytes made
+at_reply line reply made is same = is ∙ ap reply_bytes same
+
+-- the id of a request that a frame holds
+id_of_request : (frame : List ℕ) (d : Data) (o : Members) (id : RequestId) (method : Text) → IsFrame frame d → d ≡ object o → IsRequest o id method → IsReadId id
+id_of_request frame d o id method is same request = id_read frame o id (subst (λ (e : Data). IsFrame frame e) same is) request.has_id
+
+refused : (t : ToldTheory) (frame line : List ℕ) (reply : Data) → IsRefusal frame reply → line ≡ reply_bytes reply → IsRightExchange t (record { frame = frame; reply = line })
+refused t frame line reply r is = with_error t frame line r.id r.error (refused_read frame r.id r.error r.because) (at_reply line reply (error_reply r.id r.error) is r.reply_is)
+
+faulted : (s : Setting) (t : ToldTheory) (frame line : List ℕ) (d reply : Data) → IsFrame frame d → IsFaulted s d reply → line ≡ reply_bytes reply → IsRightExchange t (record { frame = frame; reply = line })
+faulted s t frame line d reply is_frame r is =
+    with_error t frame line r.id r.error (id_of_request frame d r.is_execute.members r.id _ is_frame r.is_execute.tree r.is_execute.is_request) (at_reply line reply (error_reply r.id r.error) is r.reply_is)
+
+implies_faulted : (s : Setting) (t : ToldTheory) (frame line : List ℕ) (d reply : Data) → IsFrame frame d → IsImpliesFaulted s d reply → line ≡ reply_bytes reply → IsRightExchange t (record { frame = frame; reply = line })
+implies_faulted s t frame line d reply is_frame r is =
+    with_error t frame line r.id r.error (id_of_request frame d r.is_implies.members r.id _ is_frame r.is_implies.tree r.is_implies.is_request) (at_reply line reply (error_reply r.id r.error) is r.reply_is)
+
+-- ---- runs
+
+-- no run is longer than a number of 64 bits
+bounded : (n : Option ℕ) (name : Option Text) (cut_points terminals : List Text) → bound_of (record { max_depth = n; module_name = name; cut_points = cut_points; terminals = terminals }) ≤ most_depth
+bounded None name cut_points terminals = omega arith
+bounded (Some n) name cut_points terminals = omega arith
+
+fits : (depth bound : ℕ) → depth ≤ bound → bound ≤ most_depth → depth < 2 ^ 64
+fits depth bound h k = omega arith
+
+-- without a predicate a state has one pattern
+one_pattern : (term : KorePattern) (predicate : Option KorePattern) (p q : KorePattern) → predicate ≡ None
+    → IsStatePattern (record { term = term; predicate = predicate }) p → IsStatePattern (record { term = term; predicate = predicate }) q → p ≡ q
+one_pattern term None p q none h k = h ∙ sym k
+one_pattern term (Some r) p q none h k = absurd (cc none)
+
+right_run : (t : Theory) (request : ExecuteRequest) (x : ExecuteResult) (p : KorePattern) → x.state.predicate ≡ None → IsStatePattern x.state p
+    → IsRightExecuted t (request.options.cut_points ++ request.options.terminals) (bound_of request.options) request.state (record { depth = x.depth; reason = x.reason; state = p })
+    → IsRightRun t request x
+right_run t request x p none is right q other =
+    subst (λ (k : KorePattern). IsRightExecuted t (request.options.cut_points ++ request.options.terminals) (bound_of request.options) request.state (record { depth = x.depth; reason = x.reason; state = k }))
+    (one_pattern x.state.term x.state.predicate p q none is other) right
+
+answered : (s : Setting) (frame line : List ℕ) (d reply : Data) → IsFrame frame d → IsAnswered s d reply → line ≡ reply_bytes reply → IsRightExchange (told_theory s) (record { frame = frame; reply = line })
+answered s frame line d reply is_frame r is =
+    let options = r.request.options in
+    let x = r.right.result in
+    let lawful = id_of_request frame d r.members r.request.id _ is_frame r.tree r.is_request.is_request in
+    let short = fits x.depth (bound_of options) r.right.right.within_bound (bounded options.max_depth options.module_name options.cut_points options.terminals) in
+    let term : is_term x.state.term ≡ true = ap is_term r.normal.spelled ∙ spelling_term s.theory.signature r.normal.later.sort r.normal.later.value in
+    let back = term_back x.state.term term in
+    let made = at_reply line reply (result_reply r.request.id r.right.tree) is r.right.reply_is in
+    let right = right_run s.theory r.request x r.right.state r.bare r.right.state_is r.right.right in
+    record {
+      executes = λ y h. record {
+        members = r.members;
+        request = r.request;
+        is_frame = subst (λ (e : Data). IsFrame frame e) r.tree is_frame;
+        is_request = r.is_request;
+        right = λ asked. subst (λ (z : ExecuteResult). IsRightRun s.theory r.request z) (sym (run_told r.request.id x y r.right.tree line lawful short r.bare back r.right.written made h)) right;
+      };
+      implies_so = λ y h. absurd (run_tells_no_implication r.request.id x y r.right.tree line lawful short r.right.written made h);
+    }
+
+-- ---- implications
+
+is_true : (b : Bool) → ¬ (b ≡ false) → b ≡ true
+is_true true h = refl
+is_true false h = absurd (h refl)
+
+-- the consequent is a term, so it binds nothing
+binds_none : (s : Setting) (name : Option Text) (a c : KorePattern) (sort other : KoreSort) → ¬ IsImpliesUntold s name a c sort other → bound_variables c ≡ []
+binds_none s name a c sort other told = (binds_nothing c (is_true (is_term c) (λ h. told (no_consequent (no_term h))))).variables
+
+read_back_at : (p q : KorePattern) → p ≡ q → IsReadBack q → IsReadBack p
+read_back_at p q same h = subst IsReadBack (sym same) h
+
+condition_read_back : (s : Setting) (a c p q : KorePattern) → bound_variables c ≡ [] → IsCondition s.theory.signature a c p q → IsResultReadBack (valid p q)
+condition_read_back s a c p q none (witnessed k sorted sorted_too has is witness substitution) =
+    (read_back_at p (top k) is (top_back k), read_back_at q (top k) (substitution none) (top_back k))
+condition_read_back s a c p q none (vacuous k sorted sorted_too has is substitution) =
+    (read_back_at p (bottom k) is (bottom_back k), read_back_at q (top k) substitution (top_back k))
+
+result_read_back : (s : Setting) (a c : KorePattern) (x : ImpliesResult) → bound_variables c ≡ [] → IsRightImplied s.theory.signature a c x → IsResultReadBack x
+result_read_back s a c not_valid none right = tt
+result_read_back s a c (valid p q) none right = condition_read_back s a c p q none right.1
+
+implies_answered : (s : Setting) (frame line : List ℕ) (d reply : Data) → IsFrame frame d → IsImpliesAnswered s d reply → line ≡ reply_bytes reply → IsRightExchange (told_theory s) (record { frame = frame; reply = line })
+implies_answered s frame line d reply is_frame r is =
+    let a = r.request.antecedent in
+    let c = r.request.consequent in
+    let x = r.right.result in
+    let lawful = id_of_request frame d r.members r.request.id _ is_frame r.tree r.is_request.is_request in
+    let back = result_read_back s a c x (binds_none s r.request.module_name a c r.is_told.sort r.is_told.other r.is_told.told) r.right.right in
+    let made = at_reply line reply (result_reply r.request.id r.right.tree) is r.right.reply_is in
+    record {
+      executes = λ y h. absurd (implication_tells_no_run r.request.id x y r.right.tree line lawful r.right.written made h);
+      implies_so = λ y h. record {
+        members = r.members;
+        request = r.request;
+        is_frame = subst (λ (e : Data). IsFrame frame e) r.tree is_frame;
+        is_request = r.is_request;
+        right = λ asked. subst (λ (z : ImpliesResult). IsRightImplied s.theory.signature a c z) (sym (implication_told r.request.id x y r.right.tree line lawful back r.right.written made h)) r.right.right;
+      };
+    }
+
+-- ---- any reply
+
+pub reply_is_right : (s : Setting) (frame line : List ℕ) → IsLine s frame line → IsRightExchange (told_theory s) (record { frame = frame; reply = line })
+reply_is_right s frame line (reply, inl r, is) = refused (told_theory s) frame line reply r is
+reply_is_right s frame line (reply, inr (d, is_frame, inl (inl r)), is) = faulted s (told_theory s) frame line d reply is_frame r is
+reply_is_right s frame line (reply, inr (d, is_frame, inl (inr r)), is) = answered s frame line d reply is_frame r is
+reply_is_right s frame line (reply, inr (d, is_frame, inr (inl r)), is) = implies_faulted s (told_theory s) frame line d reply is_frame r is
+reply_is_right s frame line (reply, inr (d, is_frame, inr (inr r)), is) = implies_answered s frame line d reply is_frame r is
+
+empty_line : (text : List ℕ) → [] ≡ text ++ 10 ∷ [] → ⊥
+empty_line [] e = absurd (cc e)
+empty_line (b ∷ bs) e = absurd (cc e)
+
+-- nothing tells no result
+pub replied_is_right : (s : Setting) (e : Exchange) → IsRepliedBy s e → IsRightExchange (told_theory s) e
+replied_is_right s e (inl (white, nothing)) = record {
+  executes = λ x h. absurd (empty_line h.0 (sym nothing ∙ h.1));
+  implies_so = λ x h. absurd (empty_line h.0 (sym nothing ∙ h.1));
+}
+replied_is_right s e (inr replied) = reply_is_right s e.frame e.reply replied

@@ -1,0 +1,12 @@
+use Rattle.std.proofs.Common.{map, take}
+use Rattle.std.specs.List.{AllByRecursion, AllZip}
+use Rattle.kp_claims.specs.Items.{items_view}
+use Rattle.kp_report.specs.View.{line_view}
+use Rattle.kp_program.specs.ClaimFiles.{IsProvableClaim}
+use Rattle.kp_server.specs.Setting.{IsSettingOf, Setting}
+use Rattle.kp_program.specs.Proofs.{IsLineFor}
+use Rattle.kp_program.proofs.prover.prove_all.Given as goal
+
+abbrev pub invariant-loop-place : goal.invariant-loop-place
+invariant-loop-place l =
+    (s : Setting) → IsSettingOf s l.table → AllByRecursion IsProvableClaim (items_view l.claims) → AllZip (IsLineFor s l.max_depth) (take l.place (items_view l.claims)) (map line_view l.lines.items)

@@ -1,0 +1,43 @@
+-- What is told of a claims' file; for private clauses.
+use Rattle.std.specs.Prelude.{◌≡◌, ◌≤◌, ℕ, List, [], length, Option, Some, IfSome, string_bytes, ⊤}
+use Rattle.std.specs.List.{AllZip}
+use Rattle.kp_kore.specs.Syntax.{Text, KoreModule}
+use Rattle.kp_kore.specs.Signature.{KoreSignature}
+use Rattle.kp_io.specs.Outside.{Names, load_limit}
+use Rattle.kp_claims.specs.Claims.{LabelledClaim, counted, IsClaimOfSentence}
+use Rattle.kp_claims.specs.Faults.{AreFaultless}
+use Rattle.kp_claims.specs.Files.{SpellsFile}
+use Rattle.kp_claims.specs.Items.{items_view}
+use Rattle.kp_claims.specs.declared.item.ClaimItem.{ClaimItem}
+use Rattle.kp_client.specs.Sound.{IsGround, AreReadBack}
+use Rattle.kp_program.specs.Faults.{IsClaimsFault}
+use Rattle.kp_program.specs.Statuses.{IsNowhere}
+use Rattle.kp_program.specs.Troubles.{file_fault_view}
+use Rattle.kp_program.specs.declared.trouble.Trouble.{Trouble}
+use Rattle.kp_program.specs.declared.trouble.Trouble.TheVariants as trouble
+
+-- the bytes spell modules without a fault, whose claims these are
+pub record AreClaimsIn (g : KoreSignature) (file : List ℕ) (claims : List ClaimItem) : Type 0 where
+  pub modules : List KoreModule
+  pub spells : SpellsFile file modules
+  pub faultless : AreFaultless g [] (counted modules)
+  pub are : AllZip IsClaimOfSentence (counted modules) (items_view claims)
+
+-- the same of a file on a shelf
+pub record AreClaimsAt (names : Option Names) (name : Text) (g : KoreSignature) (claims : List ClaimItem) : Type 0 where
+  pub file : List ℕ
+  pub there : IfSome names (λ held. held name ≡ Some file)
+  pub fits : length file ≤ load_limit
+  pub claims_in : AreClaimsIn g file claims
+
+-- why there are none of the file of this name
+abbrev pub IsClaimsTrouble : Option Names → Text → KoreSignature → Type 0 → Trouble → Type 0
+IsClaimsTrouble names name g failed (trouble.File n f) = (string_bytes n ≡ name) × (file : List ℕ) × IfSome names (λ held. held name ≡ Some file) × IsClaimsFault g file (file_fault_view f)
+IsClaimsTrouble names name g failed (trouble.NoFile n) = (string_bytes n ≡ name) × IsNowhere names name
+IsClaimsTrouble names name g failed trouble.Outside = failed
+IsClaimsTrouble names name g failed trouble.Memory = ⊤
+
+-- both sides are ground terms, of which a server reads nothing else
+pub record IsProvableClaim (c : LabelledClaim) : Type 0 where
+  pub ground : IsGround c.claim
+  pub read_back : AreReadBack c.claim

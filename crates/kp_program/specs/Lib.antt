@@ -1,0 +1,12 @@
+pub mod ClaimFiles
+pub mod Commands
+pub mod Does
+pub mod Faults
+pub mod Inputs
+pub mod Loaded
+pub mod LocalTold
+pub mod Proofs
+pub mod Served
+pub mod Statuses
+pub mod Troubles
+pub mod Words

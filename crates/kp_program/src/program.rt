@@ -1,0 +1,144 @@
+ghost use Rattle.std.specs.Prelude.{◌≡◌, ◌≤◌, ◌↔◌, ◌⊎◌, ℕ, IfErr, IfOk, IfSome, IsErrOf, List, OnErr, OnOk, map, string_bytes};
+ghost use Rattle.std.specs.Io.KnownBytes.{Appends};
+ghost use Rattle.kp_io.specs.Outside.{Rose};
+ghost use Rattle.kp_program.specs.Commands.{IsCommand};
+ghost use Rattle.kp_program.specs.Does.{BeginsWords, DoesWords};
+ghost use Rattle.kp_program.specs.Inputs.{AnswersInput, IsReplyToRead};
+ghost use Rattle.kp_server.specs.Setting.{IsSettingOf, Setting};
+ghost use Rattle.kp_program.specs.Served.{GainsFront, Serves};
+ghost use Rattle.kp_program.specs.Statuses.{IsCause, IsEnded, IsPossible, status_of};
+ghost use Rattle.kp_program.specs.Troubles.{IsLate, ending_of};
+ghost use Rattle.kp_program.specs.Words.{NamesDefinition, ProveWords, SpellsProve, SpellsSome};
+
+use crate::command::{Command, Stdio, command_of};
+use crate::definition::load_table;
+use crate::output::put_reply;
+use crate::prover::prove_file;
+use crate::trouble::{Trouble, ended, told};
+use kp_io::{LoadFault, Shelf, Sink, Source, read_all};
+use kp_modules::Table;
+use kp_rpc::{Id, Refusal, refusal_text};
+use kp_server::answer;
+use std::alloc::Global;
+
+/// The most bytes of a frame.
+const FRAME_LIMIT: usize = 4_194_304;
+
+/// Does all that the program does, and answers its status: 0 where the input was served, or where each claim passed, 1
+/// where a claim failed, 2 where none failed and some are pending or refused, 3 where the words spell no
+/// command, 4 where a file has a fault, 5 where a file isn't there, 6 where a count of faults of the shelf, the input
+/// or the output rose, 7 where memory ran out. From status 3 on `err` gets a line that says why.
+pub fn run<H: Shelf, I: Source, O: Sink, E: Sink>(
+    alloc: Global,
+    words: &[String],
+    shelf: &mut H,
+    input: &mut I,
+    out: &mut O,
+    err: &mut E,
+) -> u8
+    // what the command says
+    ensures done { result ≤ 2 → DoesWords (H.names shelf.old) (I.left input.old) (Appends (O.held out.old) (O.held out.new)) (map string_bytes words.now) result }
+    // why it is another status, and what standard error got
+    ensures ended { 3 ≤ result → IsEnded (H.names shelf.old) (map string_bytes words.now) (Rose (H.fault_count shelf.old) (H.fault_count shelf.new) ⊎ (Rose (I.fault_count input.old) (I.fault_count input.new) ⊎ Rose (O.fault_count out.old) (O.fault_count out.new))) (E.held err.old) (E.held err.new) (Rose (E.fault_count err.old) (E.fault_count err.new)) result }
+    ensures usage { (result ≡ 3) ↔ ¬ SpellsSome (map string_bytes words.now) }
+    ensures complete { IfSome (H.names shelf.old) (λ held. IsPossible (map string_bytes words.now) held → ¬ (Rose (H.fault_count shelf.old) (H.fault_count shelf.new) ⊎ (Rose (I.fault_count input.old) (I.fault_count input.new) ⊎ Rose (O.fault_count out.old) (O.fault_count out.new))) → (result ≤ 2) ⊎ (result ≡ 7)) }
+    ensures untold { result ≤ 2 → E.held err.new ≡ E.held err.old }
+    ensures untouched { 3 ≤ result → result ≤ 5 → (I.left input.new ≡ I.left input.old) × (O.held out.new ≡ O.held out.old) }
+    ensures unread { (c : ProveWords) → SpellsProve (map string_bytes words.now) c → I.left input.new ≡ I.left input.old }
+    ensures front { 3 ≤ result → (O.held out.new ≡ O.held out.old) ⊎ BeginsWords (H.names shelf.old) (I.left input.old) (GainsFront (O.held out.old) (O.held out.new)) (map string_bytes words.now) }
+    ensures files_kept { H.names shelf.new ≡ H.names shelf.old }
+    ensures counts { (H.fault_count shelf.old ≤ H.fault_count shelf.new) × (I.fault_count input.old ≤ I.fault_count input.new) × (O.fault_count out.old ≤ O.fault_count out.new) × (E.fault_count err.old ≤ E.fault_count err.new) }
+{
+    match command_of(words) {
+        None => told(err, "kprove: usage\n", 3),
+        Some(command) => match obey(alloc, &command, shelf, input, out) {
+            Ok(status) => status,
+            Err(trouble) => ended(alloc, err, &trouble),
+        },
+    }
+}
+
+/// Does what a command says.
+fn obey<H: Shelf, I: Source, O: Sink>(
+    alloc: Global,
+    command: &Command,
+    shelf: &mut H,
+    input: &mut I,
+    out: &mut O,
+) -> Result<u8, Trouble>
+    ensures done { (words : List (List ℕ)) → IsCommand words command.now → IfOk result (λ status. (status ≤ 2) × DoesWords (H.names shelf.old) (I.left input.old) (Appends (O.held out.old) (O.held out.new)) words status) }
+    ensures cause { (words : List (List ℕ)) → IsCommand words command.now → IfErr result (λ trouble. IsCause (H.names shelf.old) words (Rose (H.fault_count shelf.old) (H.fault_count shelf.new) ⊎ (Rose (I.fault_count input.old) (I.fault_count input.new) ⊎ Rose (O.fault_count out.old) (O.fault_count out.new))) (ending_of trouble)) }
+    ensures untouched { IfErr result (λ trouble. status_of (ending_of trouble) ≤ 5 → (I.left input.new ≡ I.left input.old) × (O.held out.new ≡ O.held out.old)) }
+    ensures unread { (words : List (List ℕ)) (c : ProveWords) → IsCommand words command.now → SpellsProve words c → I.left input.new ≡ I.left input.old }
+    ensures front { (words : List (List ℕ)) → IsCommand words command.now → OnErr result ((O.held out.new ≡ O.held out.old) ⊎ BeginsWords (H.names shelf.old) (I.left input.old) (GainsFront (O.held out.old) (O.held out.new)) words) }
+    ensures files_kept { H.names shelf.new ≡ H.names shelf.old }
+    ensures shelf_count { H.fault_count shelf.old ≤ H.fault_count shelf.new }
+    ensures input_count { I.fault_count input.old ≤ I.fault_count input.new }
+    ensures out_count { O.fault_count out.old ≤ O.fault_count out.new }
+{
+    match command {
+        Command::Stdio(stdio) => match serve_frame(alloc, stdio, shelf, input, out) {
+            Ok(()) => Ok(0),
+            Err(trouble) => Err(trouble),
+        },
+        Command::Prove(prove) => prove_file(alloc, prove, shelf, out),
+    }
+}
+
+/// Reads the input as one frame and writes its reply, after the definition is loaded.
+fn serve_frame<H: Shelf, I: Source, O: Sink>(
+    alloc: Global,
+    command: &Stdio,
+    shelf: &mut H,
+    input: &mut I,
+    out: &mut O,
+) -> Result<(), Trouble>
+    ensures served { OnOk result (Serves (H.names shelf.old) (I.left input.old) (Appends (O.held out.old) (O.held out.new)) command.now.definition.now command.now.module_name.now) }
+    ensures cause { (words : List (List ℕ)) → NamesDefinition words command.now.definition.now command.now.module_name.now → IfErr result (λ trouble. IsCause (H.names shelf.old) words (Rose (H.fault_count shelf.old) (H.fault_count shelf.new) ⊎ (Rose (I.fault_count input.old) (I.fault_count input.new) ⊎ Rose (O.fault_count out.old) (O.fault_count out.new))) (ending_of trouble)) }
+    ensures untouched { IfErr result (λ trouble. status_of (ending_of trouble) ≤ 5 → (I.left input.new ≡ I.left input.old) × (O.held out.new ≡ O.held out.old)) }
+    ensures front { OnErr result ((O.held out.new ≡ O.held out.old) ⊎ Serves (H.names shelf.old) (I.left input.old) (GainsFront (O.held out.old) (O.held out.new)) command.now.definition.now command.now.module_name.now) }
+    ensures files_kept { H.names shelf.new ≡ H.names shelf.old }
+    ensures shelf_count { H.fault_count shelf.old ≤ H.fault_count shelf.new }
+    ensures input_count { I.fault_count input.old ≤ I.fault_count input.new }
+    ensures out_count { O.fault_count out.old ≤ O.fault_count out.new }
+{
+    match load_table(alloc, shelf, command.definition, command.module_name) {
+        Ok(table) => serve_table(alloc, &table, input, out),
+        Err(trouble) => Err(trouble),
+    }
+}
+
+/// Reads the input as one frame and writes a table's reply.
+fn serve_table<I: Source, O: Sink>(
+    alloc: Global,
+    table: &Table,
+    input: &mut I,
+    out: &mut O,
+) -> Result<(), Trouble>
+    ensures served { (s : Setting) → IsSettingOf s table.now → OnOk result (AnswersInput s (I.left input.old) (Appends (O.held out.old) (O.held out.new))) }
+    ensures late { IfErr result (IsLate (Rose (I.fault_count input.old) (I.fault_count input.new) ⊎ Rose (O.fault_count out.old) (O.fault_count out.new))) }
+    ensures front { (s : Setting) → IsSettingOf s table.now → OnErr result ((O.held out.new ≡ O.held out.old) ⊎ AnswersInput s (I.left input.old) (GainsFront (O.held out.old) (O.held out.new))) }
+    ensures input_count { I.fault_count input.old ≤ I.fault_count input.new }
+    ensures out_count { O.fault_count out.old ≤ O.fault_count out.new }
+{
+    let bytes = read_all(alloc, input, FRAME_LIMIT);
+    let reply = reply_to(alloc, table, bytes)?;
+    put_reply(out, &reply)
+}
+
+/// The reply to the input: more than a frame may have is no frame.
+fn reply_to(
+    alloc: Global,
+    table: &Table,
+    bytes: Result<Vec<u8>, LoadFault>,
+) -> Result<Option<Vec<u8>>, Trouble>
+    ensures reply { (s : Setting) → IsSettingOf s table.now → IfOk result (IsReplyToRead s bytes) }
+    ensures late { IfErr result (IsLate (IsErrOf bytes LoadFault.Failed)) }
+{
+    match bytes {
+        Ok(bytes) => Ok(answer(alloc, table, &bytes)?),
+        Err(LoadFault::TooLong) => Ok(Some(refusal_text(alloc, &Id::Null, Refusal::ParseError)?)),
+        Err(LoadFault::Failed) => Err(Trouble::Outside),
+        Err(LoadFault::Memory) => Err(Trouble::Memory),
+    }
+}

@@ -1,0 +1,189 @@
+// The proofs of a claims' file, and their report.
+ghost use Rattle.std.specs.Prelude.{◌≡◌, ◌<◌, ◌≤◌, ◌⊎◌, ℕ, IfErr, IfOk, List, OnErr, Some, length, map, slice_get};
+ghost use Rattle.std.specs.List.{AllByRecursion, AllZip, list_all, list_any};
+ghost use Rattle.std.specs.Io.KnownBytes.{Appends};
+ghost use Rattle.kp_io.specs.Outside.{Rose};
+ghost use Rattle.kp_claims.specs.Claims.{LabelledClaim};
+ghost use Rattle.kp_claims.specs.Items.{items_view};
+ghost use Rattle.kp_report.specs.Report.{IsReport};
+ghost use Rattle.kp_client.specs.View.{outcome_view};
+ghost use Rattle.kp_report.specs.View.{line_view};
+ghost use Rattle.kp_program.specs.ClaimFiles.{IsProvableClaim};
+ghost use Rattle.kp_program.specs.Commands.{prove_view};
+ghost use Rattle.kp_server.specs.Setting.{IsSettingOf, Setting};
+ghost use Rattle.kp_program.specs.Loaded.{IsLoaded};
+ghost use Rattle.kp_program.specs.Proofs.{AreReported, IsLineFor, Proved, has_failed, has_passed, proof_status};
+ghost use Rattle.kp_program.specs.Served.{GainsFront};
+ghost use Rattle.kp_program.specs.Statuses.{IsCause, status_of as trouble_status};
+ghost use Rattle.kp_program.specs.Troubles.{IsLate, ending_of};
+ghost use Rattle.kp_program.specs.Words.{SpellsProve};
+
+use crate::claims::load_claims;
+use crate::command::Prove;
+use crate::definition::load_table;
+use crate::local::LocalLink;
+use crate::output::put_line;
+use crate::trouble::Trouble;
+use kp_claims::ClaimItem;
+use kp_client::{Outcome, ProveOptions, prove};
+use kp_io::{Shelf, Sink};
+use kp_modules::Table;
+use kp_report::{Line, report_text};
+use std::alloc::{AllocError, Global};
+
+/// Proves the claims of a file over a definition's main module, and writes their report. The status: 0 where each
+/// passed, 1 where some failed, else 2.
+pub fn prove_file<H: Shelf, O: Sink>(
+    alloc: Global,
+    command: &Prove,
+    shelf: &mut H,
+    out: &mut O,
+) -> Result<u8, Trouble>
+    ensures proved { IfOk result (Proved (H.names shelf.old) (Appends (O.held out.old) (O.held out.new)) (prove_view command.now)) }
+    ensures cause { (words : List (List ℕ)) → SpellsProve words (prove_view command.now) → IfErr result (λ trouble. IsCause (H.names shelf.old) words (Rose (H.fault_count shelf.old) (H.fault_count shelf.new) ⊎ Rose (O.fault_count out.old) (O.fault_count out.new)) (ending_of trouble)) }
+    ensures untouched { IfErr result (λ trouble. trouble_status (ending_of trouble) ≤ 5 → O.held out.new ≡ O.held out.old) }
+    ensures front { OnErr result ((O.held out.new ≡ O.held out.old) ⊎ ((status : ℕ) × Proved (H.names shelf.old) (GainsFront (O.held out.old) (O.held out.new)) (prove_view command.now) status)) }
+    ensures files_kept { H.names shelf.new ≡ H.names shelf.old }
+    ensures shelf_count { H.fault_count shelf.old ≤ H.fault_count shelf.new }
+    ensures out_count { O.fault_count out.old ≤ O.fault_count out.new }
+{
+    match load_table(alloc, shelf, command.definition, command.module_name) {
+        Ok(table) => prove_over(alloc, command, &table, shelf, out),
+        Err(trouble) => Err(trouble),
+    }
+}
+
+/// Proves the claims of a file over a table, and writes their report.
+fn prove_over<H: Shelf, O: Sink>(
+    alloc: Global,
+    command: &Prove,
+    table: &Table,
+    shelf: &mut H,
+    out: &mut O,
+) -> Result<u8, Trouble>
+    ensures proved { (l : IsLoaded (H.names shelf.old) command.now.definition.now command.now.module_name.now) → IsSettingOf l.setting table.now → IfOk result (Proved (H.names shelf.old) (Appends (O.held out.old) (O.held out.new)) (prove_view command.now)) }
+    ensures cause { (words : List (List ℕ)) (l : IsLoaded (H.names shelf.old) command.now.definition.now command.now.module_name.now) → IsSettingOf l.setting table.now → SpellsProve words (prove_view command.now) → IfErr result (λ trouble. IsCause (H.names shelf.old) words (Rose (H.fault_count shelf.old) (H.fault_count shelf.new) ⊎ Rose (O.fault_count out.old) (O.fault_count out.new)) (ending_of trouble)) }
+    ensures untouched { IfErr result (λ trouble. trouble_status (ending_of trouble) ≤ 5 → O.held out.new ≡ O.held out.old) }
+    ensures front { (l : IsLoaded (H.names shelf.old) command.now.definition.now command.now.module_name.now) → IsSettingOf l.setting table.now → OnErr result ((O.held out.new ≡ O.held out.old) ⊎ ((status : ℕ) × Proved (H.names shelf.old) (GainsFront (O.held out.old) (O.held out.new)) (prove_view command.now) status)) }
+    ensures files_kept { H.names shelf.new ≡ H.names shelf.old }
+    ensures shelf_count { H.fault_count shelf.old ≤ H.fault_count shelf.new }
+    ensures out_count { O.fault_count out.old ≤ O.fault_count out.new }
+{
+    match load_claims(alloc, shelf, command.claims, table) {
+        Ok(claims) => report_claims(alloc, table, &claims, command.max_depth, out),
+        Err(trouble) => Err(trouble),
+    }
+}
+
+/// Proves claims, and writes their report.
+fn report_claims<O: Sink>(
+    alloc: Global,
+    table: &Table,
+    claims: &[ClaimItem],
+    max_depth: u64,
+    out: &mut O,
+) -> Result<u8, Trouble>
+    ensures reported { (s : Setting) → IsSettingOf s table.now → AllByRecursion IsProvableClaim (items_view claims.now) → IfOk result (AreReported s max_depth (items_view claims.now) (Appends (O.held out.old) (O.held out.new))) }
+    ensures late { IfErr result (IsLate (Rose (O.fault_count out.old) (O.fault_count out.new))) }
+    ensures front { (s : Setting) → IsSettingOf s table.now → AllByRecursion IsProvableClaim (items_view claims.now) → OnErr result ((O.held out.new ≡ O.held out.old) ⊎ ((status : ℕ) × AreReported s max_depth (items_view claims.now) (GainsFront (O.held out.old) (O.held out.new)) status)) }
+    ensures count { O.fault_count out.old ≤ O.fault_count out.new }
+{
+    let lines = prove_all(alloc, table, claims, max_depth)?;
+    let report = report_text(alloc, &lines)?;
+    let status = status_of(&lines);
+    match put_line(out, &report) {
+        Ok(()) => Ok(status),
+        Err(trouble) => Err(trouble),
+    }
+}
+
+/// The lines of claims, in order.
+fn prove_all(
+    alloc: Global,
+    table: &Table,
+    claims: &[ClaimItem],
+    max_depth: u64,
+) -> Result<Vec<Line>, AllocError>
+    ensures { (s : Setting) → IsSettingOf s table.now → AllByRecursion IsProvableClaim (items_view claims.now) → IfOk result (λ lines. AllZip (IsLineFor s max_depth) (items_view claims.now) (map line_view lines.items)) }
+{
+    let mut lines = Vec::new(alloc);
+    for place in 0..claims.len() {
+        lines.push(prove_at(alloc, table, claims, place, max_depth)?)?;
+    }
+    Ok(lines)
+}
+
+/// The line of the claim at a place, from 0. A link in the same process doesn't fail: that it did would be told as want
+/// of memory.
+fn prove_at(
+    alloc: Global,
+    table: &Table,
+    claims: &[ClaimItem],
+    place: usize,
+    max_depth: u64,
+) -> Result<Line, AllocError>
+    requires { place < length claims.now }
+    ensures { (s : Setting) (c : LabelledClaim) → IsSettingOf s table.now → slice_get (items_view claims.now) place ≡ Some c → IsProvableClaim c → IfOk result (λ line. IsLineFor s max_depth c (line_view line)) }
+{
+    let label = claims[place].label.clone()?;
+    let options = ProveOptions { max_depth };
+    let mut link = LocalLink::new(table);
+    match prove(alloc, &mut link, claims, place, &options) {
+        Ok((outcome, _tree)) => Ok(Line {
+            label,
+            result: outcome,
+        }),
+        Err(_) => Err(AllocError),
+    }
+}
+
+/// The status of proofs with these lines.
+fn status_of(lines: &[Line]) -> u8
+    ensures { result ≡ proof_status (map line_view lines.now) }
+{
+    if each_passed(lines) {
+        return 0;
+    }
+    if some_failed(lines) {
+        return 1;
+    }
+    2
+}
+
+/// Whether each claim passed.
+fn each_passed(lines: &[Line]) -> bool
+    ensures { result ≡ list_all (λ l. has_passed l.outcome) (map line_view lines.now) }
+{
+    for line in lines {
+        if !is_passed(&line.result) {
+            return false;
+        }
+    }
+    true
+}
+
+/// Whether some claim failed.
+fn some_failed(lines: &[Line]) -> bool
+    ensures { result ≡ list_any (λ l. has_failed l.outcome) (map line_view lines.now) }
+{
+    for line in lines {
+        if is_failed(&line.result) {
+            return true;
+        }
+    }
+    false
+}
+
+/// Whether a claim passed.
+fn is_passed(outcome: &Outcome) -> bool
+    ensures { result ≡ has_passed (outcome_view outcome.now) }
+{
+    matches!(outcome, Outcome::Passed)
+}
+
+/// Whether a claim failed.
+fn is_failed(outcome: &Outcome) -> bool
+    ensures { result ≡ has_failed (outcome_view outcome.now) }
+{
+    matches!(outcome, Outcome::Failed { .. })
+}

@@ -1,0 +1,24 @@
+use Rattle.std.proofs.Common.{◌≡◌, false, subst}
+use Rattle.std.proofs.lemmas.Result.{IfOk-weaker}
+use Rattle.kp_kore.specs.Signature.{KoreSignature, injection, meaning_of}
+use Rattle.kp_kore.specs.View.{view, sort_view}
+use Rattle.kp_ground.specs.View.{value_view}
+use Rattle.kp_signature.specs.View.{signature_view}
+use Rattle.kp_semantics.specs.Foreign.{none_within}
+use Rattle.kp_states.specs.Spelled.{spelling, has_two_sorts, injection_name}
+use Rattle.kp_server.proofs.Ended.{end_is_right, spelled_at, unanswered}
+use Rattle.kp_server.proofs.answer_execute.answer_end.Goals as goal
+
+pub returns-in-Ok : goal.returns-in-Ok
+returns-in-Ok c = λ s runs h.
+    let end = c.args.end.now in
+    let spelled = spelled_at (signature_view c.args.rules.now.signature) s.theory.signature runs.signature (sort_view end.state.sort) (value_view end.state.value) (view c.in-Ok.term) c.in-Ok.ensures.meant h.is_start.regular h.run.sorted in
+    let normal = subst (λ (g : KoreSignature). view c.in-Ok.term ≡ spelling g (sort_view end.state.sort) (value_view end.state.value)) runs.signature c.in-Ok.ensures.normal in
+    IfOk-weaker c.end_line.result _ _ (λ line l. end_is_right s c.args.request.now c.requires end h (view c.in-Ok.term) spelled normal line l) c.end_line.ensures
+
+pub returns-in-Err-NoInjection : goal.returns-in-Err-NoInjection
+returns-in-Err-NoInjection c = λ s runs h.
+    let none = subst (λ (g : KoreSignature). ¬ (meaning_of g injection_name ≡ injection)) runs.signature (c.in-Err-NoInjection.ensures.no_injection c.in-Err-NoInjection.field-0-is) in
+    let end = c.args.end.now in
+    let injects = subst (λ (g : KoreSignature). none_within has_two_sorts (spelling g (sort_view end.state.sort) (value_view end.state.value)) ≡ false) runs.signature (c.in-Err-NoInjection.ensures.injects c.in-Err-NoInjection.field-0-is) in
+    IfOk-weaker c.unanswered_line.result _ _ (λ line l. unanswered s c.args.request.now c.requires end h none injects line.items l) c.unanswered_line.ensures

@@ -1,0 +1,142 @@
+ghost use Rattle.std.specs.Prelude.{◌≡◌, IfErr, IfOk, IsTrue};
+ghost use Rattle.kp_kore.specs.View.{view};
+ghost use Rattle.kp_rpc.specs.View.{reason_view};
+ghost use Rattle.kp_rules.specs.Bodies.{RunsAs};
+ghost use Rattle.kp_run.specs.Runs.{reason_of as stop_reason};
+ghost use Rattle.kp_semantics.specs.Foreign.{none_within};
+ghost use Rattle.kp_semantics.specs.Theory.{Theory};
+ghost use Rattle.kp_states.specs.Spelled.{is_other_form};
+ghost use Rattle.kp_server.specs.Ends.{IsEndLine, IsEndOf, IsFailureOf, IsLineTo, IsRead, IsStateOf, IsStatePattern, options_of};
+ghost use Rattle.kp_server.specs.Setting.{IsSettingOf, IsReached, Setting};
+
+use crate::asked::{check_module, rules_of};
+use crate::failure::{Failure, verify_failure};
+use crate::untold::{asks_for_more, ground_state, not_answered, unanswered_line};
+use kp_json::{JsonError, pattern_of};
+use kp_kore::Pattern;
+use kp_modules::Table;
+use kp_rpc::{
+    Execute, Reason, StateFault, bound_of, fault_text, result_text, state_of as state_tree_of,
+};
+use kp_rules::RuleSet;
+use kp_run::{Executed, RunError, Stop, execute};
+use kp_signature::verify;
+use kp_states::{SpellingError, State, spelled};
+use std::alloc::{AllocError, Global};
+
+/// The reply to a request of execute.
+pub fn answer_execute(
+    alloc: Global,
+    table: &Table,
+    request: &Execute,
+) -> Result<Vec<u8>, AllocError>
+    requires { IsRead request.now }
+    ensures { (s : Setting) → IsSettingOf s table.now → IfOk result (λ line. IsLineTo s request.now line.items) }
+{
+    match executed(alloc, table, request) {
+        Ok(end) => answer_end(alloc, rules_of(table), request, &end),
+        Err(Failure::Fault(fault)) => fault_text(alloc, &request.id, &fault),
+        Err(Failure::Memory) => Err(AllocError),
+    }
+}
+
+/// The reply with the end of a run; T2 where the signature can't spell it.
+fn answer_end(
+    alloc: Global,
+    rules: &RuleSet,
+    request: &Execute,
+    end: &Executed,
+) -> Result<Vec<u8>, AllocError>
+    requires { IsRead request.now }
+    ensures { (s : Setting) → RunsAs s.theory rules.now → IsEndOf s request.now end.now → IfOk result (λ line. IsLineTo s request.now line.items) }
+{
+    match spelled(alloc, &rules.signature, &end.state.value, &end.state.sort) {
+        Ok(term) => end_line(alloc, request, end, &term),
+        Err(SpellingError::NoInjection) => unanswered_line(alloc, request),
+        Err(SpellingError::Memory) => Err(AllocError),
+    }
+}
+
+/// The reason of a reply.
+fn reason_of(stop: &Stop) -> Result<Reason, AllocError>
+    ensures { IfOk result (λ reason. reason_view reason ≡ stop_reason stop.now) }
+{
+    match stop {
+        Stop::Stuck => Ok(Reason::Stuck),
+        Stop::DepthBound => Ok(Reason::DepthBound),
+        Stop::ForeignRule { id } => Ok(Reason::AbortedByRule { id: id.clone()? }),
+    }
+}
+
+/// The reply with a term of applications and literals.
+fn end_line(
+    alloc: Global,
+    request: &Execute,
+    end: &Executed,
+    term: &Pattern,
+) -> Result<Vec<u8>, AllocError>
+    requires { IsTrue (none_within is_other_form (view term.now)) }
+    ensures { IfOk result (IsEndLine request.now end.now (view term.now)) }
+{
+    let reason = reason_of(&end.stop)?;
+    match result_text(alloc, &request.id, end.depth, &reason, term)? {
+        Some(line) => Ok(line),
+        None => unreachable!(),
+    }
+}
+
+/// The end of the run that a request asks for, or the first cause why there is none. That a run lacks a binding, which
+/// no rule that is read brings about, is told as want of memory.
+fn executed(alloc: Global, table: &Table, request: &Execute) -> Result<Executed, Failure>
+    requires { IsRead request.now }
+    ensures found { (s : Setting) → IsSettingOf s table.now → IfOk result (IsEndOf s request.now) }
+    ensures failed { (s : Setting) → IsSettingOf s table.now → IfErr result (IsFailureOf s request.now) }
+{
+    check_module(table, &request.options.module_name)?;
+    let state = state_at(alloc, rules_of(table), request)?;
+    if asks_for_more(table, &request.options) {
+        return Err(Failure::Fault(not_answered()));
+    }
+    match execute(alloc, rules_of(table), state, bound_of(&request.options)) {
+        Ok(end) => Ok(end),
+        Err(RunError::NotAnswered) => Err(Failure::Fault(not_answered())),
+        Err(RunError::Memory) | Err(RunError::Unbound) => Err(Failure::Memory),
+    }
+}
+
+/// The request's state, verified; T2 over a signature whose whole numbers and truth values share their sorts.
+fn state_at(alloc: Global, rules: &RuleSet, request: &Execute) -> Result<State, Failure>
+    requires { IsRead request.now }
+    ensures found { (t : Theory) → RunsAs t rules.now → IfOk result (IsStateOf t.signature request.now) }
+    ensures failed { (s : Setting) → RunsAs s.theory rules.now → IsReached s.names (options_of request.now).module_name → IfErr result (IsFailureOf s request.now) }
+{
+    let pattern = pattern_at(alloc, request)?;
+    let sort = match verify(alloc, &rules.signature, &pattern) {
+        Ok(sort) => sort,
+        Err(error) => return Err(verify_failure(alloc, error)),
+    };
+    match ground_state(alloc, &rules.signature, &pattern, sort) {
+        Ok(state) => if rules.is_regular {
+            Ok(state)
+        } else {
+            Err(Failure::Fault(not_answered()))
+        },
+        Err(failure) => Err(failure),
+    }
+}
+
+/// The pattern of the request's state.
+fn pattern_at(alloc: Global, request: &Execute) -> Result<Pattern, Failure>
+    requires { IsRead request.now }
+    ensures found { IfOk result (λ p. IsStatePattern request.now (view p)) }
+    ensures failed { (s : Setting) → IsReached s.names (options_of request.now).module_name → IfErr result (IsFailureOf s request.now) }
+{
+    let Some(tree) = state_tree_of(&request.request) else {
+        unreachable!();
+    };
+    match pattern_of(alloc, tree) {
+        Ok(pattern) => Ok(pattern),
+        Err(JsonError::Memory) => Err(Failure::Memory),
+        Err(JsonError::Fault(fault)) => Err(Failure::Fault(StateFault::Json(fault))),
+    }
+}

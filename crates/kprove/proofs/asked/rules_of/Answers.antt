@@ -1,6 +1,0 @@
-use Rattle.std.proofs.Common.{subst, sym}
-use Rattle.kp_rules.specs.Bodies.{RunsAs}
-use Rattle.kprove.proofs.asked.rules_of.Goals as goal
-
-pub returns : goal.returns
-returns c = λ s is. subst (RunsAs s.theory) (sym c.rule_set.ensures) is.runs

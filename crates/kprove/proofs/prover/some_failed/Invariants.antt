@@ -1,8 +1,0 @@
-use Rattle.std.proofs.Common.{◌≡◌, map, drop}
-use Rattle.std.specs.List.{list_any}
-use Rattle.kp_client.specs.View.{line_view}
-use Rattle.kprove.specs.Proofs.{has_failed}
-use Rattle.kprove.proofs.prover.some_failed.Given as goal
-
-abbrev pub invariant-loop-line : goal.invariant-loop-line
-invariant-loop-line l = list_any (λ x. has_failed x.outcome) (map line_view (drop l.line-index l.lines)) ≡ list_any (λ x. has_failed x.outcome) (map line_view l.lines)
