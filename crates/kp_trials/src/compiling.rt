@@ -48,19 +48,40 @@ fn terms_are_compiled_or_refused(rt: HostRuntime) -> Result<(), Fail> {
     Ok(())
 }
 
-#[test]
-fn a_sum_has_its_value_and_a_comparison_holds(rt: HostRuntime) -> Result<(), Fail> {
-    let alloc = rt.alloc();
+/// The value of a closed term's text.
+fn value(alloc: Global, text: &str) -> Result<Value, Fail> {
     let signature = signature(alloc, SMALL)?;
-    let sum = pattern(alloc, r#"plus{}(\dv{Int{}}("+2"), \dv{Int{}}("-05"))"#)?;
-    let term = compile_term(alloc, &signature, &sum).map_err(|_| "no term")?;
-    let value = term.evaluate(alloc, &[]).map_err(|_| "no value")?;
-    assert!(rt; value.equal(&Value::Whole { number: -3 }));
-    let less = pattern(
-        alloc,
-        r#"\equals{Bool{}, S{}}(\dv{Bool{}}("true"), less{}(\dv{Int{}}("1"), \dv{Int{}}("2")))"#,
+    let pattern = pattern(alloc, text)?;
+    let term = compile_term(alloc, &signature, &pattern).map_err(|_| "no term")?;
+    Ok(term.evaluate(alloc, &[]).map_err(|_| "no value")?)
+}
+
+/// Whether a predicate's text without variables holds.
+fn holds(alloc: Global, text: &str) -> Result<bool, Fail> {
+    let signature = signature(alloc, SMALL)?;
+    let pattern = pattern(alloc, text)?;
+    let condition =
+        compile_condition(alloc, &signature, &[&pattern]).map_err(|_| "no condition")?;
+    Ok(condition.holds(alloc, &[]).map_err(|_| "no truth")?)
+}
+
+#[test]
+fn a_sum_has_its_value(rt: HostRuntime) -> Result<(), Fail> {
+    let sum = value(
+        rt.alloc(),
+        r#"plus{}(\dv{Int{}}("+2"), \dv{Int{}}("-05"))"#,
     )?;
-    let condition = compile_condition(alloc, &signature, &[&less]).map_err(|_| "no condition")?;
-    assert!(rt; condition.holds(alloc, &[]).map_err(|_| "no truth")?);
+    assert!(rt; sum.equal(&Value::Whole { number: -3 }));
+    Ok(())
+}
+
+#[test]
+fn a_comparison_holds(rt: HostRuntime) -> Result<(), Fail> {
+    let less =
+        r#"\equals{Bool{}, S{}}(\dv{Bool{}}("true"), less{}(\dv{Int{}}("1"), \dv{Int{}}("2")))"#;
+    let more =
+        r#"\equals{Bool{}, S{}}(\dv{Bool{}}("true"), less{}(\dv{Int{}}("2"), \dv{Int{}}("1")))"#;
+    assert!(rt; holds(rt.alloc(), less)?);
+    assert!(rt; !holds(rt.alloc(), more)?);
     Ok(())
 }

@@ -1,9 +1,9 @@
 use crate::texts::{axiom, pattern, signature};
 use kp_compile::compile_term;
 use kp_ground::Value;
-use kp_kore::Sort;
+use kp_kore::{Pattern, Sort};
 use kp_rules::skeleton::skeleton_of_left;
-use kp_rules::{Rule, RuleBody, SortIndex, label_of, read_rule};
+use kp_rules::{RuleBody, SortIndex, label_of, read_rule};
 use kp_signature::Signature;
 use std::alloc::Global;
 use std::test::Fail;
@@ -44,72 +44,99 @@ fn value(alloc: Global, signature: &Signature, text: &str) -> Result<Value, Fail
     Ok(term.evaluate(alloc, &[]).map_err(|_| "no value")?)
 }
 
-#[test]
-fn a_rule_fires_where_its_condition_holds(rt: HostRuntime) -> Result<(), Fail> {
-    let alloc = rt.alloc();
-    let signature = signature(alloc, SMALL)?;
-    let index = SortIndex::new(alloc, &signature)?;
-    let axiom = axiom(alloc, PLAIN)?;
-    assert_eq!(rt; label_of(&axiom), Some("SMALL.rule"));
-    let (priority, body) = read_rule(alloc, &signature, &index, &axiom)?;
-    assert_eq!(rt; priority, 40);
-    let RuleBody::Rewrite(rule) = body else {
-        return Err(Fail::from("foreign"));
-    };
-    assert!(rt; !rule.chooses);
-    let rows = [
-        (r#"pair{}(\dv{Int{}}("4"), \dv{Int{}}("4"))"#, true),
-        (r#"pair{}(\dv{Int{}}("5"), \dv{Int{}}("5"))"#, false),
-        (r#"pair{}(\dv{Int{}}("4"), \dv{Int{}}("3"))"#, false),
-    ];
-    for (text, fires) in rows {
-        let value = value(alloc, &signature, text)?;
-        assert_eq!(rt; rule.fires(alloc, &signature, &value)?.is_some(), fires);
+/// The priority number and the body of the rule of a module's text.
+fn body(alloc: Global, signature: &Signature, text: &str) -> Result<(u32, RuleBody), Fail> {
+    let index = SortIndex::new(alloc, signature)?;
+    let axiom = axiom(alloc, text)?;
+    Ok(read_rule(alloc, signature, &index, &axiom)?)
+}
+
+/// Whether a body rewrites a value, or, where it is foreign, may be a rule for it.
+fn is_for(
+    alloc: Global,
+    signature: &Signature,
+    body: &RuleBody,
+    value: &Value,
+) -> Result<bool, Fail> {
+    match body {
+        RuleBody::Rewrite(rule) => Ok(rule.fires(alloc, signature, value)?.is_some()),
+        RuleBody::Foreign(skeleton) => Ok(skeleton.may_be(alloc, signature, value)?),
     }
+}
+
+/// The same of the texts of a rule and a value.
+fn fires(alloc: Global, rule: &str, text: &str) -> Result<bool, Fail> {
+    let signature = signature(alloc, SMALL)?;
+    let value = value(alloc, &signature, text)?;
+    let (_, body) = body(alloc, &signature, rule)?;
+    is_for(alloc, &signature, &body, &value)
+}
+
+/// The priority number of a rule's text that is read, None where it is foreign.
+fn read_priority(alloc: Global, text: &str) -> Result<Option<u32>, Fail> {
+    let signature = signature(alloc, SMALL)?;
+    let (priority, body) = body(alloc, &signature, text)?;
+    match body {
+        RuleBody::Rewrite(_) => Ok(Some(priority)),
+        RuleBody::Foreign(_) => Ok(None),
+    }
+}
+
+#[test]
+fn a_rule_has_its_label_and_priority(rt: HostRuntime) -> Result<(), Fail> {
+    let axiom = axiom(rt.alloc(), PLAIN)?;
+    assert_eq!(rt; label_of(&axiom), Some("SMALL.rule"));
+    assert_eq!(rt; read_priority(rt.alloc(), PLAIN)?, Some(40));
+    assert_eq!(rt; read_priority(rt.alloc(), FOREIGN)?, None);
     Ok(())
 }
 
 /// With a function of no meaning on the right, two equal numbers may be rewritten, whatever they are.
 #[test]
-fn a_foreign_rule_has_a_skeleton(rt: HostRuntime) -> Result<(), Fail> {
-    let alloc = rt.alloc();
-    let signature = signature(alloc, SMALL)?;
-    let index = SortIndex::new(alloc, &signature)?;
-    let axiom = axiom(alloc, FOREIGN)?;
-    let (_, body) = read_rule(alloc, &signature, &index, &axiom)?;
-    let RuleBody::Foreign(skeleton) = body else {
-        return Err(Fail::from("read"));
-    };
+fn a_rule_fires_where_its_condition_holds(rt: HostRuntime) -> Result<(), Fail> {
     let rows = [
-        (r#"pair{}(\dv{Int{}}("9"), \dv{Int{}}("9"))"#, true),
-        (r#"pair{}(\dv{Int{}}("9"), \dv{Int{}}("8"))"#, false),
+        (PLAIN, r#"pair{}(\dv{Int{}}("4"), \dv{Int{}}("4"))"#, true),
+        (PLAIN, r#"pair{}(\dv{Int{}}("5"), \dv{Int{}}("5"))"#, false),
+        (PLAIN, r#"pair{}(\dv{Int{}}("4"), \dv{Int{}}("3"))"#, false),
+        (FOREIGN, r#"pair{}(\dv{Int{}}("9"), \dv{Int{}}("9"))"#, true),
+        (FOREIGN, r#"pair{}(\dv{Int{}}("9"), \dv{Int{}}("8"))"#, false),
     ];
-    for (text, may_be) in rows {
-        let value = value(alloc, &signature, text)?;
-        assert_eq!(rt; skeleton.may_be(alloc, &signature, &value)?, may_be);
+    for (rule, text, wanted) in rows {
+        assert_eq!(rt; fires(rt.alloc(), rule, text)?, wanted);
     }
     Ok(())
+}
+
+/// Whether a left side's skeleton may be a value.
+fn may_be(alloc: Global, left: &str, text: &str) -> Result<bool, Fail> {
+    let signature = signature(alloc, SMALL)?;
+    let value = value(alloc, &signature, text)?;
+    let left = pattern(alloc, left)?;
+    skeleton_may_be(alloc, &signature, &left, &value)
+}
+
+fn skeleton_may_be(
+    alloc: Global,
+    signature: &Signature,
+    left: &Pattern,
+    value: &Value,
+) -> Result<bool, Fail> {
+    let index = SortIndex::new(alloc, signature)?;
+    let sort = Sort::App {
+        name: String::from_str(alloc, "E")?,
+        arguments: Vec::new(alloc),
+    };
+    let skeleton = skeleton_of_left(alloc, signature, &index, &sort, left)?;
+    Ok(skeleton.may_be(alloc, signature, value)?)
 }
 
 /// In a foreign rule's left side pair("7", "seven"), the first is 7, and the second, which writes no number, any number.
 #[test]
 fn a_literal_that_writes_no_value_is_any_value(rt: HostRuntime) -> Result<(), Fail> {
-    let alloc = rt.alloc();
-    let signature = signature(alloc, SMALL)?;
-    let index = SortIndex::new(alloc, &signature)?;
-    let left = pattern(alloc, r#"pair{}(\dv{Int{}}("7"), \dv{Int{}}("seven"))"#)?;
-    let sort = Sort::App {
-        name: String::from_str(alloc, "E")?,
-        arguments: Vec::new(alloc),
-    };
-    let skeleton = skeleton_of_left(alloc, &signature, &index, &sort, &left)?;
-    let rows = [
-        (r#"pair{}(\dv{Int{}}("7"), \dv{Int{}}("9"))"#, true),
-        (r#"pair{}(\dv{Int{}}("8"), \dv{Int{}}("9"))"#, false),
-    ];
-    for (text, may_be) in rows {
-        let value = value(alloc, &signature, text)?;
-        assert_eq!(rt; skeleton.may_be(alloc, &signature, &value)?, may_be);
-    }
+    let left = r#"pair{}(\dv{Int{}}("7"), \dv{Int{}}("seven"))"#;
+    let seven = may_be(rt.alloc(), left, r#"pair{}(\dv{Int{}}("7"), \dv{Int{}}("9"))"#)?;
+    let eight = may_be(rt.alloc(), left, r#"pair{}(\dv{Int{}}("8"), \dv{Int{}}("9"))"#)?;
+    assert!(rt; seven);
+    assert!(rt; !eight);
     Ok(())
 }
