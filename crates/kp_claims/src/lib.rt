@@ -3,7 +3,6 @@
 // goes from one ground term to another, over all paths, and is no circularity and depends on no other.
 #![tactic(auto)]
 
-pub mod examples;
 mod fault;
 mod file;
 mod item;

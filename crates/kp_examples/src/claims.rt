@@ -4,7 +4,7 @@ ghost use Rattle.kp_signature.specs.Verify.{sort_differs};
 ghost use Rattle.kp_toys.specs.Toys.{sort_int, sort_s};
 ghost use Rattle.kp_toys.specs.ToysTheory.{toys_signature};
 ghost use Rattle.kp_claims.specs.Claims.{IsClaimOf};
-ghost use Rattle.kp_claims.specs.Examples.{two, two_read, on_one_path, circular, unlabelled, foreign, of_two_sorts};
+ghost use Rattle.kp_examples.specs.Claims.{two, two_read, on_one_path, circular, unlabelled, foreign, of_two_sorts};
 ghost use Rattle.kp_claims.specs.Faults.{claim_fault, one_path, other_shape, no_label, repeated_label, unverified, foreign_symbol};
 
 /// From count(2) to done.

@@ -1,5 +1,5 @@
 use Rattle.std.proofs.Common.{refl}
-use Rattle.kp_claims.proofs.examples.faults_of_claims.Goals as goal
+use Rattle.kp_examples.proofs.claims.faults_of_claims.Goals as goal
 
 pub returns : goal.returns
 returns c = record { one_path = refl; circular = refl; unlabelled = refl; repeated = refl; foreign = refl; sorts = refl }
