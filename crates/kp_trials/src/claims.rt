@@ -1,11 +1,10 @@
+use crate::texts::signature;
 use kp_claims::{ClaimError, ClaimItem, read_claims};
 use kp_signature::Signature;
-use kp_text::read_definition;
 use std::alloc::Global;
 use std::test::Fail;
 
-const DEFINITION: &str = r#"[]
-module COUNTING
+const DEFINITION: &str = r#"module COUNTING
   hooked-sort SortInt{} [hook{}("INT.Int")]
   hooked-symbol Lblmul{}(SortInt{}, SortInt{}) : SortInt{} [hook{}("INT.mul"), function{}()]
   sort SortS{} []
@@ -25,25 +24,34 @@ fn labels(alloc: Global, items: &[ClaimItem]) -> Result<String, Fail> {
     Ok(text)
 }
 
-/// The labels of a file's claims over the definition, or what is wrong with it.
-fn told(alloc: Global, file: &str) -> Result<String, Fail> {
-    told_over(alloc, DEFINITION, file)
-}
-
-/// The same over another definition.
-fn told_over(alloc: Global, definition: &str, file: &str) -> Result<String, Fail> {
-    let Ok(definition) = read_definition(alloc, definition.as_bytes()) else {
-        return Err(Fail::from("no definition"));
-    };
-    let signature = Signature::new(alloc, &[&definition.modules[0]])?;
-    match read_claims(alloc, file.as_bytes(), &signature) {
-        Ok(items) => labels(alloc, &items),
-        Err(ClaimError::Memory) => Err(Fail::from("memory")),
-        Err(ClaimError::Text(fault)) => {
+/// What is wrong with a file of claims.
+fn error_text(alloc: Global, error: &ClaimError) -> Result<String, Fail> {
+    match error {
+        ClaimError::Memory => Err(Fail::from("memory")),
+        ClaimError::Text(fault) => {
             Ok(format!(in alloc; "text {} at {}", fault.kind.number(), fault.at)?)
         }
-        Err(ClaimError::Fault(fault)) => Ok(String::from_str(alloc, fault.code())?),
+        ClaimError::Fault(fault) => Ok(String::from_str(alloc, fault.code())?),
     }
+}
+
+/// The labels of a file's claims over a signature, or what is wrong with it.
+fn told_by(alloc: Global, signature: &Signature, file: &str) -> Result<String, Fail> {
+    match read_claims(alloc, file.as_bytes(), signature) {
+        Ok(items) => labels(alloc, &items),
+        Err(error) => error_text(alloc, &error),
+    }
+}
+
+/// The same over a module's text.
+fn told_over(alloc: Global, module: &str, file: &str) -> Result<String, Fail> {
+    let signature = signature(alloc, module)?;
+    told_by(alloc, &signature, file)
+}
+
+/// The same over the definition.
+fn told(alloc: Global, file: &str) -> Result<String, Fail> {
+    told_over(alloc, DEFINITION, file)
 }
 
 /// A module with these sentences.
@@ -55,8 +63,7 @@ fn file(alloc: Global, sentences: &str) -> Result<String, Fail> {
 }
 
 /// A constructor makes a value of the whole-number sort.
-const IRREGULAR: &str = r#"[]
-module COUNTING
+const IRREGULAR: &str = r#"module COUNTING
   hooked-sort SortInt{} [hook{}("INT.Int")]
   hooked-symbol Lblmul{}(SortInt{}, SortInt{}) : SortInt{} [hook{}("INT.mul"), function{}()]
   symbol Lblinfinity{}() : SortInt{} [constructor{}()]
@@ -127,28 +134,40 @@ fn claims_or_the_first_fault(rt: HostRuntime) -> Result<(), Fail> {
     Ok(())
 }
 
+/// Files of two claims of one label, of two labels, and the same as a definition; texts that are broken off.
+const FILES: [(&str, &str); 7] = [
+    (
+        r#"module SPEC import COUNTING []
+  claim{} \implies{SortS{}}(Lbldone{}(), weakAlwaysFinally{SortS{}}(Lbldone{}())) [label{}("a")]
+  claim{} \implies{SortS{}}(Lbldone{}(), weakAlwaysFinally{SortS{}}(Lbldone{}())) [label{}("a")]
+endmodule []"#,
+        "C7",
+    ),
+    (
+        r#"module SPEC import COUNTING []
+  claim{} \implies{SortS{}}(Lbldone{}(), weakAlwaysFinally{SortS{}}(Lbldone{}())) [label{}("a")]
+  claim{} \implies{SortS{}}(Lbldone{}(), weakAlwaysFinally{SortS{}}(Lbldone{}())) [label{}("b")]
+endmodule []"#,
+        "a b ",
+    ),
+    (
+        r#"[] module SPEC import COUNTING []
+  claim{} \implies{SortS{}}(Lbldone{}(), weakAlwaysFinally{SortS{}}(Lbldone{}())) [label{}("a")]
+  claim{} \implies{SortS{}}(Lbldone{}(), weakAlwaysFinally{SortS{}}(Lbldone{}())) [label{}("b")]
+endmodule []"#,
+        "a b ",
+    ),
+    ("[] module M endmodul", "text 2 at 12"),
+    ("module M endmodule x", "text 2 at 19"),
+    ("x", "text 2 at 0"),
+    ("", "text 5 at 0"),
+];
+
 #[test]
 fn files_of_claims(rt: HostRuntime) -> Result<(), Fail> {
-    let alloc = rt.alloc();
-    let done = r#"claim{} \implies{SortS{}}(Lbldone{}(), weakAlwaysFinally{SortS{}}(Lbldone{}()))"#;
-    let same = format!(in alloc; "{done} [label{{}}(\"a\")] {done} [label{{}}(\"a\")]")?;
-    let others = format!(in alloc; "{done} [label{{}}(\"a\")] {done} [label{{}}(\"b\")]")?;
-    let twice = told(alloc, file(alloc, same.as_str())?.as_str())?;
-    assert_eq!(rt; twice.as_str(), "C7");
-    let both = told(alloc, file(alloc, others.as_str())?.as_str())?;
-    assert_eq!(rt; both.as_str(), "a b ");
-    let whole = format!(in alloc; "[] {}", file(alloc, others.as_str())?)?;
-    let defined = told(alloc, whole.as_str())?;
-    assert_eq!(rt; defined.as_str(), "a b ");
-    assert_eq!(rt;
-        told(alloc, "[] module M endmodul")?.as_str(),
-        "text 2 at 12"
-    );
-    assert_eq!(rt;
-        told(alloc, "module M endmodule x")?.as_str(),
-        "text 2 at 19"
-    );
-    assert_eq!(rt; told(alloc, "x")?.as_str(), "text 2 at 0");
-    assert_eq!(rt; told(alloc, "")?.as_str(), "text 5 at 0");
+    for (file, wanted) in FILES {
+        let found = told(rt.alloc(), file)?;
+        assert_eq!(rt; found.as_str(), wanted);
+    }
     Ok(())
 }
