@@ -7,3 +7,4 @@ pub mod Proving
 pub mod Served
 pub mod Spelled
 pub mod WordsRead
+pub mod Headline

@@ -10,3 +10,4 @@ pub mod Served
 pub mod Statuses
 pub mod Troubles
 pub mod Words
+pub mod Headline

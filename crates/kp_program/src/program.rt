@@ -3,6 +3,7 @@ ghost use Rattle.std.specs.Io.KnownBytes.{Appends};
 ghost use Rattle.kp_io.specs.Outside.{Rose};
 ghost use Rattle.kp_program.specs.Commands.{IsCommand};
 ghost use Rattle.kp_program.specs.Does.{BeginsWords, DoesWords};
+ghost use Rattle.kp_program.specs.Headline.{PassedHolds};
 ghost use Rattle.kp_program.specs.Inputs.{AnswersInput, IsReplyToRead};
 ghost use Rattle.kp_server.specs.Setting.{IsSettingOf, Setting};
 ghost use Rattle.kp_program.specs.Served.{GainsFront, Serves};
@@ -38,6 +39,8 @@ pub fn run<H: Shelf, I: Source, O: Sink, E: Sink>(
 ) -> u8
     // what the command says
     ensures done { result ≤ 2 → DoesWords (H.names shelf.old) (I.left input.old) (Appends (O.held out.old) (O.held out.new)) (map string_bytes words.now) result }
+    // each line that tells a claim as passed is of a claim that holds
+    ensures headline { result ≤ 2 → PassedHolds (H.names shelf.old) (map string_bytes words.now) (O.held out.old) (O.held out.new) }
     // why it is another status, and what standard error got
     ensures ended { 3 ≤ result → IsEnded (H.names shelf.old) (map string_bytes words.now) (Rose (H.fault_count shelf.old) (H.fault_count shelf.new) ⊎ (Rose (I.fault_count input.old) (I.fault_count input.new) ⊎ Rose (O.fault_count out.old) (O.fault_count out.new))) (E.held err.old) (E.held err.new) (Rose (E.fault_count err.old) (E.fault_count err.new)) result }
     ensures usage { (result ≡ 3) ↔ ¬ SpellsSome (map string_bytes words.now) }

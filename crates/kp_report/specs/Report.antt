@@ -1,6 +1,7 @@
 -- The report of proofs: one line for each claim, in order.
 -- Source: this project.
-use Rattle.std.specs.Prelude.{◌≡◌, ℕ, ℤ, List, [], ◌∷◌, ◌++◌, codes}
+use Rattle.std.specs.Prelude.{◌≡◌, ℕ, ℤ, Bool, true, not, ◌==◌, List, [], ◌∷◌, ◌++◌, codes}
+use Rattle.std.specs.List.{list_all}
 use Rattle.std.specs.Fmt.{decimal, signed_decimal}
 use Rattle.kp_kore.specs.Syntax.{Text}
 use Rattle.kp_semantics.specs.Replies as replies
@@ -42,3 +43,14 @@ pub record ReportLine : Type 0 where
 pub data IsReport : List ReportLine → List ℕ → Type 0 where
   no_lines : IsReport [] []
   one_line : (l : ReportLine) (ls : List ReportLine) (line more : List ℕ) → IsLine l.label l.outcome line → IsReport ls more → IsReport (l ∷ ls) (line ++ more)
+
+-- ---- the lines of bytes
+
+-- no line feed stands in the text
+abbrev pub is_one_line : List ℕ → Bool
+is_one_line = list_all (λ c. not (c == 10))
+
+-- the bytes have this line: it stands before the first line feed, or it is one of the lines behind that
+pub data HasLine (line : List ℕ) : List ℕ → Type 0 where
+  first_line : (after : List ℕ) → is_one_line line ≡ true → HasLine line (line ++ 10 ∷ after)
+  later_line : (before after : List ℕ) → is_one_line before ≡ true → HasLine line after → HasLine line (before ++ 10 ∷ after)

@@ -1,9 +1,9 @@
 -- What a server writes is what its client is told.
-use Rattle.std.proofs.Common.{◌≡◌, ℕ, ℤ, List, [], ◌∷◌, Option, Some, None, option_map, option_and_then, refl, sym, ap, ◌∙◌, subst}
+use Rattle.std.proofs.Common.{◌≡◌, ℕ, ℤ, [], ◌∷◌, Option, Some, None, option_map, option_and_then, refl, sym, ap, ◌∙◌, subst}
 use Rattle.std.specs.Prelude.{codes}
-use Rattle.serde_json.specs.Data.{Data, Num, number}
+use Rattle.serde_json.specs.Data.{Data, number}
 use Rattle.serde_json.specs.Find.{get, as_i64}
-use Rattle.kp_kore.specs.Syntax.{Text, KorePattern}
+use Rattle.kp_kore.specs.Syntax.{KorePattern}
 use Rattle.kp_json.specs.Trees.{SpellsWrapped}
 use Rattle.kp_json.specs.Members.{object_of}
 use Rattle.kp_json.specs.Written.{two_parts, wrapped_pattern}
@@ -11,7 +11,7 @@ use Rattle.kp_json.proofs.RoundTrip.{wrapped_written}
 use Rattle.kp_semantics.specs.Replies.{Reason, stuck, depth_bound, aborted_by_rule}
 use Rattle.kp_rpc.specs.Request.{RequestId}
 use Rattle.kp_rpc.specs.Reply.{WrittenState, ExecuteResult, ImpliesResult, not_valid, valid, not_valid_object, valid_object, term_state, state_tree, result_object, result_tree, implied_tree, result_reply, RequestError, parse_error, invalid_request, method_not_found, invalid_params, no_module, no_pattern, not_verified, error_parts, error_tree, error_reply}
-use Rattle.kp_rpc.specs.Replied.{Method, execute, implies, executed, implied, failed, WrappedAt, TellsState, TellsReason, TellsRun, TellsCondition, TellsImplied, HasResult, TellsReply, IsSpelled, IsSpelledState, IsSpelledImplied}
+use Rattle.kp_rpc.specs.Replied.{Method, execute, implies, executed, implied, failed, TellsState, TellsRun, TellsImplied, HasResult, TellsReply, IsSpelled, IsReadReason, IsSpelledState, IsSpelledImplied}
 
 -- ---- errors
 
@@ -63,10 +63,10 @@ state_in term (Some p) tree (h, k) e =
 
 -- ---- results
 
-run_in : (depth : ℕ) (reason : Reason) (state : Data) (s : WrittenState) → TellsState state s → TellsRun (result_object depth reason state) (record { depth = depth; reason = reason; state = s })
-run_in depth stuck state s h = record { depth = refl; reason = refl; state = state; has_state = refl; tells_state = h }
-run_in depth depth_bound state s h = record { depth = refl; reason = refl; state = state; has_state = refl; tells_state = h }
-run_in depth (aborted_by_rule id) state s h = record { depth = refl; reason = (refl, refl); state = state; has_state = refl; tells_state = h }
+run_in : (depth : ℕ) (reason : Reason) (state : Data) (s : WrittenState) → IsReadReason reason → TellsState state s → TellsRun (result_object depth reason state) (record { depth = depth; reason = reason; state = s })
+run_in depth stuck state s i h = record { depth = refl; reason = refl; state = state; has_state = refl; tells_state = h }
+run_in depth depth_bound state s i h = record { depth = refl; reason = refl; state = state; has_state = refl; tells_state = h }
+run_in depth (aborted_by_rule id) state s i h = record { depth = refl; reason = (refl, refl, i); state = state; has_state = refl; tells_state = h }
 
 some_tree : (f : Data → Data) (x : Option Data) (d : Data) → option_map f x ≡ Some d → (s : Data) × (x ≡ Some s) × (f s ≡ d)
 some_tree f None d e = absurd (cc e)
@@ -75,11 +75,11 @@ some_tree f (Some s) d e = (s, refl, cc e)
 has_result : (id : RequestId) (tree : Data) → HasResult (result_reply id tree) tree
 has_result id tree = record { version = refl; has_result = refl; no_error = refl }
 
-pub run_answered : (id : RequestId) (x : ExecuteResult) (tree : Data) → IsSpelledState x.state.term x.state.predicate → result_tree x ≡ Some tree → TellsReply execute (result_reply id tree) (executed x)
-run_answered id x tree h e =
+pub run_answered : (id : RequestId) (x : ExecuteResult) (tree : Data) → IsReadReason x.reason → IsSpelledState x.state.term x.state.predicate → result_tree x ≡ Some tree → TellsReply execute (result_reply id tree) (executed x)
+run_answered id x tree i h e =
     let s = some_tree (result_object x.depth x.reason) (state_tree x.state) tree e in
     let told = state_in x.state.term x.state.predicate s.0 h s.1 in
-    (tree, has_result id tree, subst (λ d. TellsRun d x) s.2 (run_in x.depth x.reason s.0 x.state told))
+    (tree, has_result id tree, subst (λ d. TellsRun d x) s.2 (run_in x.depth x.reason s.0 x.state i told))
 
 pub implied_answered : (id : RequestId) (x : ImpliesResult) (tree : Data) → IsSpelledImplied x → implied_tree x ≡ Some tree → TellsReply implies (result_reply id tree) (implied x)
 implied_answered id not_valid tree h e =

@@ -1,8 +1,8 @@
 -- The tree of a question is that request.
-use Rattle.std.proofs.Common.{◌≡◌, ◌⊎◌, inl, inr, ℕ, ℤ, pos, negsuc, List, [], ◌∷◌, Option, Some, None, option_map, Bool, true, false, true≢false, bytes_eq, refl, sym, ap, ◌∙◌, subst}
+use Rattle.std.proofs.Common.{◌≡◌, inl, inr, ℕ, ℤ, pos, negsuc, List, [], ◌∷◌, Option, Some, None, option_map, false, true≢false, bytes_eq, refl, sym, ap, ◌∙◌, subst}
 use Rattle.std.proofs.lemmas.Slice.Eq.{bytes_eq-Decides}
 use Rattle.std.specs.Prelude.{codes}
-use Rattle.serde_json.specs.Data.{Data, Num, unsigned, negative, float, number, string, array, object, Items, no_items, item, Members, no_members, put}
+use Rattle.serde_json.specs.Data.{Data, unsigned, number, string, array, object, Members, no_members, put}
 use Rattle.serde_json.specs.Find.{get_member, of_integer}
 use Rattle.serde_json.proofs.Views.{get_member-put, get_member-put_other}
 use Rattle.kp_kore.specs.Syntax.{Text, KorePattern}
@@ -10,7 +10,7 @@ use Rattle.kp_json.specs.Members.{Has, Lacks, members_of}
 use Rattle.kp_json.specs.Trees.{SpellsWrapped, wrapper}
 use Rattle.kp_json.specs.Written.{two_parts, wrapped_pattern}
 use Rattle.kp_json.proofs.RoundTrip.{wrapped_written}
-use Rattle.kp_rpc.specs.Request.{RequestId, id_number, id_tree, NumberAt, TextAt, AreTexts, TextsAt, ExecuteOptions, HasOptions, HasParams, IsRequest, IsExecute, IsImplies, HasSides, ExecuteRequest, ImpliesRequest, execute_method, implies_method}
+use Rattle.kp_rpc.specs.Request.{RequestId, id_number, id_tree, NumberAt, TextAt, AreTexts, TextsAt, ExecuteOptions, HasOptions, IsRequest, IsExecute, IsImplies, HasSides, ExecuteRequest, ImpliesRequest, execute_method, implies_method}
 use Rattle.kp_rpc.specs.View.{id_view}
 use Rattle.kp_rpc.specs.declared.id.Id.{Id}
 use Rattle.kp_rpc.specs.declared.id.Id.TheVariants as id

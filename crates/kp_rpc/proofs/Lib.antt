@@ -12,6 +12,7 @@ pub mod QuestionBack
 mod QuestionText
 pub mod QuestionsRead
 pub mod ReadBack
+pub mod RuleIds
 pub mod SortsBack
 pub mod StatesBack
 pub mod TermsBack

@@ -1,5 +1,5 @@
 -- The text that is written of a reply is read as that reply.
-use Rattle.std.proofs.Common.{◌≡◌, ℕ, suc, max, ◌^◌, ◌<◌, ◌≤◌, List, [], ◌∷◌, true, false, Option, Some, None, option_map, option_and_then, pos, negsuc, decimal, refl, sym, ap, ap₂, ◌∙◌, subst, arith, append-nil}
+use Rattle.std.proofs.Common.{◌≡◌, ℕ, suc, max, ◌^◌, ◌<◌, ◌≤◌, [], ◌∷◌, Option, Some, None, option_map, option_and_then, pos, negsuc, refl, sym, ap, ap₂, ◌∙◌, subst, arith, append-nil}
 use Rattle.std.specs.Prelude.{codes}
 use Rattle.json.specs.Lex.{tokens}
 use Rattle.json.specs.Json as json

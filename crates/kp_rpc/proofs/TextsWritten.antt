@@ -1,7 +1,7 @@
 -- What is written of a list of texts, text by text.
 use Rattle.std.proofs.Common.{◌≡◌, ℕ, ◌<◌, ◌≤◌, length, get_or, drop, ◌+◌, List, [], ◌∷◌, ◌++◌, String, Global, string_bytes, refl, sym, ap, ◌∙◌}
 use Rattle.std.proofs.lemmas.List.{at_drop_more, at_drop_all}
-use Rattle.serde_json.specs.Data.{Data, string, Items, no_items, item}
+use Rattle.serde_json.specs.Data.{string, Items, no_items, item}
 use Rattle.serde_json.specs.View.{view, items_view}
 use Rattle.serde_json.specs.declared.value.Value.{Value}
 use Rattle.kp_rpc.specs.Questions.{text_items}

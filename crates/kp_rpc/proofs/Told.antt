@@ -1,12 +1,12 @@
 -- What is read of a reply is what it tells, and none else.
-use Rattle.std.proofs.Common.{◌≡◌, ℕ, ℤ, List, [], ◌∷◌, ◌++◌, Bool, true, false, Option, Some, None, option_map, option_and_then, bytes_eq, refl, sym, ap, ◌∙◌, subst}
+use Rattle.std.proofs.Common.{◌≡◌, ℕ, List, [], ◌∷◌, ◌++◌, Bool, true, false, Option, Some, None, option_map, option_and_then, bytes_eq, refl, sym, ap, ◌∙◌, subst}
 use Rattle.std.proofs.lemmas.Slice.Eq.{bytes_eq-Decides}
 use Rattle.std.specs.Prelude.{if◌then◌else◌, codes, Result, Ok, Err, IfOk, IfSome, IfNone}
 use Rattle.std.specs.declared.alloc.AllocError.{AllocError}
 use Rattle.serde_json.specs.Data.{Data, Num, unsigned, negative, float, null, boolean, number, string, array, object}
 use Rattle.serde_json.specs.Read.{read as text_read}
 use Rattle.serde_json.specs.Written.{compact_text}
-use Rattle.serde_json.specs.Find.{get, as_bool, as_i64, as_number, as_str, as_u64}
+use Rattle.serde_json.specs.Find.{get, as_bool, as_i64, as_number, as_u64}
 use Rattle.kp_kore.specs.Syntax.{Text, KorePattern}
 use Rattle.kp_json.specs.Faults.{Reading, read, fault, wrapped_reading}
 use Rattle.kp_json.specs.Trees.{SpellsWrapped}
@@ -18,11 +18,11 @@ use Rattle.kp_json.proofs.Sound.{wrapped_sound}
 use Rattle.kp_json.proofs.Complete.{wrapped_complete}
 use Rattle.kp_semantics.specs.Replies.{Reason, stuck, depth_bound, aborted_by_rule}
 use Rattle.kp_rpc.specs.Frame.{IsFrame}
-use Rattle.kp_rpc.specs.Reply.{WrittenState, ExecuteResult, ImpliesResult, not_valid, valid, reply_bytes}
-use Rattle.kp_rpc.specs.Replied.{Method, execute, implies, ServerReply, executed, implied, failed, WrappedAt, OptionalAt, TellsState, TellsReason, TellsRun, TellsCondition, TellsImplied, HasResult, HasError, TellsCode, TellsResult, TellsReply, IsFrameReply, IsReplyOf}
+use Rattle.kp_rpc.specs.Reply.{ExecuteResult, ImpliesResult, not_valid, valid, reply_bytes}
+use Rattle.kp_rpc.specs.Replied.{Method, execute, implies, ServerReply, executed, implied, failed, WrappedAt, OptionalAt, TellsReason, TellsRun, TellsCondition, TellsImplied, HasResult, HasError, TellsResult, TellsReply, IsFrameReply, IsReplyOf, is_rule_id}
 use Rattle.kp_rpc.specs.View.{reply_view}
 use Rattle.kp_rpc.specs.declared.replied.ServerReply.{ServerReply as CodeReply}
-use Rattle.kp_rpc.specs.RepliesRead.{pattern_in, read_wrapped, read_optional, reason_named, text_in, read_reason, read_depth, run_from, read_run, condition_from, read_condition, read_valid, read_implied, read_code, read_result, read_either, is_two, read_reply}
+use Rattle.kp_rpc.specs.RepliesRead.{pattern_in, read_wrapped, read_optional, reason_named, text_in, if_rule_id, rule_in, read_reason, read_depth, run_from, read_run, condition_from, read_condition, read_valid, read_implied, read_code, read_result, read_either, is_two, read_reply}
 
 -- ---- options, taken apart
 
@@ -108,7 +108,22 @@ optional_told d key (Some p) (tree, has, spells) = ap read_optional has ∙ ap (
 word_is : (w k : Text) (b : Bool) → bytes_eq w k ≡ b → b ≡ true → w ≡ k
 word_is w k b e is = (bytes_eq-Decides w k).0 (e ∙ is)
 
-reason_in : (d : Data) (id : Option Text) (w : Text) (r : Reason) (s b a : Bool) → get (codes "reason") d ≡ Some (string w) → text_in (get (codes "foreign-rule") d) ≡ id
+-- a rule's id, where one is read
+rule_if : (t id : Text) (b : Bool) → is_rule_id t ≡ b → (if b then Some t else None) ≡ Some id → (t ≡ id) × (is_rule_id id ≡ true)
+rule_if t id true is e = let same : t ≡ id = cc e in (same, ap is_rule_id (sym same) ∙ is)
+rule_if t id false is e = absurd (cc e)
+
+rule_is : (x : Option Data) (id : Text) → rule_in x ≡ Some id → (x ≡ Some (string id)) × (is_rule_id id ≡ true)
+rule_is x id e =
+    let t = present if_rule_id (text_in x) id e in
+    let same = rule_if t.0 id _ refl t.2 in
+    (text_is x t.0 t.1 ∙ ap (λ u. Some (string u)) same.0, same.1)
+
+rule_read : (t : Text) (b : Bool) → is_rule_id t ≡ b → b ≡ true → (if b then Some t else None) ≡ Some t
+rule_read t true is h = refl
+rule_read t false is h = absurd (cc h)
+
+reason_in : (d : Data) (id : Option Text) (w : Text) (r : Reason) (s b a : Bool) → get (codes "reason") d ≡ Some (string w) → rule_in (get (codes "foreign-rule") d) ≡ id
     → bytes_eq w (codes "stuck") ≡ s → bytes_eq w (codes "depth-bound") ≡ b → bytes_eq w (codes "aborted") ≡ a
     → (if s then Some stuck else (if b then Some depth_bound else (if a then option_map aborted_by_rule id else None))) ≡ Some r → TellsReason d r
 reason_in d id w stuck true b a is named es eb ea e = is ∙ ap (λ t. Some (string t)) (word_is w (codes "stuck") true es refl)
@@ -122,19 +137,20 @@ reason_in d (Some i) w stuck false false true is named es eb ea e = absurd (cc e
 reason_in d (Some i) w depth_bound false false true is named es eb ea e = absurd (cc e)
 reason_in d (Some i) w (aborted_by_rule j) false false true is named es eb ea e =
     let same : i ≡ j = cc e in
-    (is ∙ ap (λ t. Some (string t)) (word_is w (codes "aborted") true ea refl), text_is (get (codes "foreign-rule") d) j (named ∙ ap Some same))
+    let rule = rule_is (get (codes "foreign-rule") d) j (named ∙ ap Some same) in
+    (is ∙ ap (λ t. Some (string t)) (word_is w (codes "aborted") true ea refl), rule.0, rule.1)
 reason_in d id w r false false false is named es eb ea e = absurd (cc e)
 
 reason_found : (d : Data) (r : Reason) → read_reason d ≡ Some r → TellsReason d r
 reason_found d r e =
-    let w = present (reason_named (text_in (get (codes "foreign-rule") d))) (text_in (get (codes "reason") d)) r e in
+    let w = present (reason_named (rule_in (get (codes "foreign-rule") d))) (text_in (get (codes "reason") d)) r e in
     reason_in d _ w.0 r _ _ _ (text_is (get (codes "reason") d) w.0 w.1) refl refl refl refl w.2
 
 reason_told : (d : Data) (r : Reason) → TellsReason d r → read_reason d ≡ Some r
-reason_told d stuck h = ap (λ x. option_and_then (reason_named (text_in (get (codes "foreign-rule") d))) (text_in x)) h
-reason_told d depth_bound h = ap (λ x. option_and_then (reason_named (text_in (get (codes "foreign-rule") d))) (text_in x)) h
+reason_told d stuck h = ap (λ x. option_and_then (reason_named (rule_in (get (codes "foreign-rule") d))) (text_in x)) h
+reason_told d depth_bound h = ap (λ x. option_and_then (reason_named (rule_in (get (codes "foreign-rule") d))) (text_in x)) h
 reason_told d (aborted_by_rule id) h =
-    ap (λ x. option_and_then (reason_named (text_in (get (codes "foreign-rule") d))) (text_in x)) h.0 ∙ ap (λ x. option_map aborted_by_rule (text_in x)) h.1
+    ap (λ x. option_and_then (reason_named (rule_in (get (codes "foreign-rule") d))) (text_in x)) h.0 ∙ ap (λ x. option_map aborted_by_rule (rule_in x)) h.1 ∙ ap (option_map aborted_by_rule) (rule_read id _ refl h.2)
 
 -- ---- runs
 

@@ -1,7 +1,8 @@
 -- What a client is told by a reply to its question.
 -- Source: JSON-RPC 2.0 (response objects: a result or an error, never both); the K Haskell backend's JSON-RPC
 -- documentation (execute, implies).
-use Rattle.std.specs.Prelude.{◌≡◌, ◌<◌, ◌^◌, ℕ, ℤ, pos, negsuc, true, false, List, [], ◌∷◌, ◌++◌, Option, Some, None, codes}
+use Rattle.std.specs.Prelude.{◌≡◌, ◌<◌, ◌^◌, ℕ, ℤ, pos, negsuc, Bool, true, false, ◌&&◌, nat_lt, nat_le, List, [], ◌∷◌, ◌++◌, length, Option, Some, None, codes}
+use Rattle.std.specs.List.{list_all}
 use Rattle.serde_json.specs.Data.{Data, Num, unsigned, negative, float, boolean, number, string}
 use Rattle.serde_json.specs.Find.{get, as_i64}
 use Rattle.kp_kore.specs.Syntax.{Text, KorePattern}
@@ -34,10 +35,18 @@ pub record TellsState (d : Data) (s : WrittenState) : Type 0 where
   pub term : WrappedAt d (codes "term") s.term
   pub predicate : OptionalAt d (codes "predicate") s.predicate
 
+-- a character from 33 to 126: neither white space nor a control character
+abbrev pub is_visible : ℕ → Bool
+is_visible c = nat_le 33 c && nat_le c 126
+
+-- one or more of these; no other text is taken for a rule's id, so that a peer's id can't break a line of a report
+abbrev pub is_rule_id : Text → Bool
+is_rule_id t = nat_lt 0 (length t) && list_all is_visible t
+
 abbrev pub TellsReason : Data → Reason → Type 0
 TellsReason d stuck = get (codes "reason") d ≡ Some (string (codes "stuck"))
 TellsReason d depth_bound = get (codes "reason") d ≡ Some (string (codes "depth-bound"))
-TellsReason d (aborted_by_rule id) = (get (codes "reason") d ≡ Some (string (codes "aborted"))) × (get (codes "foreign-rule") d ≡ Some (string id))
+TellsReason d (aborted_by_rule id) = (get (codes "reason") d ≡ Some (string (codes "aborted"))) × (get (codes "foreign-rule") d ≡ Some (string id)) × (is_rule_id id ≡ true)
 
 -- the depth, the reason and the state of a run
 pub record TellsRun (d : Data) (x : ExecuteResult) : Type 0 where
@@ -101,6 +110,12 @@ IsSpelled p = (d : Data) × SpellsWrapped d p
 abbrev pub IsSpelledState : KorePattern → Option KorePattern → Type 0
 IsSpelledState term None = IsSpelled term
 IsSpelledState term (Some predicate) = IsSpelled term × IsSpelled predicate
+
+-- a reason whose rule id, where it has one, is read
+abbrev pub IsReadReason : Reason → Type 0
+IsReadReason stuck = Unit {0}
+IsReadReason depth_bound = Unit {0}
+IsReadReason (aborted_by_rule id) = is_rule_id id ≡ true
 
 abbrev pub IsSpelledImplied : ImpliesResult → Type 0
 IsSpelledImplied not_valid = Unit {0}

@@ -1,5 +1,5 @@
 -- What is read of a reply, or None where it is no reply to the method; for private clauses.
-use Rattle.std.specs.Prelude.{ℕ, ℤ, Bool, true, false, Option, Some, None, option_map, option_and_then, if◌then◌else◌, codes}
+use Rattle.std.specs.Prelude.{ℕ, Bool, true, false, Option, Some, None, option_map, option_and_then, if◌then◌else◌, codes}
 use Rattle.std.specs.Str.{bytes_eq}
 use Rattle.serde_json.specs.Data.{Data}
 use Rattle.serde_json.specs.Find.{get, as_bool, as_i64, as_number, as_str, as_u64}
@@ -7,7 +7,7 @@ use Rattle.kp_kore.specs.Syntax.{Text, KorePattern}
 use Rattle.kp_json.specs.Faults.{Reading, read, fault, wrapped_reading}
 use Rattle.kp_semantics.specs.Replies.{Reason, stuck, depth_bound, aborted_by_rule}
 use Rattle.kp_rpc.specs.Reply.{ExecuteResult, ImpliesResult, not_valid, valid}
-use Rattle.kp_rpc.specs.Replied.{Method, execute, implies, ServerReply, executed, implied, failed}
+use Rattle.kp_rpc.specs.Replied.{Method, execute, implies, ServerReply, executed, implied, failed, is_rule_id}
 
 -- the pattern, where one was read
 abbrev pub pattern_in : Reading KorePattern → Option KorePattern
@@ -31,8 +31,14 @@ reason_named id word =
 abbrev pub text_in : Option Data → Option Text
 text_in = option_and_then as_str
 
+abbrev pub if_rule_id : Text → Option Text
+if_rule_id t = if is_rule_id t then Some t else None
+
+abbrev pub rule_in : Option Data → Option Text
+rule_in x = option_and_then if_rule_id (text_in x)
+
 abbrev pub read_reason : Data → Option Reason
-read_reason d = option_and_then (reason_named (text_in (get (codes "foreign-rule") d))) (text_in (get (codes "reason") d))
+read_reason d = option_and_then (reason_named (rule_in (get (codes "foreign-rule") d))) (text_in (get (codes "reason") d))
 
 abbrev pub read_depth : Option Data → Option ℕ
 read_depth x = option_and_then as_u64 (option_and_then as_number x)

@@ -12,7 +12,7 @@ ghost use Rattle.kp_rpc.specs.Request.{RequestId, EchoesId, ExecuteRequest, Impl
 ghost use Rattle.kp_rpc.specs.Causes.{IsRefused};
 ghost use Rattle.kp_rpc.specs.Questions.{IsAskable, IsLawfulId, IsReadBack, question_tree, to_execute, to_imply};
 ghost use Rattle.kp_rpc.specs.Reply.{ExecuteResult, ImpliesResult, IsStatePattern, RequestError, WrittenState, error_parts, error_reply, implied_tree, reply_bytes, result_reply, result_tree};
-ghost use Rattle.kp_rpc.specs.Replied.{IsReadId, IsReplyOf, IsSpelledImplied, IsSpelledState, Method, ServerReply, TellsReply, execute, executed, failed, implied, implies};
+ghost use Rattle.kp_rpc.specs.Replied.{IsReadId, IsReadReason, IsReplyOf, IsSpelledImplied, IsSpelledState, Method, ServerReply, TellsReply, execute, executed, failed, implied, implies};
 ghost use Rattle.kp_rpc.specs.View.{id_view};
 ghost use Rattle.kp_rpc.specs.declared.id.Id.{Id as SpecId};
 
@@ -36,11 +36,18 @@ pub fn each_id_is_lawful()
     ensures { (id : SpecId) → IsLawfulId (id_view id) }
 {}
 
-/// The reply that is written of a result of execute tells its client that result.
+/// The reply that is written of a result of execute tells its client that result, where a rule's id in it is of visible
+/// characters.
 #[tactic(auto, using(crate::proofs::Answered::run_answered))]
 pub fn what_is_executed_is_told()
-    ensures { (id : RequestId) (x : ExecuteResult) (tree : Data) → IsSpelledState x.state.term x.state.predicate → result_tree x ≡ Some tree
+    ensures { (id : RequestId) (x : ExecuteResult) (tree : Data) → IsReadReason x.reason → IsSpelledState x.state.term x.state.predicate → result_tree x ≡ Some tree
         → TellsReply execute (result_reply id tree) (executed x) }
+{}
+
+/// A rule's id that is read of a line is of one or more visible characters.
+#[tactic(auto, using(crate::proofs::RuleIds::told_ids))]
+pub fn a_rules_id_that_is_read_is_visible()
+    ensures { (line : List ℕ) (x : ExecuteResult) → IsReplyOf execute line (executed x) → IsReadReason x.reason }
 {}
 
 /// The reply that is written of a result of implies tells its client that result.

@@ -1,11 +1,12 @@
 ghost use Rattle.std.specs.Prelude.{◌≡◌, ◌≢◌, ◌∷◌, ◌++◌, [], ℕ, List, IfOk, IfSome, IfNone, option_map, option_and_then, codes};
-ghost use Rattle.serde_json.specs.Find.{get, as_str};
+ghost use Rattle.std.specs.List.{list_all};
+ghost use Rattle.serde_json.specs.Find.{get};
 ghost use Rattle.serde_json.specs.View.{view};
 ghost use Rattle.kp_kore.specs.View.{view as pattern_view};
 ghost use Rattle.kp_json.specs.Faults.{wrapped_reading};
 ghost use Rattle.kp_semantics.specs.Replies.{aborted_by_rule};
-ghost use Rattle.kp_rpc.specs.Replied.{IsFrameReply, IsReplyOf, ServerReply as SpecReply};
-ghost use Rattle.kp_rpc.specs.RepliesRead.{pattern_in, read_wrapped, read_optional, reason_named, read_reason, read_run, read_condition, read_implied, read_code, read_result, read_reply};
+ghost use Rattle.kp_rpc.specs.Replied.{IsFrameReply, IsReplyOf, ServerReply as SpecReply, is_rule_id as is_rule_id_text, is_visible as is_visible_character};
+ghost use Rattle.kp_rpc.specs.RepliesRead.{pattern_in, if_rule_id, rule_in, read_wrapped, read_optional, reason_named, read_reason, read_run, read_condition, read_implied, read_code, read_result, read_reply};
 ghost use Rattle.kp_rpc.specs.View.{reason_view, run_view, implied_view, method_view, reply_view};
 
 use crate::executed::Reason;
@@ -76,14 +77,44 @@ fn predicate_at(alloc: Global, state: &Value) -> Result<Option<Option<Pattern>>,
     }
 }
 
+// Whether a text may be a rule's id: it has one or more characters, all from 33 to 126.
+fn is_rule_id(text: &[u8]) -> bool
+    ensures { result ≡ is_rule_id_text text.now }
+{
+    0 < text.len() && are_visible(text)
+}
+
+fn are_visible(text: &[u8]) -> bool
+    ensures { result ≡ list_all is_visible_character text.now }
+{
+    text.iter().all(|byte| is_visible(*byte))
+}
+
+// Whether a byte is a character from 33 to 126.
+fn is_visible(byte: u8) -> bool
+    ensures { result ≡ is_visible_character byte }
+{
+    33 <= byte && byte <= 126
+}
+
+// The reason of a run that the foreign rule of this id aborts.
+fn aborted_by(alloc: Global, id: &str) -> Result<Option<Reason>, AllocError>
+    ensures { IfOk result (λ o. option_map reason_view o ≡ option_map aborted_by_rule (if_rule_id id.now)) }
+{
+    if !is_rule_id(id.as_bytes()) {
+        return Ok(None);
+    }
+    Ok(Some(Reason::AbortedByRule {
+        id: String::from_str(alloc, id)?,
+    }))
+}
+
 // The reason of a run that a foreign rule aborts.
 fn aborted_at(alloc: Global, value: &Value) -> Result<Option<Reason>, AllocError>
-    ensures { IfOk result (λ o. option_map reason_view o ≡ option_map aborted_by_rule (option_and_then as_str (get (codes "foreign-rule") (view value.now)))) }
+    ensures { IfOk result (λ o. option_map reason_view o ≡ option_map aborted_by_rule (rule_in (get (codes "foreign-rule") (view value.now)))) }
 {
     match member_text(value, "foreign-rule") {
-        Some(id) => Ok(Some(Reason::AbortedByRule {
-            id: String::from_str(alloc, id)?,
-        })),
+        Some(id) => aborted_by(alloc, id),
         None => Ok(None),
     }
 }

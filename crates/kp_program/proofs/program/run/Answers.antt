@@ -1,4 +1,6 @@
-use Rattle.std.proofs.Common.{◌≤◌, arith}
+use Rattle.std.proofs.Common.{◌≡◌, ◌≤◌, arith}
+use Rattle.kp_report.proofs.OneLine.{each_in_one_line}
+use Rattle.kp_program.proofs.Headline.{passed_holds}
 use Rattle.kp_program.proofs.Spelled.{command_spells, usage_is_told, trouble_is_told, trouble_is_above, only_memory_at, done_at, not_possible}
 use Rattle.kp_program.proofs.program.run.Goals as goal
 
@@ -14,10 +16,16 @@ returns-in-None-clause-usage g c = ((λ status. c.in-None.ensures.none), (λ non
 pub returns-in-None-clause-complete : goal.returns-in-None-clause-complete
 returns-in-None-clause-complete g c = not_possible (g.H.Shelf.names c.args.shelf.now) _ _ _ c.in-None.ensures.none
 
+pub returns-in-None-clause-headline : goal.returns-in-None-clause-headline
+returns-in-None-clause-headline g c = λ low. let three : c.told.result ≡ 3 = c.told.ensures.status in absurd (omega arith)
+
 -- ---- a command that is done
 
 pub returns-in-Ok-clause-done : goal.returns-in-Ok-clause-done
 returns-in-Ok-clause-done g c = λ low. (c.in-Ok.ensures.done _ c.in-Some.ensures.found).1
+
+pub returns-in-Ok-clause-headline : goal.returns-in-Ok-clause-headline
+returns-in-Ok-clause-headline g c = λ low. passed_holds _ _ _ _ _ c.in-Ok.status each_in_one_line (c.in-Ok.ensures.done _ c.in-Some.ensures.found).1
 
 pub returns-in-Ok-clause-ended : goal.returns-in-Ok-clause-ended
 returns-in-Ok-clause-ended g c = λ high. let low : c.in-Ok.status ≤ 2 = (c.in-Ok.ensures.done _ c.in-Some.ensures.found).0 in absurd (omega arith)
@@ -43,6 +51,9 @@ returns-in-Ok-clause-front g c = λ high. let low : c.in-Ok.status ≤ 2 = (c.in
 
 pub returns-in-Err-clause-done : goal.returns-in-Err-clause-done
 returns-in-Err-clause-done g c = λ low. let high : 4 ≤ c.ended.result = trouble_is_above _ _ _ c.ended.result c.in-Err.trouble c.ended.ensures.ended in absurd (omega arith)
+
+pub returns-in-Err-clause-headline : goal.returns-in-Err-clause-headline
+returns-in-Err-clause-headline g c = λ low. let high : 4 ≤ c.ended.result = trouble_is_above _ _ _ c.ended.result c.in-Err.trouble c.ended.ensures.ended in absurd (omega arith)
 
 pub returns-in-Err-clause-ended : goal.returns-in-Err-clause-ended
 returns-in-Err-clause-ended g c = λ status.
