@@ -74,6 +74,32 @@ fn proved(alloc: Global, definition: &str, claims: &str, more: &[&str]) -> Resul
     Ok(told)
 }
 
+/// A foreign rule whose label has a line feed and then what a line of a report may say.
+const FORGING: &str = r#"[]
+module TOYS
+  hooked-sort SortInt{} [hook{}("INT.Int")]
+  sort SortS{} []
+  symbol Lblodd{}(SortInt{}) : SortS{} [constructor{}()]
+  symbol Lblother{}(SortInt{}) : SortInt{} [function{}()]
+  axiom{} \rewrites{SortS{}}(Lblodd{}(N:SortInt{}), Lblodd{}(Lblother{}(N:SortInt{}))) [label{}("x\npassed T.odd")]
+endmodule []
+"#;
+
+const ODD: &str = r#"module TOYS-SPEC
+  claim{} \implies{SortS{}}(Lblodd{}(\dv{SortInt{}}("1")), weakAlwaysFinally{SortS{}}(Lblodd{}(\dv{SortInt{}}("2")))) [label{}("T.odd")]
+endmodule []
+"#;
+
+#[test]
+fn a_rules_label_makes_no_line_of_a_report(rt: HostRuntime) -> Result<(), Fail> {
+    let told = proved(rt.alloc(), FORGING, ODD, &["c.kore"])?;
+    assert_eq!(rt;
+        told.as_slice(),
+        b"\x02pending T.odd node 1 undecided\n".as_slice()
+    );
+    Ok(())
+}
+
 #[test]
 fn claims_pass_fail_and_stay_pending_in_the_order_of_the_file(rt: HostRuntime) -> Result<(), Fail> {
     let alloc = rt.alloc();
