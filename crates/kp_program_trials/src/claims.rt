@@ -74,7 +74,7 @@ fn proved(alloc: Global, definition: &str, claims: &str, more: &[&str]) -> Resul
     Ok(told)
 }
 
-/// A foreign rule whose label has a line feed and then what a line of a report may say.
+/// A foreign rule whose label has a line feed and then what a line of a report may say: it is no id.
 const FORGING: &str = r#"[]
 module TOYS
   hooked-sort SortInt{} [hook{}("INT.Int")]
@@ -95,7 +95,7 @@ fn a_rules_label_makes_no_line_of_a_report(rt: HostRuntime) -> Result<(), Fail> 
     let told = proved(rt.alloc(), FORGING, ODD, &["c.kore"])?;
     assert_eq!(rt;
         told.as_slice(),
-        b"\x02pending T.odd node 1 undecided\n".as_slice()
+        b"\x02pending T.odd node 1 foreign TOYS#1\n".as_slice()
     );
     Ok(())
 }
