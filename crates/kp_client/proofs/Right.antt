@@ -6,6 +6,8 @@ use Rattle.kp_semantics.specs.Instance.{Valuation, GivesSorts, AgreesOn}
 use Rattle.kp_semantics.specs.Theory.{Theory}
 use Rattle.kp_semantics.specs.Claims.{ReachabilityClaim}
 use Rattle.kp_semantics.specs.Arcs.{EdgeSays, CoverSays, StuckSays}
+use Rattle.kp_semantics.specs.Implied.{DoesImply, HasCounterexample, IsRightImplied}
+use Rattle.kp_semantics.specs.Implied as sides
 use Rattle.kp_semantics.specs.Replies as replies
 use Rattle.kp_semantics.specs.Replies.{After, IsAfter, IsRightReason, IsRightExecuted, variables_beyond, HasInstance}
 use Rattle.serde_json.specs.Data.{unsigned, negative, float}
@@ -13,7 +15,7 @@ use Rattle.kp_rpc.specs.Request.{RequestId, id_text, id_number, id_null, Execute
 use Rattle.kp_rpc.specs.Questions.{IsReadBack}
 use Rattle.kp_rpc.specs.Reply.{ExecuteResult, ImpliesResult, IsStatePattern, not_valid, valid}
 use Rattle.kp_rpc.specs.Replied.{execute, implies, executed, implied, IsReadId}
-use Rattle.kp_rpc.specs.Implications.{DoesImply, IsMainAsked, IsRightImplied}
+use Rattle.kp_rpc.specs.Implications.{IsMainAsked, implied_by}
 use Rattle.kp_client.specs.Links.{Exchange, ToldTheory, IsRightExchange, IsRightRun, AsksForRun, AsksForImplication}
 use Rattle.kp_client.specs.Rounds.{IsGivenId, cover_question, step_question, Tells}
 use Rattle.kp_rpc.proofs.QuestionsRead.{execute_read, implies_read}
@@ -41,23 +43,23 @@ cover_from_implied t claim s closed does v c left sorts met = record {
   chosen = v;
   agrees = agrees_with_itself (free_variables claim.left) v;
   sorts = no_sorts_asked t v (free_variables claim.right) closed;
-  met = does v c sorts (no_sorts_asked t v (free_variables claim.right) closed) met;
+  met = does v c (sorts, (no_sorts_asked t v (free_variables claim.right) closed, tt)) met;
 }
 
 -- what the server took for its request is the question
-implied_is_right : (t : ToldTheory) (claim : ReachabilityClaim) (s : KorePattern) (e : Exchange) (x : ImpliesResult) → IsReadBack s → IsReadBack claim.right → IsRightExchange t e → Tells (cover_question claim s) implies e (implied x) → IsRightImplied t.theory.signature s claim.right x
+implied_is_right : (t : ToldTheory) (claim : ReachabilityClaim) (s : KorePattern) (e : Exchange) (x : ImpliesResult) → IsReadBack s → IsReadBack claim.right → IsRightExchange t e → Tells (cover_question claim s) implies e (implied x) → IsRightImplied t.theory.signature s claim.right (implied_by x)
 implied_is_right t claim s e x back back' right tells =
     let q : ImpliesRequest = record { id = tells.number; antecedent = s; consequent = claim.right; module_name = None } in
     let a : AsksForImplication t e.frame x = right.implies_so x tells.told in
     let same : a.request ≡ q = implies_read q a.request tells.asked.0 a.members e.frame (given_read tells.number tells.lawful, back, back') tells.asked.1 tells.asked.2 a.is_frame a.is_request in
-    subst (λ (r : ImpliesRequest). IsMainAsked t.main r.module_name → IsRightImplied t.theory.signature r.antecedent r.consequent x) same a.right tt
+    subst (λ (r : ImpliesRequest). IsMainAsked t.main r.module_name → IsRightImplied t.theory.signature r.antecedent r.consequent (implied_by x)) same a.right tt
 
 pub cover_is_right : (t : ToldTheory) (claim : ReachabilityClaim) (s : KorePattern) (e : Exchange) (p q : KorePattern) → free_variables claim.right ≡ [] → IsReadBack s → IsReadBack claim.right → IsRightExchange t e → Tells (cover_question claim s) implies e (implied (valid p q)) → CoverSays t.theory claim s
 cover_is_right t claim s e p q closed back back' right tells =
-    let h : IsRightImplied t.theory.signature s claim.right (valid p q) = implied_is_right t claim s e (valid p q) back back' right tells in
+    let h : IsRightImplied t.theory.signature s claim.right (sides.valid p q) = implied_is_right t claim s e (valid p q) back back' right tells in
     cover_from_implied t.theory claim s closed h.0
 
-pub uncovered_is_right : (t : ToldTheory) (claim : ReachabilityClaim) (s : KorePattern) (e : Exchange) → IsReadBack s → IsReadBack claim.right → IsRightExchange t e → Tells (cover_question claim s) implies e (implied not_valid) → ¬ DoesImply t.theory.signature s claim.right
+pub uncovered_is_right : (t : ToldTheory) (claim : ReachabilityClaim) (s : KorePattern) (e : Exchange) → IsReadBack s → IsReadBack claim.right → IsRightExchange t e → Tells (cover_question claim s) implies e (implied not_valid) → HasCounterexample t.theory.signature s claim.right
 uncovered_is_right t claim s e back back' right tells = implied_is_right t claim s e not_valid back back' right tells
 
 -- ---- steps

@@ -4,6 +4,7 @@ use Rattle.std.specs.List.{AllByRecursion}
 use Rattle.kp_kore.specs.Parts.{free_variables}
 use Rattle.kp_semantics.specs.Claims.{ReachabilityClaim, Holds}
 use Rattle.kp_semantics.specs.Arcs.{StuckSays}
+use Rattle.kp_semantics.specs.Implied.{HasCounterexample}
 use Rattle.kp_graph.specs.Tree as graph
 use Rattle.kp_graph.specs.Tree.{ProofNode, HeldBy, node_at, arc_fault, with_arc}
 use Rattle.kp_graph.specs.Says.{TreeSays}
@@ -12,7 +13,6 @@ use Rattle.kp_graph.proofs.Opened.{Opened, opened, changes, get_placed}
 use Rattle.kp_graph.proofs.SaidLemmas.{new_says, cover_says, stuck_says, hold_says, plain_edge_says}
 use Rattle.kp_graph.proofs.SaysLemmas.{passed_holds_closed}
 use Rattle.kp_rpc.specs.Questions.{IsReadBack}
-use Rattle.kp_rpc.specs.Implications.{DoesImply}
 use Rattle.kp_client.specs.Links.{Exchange, ToldTheory, LinkState, IsRightExchange, Serves}
 use Rattle.kp_client.specs.Rounds.{ProofOutcome, passed, failed_at, pending_at, refused_with, RoundEnd, goes_on, ends, Stepping, Round, Rounds, none_yet, one_more, Proves, in_round, after_rounds, all_covered, some_held, most_rounds}
 use Rattle.kp_client.specs.Rounds as rounds
@@ -55,7 +55,7 @@ says_proves t claim depth es tree outcome fits closed back right (some_held k be
 
 -- ---- a proof that fails
 
-stuck_at : (t : ToldTheory) (claim : ReachabilityClaim) (tree : List ProofNode) (n : ℕ) (x : ProofNode) → arc_fault tree n ≡ None → node_at tree n ≡ Some x → StuckSays t.theory x.state → ¬ DoesImply t.theory.signature x.state claim.right → IsStuckAt t.theory claim (with_arc n graph.stuck tree) n
+stuck_at : (t : ToldTheory) (claim : ReachabilityClaim) (tree : List ProofNode) (n : ℕ) (x : ProofNode) → arc_fault tree n ≡ None → node_at tree n ≡ Some x → StuckSays t.theory x.state → HasCounterexample t.theory.signature x.state claim.right → IsStuckAt t.theory claim (with_arc n graph.stuck tree) n
 stuck_at t claim tree n x free at final uncovered =
     let o : Opened tree n = opened tree n free in
     let both : Some x ≡ Some o.node = sym at ∙ at_place tree n o.place o.number ∙ o.at in
@@ -69,7 +69,7 @@ stuck_at t claim tree n x free at final uncovered =
       at = there;
       arc = refl;
       final = subst (StuckSays t.theory) same final;
-      uncovered = subst (λ s. ¬ DoesImply t.theory.signature s claim.right) same uncovered;
+      uncovered = subst (λ s. HasCounterexample t.theory.signature s claim.right) same uncovered;
     }
 
 -- what the end of a round says where the proof fails
@@ -77,7 +77,7 @@ abbrev FailsAt : ToldTheory → ReachabilityClaim → RoundEnd → ℕ → Type 
 FailsAt t claim (goes_on tree) m = Unit {0}
 FailsAt t claim (ends tree outcome) m = outcome ≡ failed_at m → IsStuckAt t.theory claim tree m
 
-fails_stepping : (t : ToldTheory) (claim : ReachabilityClaim) (depth : ℕ) (tree : List ProofNode) (n : ℕ) (x : ProofNode) (es : List Exchange) (end : RoundEnd) (m : ℕ) → depth < 2 ^ 64 → IsReadBack x.state → arc_fault tree n ≡ None → node_at tree n ≡ Some x → AllByRecursion (IsRightExchange t) es → ¬ DoesImply t.theory.signature x.state claim.right → Stepping depth tree n x.state es end → FailsAt t claim end m
+fails_stepping : (t : ToldTheory) (claim : ReachabilityClaim) (depth : ℕ) (tree : List ProofNode) (n : ℕ) (x : ProofNode) (es : List Exchange) (end : RoundEnd) (m : ℕ) → depth < 2 ^ 64 → IsReadBack x.state → arc_fault tree n ≡ None → node_at tree n ≡ Some x → AllByRecursion (IsRightExchange t) es → HasCounterexample t.theory.signature x.state claim.right → Stepping depth tree n x.state es end → FailsAt t claim end m
 fails_stepping t claim depth tree n x es end m fits back free at right un (rounds.edge e r beyond tells d p l) = tt
 fails_stepping t claim depth tree n x es end m fits back free at right un (rounds.too_many e r tells d l) = λ o. absurd (cc)
 fails_stepping t claim depth tree n x es end m fits back free at right un (rounds.stuck e r tells d w) = λ o.

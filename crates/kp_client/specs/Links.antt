@@ -7,12 +7,13 @@ use Rattle.serde_json.specs.Written.{compact_text}
 use Rattle.kp_kore.specs.Syntax.{Text, KorePattern}
 use Rattle.kp_semantics.specs.Theory.{Theory}
 use Rattle.kp_semantics.specs.Replies.{IsRightExecuted}
+use Rattle.kp_semantics.specs.Implied.{IsRightImplied}
 use Rattle.kp_rpc.specs.Frame.{IsFrame}
 use Rattle.kp_rpc.specs.Request.{ExecuteRequest, IsExecute, ImpliesRequest, IsImplies, bound_of}
 use Rattle.kp_rpc.specs.Questions.{Question, question_tree}
 use Rattle.kp_rpc.specs.Reply.{ExecuteResult, ImpliesResult, IsStatePattern}
 use Rattle.kp_rpc.specs.Replied.{execute, executed, implies, implied, IsReplyOf}
-use Rattle.kp_rpc.specs.Implications.{IsMainAsked, IsRightImplied}
+use Rattle.kp_rpc.specs.Implications.{IsMainAsked, implied_by}
 
 -- a frame, and the line that replied to it
 pub record Exchange : Type 0 where
@@ -56,7 +57,7 @@ pub record AsksForImplication (t : ToldTheory) (frame : List ℕ) (x : ImpliesRe
   pub request : ImpliesRequest
   pub is_frame : IsFrame frame (object members)
   pub is_request : IsImplies members request
-  pub right : IsMainAsked t.main request.module_name → IsRightImplied t.theory.signature request.antecedent request.consequent x
+  pub right : IsMainAsked t.main request.module_name → IsRightImplied t.theory.signature request.antecedent request.consequent (implied_by x)
 
 -- a reply tells a result only of a request, and the result is right for that request
 pub record IsRightExchange (t : ToldTheory) (e : Exchange) : Type 0 where

@@ -5,9 +5,9 @@ use Rattle.kp_kore.specs.Parts.{free_variables}
 use Rattle.kp_semantics.specs.Theory.{Theory}
 use Rattle.kp_semantics.specs.Claims.{ReachabilityClaim}
 use Rattle.kp_semantics.specs.Arcs.{StuckSays}
+use Rattle.kp_semantics.specs.Implied.{HasCounterexample}
 use Rattle.kp_graph.specs.Tree.{ProofNode, node_at, stuck}
 use Rattle.kp_rpc.specs.Questions.{IsReadBack}
-use Rattle.kp_rpc.specs.Implications.{DoesImply}
 
 -- no side has a variable
 pub record IsGround (claim : ReachabilityClaim) : Type 0 where
@@ -19,10 +19,10 @@ pub record AreReadBack (claim : ReachabilityClaim) : Type 0 where
   pub left : IsReadBack claim.left
   pub right : IsReadBack claim.right
 
--- node n is stuck: each instance of its state is final, and not each is one of the claim's right side
+-- node n is stuck: each instance of its state is final, and some instance is none of the claim's right side
 pub record IsStuckAt (t : Theory) (claim : ReachabilityClaim) (tree : List ProofNode) (n : ℕ) : Type 0 where
   pub node : ProofNode
   pub at : node_at tree n ≡ Some node
   pub arc : node.arc ≡ Some stuck
   pub final : StuckSays t node.state
-  pub uncovered : ¬ DoesImply t.signature node.state claim.right
+  pub uncovered : HasCounterexample t.signature node.state claim.right

@@ -8,6 +8,7 @@ pub mod Opened
 pub mod PathLemmas
 pub mod PendingLemmas
 pub mod Places
+pub mod RowLemmas
 pub mod SaidLemmas
 pub mod SaysLemmas
 pub mod ShapeLemmas

@@ -77,7 +77,8 @@ impl From<AllocError> for TreeFault {
     }
 }
 
-/// A node as it is kept, with whether the path from node 1 to it has a step that is progress.
+/// A node as it is kept, with whether the path from node 1 to it has a step that is progress. So many nodes right behind
+/// it are known not to be open; where such a row ends here, so many nodes before this one it begins.
 #[derive(Drop)]
 pub struct Node {
     pub state: Pattern,
@@ -86,4 +87,6 @@ pub struct Node {
     pub arc: Option<TreeArc>,
     pub held: Option<Why>,
     pub progress: bool,
+    pub closed_behind: usize,
+    pub row_before: usize,
 }

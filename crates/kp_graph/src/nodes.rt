@@ -1,9 +1,9 @@
 // The nodes of a tree, as they are kept.
-ghost use Rattle.std.specs.Prelude.{◌≡◌, ◌↔◌, IsTrue, ◌+◌, ◌<◌, ◌≤◌, ◌||◌, ◌∷◌, [], length, map, Some, None, IfOk, IfErr, OnOk, OnErr, false};
+ghost use Rattle.std.specs.Prelude.{◌≡◌, ◌↔◌, IsTrue, ◌+◌, ◌<◌, ◌≤◌, ◌||◌, ◌∷◌, [], length, map, drop, ◌-◌, Some, None, IfOk, IfErr, OnOk, OnErr, false, true};
 ghost use Rattle.kp_kore.specs.View.{view};
 ghost use Rattle.kp_semantics.specs.ClaimRules.{is_progress};
-ghost use Rattle.kp_graph.specs.Tree.{edge, split, branch, arc_fault, children_fault, open_node, numbers_from, with_arc, with_hold, with_children, is_open as is_open_node};
-ghost use Rattle.kp_graph.specs.Kept.{before_open};
+ghost use Rattle.kp_graph.specs.Tree.{edge, split, branch, arc_fault, children_fault, open_node, open_from, numbers_from, with_arc, with_hold, with_children, is_open as is_open_node};
+ghost use Rattle.kp_graph.specs.Kept.{before_open, are_closed, pass_closed};
 ghost use Rattle.kp_graph.specs.View.{node_view, nodes_view, arc_view, why_view, rule_view, child_view};
 
 use crate::node::{Child, Node, NodeId, TreeArc, TreeFault, Why};
@@ -95,7 +95,8 @@ pub fn branch_to(rules: Vec<Option<String>>, first: NodeId) -> TreeArc
 
 /// An open node with this state and parent.
 pub fn new_node(state: Pattern, parent: NodeId, flagged: bool, progress: bool) -> Node
-    ensures { node_view result ≡ open_node parent.number (view state) flagged progress }
+    ensures open { node_view result ≡ open_node parent.number (view state) flagged progress }
+    ensures alone { result.closed_behind ≡ 0 }
 {
     Node {
         state,
@@ -104,6 +105,8 @@ pub fn new_node(state: Pattern, parent: NodeId, flagged: bool, progress: bool) -
         arc: None,
         held: None,
         progress,
+        closed_behind: 0,
+        row_before: 0,
     }
 }
 
@@ -115,6 +118,7 @@ pub fn branch_nodes(
     progress: bool,
 ) -> Result<(Vec<Node>, Vec<Option<String>>), AllocError>
     ensures nodes { IfOk result (λ r. nodes_view r.0.items ≡ map (λ k. open_node parent.number k.state false (progress || is_progress k.rule)) (map child_view children.items)) }
+    ensures alone { IfOk result (λ r. map (λ z. z.closed_behind) r.0.items ≡ map (λ k. 0) children.items) }
     ensures rules { IfOk result (λ r. map rule_view r.1.items ≡ map (λ k. k.rule) (map child_view children.items)) }
 {
     let mut nodes = Vec::new(alloc);
@@ -134,7 +138,8 @@ pub fn part_nodes(
     parent: NodeId,
     progress: bool,
 ) -> Result<Vec<Node>, AllocError>
-    ensures { IfOk result (λ zs. nodes_view zs.items ≡ map (λ s. open_node parent.number s false progress) (map view states.items)) }
+    ensures alone { IfOk result (λ zs. map (λ z. z.closed_behind) zs.items ≡ map (λ s. 0) states.items) }
+    ensures nodes { IfOk result (λ zs. nodes_view zs.items ≡ map (λ s. open_node parent.number s false progress) (map view states.items)) }
 {
     let mut nodes = Vec::new(alloc);
     for state in states {
@@ -171,7 +176,10 @@ pub fn add_one(
     arc: TreeArc,
     child: Node,
 ) -> Result<(), AllocError>
-    requires { place < length nodes.old.items }
+    requires within { place < length nodes.old.items }
+    requires pass { pass_closed nodes.old.items ≡ true }
+    requires alone { child.closed_behind ≡ 0 }
+    ensures pass { OnOk result (pass_closed nodes.new.items ≡ true) }
     ensures added { OnOk result (nodes_view nodes.new.items ≡ with_children (place + 1) (arc_view arc) (node_view child ∷ []) (nodes_view nodes.old.items)) }
     ensures unchanged { OnErr result (nodes.new.items ≡ nodes.old.items) }
 {
@@ -187,7 +195,10 @@ pub fn add_all(
     arc: TreeArc,
     children: Vec<Node>,
 ) -> Result<(), AllocError>
-    requires { place < length nodes.old.items }
+    requires within { place < length nodes.old.items }
+    requires pass { pass_closed nodes.old.items ≡ true }
+    requires passing { pass_closed children.items ≡ true }
+    ensures pass { OnOk result (pass_closed nodes.new.items ≡ true) }
     ensures added { OnOk result (nodes_view nodes.new.items ≡ with_children (place + 1) (arc_view arc) (nodes_view children.items) (nodes_view nodes.old.items)) }
     ensures unchanged { OnErr result (nodes.new.items ≡ nodes.old.items) }
 {
@@ -199,18 +210,69 @@ pub fn add_all(
 
 /// Gives the node at this place an arc.
 pub fn give_arc(nodes: &mut [Node], place: usize, arc: TreeArc)
-    requires { place < length nodes.old }
-    ensures { nodes_view nodes.new ≡ with_arc (place + 1) (arc_view arc) (nodes_view nodes.old) }
+    requires within { place < length nodes.old }
+    requires pass { pass_closed nodes.old ≡ true }
+    ensures arc { nodes_view nodes.new ≡ with_arc (place + 1) (arc_view arc) (nodes_view nodes.old) }
+    ensures pass { pass_closed nodes.new ≡ true }
 {
     nodes[place].arc = Some(arc);
+    join_rows(nodes, place);
 }
 
 /// Holds the node at this place.
 pub fn hold_node(nodes: &mut [Node], place: usize, why: Why)
-    requires { place < length nodes.old }
-    ensures { nodes_view nodes.new ≡ with_hold (place + 1) (why_view why) (nodes_view nodes.old) }
+    requires within { place < length nodes.old }
+    requires pass { pass_closed nodes.old ≡ true }
+    ensures held { nodes_view nodes.new ≡ with_hold (place + 1) (why_view why) (nodes_view nodes.old) }
+    ensures pass { pass_closed nodes.new ≡ true }
 {
     nodes[place].held = Some(why);
+    join_rows(nodes, place);
+}
+
+/// Lets the row of closed nodes before a node that isn't open go on with it and those behind it.
+fn join_rows(nodes: &mut [Node], place: usize)
+    requires closed { are_closed 1 (drop place (nodes_view nodes.old)) ≡ true }
+    requires pass { pass_closed nodes.old ≡ true }
+    ensures same { nodes_view nodes.new ≡ nodes_view nodes.old }
+    ensures pass { pass_closed nodes.new ≡ true }
+{
+    let start = row_start(nodes, place);
+    let behind = row_end(nodes, place) - start;
+    nodes[start].closed_behind = behind;
+    nodes[start + behind].row_before = behind;
+}
+
+/// The node behind which the row of closed ones up to this one begins, or this one.
+fn row_start(nodes: &[Node], place: usize) -> usize
+    requires closed { are_closed 1 (drop place (nodes_view nodes.now)) ≡ true }
+    requires pass { pass_closed nodes.now ≡ true }
+    ensures before { result ≤ place }
+    ensures row { are_closed (place - result) (drop (result + 1) (nodes_view nodes.now)) ≡ true }
+{
+    if place == 0 {
+        return place;
+    }
+    let row = nodes[place - 1].row_before;
+    if row >= place {
+        return place;
+    }
+    if nodes[place - 1 - row].closed_behind != row {
+        return place;
+    }
+    place - 1 - row
+}
+
+/// The last of the closed nodes behind this one.
+pub fn row_end(nodes: &[Node], place: usize) -> usize
+    requires within { place < length nodes.now }
+    requires pass { pass_closed nodes.now ≡ true }
+    ensures behind { place ≤ result }
+    ensures within { result < length nodes.now }
+    ensures row { are_closed (result - place) (drop (place + 1) (nodes_view nodes.now)) ≡ true }
+    ensures passed { open_from (result + 1 + 1) (drop (result + 1) (nodes_view nodes.now)) ≡ open_from (place + 1 + 1) (drop (place + 1) (nodes_view nodes.now)) }
+{
+    place + nodes[place].closed_behind
 }
 
 /// How many nodes stand before the first open one, of which this many are known.

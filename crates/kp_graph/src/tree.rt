@@ -1,12 +1,13 @@
-ghost use Rattle.std.specs.Prelude.{◌≡◌};
+ghost use Rattle.std.specs.Prelude.{◌≡◌, true};
 ghost use Rattle.kp_graph.specs.Tree.{IsTree};
-ghost use Rattle.kp_graph.specs.Kept.{before_open, some_failed as fails, unsettled as count_unsettled};
+ghost use Rattle.kp_graph.specs.Kept.{before_open, pass_closed, some_failed as fails, unsettled as count_unsettled};
 ghost use Rattle.kp_graph.specs.View.{nodes_view};
 
 use crate::node::{Child, Node, NodeId, TreeArc, TreeFault, Why};
 use crate::nodes::{
     add_all, add_one, branch_nodes, branch_to, edge_to, either_failed, give_arc, hold_node,
-    is_open, new_node, next_open, open_place, part_nodes, room_at, split_to, unsettled_after,
+    is_open, new_node, next_open, open_place, part_nodes, room_at, row_end, split_to,
+    unsettled_after,
 };
 use crate::status::Status;
 use kp_kore::Pattern;
@@ -22,6 +23,7 @@ pub struct Tree {
     unsettled: usize,
     ghost shape: { IsTree (nodes_view nodes.items) },
     ghost first_open: { closed_before ≡ before_open (nodes_view nodes.items) },
+    ghost pass: { pass_closed nodes.items ≡ true },
     ghost some_failed: { failed ≡ fails (nodes_view nodes.items) },
     ghost counted: { unsettled ≡ count_unsettled (nodes_view nodes.items) },
 }
@@ -50,6 +52,8 @@ impl Tree {
             arc: None,
             held: None,
             progress: false,
+            closed_behind: 0,
+            row_before: 0,
         })?;
         Ok(Tree {
             nodes,
@@ -213,7 +217,7 @@ impl Tree {
             if is_open(&self.nodes[place]) {
                 pending.push(NodeId { number: place + 1 })?;
             }
-            place += 1;
+            place = row_end(&self.nodes, place) + 1;
         }
         Ok(pending)
     }

@@ -8,8 +8,8 @@ use Rattle.kp_text.proofs.CompleteModules.{one_definition}
 use Rattle.kp_text.proofs.FirstFaults.{not_definition_and_fault}
 use Rattle.kp_modules.specs.Faults.{HasNoFault, IsFirstFault}
 use Rattle.kp_program.specs.Faults.{too_long, in_text, in_modules, in_claims, IsFileFault, IsFaultless}
-use Rattle.kp_program.specs.Statuses.{Ending, memory, status_of, line_of, IsCause, Tells}
-use Rattle.kp_program.specs.Troubles.{EndsAs, IsAbsent, IsFaulty, IsLate, ending_of}
+use Rattle.kp_program.specs.Statuses.{Ending, memory, exit_status, line_of, IsCause, Tells}
+use Rattle.kp_program.specs.Troubles.{EndsAs, IsFileAbsent, IsFaulty, IsLate, ending_of}
 use Rattle.kp_program.specs.Words.{NamesDefinition}
 use Rattle.kp_program.specs.declared.trouble.Trouble.{Trouble}
 use Rattle.kp_program.specs.declared.trouble.Trouble.TheVariants as trouble
@@ -78,7 +78,7 @@ late_cause names words a b (trouble.NoFile n) h late = absurd late
 late_cause names words a b trouble.Outside h late = h late
 late_cause names words a b trouble.Memory h late = tt
 
-pub late_status : (failed : Type 0) (t : Trouble) → IsLate failed t → status_of (ending_of t) ≤ 5 → ⊥
+pub late_status : (failed : Type 0) (t : Trouble) → IsLate failed t → exit_status (ending_of t) ≤ 5 → ⊥
 late_status failed (trouble.File n f) late low = late
 late_status failed (trouble.NoFile n) late low = late
 late_status failed trouble.Outside late low = absurd (omega arith)
@@ -87,7 +87,7 @@ late_status failed trouble.Memory late low = absurd (omega arith)
 -- ---- lines
 
 pub ends_as : (e : Ending) (failed : Type 0) (before after : Option (List ℕ)) (line : Result (String Global) AllocError) (status : ℕ) →
-    IfOk line (λ made. string_bytes made ≡ line_of e) → IfOk line (λ made. (status ≡ status_of e) × Tells failed before after (string_bytes made))
+    IfOk line (λ made. string_bytes made ≡ line_of e) → IfOk line (λ made. (status ≡ exit_status e) × Tells failed before after (string_bytes made))
     → IfErr line (λ _. (status ≡ 7) × Tells failed before after (line_of memory)) → EndsAs e failed before after status
 ends_as e failed before after (Ok made) status is told lost = inl (told.0, subst (λ (x : List ℕ). Tells failed before after x) is told.1)
 ends_as e failed before after (Err x) status is told lost = inr lost
@@ -98,7 +98,7 @@ ends_at t u e same is failed before after status ends = subst (λ (x : Ending). 
 
 -- there is no file of this name
 pub absent_cause : (names : Option Names) (words : List (List ℕ)) (failed : Type 0) (name main : List ℕ) (t : Trouble) →
-    IfSome names (λ held. held name ≡ None) → NamesDefinition words name main → IsAbsent name t → IsCause names words failed (ending_of t)
+    IfSome names (λ held. held name ≡ None) → NamesDefinition words name main → IsFileAbsent name t → IsCause names words failed (ending_of t)
 absent_cause names words failed name main (trouble.File n f) nowhere named told = absurd told
 absent_cause names words failed name main (trouble.NoFile n) nowhere named told = inl (
   main,

@@ -3,12 +3,14 @@ use Rattle.std.proofs.Common.{◌≡◌, ◌<◌, ◌≤◌, ◌^◌, ◌++◌, 
 use Rattle.serde_json.specs.Data.{Data, object, Members}
 use Rattle.kp_kore.specs.Syntax.{Text, KoreSort, KorePattern, top, bottom}
 use Rattle.kp_kore.specs.Parts.{is_term}
+use Rattle.kp_semantics.specs.Implied.{IsCondition, witnessed, vacuous, IsRightImplied}
 use Rattle.kp_semantics.specs.Replies.{IsRightExecuted}
+use Rattle.kp_semantics.specs.Rules.{top_binders}
 use Rattle.kp_semantics.specs.Theory.{Theory}
 use Rattle.kp_states.specs.Spelled.{no_term}
 use Rattle.kp_states.proofs.SpelledForms.{spelling_term}
 use Rattle.kp_rpc.specs.Frame.{IsFrame}
-use Rattle.kp_rpc.specs.Implications.{bound_variables, IsCondition, witnessed, vacuous, IsRightImplied}
+use Rattle.kp_rpc.specs.Implications.{implied_by}
 use Rattle.kp_rpc.specs.Questions.{IsReadBack}
 use Rattle.kp_rpc.specs.Replied.{IsReadId}
 use Rattle.kp_rpc.specs.Reply.{ExecuteResult, ImpliesResult, not_valid, valid, IsStatePattern, RequestError, error_reply, result_reply, reply_bytes}
@@ -101,19 +103,19 @@ is_true true h = refl
 is_true false h = absurd (h refl)
 
 -- the consequent is a term, so it binds nothing
-binds_none : (s : Setting) (name : Option Text) (a c : KorePattern) (sort other : KoreSort) → ¬ IsImpliesUntold s name a c sort other → bound_variables c ≡ []
+binds_none : (s : Setting) (name : Option Text) (a c : KorePattern) (sort other : KoreSort) → ¬ IsImpliesUntold s name a c sort other → top_binders c ≡ []
 binds_none s name a c sort other told = (binds_nothing c (is_true (is_term c) (λ h. told (no_consequent (no_term h))))).variables
 
 read_back_at : (p q : KorePattern) → p ≡ q → IsReadBack q → IsReadBack p
 read_back_at p q same h = subst IsReadBack (sym same) h
 
-condition_read_back : (s : Setting) (a c p q : KorePattern) → bound_variables c ≡ [] → IsCondition s.theory.signature a c p q → IsResultReadBack (valid p q)
-condition_read_back s a c p q none (witnessed k sorted sorted_too has is witness substitution) =
+condition_read_back : (s : Setting) (a c p q : KorePattern) → top_binders c ≡ [] → IsCondition s.theory.signature a c p q → IsResultReadBack (valid p q)
+condition_read_back s a c p q none (witnessed k sorted has is witness substitution) =
     (read_back_at p (top k) is (top_back k), read_back_at q (top k) (substitution none) (top_back k))
-condition_read_back s a c p q none (vacuous k sorted sorted_too has is substitution) =
+condition_read_back s a c p q none (vacuous k sorted has is substitution) =
     (read_back_at p (bottom k) is (bottom_back k), read_back_at q (top k) substitution (top_back k))
 
-result_read_back : (s : Setting) (a c : KorePattern) (x : ImpliesResult) → bound_variables c ≡ [] → IsRightImplied s.theory.signature a c x → IsResultReadBack x
+result_read_back : (s : Setting) (a c : KorePattern) (x : ImpliesResult) → top_binders c ≡ [] → IsRightImplied s.theory.signature a c (implied_by x) → IsResultReadBack x
 result_read_back s a c not_valid none right = tt
 result_read_back s a c (valid p q) none right = condition_read_back s a c p q none right.1
 
@@ -132,7 +134,7 @@ implies_answered s frame line d reply is_frame r is =
         request = r.request;
         is_frame = subst (λ (e : Data). IsFrame frame e) r.tree is_frame;
         is_request = r.is_request;
-        right = λ asked. subst (λ (z : ImpliesResult). IsRightImplied s.theory.signature a c z) (sym (implication_told r.request.id x y r.right.tree line lawful back r.right.written made h)) r.right.right;
+        right = λ asked. subst (λ (z : ImpliesResult). IsRightImplied s.theory.signature a c (implied_by z)) (sym (implication_told r.request.id x y r.right.tree line lawful back r.right.written made h)) r.right.right;
       };
     }
 

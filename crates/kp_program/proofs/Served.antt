@@ -12,7 +12,7 @@ use Rattle.kp_rpc.specs.Frame.{IsFrame, IsWhite, most_frame}
 use Rattle.kp_rpc.specs.Request.{id_null}
 use Rattle.kp_rpc.specs.Reply.{error_reply, parse_error, reply_bytes}
 use Rattle.kp_program.specs.Inputs.{AnswersInput, IsTableOf, IsReplyToRead, written}
-use Rattle.kp_program.specs.Served.{Serves}
+use Rattle.kp_program.specs.Served.{ServesFile}
 use Rattle.kp_server.specs.Right.{IsSilence, Answers, IsLine}
 use Rattle.kp_server.specs.Setting.{Setting}
 
@@ -45,7 +45,7 @@ input_of t left (Err load.Failed) reply Gains whole within long h gains = absurd
 input_of t left (Err load.Memory) reply Gains whole within long h gains = absurd h
 
 pub serves : (names : Option Names) (left : Option (List ℕ)) (Gains : List ℕ → Type 0) (name main file : List ℕ) (table : Table) →
-    IfSome names (λ held. held name ≡ Some file) → (is : IsTableOf file main table) → AnswersInput is.setting left Gains → Serves names left Gains name main
+    IfSome names (λ held. held name ≡ Some file) → (is : IsTableOf file main table) → AnswersInput is.setting left Gains → ServesFile names left Gains name main
 serves names left Gains name main file table there is input = record {
   file = file;
   taken = input.taken;
@@ -57,7 +57,7 @@ serves names left Gains name main file table there is input = record {
 }
 
 pub serves_front : (names : Option Names) (left : Option (List ℕ)) (Same : Type 0) (Gains : List ℕ → Type 0) (name main file : List ℕ) (table : Table) →
-    IfSome names (λ held. held name ≡ Some file) → (is : IsTableOf file main table) → Same ⊎ AnswersInput is.setting left Gains → Same ⊎ Serves names left Gains name main
+    IfSome names (λ held. held name ≡ Some file) → (is : IsTableOf file main table) → Same ⊎ AnswersInput is.setting left Gains → Same ⊎ ServesFile names left Gains name main
 serves_front names left Same Gains name main file table there is (inl same) = inl same
 serves_front names left Same Gains name main file table there is (inr input) = inr (serves names left Gains name main file table there is input)
 

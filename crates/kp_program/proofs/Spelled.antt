@@ -8,12 +8,12 @@ use Rattle.kp_text.specs.Spelling.{SpellsDefinition}
 use Rattle.kp_text.proofs.CompleteModules.{one_definition}
 use Rattle.kp_program.specs.Commands.{IsCommand, prove_view}
 use Rattle.kp_program.specs.Does.{BeginsWords}
-use Rattle.kp_program.specs.Served.{Serves}
+use Rattle.kp_program.specs.Served.{ServesFile}
 use Rattle.kp_program.specs.declared.command.Command.{Command}
 use Rattle.kp_program.specs.declared.command.Command.TheVariants as command
 use Rattle.kp_program.specs.Faults.{FileFault, IsFileFault, IsClaimsFault}
 use Rattle.kp_program.specs.Loaded.{IsLoaded}
-use Rattle.kp_program.specs.Statuses.{Ending, usage, memory, status_of, IsCause, IsEnded, IsFaultyDefinition, AreClaimsOf, AreFaultyClaims, IsNowhere, IsServable, IsProvable, IsPossible, Tells}
+use Rattle.kp_program.specs.Statuses.{Ending, usage, memory, exit_status, IsCause, IsEnded, IsFaultyDefinition, AreClaimsOf, AreFaultyClaims, IsNowhere, IsServable, IsProvable, IsPossible, Tells}
 use Rattle.kp_program.specs.Troubles.{EndsAs, file_fault_view, ending_of}
 use Rattle.kp_program.specs.Words.{ProveWords, SpellsStdio, SpellsProve, SpellsSome, NamesDefinition, prove_words}
 use Rattle.kp_program.specs.declared.trouble.Trouble.{Trouble}
@@ -69,7 +69,7 @@ command_spells words (command.Prove c) is = inr (prove_view c, is)
 
 -- what was served of the input's answer is what the words say
 pub begins_serving : (names : Option Names) (left : Option (List ℕ)) (Same : Type 0) (Gains : List ℕ → Type 0) (words : List (List ℕ)) (name main : List ℕ) → SpellsStdio words name main →
-    Same ⊎ Serves names left Gains name main → Same ⊎ BeginsWords names left Gains words
+    Same ⊎ ServesFile names left Gains name main → Same ⊎ BeginsWords names left Gains words
 begins_serving names left Same Gains words name main spelled (inl same) = inl same
 begins_serving names left Same Gains words name main spelled (inr served) = inr (0, inl ((name, main, spelled, served), refl))
 
@@ -90,7 +90,7 @@ trouble_is_told names words failed untold before after status t because (inl x) 
 trouble_is_told names words failed untold before after status t because (inr x) = record { ending = memory; status_is = x.0; because = tt; told = x.1 }
 
 -- no trouble has the status of words that are no command, or of an input that was served
-above_usage : (t : Trouble) → 4 ≤ status_of (ending_of t)
+above_usage : (t : Trouble) → 4 ≤ exit_status (ending_of t)
 above_usage (trouble.File name fault) = omega arith
 above_usage (trouble.NoFile name) = omega arith
 above_usage trouble.Outside = omega arith
@@ -101,13 +101,13 @@ trouble_is_above untold before after status t (inl x) = let a = above_usage t in
 trouble_is_above untold before after status t (inr x) = let e = x.0 in omega arith
 
 -- a status below that of want of memory is the trouble's own
-pub own_status : (e : Ending) (untold : Type 0) (before after : Option (List ℕ)) (status : ℕ) → EndsAs e untold before after status → status ≤ 5 → status_of e ≤ 5
+pub own_status : (e : Ending) (untold : Type 0) (before after : Option (List ℕ)) (status : ℕ) → EndsAs e untold before after status → status ≤ 5 → exit_status e ≤ 5
 own_status e untold before after status (inl x) low = let s = x.0 in omega arith
 own_status e untold before after status (inr x) low = let s = x.0 in absurd (omega arith)
 
 -- ---- where the program can't end so
 
-out_of_memory : (e : Ending) (untold : Type 0) (before after : Option (List ℕ)) (status : ℕ) → EndsAs e untold before after status → status_of e ≡ 7 → status ≡ 7
+out_of_memory : (e : Ending) (untold : Type 0) (before after : Option (List ℕ)) (status : ℕ) → EndsAs e untold before after status → exit_status e ≡ 7 → status ≡ 7
 out_of_memory e untold before after status (inl x) is = x.0 ∙ is
 out_of_memory e untold before after status (inr x) is = x.0
 

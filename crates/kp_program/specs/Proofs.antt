@@ -33,8 +33,8 @@ IsRepliedBy s e = (IsWhite e.frame × (e.reply ≡ [])) ⊎ ((reply : Data) × I
 
 -- How the proof of a claim, by edges of at most so many steps, ended: each of its exchanges has the server's right reply,
 -- the tree and the outcome are what the rounds make of them; the tree's arcs say what they say of the theory; where it
--- passed, the claim holds; where it failed at a node, each instance of the node's state is final, and not each is one of
--- the right side.
+-- passed, the claim holds; where it failed at a node, each instance of the node's state is final, and some instance is
+-- none of the right side.
 pub record IsOutcome (s : Setting) (depth : ℕ) (claim : ReachabilityClaim) (outcome : ProofOutcome) : Type 0 where
   pub exchanges : List Exchange
   pub replied : AllByRecursion (IsRepliedBy s) exchanges

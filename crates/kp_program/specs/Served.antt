@@ -24,7 +24,7 @@ pub record IsServed (file main taken gained : List ℕ) : Type 0 where
 
 -- the same of a shelf, an input and an output: the file of this name, all that the input had left, what the output
 -- gained of the answer
-pub record Serves (names : Option Names) (left : Option (List ℕ)) (Gains : List ℕ → Type 0) (name main : Text) : Type 0 where
+pub record ServesFile (names : Option Names) (left : Option (List ℕ)) (Gains : List ℕ → Type 0) (name main : Text) : Type 0 where
   pub file : List ℕ
   pub taken : List ℕ
   pub answer : List ℕ
@@ -35,7 +35,7 @@ pub record Serves (names : Option Names) (left : Option (List ℕ)) (Gains : Lis
 
 -- the same for the command that the words spell
 abbrev pub ServesWords : Option Names → Option (List ℕ) → (List ℕ → Type 0) → List Text → Type 0
-ServesWords names left Gains words = (name : Text) × (main : Text) × SpellsStdio words name main × Serves names left Gains name main
+ServesWords names left Gains words = (name : Text) × (main : Text) × SpellsStdio words name main × ServesFile names left Gains name main
 
 -- what is told of an output gained a front of the bytes
 abbrev pub GainsFront : Option (List ℕ) → Option (List ℕ) → List ℕ → Type 0

@@ -21,12 +21,12 @@ pub data Ending : Type 0 where
   outside : Ending
   memory : Ending
 
-abbrev pub status_of : Ending → ℕ
-status_of usage = 3
-status_of (faulty name f) = 4
-status_of (no_file name) = 5
-status_of outside = 6
-status_of memory = 7
+abbrev pub exit_status : Ending → ℕ
+exit_status usage = 3
+exit_status (faulty name f) = 4
+exit_status (no_file name) = 5
+exit_status outside = 6
+exit_status memory = 7
 
 -- ---- lines on standard error
 
@@ -88,7 +88,7 @@ IsCause names words failed memory = ⊤
 -- the status is that of an ending that has its cause, and standard error got its line
 pub record IsEnded (names : Option Names) (words : List Text) (failed : Type 0) (before after : Option (List ℕ)) (untold : Type 0) (status : ℕ) : Type 0 where
   pub ending : Ending
-  pub status_is : status ≡ status_of ending
+  pub status_is : status ≡ exit_status ending
   pub because : IsCause names words failed ending
   pub told : Tells untold before after (line_of ending)
 

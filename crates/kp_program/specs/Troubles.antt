@@ -5,7 +5,7 @@ use Rattle.kp_kore.specs.Signature.{KoreSignature}
 use Rattle.kp_claims.specs.Faults as claims
 use Rattle.kp_modules.specs.Faults.{told_fault}
 use Rattle.kp_program.specs.Faults.{FileFault, too_long, in_text, in_modules, in_claims, IsFileFault, IsClaimsFault}
-use Rattle.kp_program.specs.Statuses.{Ending, faulty, no_file, outside, memory, status_of, line_of, Tells}
+use Rattle.kp_program.specs.Statuses.{Ending, faulty, no_file, outside, memory, exit_status, line_of, Tells}
 use Rattle.kp_program.specs.declared.trouble.FileFault as code
 use Rattle.kp_program.specs.declared.trouble.FileFault.TheVariants as file
 use Rattle.kp_program.specs.declared.trouble.Trouble.{Trouble}
@@ -43,11 +43,11 @@ AreFaulty g bytes name trouble.Outside = ⊥
 AreFaulty g bytes name trouble.Memory = ⊤
 
 -- the trouble tells that there is no file of this name, or want of memory
-abbrev pub IsAbsent : Text → Trouble → Type 0
-IsAbsent name (trouble.File n f) = ⊥
-IsAbsent name (trouble.NoFile n) = string_bytes n ≡ name
-IsAbsent name trouble.Outside = ⊥
-IsAbsent name trouble.Memory = ⊤
+abbrev pub IsFileAbsent : Text → Trouble → Type 0
+IsFileAbsent name (trouble.File n f) = ⊥
+IsFileAbsent name (trouble.NoFile n) = string_bytes n ≡ name
+IsFileAbsent name trouble.Outside = ⊥
+IsFileAbsent name trouble.Memory = ⊤
 
 -- the trouble tells that something failed, or want of memory
 abbrev pub IsLate : Type 0 → Trouble → Type 0
@@ -58,4 +58,4 @@ IsLate failed trouble.Memory = ⊤
 
 -- the program ended so, or for want of memory
 abbrev pub EndsAs : Ending → Type 0 → Option (List ℕ) → Option (List ℕ) → ℕ → Type 0
-EndsAs e failed before after status = ((status ≡ status_of e) × Tells failed before after (line_of e)) ⊎ ((status ≡ 7) × Tells failed before after (line_of memory))
+EndsAs e failed before after status = ((status ≡ exit_status e) × Tells failed before after (line_of e)) ⊎ ((status ≡ 7) × Tells failed before after (line_of memory))

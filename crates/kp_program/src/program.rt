@@ -6,8 +6,8 @@ ghost use Rattle.kp_program.specs.Does.{BeginsWords, DoesWords};
 ghost use Rattle.kp_program.specs.Headline.{PassedHolds};
 ghost use Rattle.kp_program.specs.Inputs.{AnswersInput, IsReplyToRead};
 ghost use Rattle.kp_server.specs.Setting.{IsSettingOf, Setting};
-ghost use Rattle.kp_program.specs.Served.{GainsFront, Serves};
-ghost use Rattle.kp_program.specs.Statuses.{IsCause, IsEnded, IsPossible, status_of};
+ghost use Rattle.kp_program.specs.Served.{GainsFront, ServesFile};
+ghost use Rattle.kp_program.specs.Statuses.{IsCause, IsEnded, IsPossible, exit_status};
 ghost use Rattle.kp_program.specs.Troubles.{IsLate, ending_of};
 ghost use Rattle.kp_program.specs.Words.{NamesDefinition, ProveWords, SpellsProve, SpellsSome};
 
@@ -71,7 +71,7 @@ fn obey<H: Shelf, I: Source, O: Sink>(
 ) -> Result<u8, Trouble>
     ensures done { (words : List (List ℕ)) → IsCommand words command.now → IfOk result (λ status. (status ≤ 2) × DoesWords (H.names shelf.old) (I.left input.old) (Appends (O.held out.old) (O.held out.new)) words status) }
     ensures cause { (words : List (List ℕ)) → IsCommand words command.now → IfErr result (λ trouble. IsCause (H.names shelf.old) words (Rose (H.fault_count shelf.old) (H.fault_count shelf.new) ⊎ (Rose (I.fault_count input.old) (I.fault_count input.new) ⊎ Rose (O.fault_count out.old) (O.fault_count out.new))) (ending_of trouble)) }
-    ensures untouched { IfErr result (λ trouble. status_of (ending_of trouble) ≤ 5 → (I.left input.new ≡ I.left input.old) × (O.held out.new ≡ O.held out.old)) }
+    ensures untouched { IfErr result (λ trouble. exit_status (ending_of trouble) ≤ 5 → (I.left input.new ≡ I.left input.old) × (O.held out.new ≡ O.held out.old)) }
     ensures unread { (words : List (List ℕ)) (c : ProveWords) → IsCommand words command.now → SpellsProve words c → I.left input.new ≡ I.left input.old }
     ensures front { (words : List (List ℕ)) → IsCommand words command.now → OnErr result ((O.held out.new ≡ O.held out.old) ⊎ BeginsWords (H.names shelf.old) (I.left input.old) (GainsFront (O.held out.old) (O.held out.new)) words) }
     ensures files_kept { H.names shelf.new ≡ H.names shelf.old }
@@ -96,10 +96,10 @@ fn serve_frame<H: Shelf, I: Source, O: Sink>(
     input: &mut I,
     out: &mut O,
 ) -> Result<(), Trouble>
-    ensures served { OnOk result (Serves (H.names shelf.old) (I.left input.old) (Appends (O.held out.old) (O.held out.new)) command.now.definition.now command.now.module_name.now) }
+    ensures served { OnOk result (ServesFile (H.names shelf.old) (I.left input.old) (Appends (O.held out.old) (O.held out.new)) command.now.definition.now command.now.module_name.now) }
     ensures cause { (words : List (List ℕ)) → NamesDefinition words command.now.definition.now command.now.module_name.now → IfErr result (λ trouble. IsCause (H.names shelf.old) words (Rose (H.fault_count shelf.old) (H.fault_count shelf.new) ⊎ (Rose (I.fault_count input.old) (I.fault_count input.new) ⊎ Rose (O.fault_count out.old) (O.fault_count out.new))) (ending_of trouble)) }
-    ensures untouched { IfErr result (λ trouble. status_of (ending_of trouble) ≤ 5 → (I.left input.new ≡ I.left input.old) × (O.held out.new ≡ O.held out.old)) }
-    ensures front { OnErr result ((O.held out.new ≡ O.held out.old) ⊎ Serves (H.names shelf.old) (I.left input.old) (GainsFront (O.held out.old) (O.held out.new)) command.now.definition.now command.now.module_name.now) }
+    ensures untouched { IfErr result (λ trouble. exit_status (ending_of trouble) ≤ 5 → (I.left input.new ≡ I.left input.old) × (O.held out.new ≡ O.held out.old)) }
+    ensures front { OnErr result ((O.held out.new ≡ O.held out.old) ⊎ ServesFile (H.names shelf.old) (I.left input.old) (GainsFront (O.held out.old) (O.held out.new)) command.now.definition.now command.now.module_name.now) }
     ensures files_kept { H.names shelf.new ≡ H.names shelf.old }
     ensures shelf_count { H.fault_count shelf.old ≤ H.fault_count shelf.new }
     ensures input_count { I.fault_count input.old ≤ I.fault_count input.new }

@@ -14,7 +14,7 @@ ghost use Rattle.kp_server.specs.Setting.{IsSettingOf, Setting};
 ghost use Rattle.kp_program.specs.Loaded.{IsLoaded};
 ghost use Rattle.kp_program.specs.Proofs.{AreReported, IsLineFor, Proved, has_failed, has_passed, proof_status};
 ghost use Rattle.kp_program.specs.Served.{GainsFront};
-ghost use Rattle.kp_program.specs.Statuses.{IsCause, status_of as trouble_status};
+ghost use Rattle.kp_program.specs.Statuses.{IsCause, exit_status as trouble_status};
 ghost use Rattle.kp_program.specs.Troubles.{IsLate, ending_of};
 ghost use Rattle.kp_program.specs.Words.{SpellsProve};
 

@@ -9,7 +9,7 @@ ghost use Rattle.kp_text.specs.Errors.{IsErrorOf};
 ghost use Rattle.kp_text.specs.Spelling.{IsDefinitionText, SpellsDefinition};
 ghost use Rattle.kp_program.specs.Faults.{IsClaimsFault, IsFileFault};
 ghost use Rattle.kp_program.specs.Statuses.{Tells, faulty, line_of, memory, no_file};
-ghost use Rattle.kp_program.specs.Troubles.{AreFaulty, EndsAs, IsAbsent, IsFaulty, ending_of, file_fault_view};
+ghost use Rattle.kp_program.specs.Troubles.{AreFaulty, EndsAs, IsFileAbsent, IsFaulty, ending_of, file_fault_view};
 
 use kp_claims::{ClaimError, ClaimFault};
 use kp_io::{Sink, put_all};
@@ -133,7 +133,7 @@ pub fn file_trouble(alloc: Global, name: &str, fault: FileFault) -> Trouble
 
 /// That a file isn't there.
 pub fn no_file(alloc: Global, name: &str) -> Trouble
-    ensures { IsAbsent name.now result }
+    ensures { IsFileAbsent name.now result }
 {
     match String::from_str(alloc, name) {
         Ok(name) => Trouble::NoFile { name },

@@ -249,3 +249,51 @@ fn a_split_of_ten_thousand_nodes(rt: HostRuntime) -> Result<(), Fail> {
     assert_eq!(rt; tree.status(), Status::Failed);
     Ok(())
 }
+
+#[test]
+fn open_nodes_are_told_in_rising_order(rt: HostRuntime) -> Result<(), Fail> {
+    let alloc = rt.alloc();
+    let mut tree = tree(alloc)?;
+    tree.split(alloc, node(1), states(alloc, 6)?)?;
+    tree.cover(node(4))?;
+    tree.cover(node(3))?;
+    tree.hold(node(6), Why::Rounds)?;
+    assert_eq!(rt;
+        tree.pending(alloc)?.as_slice(),
+        [node(2), node(5), node(7)].as_slice()
+    );
+    tree.cover(node(5))?;
+    assert_eq!(rt;
+        tree.pending(alloc)?.as_slice(),
+        [node(2), node(7)].as_slice()
+    );
+    tree.edge(node(7), 1, state(alloc, "next")?, false)?;
+    assert_eq!(rt;
+        tree.pending(alloc)?.as_slice(),
+        [node(2), node(8)].as_slice()
+    );
+    tree.cover(node(2))?;
+    assert_eq!(rt; tree.pending(alloc)?.as_slice(), [node(8)].as_slice());
+    Ok(())
+}
+
+/// A split of 9,999, of whose nodes the first and the last are open.
+fn closed_between(alloc: Global) -> Result<Tree, Fail> {
+    let mut tree = tree(alloc)?;
+    tree.split(alloc, node(1), states(alloc, 9_999)?)?;
+    for number in 3..10_000 {
+        tree.cover(node(number))?;
+    }
+    Ok(tree)
+}
+
+#[test]
+fn ten_thousand_nodes_are_asked_ten_thousand_times(rt: HostRuntime) -> Result<(), Fail> {
+    let alloc = rt.alloc();
+    let tree = closed_between(alloc)?;
+    for _ in 0..10_000 {
+        assert_eq!(rt; tree.pending(alloc)?.len(), 2);
+        assert_eq!(rt; tree.status(), Status::Pending);
+    }
+    Ok(())
+}

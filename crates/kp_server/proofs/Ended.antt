@@ -40,9 +40,9 @@ use Rattle.kp_run.specs.declared.run.Stop.{Stop}
 use Rattle.kp_run.specs.declared.run.Stop.TheVariants.{Stuck, DepthBound, ForeignRule}
 use Rattle.kp_server.proofs.Runs.{run_is_right}
 use Rattle.kp_server.specs.Normal.{IsLater, EndsAt, TellsFirst, HasNoSpelling}
-use Rattle.kp_server.specs.Ends.{IsRead, IsStateAt, IsStatePattern, IsStateOf, IsEndOf, IsEndLine, IsFailureOf, IsListing, IsPlain, IsWrongTree, IsWrongPattern, IsLineTo, options_of, result_of, unanswered_bytes}
+use Rattle.kp_server.specs.Ends.{IsExecuteRead, IsStateAt, IsStatePattern, IsStateOf, IsEndOf, IsEndLine, IsFailureOf, IsListing, IsPlain, IsWrongTree, IsWrongPattern, IsLineTo, options_of, result_of, unanswered_bytes}
 use Rattle.kp_server.specs.Right.{IsLine, IsPatternFault, IsStateError, IsFaulted, IsAnswered}
-use Rattle.kp_server.specs.Setting.{IsElsewhere, IsReached, Setting}
+use Rattle.kp_server.specs.Setting.{IsElsewhere, IsModuleReached, Setting}
 use Rattle.kp_server.specs.Untold.{IsLeftOut, IsUntold, elsewhere, stops_at_rules, no_state, mixes_values, no_run}
 use Rattle.kp_server.specs.Sides.{IsUnreached}
 use Rattle.kp_server.specs.declared.failure.Failure.{Failure}
@@ -53,20 +53,20 @@ state_told o state options h =
     ap (λ x. option_and_then (read_object (codes "state")) (option_and_then if_object x)) h.has_params ∙ ap (λ x. option_and_then if_object x) h.has_state
 
 -- what is read as the state is the request's state
-pub same_tree : (e : Execute) (r : IsRead e) (tree : Data) → read_state (data_view e.request) ≡ Some tree → tree ≡ object r.state
+pub same_tree : (e : Execute) (r : IsExecuteRead e) (tree : Data) → read_state (data_view e.request) ≡ Some tree → tree ≡ object r.state
 same_tree e r tree h =
     let told : Some tree ≡ Some (object r.state) = sym h ∙ (ap read_state r.tree ∙ state_told r.members r.state (options_view e.options) r.has_params) in
     cc told
 
-here : (e : Execute) (r : IsRead e) → read_state (data_view e.request) ≡ Some (object r.state)
+here : (e : Execute) (r : IsExecuteRead e) → read_state (data_view e.request) ≡ Some (object r.state)
 here e r = ap read_state r.tree ∙ state_told r.members r.state (options_view e.options) r.has_params
 
-pub has_tree : (e : Execute) → IsRead e → read_state (data_view e.request) ≢ None
+pub has_tree : (e : Execute) → IsExecuteRead e → read_state (data_view e.request) ≢ None
 has_tree e r h =
     let told : None ≡ Some (object r.state) = sym h ∙ (ap read_state r.tree ∙ state_told r.members r.state (options_view e.options) r.has_params) in
     absurd (cc told)
 
-pub faulted : (s : Setting) (e : Execute) → IsRead e → (tree : Data) (error : RequestError) → read_state (data_view e.request) ≡ Some tree → IsStateError s (options_of e) tree error
+pub faulted : (s : Setting) (e : Execute) → IsExecuteRead e → (tree : Data) (error : RequestError) → read_state (data_view e.request) ≡ Some tree → IsStateError s (options_of e) tree error
     → IsFaulted s (data_view e.request) (error_reply (id_view e.id) error)
 faulted s e r tree error h w = record {
   id = id_view e.id;
@@ -77,12 +77,12 @@ faulted s e r tree error h w = record {
   reply_is = refl;
 }
 
-pub fault_line : (s : Setting) (e : Execute) → IsRead e → (tree : Data) (error : RequestError) → read_state (data_view e.request) ≡ Some tree → IsStateError s (options_of e) tree error
+pub fault_line : (s : Setting) (e : Execute) → IsExecuteRead e → (tree : Data) (error : RequestError) → read_state (data_view e.request) ≡ Some tree → IsStateError s (options_of e) tree error
     → (line : List ℕ) → line ≡ reply_bytes (error_reply (id_view e.id) error) → IsLineTo s e line
 fault_line s e r tree error h w line l = (error_reply (id_view e.id) error, inl (faulted s e r tree error h w), l)
 
 -- T2 of a state that is left out
-pub left_out : (s : Setting) (e : Execute) (state : State) (is : IsStateOf s.theory.signature e state) → IsReached s.names (options_of e).module_name → IsLeftOut s (options_of e) is.pattern is.sort
+pub left_out : (s : Setting) (e : Execute) (state : State) (is : IsStateOf s.theory.signature e state) → IsModuleReached s.names (options_of e).module_name → IsLeftOut s (options_of e) is.pattern is.sort
     → IsStateError s (options_of e) is.is_pattern.tree (not_verified other_shape)
 left_out s e state is reached why = (reached, is.pattern, is.is_pattern.spells, (is.sort, is.verifies, is.is_state.no_foreign, why))
 
@@ -115,7 +115,7 @@ tells_first t c bound end run = by_stop end.stop refl
     by_stop DepthBound is = tt
     by_stop (ForeignRule id) is = (run.foreign id is).1
 
-pub unanswered : (s : Setting) (e : Execute) → IsRead e → (end : Executed) → IsEndOf s e end → ¬ (meaning_of s.theory.signature injection_name ≡ injection)
+pub unanswered : (s : Setting) (e : Execute) → IsExecuteRead e → (end : Executed) → IsEndOf s e end → ¬ (meaning_of s.theory.signature injection_name ≡ injection)
     → none_within has_two_sorts (spelling s.theory.signature (sort_view end.state.sort) (value_view end.state.value)) ≡ false
     → (line : List ℕ) → line ≡ unanswered_bytes e → IsLineTo s e line
 unanswered s e r end h none injects line l =
@@ -147,7 +147,7 @@ is_told s e end h (no_run c means stops) =
     let at_value = subst (λ (u : Value). StopsUntold s.theory (record { value = u; sort = st.sort }) (bound_of (options_of e))) (same_value s.theory.signature st.pattern c (value_view h.start.value) means ground.meant) stops in
     h.told (inr (subst (λ (k : KoreSort). StopsUntold s.theory (record { value = value_view h.start.value; sort = k }) (bound_of (options_of e))) (sym st.is_state.sort_is) at_value))
 
-pub answered : (s : Setting) (e : Execute) → IsRead e → (end : Executed) → IsEndOf s e end → (p : KorePattern) → IsSpellingOf s.theory.signature (value_view end.state.value) p
+pub answered : (s : Setting) (e : Execute) → IsExecuteRead e → (end : Executed) → IsEndOf s e end → (p : KorePattern) → IsSpellingOf s.theory.signature (value_view end.state.value) p
     → p ≡ spelling s.theory.signature (sort_view end.state.sort) (value_view end.state.value)
     → (tree : Data) → result_tree (result_of end p) ≡ Some tree → IsAnswered s (data_view e.request) (result_reply (id_view e.id) tree)
 answered s e r end h p sp normal tree w =
@@ -183,21 +183,21 @@ answered s e r end h p sp normal tree w =
     }
 
 -- the line with the end of a run
-pub end_is_right : (s : Setting) (e : Execute) → IsRead e → (end : Executed) → IsEndOf s e end → (p : KorePattern) → IsSpellingOf s.theory.signature (value_view end.state.value) p
+pub end_is_right : (s : Setting) (e : Execute) → IsExecuteRead e → (end : Executed) → IsEndOf s e end → (p : KorePattern) → IsSpellingOf s.theory.signature (value_view end.state.value) p
     → p ≡ spelling s.theory.signature (sort_view end.state.sort) (value_view end.state.value)
     → (line : Vec ℕ Global) → IsEndLine e end p line → IsLineTo s e line.items
 end_is_right s e r end h p sp normal line x = (result_reply (id_view e.id) x.0, inr (answered s e r end h p sp normal x.0 x.1), x.2)
 
 -- ---- failures
 
-wrong_tree : (s : Setting) (options : ExecuteOptions) (tree : Data) (p : KorePattern) (f : Failure) → IsReached s.names options.module_name → SpellsWrapped tree p
+wrong_tree : (s : Setting) (options : ExecuteOptions) (tree : Data) (p : KorePattern) (f : Failure) → IsModuleReached s.names options.module_name → SpellsWrapped tree p
     → IsWrongPattern s.theory.signature (IsLeftOut s options) p f → IsWrongTree s options tree f
 wrong_tree s options tree p failure.Memory reached sp w = tt
 wrong_tree s options tree p (failure.Fault (fault.Json f)) reached sp w = absurd w
 wrong_tree s options tree p (failure.Fault (fault.Verify f)) reached sp w = (reached, p, sp, w)
 wrong_tree s options tree p (failure.Fault (fault.NoModule name)) reached sp w = absurd w
 
-pub failure_of : (g : KoreSignature) (s : Setting) → g ≡ s.theory.signature → (e : Execute) (p : KorePattern) (f : Failure) → IsReached s.names (options_of e).module_name → IsStatePattern e p
+pub failure_of : (g : KoreSignature) (s : Setting) → g ≡ s.theory.signature → (e : Execute) (p : KorePattern) (f : Failure) → IsModuleReached s.names (options_of e).module_name → IsStatePattern e p
     → IsWrongPattern g (IsLeftOut s (options_of e)) p f → IsFailureOf s e f
 failure_of g s same e p f reached is w =
     (is.tree, is.has, wrong_tree s (options_of e) is.tree p f reached is.spells (subst (λ (k : KoreSignature). IsWrongPattern k (IsLeftOut s (options_of e)) p f) same w))
@@ -219,17 +219,17 @@ shape_left_out g s same true regular tested options p sort h =
 shape_left_out g s same false regular tested options p sort h = inl (mixes_values (sym tested))
 
 -- the module that the request names isn't reached
-pub name_failure : (s : Setting) (e : Execute) → IsRead e → (f : Failure) → IsUnreached s (options_of e).module_name f → IsFailureOf s e f
+pub name_failure : (s : Setting) (e : Execute) → IsExecuteRead e → (f : Failure) → IsUnreached s (options_of e).module_name f → IsFailureOf s e f
 name_failure s e r failure.Memory told = (object r.state, here e r, tt)
 name_failure s e r (failure.Fault (fault.Json f)) told = absurd told
 name_failure s e r (failure.Fault (fault.Verify f)) told = absurd told
 name_failure s e r (failure.Fault (fault.NoModule name)) told = (object r.state, here e r, told)
 
-pub is_reached_at : (names : List Text) (o : Option Text) (n : Text) → o ≡ Some n → has n names ≡ true → IsReached names o
-is_reached_at names o n is reached = subst (λ (x : Option Text). IsReached names x) (sym is) reached
+pub is_reached_at : (names : List Text) (o : Option Text) (n : Text) → o ≡ Some n → has n names ≡ true → IsModuleReached names o
+is_reached_at names o n is reached = subst (λ (x : Option Text). IsModuleReached names x) (sym is) reached
 
 -- T2 tells of a request that it is left out
-pub t2_failure : (s : Setting) (e : Execute) (state : State) (is : IsStateOf s.theory.signature e state) → IsReached s.names (options_of e).module_name → IsUntold s (options_of e) is.pattern is.sort
+pub t2_failure : (s : Setting) (e : Execute) (state : State) (is : IsStateOf s.theory.signature e state) → IsModuleReached s.names (options_of e).module_name → IsUntold s (options_of e) is.pattern is.sort
     → (f : StateFault) → state_fault_view f ≡ not_verified other_shape → IsFailureOf s e (failure.Fault f)
 t2_failure s e state is reached why f t2 =
     (is.is_pattern.tree, is.is_pattern.has, subst (λ (x : RequestError). IsStateError s (options_of e) is.is_pattern.tree x) (sym t2) (left_out s e state is reached (inl why)))
@@ -268,7 +268,7 @@ sorted_start g e s h = (h.is_state.ground h.regular h.verifies).sorted
 
 -- T2 of a state over a signature that mixes values
 pub mixed_failure : (g : KoreSignature) (s : Setting) → g ≡ s.theory.signature → keeps_values_apart s.theory.signature ≡ false → (e : Execute) (p : KorePattern) (sort : KoreSort) (state : State)
-    → IsReached s.names (options_of e).module_name → IsStatePattern e p → VerifiesAs g p sort → IsStateAt g p sort state
+    → IsModuleReached s.names (options_of e).module_name → IsStatePattern e p → VerifiesAs g p sort → IsStateAt g p sort state
     → (f : StateFault) → state_fault_view f ≡ not_verified other_shape → IsFailureOf s e (failure.Fault f)
 mixed_failure g s same mixed e p sort state reached is v at f t2 =
     let error : IsPatternFault s.theory.signature (IsLeftOut s (options_of e)) p other_shape =

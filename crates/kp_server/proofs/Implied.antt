@@ -1,6 +1,6 @@
 -- Two ground terms of one sort imply one another exactly where their values are one; from what was read of a request of
 -- implies to its reply.
-use Rattle.std.proofs.Common.{◌≡◌, ◌≢◌, true, false, List, ℕ, [], Option, Some, None, Vec, unwrap_or, refl, sym, ap, subst, ◌∙◌, inl, inr, string_bytes}
+use Rattle.std.proofs.Common.{◌≡◌, ◌≢◌, true, false, List, ℕ, [], ◌∷◌, Option, Some, None, Vec, unwrap_or, refl, sym, ap, subst, ◌∙◌, inl, inr, string_bytes}
 use Rattle.std.specs.Option.{option_and_then, option_map}
 use Rattle.std.specs.Prelude.{codes}
 use Rattle.std.specs.declared.alloc.Global.{Global}
@@ -10,21 +10,25 @@ use Rattle.kp_kore.specs.Syntax.{Text, KoreSort, KorePattern, variable, set_vari
 use Rattle.kp_kore.specs.Parts.{SortedName, is_term, free_variables}
 use Rattle.kp_kore.specs.Signature.{KoreSignature}
 use Rattle.kp_kore.specs.View.{sort_view}
-use Rattle.kp_semantics.specs.Value.{Value, HasSort, truth}
+use Rattle.kp_semantics.specs.Value.{Value, truth}
 use Rattle.kp_semantics.specs.Instance.{Valuation, GivesSorts, IsInstance}
-use Rattle.kp_semantics.specs.Replies.{HasInstance}
+use Rattle.kp_semantics.specs.Rules.{top_binders, under_binders}
+use Rattle.kp_semantics.specs.AtHand.{GivesAll, HasSome}
+use Rattle.kp_semantics.specs.Implied.{DoesImply, HasCounterexample, IsOfSort, IsWitness, witnessed, IsRightImplied}
+use Rattle.kp_semantics.specs.Implied as sides
 use Rattle.kp_semantics.specs.Sorted.{IsRegular}
 use Rattle.kp_semantics.proofs.InstanceLemmas.{one_instance}
 use Rattle.kp_json.specs.Trees.{SpellsWrapped}
 use Rattle.kp_ground.specs.View.{value_view}
+use Rattle.kp_signature.specs.Places.{own_sort}
 use Rattle.kp_signature.specs.Verify.{VerifiesAs}
 use Rattle.kp_sorts.specs.Regularity.{keeps_values_apart}
 use Rattle.kp_states.specs.Spelled.{IsGroundState}
 use Rattle.kp_states.specs.declared.state.State.{State}
 use Rattle.kp_rpc.specs.Frame.{IsFrame}
-use Rattle.kp_rpc.specs.Implications.{DoesImply, HasInstancesAt, bound_variables, body_of, IsWitness, witnessed, IsRightImplied}
+use Rattle.kp_rpc.specs.Implications.{implied_by}
 use Rattle.kp_rpc.specs.Readings.{read_object, if_object, read_side}
-use Rattle.kp_rpc.specs.Reply.{ImpliesResult, not_valid, valid, RequestError, not_verified, other_shape, error_reply, implied_tree, reply_bytes, result_reply}
+use Rattle.kp_rpc.specs.Reply.{ImpliesResult, RequestError, not_verified, other_shape, error_reply, implied_tree, reply_bytes, result_reply}
 use Rattle.kp_rpc.specs.Request.{RequestId, HasSides, ImpliesRequest}
 use Rattle.kp_rpc.specs.View.{id_view, name_view, state_fault_view}
 use Rattle.kp_rpc.specs.declared.fault.StateFault.{StateFault}
@@ -33,7 +37,7 @@ use Rattle.kp_rpc.specs.declared.request.Implies.{Implies}
 use Rattle.kp_server.proofs.Ended.{has_tree_of}
 use Rattle.kp_server.specs.Ends.{IsStateAt, IsWrongPattern}
 use Rattle.kp_server.specs.Right.{IsLine, IsTreeFault, IsSideFault, NoneLeftOut, IsImpliesError, unreached, unread_antecedent, unread_consequent, in_antecedent, in_consequent, untold, IsImpliesFaulted, IsImpliesAnswered}
-use Rattle.kp_server.specs.Setting.{IsElsewhere, IsReached, Setting}
+use Rattle.kp_server.specs.Setting.{IsElsewhere, IsModuleReached, Setting}
 use Rattle.kp_server.specs.Untold.{IsImpliesUntold, asked_elsewhere, no_antecedent, no_consequent, other_sorts, shares_sorts}
 use Rattle.kp_server.specs.Sides.{IsImpliesRead, side_tree, antecedent_tree, consequent_tree, IsUnreached, IsTreeFailure, IsSideFailure, IsImpliesFailure, IsSideState, IsSideAt, AreCompared, AreBothCompared, AreApart, AreNotCompared, IsImpliedOf, IsImpliesLine, result_at, IsResultLine}
 use Rattle.kp_server.specs.declared.failure.Failure.{Failure}
@@ -46,8 +50,8 @@ some_valuation x = truth true
 
 -- a term binds nothing
 pub record BindsNothing (p : KorePattern) : Type 0 where
-  pub variables : bound_variables p ≡ []
-  pub body : body_of p ≡ p
+  pub variables : top_binders p ≡ []
+  pub body : under_binders p ≡ p
 
 pub binds_nothing : (p : KorePattern) → is_term p ≡ true → BindsNothing p
 binds_nothing (variable x s) h = record { variables = refl; body = refl }
@@ -83,36 +87,53 @@ has_value g p s u h v x e = (one_instance g v p x h.term).1 (e ∙ sym (h.meant 
 gives_none : (g : KoreSignature) (v : Valuation) (xs : List SortedName) → xs ≡ [] → GivesSorts g v xs
 gives_none g v xs e = subst (GivesSorts g v) (sym e) tt
 
-instances_at : (g : KoreSignature) (p : KorePattern) (s : KoreSort) (u : Value) → IsGroundState g p s u → HasInstancesAt g s p
-instances_at g p s u h v x gives i = subst (HasSort g s) (sym (value_of g p s u h v x i)) h.sorted
+gives_both : (g : KoreSignature) (a c : KorePattern) (s t : KoreSort) (u w : Value) → IsGroundState g a s u → IsGroundState g c t w → (v : Valuation) → GivesAll g (a ∷ c ∷ []) v
+gives_both g a c s t u w ha hc v = (gives_none g v (free_variables a) ha.closed, (gives_none g v (free_variables c) hc.closed, tt))
 
-has_instance : (g : KoreSignature) (p : KorePattern) (s : KoreSort) (u : Value) → IsGroundState g p s u → HasInstance g p
-has_instance g p s u h = (some_valuation, u, gives_none g some_valuation (free_variables p) h.closed, has_value g p s u h some_valuation u refl)
+-- a term's own sort is the sort of its one term
+of_own_sort : (g : KoreSignature) (p : KorePattern) (s : KoreSort) → is_term p ≡ true → own_sort g p ≡ Some s → IsOfSort g s p
+of_own_sort g (variable x k) s t e = inl e
+of_own_sort g (literal k text) s t e = inl e
+of_own_sort g (application f ss ps) s t e = rw t (inl e)
+of_own_sort g _ s t e = absurd (cc)
+
+has_instance : (g : KoreSignature) (a c : KorePattern) (s t : KoreSort) (u w : Value) → IsGroundState g a s u → IsGroundState g c t w → HasSome g (c ∷ []) a
+has_instance g a c s t u w ha hc = record {
+  valuation = some_valuation;
+  configuration = u;
+  given = gives_both g a c s t u w ha hc some_valuation;
+  met = has_value g a s u ha some_valuation u refl;
+  such = tt;
+}
 
 does_imply : (g : KoreSignature) (a c : KorePattern) (s : KoreSort) (u : Value) → IsGroundState g a s u → IsGroundState g c s u → DoesImply g a c
-does_imply g a c s u ha hc v x ga gc i = has_value g c s u hc v x (value_of g a s u ha v x i)
+does_imply g a c s u ha hc v x given i = has_value g c s u hc v x (value_of g a s u ha v x i)
 
 -- \top tells the values of no variables
 witness : (g : KoreSignature) (a c : KorePattern) (s : KoreSort) (u : Value) → IsGroundState g a s u → IsGroundState g c s u → IsWitness g a c (top s)
 witness g a c s u ha hc =
     let none = binds_nothing c hc.term in
     record {
-      chosen = λ v x ga gc i. (v, record { agrees = λ y e. refl; sorts = gives_none g v (bound_variables c) none.variables }, tt);
-      met = λ v w x ga gc i ch t. subst (λ (q : KorePattern). IsInstance g w q x) (sym none.body) (has_value g c s u hc w x (value_of g a s u ha v x i));
+      chosen = λ v x given i. (v, record { agrees = λ y e. refl; sorts = gives_none g v (top_binders c) none.variables }, tt);
+      met = λ v x given i w chooses t. subst (λ (q : KorePattern). IsInstance g w q x) (sym none.body) (has_value g c s u hc w x (value_of g a s u ha v x i));
     }
 
 -- where both have the value, the antecedent implies the consequent
-pub valid_is_right : (g : KoreSignature) (a c : KorePattern) (s : KoreSort) (u : Value) → IsGroundState g a s u → IsGroundState g c s u → IsRightImplied g a c (valid (top s) (top s))
-valid_is_right g a c s u ha hc = (
+pub valid_is_right : (g : KoreSignature) (a c : KorePattern) (s : KoreSort) (u : Value) → IsOfSort g s a → IsGroundState g a s u → IsGroundState g c s u → IsRightImplied g a c (sides.valid (top s) (top s))
+valid_is_right g a c s u sorted ha hc = (
   does_imply g a c s u ha hc,
-  witnessed s (instances_at g a s u ha) (instances_at g c s u hc) (has_instance g a s u ha) refl (witness g a c s u ha hc) (λ none. refl),
+  witnessed s sorted (has_instance g a c s s u u ha hc) refl (witness g a c s u ha hc) (λ none. refl),
 )
 
--- where they differ, it doesn't
-pub not_valid_is_right : (g : KoreSignature) (a c : KorePattern) (s t : KoreSort) (u w : Value) → IsGroundState g a s u → IsGroundState g c t w → u ≢ w → IsRightImplied g a c not_valid
-not_valid_is_right g a c s t u w ha hc apart does =
-    let i = does some_valuation u (gives_none g some_valuation (free_variables a) ha.closed) (gives_none g some_valuation (free_variables c) hc.closed) (has_value g a s u ha some_valuation u refl) in
-    apart (value_of g c t w hc some_valuation u i)
+-- where they differ, the antecedent's value is a counterexample
+pub not_valid_is_right : (g : KoreSignature) (a c : KorePattern) (s t : KoreSort) (u w : Value) → IsGroundState g a s u → IsGroundState g c t w → u ≢ w → HasCounterexample g a c
+not_valid_is_right g a c s t u w ha hc apart = record {
+  valuation = some_valuation;
+  configuration = u;
+  given = gives_both g a c s t u w ha hc some_valuation;
+  met = has_value g a s u ha some_valuation u refl;
+  such = λ i. apart (value_of g c t w hc some_valuation u i);
+}
 
 -- ---- the sides of a request
 
@@ -166,17 +187,21 @@ fault_line s e r f w line l = (error_reply (id_view e.id) (state_fault_view f), 
 
 -- ---- results
 
+-- the sort that is verified is that of the side's term
+sort_of_side : (g : KoreSignature) (p : KorePattern) (sort : KoreSort) (a : State) → IsRegular g → VerifiesAs g p sort → IsStateAt g p sort a → IsOfSort g (sort_view a.sort) p
+sort_of_side g p sort a regular verifies at = subst (λ (s : KoreSort). IsOfSort g s p) (sym at.sort_is) (of_own_sort g p sort (at.ground regular verifies).term verifies.1)
+
 -- the state of a side is its value
 ground_of : (g : KoreSignature) (p : KorePattern) (sort : KoreSort) (a : State) → IsRegular g → VerifiesAs g p sort → IsStateAt g p sort a → IsGroundState g p (sort_view a.sort) (value_view a.value)
 ground_of g p sort a regular verifies at = at.ground regular verifies
 
-right_result : (g : KoreSignature) (p q : KorePattern) (a c : State) (o : Option KoreSort) → IsGroundState g p (sort_view a.sort) (value_view a.value) → IsGroundState g q (sort_view c.sort) (value_view c.value)
-    → AreCompared a c o → IsRightImplied g p q (result_at o)
-right_result g p q a c None x y k = not_valid_is_right g p q (sort_view a.sort) (sort_view c.sort) (value_view a.value) (value_view c.value) x y k.compared
-right_result g p q a c (Some at) x y k =
+right_result : (g : KoreSignature) (p q : KorePattern) (a c : State) (o : Option KoreSort) → IsOfSort g (sort_view a.sort) p → IsGroundState g p (sort_view a.sort) (value_view a.value) → IsGroundState g q (sort_view c.sort) (value_view c.value)
+    → AreCompared a c o → IsRightImplied g p q (implied_by (result_at o))
+right_result g p q a c None sorted x y k = not_valid_is_right g p q (sort_view a.sort) (sort_view c.sort) (value_view a.value) (value_view c.value) x y k.compared
+right_result g p q a c (Some at) sorted x y k =
     let there : IsGroundState g q (sort_view a.sort) (value_view c.value) = subst (λ (t : KoreSort). IsGroundState g q t (value_view c.value)) (sym k.same_sort) y in
     let same : IsGroundState g q (sort_view a.sort) (value_view a.value) = subst (λ (w : Value). IsGroundState g q (sort_view a.sort) w) (sym k.compared.1) there in
-    subst (λ (t : KoreSort). IsRightImplied g p q (valid (top t) (top t))) (sym k.compared.0) (valid_is_right g p q (sort_view a.sort) (value_view a.value) x same)
+    subst (λ (t : KoreSort). IsRightImplied g p q (sides.valid (top t) (top t))) (sym k.compared.0) (valid_is_right g p q (sort_view a.sort) (value_view a.value) sorted x same)
 
 is_told : (s : Setting) (name : Option Text) (p q : KorePattern) (sort other : KoreSort) (a c : State) → ¬ IsElsewhere s.main name → keeps_values_apart s.theory.signature ≡ true
     → IsStateAt s.theory.signature p sort a → IsStateAt s.theory.signature q other c → sort_view a.sort ≡ sort_view c.sort → ¬ IsImpliesUntold s name p q sort other
@@ -186,7 +211,7 @@ is_told s name p q sort other a c here apart x y same (no_consequent z) = y.shap
 is_told s name p q sort other a c here apart x y same (other_sorts z) = z (sym x.sort_is ∙ (same ∙ y.sort_is))
 is_told s name p q sort other a c here apart x y same (shares_sorts z) = let both : true ≡ false = sym apart ∙ z in absurd (cc both)
 
-answered_of : (s : Setting) (e : Implies) → IsImpliesRead e → (o : Option KoreSort) (a c : Option State) → IsReached s.names (name_view e.module_name) → ¬ IsElsewhere s.main (name_view e.module_name)
+answered_of : (s : Setting) (e : Implies) → IsImpliesRead e → (o : Option KoreSort) (a c : Option State) → IsModuleReached s.names (name_view e.module_name) → ¬ IsElsewhere s.main (name_view e.module_name)
     → keeps_values_apart s.theory.signature ≡ true → IsRegular s.theory.signature → IsSideAt s.theory.signature (antecedent_tree e) a → IsSideAt s.theory.signature (consequent_tree e) c → AreBothCompared a c o
     → (tree : Data) → implied_tree (result_at o) ≡ Some tree → IsImpliesAnswered s (data_view e.request) (result_reply (id_view e.id) tree)
 answered_of s e r o None c reached here apart regular x y k tree w = absurd k
@@ -221,7 +246,7 @@ answered_of s e r o (Some a) (Some c) reached here apart regular x y k tree w =
         tree = tree;
         written = w;
         reply_is = refl;
-        right = right_result g x.pattern y.pattern a c o (ground_of g x.pattern x.sort a regular x.side.verifies x.shaped) (ground_of g y.pattern y.sort c regular y.side.verifies y.shaped) k;
+        right = right_result g x.pattern y.pattern a c o (sort_of_side g x.pattern x.sort a regular x.side.verifies x.shaped) (ground_of g x.pattern x.sort a regular x.side.verifies x.shaped) (ground_of g y.pattern y.sort c regular y.side.verifies y.shaped) k;
       };
     }
 
@@ -238,19 +263,19 @@ unreached_failure s e (failure.Fault (fault.Json f)) told = absurd told
 unreached_failure s e (failure.Fault (fault.Verify f)) told = absurd told
 unreached_failure s e (failure.Fault (fault.NoModule name)) told = unreached (string_bytes name) told.0 told.1
 
-pub unread_antecedent_failure : (s : Setting) (e : Implies) (f : Failure) (tree : Data) → tree ≡ antecedent_tree e → IsReached s.names (name_view e.module_name)
+pub unread_antecedent_failure : (s : Setting) (e : Implies) (f : Failure) (tree : Data) → tree ≡ antecedent_tree e → IsModuleReached s.names (name_view e.module_name)
     → IsTreeFailure tree f → IsImpliesFailure s e f
 unread_antecedent_failure s e failure.Memory tree is reached w = tt
 unread_antecedent_failure s e (failure.Fault f) tree is reached w =
     unread_antecedent (state_fault_view f) reached (subst (λ (d : Data). IsTreeFault d (state_fault_view f)) is w)
 
-pub unread_consequent_failure : (s : Setting) (e : Implies) (f : Failure) (tree other : Data) → tree ≡ antecedent_tree e → other ≡ consequent_tree e → IsReached s.names (name_view e.module_name)
+pub unread_consequent_failure : (s : Setting) (e : Implies) (f : Failure) (tree other : Data) → tree ≡ antecedent_tree e → other ≡ consequent_tree e → IsModuleReached s.names (name_view e.module_name)
     → (a : KorePattern) → SpellsWrapped tree a → IsTreeFailure other f → IsImpliesFailure s e f
 unread_consequent_failure s e failure.Memory tree other is there reached a spells w = tt
 unread_consequent_failure s e (failure.Fault f) tree other is there reached a spells w =
     unread_consequent (state_fault_view f) a reached (subst (λ (d : Data). SpellsWrapped d a) is spells) (subst (λ (d : Data). IsTreeFault d (state_fault_view f)) there w)
 
-pub antecedent_failure : (g : KoreSignature) (s : Setting) → g ≡ s.theory.signature → (e : Implies) (f : Failure) (tree other : Data) → tree ≡ antecedent_tree e → other ≡ consequent_tree e → IsReached s.names (name_view e.module_name)
+pub antecedent_failure : (g : KoreSignature) (s : Setting) → g ≡ s.theory.signature → (e : Implies) (f : Failure) (tree other : Data) → tree ≡ antecedent_tree e → other ≡ consequent_tree e → IsModuleReached s.names (name_view e.module_name)
     → (c : KorePattern) → SpellsWrapped other c → IsSideFailure g tree f → IsImpliesFailure s e f
 antecedent_failure g s same e failure.Memory tree other is there reached c spells w = tt
 antecedent_failure g s same e (failure.Fault f) tree other is there reached c spells w =
@@ -260,7 +285,7 @@ antecedent_failure g s same e (failure.Fault f) tree other is there reached c sp
 pub at_request : (g : KoreSignature) (s : Setting) → g ≡ s.theory.signature → (tree here : Data) → tree ≡ here → (o : Option State) → IsSideAt g tree o → IsSideAt s.theory.signature here o
 at_request g s same tree here is o x = subst (λ (d : Data). IsSideAt s.theory.signature d o) is (subst (λ (k : KoreSignature). IsSideAt k tree o) same x)
 
-pub consequent_failure : (g : KoreSignature) (s : Setting) → g ≡ s.theory.signature → (e : Implies) (f : Failure) (tree : Data) → tree ≡ consequent_tree e → IsReached s.names (name_view e.module_name)
+pub consequent_failure : (g : KoreSignature) (s : Setting) → g ≡ s.theory.signature → (e : Implies) (f : Failure) (tree : Data) → tree ≡ consequent_tree e → IsModuleReached s.names (name_view e.module_name)
     → (o : Option State) → IsSideAt s.theory.signature (antecedent_tree e) o → IsSideFailure g tree f → IsImpliesFailure s e f
 consequent_failure g s same e failure.Memory tree is reached o x w = tt
 consequent_failure g s same e (failure.Fault f) tree is reached o x w =
@@ -268,18 +293,18 @@ consequent_failure g s same e (failure.Fault f) tree is reached o x w =
     (subst (λ (d : Data). IsSideFault s.theory.signature d (state_fault_view f)) is (subst (λ (k : KoreSignature). IsSideFault k tree (state_fault_view f)) same w))
 
 -- T2 of sides without a fault
-t2_failure : (s : Setting) (e : Implies) (a c : Option State) → (x : IsSideAt s.theory.signature (antecedent_tree e) a) (y : IsSideAt s.theory.signature (consequent_tree e) c) → IsReached s.names (name_view e.module_name)
+t2_failure : (s : Setting) (e : Implies) (a c : Option State) → (x : IsSideAt s.theory.signature (antecedent_tree e) a) (y : IsSideAt s.theory.signature (consequent_tree e) c) → IsModuleReached s.names (name_view e.module_name)
     → IsImpliesUntold s (name_view e.module_name) x.pattern y.pattern x.sort y.sort → (f : StateFault) → state_fault_view f ≡ not_verified other_shape → IsImpliesFailure s e (failure.Fault f)
 t2_failure s e a c x y reached why f t2 =
     subst (λ (error : RequestError). IsImpliesError s (name_view e.module_name) (antecedent_tree e) (consequent_tree e) error) (sym t2)
     (untold x.pattern y.pattern x.sort y.sort reached x.side y.side why)
 
-pub elsewhere_failure : (s : Setting) (e : Implies) (a c : Option State) → IsSideAt s.theory.signature (antecedent_tree e) a → IsSideAt s.theory.signature (consequent_tree e) c → IsReached s.names (name_view e.module_name)
+pub elsewhere_failure : (s : Setting) (e : Implies) (a c : Option State) → IsSideAt s.theory.signature (antecedent_tree e) a → IsSideAt s.theory.signature (consequent_tree e) c → IsModuleReached s.names (name_view e.module_name)
     → (main : Text) → main ≡ s.main → IsElsewhere main (name_view e.module_name) → (f : StateFault) → state_fault_view f ≡ not_verified other_shape → IsImpliesFailure s e (failure.Fault f)
 elsewhere_failure s e a c x y reached main same there f t2 =
     t2_failure s e a c x y reached (asked_elsewhere (subst (λ (m : Text). IsElsewhere m (name_view e.module_name)) same there)) f t2
 
-pub mixed_failure : (s : Setting) (e : Implies) (a c : Option State) → IsSideAt s.theory.signature (antecedent_tree e) a → IsSideAt s.theory.signature (consequent_tree e) c → IsReached s.names (name_view e.module_name)
+pub mixed_failure : (s : Setting) (e : Implies) (a c : Option State) → IsSideAt s.theory.signature (antecedent_tree e) a → IsSideAt s.theory.signature (consequent_tree e) c → IsModuleReached s.names (name_view e.module_name)
     → keeps_values_apart s.theory.signature ≡ false → (f : StateFault) → state_fault_view f ≡ not_verified other_shape → IsImpliesFailure s e (failure.Fault f)
 mixed_failure s e a c x y reached mixed f t2 = t2_failure s e a c x y reached (shares_sorts mixed) f t2
 
@@ -289,7 +314,7 @@ why_apart s name regular ta tc None c x y k = no_antecedent (x.shaped regular)
 why_apart s name regular ta tc (Some a) None x y k = no_consequent (y.shaped regular)
 why_apart s name regular ta tc (Some a) (Some c) x y k = other_sorts (λ same. k (x.shaped.sort_is ∙ (same ∙ sym y.shaped.sort_is)))
 
-pub apart_failure : (s : Setting) (e : Implies) (a c : Option State) → IsSideAt s.theory.signature (antecedent_tree e) a → IsSideAt s.theory.signature (consequent_tree e) c → IsReached s.names (name_view e.module_name)
+pub apart_failure : (s : Setting) (e : Implies) (a c : Option State) → IsSideAt s.theory.signature (antecedent_tree e) a → IsSideAt s.theory.signature (consequent_tree e) c → IsModuleReached s.names (name_view e.module_name)
     → IsRegular s.theory.signature → (f : Failure) → AreNotCompared a c f → IsImpliesFailure s e f
 apart_failure s e a c x y reached regular failure.Memory k = tt
 apart_failure s e a c x y reached regular (failure.Fault f) k =
@@ -297,7 +322,7 @@ apart_failure s e a c x y reached regular (failure.Fault f) k =
 
 -- ---- sides that are compared
 
-pub implied_of : (s : Setting) (e : Implies) (main : Text) (a c : Option State) (o : Option KoreSort) → IsReached s.names (name_view e.module_name) → main ≡ s.main → ¬ IsElsewhere main (name_view e.module_name)
+pub implied_of : (s : Setting) (e : Implies) (main : Text) (a c : Option State) (o : Option KoreSort) → IsModuleReached s.names (name_view e.module_name) → main ≡ s.main → ¬ IsElsewhere main (name_view e.module_name)
     → keeps_values_apart s.theory.signature ≡ true → IsRegular s.theory.signature → IsSideAt s.theory.signature (antecedent_tree e) a → IsSideAt s.theory.signature (consequent_tree e) c → AreBothCompared a c o → IsImpliedOf s e o
 implied_of s e main a c o reached same here apart regular x y k = record {
   reached = reached;

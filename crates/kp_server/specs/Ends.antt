@@ -25,13 +25,13 @@ use Rattle.kp_rpc.specs.View.{id_view, options_view, pattern_fault_view, state_f
 use Rattle.kp_rpc.specs.declared.fault.StateFault.TheVariants as fault
 use Rattle.kp_rpc.specs.declared.request.Execute.{Execute}
 use Rattle.kp_server.specs.Right.{IsPatternFault, IsStateError, IsReplyToExecute}
-use Rattle.kp_server.specs.Setting.{IsElsewhere, IsReached, Setting}
+use Rattle.kp_server.specs.Setting.{IsElsewhere, IsModuleReached, Setting}
 use Rattle.kp_server.specs.declared.failure.Failure.{Failure}
 use Rattle.kp_server.specs.declared.failure.Failure.TheVariants as failure
 
 -- what was read of a request is what its tree is
-abbrev pub IsRead : Execute → Type 0
-IsRead e = IsExecuteTree (data_view e.request) (id_view e.id) (options_view e.options)
+abbrev pub IsExecuteRead : Execute → Type 0
+IsExecuteRead e = IsExecuteTree (data_view e.request) (id_view e.id) (options_view e.options)
 
 abbrev pub options_of : Execute → ExecuteOptions
 options_of e = options_view e.options
@@ -101,7 +101,7 @@ pub record IsPlain (main : Text) (options : ExecuteOptions) : Type 0 where
 
 -- the run of the request's state, which is told
 pub record IsEndOf (s : Setting) (e : Execute) (end : Executed) : Type 0 where
-  pub reached : IsReached s.names (options_of e).module_name
+  pub reached : IsModuleReached s.names (options_of e).module_name
   pub plain : IsPlain s.main (options_of e)
   pub start : State
   pub is_start : IsStateOf s.theory.signature e start

@@ -20,7 +20,7 @@ use Rattle.kp_rpc.specs.Causes.{IsRefused, IsExecuteTree, IsImpliesTree}
 use Rattle.kp_rpc.specs.Implications.{IsRightImpliesReply}
 use Rattle.kp_rpc.specs.Reply.{VerifyFault, unknown_sort, unknown_symbol, other_number, sorts_differ, wide_number, deep_term, no_literal, foreign_symbol, other_shape, RequestError, no_module, no_pattern, not_verified, error_reply, reply_bytes, IsRightReply}
 use Rattle.kp_server.specs.Normal.{IsNormal, TellsFirst}
-use Rattle.kp_server.specs.Setting.{IsReached, Setting}
+use Rattle.kp_server.specs.Setting.{IsModuleReached, Setting}
 use Rattle.kp_server.specs.Untold.{IsUntold, IsLeftOut, IsImpliesUntold}
 
 -- ---- replies with a result
@@ -40,7 +40,7 @@ pub record IsAnswered (s : Setting) (d reply : Data) : Type 0 where
   pub tree : d ≡ object members
   pub request : ExecuteRequest
   pub is_request : IsExecute members request
-  pub reached : IsReached s.names request.options.module_name
+  pub reached : IsModuleReached s.names request.options.module_name
   pub is_told : IsTold s request
   pub right : IsRightReply s.theory request reply
   pub normal : IsNormal s.theory request.state is_told.sort right.result.depth right.result.state.term
@@ -66,8 +66,8 @@ IsPatternFault g LeftOut p other_shape = (s : KoreSort) × VerifiesAs g p s × (
 -- that it spells has a fault, or is left out
 abbrev pub IsStateError : Setting → ExecuteOptions → Data → RequestError → Type 0
 IsStateError s options state (no_module name) = (options.module_name ≡ Some name) × (has name s.names ≡ false)
-IsStateError s options state (no_pattern f) = IsReached s.names options.module_name × (wrapped_reading state ≡ fault f)
-IsStateError s options state (not_verified f) = IsReached s.names options.module_name × (p : KorePattern) × SpellsWrapped state p × IsPatternFault s.theory.signature (IsLeftOut s options) p f
+IsStateError s options state (no_pattern f) = IsModuleReached s.names options.module_name × (wrapped_reading state ≡ fault f)
+IsStateError s options state (not_verified f) = IsModuleReached s.names options.module_name × (p : KorePattern) × SpellsWrapped state p × IsPatternFault s.theory.signature (IsLeftOut s options) p f
 IsStateError s options state _ = ⊥
 
 -- the tree is a request of execute that is at fault; the reply tells how, with the request's id
@@ -105,13 +105,13 @@ IsSideFault g tree _ = ⊥
 -- consequent's spells none; the antecedent has a fault; the consequent has one; no result is told of them
 pub data IsImpliesError (s : Setting) (name : Option Text) (antecedent consequent : Data) : RequestError → Type 0 where
   unreached : (n : Text) → name ≡ Some n → has n s.names ≡ false → IsImpliesError s name antecedent consequent (no_module n)
-  unread_antecedent : (e : RequestError) → IsReached s.names name → IsTreeFault antecedent e → IsImpliesError s name antecedent consequent e
-  unread_consequent : (e : RequestError) (a : KorePattern) → IsReached s.names name → SpellsWrapped antecedent a → IsTreeFault consequent e
+  unread_antecedent : (e : RequestError) → IsModuleReached s.names name → IsTreeFault antecedent e → IsImpliesError s name antecedent consequent e
+  unread_consequent : (e : RequestError) (a : KorePattern) → IsModuleReached s.names name → SpellsWrapped antecedent a → IsTreeFault consequent e
       → IsImpliesError s name antecedent consequent e
-  in_antecedent : (e : RequestError) (c : KorePattern) → IsReached s.names name → SpellsWrapped consequent c → IsSideFault s.theory.signature antecedent e → IsImpliesError s name antecedent consequent e
-  in_consequent : (e : RequestError) (a : KorePattern) (sort : KoreSort) → IsReached s.names name → IsSide s.theory.signature antecedent a sort
+  in_antecedent : (e : RequestError) (c : KorePattern) → IsModuleReached s.names name → SpellsWrapped consequent c → IsSideFault s.theory.signature antecedent e → IsImpliesError s name antecedent consequent e
+  in_consequent : (e : RequestError) (a : KorePattern) (sort : KoreSort) → IsModuleReached s.names name → IsSide s.theory.signature antecedent a sort
       → IsSideFault s.theory.signature consequent e → IsImpliesError s name antecedent consequent e
-  untold : (a c : KorePattern) (sort other : KoreSort) → IsReached s.names name → IsSide s.theory.signature antecedent a sort → IsSide s.theory.signature consequent c other
+  untold : (a c : KorePattern) (sort other : KoreSort) → IsModuleReached s.names name → IsSide s.theory.signature antecedent a sort → IsSide s.theory.signature consequent c other
       → IsImpliesUntold s name a c sort other → IsImpliesError s name antecedent consequent (not_verified other_shape)
 
 -- the tree is a request of implies that is at fault; the reply tells how, with the request's id
@@ -140,7 +140,7 @@ pub record IsImpliesAnswered (s : Setting) (d reply : Data) : Type 0 where
   pub tree : d ≡ object members
   pub request : ImpliesRequest
   pub is_request : IsImplies members request
-  pub reached : IsReached s.names request.module_name
+  pub reached : IsModuleReached s.names request.module_name
   pub is_told : IsImpliesTold s request
   pub right : IsRightImpliesReply s.theory request reply
 

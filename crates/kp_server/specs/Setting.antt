@@ -24,9 +24,9 @@ pub record IsSetting (d : KoreDefinition) (main : Text) (s : Setting) : Type 0 w
 -- ---- modules that a request names
 
 -- it names none, or one that is reached
-abbrev pub IsReached : List Text → Option Text → Type 0
-IsReached names None = ⊤
-IsReached names (Some n) = has n names ≡ true
+abbrev pub IsModuleReached : List Text → Option Text → Type 0
+IsModuleReached names None = ⊤
+IsModuleReached names (Some n) = has n names ≡ true
 
 -- it names another module than main
 abbrev pub IsElsewhere : Text → Option Text → Type 0

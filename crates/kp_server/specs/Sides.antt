@@ -19,7 +19,7 @@ use Rattle.kp_rpc.specs.View.{id_view, name_view, state_fault_view}
 use Rattle.kp_rpc.specs.declared.request.Implies.{Implies}
 use Rattle.kp_server.specs.Ends.{IsStateAt}
 use Rattle.kp_server.specs.Right.{IsSide, IsTreeFault, IsSideFault, IsImpliesError, IsReplyToImplies}
-use Rattle.kp_server.specs.Setting.{IsElsewhere, IsReached, Setting}
+use Rattle.kp_server.specs.Setting.{IsElsewhere, IsModuleReached, Setting}
 use Rattle.kp_server.specs.declared.failure.Failure.{Failure}
 use Rattle.kp_server.specs.declared.failure.Failure.TheVariants as failure
 
@@ -107,7 +107,7 @@ AreNotCompared a c (failure.Fault f) = (state_fault_view f ≡ not_verified othe
 
 -- the sides of the request have no fault, and their values are compared so
 pub record IsImpliedOf (s : Setting) (e : Implies) (o : Option KoreSort) : Type 0 where
-  pub reached : IsReached s.names (name_view e.module_name)
+  pub reached : IsModuleReached s.names (name_view e.module_name)
   pub here : ¬ IsElsewhere s.main (name_view e.module_name)
   pub apart : keeps_values_apart s.theory.signature ≡ true
   pub regular : IsRegular s.theory.signature

@@ -6,8 +6,8 @@ ghost use Rattle.kp_run.specs.Runs.{reason_of as stop_reason};
 ghost use Rattle.kp_semantics.specs.Foreign.{none_within};
 ghost use Rattle.kp_semantics.specs.Theory.{Theory};
 ghost use Rattle.kp_states.specs.Spelled.{is_other_form};
-ghost use Rattle.kp_server.specs.Ends.{IsEndLine, IsEndOf, IsFailureOf, IsLineTo, IsRead, IsStateOf, IsStatePattern, options_of};
-ghost use Rattle.kp_server.specs.Setting.{IsSettingOf, IsReached, Setting};
+ghost use Rattle.kp_server.specs.Ends.{IsEndLine, IsEndOf, IsFailureOf, IsLineTo, IsExecuteRead, IsStateOf, IsStatePattern, options_of};
+ghost use Rattle.kp_server.specs.Setting.{IsSettingOf, IsModuleReached, Setting};
 
 use crate::asked::{check_module, rules_of};
 use crate::failure::{Failure, verify_failure};
@@ -30,7 +30,7 @@ pub fn answer_execute(
     table: &Table,
     request: &Execute,
 ) -> Result<Vec<u8>, AllocError>
-    requires { IsRead request.now }
+    requires { IsExecuteRead request.now }
     ensures { (s : Setting) → IsSettingOf s table.now → IfOk result (λ line. IsLineTo s request.now line.items) }
 {
     match executed(alloc, table, request) {
@@ -47,7 +47,7 @@ fn answer_end(
     request: &Execute,
     end: &Executed,
 ) -> Result<Vec<u8>, AllocError>
-    requires { IsRead request.now }
+    requires { IsExecuteRead request.now }
     ensures { (s : Setting) → RunsAs s.theory rules.now → IsEndOf s request.now end.now → IfOk result (λ line. IsLineTo s request.now line.items) }
 {
     match spelled(alloc, &rules.signature, &end.state.value, &end.state.sort) {
@@ -88,7 +88,7 @@ fn end_line(
 /// The end of the run that a request asks for, or the first cause why there is none. That a run lacks a binding, which
 /// no rule that is read brings about, is told as want of memory.
 fn executed(alloc: Global, table: &Table, request: &Execute) -> Result<Executed, Failure>
-    requires { IsRead request.now }
+    requires { IsExecuteRead request.now }
     ensures found { (s : Setting) → IsSettingOf s table.now → IfOk result (IsEndOf s request.now) }
     ensures failed { (s : Setting) → IsSettingOf s table.now → IfErr result (IsFailureOf s request.now) }
 {
@@ -106,9 +106,9 @@ fn executed(alloc: Global, table: &Table, request: &Execute) -> Result<Executed,
 
 /// The request's state, verified; T2 over a signature whose whole numbers and truth values share their sorts.
 fn state_at(alloc: Global, rules: &RuleSet, request: &Execute) -> Result<State, Failure>
-    requires { IsRead request.now }
+    requires { IsExecuteRead request.now }
     ensures found { (t : Theory) → RunsAs t rules.now → IfOk result (IsStateOf t.signature request.now) }
-    ensures failed { (s : Setting) → RunsAs s.theory rules.now → IsReached s.names (options_of request.now).module_name → IfErr result (IsFailureOf s request.now) }
+    ensures failed { (s : Setting) → RunsAs s.theory rules.now → IsModuleReached s.names (options_of request.now).module_name → IfErr result (IsFailureOf s request.now) }
 {
     let pattern = pattern_at(alloc, request)?;
     let sort = match verify(alloc, &rules.signature, &pattern) {
@@ -127,9 +127,9 @@ fn state_at(alloc: Global, rules: &RuleSet, request: &Execute) -> Result<State, 
 
 /// The pattern of the request's state.
 fn pattern_at(alloc: Global, request: &Execute) -> Result<Pattern, Failure>
-    requires { IsRead request.now }
+    requires { IsExecuteRead request.now }
     ensures found { IfOk result (λ p. IsStatePattern request.now (view p)) }
-    ensures failed { (s : Setting) → IsReached s.names (options_of request.now).module_name → IfErr result (IsFailureOf s request.now) }
+    ensures failed { (s : Setting) → IsModuleReached s.names (options_of request.now).module_name → IfErr result (IsFailureOf s request.now) }
 {
     let Some(tree) = state_tree_of(&request.request) else {
         unreachable!();

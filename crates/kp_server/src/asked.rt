@@ -3,7 +3,7 @@ ghost use Rattle.std.specs.Prelude.{◌↔◌, IfErr, IsTrue, OnOk};
 ghost use Rattle.kp_modules.specs.Tables.{main_of};
 ghost use Rattle.kp_rpc.specs.View.{name_view};
 ghost use Rattle.kp_rules.specs.Bodies.{RunsAs};
-ghost use Rattle.kp_server.specs.Setting.{IsSettingOf, IsElsewhere, IsReached, Setting};
+ghost use Rattle.kp_server.specs.Setting.{IsSettingOf, IsElsewhere, IsModuleReached, Setting};
 ghost use Rattle.kp_server.specs.Sides.{IsUnreached};
 
 use crate::failure::{Failure, no_module};
@@ -19,7 +19,7 @@ pub fn rules_of(table: &Table) -> &RuleSet
 
 /// Whether the module that a request names is reached: code 3 where it isn't.
 pub fn check_module(table: &Table, name: &Option<String>) -> Result<(), Failure>
-    ensures reached { (s : Setting) → IsSettingOf s table.now → OnOk result (IsReached s.names (name_view name.now)) }
+    ensures reached { (s : Setting) → IsSettingOf s table.now → OnOk result (IsModuleReached s.names (name_view name.now)) }
     ensures unknown { (s : Setting) → IsSettingOf s table.now → IfErr result (IsUnreached s (name_view name.now)) }
 {
     match name {

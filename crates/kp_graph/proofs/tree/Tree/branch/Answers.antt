@@ -8,8 +8,12 @@ use Rattle.kp_graph.specs.Growth.{IsGrowth}
 use Rattle.kp_graph.proofs.Places.{kept_flag_at}
 use Rattle.kp_graph.proofs.CallLemmas.{before_with_children}
 use Rattle.kp_graph.proofs.CallKeeps.{Keeps, one_counted, children_keep, grown_view}
+use Rattle.kp_graph.proofs.RowLemmas.{pass_alone}
 use Rattle.kp_graph.proofs.GrowthLemmas.{branch_growth}
 use Rattle.kp_graph.proofs.tree.Tree.branch.Goals as goal
+
+pub add_all-requires-clause-passing : goal.add_all-requires-clause-passing
+add_all-requires-clause-passing c = pass_alone _ c.in_ok-nodes.nodes.items c.args.children.items c.in_ok-nodes.ensures.alone
 
 pub unsettled_after-self-requires-clause-some : goal.unsettled_after-self-requires-clause-some
 unsettled_after-self-requires-clause-some c =
@@ -73,7 +77,7 @@ invariant_of-self-2 c =
     (λ l. let some : 0 < c.len-count.result = omega (arith, l, many, count_is) in omega (arith, c.unsettled_after-self.ensures.more some, many, count_is)) in
     let same : Keeps (nodes_view c.add_all.new.nodes.items) c.args.self.now.failed c.unsettled_after-self.result = rw seen keeps in
     let first : c.next_open-self.result ≡ before_open (nodes_view c.add_all.new.nodes.items) = c.next_open-self.ensures ∙ ap (λ l. before_open (nodes_view l)) c.deref-2.ensures.value in
-    record { shape = same.shape; first_open = first; some_failed = same.failed; counted = same.counted }
+    record { shape = same.shape; first_open = first; pass = c.in_ok-add_all.ensures.pass; some_failed = same.failed; counted = same.counted }
 
 pub returns-clause-added : goal.returns-clause-added
 returns-clause-added c =

@@ -19,7 +19,7 @@ next_open-self-requires c =
     let old = c.args.self.now.nodes.items in
     let n = c.args.node.number in
     let free : arc_fault (nodes_view old) n ≡ None = subst (λ l. arc_fault (nodes_view l) n ≡ None) c.deref.ensures.value c.in_ok-place.ensures.opened in
-    let seen : nodes_view c.give_arc.new.nodes ≡ with_arc n (arc_view c.args.arc) (nodes_view old) = c.give_arc.ensures ∙ ap (λ l. with_arc (c.in_ok-place.place + 1) (arc_view c.args.arc) (nodes_view l)) c.deref_mut.ensures.value ∙ ap (λ k. with_arc k (arc_view c.args.arc) (nodes_view old)) c.in_ok-place.ensures.place in
+    let seen : nodes_view c.give_arc.new.nodes ≡ with_arc n (arc_view c.args.arc) (nodes_view old) = c.give_arc.ensures.arc ∙ ap (λ l. with_arc (c.in_ok-place.place + 1) (arc_view c.args.arc) (nodes_view l)) c.deref_mut.ensures.value ∙ ap (λ k. with_arc k (arc_view c.args.arc) (nodes_view old)) c.in_ok-place.ensures.place in
     let length_is : c.args.self.now.nodes.len ≡ length old = omega (arith, c.args.self.now.nodes.ok) in
     let same_length : length c.give_arc.new.nodes ≡ length old = omega (arith, c.give_arc.auto.nodes, ap length c.deref_mut.ensures.value) in
     let wrote = written c.args.self.now.nodes.len c.give_arc.new.nodes old length_is same_length in
@@ -33,11 +33,11 @@ invariant_of-self c =
     let n = c.args.node.number in
     let free : arc_fault (nodes_view old) n ≡ None = subst (λ l. arc_fault (nodes_view l) n ≡ None) c.deref.ensures.value c.in_ok-place.ensures.opened in
     let kept : Keeps (nodes_view old) c.args.self.now.failed c.args.self.now.unsettled = record { shape = c.args.self.now.shape; failed = c.args.self.now.some_failed; counted = c.args.self.now.counted } in
-    let seen : nodes_view c.give_arc.new.nodes ≡ with_arc n (arc_view c.args.arc) (nodes_view old) = c.give_arc.ensures ∙ ap (λ l. with_arc (c.in_ok-place.place + 1) (arc_view c.args.arc) (nodes_view l)) c.deref_mut.ensures.value ∙ ap (λ k. with_arc k (arc_view c.args.arc) (nodes_view old)) c.in_ok-place.ensures.place in
+    let seen : nodes_view c.give_arc.new.nodes ≡ with_arc n (arc_view c.args.arc) (nodes_view old) = c.give_arc.ensures.arc ∙ ap (λ l. with_arc (c.in_ok-place.place + 1) (arc_view c.args.arc) (nodes_view l)) c.deref_mut.ensures.value ∙ ap (λ k. with_arc k (arc_view c.args.arc) (nodes_view old)) c.in_ok-place.ensures.place in
     let length_is : c.args.self.now.nodes.len ≡ length old = omega (arith, c.args.self.now.nodes.ok) in
     let same_length : length c.give_arc.new.nodes ≡ length old = omega (arith, c.give_arc.auto.nodes, ap length c.deref_mut.ensures.value) in
     let wrote = written c.args.self.now.nodes.len c.give_arc.new.nodes old length_is same_length in
     let keeps : Keeps (with_arc n (arc_view c.args.arc) (nodes_view old)) (c.args.self.now.failed || c.args.fails) (c.args.self.now.unsettled - 1) = leaf_keeps (nodes_view old) c.args.self.now.failed c.args.self.now.unsettled n (arc_view c.args.arc) c.args.fails kept free c.requires.leaf c.requires.still c.requires.settles c.requires.fails in
     let same : Keeps (nodes_view c.give_arc.new.nodes) (c.args.self.now.failed || c.args.fails) (c.args.self.now.unsettled - 1) = rw seen keeps in
     let first : c.next_open-self.result ≡ before_open (nodes_view c.give_arc.new.nodes) = c.next_open-self.ensures ∙ ap (λ l. before_open (nodes_view l)) (c.deref-2.ensures.value ∙ wrote) in
-    rw wrote (record { shape = same.shape; first_open = first; some_failed = c.either_failed-self.ensures ∙ same.failed; counted = same.counted })
+    rw wrote (record { shape = same.shape; first_open = first; pass = c.give_arc.ensures.pass; some_failed = c.either_failed-self.ensures ∙ same.failed; counted = same.counted })

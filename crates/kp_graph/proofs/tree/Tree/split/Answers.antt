@@ -8,8 +8,12 @@ use Rattle.kp_graph.specs.Growth.{IsGrowth}
 use Rattle.kp_graph.proofs.Places.{kept_flag_at}
 use Rattle.kp_graph.proofs.CallLemmas.{before_with_children}
 use Rattle.kp_graph.proofs.CallKeeps.{Keeps, one_counted, children_keep, grown_view}
+use Rattle.kp_graph.proofs.RowLemmas.{pass_alone}
 use Rattle.kp_graph.proofs.GrowthLemmas.{split_growth}
 use Rattle.kp_graph.proofs.tree.Tree.split.Goals as goal
+
+pub add_all-requires-clause-passing : goal.add_all-requires-clause-passing
+add_all-requires-clause-passing c = pass_alone _ c.in_ok-children.children.items c.args.states.items c.in_ok-children.ensures.alone
 
 pub unsettled_after-self-requires-clause-some : goal.unsettled_after-self-requires-clause-some
 unsettled_after-self-requires-clause-some c =
@@ -36,7 +40,7 @@ next_open-self-requires c =
     grown_view (nodes_view old) (nodes_view c.add_all.new.nodes.items) c.in_ok-place.place n (arc_view c.split_to.result) arc (nodes_view c.in_ok-children.children.items) zs
     c.in_ok-place.ensures.place
     (c.split_to.ensures ∙ ap (λ k. split (numbers_from (k + 1) c.len-count.result)) long ∙ ap (λ k. split (numbers_from (length (nodes_view old) + 1) k)) count_is)
-    (c.in_ok-children.ensures ∙ ap (λ b. map (λ s. open_node n s false b) states) (sym flag))
+    (c.in_ok-children.ensures.nodes ∙ ap (λ b. map (λ s. open_node n s false b) states) (sym flag))
     c.in_ok-add_all.ensures.added in
     let growth : IsGrowth (nodes_view old) n arc zs = split_growth (nodes_view old) n states in
     let more : before_open (nodes_view old) ≤ before_open (with_split n states (nodes_view old)) = before_with_children (nodes_view old) n arc zs free in
@@ -61,7 +65,7 @@ invariant_of-self-2 c =
     grown_view (nodes_view old) (nodes_view c.add_all.new.nodes.items) c.in_ok-place.place n (arc_view c.split_to.result) arc (nodes_view c.in_ok-children.children.items) zs
     c.in_ok-place.ensures.place
     (c.split_to.ensures ∙ ap (λ k. split (numbers_from (k + 1) c.len-count.result)) long ∙ ap (λ k. split (numbers_from (length (nodes_view old) + 1) k)) count_is)
-    (c.in_ok-children.ensures ∙ ap (λ b. map (λ s. open_node n s false b) states) (sym flag))
+    (c.in_ok-children.ensures.nodes ∙ ap (λ b. map (λ s. open_node n s false b) states) (sym flag))
     c.in_ok-add_all.ensures.added in
     let growth : IsGrowth (nodes_view old) n arc zs = split_growth (nodes_view old) n states in
     let keeps : Keeps (with_split n states (nodes_view old)) c.args.self.now.failed c.unsettled_after-self.result = children_keep (nodes_view old) c.args.self.now.failed c.args.self.now.unsettled c.unsettled_after-self.result n arc zs kept free growth
@@ -69,7 +73,7 @@ invariant_of-self-2 c =
     (λ l. let some : 0 < c.len-count.result = omega (arith, l, many, count_is) in omega (arith, c.unsettled_after-self.ensures.more some, many, count_is)) in
     let same : Keeps (nodes_view c.add_all.new.nodes.items) c.args.self.now.failed c.unsettled_after-self.result = rw seen keeps in
     let first : c.next_open-self.result ≡ before_open (nodes_view c.add_all.new.nodes.items) = c.next_open-self.ensures ∙ ap (λ l. before_open (nodes_view l)) c.deref-2.ensures.value in
-    record { shape = same.shape; first_open = first; some_failed = same.failed; counted = same.counted }
+    record { shape = same.shape; first_open = first; pass = c.in_ok-add_all.ensures.pass; some_failed = same.failed; counted = same.counted }
 
 pub returns-clause-added : goal.returns-clause-added
 returns-clause-added c =
@@ -88,7 +92,7 @@ returns-clause-added c =
     grown_view (nodes_view old) (nodes_view c.add_all.new.nodes.items) c.in_ok-place.place n (arc_view c.split_to.result) arc (nodes_view c.in_ok-children.children.items) zs
     c.in_ok-place.ensures.place
     (c.split_to.ensures ∙ ap (λ k. split (numbers_from (k + 1) c.len-count.result)) long ∙ ap (λ k. split (numbers_from (length (nodes_view old) + 1) k)) count_is)
-    (c.in_ok-children.ensures ∙ ap (λ b. map (λ s. open_node n s false b) states) (sym flag))
+    (c.in_ok-children.ensures.nodes ∙ ap (λ b. map (λ s. open_node n s false b) states) (sym flag))
     c.in_ok-add_all.ensures.added in
     let growth : IsGrowth (nodes_view old) n arc zs = split_growth (nodes_view old) n states in
     seen
