@@ -1,0 +1,5 @@
+mod Back
+mod Lines
+mod NextsRead
+mod NextsWritten
+mod Plain
