@@ -7,14 +7,15 @@ use Rattle.kp_kore.specs.Syntax.{Text, KorePattern}
 use Rattle.kp_semantics.specs.Causes.{foreign}
 use Rattle.kp_results.specs.Results.{StateParts, NextParts, Ending, vacuous, depth_bound, stuck, branching, cut_point, terminal, aborted, ExecutedParts}
 use Rattle.kp_rpc.specs.Request.{RequestId}
-use Rattle.kp_rpc.specs.Reply.{result_reply}
-use Rattle.kp_rpc.specs.Replied.{IsSpelled, IsSpelledState}
+use Rattle.kp_rpc.specs.Reply.{ImpliesResult, not_valid, valid, not_valid_object, valid_object, implied_tree, result_reply}
+use Rattle.kp_rpc.specs.Replied.{IsSpelled, IsSpelledState, IsSpelledImplied}
+use Rattle.kp_rpc.specs.RepliesRead.{read_implied}
 use Rattle.kp_rpc.specs.Questions.{with_text}
 use Rattle.kp_rpc.proofs.Answered.{written}
 use Rattle.kp_rpc.proofs.Told.{read_in}
 use Rattle.kp_replies.specs.Written.{state_tree, next_tree, first_item, next_trees, with_nexts, executed_members, executed_tree, simplified_tree, added_tree}
 use Rattle.kp_replies.specs.Failures.{Failure, bad_sides, undecided, bad_module, duplicate, failure_code, failure_data, failure_error, failed_reply, failure_reply}
-use Rattle.kp_replies.specs.Read.{Method, execute, simplify, add_module, executed, simplified, added, failed, is_rule_id, if_rule_id, read_state, read_next, first_next, read_nexts, read_executed, read_reply}
+use Rattle.kp_replies.specs.Read.{Method, execute, simplify, add_module, executed, simplified, added, failed, is_rule_id, if_rule_id, read_state, read_next, first_next, read_nexts, read_executed, read_reply, implies, implied}
 use Rattle.kp_replies.specs.Replies.{IsNamed, IsWritableNext, IsWritableEnding, IsWritable}
 
 same : {A : Type 0} (x y : A) → Some x ≡ Some y → x ≡ y
@@ -142,6 +143,20 @@ executed_back x tree w e =
 
 pub executed_read_back : (id : RequestId) (x : ExecutedParts) (tree : Data) → IsWritable x → executed_tree x ≡ Some tree → read_reply execute (result_reply id tree) ≡ Some (executed x)
 executed_read_back id x tree w e = ap (option_map executed) (executed_back x tree w e)
+
+-- ---- implies
+
+implied_made : (x : ImpliesResult) (tree : Data) → IsSpelledImplied x → implied_tree x ≡ Some tree → read_implied tree ≡ Some x
+implied_made not_valid tree h e = ap read_implied (sym (same not_valid_object tree e))
+implied_made (valid p q) tree (h, k) e =
+    let a = written p h in
+    let b = written q k in
+    let made : implied_tree (valid p q) ≡ Some (valid_object a.tree b.tree) = rw (a.is, b.is) refl in
+    let read : read_implied (valid_object a.tree b.tree) ≡ Some (valid p q) = rw (read_in a.tree p a.spells, read_in b.tree q b.spells) refl in
+    ap read_implied (sym (same (valid_object a.tree b.tree) tree (sym made ∙ e))) ∙ read
+
+pub implied_read_back : (id : RequestId) (x : ImpliesResult) (tree : Data) → IsSpelledImplied x → implied_tree x ≡ Some tree → read_reply implies (result_reply id tree) ≡ Some (implied x)
+implied_read_back id x tree h e = ap (option_map implied) (implied_made x tree h e)
 
 -- ---- simplify, add-module and failures
 

@@ -3,3 +3,4 @@ mod Lines
 mod NextsRead
 mod NextsWritten
 mod Plain
+mod Texts

@@ -1,13 +1,14 @@
 -- What a client is told by the bytes of a reply, and what a server writes that is read back.
 -- Source: JSON-RPC 2.0 (response objects); the K Haskell backend's JSON-RPC documentation.
-use Rattle.std.specs.Prelude.{◌≡◌, ℕ, List, [], ◌∷◌, ◌++◌, Option, Some, None, true}
+use Rattle.std.specs.Prelude.{◌≡◌, ◌<◌, ◌^◌, ℕ, List, [], ◌∷◌, ◌++◌, Option, Some, None, true}
 use Rattle.std.specs.List.{AllByRecursion}
 use Rattle.serde_json.specs.Data.{Data}
 use Rattle.kp_kore.specs.Syntax.{Text}
 use Rattle.kp_semantics.specs.Causes.{foreign}
-use Rattle.kp_results.specs.Results.{NextParts, Ending, vacuous, depth_bound, stuck, branching, cut_point, terminal, aborted, ExecutedParts}
+use Rattle.kp_results.specs.Results.{NextParts, Ending, vacuous, depth_bound, stuck, branching, cut_point, terminal, aborted, ExecutedParts, Limit, weighed, wide_call, predicate, limit}
 use Rattle.kp_rpc.specs.Frame.{IsFrame}
 use Rattle.kp_rpc.specs.Replied.{IsSpelled, IsSpelledState}
+use Rattle.kp_replies.specs.Failures.{Failure, undecided, bad_module, duplicate, bad_text, bad_axiom, bad_sentence}
 use Rattle.kp_replies.specs.Read.{Method, ServerReply, is_rule_id, read_reply}
 
 -- the text is a frame of a reply to the method that tells this
@@ -43,3 +44,18 @@ IsWritableEnding (aborted (foreign id)) ns = (is_rule_id id ≡ true) × (ns ≡
 pub record IsWritable (x : ExecutedParts) : Type 0 where
   pub state : IsSpelledState x.state.term x.state.predicate
   pub ending : IsWritableEnding x.ending x.nexts
+
+-- the numbers are of 64 bits
+abbrev pub Fits : Limit → Type 0
+Fits (weighed w n) = n < 2 ^ 64
+Fits (wide_call first second symbol) = Unit {0}
+
+abbrev pub FailureFits : Failure → Type 0
+FailureFits (undecided (predicate p (Some l))) = Fits l
+FailureFits (undecided (predicate p None)) = Unit {0}
+FailureFits (undecided (limit l)) = Fits l
+FailureFits (bad_module (bad_text at kind)) = (at < 2 ^ 64) × (kind < 2 ^ 64)
+FailureFits (bad_module (bad_axiom n)) = n < 2 ^ 64
+FailureFits (bad_module (bad_sentence n)) = n < 2 ^ 64
+FailureFits (duplicate n name) = n < 2 ^ 64
+FailureFits _ = Unit {0}
