@@ -192,13 +192,27 @@ fn a_bound_name_is_told(rt: HostRuntime) -> Result<(), Fail> {
 #[test]
 fn an_added_module_is_told(rt: HostRuntime) -> Result<(), Fail> {
     let alloc = rt.alloc();
-    let line = added_text(alloc, &Id::Unsigned(1), "mba78")?;
+    let line = added_text(
+        alloc,
+        &Id::Unsigned(1),
+        "mba7816bf8f01cfea414140de5dae2223b00361a396177a9cb410ff61f20015ad",
+    )?;
     assert_eq!(rt;
         line.as_slice(),
-        b"{\"id\":1,\"jsonrpc\":\"2.0\",\"result\":{\"module\":\"mba78\"}}\n".as_slice()
+        b"{\"id\":1,\"jsonrpc\":\"2.0\",\"result\":{\"module\":\"mba7816bf8f01cfea414140de5dae2223b00361a396177a9cb410ff61f20015ad\"}}\n".as_slice()
     );
     let told = reply_of(alloc, Method::AddModule, line.as_slice())?;
-    assert!(rt; matches!(&told, Some(ServerReply::Added(id)) if id.as_str() == "mba78"));
+    assert!(rt;
+        matches!(&told, Some(ServerReply::Added(id)) if id.as_str() == "mba7816bf8f01cfea414140de5dae2223b00361a396177a9cb410ff61f20015ad")
+    );
+    Ok(())
+}
+
+#[test]
+fn an_id_of_another_form_is_not_read(rt: HostRuntime) -> Result<(), Fail> {
+    let alloc = rt.alloc();
+    let line = added_text(alloc, &Id::Unsigned(1), "mba78")?;
+    assert!(rt; reply_of(alloc, Method::AddModule, line.as_slice())?.is_none());
     Ok(())
 }
 

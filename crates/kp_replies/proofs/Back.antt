@@ -15,7 +15,7 @@ use Rattle.kp_rpc.proofs.Answered.{written}
 use Rattle.kp_rpc.proofs.Told.{read_in}
 use Rattle.kp_replies.specs.Written.{state_tree, next_tree, first_item, next_trees, with_nexts, executed_members, executed_tree, simplified_tree, added_tree}
 use Rattle.kp_replies.specs.Failures.{Failure, bad_sides, undecided, bad_module, duplicate, failure_code, failure_data, failure_error, failed_reply, failure_reply}
-use Rattle.kp_replies.specs.Read.{Method, execute, simplify, add_module, executed, simplified, added, failed, is_rule_id, if_rule_id, read_state, read_next, first_next, read_nexts, read_executed, read_reply, implies, implied}
+use Rattle.kp_replies.specs.Read.{Method, execute, simplify, add_module, executed, simplified, added, failed, is_rule_id, is_module_id, if_rule_id, read_state, read_next, first_next, read_nexts, read_executed, read_reply, implies, implied}
 use Rattle.kp_replies.specs.Replies.{IsNamed, IsWritableNext, IsWritableEnding, IsWritable}
 
 same : {A : Type 0} (x y : A) → Some x ≡ Some y → x ≡ y
@@ -167,8 +167,8 @@ simplified_read_back id p tree h e =
     let read : read_reply simplify (result_reply id (object (put (codes "state") w.tree no_members))) ≡ Some (simplified p) = rw (read_in w.tree p w.spells) refl in
     ap (λ d. read_reply simplify (result_reply id d)) (sym (same (object (put (codes "state") w.tree no_members)) tree (sym made ∙ e))) ∙ read
 
-pub added_read_back : (id : RequestId) (name : Text) → read_reply add_module (result_reply id (added_tree name)) ≡ Some (added name)
-added_read_back id name = refl
+pub added_read_back : (id : RequestId) (name : Text) → is_module_id name ≡ true → read_reply add_module (result_reply id (added_tree name)) ≡ Some (added name)
+added_read_back id name h = rw h refl
 
 some_data : (make : Data → Data) (x : Option Data) (tree : Data) → option_map make x ≡ Some tree → (d : Data) × (make d ≡ tree)
 some_data make None tree e = absurd (cc e)

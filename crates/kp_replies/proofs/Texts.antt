@@ -1,5 +1,5 @@
 -- The text that is written of a result or a failure is read as its tree, and tells nothing else.
-use Rattle.std.proofs.Common.{◌≡◌, ℕ, ◌^◌, ◌<◌, ◌≤◌, List, [], ◌∷◌, Option, Some, None, option_map, option_and_then, refl, sym, ap, ◌∙◌, subst, arith}
+use Rattle.std.proofs.Common.{◌≡◌, ℕ, ◌^◌, ◌<◌, ◌≤◌, List, [], ◌∷◌, true, Option, Some, None, option_map, option_and_then, refl, sym, ap, ◌∙◌, subst, arith}
 use Rattle.std.specs.Prelude.{codes, pos}
 use Rattle.serde_json.specs.Data.{Data, array, object, Items, Members, no_members, put, depth}
 use Rattle.serde_json.specs.Read.{read, max_depth}
@@ -17,7 +17,7 @@ use Rattle.kp_rpc.proofs.ReadBack.{Back, ItemsBack, IsBack, number_back, id_back
 use Rattle.kp_rpc.proofs.Told.{same_front}
 use Rattle.kp_replies.specs.Written.{state_tree, next_tree, first_item, next_trees, with_nexts, executed_members, executed_tree, simplified_tree, added_tree}
 use Rattle.kp_replies.specs.Failures.{not_in_a_term, not_one_term, two_meanings, bad_text, unknown_import, bad_axiom, bad_sentence, full_book, Failure, bad_sides, undecided, bad_module, duplicate, limit_tree, failure_data, failure_code, failure_error, failed_reply, failure_reply}
-use Rattle.kp_replies.specs.Read.{Method, execute, implies, simplify, add_module, ServerReply, executed, implied, simplified, added, failed, read_reply}
+use Rattle.kp_replies.specs.Read.{Method, execute, implies, simplify, add_module, ServerReply, executed, implied, simplified, added, failed, is_module_id, read_reply}
 use Rattle.kp_replies.specs.Replies.{IsReplyOf, IsWritable, Fits, FailureFits}
 use Rattle.kp_replies.proofs.Back.{executed_read_back, implied_read_back, simplified_read_back, added_read_back, failure_read_back}
 
@@ -147,10 +147,10 @@ simplified_line id p tree r lawful w e h =
 added_back : (name : Text) → Back (added_tree name)
 added_back name = record { numbers = (tt, tt); is = refl }
 
-pub added_line : (id : RequestId) (name : Text) (r : ServerReply) → IsReadId id → IsReplyOf add_module (reply_bytes (result_reply id (added_tree name))) r → r ≡ added name
-added_line id name r lawful h =
+pub added_line : (id : RequestId) (name : Text) (r : ServerReply) → IsReadId id → is_module_id name ≡ true → IsReplyOf add_module (reply_bytes (result_reply id (added_tree name))) r → r ≡ added name
+added_line id name r lawful w h =
     let back : Back (result_reply id (added_tree name)) = reply_back id (added_tree name) lawful (added_back name) in
-    one_reply add_module (result_reply id (added_tree name)) r (added name) (added_read_back id name) (line_read add_module (result_reply id (added_tree name)) r back h)
+    one_reply add_module (result_reply id (added_tree name)) r (added name) (added_read_back id name w) (line_read add_module (result_reply id (added_tree name)) r back h)
 
 -- ---- failures
 

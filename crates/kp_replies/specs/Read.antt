@@ -1,13 +1,14 @@
 -- What is read of the tree of a reply, or None where it is no reply to the method.
 -- Source: JSON-RPC 2.0 (response objects); the K Haskell backend's JSON-RPC documentation (execute, implies, simplify,
 -- add-module).
-use Rattle.std.specs.Prelude.{ℕ, ℤ, Bool, ◌&&◌, List, [], ◌∷◌, length, nat_lt, nat_le, Option, Some, None, option_map, option_and_then, if◌then◌else◌, codes}
+use Rattle.std.specs.Prelude.{ℕ, ℤ, Bool, false, ◌&&◌, ◌==◌, List, [], ◌∷◌, length, nat_lt, nat_le, Option, Some, None, option_map, option_and_then, if◌then◌else◌, codes}
 use Rattle.std.specs.List.{list_all}
 use Rattle.std.specs.Str.{bytes_eq}
 use Rattle.serde_json.specs.Data.{Data, Items, no_items, item}
 use Rattle.serde_json.specs.Find.{get, as_array, as_i64, as_number, as_str}
 use Rattle.kp_kore.specs.Syntax.{Text, KorePattern}
 use Rattle.kp_semantics.specs.Causes.{foreign}
+use Rattle.kp_semantics.specs.ClaimRules.{is_lower_hexadecimal}
 use Rattle.kp_results.specs.Results.{StateParts, NextParts, Ending, vacuous, depth_bound, stuck, branching, cut_point, terminal, aborted, ExecutedParts}
 use Rattle.kp_rpc.specs.Reply.{ImpliesResult}
 use Rattle.kp_rpc.specs.RepliesRead.{read_wrapped, read_optional, text_in, read_depth, read_implied, is_two}
@@ -24,7 +25,7 @@ pub data ServerReply : Type 0 where
   added : Text → ServerReply
   failed : ℤ → ServerReply
 
--- ---- rule ids
+-- ---- ids
 
 -- a character from 33 to 126: neither white space nor a control character
 abbrev pub is_visible : ℕ → Bool
@@ -43,6 +44,14 @@ read_rule d = option_and_then if_rule_id (text_in d)
 abbrev pub read_optional_rule : Option Data → Option (Option Text)
 read_optional_rule None = Some None
 read_optional_rule (Some d) = option_map Some (option_and_then if_rule_id (as_str d))
+
+-- m and 64 lower-case hexadecimal digits
+abbrev pub is_module_id : Text → Bool
+is_module_id [] = false
+is_module_id (c ∷ cs) = (c == 109) && (length cs == 64) && list_all is_lower_hexadecimal cs
+
+abbrev pub if_module_id : Text → Option Text
+if_module_id t = if is_module_id t then Some t else None
 
 -- ---- states
 
@@ -111,7 +120,7 @@ abbrev pub read_result : Method → Data → Option ServerReply
 read_result execute d = option_map executed (read_executed d)
 read_result implies d = option_map implied (read_implied d)
 read_result simplify d = option_map simplified (read_wrapped (get (codes "state") d))
-read_result add_module d = option_map added (text_in (get (codes "module") d))
+read_result add_module d = option_map added (option_and_then if_module_id (text_in (get (codes "module") d)))
 
 -- from the members error and result, of which there is one
 abbrev pub read_either : Method → Option Data → Option Data → Option ServerReply

@@ -1,5 +1,5 @@
 // Laws of replies with results: what is written is read back.
-ghost use Rattle.std.specs.Prelude.{◌≡◌, ◌≤◌, ◌<◌, ◌^◌, Some, pos};
+ghost use Rattle.std.specs.Prelude.{◌≡◌, ◌≤◌, ◌<◌, ◌^◌, Some, pos, true};
 ghost use Rattle.serde_json.specs.Data.{Data, depth};
 ghost use Rattle.serde_json.specs.Read.{max_depth, read};
 ghost use Rattle.serde_json.specs.Written.{compact_text};
@@ -10,7 +10,7 @@ ghost use Rattle.kp_rpc.specs.Replied.{IsReadId, IsSpelled, IsSpelledImplied};
 ghost use Rattle.kp_results.specs.Results.{ExecutedParts};
 ghost use Rattle.kp_replies.specs.Written.{executed_tree, simplified_tree, added_tree};
 ghost use Rattle.kp_replies.specs.Failures.{Failure, failure_code, failure_reply};
-ghost use Rattle.kp_replies.specs.Read.{Method, execute, implies, simplify, add_module, executed, implied, simplified, added, failed, ServerReply, read_reply};
+ghost use Rattle.kp_replies.specs.Read.{Method, execute, implies, simplify, add_module, executed, implied, simplified, added, failed, ServerReply, is_module_id, read_reply};
 ghost use Rattle.kp_replies.specs.Replies.{IsReplyOf, IsWritable, FailureFits};
 
 /// What is written of a result of execute is read as that result.
@@ -33,7 +33,7 @@ pub fn what_is_simplified_is_read_back()
 
 /// What is written of a result of add-module is read as that result.
 pub fn what_is_added_is_read_back()
-    ensures { (id : RequestId) (name : Text) → read_reply add_module (result_reply id (added_tree name)) ≡ Some (added name) }
+    ensures { (id : RequestId) (name : Text) → is_module_id name ≡ true → read_reply add_module (result_reply id (added_tree name)) ≡ Some (added name) }
 {}
 
 /// What is written of a failure is read as its code, whatever was asked.
@@ -69,7 +69,7 @@ pub fn a_simplified_states_line_tells_the_state()
 
 /// The line that is written of an added module tells its id and nothing else.
 pub fn an_added_modules_line_tells_its_id()
-    ensures { (id : RequestId) (name : Text) (r : ServerReply) → IsReadId id
+    ensures { (id : RequestId) (name : Text) (r : ServerReply) → IsReadId id → is_module_id name ≡ true
         → IsReplyOf add_module (reply_bytes (result_reply id (added_tree name))) r → r ≡ added name }
 {}
 

@@ -14,6 +14,6 @@ mod told;
 mod written;
 
 pub use failure::{AdditionFault, Failure, SidesFault, failure_text};
-pub use named::is_rule_id;
+pub use named::{is_module_id, is_rule_id};
 pub use told::{Method, ServerReply, reply_of};
 pub use written::{added_text, executed_text, simplified_text};

@@ -8,7 +8,7 @@ ghost use Rattle.kp_replies.specs.Read.{read_rule, one_alone, ending_named, read
 ghost use Rattle.kp_replies.specs.Replies.{IsFrameReply, IsReplyOf};
 ghost use Rattle.kp_replies.specs.View.{method_view, reply_view};
 
-use crate::named::rule_at;
+use crate::named::{module_at, rule_at};
 use crate::read_states::{nexts_at, state_at};
 use kp_kore::Pattern;
 use kp_results::{Cause, Executed, NextState, Reason};
@@ -193,8 +193,8 @@ fn result_of(
             Some(state) => Ok(Some(ServerReply::Simplified(state))),
             None => Ok(None),
         },
-        Method::AddModule => match member_text(value, "module") {
-            Some(id) => Ok(Some(ServerReply::Added(String::from_str(alloc, id)?))),
+        Method::AddModule => match module_at(alloc, value)? {
+            Some(id) => Ok(Some(ServerReply::Added(id))),
             None => Ok(None),
         },
     }
@@ -250,7 +250,8 @@ fn frame_reply(
 }
 
 /// What a client is told by the line that a reply to this method is: a result, or an error's code. None exactly where
-/// the bytes are no such reply; a rule's id is one or more characters from 33 to 126. Its own id isn't looked at.
+/// the bytes are no such reply; a rule's id is one or more characters from 33 to 126, a module's m and 64 digits. The
+/// reply's own id isn't looked at.
 /// Source: JSON-RPC 2.0; the K Haskell backend's JSON-RPC documentation (execute, implies, simplify, add-module).
 ///
 /// # Errors
