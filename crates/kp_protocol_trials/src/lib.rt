@@ -11,4 +11,6 @@ mod provers;
 #[cfg(test)]
 mod replies;
 #[cfg(test)]
+mod results;
+#[cfg(test)]
 mod trees;

@@ -36,12 +36,12 @@ from_map : {A B : Type 0} (f : A → B) (x : Option A) (a : A) (b : B) → x ≡
 from_map f x a b is e = from_some _ _ (sym (ap (option_map f) is) ∙ e)
 
 -- the tree that is written of a pattern spells it
-record Written (p : KorePattern) : Type 0 where
+pub record Written (p : KorePattern) : Type 0 where
   pub tree : Data
   pub is : wrapped_pattern p ≡ Some tree
   pub spells : SpellsWrapped tree p
 
-written : (p : KorePattern) → IsSpelled p → Written p
+pub written : (p : KorePattern) → IsSpelled p → Written p
 written p (d, h) = let w = wrapped_written d p h in record { tree = w.0; is = w.1; spells = w.2 }
 
 abbrev two_state : Data → Data → Data

@@ -1,7 +1,7 @@
-mod Answered
+pub mod Answered
 mod Asked
 pub mod CompactRead
-mod Floats
+pub mod Floats
 mod HeadingsRead
 pub mod IdsRead
 pub mod LinesRead
@@ -18,4 +18,4 @@ pub mod StatesBack
 pub mod TermsBack
 mod Texts
 mod TextsWritten
-mod Told
+pub mod Told

@@ -26,15 +26,15 @@ use Rattle.kp_rpc.specs.RepliesRead.{pattern_in, read_wrapped, read_optional, re
 
 -- ---- options, taken apart
 
-present : {A B : Type 0} (f : A → Option B) (x : Option A) (b : B) → option_and_then f x ≡ Some b → (a : A) × (x ≡ Some a) × (f a ≡ Some b)
+pub present : {A B : Type 0} (f : A → Option B) (x : Option A) (b : B) → option_and_then f x ≡ Some b → (a : A) × (x ≡ Some a) × (f a ≡ Some b)
 present f None b e = absurd (cc e)
 present f (Some a) b e = (a, refl, e)
 
-mapped : {A B : Type 0} (f : A → B) (x : Option A) (b : B) → option_map f x ≡ Some b → (a : A) × (x ≡ Some a) × (f a ≡ b)
+pub mapped : {A B : Type 0} (f : A → B) (x : Option A) (b : B) → option_map f x ≡ Some b → (a : A) × (x ≡ Some a) × (f a ≡ b)
 mapped f None b e = absurd (cc e)
 mapped f (Some a) b e = (a, refl, cc e)
 
-text_is : (x : Option Data) (t : Text) → text_in x ≡ Some t → x ≡ Some (string t)
+pub text_is : (x : Option Data) (t : Text) → text_in x ≡ Some t → x ≡ Some (string t)
 text_is None t e = absurd (cc e)
 text_is (Some null) t e = absurd (cc e)
 text_is (Some (boolean b)) t e = absurd (cc e)
@@ -73,11 +73,11 @@ depth_is x k e =
 
 -- ---- patterns
 
-pattern_found : (r : Reading KorePattern) (p : KorePattern) → pattern_in r ≡ Some p → r ≡ read p
+pub pattern_found : (r : Reading KorePattern) (p : KorePattern) → pattern_in r ≡ Some p → r ≡ read p
 pattern_found (read q) p e = cc e
 pattern_found (fault f) p e = absurd (cc e)
 
-spelled_in : (d : Data) (p : KorePattern) → pattern_in (wrapped_reading d) ≡ Some p → SpellsWrapped d p
+pub spelled_in : (d : Data) (p : KorePattern) → pattern_in (wrapped_reading d) ≡ Some p → SpellsWrapped d p
 spelled_in d p e = wrapped_sound d p (pattern_found (wrapped_reading d) p e)
 
 pub read_in : (d : Data) (p : KorePattern) → SpellsWrapped d p → pattern_in (wrapped_reading d) ≡ Some p

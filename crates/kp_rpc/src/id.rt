@@ -55,7 +55,7 @@ pub fn id_at(value: &Value) -> Result<Option<Id>, AllocError>
     }
 }
 
-// The tree of an id.
+/// The tree of an id.
 pub fn id_value(id: &Id) -> Result<Value, AllocError>
     ensures { IfOk result (λ v. view v ≡ id_tree (id_view id.now)) }
 {

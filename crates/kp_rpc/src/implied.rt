@@ -73,8 +73,8 @@ fn condition_value(
     Ok(Some(valid_value(alloc, predicate, substitution)?))
 }
 
-// The bytes of the reply with a result of implies, from its tree.
-fn written_result(alloc: Global, id: &Id, outcome: Value) -> Result<Vec<u8>, AllocError>
+/// The bytes of the reply with a result, from its tree.
+pub fn written_result(alloc: Global, id: &Id, outcome: Value) -> Result<Vec<u8>, AllocError>
     ensures { IfOk result (λ b. has_float (view outcome) ≡ false → b.items ≡ reply_bytes (result_reply (id_view id.now) (view outcome))) }
 {
     let tree = reply_value(alloc, id, outcome)?;

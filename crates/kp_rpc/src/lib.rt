@@ -19,10 +19,12 @@ mod request;
 pub use executed::{Reason, result_text};
 pub use fault::{PatternFault, StateFault, fault_text};
 pub use frame::{FrameError, frame_of, is_white};
-pub use id::Id;
-pub use implied::{Implied, implied_text};
+pub use id::{Id, id_value};
+pub use implied::{Implied, implied_text, written_result};
 pub use params::{Options, ParamsError, antecedent_of, bound_of, consequent_of, state_of};
-pub use question::{Question, question_text};
-pub use replied::{Method, Run, ServerReply, reply_of};
-pub use reply::refusal_text;
-pub use request::{Execute, Implies, Parsed, Refusal, request_of};
+pub use question::{Object, Question, question_text, with_member_at, with_text_at};
+pub use replied::{
+    Method, Run, ServerReply, implied_of, line_text, predicate_at, reply_of, wrapped_at,
+};
+pub use reply::{line_of, refusal_text};
+pub use request::{Execute, Implies, Parsed, Refusal, is_version_two, member_text, request_of};

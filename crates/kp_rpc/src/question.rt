@@ -33,8 +33,8 @@ pub enum Question {
     },
 }
 
-// The members of an object.
-type Object = Map<String, Value>;
+/// The members of an object.
+pub type Object = Map<String, Value>;
 
 // The object with a number, where there is one.
 fn with_number_at(
@@ -54,8 +54,8 @@ fn with_number_at(
     }
 }
 
-// The object with a text, where there is one.
-fn with_text_at(
+/// The object with a text, where there is one.
+pub fn with_text_at(
     alloc: Global,
     mut object: Object,
     key: &str,
@@ -107,8 +107,8 @@ fn with_texts_at(
     Ok(object)
 }
 
-// The object with a member.
-fn with_member_at(
+/// The object with one more member.
+pub fn with_member_at(
     alloc: Global,
     mut object: Object,
     key: &str,

@@ -54,8 +54,8 @@ fn pattern_of(alloc: Global, tree: &Value) -> Result<Option<Pattern>, AllocError
     }
 }
 
-// The pattern that a member spells.
-fn wrapped_at(alloc: Global, value: &Value, key: &str) -> Result<Option<Pattern>, AllocError>
+/// The pattern that a member spells.
+pub fn wrapped_at(alloc: Global, value: &Value, key: &str) -> Result<Option<Pattern>, AllocError>
     ensures { IfOk result (λ o. option_map pattern_view o ≡ read_wrapped (get key.now (view value.now))) }
 {
     match value.get(key) {
@@ -64,8 +64,8 @@ fn wrapped_at(alloc: Global, value: &Value, key: &str) -> Result<Option<Pattern>
     }
 }
 
-// The predicate of a state, where there is one.
-fn predicate_at(alloc: Global, state: &Value) -> Result<Option<Option<Pattern>>, AllocError>
+/// The predicate of a state, where there is one.
+pub fn predicate_at(alloc: Global, state: &Value) -> Result<Option<Option<Pattern>>, AllocError>
     ensures { IfOk result (λ o. option_map (option_map pattern_view) o ≡ read_optional (get (codes "predicate") (view state.now))) }
 {
     let Some(tree) = state.get("predicate") else {
@@ -184,8 +184,8 @@ fn condition_of(alloc: Global, value: &Value) -> Result<Option<Implied>, AllocEr
     }))
 }
 
-// The result of implies.
-fn implied_of(alloc: Global, value: &Value) -> Result<Option<Implied>, AllocError>
+/// The result of implies.
+pub fn implied_of(alloc: Global, value: &Value) -> Result<Option<Implied>, AllocError>
     ensures { IfOk result (λ o. option_map implied_view o ≡ read_implied (view value.now)) }
 {
     match value.get("valid").and_then(Value::as_bool) {
@@ -264,8 +264,8 @@ fn frame_reply(
     }
 }
 
-// The text of one line.
-fn line_text(line: &[u8]) -> Option<&[u8]>
+/// The text of one line.
+pub fn line_text(line: &[u8]) -> Option<&[u8]>
     ensures some { IfSome result (λ text. line.now ≡ text.now ++ 10 ∷ []) }
     ensures none { IfNone result ((text : List ℕ) → line.now ≢ text ++ 10 ∷ []) }
 {

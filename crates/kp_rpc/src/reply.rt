@@ -46,7 +46,7 @@ fn refusal_value(alloc: Global, id: &Id, refusal: Refusal) -> Result<Value, Allo
     })
 }
 
-// The compact text of a tree, and one line feed.
+/// The compact text of a tree, and one line feed.
 pub fn line_of(alloc: Global, tree: &Value) -> Result<Vec<u8>, AllocError>
     ensures { IfOk result (λ b. has_float (view tree.now) ≡ false → b.items ≡ reply_bytes (view tree.now)) }
 {

@@ -57,14 +57,14 @@ enum Heading {
     Implies(Id),
 }
 
-// A member that is a text.
+/// A member that is a text.
 pub fn member_text<'a>(value: &'a Value, key: &str) -> Option<&'a str>
     ensures { option_map (λ t. t.now) result ≡ option_and_then as_str (get key.now (view value.now)) }
 {
     value.get(key).and_then(Value::as_str)
 }
 
-// Whether the object speaks version 2.0 of JSON-RPC.
+/// Whether the object speaks version 2.0 of JSON-RPC.
 pub fn is_version_two(value: &Value) -> bool
     ensures { IsTrue result ↔ (option_and_then as_str (get (codes "jsonrpc") (view value.now)) ≡ Some (codes "2.0")) }
 {

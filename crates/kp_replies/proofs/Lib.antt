@@ -1,0 +1,6 @@
+mod Back
+mod Lines
+mod NextsRead
+mod NextsWritten
+mod Plain
+mod Texts

@@ -1,0 +1,61 @@
+-- What a client is told by the bytes of a reply, and what a server writes that is read back.
+-- Source: JSON-RPC 2.0 (response objects); the K Haskell backend's JSON-RPC documentation.
+use Rattle.std.specs.Prelude.{◌≡◌, ◌<◌, ◌^◌, ℕ, List, [], ◌∷◌, ◌++◌, Option, Some, None, true}
+use Rattle.std.specs.List.{AllByRecursion}
+use Rattle.serde_json.specs.Data.{Data}
+use Rattle.kp_kore.specs.Syntax.{Text}
+use Rattle.kp_semantics.specs.Causes.{foreign}
+use Rattle.kp_results.specs.Results.{NextParts, Ending, vacuous, depth_bound, stuck, branching, cut_point, terminal, aborted, ExecutedParts, Limit, weighed, wide_call, predicate, limit}
+use Rattle.kp_rpc.specs.Frame.{IsFrame}
+use Rattle.kp_rpc.specs.Replied.{IsSpelled, IsSpelledState}
+use Rattle.kp_replies.specs.Failures.{Failure, undecided, bad_module, duplicate, bad_text, bad_axiom, bad_sentence}
+use Rattle.kp_replies.specs.Read.{Method, ServerReply, is_rule_id, read_reply}
+
+-- the text is a frame of a reply to the method that tells this
+abbrev pub IsFrameReply : Method → List ℕ → ServerReply → Type 0
+IsFrameReply method text reply = (d : Data) × IsFrame text d × (read_reply method d ≡ Some reply)
+
+-- the bytes are one line, whose text is a frame of such a reply
+abbrev pub IsReplyOf : Method → List ℕ → ServerReply → Type 0
+IsReplyOf method line reply = (text : List ℕ) × (line ≡ text ++ 10 ∷ []) × IsFrameReply method text reply
+
+-- ---- what is read back
+
+-- the patterns are spelled by trees, and the ids are those of rules
+abbrev pub IsNamed : Option Text → Type 0
+IsNamed None = Unit {0}
+IsNamed (Some id) = is_rule_id id ≡ true
+
+pub record IsWritableNext (n : NextParts) : Type 0 where
+  pub rule : IsNamed n.rule
+  pub predicate : IsSpelled n.predicate
+  pub state : IsSpelledState n.state.term n.state.predicate
+
+-- next states stand with branching and, one alone, with a cut point; an id is that of a rule
+abbrev pub IsWritableEnding : Ending → List NextParts → Type 0
+IsWritableEnding vacuous ns = ns ≡ []
+IsWritableEnding depth_bound ns = ns ≡ []
+IsWritableEnding stuck ns = ns ≡ []
+IsWritableEnding branching ns = AllByRecursion IsWritableNext ns
+IsWritableEnding (cut_point id) ns = (is_rule_id id ≡ true) × ((n : NextParts) × (ns ≡ n ∷ []) × IsWritableNext n)
+IsWritableEnding (terminal id) ns = (is_rule_id id ≡ true) × (ns ≡ [])
+IsWritableEnding (aborted (foreign id)) ns = (is_rule_id id ≡ true) × (ns ≡ [])
+
+pub record IsWritable (x : ExecutedParts) : Type 0 where
+  pub state : IsSpelledState x.state.term x.state.predicate
+  pub ending : IsWritableEnding x.ending x.nexts
+
+-- the numbers are of 64 bits
+abbrev pub Fits : Limit → Type 0
+Fits (weighed w n) = n < 2 ^ 64
+Fits (wide_call first second symbol) = Unit {0}
+
+abbrev pub FailureFits : Failure → Type 0
+FailureFits (undecided (predicate p (Some l))) = Fits l
+FailureFits (undecided (predicate p None)) = Unit {0}
+FailureFits (undecided (limit l)) = Fits l
+FailureFits (bad_module (bad_text at kind)) = (at < 2 ^ 64) × (kind < 2 ^ 64)
+FailureFits (bad_module (bad_axiom n)) = n < 2 ^ 64
+FailureFits (bad_module (bad_sentence n)) = n < 2 ^ 64
+FailureFits (duplicate n name) = n < 2 ^ 64
+FailureFits _ = Unit {0}

@@ -1,0 +1,126 @@
+ghost use Rattle.std.specs.Prelude.{◌≡◌, IfOk, option_map, option_and_then, string_bytes, codes};
+ghost use Rattle.std.specs.List.{list_all};
+ghost use Rattle.serde_json.specs.Find.{get, as_str};
+ghost use Rattle.serde_json.specs.View.{view};
+ghost use Rattle.kp_semantics.specs.ClaimRules.{is_lower_hexadecimal};
+ghost use Rattle.kp_rpc.specs.RepliesRead.{text_in};
+ghost use Rattle.kp_replies.specs.Read.{is_visible as visible_test, is_rule_id as rule_id_test, is_module_id as module_id_test, if_module_id, if_rule_id, read_rule, read_optional_rule};
+
+use kp_rpc::member_text;
+use serde_json::Value;
+use std::alloc::{AllocError, Global};
+
+/// Whether a text can be a rule's id: one or more characters from 33 to 126, so that it is one word of a line.
+pub fn is_rule_id(text: &str) -> bool
+    ensures { result ≡ rule_id_test text.now }
+{
+    0 < text.len() && are_visible(text.as_bytes())
+}
+
+fn are_visible(text: &[u8]) -> bool
+    ensures { result ≡ list_all visible_test text.now }
+{
+    text.iter().all(|byte| is_visible(*byte))
+}
+
+fn is_visible(byte: u8) -> bool
+    ensures { result ≡ visible_test byte }
+{
+    33 <= byte && byte <= 126
+}
+
+/// Whether a text is an added module's id: m and 64 lower-case hexadecimal digits.
+/// Source: the K Haskell backend's JSON-RPC documentation (add-module).
+pub fn is_module_id(text: &str) -> bool
+    ensures { result ≡ module_id_test text.now }
+{
+    is_mark_and_digits(text.as_bytes())
+}
+
+fn is_mark_and_digits(text: &[u8]) -> bool
+    ensures { result ≡ module_id_test text.now }
+{
+    match text {
+        [first, digits @ ..] => *first == b'm' && digits.len() == 64 && are_hexadecimal(digits),
+        [] => false,
+    }
+}
+
+fn are_hexadecimal(text: &[u8]) -> bool
+    ensures { result ≡ list_all is_lower_hexadecimal text.now }
+{
+    text.iter().all(|byte| is_hexadecimal(*byte))
+}
+
+fn is_hexadecimal(byte: u8) -> bool
+    ensures { result ≡ is_lower_hexadecimal byte }
+{
+    byte.is_ascii_digit() || (97 <= byte && byte <= 102)
+}
+
+// The module's id that a text is.
+fn module_named(alloc: Global, text: &str) -> Result<Option<String>, AllocError>
+    ensures { IfOk result (λ o. option_map string_bytes o ≡ if_module_id text.now) }
+{
+    if is_module_id(text) {
+        return Ok(Some(String::from_str(alloc, text)?));
+    }
+    Ok(None)
+}
+
+// The added module's id of a result.
+pub fn module_at(alloc: Global, value: &Value) -> Result<Option<String>, AllocError>
+    ensures { IfOk result (λ o. option_map string_bytes o ≡ option_and_then if_module_id (text_in (get (codes "module") (view value.now)))) }
+{
+    match member_text(value, "module") {
+        Some(text) => module_named(alloc, text),
+        None => Ok(None),
+    }
+}
+
+// The rule's id that a text is.
+fn named(alloc: Global, text: &str) -> Result<Option<String>, AllocError>
+    ensures { IfOk result (λ o. option_map string_bytes o ≡ if_rule_id text.now) }
+{
+    if is_rule_id(text) {
+        return Ok(Some(String::from_str(alloc, text)?));
+    }
+    Ok(None)
+}
+
+// The rule's id under a key.
+pub fn rule_at(alloc: Global, value: &Value, key: &str) -> Result<Option<String>, AllocError>
+    ensures { IfOk result (λ o. option_map string_bytes o ≡ read_rule (get key.now (view value.now))) }
+{
+    match member_text(value, key) {
+        Some(text) => named(alloc, text),
+        None => Ok(None),
+    }
+}
+
+// The rule's id that a tree is.
+fn rule_of(alloc: Global, tree: &Value) -> Result<Option<String>, AllocError>
+    ensures { IfOk result (λ o. option_map string_bytes o ≡ option_and_then if_rule_id (as_str (view tree.now))) }
+{
+    match tree.as_str() {
+        Some(text) => named(alloc, text),
+        None => Ok(None),
+    }
+}
+
+// The rule's id under a key, where there is such a member.
+pub fn optional_rule_at(
+    alloc: Global,
+    value: &Value,
+    key: &str,
+) -> Result<Option<Option<String>>, AllocError>
+    ensures { IfOk result (λ o. option_map (option_map string_bytes) o ≡ read_optional_rule (get key.now (view value.now))) }
+{
+    let Some(tree) = value.get(key) else {
+        return Ok(Some(None));
+    };
+    match rule_of(alloc, tree)? {
+        Some(id) => Ok(Some(Some(id))),
+        None => Ok(None),
+    }
+}

@@ -1,0 +1,9 @@
+// What execute, implies and simplify find, as plain data over patterns: the engine answers it, the server writes it and
+// a client reads it. specs/Results.antt has the parts and says which result of the theory they mean.
+#![tactic(auto)]
+
+mod executed;
+mod undecided;
+
+pub use executed::{Cause, Executed, NextState, Options, Reason, State};
+pub use undecided::{Limit, Undecided, Weight};
