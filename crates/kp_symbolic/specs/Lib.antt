@@ -1,0 +1,4 @@
+pub mod Formulas
+pub mod States
+pub mod Terms
+pub mod WellFormed
