@@ -1,4 +1,9 @@
+pub mod Alike
+pub mod Clauses
+pub mod Folding
 pub mod Formulas
+pub mod Heads
+pub mod Opening
 pub mod States
 pub mod Terms
 pub mod WellFormed

@@ -4,28 +4,23 @@ use Rattle.std.specs.Prelude.{◌≡◌, List, Option, Some, ⊤}
 use Rattle.std.specs.List.{AllByRecursion, Contains}
 use Rattle.kp_kore.specs.Syntax.{KoreSort, KoreSorts, no_sorts, next_sort, SymbolDeclaration}
 use Rattle.kp_kore.specs.Parts.{SortedName}
-use Rattle.kp_kore.specs.Signature.{KoreSignature, integer_sort, boolean_sort, symbol_declared, IsBelow}
+use Rattle.kp_kore.specs.Signature.{KoreSignature, integer_sort, symbol_declared, IsBelow}
 use Rattle.kp_kore.specs.Sorting.{result_sort}
-use Rattle.kp_semantics.specs.Value.{Value, whole, truth, token, constructed, HasSort}
+use Rattle.kp_semantics.specs.Value.{HasSort}
+use Rattle.kp_states.specs.Spelled.{own_sort}
 use Rattle.kp_symbolic.specs.Terms.{SymbolicTerm, unknown, offset, known, headed, SymbolicTerms, no_terms, next_term, term_variables}
 use Rattle.kp_symbolic.specs.States.{Atom, same, has_head, quoted, clause_variables, SymbolicState}
 
--- the sort of a value's head, and of a term's: a variable's, or the symbol's result
-abbrev pub sort_of_value : KoreSignature → Value → Option KoreSort
-sort_of_value g (whole n) = integer_sort g
-sort_of_value g (truth b) = boolean_sort g
-sort_of_value g (token s x) = Some s
-sort_of_value g (constructed c us) = result_sort g c no_sorts
-
-abbrev pub own_sort : KoreSignature → SymbolicTerm → Option KoreSort
-own_sort g (unknown x) = Some x.sort
-own_sort g (offset x c) = Some x.sort
-own_sort g (known u) = sort_of_value g u
-own_sort g (headed f ts) = result_sort g f no_sorts
+-- the sort of a term's head: a variable's own, a value's head's, or the symbol's result
+abbrev pub term_sort : KoreSignature → SymbolicTerm → Option KoreSort
+term_sort g (unknown x) = Some x.sort
+term_sort g (offset x c) = Some x.sort
+term_sort g (known u) = own_sort g u
+term_sort g (headed f ts) = result_sort g f no_sorts
 
 -- the term's own sort is the place's or below it
 abbrev pub IsPlaced : KoreSignature → KoreSort → SymbolicTerm → Type 0
-IsPlaced g place t = (own : KoreSort) × (own_sort g t ≡ Some own) × IsBelow g.subsorts own place
+IsPlaced g place t = (own : KoreSort) × (term_sort g t ≡ Some own) × IsBelow g.subsorts own place
 
 -- and so in all its parts
 abbrev mutual
