@@ -1,3 +1,4 @@
 pub mod AlikeLemmas
 pub mod Distribution
+pub mod Opened
 pub mod Stable

@@ -62,6 +62,10 @@ abbrev pub variables_for : SortedName → Option SymbolicTerm → List SortedNam
 variables_for x (Some t) = term_variables t
 variables_for x None = x ∷ []
 
+-- the variables that these variables stand for have values of their sorts
+abbrev pub AreGiven : KoreSignature → List Replaced → Valuation → List SortedName → Type 0
+AreGiven g rs v = AllByRecursion (λ x. GivesSorts g v (variables_for x (replacement_for rs x.name)))
+
 abbrev pub atom_variables : Atom → List SortedName
 atom_variables (same s t u) = term_variables t ++ term_variables u
 atom_variables (has_head x test) = x ∷ []

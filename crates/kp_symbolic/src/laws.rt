@@ -1,10 +1,14 @@
 // Laws of literals, clauses and formulas.
-ghost use Rattle.std.specs.Prelude.{◌↔◌, List};
+ghost use Rattle.std.specs.Prelude.{◌↔◌, Bool, List};
+ghost use Rattle.kp_kore.specs.Syntax.{KorePattern};
+ghost use Rattle.kp_kore.specs.Parts.{free_variables};
 ghost use Rattle.kp_kore.specs.Signature.{KoreSignature};
-ghost use Rattle.kp_semantics.specs.Instance.{Valuation};
+ghost use Rattle.kp_semantics.specs.Instance.{Valuation, IsTrueUnder};
+ghost use Rattle.kp_symbolic.specs.Terms.{Replaced, under_replaced};
 ghost use Rattle.kp_symbolic.specs.Formulas.{Formula, Holds};
 ghost use Rattle.kp_symbolic.specs.Clauses.{distributed, without_repeats};
-ghost use Rattle.kp_symbolic.specs.States.{Literal, IsLiteralTrue, AreTrue};
+ghost use Rattle.kp_symbolic.specs.Opening.{Leaf, signed, opened};
+ghost use Rattle.kp_symbolic.specs.States.{Literal, IsLiteralTrue, AreTrue, AreGiven};
 
 /// A literal that can't be refuted is true.
 pub fn literals_are_stable()
@@ -15,4 +19,11 @@ pub fn literals_are_stable()
 pub fn clauses_say_the_formula()
     ensures formula { (g : KoreSignature) (v : Valuation) (f : Formula Literal) → AreTrue g v (distributed f) ↔ Holds (IsLiteralTrue g v) f }
     ensures repeats { (g : KoreSignature) (v : Valuation) (cs : List (List Literal)) → AreTrue g v (without_repeats cs) ↔ AreTrue g v cs }
+{}
+
+/// An opened predicate says what it said, for any way to open what has no connective that says what that said.
+pub fn opening_keeps_truth()
+    ensures { (g : KoreSignature) (rs : List Replaced) (v : Valuation) (leaf : Leaf) →
+        ((alone b : Bool) (p : KorePattern) → AreGiven g rs v (free_variables p) → Holds (IsLiteralTrue g v) (leaf alone b p) ↔ signed b (IsTrueUnder g (under_replaced g rs v) p)) →
+        (alone b : Bool) (p : KorePattern) → AreGiven g rs v (free_variables p) → Holds (IsLiteralTrue g v) (opened leaf alone b p) ↔ signed b (IsTrueUnder g (under_replaced g rs v) p) }
 {}
