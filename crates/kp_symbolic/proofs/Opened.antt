@@ -1,15 +1,15 @@
 -- An opened predicate says what it said, by its sign, where what has no connective does.
-use Rattle.std.proofs.Common.{◌≡◌, refl, Bool, true, false, not, ◌&&◌, ◌||◌, List, ◌++◌, ◌↔◌}
+use Rattle.std.proofs.Common.{Bool, true, false, not, ◌&&◌, ◌||◌, ◌↔◌}
 use Rattle.std.specs.Prelude.{⊤, MatchBool, if◌then◌else◌}
 use Rattle.std.specs.List.{AllByRecursion}
-use Rattle.kp_kore.specs.Syntax.{KoreSort, KorePattern, KorePatterns, top, bottom, negation, conjunction, disjunction, implication, equivalence, ceil, floor, no_patterns, next_pattern}
+use Rattle.kp_kore.specs.Syntax.{KorePattern, KorePatterns, top, bottom, negation, conjunction, disjunction, implication, equivalence, ceil, floor, no_patterns, next_pattern}
 use Rattle.kp_kore.specs.Parts.{SortedName, is_term, free_variables, all_free_variables}
 use Rattle.kp_kore.specs.Signature.{KoreSignature}
 use Rattle.kp_semantics.specs.Instance.{Valuation, IsTrueUnder, AllTrueUnder, NoneTrueUnder, PairSame, is_conjoined_pair}
 use Rattle.kp_semantics.proofs.TruthLemmas.{stable_truth}
-use Rattle.kp_symbolic.specs.Formulas.{Formula, all_of, one_of, Formulas, no_formulas, next_formula, Holds, AllHold, NoneHold}
+use Rattle.kp_symbolic.specs.Formulas.{Formula, all_of, one_of, Holds, AllHold, NoneHold}
 use Rattle.kp_symbolic.specs.States.{Literal}
-use Rattle.kp_symbolic.specs.Opening.{Leaf, signed, all_if, fixed, pair, agreeing, opened, all_opened}
+use Rattle.kp_symbolic.specs.Opening.{Leaf, signed, fixed, pair, agreeing, opened, all_opened}
 use Rattle.kp_symbolic.proofs.Distribution.{all_first, all_second}
 
 -- ---- formulas, of any kind of facts

@@ -4,6 +4,8 @@ pub mod Folding
 pub mod Formulas
 pub mod Heads
 pub mod Opening
+pub mod Solving
 pub mod States
 pub mod Terms
 pub mod WellFormed
+pub mod Writing

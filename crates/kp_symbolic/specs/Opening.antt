@@ -240,12 +240,21 @@ are_variables _ _ _ = false
 abbrev pub question_if : Bool → KorePattern → HeadTest → Option HeadQuestion
 question_if b p test = if b then Some (record { subject = p; test = test }) else None
 
--- the constructor of the bound variables, or the bound variable under inj
-abbrev pub asked_of : KoreSignature → List SortedName → KorePattern → SymbolMeaning → Text → KoreSorts → KorePatterns → Option HeadQuestion
-asked_of g xs p construction f ss ps = question_if (are_variables xs (places_of g f) ps) p (one_head f)
-asked_of g (x ∷ []) p injection f (next_sort t ss) ps = question_if (are_variables (x ∷ []) (next_sort t no_sorts) ps) p (head_of_sort t)
-asked_of g xs p m f ss ps = None
+-- the constructor of the bound variables, as it stands or under inj; the bound variable under inj
+abbrev pub asked_constructor : KoreSignature → List SortedName → KorePattern → SymbolMeaning → Text → KorePatterns → Option HeadQuestion
+asked_constructor g xs p construction f ps = question_if (are_variables xs (places_of g f) ps) p (one_head f)
+asked_constructor g xs p m f ps = None
 
+abbrev pub asked_under_inj : KoreSignature → List SortedName → KorePattern → KoreSorts → KorePatterns → Option HeadQuestion
+asked_under_inj g xs p ss (next_pattern (application f ts ps) no_patterns) = asked_constructor g xs p (meaning_of g f) f ps
+asked_under_inj g (x ∷ []) p (next_sort t ss) ps = question_if (are_variables (x ∷ []) (next_sort t no_sorts) ps) p (head_of_sort t)
+asked_under_inj g xs p ss ps = None
+
+abbrev pub asked_of : KoreSignature → List SortedName → KorePattern → SymbolMeaning → Text → KoreSorts → KorePatterns → Option HeadQuestion
+asked_of g xs p injection f ss ps = asked_under_inj g xs p ss ps
+asked_of g xs p m f ss ps = asked_constructor g xs p m f ps
+
+-- \exists of the bound variables, of the equality of a variable that isn't bound with such an application
 abbrev pub head_question : KoreSignature → List SortedName → KorePattern → Option HeadQuestion
 head_question g xs (exists s x t p) = head_question g (xs ++ record { name = x; sort = t } ∷ []) p
 head_question g xs (equals a s (variable y t) (application f ss ps)) = if is_named y xs then None else asked_of g xs (variable y t) (meaning_of g f) f ss ps
