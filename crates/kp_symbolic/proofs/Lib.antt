@@ -1,4 +1,5 @@
 pub mod AlikeLemmas
+pub mod Digits
 pub mod Distribution
 pub mod Opened
 pub mod Stable

@@ -1,5 +1,6 @@
 pub mod Alike
 pub mod Clauses
+pub mod Examples
 pub mod Folding
 pub mod Formulas
 pub mod Heads

@@ -2,4 +2,5 @@
 // States). The functions here have no bodies: each carries laws of the definitions in specs/.
 #![tactic(auto)]
 
+pub mod examples;
 pub mod laws;
