@@ -1,5 +1,6 @@
 pub mod AlikeLemmas
 pub mod Digits
 pub mod Distribution
+pub mod Folded
 pub mod Opened
 pub mod Stable

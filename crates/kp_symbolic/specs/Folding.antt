@@ -50,7 +50,7 @@ pub record Sum : Type 0 where
 -- the term as a variable of the whole-number sort and a constant
 abbrev pub sum_of : KoreSignature → SymbolicTerm → Option Sum
 sum_of g (unknown x) = if is_integer_sort g x.sort then Some (record { variable = x; constant = pos 0 }) else None
-sum_of g (offset x c) = Some (record { variable = x; constant = c })
+sum_of g (offset x c) = if is_integer_sort g x.sort then Some (record { variable = x; constant = c }) else None
 sum_of g _ = None
 
 -- a positive constant is written as added, a negative one as its opposite subtracted: both need their symbol and room

@@ -1,11 +1,13 @@
 // Laws of literals, clauses and formulas.
-ghost use Rattle.std.specs.Prelude.{◌↔◌, Bool, List};
+ghost use Rattle.std.specs.Prelude.{◌≡◌, ◌↔◌, Bool, List};
 ghost use Rattle.kp_kore.specs.Syntax.{KorePattern};
 ghost use Rattle.kp_kore.specs.Parts.{free_variables};
 ghost use Rattle.kp_kore.specs.Signature.{KoreSignature};
-ghost use Rattle.kp_semantics.specs.Instance.{Valuation, IsTrueUnder};
-ghost use Rattle.kp_symbolic.specs.Terms.{Replaced, under_replaced};
+ghost use Rattle.kp_semantics.specs.Instance.{Valuation, instance, IsTrueUnder};
+ghost use Rattle.kp_semantics.specs.Sorted.{IsRegular};
+ghost use Rattle.kp_symbolic.specs.Terms.{term_instance, Replaced, under_replaced};
 ghost use Rattle.kp_symbolic.specs.Formulas.{Formula, Holds};
+ghost use Rattle.kp_symbolic.specs.Folding.{folded};
 ghost use Rattle.kp_symbolic.specs.Clauses.{distributed, without_repeats};
 ghost use Rattle.kp_symbolic.specs.Opening.{Leaf, signed, opened};
 ghost use Rattle.kp_symbolic.specs.States.{Literal, IsLiteralTrue, AreTrue, AreGiven};
@@ -19,6 +21,12 @@ pub fn literals_are_stable()
 pub fn clauses_say_the_formula()
     ensures formula { (g : KoreSignature) (v : Valuation) (f : Formula Literal) → AreTrue g v (distributed f) ↔ Holds (IsLiteralTrue g v) f }
     ensures repeats { (g : KoreSignature) (v : Valuation) (cs : List (List Literal)) → AreTrue g v (without_repeats cs) ↔ AreTrue g v cs }
+{}
+
+/// A folded term has the instance of what it was folded from, where its variables have values of their sorts.
+pub fn folding_keeps_instances()
+    ensures { (g : KoreSignature) (rs : List Replaced) (v : Valuation) (p : KorePattern) → IsRegular g → AreGiven g rs v (free_variables p) →
+        term_instance g v (folded g rs p) ≡ instance g (under_replaced g rs v) p }
 {}
 
 /// An opened predicate says what it said, for any way to open what has no connective that says what that said.
