@@ -5,8 +5,11 @@ pub mod Folding
 pub mod Formulas
 pub mod Heads
 pub mod Opening
+pub mod Plain
 pub mod Solving
 pub mod States
 pub mod Terms
+pub mod Verdicts
+pub mod Weights
 pub mod WellFormed
 pub mod Writing
