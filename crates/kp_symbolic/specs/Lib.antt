@@ -1,12 +1,15 @@
 pub mod Alike
 pub mod Clauses
+pub mod Endings
 pub mod Examples
 pub mod Folding
 pub mod Formulas
 pub mod Heads
 pub mod Opening
 pub mod Plain
+pub mod Shown
 pub mod Solving
+pub mod Sources
 pub mod States
 pub mod Terms
 pub mod Verdicts
