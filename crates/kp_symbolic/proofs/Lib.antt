@@ -1,0 +1,7 @@
+pub mod AlikeLemmas
+pub mod Digits
+pub mod Distribution
+pub mod Exact
+pub mod Folded
+pub mod Opened
+pub mod Stable

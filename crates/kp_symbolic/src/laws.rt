@@ -1,0 +1,37 @@
+// Laws of literals, clauses and formulas.
+ghost use Rattle.std.specs.Prelude.{◌≡◌, ◌↔◌, Bool, List};
+ghost use Rattle.kp_kore.specs.Syntax.{KorePattern};
+ghost use Rattle.kp_kore.specs.Parts.{free_variables};
+ghost use Rattle.kp_kore.specs.Signature.{KoreSignature};
+ghost use Rattle.kp_semantics.specs.Instance.{Valuation, instance, IsTrueUnder};
+ghost use Rattle.kp_semantics.specs.Sorted.{IsRegular};
+ghost use Rattle.kp_symbolic.specs.Terms.{term_instance, Replaced, under_replaced};
+ghost use Rattle.kp_symbolic.specs.Formulas.{Formula, Holds};
+ghost use Rattle.kp_symbolic.specs.Folding.{folded};
+ghost use Rattle.kp_symbolic.specs.Clauses.{distributed, without_repeats};
+ghost use Rattle.kp_symbolic.specs.Opening.{Leaf, signed, opened};
+ghost use Rattle.kp_symbolic.specs.States.{Literal, IsLiteralTrue, AreTrue, AreGiven};
+
+/// A literal that can't be refuted is true.
+pub fn literals_are_stable()
+    ensures { (g : KoreSignature) (v : Valuation) (l : Literal) → ¬ ¬ IsLiteralTrue g v l → IsLiteralTrue g v l }
+{}
+
+/// The clauses of a formula say what it says; so do clauses without those that repeat.
+pub fn clauses_say_the_formula()
+    ensures formula { (g : KoreSignature) (v : Valuation) (f : Formula Literal) → AreTrue g v (distributed f) ↔ Holds (IsLiteralTrue g v) f }
+    ensures repeats { (g : KoreSignature) (v : Valuation) (cs : List (List Literal)) → AreTrue g v (without_repeats cs) ↔ AreTrue g v cs }
+{}
+
+/// A folded term has the instance of what it was folded from, where its variables have values of their sorts.
+pub fn folding_keeps_instances()
+    ensures { (g : KoreSignature) (rs : List Replaced) (v : Valuation) (p : KorePattern) → IsRegular g → AreGiven g rs v (free_variables p) →
+        term_instance g v (folded g rs p) ≡ instance g (under_replaced g rs v) p }
+{}
+
+/// An opened predicate says what it said, for any way to open what has no connective that says what that said.
+pub fn opening_keeps_truth()
+    ensures { (g : KoreSignature) (rs : List Replaced) (v : Valuation) (leaf : Leaf) →
+        ((alone b : Bool) (p : KorePattern) → AreGiven g rs v (free_variables p) → Holds (IsLiteralTrue g v) (leaf alone b p) ↔ signed b (IsTrueUnder g (under_replaced g rs v) p)) →
+        (alone b : Bool) (p : KorePattern) → AreGiven g rs v (free_variables p) → Holds (IsLiteralTrue g v) (opened leaf alone b p) ↔ signed b (IsTrueUnder g (under_replaced g rs v) p) }
+{}
