@@ -3,4 +3,6 @@ pub mod Digits
 pub mod Distribution
 pub mod Folded
 pub mod Opened
+pub mod SeenLemmas
+pub mod SideLemmas
 pub mod Stable
