@@ -1,6 +1,7 @@
 pub mod AlikeLemmas
 pub mod Digits
 pub mod Distribution
+pub mod EqualityLemmas
 pub mod Folded
 pub mod Opened
 pub mod SeenLemmas

@@ -89,7 +89,7 @@ differs_from c us (whole n) i e = cc
 differs_from c us (truth b) i e = cc
 differs_from c us (token s x) i e = cc
 
-never_is : (g : KoreSignature) (v : Valuation) (t u : SymbolicTerm) (c : Text) (us : Values) → IsMade t → term_instance g v t ≡ constructed c us → IsUnmade u → is_never g t u ≡ true → ¬ (term_instance g v t ≡ term_instance g v u)
+pub never_is : (g : KoreSignature) (v : Valuation) (t u : SymbolicTerm) (c : Text) (us : Values) → IsMade t → term_instance g v t ≡ constructed c us → IsUnmade u → is_never g t u ≡ true → ¬ (term_instance g v t ≡ term_instance g v u)
 never_is g v (headed f ts) (unknown x) c us a m i h e = inside_differs g v x.name f ts h e
 never_is g v (known w) (unknown x) c us a m i h e = absurd (cc)
 never_is g v (unknown y) (unknown x) c us a m i h e = a
@@ -98,7 +98,7 @@ never_is g v t (known w) c us a m i h e = differs_from c us w i (sym m ∙ e)
 never_is g v t (offset y d) c us a m i h e = absurd (cc)
 never_is g v t (headed f ts) c us a m i h e = absurd (cc)
 
-never_or : (g : KoreSignature) (v : Valuation) (b n : Bool) (kept : Formula Literal) (A : Type 0) → (n ≡ true → ¬ A) → Says g v b kept A → Says g v b (if n then fixed (not b) else kept) A
+pub never_or : (g : KoreSignature) (v : Valuation) (b n : Bool) (kept : Formula Literal) (A : Type 0) → (n ≡ true → ¬ A) → Says g v b kept A → Says g v b (if n then fixed (not b) else kept) A
 never_or g v b true kept A h k = never_says (IsLiteralTrue g v) b A (h refl)
 never_or g v b false kept A h k = k
 
@@ -150,7 +150,7 @@ equal_sums g v b t u n c d p q = decided_says g v b (int_eq c d) (term_instance 
 sums_say : (g : KoreSignature) (v : Valuation) (b : Bool) (kept : Formula Literal) (t u : SymbolicTerm) → IsRegular g → GivesSorts g v (term_variables t) → GivesSorts g v (term_variables u) → Says g v b kept (term_instance g v t ≡ term_instance g v u) → Says g v b (fixed_or (compared_at_once equal (sum_of g t) (sum_of g u)) b kept) (term_instance g v t ≡ term_instance g v u)
 sums_say g v b kept t u r i j k = with_sums g v b equal kept (term_instance g v t ≡ term_instance g v u) t u (sum_of g t) (sum_of g u) (λ s. sum_is g v t s r i) (λ s. sum_is g v u s r j) (equal_sums g v b t u) k
 
-unconstructed_say : (g : KoreSignature) (v : Valuation) (b : Bool) (kept : Formula Literal) (t u : SymbolicTerm) → IsRegular g → GivesSorts g v (term_variables t) → GivesSorts g v (term_variables u) → terms_same t u ≡ false → Says g v b kept (term_instance g v t ≡ term_instance g v u) → Says g v b (unconstructed g b kept t u) (term_instance g v t ≡ term_instance g v u)
+pub unconstructed_say : (g : KoreSignature) (v : Valuation) (b : Bool) (kept : Formula Literal) (t u : SymbolicTerm) → IsRegular g → GivesSorts g v (term_variables t) → GivesSorts g v (term_variables u) → terms_same t u ≡ false → Says g v b kept (term_instance g v t ≡ term_instance g v u) → Says g v b (unconstructed g b kept t u) (term_instance g v t ≡ term_instance g v u)
 unconstructed_say g v b kept (known u) (known w) r i j n k = never_says (IsLiteralTrue g v) b (u ≡ w) (λ e. absurd (false_true (sym n ∙ (same_values_decide u w).1 e)))
   where
     false_true : false ≡ true → ⊥
