@@ -37,7 +37,7 @@ known_are g v (next_term (headed f us) ts) vs e = absurd (cc)
 -- ---- sums
 
 -- a value of the whole-number sort is a whole number
-is_the_sort : (o : Option KoreSort) (s : KoreSort) → is_the o s ≡ true → o ≡ Some s
+pub is_the_sort : (o : Option KoreSort) (s : KoreSort) → is_the o s ≡ true → o ≡ Some s
 is_the_sort (Some t) s e = ap Some ((sorts_equal-Decides t s).0 e)
 is_the_sort None s e = absurd (cc)
 

@@ -2,6 +2,9 @@ pub mod AlikeLemmas
 pub mod Digits
 pub mod Distribution
 pub mod Exact
+pub mod EqualityLemmas
 pub mod Folded
 pub mod Opened
+pub mod SeenLemmas
+pub mod SideLemmas
 pub mod Stable
