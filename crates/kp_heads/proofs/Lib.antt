@@ -1,0 +1,9 @@
+pub mod Given
+pub mod Literals
+pub mod Loops
+pub mod Making
+pub mod Numbered
+pub mod Numbers
+pub mod Rows
+pub mod Uses
+pub mod Values

@@ -1,0 +1,31 @@
+-- Loops over the elements of a list.
+use Rattle.std.proofs.Common.{◌≡◌, sym, ap, subst, ◌∙◌, ℕ, ◌+◌, ◌<◌, ◌≤◌, inl, inr, ◌&&◌, ◌==◌, nat_le, List, [], ◌∷◌, length, take, get_or, Contains, String}
+use Rattle.std.specs.declared.alloc.Global.{Global}
+use Rattle.std.proofs.lemmas.List.{take_more, take_all}
+use Rattle.std.proofs.lemmas.List.Elements.{Contains-push_cases, Contains-get_or}
+use Rattle.kp_kore.specs.Parts.{sort_list}
+use Rattle.kp_kore.specs.View.{names_view, sorts_view}
+use Rattle.kp_kore.specs.declared.sort.Sort.{Sort}
+use Rattle.kp_signature.proofs.KnownSorts.{number_of_sorts}
+use Rattle.kp_heads.proofs.Values.{nothing_in}
+
+module _ {A : Type 0} (P : A → Type 0) (xs : List A) where
+  pub none_yet : (x : A) → Contains [] x → P x
+  none_yet x h = absurd (nothing_in x h)
+
+  pub all_more : (i : ℕ) (d : A) → i < length xs → ((x : A) → Contains (take i xs) x → P x) → P (get_or xs i d) → (x : A) → Contains (take (i + 1) xs) x → P x
+  all_more i d short all here x h = elim (Contains-push_cases (take i xs) (get_or xs i d) x (subst (λ l. Contains l x) (take_more xs i d short) h)) [
+    | inl old ↦ all x old
+    | inr same ↦ subst P same here
+  ]
+
+  pub all_done : (i : ℕ) → length xs ≤ i → ((x : A) → Contains (take i xs) x → P x) → (x : A) → Contains xs x → P x
+  all_done i past all x h = all x (subst (λ l. Contains l x) (sym (take_all i xs past)) h)
+
+  pub not_all : (i : ℕ) (d : A) → i < length xs → ¬ P (get_or xs i d) → ¬ ((x : A) → Contains xs x → P x)
+  not_all i d short not all = not (all (get_or xs i d) (Contains-get_or xs i d short))
+
+-- no parameters, and so many arguments
+pub plain_by_length : (ps : List (String Global)) (ss : List Sort) (m n : ℕ) → m ≡ length ps → m ≡ 0 → n ≡ length ss → nat_le n 64 ≡ (length (names_view ps) == 0) && nat_le (length (sort_list (sorts_view ss))) 64
+plain_by_length [] ss m n e z f = ap (λ k. nat_le k 64) (f ∙ sym (number_of_sorts ss))
+plain_by_length (p ∷ ps) ss m n e z f = absurd (cc)
