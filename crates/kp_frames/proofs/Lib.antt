@@ -1,0 +1,3 @@
+pub mod Nests
+pub mod Rests
+pub mod Cutting
