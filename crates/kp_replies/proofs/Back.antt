@@ -15,7 +15,7 @@ use Rattle.kp_rpc.proofs.Answered.{written}
 use Rattle.kp_rpc.proofs.Told.{read_in}
 use Rattle.kp_replies.specs.Written.{state_tree, next_tree, first_item, next_trees, with_nexts, executed_members, executed_tree, simplified_tree, added_tree}
 use Rattle.kp_replies.specs.Failures.{Failure, bad_sides, undecided, bad_module, duplicate, failure_code, failure_data, failure_error, failed_reply, failure_reply}
-use Rattle.kp_replies.specs.Read.{Method, execute, simplify, add_module, executed, simplified, added, failed, is_rule_id, is_module_id, if_rule_id, read_state, read_next, first_next, read_nexts, read_executed, read_reply, implies, implied}
+use Rattle.kp_replies.specs.Read.{Method, execute, simplify, add_module, executed, simplified, added, failed, is_module_id, read_state, read_next, first_next, read_nexts, read_executed, read_reply, implies, implied}
 use Rattle.kp_replies.specs.Replies.{IsNamed, IsWritableNext, IsWritableEnding, IsWritable}
 
 same : {A : Type 0} (x y : A) → Some x ≡ Some y → x ≡ y
@@ -44,9 +44,6 @@ state_back term (Some q) tree (h, k) e =
     ap read_state (sym (same (two_state p.tree t.tree) tree (sym made ∙ e))) ∙ read
 
 -- ---- next states
-
-named : (id : Text) → is_rule_id id ≡ true → if_rule_id id ≡ Some id
-named id h = rw h refl
 
 abbrev next_object : Option Text → Data → Option Data → Data → Data
 next_object rule w None t = object (put (codes "rule-predicate") w (put (codes "term") t (with_text (codes "rule-id") rule no_members)))
