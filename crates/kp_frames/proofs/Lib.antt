@@ -1,3 +1,4 @@
 pub mod Nests
 pub mod Rests
 pub mod Cutting
+pub mod OneWay

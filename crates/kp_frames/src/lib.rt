@@ -6,6 +6,8 @@
 
 mod cutter;
 mod held;
+mod laws;
 mod nest;
 
 pub use cutter::Cutter;
+pub use laws::{a_stream_is_cut_in_one_way, pieces_do_not_matter};
