@@ -2,3 +2,4 @@ pub mod Nests
 pub mod Rests
 pub mod Cutting
 pub mod OneWay
+pub mod Total

@@ -1,4 +1,4 @@
-use Rattle.std.proofs.Common.{◌≡◌, ℕ, sym, subst}
+use Rattle.std.proofs.Common.{sym, subst}
 use Rattle.kp_frames.specs.Frames.{Cuts}
 use Rattle.kp_frames.proofs.OneWay.{one_cut}
 use Rattle.kp_frames.proofs.laws.pieces_do_not_matter.Goals as goal
