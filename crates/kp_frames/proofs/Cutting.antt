@@ -1,10 +1,10 @@
 -- Cutting, run by run.
-use Rattle.std.proofs.Common.{rules, ◌≡◌, refl, sym, subst, ap, ◌∙◌, arith, ℕ, zero, suc, ◌+◌, ◌-◌, ◌<◌, ◌≤◌, ◌==◌, ◌⊎◌, inl, inr, Bool, true, false, true≢false, not, ◌&&◌, ◌||◌, List, [], ◌∷◌, ◌++◌, length, take, drop, min, if◌then◌else◌, length-append, append-nil, append_assoc, take-add, take-append-drop}
+use Rattle.std.proofs.Common.{rules, ◌≡◌, refl, sym, subst, ap, ◌∙◌, arith, ℕ, zero, suc, ◌+◌, ◌<◌, ◌≤◌, ◌==◌, ◌⊎◌, inl, inr, Bool, true, false, true≢false, ◌&&◌, ◌||◌, List, [], ◌∷◌, ◌++◌, length, take, drop, if◌then◌else◌, length-append, append-nil, append_assoc, take-add, take-append-drop}
 use Rattle.std.specs.List.{list_any, list_all}
 use Rattle.std.proofs.lemmas.List.{take_all, take-take, length-take-le}
 use Rattle.std.proofs.lemmas.List.Folds.{list_any-append}
 use Rattle.kp_frames.specs.declared.nest.Nest.{Nest}
-use Rattle.kp_frames.specs.Frames.{is_white, opens, nest_of, start, begins_bracketed, begins_malformed, IsBracketed, IsMalformed, IsUnended, nothing_yet, brackets_open, line_open, Cuts, white, bracketed, malformed, unended, full}
+use Rattle.kp_frames.specs.Frames.{is_white, nest_of, start, begins_bracketed, begins_malformed, IsBracketed, IsMalformed, IsUnended, nothing_yet, brackets_open, line_open, Cuts, white, bracketed, malformed, unended, full}
 use Rattle.kp_frames.specs.Held.{IsHeld, Takes}
 use Rattle.kp_frames.proofs.Rests.{not_both}
 

@@ -1,5 +1,5 @@
 -- The nest along a text.
-use Rattle.std.proofs.Common.{rules, ◌≡◌, refl, sym, subst, ap, ◌∙◌, arith, ℕ, zero, suc, pred, ◌+◌, ◌<◌, ◌≤◌, ◌==◌, ◌⊎◌, inl, inr, Bool, true, false, List, [], ◌∷◌, ◌++◌, length, take, get_or, if◌then◌else◌, le_trans, le_refl, length-take-le}
+use Rattle.std.proofs.Common.{rules, ◌≡◌, refl, sym, subst, ap, ◌∙◌, arith, ℕ, zero, suc, pred, ◌+◌, ◌<◌, ◌≤◌, ◌==◌, ◌⊎◌, inl, inr, Bool, true, false, List, [], ◌∷◌, ◌++◌, length, take, get_or, if◌then◌else◌, length-take-le}
 use Rattle.std.proofs.lemmas.List.{take_more}
 use Rattle.kp_frames.specs.declared.nest.Place.{Place}
 use Rattle.kp_frames.specs.declared.nest.Place.TheVariants as place

@@ -1,11 +1,9 @@
 -- What is held, and what is added to it.
-use Rattle.std.proofs.Common.{◌≡◌, refl, sym, subst, ap, ◌∙◌, arith, ℕ, zero, suc, ◌+◌, ◌-◌, ◌<◌, ◌≤◌, ◌==◌, ◌⊎◌, inl, inr, Bool, true, false, true≢false, not, ◌&&◌, ◌||◌, List, [], ◌∷◌, ◌++◌, length, take, if◌then◌else◌, length-append, append-nil, append_assoc}
-use Rattle.std.specs.List.{list_any}
-use Rattle.std.proofs.lemmas.List.{take_all, take-append-le, take-take, length-take-le}
-use Rattle.std.proofs.lemmas.List.Folds.{list_any-append}
+use Rattle.std.proofs.Common.{◌≡◌, refl, sym, subst, ap, ◌∙◌, arith, ℕ, zero, suc, ◌+◌, ◌<◌, ◌≤◌, ◌⊎◌, inl, inr, Bool, true, false, true≢false, not, ◌&&◌, List, [], ◌∷◌, ◌++◌, length, take, if◌then◌else◌, length-append}
+use Rattle.std.proofs.lemmas.List.{take-append-le, take-take, length-take-le}
 use Rattle.std.proofs.Math.Seq.{take-append-add}
 use Rattle.kp_frames.specs.declared.nest.Nest.{Nest}
-use Rattle.kp_frames.specs.Frames.{is_white, opens, nest_from, nest_of, start, is_back, begins_bracketed, begins_malformed, IsOpen, IsBracketed, IsMalformed, IsUnended, nothing_yet, brackets_open, line_open}
+use Rattle.kp_frames.specs.Frames.{is_white, opens, nest_from, nest_of, start, is_back, begins_bracketed, begins_malformed, IsOpen, IsBracketed, IsUnended, nothing_yet, brackets_open, line_open}
 use Rattle.kp_frames.specs.Held.{IsHeld, StaysOpen, ClosesAt}
 use Rattle.kp_frames.proofs.Nests.{nest-append, level_within}
 

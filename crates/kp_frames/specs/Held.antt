@@ -1,6 +1,5 @@
 -- What a cutter holds between two pieces of a stream.
-use Rattle.std.specs.Prelude.{◌≡◌, ◌<◌, ◌≤◌, ℕ, suc, ◌==◌, Bool, true, false, List, [], ◌∷◌, ◌++◌, length, take, map, if◌then◌else◌, Vec}
-use Rattle.std.specs.List.{list_any}
+use Rattle.std.specs.Prelude.{◌≡◌, ◌<◌, ◌≤◌, ℕ, ◌==◌, Bool, true, false, List, ◌++◌, length, take, map, if◌then◌else◌, Vec}
 use Rattle.std.specs.declared.alloc.Global.{Global}
 use Rattle.kp_frames.specs.declared.nest.Nest.{Nest}
 use Rattle.kp_frames.specs.Frames.{Cuts, IsUnended, nest_from, nest_of, start, is_back, begins_bracketed}

@@ -1,5 +1,4 @@
-use Rattle.std.proofs.Common.{◌≡◌, ◌+◌, ◌<◌, ◌≤◌, ◌∙◌, ap, sym, subst, arith, get_or, take, length, ℕ, suc, true, false}
-use Rattle.kp_frames.specs.declared.nest.Nest.{Nest}
+use Rattle.std.proofs.Common.{◌≡◌, ◌+◌, ◌<◌, ◌∙◌, ap, sym, subst, get_or, take, true, false}
 use Rattle.kp_frames.specs.Frames.{after_byte, nest_from, is_back}
 use Rattle.kp_frames.proofs.Nests.{level_at, one_more, stays_on, closes_at, back, not_back}
 use Rattle.kp_frames.proofs.nest.first_close.Goals as goal

@@ -1,4 +1,4 @@
-use Rattle.std.proofs.Common.{◌≡◌, ◌+◌, ◌<◌, suc, take}
+use Rattle.std.proofs.Common.{◌≡◌, suc, take}
 use Rattle.kp_frames.specs.Frames.{nest_from}
 use Rattle.kp_frames.specs.Held.{StaysOpen}
 use Rattle.kp_frames.proofs.nest.first_close.Given as goal

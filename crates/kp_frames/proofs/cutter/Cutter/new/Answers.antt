@@ -1,4 +1,4 @@
-use Rattle.std.proofs.Common.{◌≡◌, ◌==◌, [], sym, subst, length}
+use Rattle.std.proofs.Common.{◌==◌, [], sym, subst, length}
 use Rattle.kp_frames.specs.Frames.{Cuts}
 use Rattle.kp_frames.proofs.Cutting.{nothing_cuts}
 use Rattle.kp_frames.proofs.cutter.Cutter.new.Goals as goal

@@ -1,4 +1,4 @@
-use Rattle.std.proofs.Common.{◌≡◌, sym, subst, length, [], ◌++◌}
+use Rattle.std.proofs.Common.{sym, subst, length}
 use Rattle.kp_frames.specs.Held.{frames_of, IsHeld, Takes}
 use Rattle.kp_frames.proofs.Cutting.{whole_taken, frame_taken}
 use Rattle.kp_frames.proofs.Rests.{stays_held, held_level, closes_frame}

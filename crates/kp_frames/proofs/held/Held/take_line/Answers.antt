@@ -1,4 +1,4 @@
-use Rattle.std.proofs.Common.{◌≡◌, ◌+◌, sym, subst, length, take, [], ◌++◌}
+use Rattle.std.proofs.Common.{◌+◌, sym, subst, length, take}
 use Rattle.kp_frames.specs.Held.{frames_of, IsHeld, Takes}
 use Rattle.kp_frames.proofs.Cutting.{whole_taken, line_taken, line_held, line_front, is_line}
 use Rattle.kp_frames.proofs.held.Held.take_line.Goals as goal

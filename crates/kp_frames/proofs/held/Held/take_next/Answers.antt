@@ -1,4 +1,4 @@
-use Rattle.std.proofs.Common.{rules, ◌≡◌, ◌<◌, true, sym, ◌∙◌, [], get_or}
+use Rattle.std.proofs.Common.{rules, ◌≡◌, true, [], get_or}
 use Rattle.kp_frames.specs.Frames.{is_white}
 use Rattle.kp_frames.specs.Held.{frames_of}
 use Rattle.kp_frames.proofs.Cutting.{white_taken}

@@ -1,7 +1,7 @@
-use Rattle.std.proofs.Common.{rules, refl, sym, ap, subst, ◌∙◌, arith, ◌≡◌, ◌==◌, ◌+◌, ◌-◌, ◌<◌, ◌≤◌, ◌⊎◌, inl, inr, [], ◌++◌, length, take, drop, append-nil, length-drop}
+use Rattle.std.proofs.Common.{rules, refl, sym, ap, subst, arith, ◌≡◌, ◌==◌, ◌<◌, ◌≤◌, ◌⊎◌, inl, inr, [], length, drop, append-nil, length-drop}
 use Rattle.std.proofs.lemmas.List.{take_rest}
 use Rattle.kp_frames.specs.Frames.{Cuts}
-use Rattle.kp_frames.specs.Held.{frames_of, IsHeld, Takes}
+use Rattle.kp_frames.specs.Held.{frames_of, Takes}
 use Rattle.kp_frames.proofs.Cutting.{unended_cuts, turn, piece_cut, fed}
 use Rattle.kp_frames.proofs.held.Held.take_piece.Goals as goal
 use Rattle.kp_frames.proofs.held.Held.take_piece.Goals.{then-loop-at-test+else-len-limit, else-loop-at-test}
