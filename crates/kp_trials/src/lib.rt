@@ -19,4 +19,6 @@ mod successors;
 #[cfg(test)]
 mod texts;
 #[cfg(test)]
+mod values;
+#[cfg(test)]
 mod verifying;
