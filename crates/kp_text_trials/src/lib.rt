@@ -1,9 +1,11 @@
 // Tests of the public calls with ample memory, by values from outside: of text that is read and printed, patterns, ground
-// terms and difference constraints. They stand here together, since a crate with tests is proved twice.
+// terms, difference constraints and frames. They stand here together, since a crate with tests is proved twice.
 #![tactic(auto)]
 
 #[cfg(test)]
 mod differences;
+#[cfg(test)]
+mod frames;
 #[cfg(test)]
 mod grounds;
 #[cfg(test)]
