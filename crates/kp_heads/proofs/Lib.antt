@@ -1,5 +1,6 @@
 pub mod Given
 pub mod Literals
+pub mod LiveHeads
 pub mod Loops
 pub mod Making
 pub mod Numbered

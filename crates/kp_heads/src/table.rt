@@ -53,8 +53,7 @@ fn literal_numbers(
 }
 
 impl HeadTable {
-    /// The table of a signature. Its parts name each subsort pair and each constructor once, so it is made in time
-    /// and memory in proportion to the signature.
+    /// The table of a signature, made in time and memory in proportion to it.
     pub fn new(alloc: Global, signature: &Signature) -> Result<HeadTable, AllocError>
         ensures { IfOk result (IsHeadTableOf (signature_view signature.now)) }
     {
@@ -76,14 +75,14 @@ impl HeadTable {
         }
     }
 
-    /// Whether some value has the sort. The table is the signature's.
+    /// Whether some value has the sort, where the table is the signature's.
     pub fn has_value(&self, signature: &Signature, sort: &Sort) -> bool
         ensures { IsHeadTableOf (signature_view signature.now) self.now → IsTrue result ↔ HasValue (signature_view signature.now) (sort_view sort.now) }
     {
         signature.has_literals(sort) || self.is_marked(sort)
     }
 
-    /// Whether each of the sorts has a value.
+    /// Whether each of the sorts has a value, where the table is the signature's.
     pub fn have_values(&self, signature: &Signature, sorts: &[Sort]) -> bool
         ensures { IsHeadTableOf (signature_view signature.now) self.now → IsTrue result ↔ ((s : KoreSort) → Contains (map sort_view sorts.now) s → HasValue (signature_view signature.now) s) }
     {
@@ -95,7 +94,7 @@ impl HeadTable {
         true
     }
 
-    /// Whether the name is a constructor's that some value has for its head.
+    /// Whether some value has the constructor of this name for its head, where the table is the signature's.
     pub fn is_live(&self, signature: &Signature, name: &str) -> bool
         ensures { IsHeadTableOf (signature_view signature.now) self.now → IsTrue result ↔ IsLive (signature_view signature.now) (constructor_of name.now) }
     {
