@@ -126,8 +126,15 @@ proved_holds names before after c status old gained label one p b a has =
     let of_one = a_line_is_of_a_claim one lines p.reported.report gained (codes "passed " ++ label) p.reported.report_is labels has is in
     let f = found p.loaded.setting c.depth (counted p.modules) p.claims lines label p.are_claims p.reported.one_each (spelled_line (codes "passed " ++ label) gained has) of_one in
     record {
-      loaded = p.loaded; file = p.file; there = p.there; modules = p.modules; spells = p.spells;
-      claim = f.claim; is_spelled = f.is_spelled; labelled = f.labelled; holds = f.holds;
+      loaded = p.loaded;
+      file = p.file;
+      there = p.there;
+      modules = p.modules;
+      spells = p.spells;
+      claim = f.claim;
+      is_spelled = f.is_spelled;
+      labelled = f.labelled;
+      holds = f.holds;
     }
 
 pub passed_holds : (names : Option Names) (left : Option (List ℕ)) (before after : Option (List ℕ)) (words : List Text) (status : ℕ) → AreToldInOneLine →

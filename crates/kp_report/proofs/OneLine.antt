@@ -39,7 +39,7 @@ digits_before zero n acc h = h
 digits_before (suc k) n acc h =
     let next = and_from (not (digit_glyph false (n % 10) == 10)) (is_one_line acc) (glyph (n % 10)) h in
     if_either (n / 10 == 0) (digit_glyph false (n % 10) ∷ acc) (digits_onto k 10 false (n / 10) (digit_glyph false (n % 10) ∷ acc)) next
-      (digits_before k (n / 10) (digit_glyph false (n % 10) ∷ acc) next)
+    (digits_before k (n / 10) (digit_glyph false (n % 10) ∷ acc) next)
 
 pub number : (n : ℕ) → is_one_line (decimal n) ≡ true
 unfolding digits
@@ -90,16 +90,22 @@ text_of_line label outcome line text one is = record { ends = is; one = one }
 
 text_of : AreToldInOneLine → (label : Text) (outcome : ProofOutcome) (line : List ℕ) → is_one_line label ≡ true → IsLine label outcome line → (text : List ℕ) × IsText label outcome line text
 text_of told label passed line one is = (_, text_of_line label passed line (codes "passed " ++ label) one is)
-text_of told label (failed_at n) line one is =
-    (_, text_of_line label (failed_at n) line (codes "failed " ++ label ++ codes " node " ++ decimal n)
-      (joined (label ++ codes " node ") (decimal n) (joined label (codes " node ") one refl) (number n)) is)
+text_of told label (failed_at n) line one is = (
+  _,
+  text_of_line label (failed_at n) line (codes "failed " ++ label ++ codes " node " ++ decimal n)
+      (joined (label ++ codes " node ") (decimal n) (joined label (codes " node ") one refl) (number n)) is,
+)
 text_of told label (pending_at n by) line one is =
-    let start : is_one_line (label ++ codes " node " ++ decimal n ++ codes " ") ≡ true = joined (label ++ codes " node " ++ decimal n) (codes " ") (joined (label ++ codes " node ") (decimal n) (joined label (codes " node ") one refl) (number n)) refl in
-    (_, text_of_line label (pending_at n by) line (codes "pending " ++ label ++ codes " node " ++ decimal n ++ codes " " ++ is.0)
-      (joined (label ++ codes " node " ++ decimal n ++ codes " ") is.0 start (told by is.0 is.1)) is.2)
-text_of told label (refused_with code) line one is =
-    (_, text_of_line label (refused_with code) line (codes "refused " ++ label ++ codes " code " ++ signed_decimal code)
-      (joined (label ++ codes " code ") (signed_decimal code) (joined label (codes " code ") one refl) (signed_number code)) is)
+    let start : is_one_line (label ++ codes " node " ++ decimal n ++ codes " ") ≡ true = joined (label ++ codes " node " ++ decimal n) (codes " ") (joined (label ++ codes " node ") (decimal n) (joined label (codes " node ") one refl) (number n)) refl in (
+      _,
+      text_of_line label (pending_at n by) line (codes "pending " ++ label ++ codes " node " ++ decimal n ++ codes " " ++ is.0)
+          (joined (label ++ codes " node " ++ decimal n ++ codes " ") is.0 start (told by is.0 is.1)) is.2,
+    )
+text_of told label (refused_with code) line one is = (
+  _,
+  text_of_line label (refused_with code) line (codes "refused " ++ label ++ codes " code " ++ signed_decimal code)
+      (joined (label ++ codes " code ") (signed_decimal code) (joined label (codes " code ") one refl) (signed_number code)) is,
+)
 
 not_empty : (xs more : List ℕ) → xs ++ 10 ∷ more ≡ [] → ⊥
 not_empty [] more e = absurd (omega (arith, ap head_of e))

@@ -60,17 +60,13 @@ fn value(alloc: Global, text: &str) -> Result<Value, Fail> {
 fn holds(alloc: Global, text: &str) -> Result<bool, Fail> {
     let signature = signature(alloc, SMALL)?;
     let pattern = pattern(alloc, text)?;
-    let condition =
-        compile_condition(alloc, &signature, &[&pattern]).map_err(|_| "no condition")?;
+    let condition = compile_condition(alloc, &signature, &[&pattern]).map_err(|_| "no condition")?;
     Ok(condition.holds(alloc, &[]).map_err(|_| "no truth")?)
 }
 
 #[test]
 fn a_sum_has_its_value(rt: HostRuntime) -> Result<(), Fail> {
-    let sum = value(
-        rt.alloc(),
-        r#"plus{}(\dv{Int{}}("+2"), \dv{Int{}}("-05"))"#,
-    )?;
+    let sum = value(rt.alloc(), r#"plus{}(\dv{Int{}}("+2"), \dv{Int{}}("-05"))"#)?;
     assert!(rt; sum.equal(&Value::Whole { number: -3 }));
     Ok(())
 }

@@ -99,7 +99,11 @@ fn a_rule_fires_where_its_condition_holds(rt: HostRuntime) -> Result<(), Fail> {
         (PLAIN, r#"pair{}(\dv{Int{}}("5"), \dv{Int{}}("5"))"#, false),
         (PLAIN, r#"pair{}(\dv{Int{}}("4"), \dv{Int{}}("3"))"#, false),
         (FOREIGN, r#"pair{}(\dv{Int{}}("9"), \dv{Int{}}("9"))"#, true),
-        (FOREIGN, r#"pair{}(\dv{Int{}}("9"), \dv{Int{}}("8"))"#, false),
+        (
+            FOREIGN,
+            r#"pair{}(\dv{Int{}}("9"), \dv{Int{}}("8"))"#,
+            false,
+        ),
     ];
     for (rule, text, wanted) in rows {
         assert_eq!(rt; fires(rt.alloc(), rule, text)?, wanted);
@@ -134,8 +138,16 @@ fn skeleton_may_be(
 #[test]
 fn a_literal_that_writes_no_value_is_any_value(rt: HostRuntime) -> Result<(), Fail> {
     let left = r#"pair{}(\dv{Int{}}("7"), \dv{Int{}}("seven"))"#;
-    let seven = may_be(rt.alloc(), left, r#"pair{}(\dv{Int{}}("7"), \dv{Int{}}("9"))"#)?;
-    let eight = may_be(rt.alloc(), left, r#"pair{}(\dv{Int{}}("8"), \dv{Int{}}("9"))"#)?;
+    let seven = may_be(
+        rt.alloc(),
+        left,
+        r#"pair{}(\dv{Int{}}("7"), \dv{Int{}}("9"))"#,
+    )?;
+    let eight = may_be(
+        rt.alloc(),
+        left,
+        r#"pair{}(\dv{Int{}}("8"), \dv{Int{}}("9"))"#,
+    )?;
     assert!(rt; seven);
     assert!(rt; !eight);
     Ok(())
