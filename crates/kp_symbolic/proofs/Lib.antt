@@ -1,9 +1,11 @@
 pub mod AlikeLemmas
+pub mod CallOpening
 pub mod Digits
 pub mod Distribution
 pub mod EqualityLemmas
 pub mod Folded
 pub mod Opened
 pub mod SeenLemmas
+pub mod Shifts
 pub mod SideLemmas
 pub mod Stable

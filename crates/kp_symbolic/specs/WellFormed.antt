@@ -6,9 +6,10 @@ use Rattle.kp_kore.specs.Syntax.{KoreSort, KoreSorts, no_sorts, next_sort, Symbo
 use Rattle.kp_kore.specs.Parts.{SortedName}
 use Rattle.kp_kore.specs.Signature.{KoreSignature, integer_sort, symbol_declared, IsBelow}
 use Rattle.kp_kore.specs.Sorting.{result_sort}
-use Rattle.kp_semantics.specs.Value.{HasSort}
-use Rattle.kp_states.specs.Spelled.{own_sort}
-use Rattle.kp_symbolic.specs.Terms.{SymbolicTerm, unknown, offset, known, headed, SymbolicTerms, no_terms, next_term, term_variables}
+use Rattle.kp_semantics.specs.Value.{HasSort, HaveSorts}
+use Rattle.kp_semantics.specs.Instance.{Valuation}
+use Rattle.kp_states.specs.Spelled.{own_sort, places_of}
+use Rattle.kp_symbolic.specs.Terms.{SymbolicTerm, unknown, offset, known, headed, SymbolicTerms, no_terms, next_term, term_instances, term_variables}
 use Rattle.kp_symbolic.specs.States.{Atom, same, has_head, quoted, clause_variables, SymbolicState}
 
 -- the sort of a term's head: a variable's own, a value's head's, or the symbol's result
@@ -35,6 +36,16 @@ abbrev mutual
   AreWellSorted g (next_sort s ss) (next_term t ts) = IsWellSorted g s t × AreWellSorted g ss ts
   AreWellSorted g no_sorts (next_term t ts) = ⊥
   AreWellSorted g (next_sort s ss) no_terms = ⊥
+
+-- under a valuation, each symbol in the term is given values of the sorts of its arguments
+abbrev mutual
+  pub IsGivenSorts : KoreSignature → Valuation → SymbolicTerm → Type 0
+  IsGivenSorts g v (headed f ts) = HaveSorts g (places_of g f) (term_instances g v ts) × AreGivenSorts g v ts
+  IsGivenSorts g v t = ⊤
+
+  pub AreGivenSorts : KoreSignature → Valuation → SymbolicTerms → Type 0
+  AreGivenSorts g v no_terms = ⊤
+  AreGivenSorts g v (next_term t ts) = IsGivenSorts g v t × AreGivenSorts g v ts
 
 -- the sides of an equality have its sort
 abbrev pub IsWellSortedAtom : KoreSignature → Atom → Type 0
