@@ -1,5 +1,6 @@
 pub mod AlikeLemmas
 pub mod CallOpening
+pub mod Denied
 pub mod Digits
 pub mod Distribution
 pub mod EqualityLemmas

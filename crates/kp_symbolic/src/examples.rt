@@ -27,6 +27,7 @@ pub fn sums_are_folded()
 pub fn comparisons_are_opened()
     ensures not_zero { clauses_of toys_signature [] (negation sort_s (test (codes "Lbleq") x (integer (codes "0")))) ≡ alone (comparison false (codes "Lbleq") (unknown x_name) (known (whole (pos 0)))) }
     ensures both { clauses_of toys_signature [] (conjunction sort_s (patterns (above x (codes "0") ∷ above x (codes "5") ∷ []))) ≡ (is_above true 0 ∷ []) ∷ (is_above true 5 ∷ []) ∷ [] }
+    ensures implied { clauses_of toys_signature [] (conjunction sort_s (patterns (above x (codes "0") ∷ disjunction sort_s (patterns (above x (codes "0") ∷ above x (codes "5") ∷ [])) ∷ []))) ≡ (is_above true 0 ∷ []) ∷ (is_above true 0 ∷ is_above true 5 ∷ []) ∷ [] }
     ensures once { clauses_of toys_signature [] (conjunction sort_s (patterns (above x (codes "0") ∷ above x (codes "0") ∷ []))) ≡ alone (is_above true 0) }
     ensures square { clauses_of toys_signature [] (test (codes "Lbllt") square (integer (codes "0"))) ≡ alone (comparison true (codes "Lbllt") square_term (known (whole (pos 0)))) }
     ensures at_once { clauses_of toys_signature [] (test (codes "Lblge") x x) ≡ [] }

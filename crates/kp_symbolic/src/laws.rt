@@ -1,15 +1,17 @@
 // Laws of literals, clauses and formulas.
-ghost use Rattle.std.specs.Prelude.{◌≡◌, ◌↔◌, Bool, List};
-ghost use Rattle.kp_kore.specs.Syntax.{KorePattern};
+ghost use Rattle.std.specs.Prelude.{◌≡◌, ◌↔◌, Bool, true, List};
+ghost use Rattle.kp_kore.specs.Syntax.{KoreSort, KorePattern};
 ghost use Rattle.kp_kore.specs.Parts.{free_variables};
 ghost use Rattle.kp_kore.specs.Signature.{KoreSignature};
-ghost use Rattle.kp_semantics.specs.Instance.{Valuation, instance, IsTrueUnder};
+ghost use Rattle.kp_semantics.specs.Instance.{Valuation, GivesSorts, instance, IsTrueUnder};
+ghost use Rattle.kp_semantics.specs.Value.{truth, HasSort};
 ghost use Rattle.kp_semantics.specs.Sorted.{IsRegular};
-ghost use Rattle.kp_symbolic.specs.Terms.{term_instance, Replaced, under_replaced};
+ghost use Rattle.kp_symbolic.specs.Terms.{SymbolicTerm, term_instance, term_variables, Replaced, under_replaced};
+ghost use Rattle.kp_symbolic.specs.WellFormed.{IsGivenSorts};
 ghost use Rattle.kp_symbolic.specs.Formulas.{Formula, Holds};
 ghost use Rattle.kp_symbolic.specs.Folding.{folded};
 ghost use Rattle.kp_symbolic.specs.Clauses.{distributed, without_repeats};
-ghost use Rattle.kp_symbolic.specs.Opening.{Leaf, signed, opened};
+ghost use Rattle.kp_symbolic.specs.Opening.{Leaf, signed, opened, opened_same, opened_truth};
 ghost use Rattle.kp_symbolic.specs.States.{Literal, IsLiteralTrue, AreTrue, AreGiven};
 
 /// A literal that can't be refuted is true.
@@ -34,4 +36,16 @@ pub fn opening_keeps_truth()
     ensures { (g : KoreSignature) (rs : List Replaced) (v : Valuation) (leaf : Leaf) →
         ((alone b : Bool) (p : KorePattern) → AreGiven g rs v (free_variables p) → Holds (IsLiteralTrue g v) (leaf alone b p) ↔ signed b (IsTrueUnder g (under_replaced g rs v) p)) →
         (alone b : Bool) (p : KorePattern) → AreGiven g rs v (free_variables p) → Holds (IsLiteralTrue g v) (opened leaf alone b p) ↔ signed b (IsTrueUnder g (under_replaced g rs v) p) }
+{}
+
+/// An opened equality says that both sides have one value, by its sign, and an opened Boolean expression that it is true:
+/// where the variables have values of their sorts, symbols are given arguments of theirs, and the sides have the sort.
+pub fn opened_terms_say_what_they_said()
+    ensures equality { (g : KoreSignature) (v : Valuation) (alone b : Bool) (s : KoreSort) (t u : SymbolicTerm) → IsRegular g →
+        GivesSorts g v (term_variables t) → GivesSorts g v (term_variables u) → IsGivenSorts g v t → IsGivenSorts g v u →
+        HasSort g s (term_instance g v t) → HasSort g s (term_instance g v u) →
+        Holds (IsLiteralTrue g v) (opened_same g alone b s t u) ↔ signed b (term_instance g v t ≡ term_instance g v u) }
+    ensures expression { (g : KoreSignature) (v : Valuation) (alone b : Bool) (t : SymbolicTerm) → IsRegular g →
+        GivesSorts g v (term_variables t) → IsGivenSorts g v t →
+        Holds (IsLiteralTrue g v) (opened_truth g alone b t) ↔ signed b (term_instance g v t ≡ truth true) }
 {}
