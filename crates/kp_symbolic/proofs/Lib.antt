@@ -5,6 +5,7 @@ pub mod Digits
 pub mod Distribution
 pub mod EqualityLemmas
 pub mod Folded
+pub mod HeadLemmas
 pub mod Opened
 pub mod SeenLemmas
 pub mod Shifts
