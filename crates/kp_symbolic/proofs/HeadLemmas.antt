@@ -1,19 +1,18 @@
 -- The test of heads is right: a sort's heads are those that it lists, and a head test's answer holds of each.
-use Rattle.std.proofs.Common.{◌≡◌, refl, sym, ◌∙◌, ap, subst, arith, ℕ, zero, suc, ◌<◌, Bool, true, false, not, cond, ◌&&◌, List, [], ◌∷◌, ◌++◌, map, length, Option, Some, None, ◌↔◌, ◌⊎◌, inl, inr, slice_index_or}
-use Rattle.std.specs.Prelude.{if◌then◌else◌, IsTrue, ⊤}
-use Rattle.std.specs.Bool.{beq, Decides}
-use Rattle.std.specs.List.{list_all, filter, find, Contains}
+use Rattle.std.proofs.Common.{◌≡◌, refl, sym, ◌∙◌, ap, subst, arith, ℕ, zero, suc, ◌<◌, Bool, true, false, not, cond, List, [], ◌∷◌, ◌++◌, map, length, Option, Some, None, inl, inr, slice_index_or}
+use Rattle.std.specs.Prelude.{if◌then◌else◌, IsTrue}
+use Rattle.std.specs.Bool.{Decides}
+use Rattle.std.specs.List.{list_all, filter, find}
 use Rattle.std.specs.Str.{bytes_eq}
 use Rattle.std.proofs.lemmas.Slice.Eq.{bytes_eq-Decides}
 use Rattle.kp_kore.specs.Syntax.{Text, KoreSort, SymbolDeclaration}
-use Rattle.kp_kore.specs.Signature.{KoreSignature, SymbolMeaning, injection, construction, interpretation, foreign, symbol_meaning, symbol_declared, integer_sort, boolean_sort, is_token_sort, Head, integers, booleans, tokens, constructor_of, IsSortOfHead, IsHeadOf, IsBelow, itself, through}
+use Rattle.kp_kore.specs.Signature.{KoreSignature, construction, symbol_meaning, symbol_declared, is_token_sort, Head, integers, booleans, tokens, constructor_of, IsSortOfHead, IsHeadOf, IsBelow, itself, through}
 use Rattle.kp_semantics.specs.Value.{Value, whole, truth, token, constructed, HasSort, head_of}
 use Rattle.kp_semantics.specs.Steps.{AnyByRecursion}
 use Rattle.kp_semantics.proofs.InstanceLemmas.{first_true, second_true}
-use Rattle.kp_signature.specs.Places.{is_below}
 use Rattle.kp_signature.proofs.Below.{is_below-Decides}
 use Rattle.kp_symbolic.specs.States.{HeadTest, one_head, head_of_sort, PassesHead}
-use Rattle.kp_symbolic.specs.Heads.{is_construction, sort_made, sort_of_head, is_own_below, is_head, possible_heads, heads_of, is_constructor_head, passes_head, answer_of, head_answer}
+use Rattle.kp_symbolic.specs.Heads.{is_construction, sort_made, sort_of_head, is_own_below, is_head, possible_heads, heads_of, passes_head, answer_of, head_answer}
 use Rattle.kp_symbolic.proofs.SideLemmas.{construction_is_meant}
 
 -- ---- a head's own sort

@@ -7,10 +7,10 @@ use Rattle.kp_kore.specs.Parts.{SortedName}
 use Rattle.kp_kore.specs.Signature.{KoreSignature, integer_sort, symbol_declared, IsBelow}
 use Rattle.kp_kore.specs.Sorting.{result_sort}
 use Rattle.kp_semantics.specs.Value.{HasSort, HaveSorts}
-use Rattle.kp_semantics.specs.Instance.{Valuation}
+use Rattle.kp_semantics.specs.Instance.{Valuation, GivesSorts}
 use Rattle.kp_states.specs.Spelled.{own_sort, places_of}
-use Rattle.kp_symbolic.specs.Terms.{SymbolicTerm, unknown, offset, known, headed, SymbolicTerms, no_terms, next_term, term_instances, term_variables}
-use Rattle.kp_symbolic.specs.States.{Atom, same, has_head, quoted, clause_variables, SymbolicState}
+use Rattle.kp_symbolic.specs.Terms.{SymbolicTerm, unknown, offset, known, headed, SymbolicTerms, no_terms, next_term, term_instance, term_instances, term_variables}
+use Rattle.kp_symbolic.specs.States.{Atom, same, has_head, quoted, Literal, clause_variables, SymbolicState}
 
 -- the sort of a term's head: a variable's own, a value's head's, or the symbol's result
 abbrev pub term_sort : KoreSignature → SymbolicTerm → Option KoreSort
@@ -52,6 +52,15 @@ abbrev pub IsWellSortedAtom : KoreSignature → Atom → Type 0
 IsWellSortedAtom g (same s t u) = IsWellSorted g s t × IsWellSorted g s u
 IsWellSortedAtom g (has_head x test) = ⊤
 IsWellSortedAtom g (quoted p rs) = ⊤
+
+-- under a valuation, the literal's variables have values of their sorts, and so have the sides of an equality
+abbrev pub IsGivenAtom : KoreSignature → Valuation → Atom → Type 0
+IsGivenAtom g v (same s t u) = GivesSorts g v (term_variables t) × GivesSorts g v (term_variables u) × IsGivenSorts g v t × IsGivenSorts g v u × HasSort g s (term_instance g v t) × HasSort g s (term_instance g v u)
+IsGivenAtom g v (has_head x test) = HasSort g x.sort (v x.name)
+IsGivenAtom g v (quoted p rs) = ⊤
+
+abbrev pub AreGivenLiterals : KoreSignature → Valuation → List (List Literal) → Type 0
+AreGivenLiterals g v = AllByRecursion (AllByRecursion (λ l. IsGivenAtom g v l.atom))
 
 -- each of the variables is among those at hand
 abbrev pub AreAtHand : List SortedName → List SortedName → Type 0

@@ -7,12 +7,12 @@ ghost use Rattle.kp_semantics.specs.Instance.{Valuation, GivesSorts, instance, I
 ghost use Rattle.kp_semantics.specs.Value.{truth, HasSort};
 ghost use Rattle.kp_semantics.specs.Sorted.{IsRegular};
 ghost use Rattle.kp_symbolic.specs.Terms.{SymbolicTerm, term_instance, term_variables, Replaced, under_replaced};
-ghost use Rattle.kp_symbolic.specs.WellFormed.{IsGivenSorts};
+ghost use Rattle.kp_symbolic.specs.WellFormed.{IsGivenSorts, IsGivenAtom, AreGivenLiterals};
 ghost use Rattle.kp_symbolic.specs.Formulas.{Formula, Holds};
 ghost use Rattle.kp_symbolic.specs.Folding.{folded};
-ghost use Rattle.kp_symbolic.specs.Clauses.{distributed, without_repeats};
+ghost use Rattle.kp_symbolic.specs.Clauses.{distributed, without_repeats, opened_atom, denied};
 ghost use Rattle.kp_symbolic.specs.Opening.{Leaf, signed, opened, opened_same, opened_truth};
-ghost use Rattle.kp_symbolic.specs.States.{Literal, IsLiteralTrue, AreTrue, AreGiven};
+ghost use Rattle.kp_symbolic.specs.States.{Atom, IsAtomTrue, Literal, IsLiteralTrue, AreTrue, AreGiven};
 
 /// A literal that can't be refuted is true.
 pub fn literals_are_stable()
@@ -48,4 +48,12 @@ pub fn opened_terms_say_what_they_said()
     ensures expression { (g : KoreSignature) (v : Valuation) (alone b : Bool) (t : SymbolicTerm) → IsRegular g →
         GivesSorts g v (term_variables t) → IsGivenSorts g v t →
         Holds (IsLiteralTrue g v) (opened_truth g alone b t) ↔ signed b (term_instance g v t ≡ truth true) }
+{}
+
+/// A literal that is opened again says what it said, by its sign; the clauses of the opposite say that not all are true.
+pub fn opposites_of_clauses_say_so()
+    ensures literal { (g : KoreSignature) (v : Valuation) (alone b : Bool) (a : Atom) → IsRegular g → IsGivenAtom g v a →
+        Holds (IsLiteralTrue g v) (opened_atom g alone b a) ↔ signed b (IsAtomTrue g v a) }
+    ensures clauses { (g : KoreSignature) (v : Valuation) (cs : List (List Literal)) → IsRegular g → AreGivenLiterals g v cs →
+        AreTrue g v (distributed (denied g cs)) ↔ (¬ AreTrue g v cs) }
 {}
