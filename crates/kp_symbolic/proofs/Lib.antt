@@ -7,6 +7,7 @@ pub mod EqualityLemmas
 pub mod Folded
 pub mod HeadLemmas
 pub mod Opened
+pub mod Replacing
 pub mod SeenLemmas
 pub mod Shifts
 pub mod SideLemmas

@@ -1,6 +1,6 @@
 -- What holds of each symbolic state: its parts have the sorts of their places, and its variables are at hand.
 -- Source: the K framework's Kore language (sorts of applications and of equalities).
-use Rattle.std.specs.Prelude.{◌≡◌, List, Option, Some, ⊤}
+use Rattle.std.specs.Prelude.{◌≡◌, true, List, Option, Some, ⊤}
 use Rattle.std.specs.List.{AllByRecursion, Contains}
 use Rattle.kp_kore.specs.Syntax.{KoreSort, KoreSorts, no_sorts, next_sort, SymbolDeclaration}
 use Rattle.kp_kore.specs.Parts.{SortedName}
@@ -10,6 +10,7 @@ use Rattle.kp_semantics.specs.Value.{HasSort, HaveSorts}
 use Rattle.kp_semantics.specs.Instance.{Valuation, GivesSorts}
 use Rattle.kp_states.specs.Spelled.{own_sort, places_of}
 use Rattle.kp_symbolic.specs.Terms.{SymbolicTerm, unknown, offset, known, headed, SymbolicTerms, no_terms, next_term, term_instance, term_instances, term_variables}
+use Rattle.kp_symbolic.specs.Folding.{can_be_added}
 use Rattle.kp_symbolic.specs.States.{Atom, same, has_head, quoted, Literal, clause_variables, SymbolicState}
 
 -- the sort of a term's head: a variable's own, a value's head's, or the symbol's result
@@ -27,7 +28,7 @@ IsPlaced g place t = (own : KoreSort) × (term_sort g t ≡ Some own) × IsBelow
 abbrev mutual
   pub IsWellSorted : KoreSignature → KoreSort → SymbolicTerm → Type 0
   IsWellSorted g place (unknown x) = IsBelow g.subsorts x.sort place
-  IsWellSorted g place (offset x c) = (integer_sort g ≡ Some x.sort) × IsBelow g.subsorts x.sort place
+  IsWellSorted g place (offset x c) = (integer_sort g ≡ Some x.sort) × (can_be_added g c ≡ true) × IsBelow g.subsorts x.sort place
   IsWellSorted g place (known u) = HasSort g place u
   IsWellSorted g place (headed f ts) = IsPlaced g place (headed f ts) × (d : SymbolDeclaration) × (symbol_declared g f ≡ Some d) × AreWellSorted g d.arguments ts
 

@@ -1,6 +1,6 @@
 // Laws of literals, clauses and formulas.
-ghost use Rattle.std.specs.Prelude.{◌≡◌, ◌↔◌, Bool, true, List};
-ghost use Rattle.kp_kore.specs.Syntax.{KoreSort, KorePattern};
+ghost use Rattle.std.specs.Prelude.{◌≡◌, ◌↔◌, Bool, true, List, [], ◌∷◌};
+ghost use Rattle.kp_kore.specs.Syntax.{Text, KoreSort, KorePattern};
 ghost use Rattle.kp_kore.specs.Parts.{free_variables};
 ghost use Rattle.kp_kore.specs.Signature.{KoreSignature};
 ghost use Rattle.kp_semantics.specs.Instance.{Valuation, GivesSorts, instance, IsTrueUnder};
@@ -9,7 +9,7 @@ ghost use Rattle.kp_semantics.specs.Sorted.{IsRegular};
 ghost use Rattle.kp_symbolic.specs.Terms.{SymbolicTerm, term_instance, term_variables, Replaced, under_replaced};
 ghost use Rattle.kp_symbolic.specs.WellFormed.{IsGivenSorts, IsGivenAtom, AreGivenLiterals};
 ghost use Rattle.kp_symbolic.specs.Formulas.{Formula, Holds};
-ghost use Rattle.kp_symbolic.specs.Folding.{folded};
+ghost use Rattle.kp_symbolic.specs.Folding.{folded, replaced, AreWritten};
 ghost use Rattle.kp_symbolic.specs.Clauses.{distributed, without_repeats, opened_atom, denied};
 ghost use Rattle.kp_symbolic.specs.Opening.{Leaf, signed, opened, opened_same, opened_truth};
 ghost use Rattle.kp_symbolic.specs.States.{Atom, IsAtomTrue, Literal, IsLiteralTrue, AreTrue, AreGiven};
@@ -56,4 +56,13 @@ pub fn opposites_of_clauses_say_so()
         Holds (IsLiteralTrue g v) (opened_atom g alone b a) ↔ signed b (IsAtomTrue g v a) }
     ensures clauses { (g : KoreSignature) (v : Valuation) (cs : List (List Literal)) → IsRegular g → AreGivenLiterals g v cs →
         AreTrue g v (distributed (denied g cs)) ↔ (¬ AreTrue g v cs) }
+{}
+
+/// A term with terms in the place of variables has the instance that it has where the variables stand for theirs; where a
+/// variable is equal to a term, a term with that in its place keeps its instance.
+pub fn replacing_keeps_instances()
+    ensures replaced { (g : KoreSignature) (rs : List Replaced) (v : Valuation) (t : SymbolicTerm) → IsRegular g → AreWritten g t → AreGiven g rs v (term_variables t) →
+        term_instance g v (replaced g rs t) ≡ term_instance g (under_replaced g rs v) t }
+    ensures solved { (g : KoreSignature) (v : Valuation) (x : Text) (t u : SymbolicTerm) → IsRegular g → AreWritten g u → AreGiven g (record { name = x; term = t } ∷ []) v (term_variables u) →
+        v x ≡ term_instance g v t → term_instance g v (replaced g (record { name = x; term = t } ∷ []) u) ≡ term_instance g v u }
 {}
