@@ -191,7 +191,7 @@ applied_variables g Q f ts a = made_variables g Q (meaning_of g f) f ts a
 abbrev pub OfEach : List Replaced → (SortedName → Type 0) → List SortedName → Type 0
 OfEach rs Q = AllByRecursion (λ x. AllByRecursion Q (variables_for x (replacement_for rs x.name)))
 
-for_variables : (Q : SortedName → Type 0) (x : SortedName) (o : Option SymbolicTerm) → AllByRecursion Q (variables_for x o) → AllByRecursion Q (term_variables (term_for x o))
+pub for_variables : (Q : SortedName → Type 0) (x : SortedName) (o : Option SymbolicTerm) → AllByRecursion Q (variables_for x o) → AllByRecursion Q (term_variables (term_for x o))
 for_variables Q x (Some t) a = a
 for_variables Q x None a = a
 
@@ -207,7 +207,7 @@ mutual
       (folded_variables g rs Q p (all_first (λ x. AllByRecursion Q (variables_for x (replacement_for rs x.name))) (free_variables p) (all_free_variables ps) a))
       (all_folded_variables g rs Q ps (all_second (λ x. AllByRecursion Q (variables_for x (replacement_for rs x.name))) (free_variables p) (all_free_variables ps) a))
 
-for_instance : (g : KoreSignature) (rs : List Replaced) (v : Valuation) (x : Text) (s : KoreSort) (o : Option SymbolicTerm) → replacement_for rs x ≡ o → term_instance g v (term_for (record { name = x; sort = s }) o) ≡ under_replaced g rs v x
+pub for_instance : (g : KoreSignature) (rs : List Replaced) (v : Valuation) (x : Text) (s : KoreSort) (o : Option SymbolicTerm) → replacement_for rs x ≡ o → term_instance g v (term_for (record { name = x; sort = s }) o) ≡ under_replaced g rs v x
 for_instance g rs v x s (Some t) e = rw e refl
 for_instance g rs v x s None e = rw e refl
 

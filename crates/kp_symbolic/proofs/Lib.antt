@@ -1,10 +1,15 @@
 pub mod AlikeLemmas
+pub mod CallOpening
+pub mod Denied
 pub mod Digits
 pub mod Distribution
 pub mod Exact
 pub mod EqualityLemmas
 pub mod Folded
+pub mod HeadLemmas
 pub mod Opened
+pub mod Replacing
 pub mod SeenLemmas
+pub mod Shifts
 pub mod SideLemmas
 pub mod Stable

@@ -1,31 +1,17 @@
 -- An opened equality says that both sides have the same value, by its sign.
-use Rattle.std.proofs.Common.{◌≡◌, refl, sym, ◌∙◌, ap, subst, ℤ, pos, ◌+ℤ◌, ℕ, zero, suc, ◌+◌, ◌≤◌, ◌<◌, arith, Bool, true, false, not, ◌&&◌, ◌||◌, List, [], ◌∷◌, Option, Some, None, ◌↔◌}
-use Rattle.std.specs.Prelude.{⊤, MatchBool, if◌then◌else◌}
-use Rattle.std.specs.Bool.{beq, Decides}
-use Rattle.std.specs.Ordering.{int_eq}
-use Rattle.std.specs.Str.{bytes_eq}
-use Rattle.std.proofs.lemmas.Slice.Eq.{bytes_eq-Decides}
-use Rattle.std.proofs.lemmas.Bool.Decides.{Decides-int_eq}
-use Rattle.kp_kore.specs.Syntax.{Text, KoreSort, KoreSorts, no_sorts, next_sort}
-use Rattle.kp_kore.specs.Hooks.{equal}
-use Rattle.kp_kore.specs.Parts.{SortedName}
-use Rattle.kp_kore.specs.Signature.{KoreSignature, SymbolMeaning, injection, construction, interpretation, foreign, meaning_of, is_boolean_sort}
-use Rattle.kp_semantics.specs.Value.{Value, whole, truth, token, constructed, Values, no_values, next_value, values_same, HasSort, HaveSorts}
-use Rattle.kp_semantics.specs.Instance.{Valuation, GivesSorts, applied}
-use Rattle.kp_semantics.specs.Sorted.{IsRegular}
-use Rattle.kp_semantics.proofs.SameLemmas.{same_values_decide}
-use Rattle.kp_semantics.proofs.InstanceLemmas.{first_true, second_true}
-use Rattle.kp_symbolic.specs.Terms.{SymbolicTerm, unknown, offset, known, headed, SymbolicTerms, no_terms, next_term, term_instance, term_instances, term_variables}
-use Rattle.kp_symbolic.specs.Formulas.{Formula, fact, all_of, one_of, Formulas, no_formulas, next_formula, Holds, AllHold, NoneHold}
-use Rattle.kp_symbolic.specs.States.{Atom, same, Literal, IsLiteralTrue}
-use Rattle.kp_symbolic.specs.Alike.{terms_same}
-use Rattle.kp_symbolic.specs.Folding.{Sum, sum_of}
-use Rattle.kp_symbolic.specs.Heads.{is_construction}
-use Rattle.kp_symbolic.specs.Opening.{signed, all_if, fixed, pair, agreeing, is_true, equality_fact, compared_at_once, fixed_or, holds_name, some_hold_name, is_never, unconstructed, is_kept_truth, Seen, seen, Seens, none_seen, next_seen, asked, opened_agreement, opened_truths, opened_sides, sorts_of_members, opened_seen, opened_members}
-use Rattle.kp_symbolic.proofs.AlikeLemmas.{terms_are}
+use Rattle.std.proofs.Common.{◌≡◌, refl, sym, subst, Bool, true, false, not, ◌&&◌, Option, Some, None, ◌↔◌}
+use Rattle.std.specs.Prelude.{⊤, if◌then◌else◌}
+use Rattle.std.specs.Bool.{beq}
+use Rattle.kp_kore.specs.Syntax.{Text, KoreSort}
+use Rattle.kp_kore.specs.Signature.{KoreSignature}
+use Rattle.kp_semantics.specs.Value.{Value, truth, constructed, Values, no_values, next_value}
+use Rattle.kp_semantics.specs.Instance.{Valuation, GivesSorts}
+use Rattle.kp_symbolic.specs.Terms.{SymbolicTerm, known, headed, term_instance, term_variables}
+use Rattle.kp_symbolic.specs.Formulas.{Formula, Holds}
+use Rattle.kp_symbolic.specs.States.{Literal, IsLiteralTrue}
+use Rattle.kp_symbolic.specs.Opening.{signed, is_true, equality_fact, is_kept_truth, Seen, seen, Seens, none_seen, next_seen, asked, opened_agreement, opened_truths}
 use Rattle.kp_symbolic.proofs.Stable.{stable_same}
-use Rattle.kp_symbolic.proofs.Opened.{fixed_says, never_says, agreeing_says}
-use Rattle.kp_symbolic.proofs.Folded.{IsSum, sum_is}
+use Rattle.kp_symbolic.proofs.Opened.{agreeing_says}
 
 -- ---- facts by their sign
 

@@ -1,34 +1,31 @@
 -- Equality of constructor terms member by member, and what is never equal.
-use Rattle.std.proofs.Common.{◌≡◌, refl, sym, ◌∙◌, ap, subst, ℤ, pos, ◌+ℤ◌, ◌-ℤ◌, ℕ, zero, suc, ◌+◌, ◌≤◌, ◌<◌, arith, Bool, true, false, not, ◌&&◌, ◌||◌, List, [], ◌∷◌, Option, Some, None, ◌↔◌}
-use Rattle.std.specs.Prelude.{⊤, MatchBool, if◌then◌else◌}
-use Rattle.std.specs.Bool.{beq, Decides}
+use Rattle.std.proofs.Common.{◌≡◌, refl, sym, ◌∙◌, ap, subst, ℤ, ◌+ℤ◌, ◌-ℤ◌, ℕ, suc, ◌+◌, ◌≤◌, arith, Bool, true, false, not, ◌||◌, Option, Some, None}
+use Rattle.std.specs.Prelude.{if◌then◌else◌}
+use Rattle.std.specs.Bool.{beq}
 use Rattle.std.specs.Ordering.{int_eq}
 use Rattle.std.specs.Str.{bytes_eq}
-use Rattle.std.proofs.Math.IntN.{+ℤ_assoc, +ℤ_comm, +ℤ-neg_ℤ_cancel}
+use Rattle.std.proofs.Math.IntN.{+ℤ_comm, +ℤ-neg_ℤ_cancel}
 use Rattle.std.proofs.lemmas.Slice.Eq.{bytes_eq-Decides}
 use Rattle.std.proofs.lemmas.Bool.Decides.{Decides-int_eq}
-use Rattle.kp_kore.specs.Syntax.{Text, KoreSort, KoreSorts, no_sorts, next_sort, SymbolDeclaration}
+use Rattle.kp_kore.specs.Syntax.{Text}
 use Rattle.kp_kore.specs.Hooks.{Comparison, equal}
-use Rattle.kp_kore.specs.Parts.{SortedName}
-use Rattle.kp_kore.specs.Signature.{KoreSignature, SymbolMeaning, injection, construction, interpretation, foreign, meaning_of, symbol_declared, boolean_sort, is_boolean_sort}
-use Rattle.kp_semantics.specs.Value.{Value, whole, truth, token, constructed, Values, no_values, next_value, values_same, HasSort, HaveSorts, ArgumentSorts}
+use Rattle.kp_kore.specs.Signature.{KoreSignature, SymbolMeaning, injection, construction, interpretation, foreign, meaning_of}
+use Rattle.kp_semantics.specs.Value.{Value, whole, truth, token, constructed, Values, no_values, next_value}
 use Rattle.kp_semantics.specs.Interpretation.{compared}
 use Rattle.kp_semantics.specs.Instance.{Valuation, GivesSorts, applied}
 use Rattle.kp_semantics.specs.Sorted.{IsRegular}
-use Rattle.kp_semantics.proofs.SameLemmas.{same_values_decide, sorts_equal-Decides}
+use Rattle.kp_semantics.proofs.SameLemmas.{same_values_decide}
 use Rattle.kp_semantics.proofs.InstanceLemmas.{first_true, second_true}
-use Rattle.kp_states.specs.Spelled.{places_of}
 use Rattle.kp_symbolic.specs.Terms.{SymbolicTerm, unknown, offset, known, headed, SymbolicTerms, no_terms, next_term, term_instance, term_instances, term_variables}
-use Rattle.kp_symbolic.specs.Formulas.{Formula, fact, all_of, one_of, Formulas, no_formulas, next_formula, Holds, AllHold, NoneHold}
-use Rattle.kp_symbolic.specs.States.{Atom, same, Literal, IsLiteralTrue}
+use Rattle.kp_symbolic.specs.Formulas.{Formula}
+use Rattle.kp_symbolic.specs.States.{Literal, IsLiteralTrue}
 use Rattle.kp_symbolic.specs.Alike.{terms_same}
 use Rattle.kp_symbolic.specs.Folding.{Sum, sum_of}
 use Rattle.kp_symbolic.specs.Heads.{is_construction}
-use Rattle.kp_symbolic.specs.Opening.{signed, all_if, fixed, equality_fact, compared_at_once, fixed_or, holds_name, some_hold_name, is_never, unconstructed, Seen, seen, Seens, none_seen, next_seen, opened_truths, opened_sides, sorts_of_members, opened_seen, opened_members}
-use Rattle.kp_symbolic.proofs.AlikeLemmas.{terms_are}
+use Rattle.kp_symbolic.specs.Opening.{fixed, compared_at_once, fixed_or, holds_name, some_hold_name, is_never, unconstructed}
 use Rattle.kp_symbolic.proofs.Opened.{fixed_says, never_says}
-use Rattle.kp_symbolic.proofs.Folded.{IsSum, sum_is, is_the_sort}
-use Rattle.kp_symbolic.proofs.SeenLemmas.{Says, equality_says, SaysHead, IsUnmade, IsMade, IsSeen, IsRight, AreRight, IsTruth, seen_instance, seen_instances, truths_say}
+use Rattle.kp_symbolic.proofs.Folded.{IsSum, sum_is}
+use Rattle.kp_symbolic.proofs.SeenLemmas.{Says, IsUnmade, IsMade}
 
 -- ---- a value isn't inside itself
 
@@ -113,7 +110,7 @@ sums_differ n c d u w p q e = same_numbers n c d (number_inside (sym p ∙ e ∙
     number_inside : {a b : ℤ} → whole a ≡ whole b → a ≡ b
     number_inside f = cc
 
-decided_says : (g : KoreSignature) (v : Valuation) (b c : Bool) (A : Type 0) → (c ≡ true → A) → (c ≡ false → ¬ A) → Says g v b (fixed (beq c b)) A
+pub decided_says : (g : KoreSignature) (v : Valuation) (b c : Bool) (A : Type 0) → (c ≡ true → A) → (c ≡ false → ¬ A) → Says g v b (fixed (beq c b)) A
 decided_says g v true true A y n = fixed_says (IsLiteralTrue g v) true A (y refl)
 decided_says g v false true A y n = fixed_says (IsLiteralTrue g v) false A (y refl)
 decided_says g v true false A y n = never_says (IsLiteralTrue g v) true A (n refl)

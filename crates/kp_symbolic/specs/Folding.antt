@@ -1,7 +1,7 @@
 -- A term of Kore as a symbolic term: inj is left out, closed calls are computed, and a sum of a variable and constants
 -- is one variable and one constant.
 -- Source: the K framework's Kore language (inj) and K's domains.md (INT); the normal form is this project's.
-use Rattle.std.specs.Prelude.{ℤ, pos, neg_ℤ, ◌+ℤ◌, int_lt, Bool, true, false, ◌&&◌, ◌||◌, ◌==◌, nat_lt, List, [], ◌∷◌, Option, Some, None, if◌then◌else◌, is_some}
+use Rattle.std.specs.Prelude.{◌≡◌, ⊤, ℤ, pos, neg_ℤ, ◌+ℤ◌, int_lt, Bool, true, false, ◌&&◌, ◌||◌, ◌==◌, nat_lt, List, [], ◌∷◌, Option, Some, None, if◌then◌else◌, is_some}
 use Rattle.std.specs.Ordering.{int_eq}
 use Rattle.kp_kore.specs.Syntax.{Text, KorePattern, KorePatterns, variable, application, literal, no_patterns, next_pattern, SymbolDeclaration}
 use Rattle.kp_kore.specs.Hooks.{Arithmetic, addition, subtraction, multiplication, Hook, whole_arithmetic}
@@ -126,15 +126,27 @@ abbrev mutual
   all_folded g rs no_patterns = no_terms
   all_folded g rs (next_pattern p ps) = next_term (folded g rs p) (all_folded g rs ps)
 
+-- each sum in the term can be written
+abbrev mutual
+  pub AreWritten : KoreSignature → SymbolicTerm → Type 0
+  AreWritten g (offset x c) = can_be_added g c ≡ true
+  AreWritten g (headed f ts) = AreAllWritten g ts
+  AreWritten g t = ⊤
+
+  pub AreAllWritten : KoreSignature → SymbolicTerms → Type 0
+  AreAllWritten g no_terms = ⊤
+  AreAllWritten g (next_term t ts) = AreWritten g t × AreAllWritten g ts
+
 -- ---- terms in the place of a symbolic term's variables
+
+-- a term and a number under a symbol
+abbrev pub under_symbol : KoreSignature → Option Text → SymbolicTerm → ℤ → SymbolicTerm → SymbolicTerm
+under_symbol g (Some f) t n otherwise = applied_term g f (next_term t (next_term (known (whole n)) no_terms))
+under_symbol g None t n otherwise = otherwise
 
 -- the sum of a term and a constant, as it is written
 abbrev pub added : KoreSignature → SymbolicTerm → ℤ → SymbolicTerm → SymbolicTerm
-added g t c otherwise = if int_lt (pos 0) c then by_symbol (least_symbol g addition) c else by_symbol (least_symbol g subtraction) (neg_ℤ c)
-  where
-    by_symbol : Option Text → ℤ → SymbolicTerm
-    by_symbol (Some f) n = applied_term g f (next_term t (next_term (known (whole n)) no_terms))
-    by_symbol None n = otherwise
+added g t c otherwise = if int_lt (pos 0) c then under_symbol g (least_symbol g addition) t c otherwise else under_symbol g (least_symbol g subtraction) t (neg_ℤ c) otherwise
 
 abbrev mutual
   pub replaced : KoreSignature → List Replaced → SymbolicTerm → SymbolicTerm

@@ -172,10 +172,10 @@ abbrev mutual
   opened_members g alone b (next_sort s ss) (next_seen (seen t p c ms) rest) (next_seen (seen u q d ns) others) = next_formula (opened_seen g alone b s (equality_fact b s t u) (seen t p c ms) (seen u q d ns)) (opened_members g alone b ss rest others)
   opened_members g alone b ss ms ns = no_formulas
 
--- the sorts between which a symbol of two arguments compares
-abbrev pub first_sort : KoreSorts → KoreSort
-first_sort (next_sort s ss) = s
-first_sort no_sorts = sort_variable []
+-- the sort at which a symbol of two arguments compares: that of both, if they have one
+abbrev pub common_sort : KoreSorts → KoreSort
+common_sort (next_sort a (next_sort b ss)) = if sorts_equal a b then a else sort_variable []
+common_sort ss = sort_variable []
 
 -- the Boolean hooks are opened, and so are comparisons that the folded terms decide
 abbrev pub opened_call : KoreSignature → KoreSorts → SymbolMeaning → Seens → Bool → Bool → Formula Literal → Formula Literal
@@ -189,8 +189,8 @@ opened_call g ss (interpretation (truth_connective c)) (next_seen m (next_seen n
     connected_by same_truth = opened_agreement g b m n
     connected_by other = opened_agreement g (not b) m n
 opened_call g ss (interpretation (whole_comparison o)) (next_seen (seen t p c ms) (next_seen (seen u q d ns) none_seen)) alone b kept = fixed_or (compared_at_once o (sum_of g t) (sum_of g u)) b kept
-opened_call g ss (interpretation values_equal) (next_seen m (next_seen n none_seen)) alone b kept = opened_seen g alone b (first_sort ss) kept m n
-opened_call g ss (interpretation values_different) (next_seen m (next_seen n none_seen)) alone b kept = opened_seen g alone (not b) (first_sort ss) kept m n
+opened_call g ss (interpretation values_equal) (next_seen m (next_seen n none_seen)) alone b kept = opened_seen g alone b (common_sort ss) kept m n
+opened_call g ss (interpretation values_different) (next_seen m (next_seen n none_seen)) alone b kept = opened_seen g alone (not b) (common_sort ss) kept m n
 opened_call g ss meaning ms alone b kept = kept
 
 abbrev pub constructor_if : Bool → Text → Option Text

@@ -4,7 +4,7 @@ ghost use Rattle.kp_kore.specs.Syntax.{negation};
 ghost use Rattle.kp_semantics.specs.Value.{whole, constructed, no_values};
 ghost use Rattle.kp_toys.specs.Toys.{sort_int, sort_bool, sort_s, sort_p, call, integer};
 ghost use Rattle.kp_toys.specs.ToysTheory.{toys_signature, count_of};
-ghost use Rattle.kp_kore.specs.Syntax.{equals, membership, disjunction, conjunction};
+ghost use Rattle.kp_kore.specs.Syntax.{equals, equivalence, variable, forall, membership, disjunction, conjunction};
 ghost use Rattle.kp_toys.specs.Toys.{patterns};
 ghost use Rattle.kp_symbolic.specs.Terms.{unknown, offset, known, headed};
 ghost use Rattle.kp_semantics.specs.Value.{truth};
@@ -12,7 +12,7 @@ ghost use Rattle.kp_symbolic.specs.States.{same, quoted};
 ghost use Rattle.kp_symbolic.specs.Solving.{IsReadAs, negated};
 ghost use Rattle.kp_symbolic.specs.Folding.{folded};
 ghost use Rattle.kp_symbolic.specs.Clauses.{clauses_of};
-ghost use Rattle.kp_symbolic.specs.Writing.{written_term, written_clause};
+ghost use Rattle.kp_symbolic.specs.Writing.{written_term, written_clause, written_under};
 ghost use Rattle.kp_symbolic.specs.Examples.{x_name, y_name, p_name, x, y, test, above, one_term, comparison, alone, equality, three_less_one, less_one, square, square_term, is_pa, is_number, number_test, nested_iff, is_above, all_above, only_x, y_above, both_above, repeated, many_choices, same_count, solved_count, logical_signature, b_name, c_name, of_name, true_if, never, is_b, is_c, gt_zero, gt_zero_term};
 
 /// X + 3 - 1 is X + 2, and is written so.
@@ -27,6 +27,7 @@ pub fn sums_are_folded()
 pub fn comparisons_are_opened()
     ensures not_zero { clauses_of toys_signature [] (negation sort_s (test (codes "Lbleq") x (integer (codes "0")))) ≡ alone (comparison false (codes "Lbleq") (unknown x_name) (known (whole (pos 0)))) }
     ensures both { clauses_of toys_signature [] (conjunction sort_s (patterns (above x (codes "0") ∷ above x (codes "5") ∷ []))) ≡ (is_above true 0 ∷ []) ∷ (is_above true 5 ∷ []) ∷ [] }
+    ensures implied { clauses_of toys_signature [] (conjunction sort_s (patterns (above x (codes "0") ∷ disjunction sort_s (patterns (above x (codes "0") ∷ above x (codes "5") ∷ [])) ∷ []))) ≡ (is_above true 0 ∷ []) ∷ (is_above true 0 ∷ is_above true 5 ∷ []) ∷ [] }
     ensures once { clauses_of toys_signature [] (conjunction sort_s (patterns (above x (codes "0") ∷ above x (codes "0") ∷ []))) ≡ alone (is_above true 0) }
     ensures square { clauses_of toys_signature [] (test (codes "Lbllt") square (integer (codes "0"))) ≡ alone (comparison true (codes "Lbllt") square_term (known (whole (pos 0)))) }
     ensures at_once { clauses_of toys_signature [] (test (codes "Lblge") x x) ≡ [] }
@@ -49,6 +50,7 @@ pub fn connectives_are_opened()
     ensures iff { clauses_of toys_signature [] nested_iff ≡
         (is_above false 0 ∷ is_above false 1 ∷ is_above true 2 ∷ []) ∷ (is_above true 0 ∷ is_above true 1 ∷ is_above true 2 ∷ []) ∷
         (is_above false 0 ∷ is_above true 1 ∷ is_above false 2 ∷ []) ∷ (is_above true 0 ∷ is_above false 1 ∷ is_above false 2 ∷ []) ∷ [] }
+    ensures not_iff { clauses_of toys_signature [] (negation sort_s (equivalence sort_s (above x (codes "0")) (above x (codes "1")))) ≡ (is_above false 0 ∷ is_above false 1 ∷ []) ∷ (is_above true 0 ∷ is_above true 1 ∷ []) ∷ [] }
     ensures not_all { clauses_of toys_signature [] (negation sort_s all_above) ≡ alone (record { holds = false; atom = quoted all_above [] }) }
     ensures not_only { clauses_of toys_signature [] (negation sort_s only_x) ≡ alone (record { holds = false; atom = quoted only_x [] }) }
     ensures too_many { clauses_of toys_signature [] (many_choices 16) ≡ alone (record { holds = true; atom = quoted (many_choices 16) [] }) }
@@ -80,4 +82,10 @@ pub fn clauses_are_negated()
     ensures one { negated toys_signature sort_s ((is_above true 0 ∷ is_above false 5 ∷ []) ∷ []) ≡ (is_above false 0 ∷ []) ∷ (is_above true 5 ∷ []) ∷ [] }
     ensures two { negated toys_signature sort_s ((is_above true 0 ∷ []) ∷ (is_above false 5 ∷ []) ∷ []) ≡ (is_above false 0 ∷ is_above true 5 ∷ []) ∷ [] }
     ensures none { negated toys_signature sort_s [] ≡ [] ∷ [] }
+{}
+
+/// A term that comes under a binder isn't bound by it: \forall Y. Y < X, with Y for X, is \forall Fresh1. Fresh1 < Y.
+pub fn binders_are_renamed()
+    ensures { written_under toys_signature (record { name = codes "X"; term = unknown y_name } ∷ []) (forall sort_s (codes "Y") sort_int (test (codes "Lbllt") y x))
+        ≡ forall sort_s (codes "Fresh1") sort_int (test (codes "Lbllt") (variable (codes "Fresh1") sort_int) y) }
 {}

@@ -1,5 +1,6 @@
-// What symbolic states are: terms with variables, clauses, and states with the variables at hand (Terms, Formulas,
-// States). The functions here have no bodies: each carries laws of the definitions in specs/.
+// What symbolic states are: terms with variables, clauses, and states with the variables at hand. The definitions stand
+// in specs/, to be read in the order Terms, Formulas, States, WellFormed, Folding, Heads, Opening, Clauses, Writing,
+// Solving. The functions here have no bodies: each carries laws of those definitions, or examples.
 #![tactic(auto)]
 
 pub mod examples;
