@@ -1,4 +1,5 @@
 pub mod AlikeLemmas
+pub mod BitLengths
 pub mod Digits
 pub mod Distribution
 pub mod Exact
