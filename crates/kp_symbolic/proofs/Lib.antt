@@ -1,6 +1,7 @@
 pub mod AlikeLemmas
 pub mod CallOpening
 pub mod Denied
+pub mod BitLengths
 pub mod Digits
 pub mod Distribution
 pub mod Exact

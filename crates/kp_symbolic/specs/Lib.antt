@@ -13,6 +13,7 @@ pub mod Sources
 pub mod States
 pub mod Terms
 pub mod Verdicts
+pub mod Weighing
 pub mod Weights
 pub mod WellFormed
 pub mod Writing
