@@ -259,16 +259,16 @@ call_says g v (whole_comparison o) alone b kept ss ms r f s a = two_seen g v (Ca
 call_says g v (whole_arithmetic o) alone b kept ss ms r f s a = λ k. k
 call_says g v values_equal alone b kept ss ms r f s a = two_seen g v (CallSays g v values_equal alone b kept) (λ x. true) ss ms (first_true (are_two (λ x. true) ss) (is_boolean_sort g f.0) f.1) s a
     (λ x y m n p o i j q w k. says_the_same g v b (opened_seen g alone b (common_sort (next_sort x (next_sort y no_sorts))) kept m n) (seen_instance g v m ≡ seen_instance g v n) (truth (values_same (seen_instance g v m) (seen_instance g v n)) ≡ truth true) (swapped (equal_call (seen_instance g v m) (seen_instance g v n)))
-      (seen_says g v alone b (common_sort (next_sort x (next_sort y no_sorts))) x y kept m n r q w i j (kept_truths g x y (seen_instance g v m) (seen_instance g v n) r i j (sorts_equal x y) refl)
-      (says_the_same g v b kept (truth (values_same (seen_instance g v m) (seen_instance g v n)) ≡ truth true) (seen_instance g v m ≡ seen_instance g v n) (equal_call (seen_instance g v m) (seen_instance g v n)) k)))
+    (seen_says g v alone b (common_sort (next_sort x (next_sort y no_sorts))) x y kept m n r q w i j (kept_truths g x y (seen_instance g v m) (seen_instance g v n) r i j (sorts_equal x y) refl)
+    (says_the_same g v b kept (truth (values_same (seen_instance g v m) (seen_instance g v n)) ≡ truth true) (seen_instance g v m ≡ seen_instance g v n) (equal_call (seen_instance g v m) (seen_instance g v n)) k)))
   where
     swapped : {A B : Type 0} → A ↔ B → B ↔ A
     swapped e = (e.1, e.0)
 call_says g v values_different alone b kept ss ms r f s a = two_seen g v (CallSays g v values_different alone b kept) (λ x. true) ss ms (first_true (are_two (λ x. true) ss) (is_boolean_sort g f.0) f.1) s a
     (λ x y m n p o i j q w k.
-      let e = opposite_call b (seen_instance g v m) (seen_instance g v n) in
-      let z : Says g v (not b) (opened_seen g alone (not b) (common_sort (next_sort x (next_sort y no_sorts))) kept m n) (seen_instance g v m ≡ seen_instance g v n) = seen_says g v alone (not b) (common_sort (next_sort x (next_sort y no_sorts))) x y kept m n r q w i j (kept_truths g x y (seen_instance g v m) (seen_instance g v n) r i j (sorts_equal x y) refl) ((λ h. e.1 (k.0 h)), (λ h. k.1 (e.0 h))) in
-      ((λ h. e.0 (z.0 h)), (λ h. z.1 (e.1 h))))
+    let e = opposite_call b (seen_instance g v m) (seen_instance g v n) in
+    let z : Says g v (not b) (opened_seen g alone (not b) (common_sort (next_sort x (next_sort y no_sorts))) kept m n) (seen_instance g v m ≡ seen_instance g v n) = seen_says g v alone (not b) (common_sort (next_sort x (next_sort y no_sorts))) x y kept m n r q w i j (kept_truths g x y (seen_instance g v m) (seen_instance g v n) r i j (sorts_equal x y) refl) ((λ h. e.1 (k.0 h)), (λ h. k.1 (e.0 h))) in
+    ((λ h. e.0 (z.0 h)), (λ h. z.1 (e.1 h))))
 
 -- ---- terms are seen as they are
 
@@ -320,11 +320,14 @@ mutual
   term_right g v (unknown x) r h s = (record { truth_is = kept_is g v (unknown x); head_is = tt; given = h }, tt)
   term_right g v (offset x c) r h s = (record { truth_is = kept_is g v (offset x c); head_is = tt; given = h }, tt)
   term_right g v (known u) r h s = value_right g v u
-  term_right g v (headed f ts) r h s = (record {
-    truth_is = headed_truth g v f ts (meaning_of g f) refl r s.0 (terms_seen g v ts) (terms_right g v ts r h s.1);
-    head_is = headed_head g v f ts (is_construction (meaning_of g f)) refl (terms_seen g v ts);
-    given = h;
-  }, terms_right g v ts r h s.1)
+  term_right g v (headed f ts) r h s = (
+    record {
+      truth_is = headed_truth g v f ts (meaning_of g f) refl r s.0 (terms_seen g v ts) (terms_right g v ts r h s.1);
+      head_is = headed_head g v f ts (is_construction (meaning_of g f)) refl (terms_seen g v ts);
+      given = h;
+    },
+    terms_right g v ts r h s.1,
+  )
 
   pub terms_right : (g : KoreSignature) (v : Valuation) (ts : SymbolicTerms) → IsRegular g → GivesSorts g v (all_term_variables ts) → AreGivenSorts g v ts → AreRight g v (seen_terms g ts)
   terms_right g v no_terms r h s = tt

@@ -130,9 +130,10 @@ mutual
   joined_say test P t s no_formulas = ((λ h. h), (λ h. h))
   joined_say test P t s (next_formula f fs) =
       let i = clauses_say test P t s f in
-      let j = joined_say test P t s fs in
-      ((λ h. (i.0 (all_first (NotAllFalse P) (formula_clauses test f) (joined_clauses test fs) h), j.0 (all_second (NotAllFalse P) (formula_clauses test f) (joined_clauses test fs) h))),
-       (λ h. all_both (NotAllFalse P) (formula_clauses test f) (joined_clauses test fs) (i.1 h.0) (j.1 h.1)))
+      let j = joined_say test P t s fs in (
+        (λ h. (i.0 (all_first (NotAllFalse P) (formula_clauses test f) (joined_clauses test fs) h), j.0 (all_second (NotAllFalse P) (formula_clauses test f) (joined_clauses test fs) h))),
+        (λ h. all_both (NotAllFalse P) (formula_clauses test f) (joined_clauses test fs) (i.1 h.0) (j.1 h.1)),
+      )
 
   pub crossed_say : {L : Type 0} (test : L → L → Bool) (P : L → Type 0) → Sound test → ((l : L) → ¬ ¬ P l → P l) → (fs : Formulas L) → AllByRecursion (NotAllFalse P) (crossed_clauses test fs) ↔ (¬ NoneHold P fs)
   crossed_say test P t s no_formulas = ((λ h. h.0), (λ h. (h, tt)))
@@ -140,6 +141,7 @@ mutual
       let i = clauses_say test P t s f in
       let j = crossed_say test P t s fs in
       let k = crossed_says test P t (formula_clauses test f) (crossed_clauses test fs) in
-      let o = kept_once_says test (NotAllFalse P) t (crossed test (formula_clauses test f) (crossed_clauses test fs)) in
-      ((λ h n. k.0 (o.0 h) ((λ a. n.0 (i.0 a)), (λ b. j.0 b n.1))),
-       (λ n. o.1 (k.1 (λ m. n ((λ a. m.0 (i.1 a)), absurd (m.1 (j.1 (λ z. n ((λ a. m.0 (i.1 a)), z)))))))))
+      let o = kept_once_says test (NotAllFalse P) t (crossed test (formula_clauses test f) (crossed_clauses test fs)) in (
+        (λ h n. k.0 (o.0 h) ((λ a. n.0 (i.0 a)), (λ b. j.0 b n.1))),
+        (λ n. o.1 (k.1 (λ m. n ((λ a. m.0 (i.1 a)), absurd (m.1 (j.1 (λ z. n ((λ a. m.0 (i.1 a)), z)))))))),
+      )

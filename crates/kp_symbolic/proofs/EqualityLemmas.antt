@@ -38,6 +38,7 @@ next_says g v true f fs u w us ws i j = (
   where
     first_inside : next_value u us ≡ next_value w ws → u ≡ w
     first_inside e = cc
+
     rest_inside : next_value u us ≡ next_value w ws → us ≡ ws
     rest_inside e = cc
 next_says g v false f fs u w us ws i j = (
@@ -47,8 +48,10 @@ next_says g v false f fs u w us ws i j = (
   where
     first_inside : next_value u us ≡ next_value w ws → u ≡ w
     first_inside e = cc
+
     rest_inside : next_value u us ≡ next_value w ws → us ≡ ws
     rest_inside e = cc
+
     both : u ≡ w → us ≡ ws → next_value u us ≡ next_value w ws
     both e d = cc
 

@@ -121,6 +121,7 @@ mutual
   none_deny g w P Q leaf l alone no_patterns a = ((λ h k. h tt), (λ h k. h tt))
   none_deny g w P Q leaf l alone (next_pattern p ps) a =
       let i = opened_says g w P Q leaf l alone false p (all_first Q (free_variables p) (all_free_variables ps) a) in
-      let j = none_deny g w P Q leaf l alone ps (all_second Q (free_variables p) (all_free_variables ps) a) in
-      ((λ h t. h ((λ k. i.0 k t.0), absurd_none P leaf alone ps (λ m. j.0 m t.1))),
-       (λ n k. k.0 (i.1 (λ t. j.1 (λ u. n (t, u)) k.1))))
+      let j = none_deny g w P Q leaf l alone ps (all_second Q (free_variables p) (all_free_variables ps) a) in (
+        (λ h t. h ((λ k. i.0 k t.0), absurd_none P leaf alone ps (λ m. j.0 m t.1))),
+        (λ n k. k.0 (i.1 (λ t. j.1 (λ u. n (t, u)) k.1))),
+      )

@@ -123,13 +123,16 @@ with_sums g v b o kept A t u (Some m) (Some n) i j d k = by_name (bytes_eq m.var
   where
     first : IsSum g v t m
     first = i m refl
+
     second : IsSum g v u n
     second = j n refl
+
     one_number : bytes_eq m.variable.name n.variable.name ≡ true → second.number ≡ first.number
     one_number e = number_inside (sym second.is ∙ ap v (sym ((bytes_eq-Decides m.variable.name n.variable.name).0 e)) ∙ first.is)
       where
         number_inside : {a b : ℤ} → whole a ≡ whole b → a ≡ b
         number_inside f = cc
+
     by_name : (s : Bool) → bytes_eq m.variable.name n.variable.name ≡ s → Says g v b (fixed_or (if s then Some (compared o m.constant n.constant) else None) b kept) A
     by_name true e = d first.number m.constant n.constant first.value (second.value ∙ ap (λ z. whole (z +ℤ n.constant)) (one_number e))
     by_name false e = k

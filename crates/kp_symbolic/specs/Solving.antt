@@ -173,6 +173,7 @@ opened_state g p = of_terms (conjoined_terms p)
     of_sort : KorePattern → Option KoreSort → Option SymbolicState
     of_sort t (Some s) = Some (record { term = folded g [] t; sort = s; clauses = without_repeats (clauses_of_conjuncts g [] 0 (conjoined_predicates p)); variables = free_variables p })
     of_sort t None = None
+
     of_terms : List KorePattern → Option SymbolicState
     of_terms (t ∷ []) = of_sort t (sort_of_term g t)
     of_terms ts = None

@@ -1,16 +1,16 @@
 -- What stands beside a state where a question is left undecided: the rules that meet it, with terms in the place of their
 -- variables, and what stems from the state and these rules.
 -- Source: unification (one replacement for both sides, from its last variable on); this project.
-use Rattle.std.specs.Prelude.{◌≡◌, ◌⊎◌, ℕ, zero, suc, Bool, true, false, List, [], ◌∷◌, ◌++◌, map, Option, Some, None, codes, ⊤}
+use Rattle.std.specs.Prelude.{◌≡◌, ◌⊎◌, ℕ, Bool, true, false, List, [], ◌∷◌, ◌++◌, map, Option, Some, None, codes, ⊤}
 use Rattle.std.specs.List.{AllByRecursion, Contains, flat_map}
 use Rattle.std.specs.Fmt.{decimal}
-use Rattle.kp_kore.specs.Syntax.{Text, KoreSort, KorePattern, no_sorts}
+use Rattle.kp_kore.specs.Syntax.{Text, KorePattern, no_sorts}
 use Rattle.kp_kore.specs.Parts.{SortedName, free_variables}
 use Rattle.kp_kore.specs.Signature.{KoreSignature, meaning_of}
 use Rattle.kp_kore.specs.Sorting.{result_sort}
 use Rattle.kp_semantics.specs.Value.{Value, HasSort, Values, no_values, next_value}
 use Rattle.kp_semantics.specs.Instance.{Valuation, is_named}
-use Rattle.kp_semantics.specs.Rules.{Rewrite, RuleBody, rewrite, foreign_rule, RewriteRule}
+use Rattle.kp_semantics.specs.Rules.{RuleBody, rewrite, foreign_rule}
 use Rattle.kp_semantics.specs.Foreign.{IsAnyOfMaybe, IsConstructedBy, by_meaning}
 use Rattle.kp_semantics.specs.Steps.{AnyByRecursion}
 use Rattle.kp_semantics.specs.Replies.{IsFreshName, IsAbsent}

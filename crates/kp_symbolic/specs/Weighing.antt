@@ -1,14 +1,14 @@
 -- States over the example definition, of which the laws tell what is plain and how much it weighs.
-use Rattle.std.specs.Prelude.{ℕ, ℤ, pos, Bool, true, false, map, List, [], ◌∷◌, Option, Some, None, codes}
+use Rattle.std.specs.Prelude.{ℕ, ℤ, pos, Bool, true, map, List, [], ◌∷◌, Option, Some, None, codes}
 use Rattle.kp_kore.specs.Syntax.{Text}
-use Rattle.kp_semantics.specs.Value.{whole, truth, constructed, no_values}
-use Rattle.kp_toys.specs.Toys.{sort_int, sort_bool, sort_s, sort_p, sort_e}
+use Rattle.kp_semantics.specs.Value.{whole, constructed, no_values}
+use Rattle.kp_toys.specs.Toys.{sort_s, sort_p, sort_e}
 use Rattle.kp_toys.specs.ToysTheory.{toys_signature}
 use Rattle.kp_kore.specs.Parts.{SortedName}
-use Rattle.kp_symbolic.specs.Terms.{SymbolicTerm, unknown, offset, known, headed}
-use Rattle.kp_symbolic.specs.States.{same, Literal, SymbolicState}
+use Rattle.kp_symbolic.specs.Terms.{SymbolicTerm, unknown, known, headed}
+use Rattle.kp_symbolic.specs.States.{Literal, SymbolicState}
 use Rattle.kp_symbolic.specs.Plain.{WholePart, Form, ReadLiteral, read_clauses}
-use Rattle.kp_symbolic.specs.Examples.{number_named, x_name, y_name, p_name, q_name, one_term, comparison, is_above, equality, square_term}
+use Rattle.kp_symbolic.specs.Examples.{number_named, x_name, y_name, p_name, q_name, one_term, comparison, equality, square_term}
 
 -- what the literals of the clauses say, beside the term f(t)
 abbrev pub state_of : Text → SymbolicTerm → List (List Literal) → SymbolicState
