@@ -1,5 +1,5 @@
 -- Weights of written-out clauses.
-use Rattle.std.proofs.Common.{◌≡◌, refl, ap, subst, true, ℕ, suc, pred, ◌≤◌, ◌^◌}
+use Rattle.std.proofs.Common.{◌≡◌, ap, subst, true, ℕ, suc, pred, ◌≤◌, ◌^◌}
 use Rattle.std.specs.Prelude.{nat_lt, nat_le}
 use Rattle.std.proofs.lemmas.Bool.{ltb-true, leb-true}
 use Rattle.kp_symbolic.specs.Weights.{IsBitLength}

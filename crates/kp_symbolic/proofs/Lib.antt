@@ -5,4 +5,5 @@ pub mod Distribution
 pub mod Exact
 pub mod Folded
 pub mod Opened
+pub mod ShownExamples
 pub mod Stable

@@ -1,14 +1,14 @@
 -- When results that may be undecided are right: of a run, an implication, a simplified state; and which states must not be
 -- left undecided.
 -- Source: the K Haskell backend's JSON-RPC documentation (execute and its reasons, implies, simplify); this project.
-use Rattle.std.specs.Prelude.{◌≡◌, ◌⊎◌, ℕ, zero, suc, ◌<◌, ◌≤◌, Bool, true, false, not, ◌&&◌, ◌||◌, List, [], ◌∷◌, ◌++◌, map, Option, Some, None, IsTrue, ⊤, length, if◌then◌else◌}
+use Rattle.std.specs.Prelude.{◌≡◌, ℕ, suc, ◌<◌, ◌≤◌, Bool, true, false, not, ◌&&◌, ◌||◌, List, [], ◌∷◌, ◌++◌, map, Option, Some, None, IsTrue, ⊤, length, if◌then◌else◌}
 use Rattle.std.specs.List.{AllByRecursion, Contains, flat_map, filter, list_any, list_all}
 use Rattle.std.specs.Str.{bytes_eq}
-use Rattle.kp_kore.specs.Syntax.{Text, KorePattern}
+use Rattle.kp_kore.specs.Syntax.{KorePattern}
 use Rattle.kp_kore.specs.Parts.{SortedName, free_variables, subpatterns}
-use Rattle.kp_kore.specs.Signature.{KoreSignature, SymbolMeaning, construction, meaning_of}
+use Rattle.kp_kore.specs.Signature.{KoreSignature, meaning_of}
 use Rattle.kp_semantics.specs.Instance.{Valuation, conjoined_predicates, conjoined_terms, is_named}
-use Rattle.kp_semantics.specs.Rules.{Rewrite, RuleBody, rewrite, foreign_rule, RewriteRule, top_binders, under_binders}
+use Rattle.kp_semantics.specs.Rules.{RuleBody, rewrite, foreign_rule, RewriteRule, top_binders, under_binders}
 use Rattle.kp_semantics.specs.Foreign.{none_within, has_interpreted_head, repeats_literals_only, InjectionsSplit}
 use Rattle.kp_semantics.specs.Theory.{Theory}
 use Rattle.kp_semantics.specs.Steps.{AnyByRecursion, Fires, IsUnknown, StepsIn}
@@ -17,16 +17,16 @@ use Rattle.kp_semantics.specs.AtHand.{OfEach, OfSome, HasSome}
 use Rattle.kp_semantics.specs.Onward.{Leads, Passes}
 use Rattle.kp_semantics.specs.Executions.{Options, listed_in, Reason, depth_bound, RunsTo, IsRightReason}
 use Rattle.kp_semantics.specs.Implied.{Implied, IsRightImplied, Simplified, IsRightSimplified}
-use Rattle.kp_symbolic.specs.Terms.{SymbolicTerm, unknown, offset, known, headed, SymbolicTerms, no_terms, next_term, term_instance, term_variables, Replaced, replacement_for}
-use Rattle.kp_symbolic.specs.States.{Literal, SymbolicState}
+use Rattle.kp_symbolic.specs.Terms.{SymbolicTerm, unknown, headed, SymbolicTerms, no_terms, next_term, term_instance, term_variables, Replaced, replacement_for}
+use Rattle.kp_symbolic.specs.States.{SymbolicState}
 use Rattle.kp_symbolic.specs.Folding.{folded}
 use Rattle.kp_symbolic.specs.Heads.{is_construction}
 use Rattle.kp_symbolic.specs.Clauses.{clauses_of_conjuncts}
 use Rattle.kp_symbolic.specs.Solving.{Equation, equation_of, IsReadAs}
-use Rattle.kp_symbolic.specs.Plain.{has_only_numbers, has_only_tokens, read_clauses, IsPlainState, rough_clauses}
-use Rattle.kp_symbolic.specs.Weights.{IsOver, IsWithinLimits}
+use Rattle.kp_symbolic.specs.Plain.{has_only_numbers, has_only_tokens, IsPlainState, rough_clauses}
+use Rattle.kp_symbolic.specs.Weights.{IsWithinLimits}
 use Rattle.kp_symbolic.specs.Sources.{SymbolicRule, rule_beside, TermsMeet, IsMatch}
-use Rattle.kp_symbolic.specs.Shown.{Situation, question_of, is_rough, IsMetButRough, shown_clauses, AreDifferent, read_alone, RuleShape, IsEasy, Undecided, unknown_clauses, weight_passed, wide_number, deep, IsShown, IsLimitOfTerms, most_told}
+use Rattle.kp_symbolic.specs.Shown.{Situation, question_of, is_rough, IsMetButRough, shown_clauses, RuleShape, IsEasy, Undecided, IsShown, IsLimitOfTerms}
 
 -- ---- rules that meet a state
 

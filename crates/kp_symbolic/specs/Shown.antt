@@ -1,19 +1,19 @@
 -- What an answer shows that leaves a question undecided, and when that is right: one cause for runs, implications and
 -- simplified states.
 -- Source: the K Haskell backend's JSON-RPC documentation (execute: aborted); the causes are this project's.
-use Rattle.std.specs.Prelude.{◌≡◌, ◌⊎◌, ℕ, ◌<◌, ◌≤◌, ◌+◌, ◌-◌, ◌*◌, ◌^◌, ℤ, Bool, true, false, not, ◌&&◌, ◌||◌, min, List, [], ◌∷◌, ◌++◌, map, length, Option, Some, None, is_some, is_none, IsTrue, ⊤, if◌then◌else◌}
+use Rattle.std.specs.Prelude.{◌≡◌, ◌⊎◌, ℕ, ◌<◌, ◌≤◌, ◌+◌, ◌-◌, ◌*◌, ◌^◌, ℤ, Bool, true, false, not, ◌&&◌, ◌||◌, min, List, [], ◌∷◌, ◌++◌, map, length, Option, Some, None, is_some, IsTrue, ⊤}
 use Rattle.std.specs.List.{AllByRecursion, Contains, flat_map, list_any, list_all, filter}
 use Rattle.kp_kore.specs.Syntax.{Text, KoreSort, sort_variable, KorePattern, variable, application, literal}
 use Rattle.kp_kore.specs.Hooks.{whole_arithmetic, whole_comparison}
 use Rattle.kp_kore.specs.Parts.{SortedName, subpatterns, free_variables, term_depth}
 use Rattle.kp_kore.specs.Signature.{KoreSignature, meaning_of, SymbolMeaning, interpretation, is_integer_sort, is_boolean_sort}
-use Rattle.kp_semantics.specs.Value.{Value, whole}
+use Rattle.kp_semantics.specs.Value.{whole}
 use Rattle.kp_semantics.specs.Interpretation.{no_meaning, computed}
 use Rattle.kp_semantics.specs.Instance.{Valuation, GivesSorts, conjuncts, is_named}
 use Rattle.kp_semantics.specs.Foreign.{most_depth, fits_number}
 use Rattle.kp_semantics.specs.Steps.{AnyByRecursion}
-use Rattle.kp_symbolic.specs.Terms.{SymbolicTerm, unknown, known, headed, SymbolicTerms, no_terms, next_term, Replaced}
-use Rattle.kp_symbolic.specs.Formulas.{Formula, one_of, Formulas, no_formulas, next_formula}
+use Rattle.kp_symbolic.specs.Terms.{SymbolicTerm, unknown, known, headed, no_terms, next_term, Replaced}
+use Rattle.kp_symbolic.specs.Formulas.{one_of, Formulas, no_formulas, next_formula}
 use Rattle.kp_symbolic.specs.States.{Atom, same, atom_variables, Literal, IsClauseTrue, AreTrue, SymbolicState}
 use Rattle.kp_symbolic.specs.WellFormed.{term_sort}
 use Rattle.kp_symbolic.specs.Folding.{replaced}
@@ -22,7 +22,7 @@ use Rattle.kp_symbolic.specs.Clauses.{clauses_of_conjuncts, distributed}
 use Rattle.kp_symbolic.specs.Writing.{written_term}
 use Rattle.kp_symbolic.specs.Plain.{Form, compares, is_truth, equates, form_of, whole_part, has_only_numbers, read_clause, read_clauses, ReadLiteral, is_plain_clause, plain_clauses, rough_clauses}
 use Rattle.kp_symbolic.specs.Weights.{Weight, bits, literals, product, limit_of, IsWeight, IsOver, IsBitLength, largest, numeric_names, all_bounds, each_once}
-use Rattle.kp_symbolic.specs.Sources.{SymbolicRule, IsSourced, IsSourcedPart, IsMatch, opened_under, parts_of, state_parts}
+use Rattle.kp_symbolic.specs.Sources.{SymbolicRule, IsSourced, IsSourcedPart, opened_under, parts_of, state_parts}
 
 -- ---- what stands beside a state
 

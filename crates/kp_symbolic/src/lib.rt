@@ -4,5 +4,6 @@
 
 pub mod examples;
 pub mod laws;
+pub mod sourced;
 pub mod verdicts;
 pub mod weighed;
