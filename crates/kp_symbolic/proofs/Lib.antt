@@ -13,4 +13,5 @@ pub mod Replacing
 pub mod SeenLemmas
 pub mod Shifts
 pub mod SideLemmas
+pub mod ShownExamples
 pub mod Stable

@@ -12,7 +12,7 @@ use Rattle.kp_semantics.specs.Interpretation.{no_meaning, computed}
 use Rattle.kp_semantics.specs.Instance.{Valuation, GivesSorts, conjuncts, is_named}
 use Rattle.kp_semantics.specs.Foreign.{most_depth, fits_number}
 use Rattle.kp_semantics.specs.Steps.{AnyByRecursion}
-use Rattle.kp_symbolic.specs.Terms.{SymbolicTerm, unknown, known, headed, no_terms, next_term, Replaced}
+use Rattle.kp_symbolic.specs.Terms.{term_instance, SymbolicTerm, unknown, known, headed, no_terms, next_term, Replaced}
 use Rattle.kp_symbolic.specs.Formulas.{one_of, Formulas, no_formulas, next_formula}
 use Rattle.kp_symbolic.specs.States.{Atom, same, atom_variables, Literal, IsClauseTrue, AreTrue, SymbolicState}
 use Rattle.kp_symbolic.specs.WellFormed.{term_sort}
@@ -75,8 +75,14 @@ question_of g b r =
     distributed (opened_same g true true b.state.sort (replaced g b.put b.state.term) (replaced g b.put r.left))
     ++ flat_map (λ c. distributed (one_of (all_opened_under g b.put c))) r.clauses
 
--- some clause of the question isn't plain; all others are true
+-- each replaced variable stands for its term's instance
+abbrev pub MakesMatchTrue : KoreSignature → Valuation → List Replaced → Type 0
+MakesMatchTrue g v put = AllByRecursion (λ x. v x.name ≡ term_instance g v x.term) put
+
+-- the match is true; some clause of the question isn't plain, and all others are true
 pub record IsMetButRough (g : KoreSignature) (b : Situation) (v : Valuation) (r : SymbolicRule) : Type 0 where
+  pub sorts : GivesSorts g v r.variables
+  pub match : MakesMatchTrue g v b.put
   pub some : AnyByRecursion (λ c. IsTrue (is_rough g b c)) (question_of g b r)
   pub others : AllByRecursion (λ c. IsTrue (is_rough g b c) ⊎ IsClauseTrue g v c) (question_of g b r)
 

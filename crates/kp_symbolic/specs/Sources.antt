@@ -1,9 +1,8 @@
 -- What stands beside a state where a question is left undecided: the rules that meet it, with terms in the place of their
 -- variables, and what stems from the state and these rules.
 -- Source: unification (one replacement for both sides, from its last variable on); this project.
-use Rattle.std.specs.Prelude.{◌≡◌, ◌⊎◌, ℕ, Bool, true, false, List, [], ◌∷◌, ◌++◌, map, Option, Some, None, codes, ⊤}
+use Rattle.std.specs.Prelude.{◌≡◌, ◌⊎◌, ℕ, zero, suc, Bool, true, false, List, [], ◌∷◌, ◌++◌, map, Option, Some, None, codes, ⊤}
 use Rattle.std.specs.List.{AllByRecursion, Contains, flat_map}
-use Rattle.std.specs.Fmt.{decimal}
 use Rattle.kp_kore.specs.Syntax.{Text, KorePattern, no_sorts}
 use Rattle.kp_kore.specs.Parts.{SortedName, free_variables}
 use Rattle.kp_kore.specs.Signature.{KoreSignature, meaning_of}
@@ -60,9 +59,13 @@ maybe_parts None = []
 abbrev pub rule_parts : SymbolicRule → List SymbolicTerm
 rule_parts r = parts_of r.left ++ (clause_parts r.clauses ++ (clause_parts r.ensured ++ maybe_parts r.right))
 
--- a variable of the rule that stands in this place beside a state: no variable of Kore begins with a digit
+-- a variable of the rule that stands in this place beside a state: no variable of Kore begins with #
+abbrev pub marked : ℕ → Text → Text
+marked zero x = codes "#" ++ x
+marked (suc k) x = codes "#" ++ marked k x
+
 abbrev pub apart : ℕ → SortedName → SortedName
-apart k x = record { name = decimal k ++ codes "#" ++ x.name; sort = x.sort }
+apart k x = record { name = marked k x.name; sort = x.sort }
 
 abbrev pub all_apart : ℕ → List SortedName → List Replaced
 all_apart k xs = map (λ x. record { name = x.name; term = unknown (apart k x) }) xs
