@@ -1,5 +1,5 @@
 // What texts spell.
-use kp_kore::{AxiomSentence, Pattern, Sentence};
+use kp_kore::Pattern;
 use kp_signature::Signature;
 use kp_text::{read_module, read_pattern};
 use std::alloc::Global;
@@ -14,13 +14,4 @@ pub(crate) fn pattern(alloc: Global, text: &str) -> Result<Pattern, Fail> {
 pub(crate) fn signature(alloc: Global, text: &str) -> Result<Signature, Fail> {
     let module = read_module(alloc, text.as_bytes()).map_err(|_| "no module")?;
     Ok(Signature::new(alloc, &[&module])?)
-}
-
-/// The last sentence of a module's text, an axiom.
-pub(crate) fn axiom(alloc: Global, text: &str) -> Result<AxiomSentence, Fail> {
-    let module = read_module(alloc, text.as_bytes()).map_err(|_| "no module")?;
-    match module.sentences.last() {
-        Some(Sentence::Axiom(axiom)) => Ok(axiom.copy(alloc)?),
-        _ => Err(Fail::from("no axiom")),
-    }
 }

@@ -64,22 +64,40 @@ fn is_for(
     }
 }
 
-/// The same of the texts of a rule and a value.
+/// The same of the text of a rule.
+fn is_rule_for(
+    alloc: Global,
+    signature: &Signature,
+    rule: &str,
+    value: &Value,
+) -> Result<bool, Fail> {
+    let (_, body) = body(alloc, signature, rule)?;
+    is_for(alloc, signature, &body, value)
+}
+
+/// The same of the text of a value, too.
+fn fires_over(alloc: Global, signature: &Signature, rule: &str, text: &str) -> Result<bool, Fail> {
+    let value = value(alloc, signature, text)?;
+    is_rule_for(alloc, signature, rule, &value)
+}
+
 fn fires(alloc: Global, rule: &str, text: &str) -> Result<bool, Fail> {
     let signature = signature(alloc, SMALL)?;
-    let value = value(alloc, &signature, text)?;
-    let (_, body) = body(alloc, &signature, rule)?;
-    is_for(alloc, &signature, &body, &value)
+    fires_over(alloc, &signature, rule, text)
 }
 
 /// The priority number of a rule's text that is read, None where it is foreign.
-fn read_priority(alloc: Global, text: &str) -> Result<Option<u32>, Fail> {
-    let signature = signature(alloc, SMALL)?;
-    let (priority, body) = body(alloc, &signature, text)?;
+fn priority_over(alloc: Global, signature: &Signature, text: &str) -> Result<Option<u32>, Fail> {
+    let (priority, body) = body(alloc, signature, text)?;
     match body {
         RuleBody::Rewrite(_) => Ok(Some(priority)),
         RuleBody::Foreign(_) => Ok(None),
     }
+}
+
+fn read_priority(alloc: Global, text: &str) -> Result<Option<u32>, Fail> {
+    let signature = signature(alloc, SMALL)?;
+    priority_over(alloc, &signature, text)
 }
 
 #[test]
@@ -112,11 +130,20 @@ fn a_rule_fires_where_its_condition_holds(rt: HostRuntime) -> Result<(), Fail> {
 }
 
 /// Whether a left side's skeleton may be a value.
+fn may_be_over(
+    alloc: Global,
+    signature: &Signature,
+    left: &Pattern,
+    text: &str,
+) -> Result<bool, Fail> {
+    let value = value(alloc, signature, text)?;
+    skeleton_may_be(alloc, signature, left, &value)
+}
+
 fn may_be(alloc: Global, left: &str, text: &str) -> Result<bool, Fail> {
-    let signature = signature(alloc, SMALL)?;
-    let value = value(alloc, &signature, text)?;
     let left = pattern(alloc, left)?;
-    skeleton_may_be(alloc, &signature, &left, &value)
+    let signature = signature(alloc, SMALL)?;
+    may_be_over(alloc, &signature, &left, text)
 }
 
 fn skeleton_may_be(

@@ -1,6 +1,8 @@
 use crate::texts::{pattern, signature};
 use kp_compile::{CompileError, compile_condition, compile_left, compile_term};
 use kp_ground::Value;
+use kp_kore::Pattern;
+use kp_signature::Signature;
 use std::alloc::Global;
 use std::test::Fail;
 
@@ -48,12 +50,17 @@ fn terms_are_compiled_or_refused(rt: HostRuntime) -> Result<(), Fail> {
     Ok(())
 }
 
+/// The value of a closed term.
+fn value_of(alloc: Global, signature: &Signature, pattern: &Pattern) -> Result<Value, Fail> {
+    let term = compile_term(alloc, signature, pattern).map_err(|_| "no term")?;
+    Ok(term.evaluate(alloc, &[]).map_err(|_| "no value")?)
+}
+
 /// The value of a closed term's text.
 fn value(alloc: Global, text: &str) -> Result<Value, Fail> {
-    let signature = signature(alloc, SMALL)?;
     let pattern = pattern(alloc, text)?;
-    let term = compile_term(alloc, &signature, &pattern).map_err(|_| "no term")?;
-    Ok(term.evaluate(alloc, &[]).map_err(|_| "no value")?)
+    let signature = signature(alloc, SMALL)?;
+    value_of(alloc, &signature, &pattern)
 }
 
 /// Whether a predicate's text without variables holds.
