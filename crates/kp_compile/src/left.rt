@@ -19,10 +19,10 @@ use kp_ground::Left;
 use kp_kore::{Name, Pattern};
 use kp_signature::Signature;
 use std::alloc::Global;
-use std::rc::Rc;
+use std::sync::Arc;
 
 /// A constructor with its arguments.
-fn make_built(constructor: Rc<String>, arguments: Vec<Left>) -> Left
+fn make_built(constructor: Arc<String>, arguments: Vec<Left>) -> Left
     ensures { left_view result ≡ left_built (string_bytes constructor.value) (lefts_of (map left_view arguments.items)) }
 {
     Left::Built {

@@ -21,17 +21,17 @@ use kp_ground::{Hook, Term};
 use kp_kore::{Name, Pattern};
 use kp_signature::Signature;
 use std::alloc::{AllocError, Global};
-use std::rc::Rc;
+use std::sync::Arc;
 
 /// The same name, to be shared.
-pub fn shared_name(alloc: Global, name: &Name) -> Result<Rc<String>, AllocError>
+pub fn shared_name(alloc: Global, name: &Name) -> Result<Arc<String>, AllocError>
     ensures { IfOk result (λ shared. string_bytes shared.value ≡ string_bytes name.now) }
 {
-    Ok(Rc::new(alloc, name.clone()?)?)
+    Ok(Arc::new(alloc, name.clone()?)?)
 }
 
 /// A constructor with its arguments.
-fn make_built(constructor: Rc<String>, arguments: Vec<Term>) -> Term
+fn make_built(constructor: Arc<String>, arguments: Vec<Term>) -> Term
     ensures { term_view result ≡ built (string_bytes constructor.value) (terms_of (map term_view arguments.items)) }
 {
     Term::Built {

@@ -16,7 +16,7 @@ use crate::hook::{Arithmetic, Comparison, Connective, Hook};
 use crate::term::Term;
 use crate::value::Value;
 use std::alloc::{AllocError, AllocFailed, Global};
-use std::rc::Rc;
+use std::sync::Arc;
 
 /// Why a term has no value here.
 #[derive(Debug, Drop)]
@@ -56,14 +56,14 @@ fn truth_value(holds: bool) -> Value
 }
 
 /// The same name, shared.
-fn share_name(name: &Rc<String>) -> Result<Rc<String>, AllocError>
+fn share_name(name: &Arc<String>) -> Result<Arc<String>, AllocError>
     ensures { IfOk result (λ copy. copy.value ≡ name.now.value) }
 {
     Ok(name.clone()?)
 }
 
 /// A constructor with its arguments.
-fn constructed_value(constructor: Rc<String>, arguments: Rc<Vec<Value>>) -> Value
+fn constructed_value(constructor: Arc<String>, arguments: Arc<Vec<Value>>) -> Value
     ensures { value_view result ≡ constructed (string_bytes constructor.value) (values_of (map value_view arguments.value.items)) }
 {
     Value::Constructed {
@@ -165,7 +165,7 @@ impl Term {
                 arguments,
             } => {
                 let values = Term::evaluate_all(alloc, arguments, bindings)?;
-                let shared = Rc::new(alloc, values)?;
+                let shared = Arc::new(alloc, values)?;
                 let name = share_name(constructor)?;
                 Ok(constructed_value(name, shared))
             }

@@ -1,5 +1,5 @@
 use crate::value::Value;
-use std::rc::Rc;
+use std::sync::Arc;
 
 /// A left term of a rule. `left_view` in specs/LeftView.antt says which left term of specs/Terms.antt it is.
 #[derive(Drop)]
@@ -12,7 +12,7 @@ pub enum Left {
         value: Value,
     },
     Built {
-        constructor: Rc<String>,
+        constructor: Arc<String>,
         arguments: Vec<Left>,
     },
 }

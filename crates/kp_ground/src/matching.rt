@@ -10,10 +10,10 @@ use crate::binding::{Binding, find_binding};
 use crate::left::Left;
 use crate::value::Value;
 use std::alloc::{AllocError, Global};
-use std::rc::Rc;
+use std::sync::Arc;
 
 /// Whether two names are the same.
-fn same_name(name: &Rc<String>, other: &Rc<String>) -> bool
+fn same_name(name: &Arc<String>, other: &Arc<String>) -> bool
     ensures { IsTrue result ↔ (string_bytes name.now.value ≡ string_bytes other.now.value) }
 {
     **name == **other

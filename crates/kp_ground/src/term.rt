@@ -1,6 +1,6 @@
 use crate::hook::Hook;
 use crate::value::Value;
-use std::rc::Rc;
+use std::sync::Arc;
 
 /// A term of a rule. `term_view` in specs/TermView.antt says which term of specs/Terms.antt it is.
 #[derive(Drop)]
@@ -13,7 +13,7 @@ pub enum Term {
         value: Value,
     },
     Built {
-        constructor: Rc<String>,
+        constructor: Arc<String>,
         arguments: Vec<Term>,
     },
     Call {

@@ -1,6 +1,6 @@
 use kp_kore::Sort;
 use std::alloc::{AllocError, Global};
-use std::rc::Rc;
+use std::sync::Arc;
 
 /// What a closed term means. `value_view` in specs/View.antt says which value of the model it is.
 #[derive(Drop)]
@@ -19,8 +19,8 @@ pub enum Value {
     },
     /// A constructor and its arguments, which values share.
     Constructed {
-        constructor: Rc<String>,
-        arguments: Rc<Vec<Value>>,
+        constructor: Arc<String>,
+        arguments: Arc<Vec<Value>>,
     },
 }
 

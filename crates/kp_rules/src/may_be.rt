@@ -18,7 +18,7 @@ use kp_ground::{Binding, Value};
 use kp_kore::{Name, Sort};
 use kp_signature::Signature;
 use std::alloc::{AllocError, Global};
-use std::rc::Rc;
+use std::sync::Arc;
 
 impl Skeleton {
     /// Whether the value is an instance.
@@ -99,7 +99,7 @@ impl Skeleton {
 }
 
 /// Whether two names are the same.
-fn same_name(name: &Rc<String>, other: &Rc<String>) -> bool
+fn same_name(name: &Arc<String>, other: &Arc<String>) -> bool
     ensures { IsTrue result ↔ (string_bytes name.now.value ≡ string_bytes other.now.value) }
 {
     **name == **other

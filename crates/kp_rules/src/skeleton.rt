@@ -25,7 +25,7 @@ use kp_signature::Signature;
 use kp_signature::instance::sort_at;
 use kp_signature::rules::is_numeral;
 use std::alloc::{AllocError, Global};
-use std::rc::Rc;
+use std::sync::Arc;
 
 /// The most levels that a term has.
 pub const MOST_DEPTH: usize = 48;
@@ -49,7 +49,7 @@ pub enum Skeleton {
         value: Value,
     },
     Built {
-        constructor: Rc<String>,
+        constructor: Arc<String>,
         arguments: Vec<Skeleton>,
     },
 }
@@ -228,7 +228,7 @@ fn built(alloc: Global, symbol: &Name, arguments: Vec<Skeleton>) -> Result<Skele
     ensures { IfOk result (λ k. skeleton_view k ≡ built_form (string_bytes symbol.now) (forms_of (map skeleton_view arguments.items))) }
 {
     Ok(Skeleton::Built {
-        constructor: Rc::new(alloc, symbol.clone()?)?,
+        constructor: Arc::new(alloc, symbol.clone()?)?,
         arguments,
     })
 }

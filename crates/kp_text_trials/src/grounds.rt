@@ -1,7 +1,7 @@
 use kp_ground::{Arithmetic, Binding, EvaluationError, Hook, Left, Term, Value};
 use kp_kore::{Pattern, Sort};
 use std::alloc::Global;
-use std::rc::Rc;
+use std::sync::Arc;
 use std::test::Fail;
 
 /// N - number
@@ -26,7 +26,7 @@ fn of_variable(alloc: Global) -> Result<Left, Fail> {
         name: String::from_str(alloc, "N")?,
     })?;
     Ok(Left::Built {
-        constructor: Rc::new(alloc, String::from_str(alloc, "f")?)?,
+        constructor: Arc::new(alloc, String::from_str(alloc, "f")?)?,
         arguments,
     })
 }
@@ -36,8 +36,8 @@ fn of_number(alloc: Global, name: &str, number: i128) -> Result<Value, Fail> {
     let mut arguments = Vec::new(alloc);
     arguments.push(Value::Whole { number })?;
     Ok(Value::Constructed {
-        constructor: Rc::new(alloc, String::from_str(alloc, name)?)?,
-        arguments: Rc::new(alloc, arguments)?,
+        constructor: Arc::new(alloc, String::from_str(alloc, name)?)?,
+        arguments: Arc::new(alloc, arguments)?,
     })
 }
 
