@@ -1,0 +1,20 @@
+use Rattle.std.proofs.Common.{◌≡◌, ◌-◌, ◌≤◌, false, length}
+use Rattle.kp_conn.specs.Conversations.{frame_limit, most_taken}
+use Rattle.kp_conn.specs.Turns.{Talks}
+use Rattle.kp_conn.proofs.serving.serve.Given as goal
+
+abbrev pub invariant-loop-taken : goal.invariant-loop-taken
+invariant-loop-taken g l = record {
+  pass : g.A.Answerer.is_pass l.answerer l.pass;
+  limit : l.cutter.limit ≡ frame_limit;
+  memory : l.cutter.is_out_of_memory ≡ false;
+  room : l.cutter.is_full ≡ false;
+  within : l.taken ≤ most_taken;
+  piece : length l.piece ≡ 65536;
+  talks : Talks (g.A.Answerer.answers l.answerer) (g.A.Answerer.seen l.fn.pass) (g.S.Source.left l.fn.source) (g.S.Source.left l.source) (g.K.Sink.held l.fn.sink) (g.K.Sink.held l.sink) (g.A.Answerer.seen l.pass) l.cutter l.taken l.frames;
+  reads : g.S.Source.fault_count l.source ≡ g.S.Source.fault_count l.fn.source;
+  writes : g.K.Sink.fault_count l.sink ≡ g.K.Sink.fault_count l.fn.sink;
+}
+
+abbrev pub decreases-loop-taken : goal.decreases-loop-taken
+decreases-loop-taken g l = most_taken - l.taken
