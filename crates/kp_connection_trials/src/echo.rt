@@ -25,7 +25,7 @@ impl Answerer for Echo {
         frame: &[u8],
     ) -> Result<Option<Vec<u8>>, AllocError> {
         *pass = pass.saturating_add(1);
-        if frame == b"[]" {
+        if frame == b"[]".as_slice() {
             return Ok(None);
         }
         Ok(Some(Vec::from_slice(alloc, frame)?))
