@@ -8,10 +8,17 @@ pub mod Exact
 pub mod EqualityLemmas
 pub mod Folded
 pub mod HeadLemmas
+pub mod HeadQuestions
+pub mod Leaf
+pub mod NumericNames
 pub mod Opened
+pub mod Read
+pub mod ReadOnce
 pub mod Replacing
 pub mod SeenLemmas
 pub mod Shifts
 pub mod SideLemmas
 pub mod ShownExamples
+pub mod SortedFolding
 pub mod Stable
+pub mod WellSorted

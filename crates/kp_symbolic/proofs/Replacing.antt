@@ -42,7 +42,7 @@ least_step : (P : Text → Type 0) (b : Bool) (x f : Text) (o : Option Text) →
 least_step P true x f o p q e = let n : least_of x o ≡ f = cc in subst P n (least_has P x o (p refl) q)
 least_step P false x f o p q e = q f e
 
-least_is : (g : KoreSignature) (a : Arithmetic) (ds : List SymbolDeclaration) (f : Text) → least_symbol_among g a ds ≡ Some f → meaning_of g f ≡ interpretation (whole_arithmetic a)
+pub least_is : (g : KoreSignature) (a : Arithmetic) (ds : List SymbolDeclaration) (f : Text) → least_symbol_among g a ds ≡ Some f → meaning_of g f ≡ interpretation (whole_arithmetic a)
 least_is g a [] f e = absurd (cc)
 least_is g a (d ∷ ds) f e = least_step (λ x. meaning_of g x ≡ interpretation (whole_arithmetic a)) (is_arithmetic a (meaning_of g d.name)) d.name f (least_symbol_among g a ds) (arithmetic_meant a (meaning_of g d.name)) (least_is g a ds) e
 

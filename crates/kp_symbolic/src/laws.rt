@@ -1,18 +1,22 @@
 // Laws of literals, clauses and formulas.
-ghost use Rattle.std.specs.Prelude.{◌≡◌, ◌↔◌, Bool, true, List, [], ◌∷◌};
+ghost use Rattle.std.specs.Prelude.{◌≡◌, ◌↔◌, Bool, true, Some, None, List, [], ◌∷◌};
 ghost use Rattle.kp_kore.specs.Syntax.{Text, KoreSort, KorePattern};
-ghost use Rattle.kp_kore.specs.Parts.{free_variables};
+ghost use Rattle.kp_kore.specs.Parts.{is_term, free_variables};
 ghost use Rattle.kp_kore.specs.Signature.{KoreSignature};
-ghost use Rattle.kp_semantics.specs.Instance.{Valuation, GivesSorts, instance, IsTrueUnder};
+ghost use Rattle.kp_semantics.specs.Instance.{Valuation, GivesSorts, instance, is_predicate, IsTrueUnder};
+ghost use Rattle.kp_semantics.specs.Foreign.{none_within, has_foreign_head};
 ghost use Rattle.kp_semantics.specs.Value.{truth, HasSort};
 ghost use Rattle.kp_semantics.specs.Sorted.{IsRegular};
 ghost use Rattle.kp_symbolic.specs.Terms.{SymbolicTerm, term_instance, term_variables, Replaced, under_replaced};
-ghost use Rattle.kp_symbolic.specs.WellFormed.{IsGivenSorts, IsGivenAtom, AreGivenLiterals};
+ghost use Rattle.kp_signature.specs.Places.{Place, own_sort};
+ghost use Rattle.kp_signature.specs.Verify.{first_fault};
+ghost use Rattle.kp_symbolic.specs.WellFormed.{IsWellSorted, AreWellPlaced, IsGivenSorts, IsGivenAtom, AreGivenLiterals};
 ghost use Rattle.kp_symbolic.specs.Formulas.{Formula, Holds};
 ghost use Rattle.kp_symbolic.specs.Folding.{folded, replaced, AreWritten};
-ghost use Rattle.kp_symbolic.specs.Clauses.{distributed, without_repeats, opened_atom, denied};
-ghost use Rattle.kp_symbolic.specs.Opening.{Leaf, signed, opened, opened_same, opened_truth};
-ghost use Rattle.kp_symbolic.specs.States.{Atom, IsAtomTrue, Literal, IsLiteralTrue, AreTrue, AreGiven};
+ghost use Rattle.kp_symbolic.specs.Clauses.{distributed, without_repeats, opened_atom, clauses_of, denied};
+ghost use Rattle.kp_symbolic.specs.Opening.{is_left, Leaf, signed, opened, opened_same, opened_truth, opened_predicate};
+ghost use Rattle.kp_symbolic.specs.Solving.{IsReadAs};
+ghost use Rattle.kp_symbolic.specs.States.{Atom, IsAtomTrue, Literal, IsLiteralTrue, AreTrue, AreGiven, SymbolicState};
 
 /// A literal that can't be refuted is true.
 pub fn literals_are_stable()
@@ -31,11 +35,43 @@ pub fn folding_keeps_instances()
         term_instance g v (folded g rs p) ≡ instance g (under_replaced g rs v) p }
 {}
 
-/// An opened predicate says what it said, for any way to open what has no connective that says what that said.
+/// An opened predicate says what it said, for any way to open what is left to it that says what that said.
 pub fn opening_keeps_truth()
     ensures { (g : KoreSignature) (rs : List Replaced) (v : Valuation) (leaf : Leaf) →
-        ((alone b : Bool) (p : KorePattern) → AreGiven g rs v (free_variables p) → Holds (IsLiteralTrue g v) (leaf alone b p) ↔ signed b (IsTrueUnder g (under_replaced g rs v) p)) →
+        ((alone b : Bool) (p : KorePattern) → is_left p ≡ true → AreGiven g rs v (free_variables p) → Holds (IsLiteralTrue g v) (leaf alone b p) ↔ signed b (IsTrueUnder g (under_replaced g rs v) p)) →
         (alone b : Bool) (p : KorePattern) → AreGiven g rs v (free_variables p) → Holds (IsLiteralTrue g v) (opened leaf alone b p) ↔ signed b (IsTrueUnder g (under_replaced g rs v) p) }
+{}
+
+/// A verified predicate without foreign symbols is opened to what it says, and its clauses are true exactly where it is, with
+/// well-sorted terms in the place of its variables and values of their sorts for the variables of these.
+pub fn opened_predicates_say_what_they_said()
+    ensures opened { (g : KoreSignature) (rs : List Replaced) (v : Valuation) (c : Place) (p : KorePattern) → IsRegular g →
+        first_fault g c p ≡ None → none_within (has_foreign_head g) p ≡ true → is_predicate p ≡ true →
+        AreWellPlaced g rs (free_variables p) → AreGiven g rs v (free_variables p) →
+        (b : Bool) → Holds (IsLiteralTrue g v) (opened_predicate g rs b p) ↔ signed b (IsTrueUnder g (under_replaced g rs v) p) }
+    ensures clauses { (g : KoreSignature) (rs : List Replaced) (v : Valuation) (c : Place) (p : KorePattern) → IsRegular g →
+        first_fault g c p ≡ None → none_within (has_foreign_head g) p ≡ true → is_predicate p ≡ true →
+        AreWellPlaced g rs (free_variables p) → AreGiven g rs v (free_variables p) →
+        AreTrue g v (clauses_of g rs p) ↔ IsTrueUnder g (under_replaced g rs v) p }
+    ensures as_it_stands { (g : KoreSignature) (v : Valuation) (c : Place) (p : KorePattern) → IsRegular g →
+        first_fault g c p ≡ None → none_within (has_foreign_head g) p ≡ true → is_predicate p ≡ true → GivesSorts g v (free_variables p) →
+        AreTrue g v (clauses_of g [] p) ↔ IsTrueUnder g v p }
+{}
+
+/// A verified term is folded to a well-sorted one; with well-sorted terms in the place of its variables a well-sorted term is
+/// one; its instance has the sort.
+pub fn terms_are_well_sorted()
+    ensures folded { (g : KoreSignature) (rs : List Replaced) (c : Place) (p : KorePattern) (s : KoreSort) → IsRegular g → first_fault g c p ≡ None → own_sort g p ≡ Some s →
+        is_term p ≡ true → none_within (has_foreign_head g) p ≡ true → AreWellPlaced g rs (free_variables p) → IsWellSorted g s (folded g rs p) }
+    ensures replaced { (g : KoreSignature) (rs : List Replaced) (s : KoreSort) (t : SymbolicTerm) → IsRegular g → IsWellSorted g s t →
+        AreWellPlaced g rs (term_variables t) → IsWellSorted g s (replaced g rs t) }
+    ensures instances { (g : KoreSignature) (v : Valuation) (s : KoreSort) (t : SymbolicTerm) → IsRegular g → IsWellSorted g s t →
+        GivesSorts g v (term_variables t) → HasSort g s (term_instance g v t) }
+{}
+
+/// Two readings of one pattern are the same state.
+pub fn reading_is_a_function()
+    ensures { (g : KoreSignature) (p : KorePattern) (s t : SymbolicState) → IsReadAs g p s → IsReadAs g p t → s ≡ t }
 {}
 
 /// An opened equality says that both sides have one value, by its sign, and an opened Boolean expression that it is true:
