@@ -6,6 +6,7 @@ pub mod Digits
 pub mod Distribution
 pub mod Exact
 pub mod EqualityLemmas
+pub mod Equations
 pub mod Folded
 pub mod HeadLemmas
 pub mod HeadQuestions
@@ -22,3 +23,4 @@ pub mod ShownExamples
 pub mod SortedFolding
 pub mod Stable
 pub mod WellSorted
+pub mod Written

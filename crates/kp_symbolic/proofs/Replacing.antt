@@ -48,7 +48,7 @@ least_is g a (d ∷ ds) f e = least_step (λ x. meaning_of g x ≡ interpretatio
 
 -- ---- sums
 
-taken_away : (u : Value) (c : ℤ) → interpreted (whole_arithmetic subtraction) (two u (whole (neg_ℤ c))) ≡ interpreted (whole_arithmetic addition) (two u (whole c))
+pub taken_away : (u : Value) (c : ℤ) → interpreted (whole_arithmetic subtraction) (two u (whole (neg_ℤ c))) ≡ interpreted (whole_arithmetic addition) (two u (whole c))
 taken_away (whole n) c = ap (λ m. whole (n +ℤ m)) (neg_ℤ-neg_ℤ c)
 taken_away (truth b) c = refl
 taken_away (token s x) c = refl

@@ -1,15 +1,16 @@
 -- The patterns that replies write for symbolic terms, clauses and states, up to the order of clauses and literals.
 -- Source: the K framework's Kore language; the normal form is this project's.
-use Rattle.std.specs.Prelude.{ℕ, zero, suc, ℤ, pos, neg_ℤ, int_lt, Bool, true, List, [], ◌∷◌, ◌++◌, map, length, Option, Some, None, unwrap_or, if◌then◌else◌, codes}
+use Rattle.std.specs.Prelude.{◌≡◌, ◌⊎◌, IsTrue, ℕ, zero, suc, ℤ, pos, neg_ℤ, int_lt, Bool, true, List, [], ◌∷◌, ◌++◌, map, length, Option, Some, None, unwrap_or, if◌then◌else◌, codes}
 use Rattle.std.specs.List.{flat_map, list_any}
 use Rattle.std.specs.Fmt.{decimal, signed_decimal}
 use Rattle.std.specs.Str.{bytes_eq}
 use Rattle.kp_kore.specs.Syntax.{Text, KoreSort, sort_variable, KoreSorts, no_sorts, next_sort, KorePattern, KorePatterns, variable, application, literal, bottom, negation, conjunction, disjunction, implication, equivalence, exists, forall, ceil, floor, equals, membership, no_patterns, next_pattern}
 use Rattle.kp_kore.specs.Hooks.{addition, subtraction}
 use Rattle.kp_kore.specs.Parts.{SortedName, free_variables, without_name, variable_names}
-use Rattle.kp_kore.specs.Signature.{KoreSignature}
+use Rattle.kp_kore.specs.Signature.{KoreSignature, injection, meaning_of}
 use Rattle.kp_kore.specs.Sorting.{result_sort}
-use Rattle.kp_states.specs.Spelled.{placed, places_of, spelling}
+use Rattle.kp_semantics.specs.Foreign.{none_within}
+use Rattle.kp_states.specs.Spelled.{placed, places_of, spelling, injection_name, has_two_sorts}
 use Rattle.kp_symbolic.specs.Terms.{SymbolicTerm, unknown, offset, known, headed, SymbolicTerms, next_term, Replaced, replacement_for}
 use Rattle.kp_symbolic.specs.Folding.{is_text_before, least_symbol, folded}
 use Rattle.kp_symbolic.specs.States.{HeadTest, one_head, head_of_sort, Atom, same, has_head, quoted, Literal, variables_for, SymbolicState}
@@ -35,6 +36,10 @@ abbrev mutual
   pub written_terms : KoreSignature → KoreSorts → SymbolicTerms → KorePatterns
   written_terms g (next_sort s ss) (next_term t ts) = next_pattern (written_term g s t) (written_terms g ss ts)
   written_terms g _ _ = no_patterns
+
+-- inj is what it should be, or no symbol at two sorts stands in the pattern
+abbrev pub InjectsWhereItStands : KoreSignature → KorePattern → Type 0
+InjectsWhereItStands g p = (meaning_of g injection_name ≡ injection) ⊎ IsTrue (none_within has_two_sorts p)
 
 -- ---- new names
 

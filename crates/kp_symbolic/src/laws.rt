@@ -1,9 +1,10 @@
 // Laws of literals, clauses and formulas.
 ghost use Rattle.std.specs.Prelude.{◌≡◌, ◌↔◌, Bool, true, Some, None, List, [], ◌∷◌};
+ghost use Rattle.std.specs.List.{AllByRecursion};
 ghost use Rattle.kp_kore.specs.Syntax.{Text, KoreSort, KorePattern};
 ghost use Rattle.kp_kore.specs.Parts.{is_term, free_variables};
 ghost use Rattle.kp_kore.specs.Signature.{KoreSignature};
-ghost use Rattle.kp_semantics.specs.Instance.{Valuation, GivesSorts, instance, is_predicate, IsTrueUnder};
+ghost use Rattle.kp_semantics.specs.Instance.{Valuation, GivesSorts, instance, is_predicate, IsTrueUnder, AllTrueUnder};
 ghost use Rattle.kp_semantics.specs.Foreign.{none_within, has_foreign_head};
 ghost use Rattle.kp_semantics.specs.Value.{truth, HasSort};
 ghost use Rattle.kp_semantics.specs.Sorted.{IsRegular};
@@ -16,7 +17,8 @@ ghost use Rattle.kp_symbolic.specs.Folding.{folded, replaced, AreWritten};
 ghost use Rattle.kp_symbolic.specs.Clauses.{distributed, without_repeats, opened_atom, clauses_of, denied};
 ghost use Rattle.kp_symbolic.specs.Opening.{is_left, Leaf, signed, opened, opened_same, opened_truth, opened_predicate};
 ghost use Rattle.kp_symbolic.specs.Solving.{IsReadAs};
-ghost use Rattle.kp_symbolic.specs.States.{Atom, IsAtomTrue, Literal, IsLiteralTrue, AreTrue, AreGiven, SymbolicState};
+ghost use Rattle.kp_symbolic.specs.Writing.{InjectsWhereItStands, written_term, written_atom, written_clause, written_clauses};
+ghost use Rattle.kp_symbolic.specs.States.{Atom, same, IsAtomTrue, Literal, IsLiteralTrue, IsClauseTrue, AreTrue, AreGiven, SymbolicState};
 
 /// A literal that can't be refuted is true.
 pub fn literals_are_stable()
@@ -67,6 +69,25 @@ pub fn terms_are_well_sorted()
         AreWellPlaced g rs (term_variables t) → IsWellSorted g s (replaced g rs t) }
     ensures instances { (g : KoreSignature) (v : Valuation) (s : KoreSort) (t : SymbolicTerm) → IsRegular g → IsWellSorted g s t →
         GivesSorts g v (term_variables t) → HasSort g s (term_instance g v t) }
+{}
+
+/// The term that is written for a well-sorted one has its instance, where inj is what it should be or isn't written.
+pub fn written_terms_have_the_instance()
+    ensures { (g : KoreSignature) (v : Valuation) (s : KoreSort) (t : SymbolicTerm) → IsRegular g → IsWellSorted g s t →
+        InjectsWhereItStands g (written_term g s t) → instance g v (written_term g s t) ≡ term_instance g v t }
+{}
+
+/// The predicates that are written for clauses say what they say, where each atom's does; that of an equality does.
+pub fn written_clauses_say_what_they_said()
+    ensures equalities { (g : KoreSignature) (v : Valuation) (sort s : KoreSort) (t u : SymbolicTerm) → IsRegular g → IsWellSorted g s t → IsWellSorted g s u →
+        InjectsWhereItStands g (written_term g s t) → InjectsWhereItStands g (written_term g s u) →
+        IsTrueUnder g v (written_atom g sort (same s t u)) ↔ IsAtomTrue g v (same s t u) }
+    ensures clause { (g : KoreSignature) (v : Valuation) (sort : KoreSort) (c : List Literal) →
+        AllByRecursion (λ l. IsTrueUnder g v (written_atom g sort l.atom) ↔ IsAtomTrue g v l.atom) c →
+        IsTrueUnder g v (written_clause g sort c) ↔ IsClauseTrue g v c }
+    ensures clauses { (g : KoreSignature) (v : Valuation) (sort : KoreSort) (cs : List (List Literal)) →
+        AllByRecursion (AllByRecursion (λ l. IsTrueUnder g v (written_atom g sort l.atom) ↔ IsAtomTrue g v l.atom)) cs →
+        AllTrueUnder g v (written_clauses g sort cs) ↔ AreTrue g v cs }
 {}
 
 /// Two readings of one pattern are the same state.
