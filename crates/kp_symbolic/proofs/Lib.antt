@@ -13,6 +13,7 @@ pub mod HeadQuestions
 pub mod Leaf
 pub mod NumericNames
 pub mod Opened
+pub mod OpenedState
 pub mod Read
 pub mod ReadOnce
 pub mod Replacing
@@ -20,6 +21,7 @@ pub mod SeenLemmas
 pub mod Shifts
 pub mod SideLemmas
 pub mod ShownExamples
+pub mod Solved
 pub mod SortedFolding
 pub mod Stable
 pub mod WellSorted

@@ -118,7 +118,7 @@ mutual
   same_terms g v w no_terms e = refl
   same_terms g v w (next_term t ts) e = ap₂ next_value (same_term g v w t e) (same_terms g v w ts e)
 
-one_replaced : (g : KoreSignature) (v : Valuation) (x : Text) (t : SymbolicTerm) → v x ≡ term_instance g v t → (y : Text) → under_replaced g (record { name = x; term = t } ∷ []) v y ≡ v y
+pub one_replaced : (g : KoreSignature) (v : Valuation) (x : Text) (t : SymbolicTerm) → v x ≡ term_instance g v t → (y : Text) → under_replaced g (record { name = x; term = t } ∷ []) v y ≡ v y
 one_replaced g v x t e y = by (bytes_eq x y) refl
   where
     by : (b : Bool) → bytes_eq x y ≡ b → under_replaced g (record { name = x; term = t } ∷ []) v y ≡ v y

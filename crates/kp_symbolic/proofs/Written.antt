@@ -25,7 +25,7 @@ use Rattle.kp_symbolic.specs.Terms.{SymbolicTerm, unknown, offset, known, headed
 use Rattle.kp_symbolic.specs.WellFormed.{IsWellSorted, AreWellSorted}
 use Rattle.kp_symbolic.specs.Folding.{is_text_before, least_symbol}
 use Rattle.kp_symbolic.specs.States.{Atom, same, has_head, quoted, IsAtomTrue, Literal, IsLiteralTrue, IsClauseTrue, AreTrue}
-use Rattle.kp_symbolic.specs.Writing.{written_call, written_sum, written_term, written_terms, written_atom, written_signed, written_literal, variable_first, written_literals, written_clause, written_clauses}
+use Rattle.kp_symbolic.specs.Writing.{written_call, written_sum, written_term, written_terms, written_atom, IsSaid, written_signed, written_literal, variable_first, written_literals, written_clause, written_clauses}
 use Rattle.kp_symbolic.proofs.Stable.{stable_literal}
 use Rattle.kp_symbolic.proofs.Replacing.{least_is, taken_away}
 use Rattle.kp_symbolic.proofs.SortedFolding.{fits_signed}
@@ -87,10 +87,6 @@ mutual
   all_written_are g v (next_sort s ss) no_terms r w i = absurd w
 
 -- ---- literals and clauses
-
--- what is written for the atom says what it says
-abbrev pub IsSaid : KoreSignature → Valuation → KoreSort → Atom → Type 0
-IsSaid g v sort a = IsTrueUnder g v (written_atom g sort a) ↔ IsAtomTrue g v a
 
 pub equality_is_said : (g : KoreSignature) (v : Valuation) (sort s : KoreSort) (t u : SymbolicTerm) → IsRegular g → IsWellSorted g s t → IsWellSorted g s u → InjectsWell g (subpatterns (written_term g s t)) → InjectsWell g (subpatterns (written_term g s u)) → IsSaid g v sort (same s t u)
 equality_is_said g v sort s t u r w z i j =

@@ -1,6 +1,6 @@
 -- The patterns that replies write for symbolic terms, clauses and states, up to the order of clauses and literals.
 -- Source: the K framework's Kore language; the normal form is this project's.
-use Rattle.std.specs.Prelude.{◌≡◌, ◌⊎◌, IsTrue, ℕ, zero, suc, ℤ, pos, neg_ℤ, int_lt, Bool, true, List, [], ◌∷◌, ◌++◌, map, length, Option, Some, None, unwrap_or, if◌then◌else◌, codes}
+use Rattle.std.specs.Prelude.{◌≡◌, ◌⊎◌, ◌↔◌, IsTrue, ℕ, zero, suc, ℤ, pos, neg_ℤ, int_lt, Bool, true, List, [], ◌∷◌, ◌++◌, map, length, Option, Some, None, unwrap_or, if◌then◌else◌, codes}
 use Rattle.std.specs.List.{flat_map, list_any}
 use Rattle.std.specs.Fmt.{decimal, signed_decimal}
 use Rattle.std.specs.Str.{bytes_eq}
@@ -9,11 +9,12 @@ use Rattle.kp_kore.specs.Hooks.{addition, subtraction}
 use Rattle.kp_kore.specs.Parts.{SortedName, free_variables, without_name, variable_names}
 use Rattle.kp_kore.specs.Signature.{KoreSignature, injection, meaning_of}
 use Rattle.kp_kore.specs.Sorting.{result_sort}
+use Rattle.kp_semantics.specs.Instance.{Valuation, IsTrueUnder}
 use Rattle.kp_semantics.specs.Foreign.{none_within}
 use Rattle.kp_states.specs.Spelled.{placed, places_of, spelling, injection_name, has_two_sorts}
 use Rattle.kp_symbolic.specs.Terms.{SymbolicTerm, unknown, offset, known, headed, SymbolicTerms, next_term, Replaced, replacement_for}
 use Rattle.kp_symbolic.specs.Folding.{is_text_before, least_symbol, folded}
-use Rattle.kp_symbolic.specs.States.{HeadTest, one_head, head_of_sort, Atom, same, has_head, quoted, Literal, variables_for, SymbolicState}
+use Rattle.kp_symbolic.specs.States.{HeadTest, one_head, head_of_sort, Atom, same, has_head, quoted, IsAtomTrue, Literal, variables_for, SymbolicState}
 
 -- ---- terms
 
@@ -123,6 +124,10 @@ abbrev pub written_atom : KoreSignature → KoreSort → Atom → KorePattern
 written_atom g sort (same s t u) = equals s sort (written_term g s t) (written_term g s u)
 written_atom g sort (has_head x test) = written_test g sort x test
 written_atom g sort (quoted p rs) = written_under g rs p
+
+-- under a valuation, what is written for the atom says what it says
+abbrev pub IsSaid : KoreSignature → Valuation → KoreSort → Atom → Type 0
+IsSaid g v sort a = IsTrueUnder g v (written_atom g sort a) ↔ IsAtomTrue g v a
 
 abbrev pub written_signed : KoreSort → Bool → KorePattern → KorePattern
 written_signed sort b p = if b then p else negation sort p

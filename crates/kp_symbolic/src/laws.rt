@@ -4,9 +4,9 @@ ghost use Rattle.std.specs.List.{AllByRecursion};
 ghost use Rattle.kp_kore.specs.Syntax.{Text, KoreSort, KorePattern};
 ghost use Rattle.kp_kore.specs.Parts.{is_term, free_variables};
 ghost use Rattle.kp_kore.specs.Signature.{KoreSignature};
-ghost use Rattle.kp_semantics.specs.Instance.{Valuation, GivesSorts, instance, is_predicate, IsTrueUnder, AllTrueUnder};
+ghost use Rattle.kp_semantics.specs.Instance.{Valuation, GivesSorts, instance, is_predicate, conjoined_predicates, IsTrueUnder, AllTrueUnder, IsInstance};
 ghost use Rattle.kp_semantics.specs.Foreign.{none_within, has_foreign_head};
-ghost use Rattle.kp_semantics.specs.Value.{truth, HasSort};
+ghost use Rattle.kp_semantics.specs.Value.{Value, truth, HasSort};
 ghost use Rattle.kp_semantics.specs.Sorted.{IsRegular};
 ghost use Rattle.kp_symbolic.specs.Terms.{SymbolicTerm, term_instance, term_variables, Replaced, under_replaced};
 ghost use Rattle.kp_signature.specs.Places.{Place, own_sort};
@@ -16,9 +16,9 @@ ghost use Rattle.kp_symbolic.specs.Formulas.{Formula, Holds};
 ghost use Rattle.kp_symbolic.specs.Folding.{folded, replaced, AreWritten};
 ghost use Rattle.kp_symbolic.specs.Clauses.{distributed, without_repeats, opened_atom, clauses_of, denied};
 ghost use Rattle.kp_symbolic.specs.Opening.{is_left, Leaf, signed, opened, opened_same, opened_truth, opened_predicate};
-ghost use Rattle.kp_symbolic.specs.Solving.{IsReadAs};
-ghost use Rattle.kp_symbolic.specs.Writing.{InjectsWhereItStands, written_term, written_atom, written_clause, written_clauses};
-ghost use Rattle.kp_symbolic.specs.States.{Atom, same, IsAtomTrue, Literal, IsLiteralTrue, IsClauseTrue, AreTrue, AreGiven, SymbolicState};
+ghost use Rattle.kp_symbolic.specs.Solving.{opened_state, replacement, Solvable, first_solvable, solved_at, IsReadyAtom, IsReadAs};
+ghost use Rattle.kp_symbolic.specs.Writing.{InjectsWhereItStands, written_term, IsSaid, written_clause, written_clauses};
+ghost use Rattle.kp_symbolic.specs.States.{Atom, same, IsAtomTrue, Literal, IsLiteralTrue, IsClauseTrue, AreTrue, AreGiven, SymbolicState, IsStateInstance};
 
 /// A literal that can't be refuted is true.
 pub fn literals_are_stable()
@@ -81,13 +81,36 @@ pub fn written_terms_have_the_instance()
 pub fn written_clauses_say_what_they_said()
     ensures equalities { (g : KoreSignature) (v : Valuation) (sort s : KoreSort) (t u : SymbolicTerm) → IsRegular g → IsWellSorted g s t → IsWellSorted g s u →
         InjectsWhereItStands g (written_term g s t) → InjectsWhereItStands g (written_term g s u) →
-        IsTrueUnder g v (written_atom g sort (same s t u)) ↔ IsAtomTrue g v (same s t u) }
+        IsSaid g v sort (same s t u) }
     ensures clause { (g : KoreSignature) (v : Valuation) (sort : KoreSort) (c : List Literal) →
-        AllByRecursion (λ l. IsTrueUnder g v (written_atom g sort l.atom) ↔ IsAtomTrue g v l.atom) c →
+        AllByRecursion (λ l. IsSaid g v sort l.atom) c →
         IsTrueUnder g v (written_clause g sort c) ↔ IsClauseTrue g v c }
     ensures clauses { (g : KoreSignature) (v : Valuation) (sort : KoreSort) (cs : List (List Literal)) →
-        AllByRecursion (AllByRecursion (λ l. IsTrueUnder g v (written_atom g sort l.atom) ↔ IsAtomTrue g v l.atom)) cs →
+        AllByRecursion (AllByRecursion (λ l. IsSaid g v sort l.atom)) cs →
         AllTrueUnder g v (written_clauses g sort cs) ↔ AreTrue g v cs }
+{}
+
+/// A verified pattern of one term and predicates has the instances of the state that it is opened as, whatever its variables
+/// stand for; the state's term is well-sorted.
+pub fn opened_states_have_the_instances()
+    ensures instances { (g : KoreSignature) (c : Place) (p : KorePattern) (s : SymbolicState) (v : Valuation) (u : Value) → IsRegular g →
+        first_fault g c p ≡ None → none_within (has_foreign_head g) p ≡ true → AllByRecursion (λ q. is_predicate q ≡ true) (conjoined_predicates p) →
+        opened_state g p ≡ Some s → GivesSorts g v (free_variables p) → IsInstance g v p u ↔ IsStateInstance g v s u }
+    ensures term { (g : KoreSignature) (c : Place) (p : KorePattern) (s : SymbolicState) (v : Valuation) → IsRegular g →
+        first_fault g c p ≡ None → none_within (has_foreign_head g) p ≡ true → opened_state g p ≡ Some s → GivesSorts g v (free_variables p) → IsWellSorted g s.sort s.term }
+{}
+
+/// A state in which an equation was solved has the instances that it had, where the term's and the clauses' variables have
+/// values of their sorts, and all is well-sorted; its clauses are true where they were, and there the equation holds.
+pub fn solving_keeps_instances()
+    ensures clauses { (g : KoreSignature) (v : Valuation) (s : SymbolicState) (o : Solvable) → IsRegular g → first_solvable g s ≡ Some o →
+        AllByRecursion (AllByRecursion (λ l. IsReadyAtom g v s.sort o.equation l.atom)) s.clauses →
+        (AreTrue g v s.clauses → (v o.equation.variable.name ≡ term_instance g v o.equation.term) × AreTrue g v (solved_at g o s).clauses)
+        × (AreTrue g v (solved_at g o s).clauses → (v o.equation.variable.name ≡ term_instance g v o.equation.term) × AreTrue g v s.clauses) }
+    ensures instances { (g : KoreSignature) (v : Valuation) (s : SymbolicState) (o : Solvable) (u : Value) → IsRegular g → first_solvable g s ≡ Some o →
+        AllByRecursion (AllByRecursion (λ l. IsReadyAtom g v s.sort o.equation l.atom)) s.clauses →
+        IsWellSorted g s.sort s.term → AreGiven g (replacement o.equation) v (term_variables s.term) →
+        IsStateInstance g v s u ↔ IsStateInstance g v (solved_at g o s) u }
 {}
 
 /// Two readings of one pattern are the same state.
