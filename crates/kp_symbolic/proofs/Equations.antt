@@ -20,7 +20,8 @@ use Rattle.kp_symbolic.specs.Terms.{SymbolicTerm, unknown, offset, known, headed
 use Rattle.kp_symbolic.specs.States.{Atom, same, has_head, quoted, IsAtomTrue, Literal, IsLiteralTrue, IsClauseTrue, atom_variables}
 use Rattle.kp_symbolic.specs.WellFormed.{term_sort, IsWellSorted, IsWellSortedAtom}
 use Rattle.kp_symbolic.specs.Folding.{is_text_before}
-use Rattle.kp_symbolic.specs.Solving.{Equation, is_sort_below, equation_if, first_equation, equation_of_sides, tells_equal, tells_different, equation_of_truth, equation_of_atom, equation_of}
+use Rattle.kp_symbolic.specs.Writing.{is_solved_by}
+use Rattle.kp_symbolic.specs.Solving.{Equation, equation_if, first_equation, equation_of_sides, tells_equal, tells_different, equation_of_truth, equation_of_atom, equation_of}
 use Rattle.kp_symbolic.proofs.Distribution.{all_first, all_second}
 use Rattle.kp_symbolic.proofs.Stable.{stable_literal}
 use Rattle.kp_symbolic.proofs.Folded.{is_the_sort}
@@ -43,7 +44,7 @@ met_if g v x t true e h q = subst (IsMet g v) (some_inside q) h
 met_if g v x t false e h q = absurd (none_is_some q)
 
 met_equation : (g : KoreSignature) (v : Valuation) (x : SortedName) (t : SymbolicTerm) (e : Equation) → v x.name ≡ term_instance g v t → equation_if g x t ≡ Some e → IsMet g v e
-met_equation g v x t e h q = met_if g v x t (not (is_named x.name (term_variables t)) && is_sort_below g (term_sort g t) x.sort) e h q
+met_equation g v x t e h q = met_if g v x t (is_solved_by g x t) e h q
 
 met_first : (g : KoreSignature) (v : Valuation) (o p : Option Equation) (e : Equation) → ((d : Equation) → o ≡ Some d → IsMet g v d) → ((d : Equation) → p ≡ Some d → IsMet g v d) → first_equation o p ≡ Some e → IsMet g v e
 met_first g v (Some d) p e i j q = i e q

@@ -23,9 +23,9 @@ use Rattle.kp_states.specs.Spelled.{placed, places_of, spelling, injected, injec
 use Rattle.kp_states.proofs.SpelledMeaning.{InjectsWell, said}
 use Rattle.kp_symbolic.specs.Terms.{SymbolicTerm, unknown, offset, known, headed, SymbolicTerms, no_terms, next_term, term_instance, term_instances}
 use Rattle.kp_symbolic.specs.WellFormed.{IsWellSorted, AreWellSorted}
-use Rattle.kp_symbolic.specs.Folding.{is_text_before, least_symbol}
+use Rattle.kp_symbolic.specs.Folding.{least_symbol}
 use Rattle.kp_symbolic.specs.States.{Atom, same, has_head, quoted, IsAtomTrue, Literal, IsLiteralTrue, IsClauseTrue, AreTrue}
-use Rattle.kp_symbolic.specs.Writing.{written_call, written_sum, written_term, written_terms, written_atom, IsSaid, written_signed, written_literal, variable_first, written_literals, written_clause, written_clauses}
+use Rattle.kp_symbolic.specs.Writing.{written_call, written_sum, written_term, written_terms, written_atom, IsSaid, written_signed, written_literal, is_solved_by, is_second_solved, turned_if, variable_first, written_literals, written_clause, written_clauses}
 use Rattle.kp_symbolic.proofs.Stable.{stable_literal}
 use Rattle.kp_symbolic.proofs.Replacing.{least_is, taken_away}
 use Rattle.kp_symbolic.proofs.SortedFolding.{fits_signed}
@@ -101,23 +101,23 @@ signed_said g v sort false a i = ((λ n h. n (i.1 h)), (λ n h. n (i.0 h)))
 literal_said : (g : KoreSignature) (v : Valuation) (sort : KoreSort) (l : Literal) → IsSaid g v sort l.atom → IsTrueUnder g v (written_literal g sort l) ↔ IsLiteralTrue g v l
 literal_said g v sort l i = signed_said g v sort l.holds l.atom i
 
-abbrev turned : Bool → Atom → Literal
-turned true (same s (unknown x) (unknown y)) = record { holds = true; atom = if is_text_before y.name x.name then same s (unknown y) (unknown x) else same s (unknown x) (unknown y) }
-turned true (same s t (unknown y)) = record { holds = true; atom = same s (unknown y) t }
-turned b a = record { holds = b; atom = a }
+abbrev turned : KoreSignature → Bool → Atom → Literal
+turned g true (same s (unknown x) (unknown y)) = record { holds = true; atom = turned_if (is_second_solved g x y) s (unknown x) (unknown y) }
+turned g true (same s t (unknown y)) = record { holds = true; atom = turned_if (is_solved_by g y t) s t (unknown y) }
+turned g b a = record { holds = b; atom = a }
 
 sides_turned : (g : KoreSignature) (v : Valuation) (sort s : KoreSort) (t u : SymbolicTerm) → IsSaid g v sort (same s t u) → IsTrueUnder g v (written_atom g sort (same s u t)) ↔ IsAtomTrue g v (same s t u)
 sides_turned g v sort s t u i = ((λ e. i.0 (sym e)), (λ e. sym (i.1 e)))
 
-by_name : (g : KoreSignature) (v : Valuation) (sort s : KoreSort) (t u : SymbolicTerm) (b : Bool) → IsSaid g v sort (same s t u) → IsTrueUnder g v (written_atom g sort (if b then same s u t else same s t u)) ↔ IsAtomTrue g v (same s t u)
+by_name : (g : KoreSignature) (v : Valuation) (sort s : KoreSort) (t u : SymbolicTerm) (b : Bool) → IsSaid g v sort (same s t u) → IsTrueUnder g v (written_atom g sort (turned_if b s t u)) ↔ IsAtomTrue g v (same s t u)
 by_name g v sort s t u true i = sides_turned g v sort s t u i
 by_name g v sort s t u false i = i
 
-turned_said : (g : KoreSignature) (v : Valuation) (sort : KoreSort) (b : Bool) (a : Atom) → IsSaid g v sort a → IsTrueUnder g v (written_literal g sort (turned b a)) ↔ MatchBool b (IsAtomTrue g v a) (¬ IsAtomTrue g v a)
-turned_said g v sort true (same s (unknown x) (unknown y)) i = by_name g v sort s (unknown x) (unknown y) (is_text_before y.name x.name) i
-turned_said g v sort true (same s (offset x c) (unknown y)) i = sides_turned g v sort s (offset x c) (unknown y) i
-turned_said g v sort true (same s (known u) (unknown y)) i = sides_turned g v sort s (known u) (unknown y) i
-turned_said g v sort true (same s (headed f ts) (unknown y)) i = sides_turned g v sort s (headed f ts) (unknown y) i
+turned_said : (g : KoreSignature) (v : Valuation) (sort : KoreSort) (b : Bool) (a : Atom) → IsSaid g v sort a → IsTrueUnder g v (written_literal g sort (turned g b a)) ↔ MatchBool b (IsAtomTrue g v a) (¬ IsAtomTrue g v a)
+turned_said g v sort true (same s (unknown x) (unknown y)) i = by_name g v sort s (unknown x) (unknown y) (is_second_solved g x y) i
+turned_said g v sort true (same s (offset x c) (unknown y)) i = by_name g v sort s (offset x c) (unknown y) (is_solved_by g y (offset x c)) i
+turned_said g v sort true (same s (known u) (unknown y)) i = by_name g v sort s (known u) (unknown y) (is_solved_by g y (known u)) i
+turned_said g v sort true (same s (headed f ts) (unknown y)) i = by_name g v sort s (headed f ts) (unknown y) (is_solved_by g y (headed f ts)) i
 turned_said g v sort true (same s (unknown x) (offset y c)) i = i
 turned_said g v sort true (same s (unknown x) (known u)) i = i
 turned_said g v sort true (same s (unknown x) (headed f ts)) i = i

@@ -1,11 +1,12 @@
 -- What holds of each symbolic state: its parts have the sorts of their places, and its variables are at hand.
 -- Source: the K framework's Kore language (sorts of applications and of equalities).
-use Rattle.std.specs.Prelude.{◌≡◌, Bool, true, false, List, [], Option, Some, IsTrue, ⊤}
+use Rattle.std.specs.Prelude.{◌≡◌, Bool, true, false, List, [], Option, Some, None, IsTrue, ⊤}
 use Rattle.std.specs.List.{AllByRecursion, Contains}
 use Rattle.kp_kore.specs.Syntax.{KoreSort, KoreSorts, no_sorts, next_sort}
 use Rattle.kp_kore.specs.Parts.{SortedName, free_variables}
 use Rattle.kp_kore.specs.Signature.{KoreSignature, SymbolMeaning, construction, interpretation, meaning_of, integer_sort, IsBelow}
 use Rattle.kp_kore.specs.Sorting.{result_sort}
+use Rattle.kp_signature.specs.Places.{is_below}
 use Rattle.kp_semantics.specs.Value.{HasSort, HaveSorts}
 use Rattle.kp_semantics.specs.Instance.{Valuation, GivesSorts}
 use Rattle.kp_states.specs.Spelled.{own_sort, places_of, NumbersFit}
@@ -19,6 +20,11 @@ term_sort g (unknown x) = Some x.sort
 term_sort g (offset x c) = Some x.sort
 term_sort g (known u) = own_sort g u
 term_sort g (headed f ts) = result_sort g f no_sorts
+
+-- whether a sort that there may be is another's or below it
+abbrev pub is_sort_below : KoreSignature → Option KoreSort → KoreSort → Bool
+is_sort_below g (Some a) b = is_below g.subsorts a b
+is_sort_below g None b = false
 
 -- the term's own sort is the place's or below it
 abbrev pub IsPlaced : KoreSignature → KoreSort → SymbolicTerm → Type 0
