@@ -11,6 +11,7 @@ pub mod Folded
 pub mod HeadLemmas
 pub mod HeadQuestions
 pub mod Leaf
+pub mod NormalForm
 pub mod NumericNames
 pub mod Opened
 pub mod OpenedState

@@ -11,7 +11,7 @@ ghost use Rattle.kp_semantics.specs.Sorted.{IsRegular};
 ghost use Rattle.kp_symbolic.specs.Terms.{SymbolicTerm, term_instance, term_variables, Replaced, under_replaced};
 ghost use Rattle.kp_signature.specs.Places.{Place, own_sort};
 ghost use Rattle.kp_signature.specs.Verify.{first_fault};
-ghost use Rattle.kp_symbolic.specs.WellFormed.{IsWellSorted, AreWellPlaced, IsGivenSorts, IsGivenAtom, AreGivenLiterals};
+ghost use Rattle.kp_symbolic.specs.WellFormed.{IsWellSorted, AreWellPlaced, IsFolded, IsGivenSorts, IsGivenAtom, AreGivenLiterals};
 ghost use Rattle.kp_symbolic.specs.Formulas.{Formula, Holds};
 ghost use Rattle.kp_symbolic.specs.Folding.{folded, replaced, AreWritten};
 ghost use Rattle.kp_symbolic.specs.Clauses.{distributed, without_repeats, opened_atom, clauses_of, denied};
@@ -69,6 +69,11 @@ pub fn terms_are_well_sorted()
         AreWellPlaced g rs (term_variables t) → IsWellSorted g s (replaced g rs t) }
     ensures instances { (g : KoreSignature) (v : Valuation) (s : KoreSort) (t : SymbolicTerm) → IsRegular g → IsWellSorted g s t →
         GivesSorts g v (term_variables t) → HasSort g s (term_instance g v t) }
+{}
+
+/// A folded term is in normal form: folding it again leaves it, where the terms in the place of its variables are.
+pub fn folding_gives_normal_forms()
+    ensures { (g : KoreSignature) (rs : List Replaced) (p : KorePattern) → AllByRecursion (λ r. IsFolded g r.term) rs → IsFolded g (folded g rs p) }
 {}
 
 /// The term that is written for a well-sorted one has its instance, where inj is what it should be or isn't written.
