@@ -7,6 +7,7 @@ pub mod Distribution
 pub mod Exact
 pub mod EqualityLemmas
 pub mod Equations
+pub mod Facts
 pub mod Folded
 pub mod HeadLemmas
 pub mod HeadQuestions

@@ -2,7 +2,7 @@
 ghost use Rattle.std.specs.Prelude.{◌≡◌, ◌↔◌, Bool, true, Some, None, List, [], ◌∷◌};
 ghost use Rattle.std.specs.List.{AllByRecursion};
 ghost use Rattle.kp_kore.specs.Syntax.{Text, KoreSort, KorePattern};
-ghost use Rattle.kp_kore.specs.Parts.{is_term, free_variables};
+ghost use Rattle.kp_kore.specs.Parts.{SortedName, is_term, free_variables};
 ghost use Rattle.kp_kore.specs.Signature.{KoreSignature};
 ghost use Rattle.kp_semantics.specs.Instance.{Valuation, GivesSorts, instance, is_predicate, conjoined_predicates, IsTrueUnder, AllTrueUnder, IsInstance};
 ghost use Rattle.kp_semantics.specs.Foreign.{none_within, has_foreign_head};
@@ -11,14 +11,14 @@ ghost use Rattle.kp_semantics.specs.Sorted.{IsRegular};
 ghost use Rattle.kp_symbolic.specs.Terms.{SymbolicTerm, term_instance, term_variables, Replaced, under_replaced};
 ghost use Rattle.kp_signature.specs.Places.{Place, own_sort};
 ghost use Rattle.kp_signature.specs.Verify.{first_fault};
-ghost use Rattle.kp_symbolic.specs.WellFormed.{IsWellSorted, AreWellPlaced, IsFolded, IsGivenSorts, IsGivenAtom, AreGivenLiterals};
+ghost use Rattle.kp_symbolic.specs.WellFormed.{IsWellSorted, IsWellSortedAtom, AreAtHand, AreWellPlaced, IsFolded, IsGivenSorts, IsGivenAtom, AreGivenLiterals};
 ghost use Rattle.kp_symbolic.specs.Formulas.{Formula, Holds};
 ghost use Rattle.kp_symbolic.specs.Folding.{folded, replaced, AreWritten};
 ghost use Rattle.kp_symbolic.specs.Clauses.{distributed, without_repeats, opened_atom, clauses_of, denied};
 ghost use Rattle.kp_symbolic.specs.Opening.{is_left, Leaf, signed, opened, opened_same, opened_truth, opened_predicate};
 ghost use Rattle.kp_symbolic.specs.Solving.{opened_state, replacement, Solvable, first_solvable, solved_at, IsReadyAtom, IsReadAs};
 ghost use Rattle.kp_symbolic.specs.Writing.{InjectsWhereItStands, written_term, IsSaid, written_clause, written_clauses};
-ghost use Rattle.kp_symbolic.specs.States.{Atom, same, IsAtomTrue, Literal, IsLiteralTrue, IsClauseTrue, AreTrue, AreGiven, SymbolicState, IsStateInstance};
+ghost use Rattle.kp_symbolic.specs.States.{Atom, same, atom_variables, IsAtomTrue, Literal, IsLiteralTrue, IsClauseTrue, AreTrue, AreGiven, SymbolicState, IsStateInstance};
 
 /// A literal that can't be refuted is true.
 pub fn literals_are_stable()
@@ -133,6 +133,13 @@ pub fn opened_terms_say_what_they_said()
     ensures expression { (g : KoreSignature) (v : Valuation) (alone b : Bool) (t : SymbolicTerm) → IsRegular g →
         GivesSorts g v (term_variables t) → IsGivenSorts g v t →
         Holds (IsLiteralTrue g v) (opened_truth g alone b t) ↔ signed b (term_instance g v t ≡ truth true) }
+{}
+
+/// Each literal that an equality of well-sorted sides opens to is well-sorted, and its variables are among those at hand.
+pub fn opened_equalities_are_well_sorted()
+    ensures { (g : KoreSignature) (hand : List SortedName) (alone b : Bool) (s : KoreSort) (t u : SymbolicTerm) →
+        IsWellSorted g s t → IsWellSorted g s u → AreAtHand (term_variables t) hand → AreAtHand (term_variables u) hand →
+        AllByRecursion (AllByRecursion (λ l. IsWellSortedAtom g l.atom × AreAtHand (atom_variables l.atom) hand)) (distributed (opened_same g alone b s t u)) }
 {}
 
 /// A literal that is opened again says what it said, by its sign; the clauses of the opposite say that not all are true.
