@@ -6,23 +6,23 @@ use Rattle.std.specs.Ordering.{int_eq}
 use Rattle.std.proofs.lemmas.Bool.Decides.{Decides-int_eq}
 use Rattle.kp_kore.specs.Syntax.{Text, KoreSort, KoreSorts, no_sorts, next_sort}
 use Rattle.kp_kore.specs.Attributes.{sorts_equal}
-use Rattle.kp_kore.specs.Hooks.{Comparison, equal, different, Hook, whole_comparison, values_equal, values_different}
+use Rattle.kp_kore.specs.Hooks.{Comparison, equal, different, whole_comparison, values_equal, values_different}
 use Rattle.kp_kore.specs.Parts.{SortedName}
-use Rattle.kp_kore.specs.Signature.{KoreSignature, SymbolMeaning, injection, construction, interpretation, foreign, meaning_of, is_integer_sort, is_boolean_sort, integer_sort, are_two}
-use Rattle.kp_semantics.specs.Value.{Value, whole, truth, token, constructed, Values, no_values, next_value, values_same, HasSort, HaveSorts}
+use Rattle.kp_kore.specs.Signature.{KoreSignature, SymbolMeaning, interpretation, meaning_of, is_integer_sort, is_boolean_sort, integer_sort, are_two}
+use Rattle.kp_semantics.specs.Value.{Value, whole, truth, HasSort, HaveSorts}
 use Rattle.kp_semantics.specs.Forms.{two}
 use Rattle.kp_semantics.specs.Interpretation.{interpreted}
-use Rattle.kp_semantics.specs.Instance.{Valuation, GivesSorts, is_named, applied}
+use Rattle.kp_semantics.specs.Instance.{Valuation, GivesSorts, applied}
 use Rattle.kp_semantics.specs.Sorted.{IsRegular}
 use Rattle.kp_semantics.proofs.InstanceLemmas.{first_true, second_true}
 use Rattle.kp_semantics.proofs.SameLemmas.{equal_call, different_call}
-use Rattle.kp_symbolic.specs.Terms.{SymbolicTerm, unknown, offset, known, headed, SymbolicTerms, no_terms, next_term, term_instance, term_instances, term_variables}
-use Rattle.kp_symbolic.specs.States.{Atom, same, has_head, quoted, IsAtomTrue, Literal, IsLiteralTrue, IsClauseTrue, atom_variables}
-use Rattle.kp_symbolic.specs.WellFormed.{term_sort, IsWellSorted, IsWellSortedAtom}
+use Rattle.kp_symbolic.specs.Terms.{SymbolicTerm, unknown, offset, known, headed, no_terms, next_term, term_instance, term_variables}
+use Rattle.kp_symbolic.specs.States.{Atom, same, has_head, quoted, IsAtomTrue, Literal, IsClauseTrue, atom_variables}
+use Rattle.kp_symbolic.specs.WellFormed.{IsWellSorted, IsWellSortedAtom}
 use Rattle.kp_symbolic.specs.Folding.{is_text_before}
 use Rattle.kp_symbolic.specs.Writing.{is_solved_by}
 use Rattle.kp_symbolic.specs.Solving.{Equation, equation_if, first_equation, equation_of_sides, tells_equal, tells_different, equation_of_truth, equation_of_atom, equation_of}
-use Rattle.kp_symbolic.proofs.Distribution.{all_first, all_second}
+use Rattle.kp_symbolic.proofs.Distribution.{all_first}
 use Rattle.kp_symbolic.proofs.Stable.{stable_literal}
 use Rattle.kp_symbolic.proofs.Folded.{is_the_sort}
 use Rattle.kp_symbolic.proofs.WellSorted.{plain_symbol, places_are, terms_sorted}

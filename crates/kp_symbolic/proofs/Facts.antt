@@ -1,5 +1,5 @@
 -- Each literal that an equality opens to is well-sorted, and its variables are at hand.
-use Rattle.std.proofs.Common.{◌≡◌, refl, sym, ◌∙◌, ap, subst, Bool, true, false, not, ◌&&◌, ◌||◌, List, [], ◌∷◌, ◌++◌, map, Option, Some, None}
+use Rattle.std.proofs.Common.{◌≡◌, refl, sym, ◌∙◌, ap, subst, Bool, true, false, not, ◌&&◌, List, [], ◌∷◌, map, Option, Some, None}
 use Rattle.std.specs.Prelude.{if◌then◌else◌, ⊤}
 use Rattle.std.specs.Bool.{beq}
 use Rattle.std.specs.Option.{option_map}
@@ -18,7 +18,7 @@ use Rattle.kp_semantics.proofs.SameLemmas.{sorts_equal-Decides}
 use Rattle.kp_states.specs.Spelled.{places_of, NumbersFit, AllNumbersFit}
 use Rattle.kp_symbolic.specs.Terms.{SymbolicTerm, unknown, offset, known, headed, SymbolicTerms, no_terms, next_term, term_variables, all_term_variables}
 use Rattle.kp_symbolic.specs.Formulas.{Formula, fact, all_of, one_of, Formulas, no_formulas, next_formula, crossed, joined, formula_clauses, joined_clauses, crossed_clauses}
-use Rattle.kp_symbolic.specs.States.{Atom, same, Literal, atom_variables}
+use Rattle.kp_symbolic.specs.States.{Literal, atom_variables}
 use Rattle.kp_symbolic.specs.WellFormed.{IsWellSorted, AreWellSorted, IsWellSortedAtom, AreAtHand}
 use Rattle.kp_symbolic.specs.Alike.{terms_same, literals_same}
 use Rattle.kp_symbolic.specs.Folding.{sum_of}

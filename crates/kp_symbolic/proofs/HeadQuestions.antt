@@ -1,6 +1,6 @@
 -- A question for a head says what its predicate said; an opened test says what the term's head is.
-use Rattle.std.proofs.Common.{◌≡◌, refl, sym, ◌∙◌, ap, ap₂, subst, Bool, true, false, not, cond, ◌&&◌, ◌||◌, List, [], ◌∷◌, ◌++◌, Option, Some, None, ◌↔◌, inl, inr}
-use Rattle.std.specs.Prelude.{if◌then◌else◌, ⊤}
+use Rattle.std.proofs.Common.{◌≡◌, refl, sym, ◌∙◌, ap, ap₂, subst, Bool, true, false, not, cond, ◌&&◌, ◌||◌, List, [], ◌∷◌, ◌++◌, Some, None, ◌↔◌}
+use Rattle.std.specs.Prelude.{if◌then◌else◌}
 use Rattle.std.specs.Bool.{beq}
 use Rattle.std.specs.List.{AllByRecursion}
 use Rattle.std.specs.Str.{bytes_eq}
@@ -14,15 +14,15 @@ use Rattle.kp_kore.specs.Signature.{KoreSignature, SymbolMeaning, injection, con
 use Rattle.kp_semantics.specs.Value.{Value, whole, truth, token, constructed, Values, no_values, next_value, head_of, HasSort, HaveSorts, ArgumentSorts}
 use Rattle.kp_semantics.specs.Forms.{two}
 use Rattle.kp_semantics.specs.Interpretation.{interpreted}
-use Rattle.kp_semantics.specs.Instance.{Valuation, GivesSorts, assigned, is_named, instance, instances, applied, only_value, IsTrueUnder}
+use Rattle.kp_semantics.specs.Instance.{Valuation, GivesSorts, assigned, is_named, instance, instances, applied, IsTrueUnder}
 use Rattle.kp_semantics.specs.Sorted.{IsRegular}
 use Rattle.kp_semantics.proofs.InstanceLemmas.{first_true, second_true}
 use Rattle.kp_semantics.proofs.SameLemmas.{sorts_equal-Decides}
 use Rattle.kp_semantics.proofs.TruthLemmas.{stable_truth}
 use Rattle.kp_states.specs.Spelled.{places_of}
 use Rattle.kp_symbolic.specs.Terms.{SymbolicTerm, unknown, offset, known, headed, term_instance, term_instances, term_variables}
-use Rattle.kp_symbolic.specs.Formulas.{Formula, Holds}
-use Rattle.kp_symbolic.specs.States.{HeadTest, one_head, head_of_sort, PassesHead, Literal, IsLiteralTrue}
+use Rattle.kp_symbolic.specs.Formulas.{Formula}
+use Rattle.kp_symbolic.specs.States.{HeadTest, one_head, head_of_sort, PassesHead, Literal}
 use Rattle.kp_symbolic.specs.WellFormed.{stands_in_terms, IsWellSorted}
 use Rattle.kp_symbolic.specs.Heads.{passes_head, head_answer}
 use Rattle.kp_symbolic.specs.Opening.{HeadQuestion, are_variables, question_if, asked_constructor, asked_under_inj, asked_of, head_question, head_of_call, opened_test, fixed}

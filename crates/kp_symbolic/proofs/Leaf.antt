@@ -5,11 +5,11 @@ use Rattle.std.specs.List.{AllByRecursion, filter}
 use Rattle.std.specs.Str.{bytes_eq}
 use Rattle.std.proofs.lemmas.Slice.Eq.{bytes_eq-Decides}
 use Rattle.std.proofs.lemmas.List.{append_assoc}
-use Rattle.kp_kore.specs.Syntax.{Text, KoreSort, KorePattern, KorePatterns, variable, application, literal, negation, conjunction, exists, ceil, equals, membership, no_patterns, next_pattern}
-use Rattle.kp_kore.specs.Parts.{SortedName, is_term, are_terms, free_variables, all_free_variables}
+use Rattle.kp_kore.specs.Syntax.{Text, KoreSort, KorePattern, variable, application, literal, negation, conjunction, exists, ceil, equals, membership, no_patterns, next_pattern}
+use Rattle.kp_kore.specs.Parts.{SortedName, is_term, free_variables, all_free_variables}
 use Rattle.kp_kore.specs.Signature.{KoreSignature}
-use Rattle.kp_semantics.specs.Value.{Value, HasSort, head_of}
-use Rattle.kp_semantics.specs.Instance.{Valuation, GivesSorts, AgreesOn, is_named, instance, is_predicate, are_predicates, is_conjoined_pair, PairSame, IsTrueUnder, conjuncts}
+use Rattle.kp_semantics.specs.Value.{HasSort, head_of}
+use Rattle.kp_semantics.specs.Instance.{Valuation, GivesSorts, AgreesOn, is_named, instance, is_conjoined_pair, IsTrueUnder, conjuncts}
 use Rattle.kp_semantics.specs.Foreign.{has_foreign_head}
 use Rattle.kp_semantics.specs.Sorted.{IsRegular}
 use Rattle.kp_semantics.proofs.InstanceLemmas.{first_true, second_true}
@@ -18,7 +18,7 @@ use Rattle.kp_semantics.proofs.Conjuncts.{truth_of, of_truth}
 use Rattle.kp_signature.specs.Places.{part_at, after}
 use Rattle.kp_sorts.proofs.FaultLemmas.{same_as_wanted, keeps_rules, nothing_earlier, nothing_later}
 use Rattle.kp_sorts.proofs.SortedInstances.{none_in_first, none_in_others}
-use Rattle.kp_symbolic.specs.Terms.{SymbolicTerm, term_instance, term_variables, Replaced, replacement_for, under_replaced}
+use Rattle.kp_symbolic.specs.Terms.{term_instance, Replaced, replacement_for, under_replaced}
 use Rattle.kp_symbolic.specs.Formulas.{Formula, Holds}
 use Rattle.kp_symbolic.specs.States.{variables_for, PassesHead, Literal, IsLiteralTrue, IsClauseTrue, AreTrue}
 use Rattle.kp_symbolic.specs.WellFormed.{IsWellSorted}
@@ -29,13 +29,13 @@ use Rattle.kp_symbolic.specs.Clauses.{distributed, without_repeats, is_too_large
 use Rattle.kp_symbolic.proofs.AlikeLemmas.{literals_are}
 use Rattle.kp_symbolic.proofs.Distribution.{all_both, all_first, all_second, clauses_say, kept_once_says}
 use Rattle.kp_symbolic.proofs.Stable.{stable_literal}
-use Rattle.kp_symbolic.proofs.Opened.{flip, fixed_says, opened_says, IsClosed}
+use Rattle.kp_symbolic.proofs.Opened.{flip, fixed_says, opened_says}
 use Rattle.kp_symbolic.proofs.Folded.{for_instance, for_variables}
 use Rattle.kp_symbolic.proofs.SeenLemmas.{Says, says_the_same}
 use Rattle.kp_symbolic.proofs.CallOpening.{opened_same_says}
 use Rattle.kp_symbolic.proofs.WellSorted.{term_sorted, term_given}
 use Rattle.kp_symbolic.proofs.Read.{Stands, StandBoth, equals_stand, membership_stands, IsRead, AreRead, read_closed, IsSide, side_of, conjuncts_read}
-use Rattle.kp_symbolic.proofs.HeadQuestions.{IsAsked, question_says, test_says}
+use Rattle.kp_symbolic.proofs.HeadQuestions.{question_says, test_says}
 
 -- ---- quoted predicates
 

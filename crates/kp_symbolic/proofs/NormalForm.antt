@@ -5,7 +5,7 @@ use Rattle.std.specs.Ordering.{int_eq}
 use Rattle.std.specs.List.{AllByRecursion}
 use Rattle.std.specs.Str.{bytes_eq}
 use Rattle.std.proofs.Math.IntN.{+ℤ_comm, +ℤ_idr, neg_ℤ-neg_ℤ}
-use Rattle.kp_kore.specs.Syntax.{Text, KorePattern, KorePatterns, variable, application, literal, no_patterns, next_pattern}
+use Rattle.kp_kore.specs.Syntax.{Text, KorePattern, KorePatterns, variable, application, no_patterns, next_pattern}
 use Rattle.kp_kore.specs.Hooks.{addition, subtraction, Hook, whole_arithmetic}
 use Rattle.kp_kore.specs.Parts.{SortedName}
 use Rattle.kp_kore.specs.Signature.{KoreSignature, SymbolMeaning, injection, construction, interpretation, foreign, meaning_of, is_integer_sort}
@@ -15,7 +15,7 @@ use Rattle.kp_semantics.specs.Foreign.{fits_number}
 use Rattle.kp_semantics.specs.Replies.{is_wide_value}
 use Rattle.kp_symbolic.specs.Terms.{SymbolicTerm, unknown, offset, known, headed, SymbolicTerms, no_terms, next_term, Replaced, replacement_for}
 use Rattle.kp_symbolic.specs.WellFormed.{IsFolded}
-use Rattle.kp_symbolic.specs.Folding.{least_symbol, Sum, sum_of, can_be_added, summed, summed_call, values_known, only_term, made_construction, made_call, made, applied_term, term_for, folded, all_folded, under_symbol, added, replaced, all_replaced}
+use Rattle.kp_symbolic.specs.Folding.{least_symbol, Sum, sum_of, can_be_added, summed, summed_call, values_known, only_term, made_construction, made_call, made, applied_term, term_for, folded, all_folded, under_symbol, all_replaced}
 use Rattle.kp_symbolic.proofs.Replacing.{least_is}
 
 -- ---- sums

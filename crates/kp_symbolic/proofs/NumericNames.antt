@@ -1,5 +1,5 @@
 -- The numeric variables of a state's bounds are among its whole-number variables at hand.
-use Rattle.std.proofs.Common.{◌≡◌, refl, sym, ◌∙◌, ap, subst, arith, inl, inr, ℕ, suc, ◌+◌, ◌≤◌, ℤ, pos, negsuc, Bool, true, false, not, cond, ◌&&◌, ◌||◌, List, [], ◌∷◌, ◌++◌, map, length, Option, Some, None}
+use Rattle.std.proofs.Common.{◌≡◌, refl, sym, ◌∙◌, ap, subst, arith, inl, inr, ℕ, suc, ◌+◌, ◌≤◌, ℤ, pos, Bool, true, false, not, cond, ◌||◌, List, [], ◌∷◌, ◌++◌, map, length, Option, Some, None}
 use Rattle.std.specs.Prelude.{if◌then◌else◌, ⊤}
 use Rattle.std.specs.Bool.{beq}
 use Rattle.std.specs.List.{list_any, filter, flat_map, filter_map, AllByRecursion, Contains}
@@ -10,12 +10,12 @@ use Rattle.kp_kore.specs.Hooks.{Comparison, equal, different, less, at_most, gre
 use Rattle.kp_kore.specs.Parts.{SortedName}
 use Rattle.kp_kore.specs.Signature.{KoreSignature, SymbolMeaning, interpretation, meaning_of, is_boolean_sort}
 use Rattle.kp_semantics.specs.Value.{whole, truth, token, constructed, no_values}
-use Rattle.kp_symbolic.specs.Terms.{SymbolicTerm, unknown, offset, known, headed, SymbolicTerms, no_terms, next_term, term_variables, all_term_variables}
+use Rattle.kp_symbolic.specs.Terms.{SymbolicTerm, unknown, offset, known, headed, no_terms, next_term, term_variables, all_term_variables}
 use Rattle.kp_symbolic.specs.States.{Atom, same, has_head, quoted, atom_variables, clause_variables, Literal, SymbolicState}
 use Rattle.kp_symbolic.specs.WellFormed.{AreAtHand}
 use Rattle.kp_symbolic.specs.Solving.{Equation, equation_of}
-use Rattle.kp_symbolic.specs.Plain.{has_only_numbers, has_only_truths, WholePart, whole_part_of, whole_part, TokenPart, token_part, Form, compares, is_truth, equates, asks, gives, comparison_if, comparing, equating, first_form, equality_form, call_form, truth_form, same_form, form_of, head_form, constant_form, solved_form, stands_alone, own_form, ReadLiteral, read_clause, read_from, read_clauses}
-use Rattle.kp_symbolic.specs.Weights.{DifferenceBound, below, ways, bounds_of, forms_in, all_bounds, each_once, name_in, numeric_names}
+use Rattle.kp_symbolic.specs.Plain.{has_only_numbers, has_only_truths, WholePart, whole_part, TokenPart, token_part, Form, compares, is_truth, equates, asks, gives, comparing, equating, first_form, equality_form, call_form, truth_form, same_form, form_of, head_form, constant_form, solved_form, stands_alone, own_form, ReadLiteral, read_clause, read_from, read_clauses}
+use Rattle.kp_symbolic.specs.Weights.{DifferenceBound, bounds_of, forms_in, all_bounds, each_once, name_in, numeric_names}
 use Rattle.kp_symbolic.specs.Shown.{whole_variables, numeric_count}
 use Rattle.kp_symbolic.proofs.Distribution.{all_both, all_first, all_second}
 use Rattle.kp_symbolic.proofs.HeadLemmas.{Among, contained}

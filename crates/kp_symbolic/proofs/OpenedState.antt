@@ -1,12 +1,12 @@
 -- A pattern that is opened as a state has the state's instances, before its equations are solved; its parts are well-sorted.
-use Rattle.std.proofs.Common.{◌≡◌, refl, sym, ◌∙◌, ap, subst, Bool, true, not, List, [], ◌∷◌, Option, Some, None, ◌↔◌}
-use Rattle.std.specs.List.{AllByRecursion, filter}
-use Rattle.kp_kore.specs.Syntax.{KoreSort, KorePattern, KorePatterns, variable, literal, application, conjunction, next_pattern}
+use Rattle.std.proofs.Common.{◌≡◌, refl, sym, ◌∙◌, ap, subst, true, not, List, [], ◌∷◌, Option, Some, None, ◌↔◌}
+use Rattle.std.specs.List.{AllByRecursion}
+use Rattle.kp_kore.specs.Syntax.{KoreSort, KorePattern, KorePatterns, variable, literal, application}
 use Rattle.kp_kore.specs.Parts.{SortedName, is_term, free_variables, all_free_variables}
 use Rattle.kp_kore.specs.Signature.{KoreSignature, itself}
 use Rattle.kp_kore.specs.Sorting.{sort_of_term}
-use Rattle.kp_semantics.specs.Value.{Value, HasSort}
-use Rattle.kp_semantics.specs.Instance.{Valuation, GivesSorts, IsTrueUnder, is_predicate, conjuncts, conjoined_terms, conjoined_predicates, IsInstanceOfOne, IsConjunctionInstance, IsInstance, instance}
+use Rattle.kp_semantics.specs.Value.{Value}
+use Rattle.kp_semantics.specs.Instance.{Valuation, GivesSorts, IsTrueUnder, is_predicate, conjuncts, conjoined_terms, conjoined_predicates, IsInstanceOfOne, IsInstance, instance}
 use Rattle.kp_semantics.specs.Foreign.{none_within, has_foreign_head}
 use Rattle.kp_semantics.specs.Sorted.{IsRegular}
 use Rattle.kp_semantics.proofs.ClaimRuleLemmas.{met_of, conjunction_of}
@@ -102,8 +102,7 @@ opened_instances g c p s v u r e k b q h =
     let one = (subst (AllByRecursion (λ x. IsMember g v x × (is_term x ≡ true))) o.is_one (all_filtered (IsMember g v) is_term (conjuncts p) all)).0 in
     let term : term_instance g v s.term ≡ instance g v o.one = ap (term_instance g v) o.term ∙ folded_is g [] v o.one r one.0.1 in
     let reads = both_read g v (conjoined_predicates p) (all_filtered (IsMember g v) (λ x. not (is_term x)) (conjuncts p) all) b in
-    let clauses : AreTrue g v s.clauses ↔ AllByRecursion (IsTrueUnder g v) (conjoined_predicates p) = subst (λ cs. AreTrue g v cs ↔ AllByRecursion (IsTrueUnder g v) (conjoined_predicates p)) (sym o.clauses) (then_says (once_says g v (clauses_of_conjuncts g [] 0 (conjoined_predicates p))) (conjuncts_say g [] v 0 (conjoined_predicates p) r reads)) in
-    (
+    let clauses : AreTrue g v s.clauses ↔ AllByRecursion (IsTrueUnder g v) (conjoined_predicates p) = subst (λ cs. AreTrue g v cs ↔ AllByRecursion (IsTrueUnder g v) (conjoined_predicates p)) (sym o.clauses) (then_says (once_says g v (clauses_of_conjuncts g [] 0 (conjoined_predicates p))) (conjuncts_say g [] v 0 (conjoined_predicates p) r reads)) in (
       (λ i. let d = conjunction_of g v p o.one u o.is_one i in record { term = subst (λ ts. IsInstanceOfOne g v ts u) o.is_one d.term ∙ sym term; clauses = clauses.1 d.predicates }),
       (λ i. met_of g v p o.one u o.is_one (record { term = subst (λ ts. IsInstanceOfOne g v ts u) (sym o.is_one) (i.term ∙ term); predicates = clauses.0 i.clauses })),
     )

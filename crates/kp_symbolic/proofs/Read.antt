@@ -1,21 +1,20 @@
 -- Verified predicates and what holds of their parts.
-use Rattle.std.proofs.Common.{◌≡◌, refl, sym, ◌∙◌, ap, Bool, true, false, not, ◌&&◌, ◌||◌, List, [], ◌∷◌, ◌++◌, Option, Some, None}
-use Rattle.std.specs.Prelude.{⊤}
+use Rattle.std.proofs.Common.{◌≡◌, refl, sym, ◌∙◌, Bool, true, false, not, ◌||◌, List, ◌++◌, Some, None}
 use Rattle.std.specs.List.{list_all, AllByRecursion}
 use Rattle.std.proofs.lemmas.List.Folds.{list_all-append}
-use Rattle.kp_kore.specs.Syntax.{KoreSort, KorePattern, KorePatterns, variable, set_variable, application, string_literal, literal, top, bottom, negation, next, conjunction, disjunction, implication, equivalence, rewriting, exists, forall, ceil, floor, equals, membership, mu, nu, no_patterns, next_pattern}
-use Rattle.kp_kore.specs.Parts.{SortedName, is_term, are_terms, free_variables, all_free_variables, subpatterns, all_subpatterns}
+use Rattle.kp_kore.specs.Syntax.{KoreSort, KorePattern, KorePatterns, negation, conjunction, disjunction, implication, equivalence, ceil, floor, equals, membership, no_patterns, next_pattern}
+use Rattle.kp_kore.specs.Parts.{SortedName, is_term, free_variables, all_free_variables, subpatterns}
 use Rattle.kp_kore.specs.Signature.{KoreSignature}
 use Rattle.kp_semantics.specs.Value.{HasSort}
 use Rattle.kp_semantics.specs.Instance.{Valuation, GivesSorts, is_predicate, are_predicates, is_conjoined_pair, conjuncts, all_conjuncts, instance}
 use Rattle.kp_semantics.specs.Foreign.{none_within, has_foreign_head}
 use Rattle.kp_semantics.specs.Sorted.{IsRegular}
 use Rattle.kp_semantics.proofs.InstanceLemmas.{first_true, second_true}
-use Rattle.kp_signature.specs.Places.{Place, own_sort, part_at, after}
-use Rattle.kp_signature.specs.Verify.{first_fault, members_fault, fault_at}
+use Rattle.kp_signature.specs.Places.{Place, part_at, after}
+use Rattle.kp_signature.specs.Verify.{first_fault, members_fault}
 use Rattle.kp_sorts.proofs.FaultLemmas.{nothing_earlier, nothing_later, term_has_wanted_sort}
 use Rattle.kp_sorts.proofs.SortedInstances.{none_among, none_in_first, none_in_others}
-use Rattle.kp_symbolic.specs.Terms.{SymbolicTerm, term_instance, term_variables, Replaced, replacement_for, under_replaced}
+use Rattle.kp_symbolic.specs.Terms.{term_instance, term_variables, Replaced, replacement_for, under_replaced}
 use Rattle.kp_symbolic.specs.States.{variables_for, AreGiven}
 use Rattle.kp_symbolic.specs.WellFormed.{IsWellSorted, AreWellPlaced}
 use Rattle.kp_symbolic.specs.Folding.{term_for, folded}

@@ -1,20 +1,15 @@
 -- Reading is a function: two readings of one pattern are equal. A state that is easy by itself is plain and within the limits.
-use Rattle.std.proofs.Common.{◌≡◌, refl, sym, ◌∙◌, ap, subst, arith, ℕ, suc, ◌+◌, ◌*◌, ◌^◌, ◌<◌, ◌≤◌, ℤ, pos, Bool, true, false, not, cond, ◌&&◌, ◌||◌, List, [], ◌∷◌, ◌++◌, map, length, Option, Some, None}
-use Rattle.std.specs.Prelude.{if◌then◌else◌, is_some, ⊤}
-use Rattle.std.specs.Bool.{beq}
-use Rattle.std.specs.List.{list_all, list_any, filter, flat_map, filter_map, AllByRecursion}
-use Rattle.std.specs.Str.{bytes_eq}
-use Rattle.std.proofs.lemmas.Slice.Eq.{bytes_eq-Decides}
-use Rattle.kp_kore.specs.Syntax.{Text, KorePattern}
+use Rattle.std.proofs.Common.{◌≡◌, refl, sym, ◌∙◌, subst, arith, ℕ, ◌+◌, ◌*◌, ◌^◌, ◌<◌, ◌≤◌, Bool, true, false, ◌||◌, List, [], ◌∷◌, length, Some, None}
+use Rattle.std.specs.Prelude.{is_some}
+use Rattle.std.specs.List.{list_all}
+use Rattle.kp_kore.specs.Syntax.{KorePattern}
 use Rattle.kp_kore.specs.Signature.{KoreSignature}
 use Rattle.kp_semantics.proofs.InstanceLemmas.{first_true, second_true}
-use Rattle.kp_symbolic.specs.States.{Literal, SymbolicState}
-use Rattle.kp_symbolic.specs.Solving.{Solvable, first_solvable, solved_at, Solving, finished, goes_on, IsReadAs}
-use Rattle.kp_symbolic.specs.Plain.{Form, ReadLiteral, has_form, is_plain_clause, IsPlainState, read_clauses}
-use Rattle.kp_symbolic.specs.Weights.{Weight, bits, literals, product, IsOver, numeric_names, all_bounds, IsWithinLimits}
-use Rattle.kp_symbolic.specs.Verdicts.{Verdict, IsRightVerdict, IsDecision}
+use Rattle.kp_symbolic.specs.States.{SymbolicState}
+use Rattle.kp_symbolic.specs.Solving.{solved_at, Solving, finished, goes_on, IsReadAs}
+use Rattle.kp_symbolic.specs.Plain.{ReadLiteral, is_plain_clause, IsPlainState, read_clauses}
+use Rattle.kp_symbolic.specs.Weights.{bits, literals, product, numeric_names, all_bounds, IsWithinLimits}
 use Rattle.kp_symbolic.specs.Shown.{IsEasy, RuleShape, is_plain_but, numeric_count}
-use Rattle.kp_symbolic.proofs.Exact.{plain_is_decided}
 
 some_inside : {A : Type 0} {a b : A} → Some a ≡ Some b → a ≡ b
 some_inside e = cc

@@ -1,10 +1,9 @@
 -- A state in which an equation is solved has the instances that it had, under valuations for which it is ready.
-use Rattle.std.proofs.Common.{◌≡◌, refl, sym, ◌∙◌, ap, subst, ℕ, zero, suc, ◌+◌, Bool, true, false, not, ◌&&◌, List, [], ◌∷◌, ◌++◌, map, length, Option, Some, None, ◌↔◌}
-use Rattle.std.specs.Prelude.{if◌then◌else◌, is_some, nat_le, ⊤}
+use Rattle.std.proofs.Common.{◌≡◌, refl, sym, ◌∙◌, subst, ℕ, zero, suc, ◌+◌, Bool, true, false, not, ◌&&◌, List, [], ◌∷◌, ◌++◌, map, length, Option, Some, None, ◌↔◌}
+use Rattle.std.specs.Prelude.{if◌then◌else◌, is_some, nat_le}
 use Rattle.std.specs.List.{AllByRecursion, flat_map}
 use Rattle.std.specs.Str.{bytes_eq}
 use Rattle.std.proofs.lemmas.List.{append_assoc}
-use Rattle.std.proofs.lemmas.Slice.Eq.{bytes_eq-Decides}
 use Rattle.kp_kore.specs.Syntax.{Text, KoreSort, KorePattern}
 use Rattle.kp_kore.specs.Parts.{SortedName, free_variables}
 use Rattle.kp_kore.specs.Signature.{KoreSignature}
@@ -12,13 +11,13 @@ use Rattle.kp_semantics.specs.Value.{Value, HasSort, head_of}
 use Rattle.kp_semantics.specs.Instance.{Valuation, GivesSorts, AgreesOn, is_named, IsTrueUnder}
 use Rattle.kp_semantics.specs.Sorted.{IsRegular}
 use Rattle.kp_semantics.proofs.TruthLemmas.{same_truth}
-use Rattle.kp_symbolic.specs.Terms.{SymbolicTerm, unknown, term_instance, term_variables, Replaced, replacement_for, under_replaced}
+use Rattle.kp_symbolic.specs.Terms.{SymbolicTerm, term_instance, term_variables, Replaced, replacement_for, under_replaced}
 use Rattle.kp_symbolic.specs.Formulas.{NoneHold}
-use Rattle.kp_symbolic.specs.States.{Atom, same, has_head, quoted, IsAtomTrue, PassesHead, Literal, IsLiteralTrue, IsClauseTrue, AreTrue, AreGiven, variables_for, atom_variables, clause_variables, SymbolicState, IsStateInstance}
-use Rattle.kp_symbolic.specs.WellFormed.{IsWellSorted, AreWellPlaced}
+use Rattle.kp_symbolic.specs.States.{Atom, same, has_head, quoted, IsAtomTrue, PassesHead, Literal, IsLiteralTrue, IsClauseTrue, AreTrue, AreGiven, variables_for, clause_variables, SymbolicState, IsStateInstance}
+use Rattle.kp_symbolic.specs.WellFormed.{IsWellSorted}
 use Rattle.kp_symbolic.specs.Folding.{term_for, replaced}
 use Rattle.kp_symbolic.specs.Opening.{literal_fact, opened_same, opened_test}
-use Rattle.kp_symbolic.specs.Clauses.{distributed, without_repeats, is_too_large}
+use Rattle.kp_symbolic.specs.Clauses.{distributed, is_too_large}
 use Rattle.kp_symbolic.specs.Writing.{IsSaid, written_clause}
 use Rattle.kp_symbolic.specs.Solving.{Equation, equation_of, replacement, replaced_after, opened_with, all_opened_with, is_single, opened_clause, solved_clause, literals_in, solved_clauses, Solvable, solvable_if, first_of_two, first_solvable_among, first_solvable, stands_elsewhere, most_solved, solved_at, IsReadyAtom}
 use Rattle.kp_symbolic.proofs.Distribution.{all_both, all_first, all_second}
@@ -246,8 +245,7 @@ solved_clauses_say g v s o r q h =
     let ds = solved_clauses g s.sort e 0 (Some o.place) s.clauses in
     let f = found_in g s o q in
     let c = ready_at (AreReady g v s.sort e) o.place s.clauses f.clause h f.stands in
-    let met : IsClauseTrue g v f.clause → IsMet g v e = λ t. met_clause g v f.clause e r (λ l i. let k = first_ready g v s.sort e f.clause l c i in (k.sorted, k.gives)) t f.gives in
-    (
+    let met : IsClauseTrue g v f.clause → IsMet g v e = λ t. met_clause g v f.clause e r (λ l i. let k = first_ready g v s.sort e f.clause l c i in (k.sorted, k.gives)) t f.gives in (
       (λ a. let m = met (true_at g v o.place s.clauses f.clause a f.stands) in (m, (once_says g v ds).1 ((clauses_solved g v s.sort e 0 (Some o.place) s.clauses r m h).1 a))),
       (λ a. let b = (once_says g v ds).0 a in let m = met (kept_at g v s.sort e 0 o.place s.clauses f.clause b f.stands) in (m, (clauses_solved g v s.sort e 0 (Some o.place) s.clauses r m h).0 b)),
     )
@@ -256,8 +254,7 @@ pub solved_instance : (g : KoreSignature) (v : Valuation) (s : SymbolicState) (o
     → IsStateInstance g v s u ↔ IsStateInstance g v (solved_at g o s) u
 solved_instance g v s o u r q h w a =
     let k = solved_clauses_say g v s o r q h in
-    let is : IsMet g v o.equation → term_instance g v (replaced g (replacement o.equation) s.term) ≡ term_instance g v s.term = λ m. solved_term_is g v o.equation.variable.name o.equation.term s.term r (sorted_written g s.sort s.term w) a m in
-    (
+    let is : IsMet g v o.equation → term_instance g v (replaced g (replacement o.equation) s.term) ≡ term_instance g v s.term = λ m. solved_term_is g v o.equation.variable.name o.equation.term s.term r (sorted_written g s.sort s.term w) a m in (
       (λ i. let j = k.0 i.clauses in record { term = i.term ∙ sym (is j.0); clauses = j.1 }),
       (λ i. let j = k.1 i.clauses in record { term = i.term ∙ is j.0; clauses = j.1 }),
     )

@@ -1,9 +1,8 @@
 -- A folded term is well-sorted, and so is one with terms in the place of its variables.
-use Rattle.std.proofs.Common.{◌≡◌, refl, sym, ◌∙◌, ap, subst, ◌⊎◌, inl, inr, ℤ, pos, negsuc, neg_ℤ, ◌+ℤ◌, ℕ, ◌+◌, ◌-◌, ◌^◌, ◌<◌, ◌≤◌, Bool, true, false, not, ◌&&◌, ◌||◌, cond, List, [], length, Option, Some, None, nat_le, arith}
+use Rattle.std.proofs.Common.{◌≡◌, refl, sym, ◌∙◌, ap, subst, ◌⊎◌, inl, inr, ℤ, pos, negsuc, neg_ℤ, ◌+ℤ◌, ℕ, ◌+◌, ◌-◌, ◌^◌, ◌<◌, ◌≤◌, Bool, true, false, not, ◌&&◌, ◌||◌, cond, List, length, Option, Some, None, nat_le, arith}
 use Rattle.std.specs.Prelude.{if◌then◌else◌, is_some, int_lt, FitsSigned, ◌==◌, codes}
 use Rattle.std.specs.Int.{w128}
 use Rattle.std.specs.Ordering.{int_eq}
-use Rattle.std.specs.List.{list_all, AllByRecursion}
 use Rattle.std.specs.Str.{bytes_eq}
 use Rattle.std.specs.Str.Parse.{signed_digits_value}
 use Rattle.std.proofs.lemmas.Bool.{leb-true}
@@ -20,8 +19,8 @@ use Rattle.kp_semantics.specs.Foreign.{none_within, has_foreign_head, is_foreign
 use Rattle.kp_semantics.specs.Replies.{is_wide_value}
 use Rattle.kp_semantics.specs.Sorted.{IsRegular}
 use Rattle.kp_semantics.proofs.InstanceLemmas.{first_true, second_true}
-use Rattle.kp_signature.specs.Places.{Place, own_sort, Profile, profile_of, argument_sorts, argument_at, after, is_below}
-use Rattle.kp_signature.specs.Verify.{VerifyFault, first_fault, fault_at, arguments_fault, fault_unless, symbol_fault, injection_fault, wrong_number, sort_differs, fits_in_128_bits}
+use Rattle.kp_signature.specs.Places.{Place, own_sort, Profile, argument_sorts, argument_at, after, is_below}
+use Rattle.kp_signature.specs.Verify.{VerifyFault, first_fault, fault_at, arguments_fault, fault_unless, symbol_fault, injection_fault, wrong_number, sort_differs}
 use Rattle.kp_signature.proofs.Applied.{of_profile}
 use Rattle.kp_signature.proofs.Below.{is_below-Decides}
 use Rattle.kp_sorts.proofs.FaultLemmas.{nothing_earlier, nothing_later, keeps_rules, no_fault_unless, term_has_wanted_sort}

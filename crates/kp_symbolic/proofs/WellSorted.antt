@@ -1,19 +1,19 @@
 -- A well-sorted term's instance has its sort, and so have the arguments of each symbol in it.
-use Rattle.std.proofs.Common.{◌≡◌, refl, sym, ◌∙◌, ap, subst, ℤ, ◌+ℤ◌, Bool, true, false, not, ◌&&◌, cond, [], Option, Some, None, List, ◌∷◌, length}
+use Rattle.std.proofs.Common.{◌≡◌, refl, sym, ◌∙◌, ap, subst, ◌+ℤ◌, Bool, true, false, not, ◌&&◌, [], Option, Some, None, List, ◌∷◌, length}
 use Rattle.std.specs.Prelude.{◌==◌, codes}
 use Rattle.std.proofs.lemmas.Bool.Decides.{Decides-eqb}
 use Rattle.kp_kore.specs.Syntax.{Text, KoreSort, KoreSorts, no_sorts, next_sort, SymbolDeclaration, AliasDeclaration}
 use Rattle.kp_kore.specs.Attributes.{has_mark}
 use Rattle.kp_kore.specs.Hooks.{Hook, addition, whole_arithmetic}
-use Rattle.kp_kore.specs.Signature.{KoreSignature, SymbolMeaning, injection, construction, interpretation, foreign, meaning_of, symbol_meaning, symbol_declared, alias_declared, is_injection, is_constructor, is_plain, has_equations, fitting_hook, integer_sort, IsBelow, itself}
+use Rattle.kp_kore.specs.Signature.{KoreSignature, SymbolMeaning, injection, construction, interpretation, foreign, meaning_of, symbol_declared, alias_declared, is_injection, is_constructor, is_plain, has_equations, fitting_hook, IsBelow, itself}
 use Rattle.kp_kore.specs.Sorting.{at_arguments, all_at_arguments, result_sort}
-use Rattle.kp_semantics.specs.Value.{Value, whole, Values, HasSort, HaveSorts}
+use Rattle.kp_semantics.specs.Value.{whole, Values, HasSort, HaveSorts}
 use Rattle.kp_semantics.specs.Forms.{two}
 use Rattle.kp_semantics.specs.Interpretation.{interpreted}
 use Rattle.kp_semantics.specs.Instance.{Valuation, GivesSorts, applied}
 use Rattle.kp_semantics.specs.Sorted.{IsRegular}
 use Rattle.kp_semantics.proofs.InstanceLemmas.{first_true}
-use Rattle.kp_signature.specs.Places.{Profile, profile_of, argument_sorts}
+use Rattle.kp_signature.specs.Places.{Profile, argument_sorts}
 use Rattle.kp_signature.proofs.Below.{onwards}
 use Rattle.kp_sorts.proofs.SortLemmas.{has_sort_above, at_no_arguments, all_at_no_arguments}
 use Rattle.kp_sorts.proofs.CallLemmas.{call_is_sorted}

@@ -1,17 +1,17 @@
 -- What is written for a term has its instance; what is written for a clause says what the clause says, where what is written for its atoms does.
-use Rattle.std.proofs.Common.{◌≡◌, refl, sym, ◌∙◌, ap, ap₂, subst, ◌⊎◌, inl, inr, ℤ, pos, neg_ℤ, Bool, true, false, not, ◌&&◌, List, [], ◌∷◌, ◌++◌, Option, Some, None, ◌↔◌}
-use Rattle.std.specs.Prelude.{if◌then◌else◌, is_some, int_lt, IsTrue, FitsSigned, unwrap_or, ⊤, MatchBool}
+use Rattle.std.proofs.Common.{◌≡◌, refl, sym, ◌∙◌, ap, ap₂, subst, inl, inr, ℤ, pos, neg_ℤ, Bool, true, false, not, ◌&&◌, List, [], ◌∷◌, ◌++◌, Option, Some, None, ◌↔◌}
+use Rattle.std.specs.Prelude.{if◌then◌else◌, is_some, int_lt, FitsSigned, unwrap_or, MatchBool}
 use Rattle.std.specs.Int.{w128}
 use Rattle.std.specs.List.{list_all, AllByRecursion}
 use Rattle.std.specs.Fmt.{signed_decimal}
 use Rattle.std.proofs.lemmas.List.Folds.{list_all-append}
-use Rattle.kp_kore.specs.Syntax.{Text, KoreSort, KoreSorts, no_sorts, next_sort, KorePattern, KorePatterns, variable, application, literal, bottom, negation, disjunction, equals, no_patterns, next_pattern}
+use Rattle.kp_kore.specs.Syntax.{Text, KoreSort, KoreSorts, no_sorts, next_sort, KorePattern, variable, application, literal}
 use Rattle.kp_kore.specs.Attributes.{sorts_equal}
 use Rattle.kp_kore.specs.Hooks.{Arithmetic, addition, subtraction, whole_arithmetic}
 use Rattle.kp_kore.specs.Parts.{SortedName, subpatterns, all_subpatterns}
-use Rattle.kp_kore.specs.Signature.{KoreSignature, injection, interpretation, meaning_of, integer_sort, itself}
+use Rattle.kp_kore.specs.Signature.{KoreSignature, interpretation, meaning_of, integer_sort, itself}
 use Rattle.kp_kore.specs.Sorting.{result_sort}
-use Rattle.kp_semantics.specs.Value.{Value, whole, Values, no_values, next_value}
+use Rattle.kp_semantics.specs.Value.{Value, whole, no_values, next_value}
 use Rattle.kp_semantics.specs.Forms.{two}
 use Rattle.kp_semantics.specs.Interpretation.{interpreted}
 use Rattle.kp_semantics.specs.Instance.{Valuation, instance, instances, applied, literal_value, IsTrueUnder, NoneTrueUnder, AllTrueUnder}
@@ -25,7 +25,7 @@ use Rattle.kp_symbolic.specs.Terms.{SymbolicTerm, unknown, offset, known, headed
 use Rattle.kp_symbolic.specs.WellFormed.{IsWellSorted, AreWellSorted}
 use Rattle.kp_symbolic.specs.Folding.{least_symbol}
 use Rattle.kp_symbolic.specs.States.{Atom, same, has_head, quoted, IsAtomTrue, Literal, IsLiteralTrue, IsClauseTrue, AreTrue}
-use Rattle.kp_symbolic.specs.Writing.{written_call, written_sum, written_term, written_terms, written_atom, IsSaid, written_signed, written_literal, is_solved_by, is_second_solved, turned_if, variable_first, written_literals, written_clause, written_clauses}
+use Rattle.kp_symbolic.specs.Writing.{written_call, written_sum, written_term, written_terms, written_atom, IsSaid, written_signed, written_literal, is_solved_by, is_second_solved, turned_if, written_literals, written_clause, written_clauses}
 use Rattle.kp_symbolic.proofs.Stable.{stable_literal}
 use Rattle.kp_symbolic.proofs.Replacing.{least_is, taken_away}
 use Rattle.kp_symbolic.proofs.SortedFolding.{fits_signed}

@@ -1,13 +1,13 @@
 -- Whole states over the example definition, the patterns that they are read from, and those that are written for them.
-use Rattle.std.specs.Prelude.{pos, negsuc, Bool, true, false, List, [], ◌∷◌, codes}
-use Rattle.kp_kore.specs.Syntax.{KorePattern, variable, negation, conjunction, equals}
+use Rattle.std.specs.Prelude.{pos, negsuc, true, false, List, [], ◌∷◌, codes}
+use Rattle.kp_kore.specs.Syntax.{KorePattern, negation, conjunction, equals}
 use Rattle.kp_kore.specs.Parts.{SortedName}
-use Rattle.kp_semantics.specs.Value.{Values, no_values, next_value, constructed}
-use Rattle.kp_toys.specs.Toys.{sort_int, sort_s, sort_p, sort_e, patterns, call, integer, injected}
+use Rattle.kp_semantics.specs.Value.{no_values, next_value, constructed}
+use Rattle.kp_toys.specs.Toys.{sort_s, sort_e, patterns, call, integer, injected}
 use Rattle.kp_toys.specs.ToysTheory.{count_of, done}
 use Rattle.kp_symbolic.specs.Terms.{SymbolicTerm, unknown, offset, known, headed}
 use Rattle.kp_symbolic.specs.States.{Literal, SymbolicState}
-use Rattle.kp_symbolic.specs.Examples.{x_name, p_name, q_name, of_name, x, test, above, alone, one_term, equality, is_pa, is_above, three_less_one, less_one}
+use Rattle.kp_symbolic.specs.Examples.{x_name, p_name, q_name, of_name, x, test, above, alone, one_term, is_pa, is_above, three_less_one, less_one}
 use Rattle.kp_symbolic.specs.Weighing.{x_to, is_zero, square_below, square_predicate, pa_literal, fresh_one, q_fresh}
 
 abbrev pub with_members : List KorePattern → KorePattern
