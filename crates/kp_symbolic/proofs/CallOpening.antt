@@ -138,7 +138,7 @@ hooked None = foreign
 abbrev meaning_by_tests : Bool → Bool → Bool → Option Hook → SymbolMeaning
 meaning_by_tests i c p o = cond i injection (cond c construction (cond p (hooked o) foreign))
 
-an_interpretation : (i c p : Bool) (o : Option Hook) (h : Hook) → meaning_by_tests i c p o ≡ interpretation h → o ≡ Some h
+pub an_interpretation : (i c p : Bool) (o : Option Hook) (h : Hook) → meaning_by_tests i c p o ≡ interpretation h → o ≡ Some h
 an_interpretation true c p o h e = absurd (cc)
 an_interpretation false true p o h e = absurd (cc)
 an_interpretation false false true (Some k) h e = cc
@@ -148,7 +148,7 @@ an_interpretation false false false o h e = absurd (cc)
 abbrev keep_fitting : KoreSignature → SymbolDeclaration → Hook → Option Hook
 keep_fitting g d k = cond (fits_hook g k d.arguments d.result) (Some k) None
 
-it_fits : (g : KoreSignature) (d : SymbolDeclaration) (h : Hook) → fitting_hook g d ≡ Some h → fits_hook g h d.arguments d.result ≡ true
+pub it_fits : (g : KoreSignature) (d : SymbolDeclaration) (h : Hook) → fitting_hook g d ≡ Some h → fits_hook g h d.arguments d.result ≡ true
 it_fits g d h e = by (option_and_then hook_named (text_of (codes "hook") d.attributes)) e
   where
     kept : (k : Hook) (b : Bool) → fits_hook g k d.arguments d.result ≡ b → cond b (Some k) None ≡ Some h → fits_hook g h d.arguments d.result ≡ true
@@ -159,14 +159,14 @@ it_fits g d h e = by (option_and_then hook_named (text_of (codes "hook") d.attri
     by (Some k) e = kept k (fits_hook g k d.arguments d.result) refl e
     by None e = absurd (cc)
 
-abbrev meaning_by : KoreSignature → Option SymbolDeclaration → SymbolMeaning
+abbrev pub meaning_by : KoreSignature → Option SymbolDeclaration → SymbolMeaning
 meaning_by g (Some d) = symbol_meaning g d
 meaning_by g None = foreign
 
-abbrev Fits : KoreSignature → Hook → KoreSorts → Type 0
+abbrev pub Fits : KoreSignature → Hook → KoreSorts → Type 0
 Fits g h ss = (result : KoreSort) × (fits_hook g h ss result ≡ true)
 
-fits_places : (g : KoreSignature) (f : Text) (h : Hook) → meaning_of g f ≡ interpretation h → Fits g h (places_of g f)
+pub fits_places : (g : KoreSignature) (f : Text) (h : Hook) → meaning_of g f ≡ interpretation h → Fits g h (places_of g f)
 fits_places g f h m = by (symbol_declared g f) refl
   where
     by : (o : Option SymbolDeclaration) → symbol_declared g f ≡ o → Fits g h (places_of g f)

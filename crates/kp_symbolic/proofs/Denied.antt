@@ -40,7 +40,7 @@ denied_says g v cs s = let i = none_denied g v cs s in ((λ h k. h (i.1 k)), (λ
 
 -- ---- literals that are opened again
 
-head_literal : (g : KoreSignature) (v : Valuation) (b : Bool) (x : SortedName) (test : HeadTest) (o : Option Bool) → ((c : Bool) → o ≡ Some c → passes_head g test (head_of (v x.name)) ≡ c) → Says g v b (fixed_or o b (literal_fact b (has_head x test))) (¬ ¬ PassesHead g test (head_of (v x.name)))
+pub head_literal : (g : KoreSignature) (v : Valuation) (b : Bool) (x : SortedName) (test : HeadTest) (o : Option Bool) → ((c : Bool) → o ≡ Some c → passes_head g test (head_of (v x.name)) ≡ c) → Says g v b (fixed_or o b (literal_fact b (has_head x test))) (¬ ¬ PassesHead g test (head_of (v x.name)))
 head_literal g v b x test (Some c) a = decided_says g v b c (¬ ¬ PassesHead g test (head_of (v x.name)))
     (λ e n. n ((passes-Decides g test (head_of (v x.name))).0 (a c refl ∙ e)))
     (λ e n. n (λ p. absurd (false_true (sym (a c refl ∙ e) ∙ (passes-Decides g test (head_of (v x.name))).1 p))))

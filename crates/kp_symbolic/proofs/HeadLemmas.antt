@@ -58,10 +58,10 @@ is_head-Decides g s h = by (sort_of_head g h) refl
 
 -- ---- all heads of a sort are among those that are listed
 
-abbrev Among : {X : Type 0} → X → List X → Type 0
+abbrev pub Among : {X : Type 0} → X → List X → Type 0
 Among x xs = AnyByRecursion (λ y. y ≡ x) xs
 
-contained : {X : Type 0} (xs : List X) (x : X) (k : ℕ) → k < length xs → slice_index_or xs k x ≡ x → Among x xs
+pub contained : {X : Type 0} (xs : List X) (x : X) (k : ℕ) → k < length xs → slice_index_or xs k x ≡ x → Among x xs
 contained [] x k l e = absurd (omega arith)
 contained (y ∷ xs) x zero l e = inl e
 contained (y ∷ xs) x (suc k) l e = inr (contained xs x k (omega arith) e)

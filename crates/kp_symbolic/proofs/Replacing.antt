@@ -42,13 +42,13 @@ least_step : (P : Text → Type 0) (b : Bool) (x f : Text) (o : Option Text) →
 least_step P true x f o p q e = let n : least_of x o ≡ f = cc in subst P n (least_has P x o (p refl) q)
 least_step P false x f o p q e = q f e
 
-least_is : (g : KoreSignature) (a : Arithmetic) (ds : List SymbolDeclaration) (f : Text) → least_symbol_among g a ds ≡ Some f → meaning_of g f ≡ interpretation (whole_arithmetic a)
+pub least_is : (g : KoreSignature) (a : Arithmetic) (ds : List SymbolDeclaration) (f : Text) → least_symbol_among g a ds ≡ Some f → meaning_of g f ≡ interpretation (whole_arithmetic a)
 least_is g a [] f e = absurd (cc)
 least_is g a (d ∷ ds) f e = least_step (λ x. meaning_of g x ≡ interpretation (whole_arithmetic a)) (is_arithmetic a (meaning_of g d.name)) d.name f (least_symbol_among g a ds) (arithmetic_meant a (meaning_of g d.name)) (least_is g a ds) e
 
 -- ---- sums
 
-taken_away : (u : Value) (c : ℤ) → interpreted (whole_arithmetic subtraction) (two u (whole (neg_ℤ c))) ≡ interpreted (whole_arithmetic addition) (two u (whole c))
+pub taken_away : (u : Value) (c : ℤ) → interpreted (whole_arithmetic subtraction) (two u (whole (neg_ℤ c))) ≡ interpreted (whole_arithmetic addition) (two u (whole c))
 taken_away (whole n) c = ap (λ m. whole (n +ℤ m)) (neg_ℤ-neg_ℤ c)
 taken_away (truth b) c = refl
 taken_away (token s x) c = refl
@@ -118,7 +118,7 @@ mutual
   same_terms g v w no_terms e = refl
   same_terms g v w (next_term t ts) e = ap₂ next_value (same_term g v w t e) (same_terms g v w ts e)
 
-one_replaced : (g : KoreSignature) (v : Valuation) (x : Text) (t : SymbolicTerm) → v x ≡ term_instance g v t → (y : Text) → under_replaced g (record { name = x; term = t } ∷ []) v y ≡ v y
+pub one_replaced : (g : KoreSignature) (v : Valuation) (x : Text) (t : SymbolicTerm) → v x ≡ term_instance g v t → (y : Text) → under_replaced g (record { name = x; term = t } ∷ []) v y ≡ v y
 one_replaced g v x t e y = by (bytes_eq x y) refl
   where
     by : (b : Bool) → bytes_eq x y ≡ b → under_replaced g (record { name = x; term = t } ∷ []) v y ≡ v y

@@ -77,8 +77,13 @@ IsSure t b r = (k : ℕ) (q : SymbolicRule) (put : List Replaced) → rule_besid
     with_put : List Replaced → Situation
     with_put put = record { hand = b.hand; state = b.state; rules = b.rules; put = put; not_given = b.not_given; lefts = b.lefts }
 
--- a rule is met but for what isn't plain, and no sure rule of a smaller priority number fires there
+abbrev pub IsReadRule : RuleBody → Type 0
+IsReadRule (rewrite r) = ⊤
+IsReadRule (foreign_rule l) = ⊥
+
+-- a rule that is read is met but for what isn't plain, and no sure rule of a smaller priority number fires there
 pub record IsRuleAsked (t : Theory) (b : Situation) (v : Valuation) (u : RuleUse) : Type 0 where
+  pub is_read : IsReadRule u.rule.body
   pub met : IsMetButRough t.signature b v u.beside
   pub none_before : AllByRecursion (λ r. r.priority < u.rule.priority → IsSure t b r → ¬ Fires t.signature r.body (term_instance t.signature v b.state.term)) t.rules
 

@@ -7,6 +7,7 @@ pub mod Formulas
 pub mod Heads
 pub mod Opening
 pub mod Plain
+pub mod Rows
 pub mod Shown
 pub mod Solving
 pub mod Sources

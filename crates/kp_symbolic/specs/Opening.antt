@@ -71,6 +71,19 @@ abbrev mutual
   all_opened leaf alone b no_patterns = no_formulas
   all_opened leaf alone b (next_pattern p ps) = next_formula (opened leaf alone b p) (all_opened leaf alone b ps)
 
+-- what is left to the leaf: no connectives, and of \ceil and \floor those of terms alone
+abbrev pub is_left : KorePattern → Bool
+is_left (top s) = false
+is_left (bottom s) = false
+is_left (negation s p) = false
+is_left (conjunction s ps) = false
+is_left (disjunction s ps) = false
+is_left (implication s p q) = false
+is_left (equivalence s p q) = false
+is_left (ceil a s p) = is_term p || is_conjoined_pair p
+is_left (floor a s p) = is_term p
+is_left p = true
+
 -- ---- what an equality and a Boolean expression open to
 
 -- the truth sort; where there is none, no expression is Boolean

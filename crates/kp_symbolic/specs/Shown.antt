@@ -15,7 +15,7 @@ use Rattle.kp_semantics.specs.Steps.{AnyByRecursion}
 use Rattle.kp_symbolic.specs.Terms.{term_instance, SymbolicTerm, unknown, known, headed, no_terms, next_term, Replaced}
 use Rattle.kp_symbolic.specs.Formulas.{one_of, Formulas, no_formulas, next_formula}
 use Rattle.kp_symbolic.specs.States.{Atom, same, atom_variables, Literal, IsClauseTrue, AreTrue, SymbolicState}
-use Rattle.kp_symbolic.specs.WellFormed.{term_sort}
+use Rattle.kp_symbolic.specs.WellFormed.{term_sort, IsPlaced}
 use Rattle.kp_symbolic.specs.Folding.{replaced}
 use Rattle.kp_symbolic.specs.Opening.{opened_same}
 use Rattle.kp_symbolic.specs.Clauses.{clauses_of_conjuncts, distributed}
@@ -245,12 +245,12 @@ pub record IsHeavyPredicate (g : KoreSignature) (b : Situation) (rules : List Ru
   pub is_told : told ≡ min number most_told
   pub owed : IsOwed g b rules w (map (read_alone g) cs)
 
--- the depth of a term that is written for a sourced part
+-- the depth of a term that is written for a sourced part, at its own sort or under inj at one above
 pub record IsDepthOfPart (g : KoreSignature) (b : Situation) (n : ℕ) : Type 0 where
   pub part : SymbolicTerm
   pub sourced : IsSourcedPart g b.state b.rules b.put part
   pub sort : KoreSort
-  pub own : term_sort g part ≡ Some sort
+  pub placed : IsPlaced g sort part
   pub is_depth : n ≡ term_depth (written_term g sort part)
 
 abbrev pub IsShown : KoreSignature → Situation → List RuleShape → (Valuation → Type 0) → Undecided → Type 0

@@ -9,17 +9,16 @@ use Rattle.kp_kore.specs.Hooks.{equal, different, whole_comparison, values_equal
 use Rattle.kp_kore.specs.Parts.{SortedName, free_variables}
 use Rattle.kp_kore.specs.Signature.{KoreSignature, SymbolMeaning, interpretation, meaning_of}
 use Rattle.kp_kore.specs.Sorting.{sort_of_term}
-use Rattle.kp_signature.specs.Places.{is_below}
 use Rattle.kp_semantics.specs.Value.{truth}
-use Rattle.kp_semantics.specs.Instance.{is_named, conjoined_terms, conjoined_predicates}
+use Rattle.kp_semantics.specs.Instance.{Valuation, GivesSorts, is_named, conjoined_terms, conjoined_predicates}
 use Rattle.kp_symbolic.specs.Terms.{SymbolicTerm, unknown, known, headed, no_terms, next_term, term_variables, Replaced, replacement_for}
 use Rattle.kp_symbolic.specs.Formulas.{Formula, one_of, Formulas, no_formulas, next_formula}
-use Rattle.kp_symbolic.specs.States.{Atom, same, has_head, quoted, Literal, clause_variables, SymbolicState}
-use Rattle.kp_symbolic.specs.WellFormed.{term_sort}
+use Rattle.kp_symbolic.specs.States.{Atom, same, has_head, quoted, Literal, atom_variables, AreGiven, clause_variables, SymbolicState}
+use Rattle.kp_symbolic.specs.WellFormed.{IsWellSortedAtom, AreWellPlaced}
 use Rattle.kp_symbolic.specs.Folding.{is_text_before, folded, replaced}
 use Rattle.kp_symbolic.specs.Opening.{literal_fact, opened_same, opened_test}
 use Rattle.kp_symbolic.specs.Clauses.{distributed, without_repeats, is_too_large, clauses_of_conjuncts, denied}
-use Rattle.kp_symbolic.specs.Writing.{written_clause, written_clauses}
+use Rattle.kp_symbolic.specs.Writing.{is_solved_by, IsSaid, written_clause, written_clauses}
 
 -- ---- equations
 
@@ -28,14 +27,9 @@ pub record Equation : Type 0 where
   pub variable : SortedName
   pub term : SymbolicTerm
 
--- the term's own sort is the other's or below it
-abbrev pub is_sort_below : KoreSignature → Option KoreSort → KoreSort → Bool
-is_sort_below g (Some a) b = is_below g.subsorts a b
-is_sort_below g None b = false
-
 -- of a variable with a term that doesn't hold it, of the variable's sort
 abbrev pub equation_if : KoreSignature → SortedName → SymbolicTerm → Option Equation
-equation_if g x t = if not (is_named x.name (term_variables t)) && is_sort_below g (term_sort g t) x.sort then Some (record { variable = x; term = t }) else None
+equation_if g x t = if is_solved_by g x t then Some (record { variable = x; term = t }) else None
 
 abbrev pub first_equation : Option Equation → Option Equation → Option Equation
 first_equation (Some e) o = Some e
@@ -158,6 +152,15 @@ solved_at g o s = record {
   clauses = without_repeats (solved_clauses g s.sort o.equation 0 (Some o.place) s.clauses);
   variables = s.variables;
 }
+
+-- under a valuation, an atom in which the equation's term may stand for its variable: all its variables have values of their
+-- sorts, before and after, it is well-sorted, and what is written for it says what it says
+pub record IsReadyAtom (g : KoreSignature) (v : Valuation) (sort : KoreSort) (e : Equation) (a : Atom) : Type 0 where
+  pub sorted : IsWellSortedAtom g a
+  pub gives : GivesSorts g v (atom_variables a)
+  pub placed : AreWellPlaced g (replacement e) (atom_variables a)
+  pub given : AreGiven g (replacement e) v (atom_variables a)
+  pub said : IsSaid g v sort a
 
 -- the first equation that can be solved is, until none can
 pub data Solving (g : KoreSignature) : SymbolicState → SymbolicState → Type 0 where

@@ -1,18 +1,22 @@
 -- The patterns that replies write for symbolic terms, clauses and states, up to the order of clauses and literals.
 -- Source: the K framework's Kore language; the normal form is this project's.
-use Rattle.std.specs.Prelude.{ℕ, zero, suc, ℤ, pos, neg_ℤ, int_lt, Bool, true, List, [], ◌∷◌, ◌++◌, map, length, Option, Some, None, unwrap_or, if◌then◌else◌, codes}
+use Rattle.std.specs.Prelude.{◌≡◌, ◌⊎◌, ◌↔◌, IsTrue, ℕ, zero, suc, ℤ, pos, neg_ℤ, int_lt, Bool, true, not, ◌&&◌, List, [], ◌∷◌, ◌++◌, map, length, Option, Some, None, unwrap_or, if◌then◌else◌, codes}
 use Rattle.std.specs.List.{flat_map, list_any}
 use Rattle.std.specs.Fmt.{decimal, signed_decimal}
 use Rattle.std.specs.Str.{bytes_eq}
 use Rattle.kp_kore.specs.Syntax.{Text, KoreSort, sort_variable, KoreSorts, no_sorts, next_sort, KorePattern, KorePatterns, variable, application, literal, bottom, negation, conjunction, disjunction, implication, equivalence, exists, forall, ceil, floor, equals, membership, no_patterns, next_pattern}
+use Rattle.kp_kore.specs.Attributes.{sorts_equal}
 use Rattle.kp_kore.specs.Hooks.{addition, subtraction}
 use Rattle.kp_kore.specs.Parts.{SortedName, free_variables, without_name, variable_names}
-use Rattle.kp_kore.specs.Signature.{KoreSignature}
+use Rattle.kp_kore.specs.Signature.{KoreSignature, injection, meaning_of}
 use Rattle.kp_kore.specs.Sorting.{result_sort}
-use Rattle.kp_states.specs.Spelled.{placed, places_of, spelling}
-use Rattle.kp_symbolic.specs.Terms.{SymbolicTerm, unknown, offset, known, headed, SymbolicTerms, next_term, Replaced, replacement_for}
+use Rattle.kp_semantics.specs.Instance.{Valuation, is_named, IsTrueUnder}
+use Rattle.kp_semantics.specs.Foreign.{none_within}
+use Rattle.kp_states.specs.Spelled.{placed, places_of, spelling, injection_name, has_two_sorts}
+use Rattle.kp_symbolic.specs.Terms.{SymbolicTerm, unknown, offset, known, headed, SymbolicTerms, next_term, term_variables, Replaced, replacement_for}
+use Rattle.kp_symbolic.specs.WellFormed.{term_sort, is_sort_below}
 use Rattle.kp_symbolic.specs.Folding.{is_text_before, least_symbol, folded}
-use Rattle.kp_symbolic.specs.States.{HeadTest, one_head, head_of_sort, Atom, same, has_head, quoted, Literal, variables_for, SymbolicState}
+use Rattle.kp_symbolic.specs.States.{HeadTest, one_head, head_of_sort, Atom, same, has_head, quoted, IsAtomTrue, Literal, variables_for, SymbolicState}
 
 -- ---- terms
 
@@ -35,6 +39,10 @@ abbrev mutual
   pub written_terms : KoreSignature → KoreSorts → SymbolicTerms → KorePatterns
   written_terms g (next_sort s ss) (next_term t ts) = next_pattern (written_term g s t) (written_terms g ss ts)
   written_terms g _ _ = no_patterns
+
+-- inj is what it should be, or no symbol at two sorts stands in the pattern
+abbrev pub InjectsWhereItStands : KoreSignature → KorePattern → Type 0
+InjectsWhereItStands g p = (meaning_of g injection_name ≡ injection) ⊎ IsTrue (none_within has_two_sorts p)
 
 -- ---- new names
 
@@ -119,19 +127,35 @@ written_atom g sort (same s t u) = equals s sort (written_term g s t) (written_t
 written_atom g sort (has_head x test) = written_test g sort x test
 written_atom g sort (quoted p rs) = written_under g rs p
 
+-- under a valuation, what is written for the atom says what it says
+abbrev pub IsSaid : KoreSignature → Valuation → KoreSort → Atom → Type 0
+IsSaid g v sort a = IsTrueUnder g v (written_atom g sort a) ↔ IsAtomTrue g v a
+
 abbrev pub written_signed : KoreSort → Bool → KorePattern → KorePattern
 written_signed sort b p = if b then p else negation sort p
 
 abbrev pub written_literal : KoreSignature → KoreSort → Literal → KorePattern
 written_literal g sort l = written_signed sort l.holds (written_atom g sort l.atom)
 
--- in a clause of its own, what is equal to a variable stands behind it
-abbrev pub variable_first : Literal → Literal
-variable_first l = of_atom l.holds l.atom
+-- a variable may be solved for by a term that doesn't hold it, whose own sort is the variable's or below it
+abbrev pub is_solved_by : KoreSignature → SortedName → SymbolicTerm → Bool
+is_solved_by g x t = not (is_named x.name (term_variables t)) && is_sort_below g (term_sort g t) x.sort
+
+-- whether the second of two variables is the one that is solved for: of one sort the least by name, of two the one of the
+-- higher
+abbrev pub is_second_solved : KoreSignature → SortedName → SortedName → Bool
+is_second_solved g x y = if sorts_equal x.sort y.sort then is_text_before y.name x.name else not (is_solved_by g x (unknown y)) && is_solved_by g y (unknown x)
+
+abbrev pub turned_if : Bool → KoreSort → SymbolicTerm → SymbolicTerm → Atom
+turned_if b s t u = if b then same s u t else same s t u
+
+-- in a clause of its own, an equation has the variable first that is solved for
+abbrev pub variable_first : KoreSignature → Literal → Literal
+variable_first g l = of_atom l.holds l.atom
   where
     of_atom : Bool → Atom → Literal
-    of_atom true (same s (unknown x) (unknown y)) = record { holds = true; atom = if is_text_before y.name x.name then same s (unknown y) (unknown x) else same s (unknown x) (unknown y) }
-    of_atom true (same s t (unknown y)) = record { holds = true; atom = same s (unknown y) t }
+    of_atom true (same s (unknown x) (unknown y)) = record { holds = true; atom = turned_if (is_second_solved g x y) s (unknown x) (unknown y) }
+    of_atom true (same s t (unknown y)) = record { holds = true; atom = turned_if (is_solved_by g y t) s t (unknown y) }
     of_atom b a = record { holds = b; atom = a }
 
 -- \or of several literals
@@ -141,7 +165,7 @@ written_literals g sort (l ∷ c) = next_pattern (written_literal g sort l) (wri
 
 abbrev pub written_clause : KoreSignature → KoreSort → List Literal → KorePattern
 written_clause g sort [] = bottom sort
-written_clause g sort (l ∷ []) = written_literal g sort (variable_first l)
+written_clause g sort (l ∷ []) = written_literal g sort (variable_first g l)
 written_clause g sort c = disjunction sort (written_literals g sort c)
 
 abbrev pub written_clauses : KoreSignature → KoreSort → List (List Literal) → KorePatterns

@@ -5,6 +5,7 @@
 
 pub mod examples;
 pub mod laws;
+pub mod rows;
 pub mod sourced;
 pub mod verdicts;
 pub mod weighed;

@@ -1,0 +1,260 @@
+-- A state in which an equation is solved has the instances that it had, under valuations for which it is ready.
+use Rattle.std.proofs.Common.{◌≡◌, refl, sym, ◌∙◌, subst, ℕ, zero, suc, ◌+◌, Bool, true, false, not, ◌&&◌, List, [], ◌∷◌, ◌++◌, map, length, Option, Some, None, ◌↔◌}
+use Rattle.std.specs.Prelude.{if◌then◌else◌, is_some, nat_le}
+use Rattle.std.specs.List.{AllByRecursion, flat_map}
+use Rattle.std.specs.Str.{bytes_eq}
+use Rattle.std.proofs.lemmas.List.{append_assoc}
+use Rattle.kp_kore.specs.Syntax.{Text, KoreSort, KorePattern}
+use Rattle.kp_kore.specs.Parts.{SortedName, free_variables}
+use Rattle.kp_kore.specs.Signature.{KoreSignature}
+use Rattle.kp_semantics.specs.Value.{Value, HasSort, head_of}
+use Rattle.kp_semantics.specs.Instance.{Valuation, GivesSorts, AgreesOn, is_named, IsTrueUnder}
+use Rattle.kp_semantics.specs.Sorted.{IsRegular}
+use Rattle.kp_semantics.proofs.TruthLemmas.{same_truth}
+use Rattle.kp_symbolic.specs.Terms.{SymbolicTerm, term_instance, term_variables, Replaced, replacement_for, under_replaced}
+use Rattle.kp_symbolic.specs.Formulas.{NoneHold}
+use Rattle.kp_symbolic.specs.States.{Atom, same, has_head, quoted, IsAtomTrue, PassesHead, Literal, IsLiteralTrue, IsClauseTrue, AreTrue, AreGiven, variables_for, clause_variables, SymbolicState, IsStateInstance}
+use Rattle.kp_symbolic.specs.WellFormed.{IsWellSorted}
+use Rattle.kp_symbolic.specs.Folding.{term_for, replaced}
+use Rattle.kp_symbolic.specs.Opening.{literal_fact, opened_same, opened_test}
+use Rattle.kp_symbolic.specs.Clauses.{distributed, is_too_large}
+use Rattle.kp_symbolic.specs.Writing.{IsSaid, written_clause}
+use Rattle.kp_symbolic.specs.Solving.{Equation, equation_of, replacement, replaced_after, opened_with, all_opened_with, is_single, opened_clause, solved_clause, literals_in, solved_clauses, Solvable, solvable_if, first_of_two, first_solvable_among, first_solvable, stands_elsewhere, most_solved, solved_at, IsReadyAtom}
+use Rattle.kp_symbolic.proofs.Distribution.{all_both, all_first, all_second}
+use Rattle.kp_symbolic.proofs.Folded.{for_instance, for_variables}
+use Rattle.kp_symbolic.proofs.SeenLemmas.{Says}
+use Rattle.kp_symbolic.proofs.CallOpening.{opened_same_says}
+use Rattle.kp_symbolic.proofs.Replacing.{replaced_variables, solved_term_is, one_replaced}
+use Rattle.kp_symbolic.proofs.WellSorted.{term_sorted, term_given, sorted_written}
+use Rattle.kp_symbolic.proofs.SortedFolding.{replaced_sorted}
+use Rattle.kp_symbolic.proofs.HeadQuestions.{test_says}
+use Rattle.kp_symbolic.proofs.Leaf.{formula_says, one_literal, once_says, then_says}
+use Rattle.kp_symbolic.proofs.Equations.{IsMet, met_clause}
+use Rattle.kp_symbolic.proofs.Written.{clause_said}
+
+abbrev Placed : KoreSignature → Equation → SortedName → Type 0
+Placed g e x = IsWellSorted g x.sort (term_for x (replacement_for (replacement e) x.name))
+
+abbrev Sorted : KoreSignature → Equation → Valuation → SortedName → Type 0
+Sorted g e v x = GivesSorts g v (variables_for x (replacement_for (replacement e) x.name))
+
+-- ---- a term with the equation's in the variable's place
+
+record IsSolvedTerm (g : KoreSignature) (v : Valuation) (e : Equation) (s : KoreSort) (t : SymbolicTerm) : Type 0 where
+  sorted : IsWellSorted g s (replaced g (replacement e) t)
+  given : GivesSorts g v (term_variables (replaced g (replacement e) t))
+  is : term_instance g v (replaced g (replacement e) t) ≡ term_instance g v t
+
+solved_term : (g : KoreSignature) (v : Valuation) (e : Equation) (s : KoreSort) (t : SymbolicTerm) → IsRegular g → IsMet g v e → IsWellSorted g s t → AllByRecursion (Placed g e) (term_variables t) → AllByRecursion (Sorted g e v) (term_variables t) → IsSolvedTerm g v e s t
+solved_term g v e s t r m w p h = record {
+  sorted = replaced_sorted g (replacement e) s t r w p;
+  given = replaced_variables g (replacement e) (λ y. HasSort g y.sort (v y.name)) t (sorted_written g s t w) h;
+  is = solved_term_is g v e.variable.name e.term t r (sorted_written g s t w) h m;
+}
+
+same_solved : (g : KoreSignature) (v : Valuation) (e : Equation) (alone b : Bool) (s : KoreSort) (t u : SymbolicTerm) → IsRegular g → IsSolvedTerm g v e s t → IsSolvedTerm g v e s u → Says g v b (opened_same g alone b s (replaced g (replacement e) t) (replaced g (replacement e) u)) (term_instance g v t ≡ term_instance g v u)
+same_solved g v e alone b s t u r i j =
+    let x = replaced g (replacement e) t in
+    let y = replaced g (replacement e) u in
+    subst (λ z. Says g v b (opened_same g alone b s x y) (z ≡ term_instance g v u)) i.is
+    (subst (λ z. Says g v b (opened_same g alone b s x y) (term_instance g v x ≡ z)) j.is
+    (opened_same_says g v alone b s x y r i.given j.given (term_given g v s x r i.sorted i.given) (term_given g v s y r j.sorted j.given) (term_sorted g v s x r i.sorted i.given) (term_sorted g v s y r j.sorted j.given)))
+
+-- ---- quoted predicates
+
+after_is : (g : KoreSignature) (v : Valuation) (e : Equation) (rs tail : List Replaced) (y : Text) → ((t : SymbolicTerm) → replacement_for rs y ≡ Some t → term_instance g v (replaced g (replacement e) t) ≡ term_instance g v t) → under_replaced g tail v y ≡ v y
+    → under_replaced g (map (λ r. record { name = r.name; term = replaced g (replacement e) r.term }) rs ++ tail) v y ≡ under_replaced g rs v y
+after_is g v e [] tail y k n = n
+after_is g v e (r ∷ rs) tail y k n = by (bytes_eq r.name y) refl (after_is g v e rs tail y)
+  where
+    by : (b : Bool) → bytes_eq r.name y ≡ b → (((t : SymbolicTerm) → replacement_for rs y ≡ Some t → term_instance g v (replaced g (replacement e) t) ≡ term_instance g v t) → under_replaced g tail v y ≡ v y
+        → under_replaced g (map (λ r. record { name = r.name; term = replaced g (replacement e) r.term }) rs ++ tail) v y ≡ under_replaced g rs v y)
+        → under_replaced g (map (λ r. record { name = r.name; term = replaced g (replacement e) r.term }) (r ∷ rs) ++ tail) v y ≡ under_replaced g (r ∷ rs) v y
+    by true q i = rw q (k r.term (rw q refl))
+    by false q i = rw q (i (λ t z. k t (rw q z)) n)
+
+tail_is : (g : KoreSignature) (v : Valuation) (e : Equation) (b : Bool) (y : Text) → IsMet g v e → under_replaced g (if b then replacement e else []) v y ≡ v y
+tail_is g v e true y m = one_replaced g v e.variable.name e.term m y
+tail_is g v e false y m = refl
+
+-- what is needed of a free variable of a quoted predicate
+abbrev IsReadyFor : KoreSignature → Equation → Valuation → List Replaced → SortedName → Type 0
+IsReadyFor g e v rs x = IsWellSorted g x.sort (term_for x (replacement_for rs x.name)) × AllByRecursion (Sorted g e v) (variables_for x (replacement_for rs x.name))
+
+one_agrees : (g : KoreSignature) (v : Valuation) (e : Equation) (b : Bool) (rs : List Replaced) (x : SortedName) → IsRegular g → IsMet g v e → IsReadyFor g e v rs x
+    → under_replaced g (map (λ r. record { name = r.name; term = replaced g (replacement e) r.term }) rs ++ (if b then replacement e else [])) v x.name ≡ under_replaced g rs v x.name
+one_agrees g v e b rs x r m h = after_is g v e rs (if b then replacement e else []) x.name
+    (λ t q. solved_term_is g v e.variable.name e.term t r
+    (sorted_written g x.sort t (subst (λ o. IsWellSorted g x.sort (term_for x o)) q h.0))
+    (subst (λ o. AllByRecursion (Sorted g e v) (variables_for x o)) q h.1) m)
+    (tail_is g v e b x.name m)
+
+all_agree : (g : KoreSignature) (v : Valuation) (e : Equation) (b : Bool) (rs : List Replaced) (xs : List SortedName) → IsRegular g → IsMet g v e → AllByRecursion (IsReadyFor g e v rs) xs
+    → AgreesOn xs (under_replaced g rs v) (under_replaced g (map (λ r. record { name = r.name; term = replaced g (replacement e) r.term }) rs ++ (if b then replacement e else [])) v)
+all_agree g v e b rs [] r m h = tt
+all_agree g v e b rs (x ∷ xs) r m h = (one_agrees g v e b rs x r m h.0, all_agree g v e b rs xs r m h.1)
+
+all_ready : (g : KoreSignature) (v : Valuation) (e : Equation) (rs : List Replaced) (xs : List SortedName) → AllByRecursion (λ x. IsWellSorted g x.sort (term_for x (replacement_for rs x.name))) xs → AllByRecursion (Sorted g e v) (flat_map (λ x. variables_for x (replacement_for rs x.name)) xs) → AllByRecursion (IsReadyFor g e v rs) xs
+all_ready g v e rs [] w h = tt
+all_ready g v e rs (x ∷ xs) w h =
+    let others = flat_map (λ x. variables_for x (replacement_for rs x.name)) xs in
+    ((w.0, all_first (Sorted g e v) (variables_for x (replacement_for rs x.name)) others h), all_ready g v e rs xs w.1 (all_second (Sorted g e v) (variables_for x (replacement_for rs x.name)) others h))
+
+by_truth : (g : KoreSignature) (v : Valuation) (b : Bool) (p : KorePattern) (rs qs : List Replaced) → AgreesOn (free_variables p) (under_replaced g rs v) (under_replaced g qs v) → Says g v b (literal_fact b (quoted p qs)) (IsTrueUnder g (under_replaced g rs v) p)
+by_truth g v true p rs qs a = let k = same_truth g p (under_replaced g rs v) (under_replaced g qs v) a in (k.1, k.0)
+by_truth g v false p rs qs a = let k = same_truth g p (under_replaced g rs v) (under_replaced g qs v) a in ((λ n h. n (k.0 h)), (λ n h. n (k.1 h)))
+
+-- ---- atoms
+
+pub atom_solved : (g : KoreSignature) (v : Valuation) (sort : KoreSort) (e : Equation) (alone b : Bool) (a : Atom) → IsRegular g → IsMet g v e → IsReadyAtom g v sort e a → Says g v b (opened_with g e alone b a) (IsAtomTrue g v a)
+atom_solved g v sort e alone b (same s t u) r m h = same_solved g v e alone b s t u r
+    (solved_term g v e s t r m h.sorted.0 (all_first (Placed g e) (term_variables t) (term_variables u) h.placed) (all_first (Sorted g e v) (term_variables t) (term_variables u) h.given))
+    (solved_term g v e s u r m h.sorted.1 (all_second (Placed g e) (term_variables t) (term_variables u) h.placed) (all_second (Sorted g e v) (term_variables t) (term_variables u) h.given))
+atom_solved g v sort e alone b (has_head x test) r m h =
+    let t = term_for x (replacement_for (replacement e) x.name) in
+    let f = opened_test g b test (literal_fact b (has_head x test)) t in
+    subst (λ u. Says g v b f (¬ ¬ PassesHead g test (head_of u))) (for_instance g (replacement e) v x.name x.sort (replacement_for (replacement e) x.name) refl ∙ one_replaced g v e.variable.name e.term m x.name)
+    (test_says g v b test (literal_fact b (has_head x test)) x.sort t r h.placed.0 (for_variables (λ y. HasSort g y.sort (v y.name)) x (replacement_for (replacement e) x.name) h.given.0))
+atom_solved g v sort e alone b (quoted p rs) r m h =
+    by_truth g v b p rs (replaced_after g e p rs) (all_agree g v e (is_named e.variable.name (free_variables p) && not (is_some (replacement_for rs e.variable.name))) rs (free_variables p) r m (all_ready g v e rs (free_variables p) h.sorted h.given))
+
+-- ---- clauses
+
+abbrev AreReady : KoreSignature → Valuation → KoreSort → Equation → List Literal → Type 0
+AreReady g v sort e = AllByRecursion (λ l. IsReadyAtom g v sort e l.atom)
+
+none_solved : (g : KoreSignature) (v : Valuation) (sort : KoreSort) (e : Equation) (alone : Bool) (c : List Literal) → IsRegular g → IsMet g v e → AreReady g v sort e c → NoneHold (IsLiteralTrue g v) (all_opened_with g e alone c) ↔ AllByRecursion (λ l. ¬ IsLiteralTrue g v l) c
+none_solved g v sort e alone [] r m h = ((λ a. a), (λ a. a))
+none_solved g v sort e alone (l ∷ c) r m h =
+    let i = atom_solved g v sort e alone l.holds l.atom r m h.0 in
+    let j = none_solved g v sort e alone c r m h.1 in
+    ((λ a. ((λ t. a.0 (i.1 t)), j.0 a.1)), (λ a. ((λ t. a.0 (i.0 t)), j.1 a.1)))
+
+opened_clause_says : (g : KoreSignature) (v : Valuation) (sort : KoreSort) (e : Equation) (c : List Literal) → IsRegular g → IsMet g v e → AreReady g v sort e c → AreTrue g v (distributed (opened_clause g e c)) ↔ IsClauseTrue g v c
+opened_clause_says g v sort e c r m h =
+    let i = none_solved g v sort e (is_single c) c r m h in
+    then_says (formula_says g v (opened_clause g e c)) ((λ n f. n (i.1 f)), (λ n f. n (i.0 f)))
+
+everywhere : (g : KoreSignature) (v : Valuation) (e : Equation) (xs : List SortedName) → IsMet g v e → AgreesOn xs v (under_replaced g (replacement e) v)
+everywhere g v e [] m = tt
+everywhere g v e (x ∷ xs) m = (one_replaced g v e.variable.name e.term m x.name, everywhere g v e xs m)
+
+all_said : (g : KoreSignature) (v : Valuation) (sort : KoreSort) (e : Equation) (c : List Literal) → AreReady g v sort e c → AllByRecursion (λ l. IsSaid g v sort l.atom) c
+all_said g v sort e [] h = tt
+all_said g v sort e (l ∷ c) h = (h.0.said, all_said g v sort e c h.1)
+
+quoted_clause_says : (g : KoreSignature) (v : Valuation) (sort : KoreSort) (e : Equation) (c : List Literal) → IsMet g v e → AreReady g v sort e c → AreTrue g v ((record { holds = true; atom = quoted (written_clause g sort c) (replacement e) } ∷ []) ∷ []) ↔ IsClauseTrue g v c
+quoted_clause_says g v sort e c m h =
+    let k = same_truth g (written_clause g sort c) v (under_replaced g (replacement e) v) (everywhere g v e (free_variables (written_clause g sort c)) m) in
+    then_says (one_literal g v (record { holds = true; atom = quoted (written_clause g sort c) (replacement e) })) (then_says (k.1, k.0) (clause_said g v sort c (all_said g v sort e c h)))
+
+by_case : (g : KoreSignature) (v : Valuation) (b d : Bool) (xs bs cs : List (List Literal)) (A : Type 0) → AreTrue g v xs ↔ A → AreTrue g v bs ↔ A → AreTrue g v cs ↔ A → AreTrue g v (if b then xs else if d then bs else cs) ↔ A
+by_case g v true d xs bs cs A i j k = i
+by_case g v false true xs bs cs A i j k = j
+by_case g v false false xs bs cs A i j k = k
+
+clause_solved : (g : KoreSignature) (v : Valuation) (sort : KoreSort) (e : Equation) (n : ℕ) (c : List Literal) → IsRegular g → IsMet g v e → AreReady g v sort e c → AreTrue g v (solved_clause g sort e n c) ↔ IsClauseTrue g v c
+clause_solved g v sort e n c r m h = by_case g v (not (is_named e.variable.name (clause_variables c))) (is_too_large n (opened_clause g e c)) (c ∷ []) ((record { holds = true; atom = quoted (written_clause g sort c) (replacement e) } ∷ []) ∷ []) (distributed (opened_clause g e c)) (IsClauseTrue g v c)
+    ((λ a. a.0), (λ a. (a, tt)))
+    (quoted_clause_says g v sort e c m h)
+    (opened_clause_says g v sort e c r m h)
+
+two_lists : (g : KoreSignature) (v : Valuation) (xs bs : List (List Literal)) (A B : Type 0) → AreTrue g v xs ↔ A → AreTrue g v bs ↔ B → AreTrue g v (xs ++ bs) ↔ (A × B)
+two_lists g v xs bs A B i j = (
+  (λ h. (i.0 (all_first (IsClauseTrue g v) xs bs h), j.0 (all_second (IsClauseTrue g v) xs bs h))),
+  (λ h. all_both (IsClauseTrue g v) xs bs (i.1 h.0) (j.1 h.1)),
+)
+
+clauses_solved : (g : KoreSignature) (v : Valuation) (sort : KoreSort) (e : Equation) (n : ℕ) (o : Option ℕ) (cs : List (List Literal)) → IsRegular g → IsMet g v e → AllByRecursion (AreReady g v sort e) cs → AreTrue g v (solved_clauses g sort e n o cs) ↔ AreTrue g v cs
+clauses_solved g v sort e n o [] r m h = ((λ a. a), (λ a. a))
+clauses_solved g v sort e n (Some zero) (c ∷ cs) r m h = let j = clauses_solved g v sort e (n + length c) None cs r m h.1 in ((λ a. (a.0, j.0 a.1)), (λ a. (a.0, j.1 a.1)))
+clauses_solved g v sort e n (Some (suc i)) (c ∷ cs) r m h =
+    let k = n + literals_in (solved_clause g sort e n c) in
+    two_lists g v (solved_clause g sort e n c) (solved_clauses g sort e k (Some i) cs) (IsClauseTrue g v c) (AreTrue g v cs) (clause_solved g v sort e n c r m h.0) (clauses_solved g v sort e k (Some i) cs r m h.1)
+clauses_solved g v sort e n None (c ∷ cs) r m h =
+    let k = n + literals_in (solved_clause g sort e n c) in
+    two_lists g v (solved_clause g sort e n c) (solved_clauses g sort e k None cs) (IsClauseTrue g v c) (AreTrue g v cs) (clause_solved g v sort e n c r m h.0) (clauses_solved g v sort e k None cs r m h.1)
+
+-- ---- the equation's own clause
+
+abbrev IsAt : ℕ → List (List Literal) → List Literal → Type 0
+IsAt i [] d = ⊥
+IsAt zero (c ∷ cs) d = c ≡ d
+IsAt (suc i) (c ∷ cs) d = IsAt i cs d
+
+true_at : (g : KoreSignature) (v : Valuation) (i : ℕ) (cs : List (List Literal)) (d : List Literal) → AreTrue g v cs → IsAt i cs d → IsClauseTrue g v d
+true_at g v i [] d a k = absurd k
+true_at g v zero (c ∷ cs) d a k = subst (IsClauseTrue g v) k a.0
+true_at g v (suc i) (c ∷ cs) d a k = true_at g v i cs d a.1 k
+
+kept_at : (g : KoreSignature) (v : Valuation) (sort : KoreSort) (e : Equation) (n i : ℕ) (cs : List (List Literal)) (d : List Literal) → AreTrue g v (solved_clauses g sort e n (Some i) cs) → IsAt i cs d → IsClauseTrue g v d
+kept_at g v sort e n i [] d a k = absurd k
+kept_at g v sort e n zero (c ∷ cs) d a k = subst (IsClauseTrue g v) k a.0
+kept_at g v sort e n (suc i) (c ∷ cs) d a k =
+    let m = n + literals_in (solved_clause g sort e n c) in
+    kept_at g v sort e m i cs d (all_second (IsClauseTrue g v) (solved_clause g sort e n c) (solved_clauses g sort e m (Some i) cs) a) k
+
+ready_at : (P : List Literal → Type 0) (i : ℕ) (cs : List (List Literal)) (d : List Literal) → AllByRecursion P cs → IsAt i cs d → P d
+ready_at P i [] d a k = absurd k
+ready_at P zero (c ∷ cs) d a k = subst P k a.0
+ready_at P (suc i) (c ∷ cs) d a k = ready_at P i cs d a.1 k
+
+at_length : (before cs : List (List Literal)) (c : List Literal) → IsAt (length before) (before ++ c ∷ cs) c
+at_length [] cs c = refl
+at_length (b ∷ before) cs c = at_length before cs c
+
+record IsFound (g : KoreSignature) (cs : List (List Literal)) (o : Solvable) : Type 0 where
+  clause : List Literal
+  stands : IsAt o.place cs clause
+  gives : equation_of g clause ≡ Some o.equation
+
+found_if : (g : KoreSignature) (s : SymbolicState) (others before cs : List (List Literal)) (c : List Literal) (d : Option Equation) (o : Solvable) → equation_of g c ≡ d → solvable_if s others (length before) d ≡ Some o → IsFound g (before ++ c ∷ cs) o
+found_if g s others before cs c None o i q = absurd (cc)
+found_if g s others before cs c (Some e) o i q = by (stands_elsewhere s others e) q
+  where
+    by : (b : Bool) → (if b then Some (record { place = length before; equation = e }) else None) ≡ Some o → IsFound g (before ++ c ∷ cs) o
+    by true k = let same : record { place = length before; equation = e } ≡ o = cc in subst (IsFound g (before ++ c ∷ cs)) same (record { clause = c; stands = at_length before cs c; gives = i })
+    by false k = absurd (cc)
+
+found_first : (g : KoreSignature) (cs : List (List Literal)) (p q : Option Solvable) (o : Solvable) → ((d : Solvable) → p ≡ Some d → IsFound g cs d) → ((d : Solvable) → q ≡ Some d → IsFound g cs d) → first_of_two p q ≡ Some o → IsFound g cs o
+found_first g cs (Some d) q o i j e = i o e
+found_first g cs None q o i j e = j o e
+
+found_among : (g : KoreSignature) (s : SymbolicState) (before cs : List (List Literal)) (o : Solvable) → first_solvable_among g s before cs ≡ Some o → IsFound g (before ++ cs) o
+found_among g s before [] o e = absurd (cc)
+found_among g s before (c ∷ cs) o e = found_first g (before ++ c ∷ cs) (solvable_if s (before ++ cs) (length before) (equation_of g c)) (first_solvable_among g s (before ++ c ∷ []) cs) o
+    (λ d q. found_if g s (before ++ cs) before cs c (equation_of g c) d refl q)
+    (λ d q. subst (λ zs. IsFound g zs d) (append_assoc before (c ∷ []) cs) (found_among g s (before ++ c ∷ []) cs d q)) e
+
+found_in : (g : KoreSignature) (s : SymbolicState) (o : Solvable) → first_solvable g s ≡ Some o → IsFound g s.clauses o
+found_in g s o e = by (nat_le (literals_in s.clauses) most_solved) e
+  where
+    by : (b : Bool) → (if b then first_solvable_among g s [] s.clauses else None) ≡ Some o → IsFound g s.clauses o
+    by true q = found_among g s [] s.clauses o q
+    by false q = absurd (cc)
+
+first_ready : (g : KoreSignature) (v : Valuation) (sort : KoreSort) (e : Equation) (c : List Literal) (l : Literal) → AreReady g v sort e c → c ≡ l ∷ [] → IsReadyAtom g v sort e l.atom
+first_ready g v sort e c l h q = (subst (AreReady g v sort e) q h).0
+
+-- ---- states
+
+pub solved_clauses_say : (g : KoreSignature) (v : Valuation) (s : SymbolicState) (o : Solvable) → IsRegular g → first_solvable g s ≡ Some o → AllByRecursion (AllByRecursion (λ l. IsReadyAtom g v s.sort o.equation l.atom)) s.clauses
+    → ((AreTrue g v s.clauses → IsMet g v o.equation × AreTrue g v (solved_at g o s).clauses) × (AreTrue g v (solved_at g o s).clauses → IsMet g v o.equation × AreTrue g v s.clauses))
+solved_clauses_say g v s o r q h =
+    let e = o.equation in
+    let ds = solved_clauses g s.sort e 0 (Some o.place) s.clauses in
+    let f = found_in g s o q in
+    let c = ready_at (AreReady g v s.sort e) o.place s.clauses f.clause h f.stands in
+    let met : IsClauseTrue g v f.clause → IsMet g v e = λ t. met_clause g v f.clause e r (λ l i. let k = first_ready g v s.sort e f.clause l c i in (k.sorted, k.gives)) t f.gives in (
+      (λ a. let m = met (true_at g v o.place s.clauses f.clause a f.stands) in (m, (once_says g v ds).1 ((clauses_solved g v s.sort e 0 (Some o.place) s.clauses r m h).1 a))),
+      (λ a. let b = (once_says g v ds).0 a in let m = met (kept_at g v s.sort e 0 o.place s.clauses f.clause b f.stands) in (m, (clauses_solved g v s.sort e 0 (Some o.place) s.clauses r m h).0 b)),
+    )
+
+pub solved_instance : (g : KoreSignature) (v : Valuation) (s : SymbolicState) (o : Solvable) (u : Value) → IsRegular g → first_solvable g s ≡ Some o → AllByRecursion (AllByRecursion (λ l. IsReadyAtom g v s.sort o.equation l.atom)) s.clauses → IsWellSorted g s.sort s.term → AreGiven g (replacement o.equation) v (term_variables s.term)
+    → IsStateInstance g v s u ↔ IsStateInstance g v (solved_at g o s) u
+solved_instance g v s o u r q h w a =
+    let k = solved_clauses_say g v s o r q h in
+    let is : IsMet g v o.equation → term_instance g v (replaced g (replacement o.equation) s.term) ≡ term_instance g v s.term = λ m. solved_term_is g v o.equation.variable.name o.equation.term s.term r (sorted_written g s.sort s.term w) a m in (
+      (λ i. let j = k.0 i.clauses in record { term = i.term ∙ sym (is j.0); clauses = j.1 }),
+      (λ i. let j = k.1 i.clauses in record { term = i.term ∙ is j.0; clauses = j.1 }),
+    )
