@@ -36,3 +36,7 @@ told_none P xs i d old lt before fails all = fails (before.1 (all_taken P xs i a
 
 pub told_all : {X : Type 0} (P : X → Type 0) (xs : List X) (i : ℕ) (old : Type 0) → length xs ≤ i → old ↔ AllByRecursion P (take i xs) → old ↔ AllByRecursion P xs
 told_all P xs i old le before = subst (λ l. old ↔ AllByRecursion P l) (take_all i xs le) before
+
+pub all_map : {X : Type 0} (P Q : X → Type 0) (xs : List X) → ((x : X) → P x → Q x) → AllByRecursion P xs → AllByRecursion Q xs
+all_map P Q [] f h = tt
+all_map P Q (x ∷ xs) f h = (f x h.0, all_map P Q xs f h.1)

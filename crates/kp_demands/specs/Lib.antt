@@ -1,3 +1,4 @@
 pub mod Classes
 pub mod Demands
+pub mod Tabled
 pub mod Truths

@@ -6,6 +6,10 @@
 mod classes;
 mod demand;
 mod places;
+mod search;
+mod tables;
 mod truths;
 
 pub use demand::Demand;
+pub use search::search_choices;
+pub use tables::Tables;

@@ -1,0 +1,9 @@
+-- The sizes of the three tables together.
+use Rattle.std.specs.Prelude.{◌≡◌, length}
+use Rattle.kp_demands.specs.declared.tables.Tables.{Tables}
+use Rattle.kp_demands.specs.Demands.{Sizes}
+
+pub record AreSizesOf (s : Sizes) (t : Tables) : Type 0 where
+  pub wholes : s.wholes ≡ t.matrix.size
+  pub truths : s.truths ≡ length t.truths.items
+  pub classes : s.classes ≡ length t.classes.items
