@@ -1,5 +1,5 @@
 -- Demands and choices can be met exactly where the demands and one way of the first choice can, with the other choices.
-use Rattle.std.proofs.Common.{arith, ◌≡◌, refl, sym, subst, ap, ◌∙◌, ◌<◌, ◌≤◌, ◌+◌, ◌-◌, ℕ, zero, suc, Bool, true, false, nat_lt, List, [], ◌∷◌, ◌++◌, ◌⊎◌, inl, inr, length, get_or, map, take, drop, Vec}
+use Rattle.std.proofs.Common.{arith, ◌≡◌, refl, sym, subst, ap, ◌∙◌, ◌<◌, ◌≤◌, ◌+◌, ◌-◌, ℕ, zero, suc, Bool, true, false, nat_lt, List, [], ◌∷◌, ◌++◌, inl, inr, length, get_or, map, take, drop, Vec}
 use Rattle.std.specs.List.{AllByRecursion}
 use Rattle.std.specs.declared.alloc.Global.{Global}
 use Rattle.std.proofs.lemmas.List.{take_all, length-map}
@@ -107,3 +107,6 @@ shorter (c ∷ cs) lt = let is : length (take (length (c ∷ cs) - 1) cs) ≡ le
 -- what was put behind is taken away again
 pub cut : (n : ℕ) (ds now w : List Demand) → n ≡ length ds → now ≡ ds ++ w → take n now ≡ ds
 cut n ds now w count is = ap (λ l. take n l) is ∙ ap (λ k. take k (ds ++ w)) count ∙ take-append_seam ds w
+
+pub without_choices : (fixed : ℕ) (ds : List Demand) (choices : List (List (List Demand))) → CanBeMet fixed ds choices → CanBeMet fixed ds []
+without_choices fixed ds choices can = record { values = can.values; lawful = can.lawful; demands_met = can.demands_met; choices_met = tt }

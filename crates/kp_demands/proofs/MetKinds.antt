@@ -1,5 +1,5 @@
 -- Values meet all demands exactly where each kind's meet those of the kind.
-use Rattle.std.proofs.Common.{refl, get_or, Bool, Option, Some, None, ℕ, List, [], ◌∷◌}
+use Rattle.std.proofs.Common.{refl, get_or, Bool, Option, Some, None, List, [], ◌∷◌}
 use Rattle.std.specs.List.{AllByRecursion}
 use Rattle.kp_demands.specs.declared.demand.Demand.{Demand}
 use Rattle.kp_demands.specs.declared.demand.Demand.TheVariants.{Bound, Truth, Same, Apart}

@@ -1,5 +1,5 @@
 -- A table of the truth values that are asked for.
-use Rattle.std.specs.Prelude.{◌≡◌, ℕ, Bool, true, false, List, get_or, Option, Some, None, ⊤}
+use Rattle.std.specs.Prelude.{◌≡◌, ℕ, Bool, false, List, get_or, Option, Some, None, ⊤}
 
 abbrev pub IsTruth : Option Bool → Bool → Type 0
 IsTruth (Some b) t = t ≡ b

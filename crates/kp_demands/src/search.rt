@@ -35,3 +35,19 @@ pub fn search_choices(
     }
     Ok(false)
 }
+
+/// Whether some values meet the demands, and those of one way of each choice: the demands are asked alone first.
+pub fn can_be_met(
+    choices: &[Vec<Vec<Demand>>],
+    demands: &mut Vec<Demand>,
+    tables: &mut Tables,
+) -> Result<bool, AllocError>
+    requires { (s : Sizes) × AreSizesOf s tables.old × (s.wholes + s.bits ≤ 126) × AllByRecursion (IsSized s) demands.old.items × AllByRecursion (AllByRecursion (AllByRecursion (IsSized s))) (choices_of choices.now) }
+    ensures yes { IfOk result (λ b. IsTrue b → CanBeMet tables.old.fixed demands.old.items (choices_of choices.now)) }
+    ensures no { IfOk result (λ b. b ≡ false → ¬ CanBeMet tables.old.fixed demands.old.items (choices_of choices.now)) }
+{
+    if !tables.meet(demands) {
+        return Ok(false);
+    }
+    search_choices(choices, demands, tables)
+}

@@ -1,4 +1,4 @@
-use Rattle.std.proofs.Common.{rules, ◌≡◌, sym, ◌∙◌, length, true, false}
+use Rattle.std.proofs.Common.{rules, ◌≡◌, length}
 use Rattle.std.specs.List.{AllByRecursion}
 use Rattle.kp_demands.specs.Classes.{root_in}
 use Rattle.kp_demands.specs.Demands.{MeetsApart}

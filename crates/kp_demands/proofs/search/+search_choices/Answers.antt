@@ -1,4 +1,4 @@
-use Rattle.std.proofs.Common.{rules, arith, ap, Ok, ◌≡◌, ◌<◌, ◌≤◌, ◌++◌, ◌∙◌, refl, sym, subst, [], ◌∷◌, ℕ, false, length, get_or, map, take, drop, ◌-◌}
+use Rattle.std.proofs.Common.{rules, arith, ap, Ok, ◌<◌, ◌∙◌, subst, [], length, get_or, map, take, drop, ◌-◌}
 use Rattle.kp_demands.specs.Demands.{Sizes, CanBeMet, choices_of}
 use Rattle.kp_demands.specs.Tabled.{AreSizesOf}
 use Rattle.kp_demands.proofs.Choices.{IsWayTaken, first_split, way_taken, taken_can, taken_sized, none_more, none_at_all, shorter, cut}

@@ -1,5 +1,4 @@
 use Rattle.std.proofs.Common.{rules}
-use Rattle.std.specs.List.{AllByRecursion}
 use Rattle.kp_diff.specs.Rows.{values_of}
 use Rattle.kp_demands.specs.Demands.{Assignment, IsMetBy, MeetsBound, MeetsTruth, MeetsSame, MeetsApart}
 use Rattle.kp_demands.specs.Classes.{root_in}
