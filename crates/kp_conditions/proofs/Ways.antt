@@ -32,7 +32,7 @@ ne_test m n = (to, λ h. grind (arith, ints, h))
     to (inl h) = grind (arith, ints, h)
     to (inr h) = grind (arith, ints, h)
 
-through : {A B C : Type 0} → A ↔ B → B ↔ C → A ↔ C
+pub through : {A B C : Type 0} → A ↔ B → B ↔ C → A ↔ C
 through f g = (λ a. g.0 (f.0 a), λ c. f.1 (g.1 c))
 
 -- one way of one demand
