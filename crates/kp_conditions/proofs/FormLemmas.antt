@@ -6,10 +6,10 @@ use Rattle.std.specs.List.{list_all}
 use Rattle.std.specs.Ordering.{int_eq}
 use Rattle.std.proofs.lemmas.Int.{ints}
 use Rattle.kp_kore.specs.Syntax.{Text, KoreSort}
-use Rattle.kp_kore.specs.Hooks.{Comparison, equal, different, less, at_most, greater, at_least, Hook, whole_arithmetic, addition, whole_comparison, truth_connective, truth_negation, values_equal, values_different}
+use Rattle.kp_kore.specs.Hooks.{Comparison, equal, different, less, at_most, greater, at_least, whole_arithmetic, addition, whole_comparison, truth_connective, truth_negation, values_equal, values_different}
 use Rattle.kp_kore.specs.Parts.{SortedName}
 use Rattle.kp_kore.specs.Signature.{KoreSignature, SymbolMeaning, injection, construction, interpretation, foreign, meaning_of, is_boolean_sort, Head, integers, booleans, tokens, constructor_of}
-use Rattle.kp_semantics.specs.Value.{Value, whole, truth, token, constructed, no_values, next_value, values_same, HasSort}
+use Rattle.kp_semantics.specs.Value.{Value, whole, truth, token, constructed, values_same, HasSort}
 use Rattle.kp_semantics.specs.Forms.{two}
 use Rattle.kp_semantics.specs.Interpretation.{compared, interpreted}
 use Rattle.kp_semantics.specs.Instance.{Valuation, GivesSorts, applied}
@@ -18,7 +18,7 @@ use Rattle.kp_symbolic.specs.Terms.{SymbolicTerm, unknown, offset, known, headed
 use Rattle.kp_symbolic.specs.States.{Atom, same, has_head, quoted, Literal, IsAtomTrue, IsLiteralTrue}
 use Rattle.kp_symbolic.specs.WellFormed.{IsGivenAtom}
 use Rattle.kp_symbolic.specs.Heads.{heads_of}
-use Rattle.kp_symbolic.specs.Plain.{are_numbers, are_truths, has_only_numbers, has_only_truths, has_only_tokens, WholePart, whole_part_of, whole_part, TokenPart, some_token, one_token, token_part, Form, compares, is_truth, equates, opposite, comparison_if, comparing, equating, first_form, equality_form, call_form, truth_form, same_form, form_of}
+use Rattle.kp_symbolic.specs.Plain.{are_numbers, are_truths, has_only_numbers, has_only_truths, has_only_tokens, WholePart, whole_part_of, whole_part, TokenPart, some_token, token_part, Form, compares, is_truth, equates, comparison_if, comparing, equating, first_form, equality_form, call_form, truth_form, same_form, form_of}
 use Rattle.kp_symbolic.proofs.HeadLemmas.{passed_by_heads, head_from_sort}
 use Rattle.kp_conditions.specs.Saying.{number_of, whole_value, token_value, Says}
 use Rattle.kp_conditions.proofs.Ways.{through}

@@ -1,6 +1,6 @@
 -- What the form of a literal says of the values of variables.
 -- Source: matching logic's equality of values; K's INT, BOOL and KEQUAL hooks.
-use Rattle.std.specs.Prelude.{◌≡◌, ℤ, pos, ◌+ℤ◌, Bool, true, Option, Some, None, MatchBool}
+use Rattle.std.specs.Prelude.{◌≡◌, ℤ, pos, ◌+ℤ◌, true, Option, Some, None, MatchBool}
 use Rattle.kp_kore.specs.Syntax.{Text}
 use Rattle.kp_kore.specs.Signature.{KoreSignature}
 use Rattle.kp_semantics.specs.Value.{Value, whole, truth, head_of}

@@ -4,11 +4,24 @@
 #[derive(Clone, Copy)]
 pub enum Demand {
     /// One whole number less another is at most this.
-    Bound { first: usize, second: usize, most: i128 },
+    Bound {
+        first: usize,
+        second: usize,
+        most: i128,
+    },
     /// A truth value is this.
-    Truth { name: usize, value: bool },
+    Truth {
+        name: usize,
+        value: bool,
+    },
     /// Two tokens are equal.
-    Same { first: usize, second: usize },
+    Same {
+        first: usize,
+        second: usize,
+    },
     /// Two tokens differ.
-    Apart { first: usize, second: usize },
+    Apart {
+        first: usize,
+        second: usize,
+    },
 }

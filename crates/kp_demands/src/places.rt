@@ -15,7 +15,12 @@ fn take(matrix: &mut Matrix, demand: Demand)
     ensures met { (values : ℕ → ℤ) → Meets matrix.old.size (bounds_of matrix.new) values ↔ (Meets matrix.old.size (bounds_of matrix.old) values × MeetsBound values demand) }
     ensures bits { (s : Sizes) → IsSized s demand → HaveBits s.bits matrix.old.size (bounds_of matrix.old) → HaveBits s.bits matrix.old.size (bounds_of matrix.new) }
 {
-    if let Demand::Bound { first, second, most } = demand {
+    if let Demand::Bound {
+        first,
+        second,
+        most,
+    } = demand
+    {
         matrix.bound(first, second, most);
     }
 }

@@ -22,7 +22,11 @@ impl Limits {
         ensures { (s : Sizes) → AreLimitsOf s self → IsTrue result ↔ IsSized s demand }
     {
         match demand {
-            Demand::Bound { first, second, most } => {
+            Demand::Bound {
+                first,
+                second,
+                most,
+            } => {
                 first <= self.wholes && second <= self.wholes && most.unsigned_abs() < self.bound
             }
             Demand::Truth { name, .. } => name < self.truths,

@@ -4,10 +4,8 @@ ghost use Rattle.std.specs.List.{AllByRecursion};
 ghost use Rattle.kp_demands.specs.Demands.{Sizes, IsSized, CanBeMet};
 ghost use Rattle.kp_demands.specs.Tabled.{AreSizesOf};
 
-use crate::classes;
 use crate::demand::Demand;
-use crate::places;
-use crate::truths;
+use crate::{classes, places, truths};
 use kp_diff::Matrix;
 use std::alloc::{AllocError, Global};
 
@@ -55,7 +53,12 @@ impl Tables {
         let matrix = Matrix::new(alloc, wholes)?;
         let truths = no_truths(alloc, truths)?;
         let classes = no_classes(alloc, classes)?;
-        Ok(Tables { matrix, truths, classes, fixed })
+        Ok(Tables {
+            matrix,
+            truths,
+            classes,
+            fixed,
+        })
     }
 
     /// Whether some values meet all the demands.
