@@ -111,7 +111,7 @@ passed_by_all test keep x [] h a k = absurd a
 passed_by_all test keep x (y ∷ xs) h (inl e) k = passed_first test x y (filter keep xs) (keep y) (λ b i. first_true (test y) (list_all test (filter keep xs)) i) e (subst (λ z. keep z ≡ true) (sym e) k) h
 passed_by_all test keep x (y ∷ xs) h (inr a) k = passed_by_all test keep x xs (passed_rest test y (filter keep xs) (keep y) h) a k
 
-passed_by_heads : (g : KoreSignature) (s : KoreSort) (h : Head) (test : Head → Bool) → list_all test (heads_of g s) ≡ true → IsHeadOf g s h → test h ≡ true
+pub passed_by_heads : (g : KoreSignature) (s : KoreSort) (h : Head) (test : Head → Bool) → list_all test (heads_of g s) ≡ true → IsHeadOf g s h → test h ≡ true
 passed_by_heads g s h test a i = passed_by_all test (is_head g s) h (possible_heads g s) a (head_listed g s h i) ((is_head-Decides g s h).1 i)
 
 -- ---- what a head test says

@@ -1,0 +1,6 @@
+// Tests of what conditions say, against enumeration over small ranges. They stand here, since a crate with tests is
+// proved twice.
+#![tactic(auto)]
+
+#[cfg(test)]
+mod demands;

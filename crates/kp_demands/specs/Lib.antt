@@ -1,0 +1,4 @@
+pub mod Classes
+pub mod Demands
+pub mod Tabled
+pub mod Truths
