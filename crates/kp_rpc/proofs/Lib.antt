@@ -1,11 +1,11 @@
 pub mod Answered
-mod Asked
+pub mod Asked
 pub mod CompactRead
 pub mod Floats
 mod HeadingsRead
 pub mod IdsRead
 pub mod LinesRead
-mod OptionsRead
+pub mod OptionsRead
 mod ParamsRead
 pub mod PartsBack
 pub mod QuestionBack

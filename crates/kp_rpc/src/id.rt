@@ -17,8 +17,8 @@ pub enum Id {
     Null,
 }
 
-// The id that a tree is.
-fn id_of(value: &Value) -> Result<Option<Id>, AllocError>
+/// The id that a tree is; none where it is neither a text nor a whole number nor null.
+pub fn id_of(value: &Value) -> Result<Option<Id>, AllocError>
     ensures { IfOk result (λ o. option_map id_view o ≡ read_id (view value.now)) }
 {
     match value {

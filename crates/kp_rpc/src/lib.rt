@@ -19,10 +19,15 @@ mod request;
 pub use executed::{Reason, result_text};
 pub use fault::{PatternFault, StateFault, fault_text};
 pub use frame::{FrameError, frame_of, is_white};
-pub use id::{Id, id_value};
+pub use id::{Id, id_of, id_value};
 pub use implied::{Implied, implied_text, written_result};
-pub use params::{Options, ParamsError, antecedent_of, bound_of, consequent_of, state_of};
-pub use question::{Object, Question, question_text, with_member_at, with_text_at};
+pub use params::{
+    Options, ParamsError, antecedent_of, bound_of, consequent_of, object_at, options_of, state_of,
+    text_at,
+};
+pub use question::{
+    Object, Question, question_text, request_value, with_member_at, with_text_at,
+};
 pub use replied::{
     Method, Run, ServerReply, implied_of, line_text, predicate_at, reply_of, wrapped_at,
 };

@@ -74,8 +74,8 @@ fn number_at(params: &Value, key: &str) -> Option<Option<u64>>
     }
 }
 
-// An optional text.
-fn text_at<'a>(params: &'a Value, key: &str) -> Option<Option<&'a str>>
+/// An optional text: absent and null are none.
+pub fn text_at<'a>(params: &'a Value, key: &str) -> Option<Option<&'a str>>
     ensures { option_map (option_map (λ t. t.now)) result ≡ read_text (get key.now (view params.now)) }
 {
     match params.get(key) {
@@ -119,7 +119,10 @@ fn texts_at(alloc: Global, params: &Value, key: &str) -> Result<Option<Vec<Strin
     }
 }
 
-// The params of execute, but for its state.
+/// The params of execute, but for its state.
+///
+/// # Errors
+/// `OtherKind` where a member is of another kind; `Memory`.
 pub fn options_of(alloc: Global, params: &Value) -> Result<Options, ParamsError>
     ensures found { IfOk result (λ o. read_options (view params.now) ≡ Some (options_view o)) }
     ensures only { IfErr result (λ e. e ≡ OtherKind → read_options (view params.now) ≡ None) }
@@ -148,8 +151,8 @@ pub fn options_of(alloc: Global, params: &Value) -> Result<Options, ParamsError>
     })
 }
 
-// A member that is an object.
-fn object_at<'a>(value: &'a Value, key: &str) -> Option<&'a Value>
+/// A member that is an object.
+pub fn object_at<'a>(value: &'a Value, key: &str) -> Option<&'a Value>
     ensures { option_map (λ v. view v.now) result ≡ read_object key.now (view value.now) }
 {
     match value.get(key) {

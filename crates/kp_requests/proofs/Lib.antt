@@ -1,0 +1,4 @@
+mod Back
+mod Frames
+mod Objects
+mod Plain
