@@ -1,0 +1,3 @@
+pub mod ClaimsAt
+pub mod Commas
+pub mod Spelled
