@@ -25,9 +25,7 @@ pub use params::{
     Options, ParamsError, antecedent_of, bound_of, consequent_of, object_at, options_of, state_of,
     text_at,
 };
-pub use question::{
-    Object, Question, question_text, request_value, with_member_at, with_text_at,
-};
+pub use question::{Object, Question, question_text, request_value, with_member_at, with_text_at};
 pub use replied::{
     Method, Run, ServerReply, implied_of, line_text, predicate_at, reply_of, wrapped_at,
 };

@@ -146,7 +146,12 @@ fn implies_object(
 }
 
 /// The tree of a request, by its method and the members of its params.
-pub fn request_value(alloc: Global, id: &Id, method: &str, params: Object) -> Result<Value, AllocError>
+pub fn request_value(
+    alloc: Global,
+    id: &Id,
+    method: &str,
+    params: Object,
+) -> Result<Value, AllocError>
     ensures { IfOk result (λ v. view v ≡ request_object (id_view id.now) method.now (members_view params.entries)) }
 {
     let id_member = id_value(id)?;
