@@ -5,6 +5,7 @@ use Rattle.std.specs.declared.alloc.AllocError.{AllocError}
 use Rattle.serde_json.specs.Data.{Data}
 use Rattle.serde_json.specs.View.{view, items_view}
 use Rattle.serde_json.specs.declared.value.Value.{Value}
+use Rattle.kp_rpc.specs.Frame.{IsFrame}
 use Rattle.kp_requests.specs.Requests.{Call, Frame, batch}
 use Rattle.kp_requests.specs.Read.{read_calls, read_batch, read_frame}
 use Rattle.kp_requests.specs.Frames.{IsJson, Asks, no_json, json}
@@ -17,6 +18,9 @@ one_tree d e same = cc same
 pub asks_of : (bytes : List ℕ) (d : Data) (f : Frame) → IsJson bytes d → Asks bytes f → f ≡ read_frame d
 asks_of bytes d _ is (no_json none) = absurd (none d is)
 asks_of bytes d _ is (json e other) = ap read_frame (one_tree e d (sym other.reads ∙ is.reads))
+
+pub frame_asks : (bytes : List ℕ) (d : Data) → IsFrame bytes d → Asks bytes (read_frame d)
+frame_asks bytes d frame = json d (record { fits = frame.fits; utf8 = frame.utf8; reads = frame.reads })
 
 pub one_frame : (bytes : List ℕ) (f g : Frame) → Asks bytes f → Asks bytes g → f ≡ g
 one_frame bytes _ _ (no_json none) (no_json also) = refl

@@ -4,6 +4,7 @@ ghost use Rattle.serde_json.specs.Data.{Data, object, Members};
 ghost use Rattle.kp_kore.specs.Syntax.{Text, KorePattern};
 ghost use Rattle.kp_json.specs.Faults.{read};
 ghost use Rattle.kp_json.specs.Trees.{SpellsWrapped};
+ghost use Rattle.kp_rpc.specs.Frame.{IsFrame};
 ghost use Rattle.kp_rpc.specs.Request.{RequestId, ExecuteRequest, ImpliesRequest};
 ghost use Rattle.kp_rpc.specs.Readings.{read_object};
 ghost use Rattle.kp_rpc.specs.Reply.{invalid_request, method_not_found};
@@ -24,6 +25,13 @@ pub fn bytes_ask_one_thing()
 #[tactic(auto, using(crate::proofs::Frames::asks_of))]
 pub fn json_asks_what_its_value_asks()
     ensures { (bytes : List ℕ) (d : Data) (f : Frame) → IsJson bytes d → Asks bytes f → f ≡ read_frame d }
+{}
+
+/// The text of one object or array asks what its JSON value asks: so the text that a client writes of a request of execute
+/// or implies, which is that of its tree, asks what the two laws below say.
+#[tactic(auto, using(crate::proofs::Frames::frame_asks))]
+pub fn a_text_asks_what_its_value_asks()
+    ensures { (bytes : List ℕ) (d : Data) → IsFrame bytes d → Asks bytes (read_frame d) }
 {}
 
 /// What a client writes of a request of execute asks that request.
