@@ -52,8 +52,9 @@ fn of_asked(alloc: Global, id: &Id, asked: Asked) -> Result<Vec<u8>, Fail> {
 
 /// The reply to a call, none for a notification.
 fn of_call(alloc: Global, call: Call) -> Result<Option<Vec<u8>>, Fail> {
-    match call.id {
-        Some(id) => Ok(Some(of_asked(alloc, &id, call.asked)?)),
+    let Call { id, asked } = call;
+    match id {
+        Some(id) => Ok(Some(of_asked(alloc, &id, asked)?)),
         None => Ok(None),
     }
 }

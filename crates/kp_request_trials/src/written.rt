@@ -1,5 +1,7 @@
 use kp_kore::{Pattern, Sort};
-use kp_requests::{Asked, Parsed, Reading, Request, add_module_text, request_of, simplify_text};
+use kp_requests::{
+    Asked, Call, Parsed, Reading, Request, add_module_text, request_of, simplify_text,
+};
 use kp_rpc::{Id, Options, Question, question_text};
 use std::alloc::Global;
 use std::test::Fail;
@@ -15,13 +17,19 @@ fn top(alloc: Global) -> Result<Pattern, Fail> {
     })
 }
 
+/// The request that a call asks.
+fn request_of_call(call: Call) -> Result<Request, Fail> {
+    let Call { id: _, asked } = call;
+    match asked {
+        Asked::Request(request) => Ok(request),
+        Asked::Refused(_) => Err(Fail::from("refused")),
+    }
+}
+
 /// What the bytes of one request ask.
 fn request_in(alloc: Global, bytes: &[u8]) -> Result<Request, Fail> {
     match request_of(alloc, bytes)? {
-        Parsed::Single(call) => match call.asked {
-            Asked::Request(request) => Ok(request),
-            Asked::Refused(_) => Err(Fail::from("refused")),
-        },
+        Parsed::Single(call) => request_of_call(call),
         Parsed::Batch(_) => Err(Fail::from("batch")),
         Parsed::Refused(_) => Err(Fail::from("no frame")),
     }
