@@ -4,7 +4,7 @@ use Rattle.std.specs.Prelude.{◌≡◌, true, List, Option, Some, ⊤}
 use Rattle.std.specs.List.{AllByRecursion, Contains}
 use Rattle.kp_kore.specs.Syntax.{KoreSort, KoreSorts, no_sorts, next_sort, SymbolDeclaration}
 use Rattle.kp_kore.specs.Parts.{SortedName}
-use Rattle.kp_kore.specs.Signature.{KoreSignature, integer_sort, symbol_declared, IsBelow}
+use Rattle.kp_kore.specs.Signature.{KoreSignature, is_number_sort, symbol_declared, IsBelow}
 use Rattle.kp_kore.specs.Sorting.{result_sort}
 use Rattle.kp_semantics.specs.Value.{HasSort, HaveSorts}
 use Rattle.kp_semantics.specs.Instance.{Valuation, GivesSorts}
@@ -28,7 +28,7 @@ IsPlaced g place t = (own : KoreSort) × (term_sort g t ≡ Some own) × IsBelow
 abbrev mutual
   pub IsWellSorted : KoreSignature → KoreSort → SymbolicTerm → Type 0
   IsWellSorted g place (unknown x) = IsBelow g.subsorts x.sort place
-  IsWellSorted g place (offset x c) = (integer_sort g ≡ Some x.sort) × (can_be_added g c ≡ true) × IsBelow g.subsorts x.sort place
+  IsWellSorted g place (offset x c) = (is_number_sort g x.sort ≡ true) × (can_be_added g c ≡ true) × IsBelow g.subsorts x.sort place
   IsWellSorted g place (known u) = HasSort g place u
   IsWellSorted g place (headed f ts) = IsPlaced g place (headed f ts) × (d : SymbolDeclaration) × (symbol_declared g f ≡ Some d) × AreWellSorted g d.arguments ts
 
