@@ -1,13 +1,11 @@
 -- From the parts of a claim to the claim, and to its fault.
-use Rattle.std.proofs.Common.{◌≡◌, refl, sym, ap, subst, ◌∙◌, Bool, true, false, ◌&&◌, cond, List, Option, Some, None, inl, inr, String, Global, string_bytes, Result, Ok, Err}
-use Rattle.std.specs.Prelude.{OnOk, IfErr}
+use Rattle.std.proofs.Common.{◌≡◌, refl, sym, ap, subst, ◌∙◌, Bool, true, false, ◌&&◌, cond, List, Option, Some, None, inl, inr, String, Global, string_bytes}
 use Rattle.std.specs.Option.{option_map}
 use Rattle.kp_kore.specs.Parts.{is_term}
 use Rattle.kp_kore.specs.Syntax.{Text, KoreSort, KorePattern, Statement}
 use Rattle.kp_kore.specs.View.{sort_view}
 use Rattle.kp_kore.specs.Signature.{KoreSignature}
 use Rattle.kp_signature.specs.Places.{earlier, the_top}
-use Rattle.kp_sorts.specs.Regularity.{keeps_values_apart}
 use Rattle.kp_signature.specs.Faults.{fault_view as verify_view}
 use Rattle.kp_signature.specs.Verify.{VerifyFault, first_fault, unknown_sort, unknown_symbol, wrong_number, sort_differs, number_too_wide, term_too_deep, no_literal}
 use Rattle.kp_signature.specs.declared.error.VerifyError.{VerifyError}
@@ -17,11 +15,11 @@ use Rattle.kp_states.specs.States.{IsTold}
 use Rattle.kp_states.specs.declared.error.StateError.{StateError}
 use Rattle.kp_states.specs.declared.error.StateError.TheVariants as state
 use Rattle.kp_claims.specs.Claims.{ClaimSides, sides_of, is_ground, is_plain, if_ground, ground_sides, label_of}
-use Rattle.kp_claims.specs.Faults.{Fault, other_shape, unverified, foreign_symbol, IsWide, Tells, outline_fault, label_fault, bare_claim, meaning_fault, claim_fault, HasWideSide, IsWideClaim, IsNumberFault, IsFaultOfSides, AreFaultlessSides, IsFaultOfClaim, IsFaultlessClaim, TellsOf}
+use Rattle.kp_claims.specs.Faults.{Fault, other_shape, unverified, foreign_symbol, IsWide, Tells, outline_fault, label_fault, bare_claim, meaning_fault, claim_fault, IsWideClaim, IsNumberFault, IsFaultOfSides, AreFaultlessSides, IsFaultOfClaim, IsFaultlessClaim, TellsOf}
 use Rattle.kp_claims.specs.declared.fault.ClaimError.{ClaimError}
 use Rattle.kp_claims.specs.declared.fault.ClaimError.TheVariants as error
 use Rattle.kp_claims.specs.declared.fault.ClaimFault.TheVariants as told
-use Rattle.kp_claims.specs.Sides.{IsGroundAt, IsNumberFaultOf, IsNumberFaultOfSides, error_of_verify, error_of_state}
+use Rattle.kp_claims.specs.Sides.{IsGroundAt, IsNumberFaultOf, error_of_verify, error_of_state}
 use Rattle.kp_claims.proofs.Meanings.{ground_is_term, ground_is_closed}
 
 pub tells_map : (P Q : Fault → Type 0) → ((f : Fault) → P f → Q f) → (e : ClaimError) → TellsOf P e → TellsOf Q e
@@ -131,16 +129,3 @@ told_number g s p state.OtherShape at t h = record { fault = other_shape; told =
 
 pub not_wide : (g : KoreSignature) (p : KorePattern) → ¬ IsOtherShape g p → ¬ IsWide g p
 not_wide g p h w = h (wide w)
-
--- ---- numbers over a signature that keeps the sorts of values apart, and over another
-
-pub not_wide_claim : {X : Type 0} (g : KoreSignature) (c : ClaimSides) (r : Result X ClaimError) → OnOk r (¬ HasWideSide g c) → OnOk r (¬ IsWideClaim g (Some c))
-not_wide_claim g c (Ok u) h = λ w. h w.1
-not_wide_claim g c (Err e) h = tt
-
-pub told_wide_claim : {X : Type 0} (g : KoreSignature) (c : ClaimSides) (r : Result X ClaimError) → keeps_values_apart g ≡ true → IfErr r (TellsOf (IsNumberFaultOfSides g c)) → IfErr r (TellsOf (IsNumberFault g (Some c)))
-told_wide_claim g c (Ok u) apart h = tt
-told_wide_claim g c (Err e) apart h = tells_map (IsNumberFaultOfSides g c) (IsNumberFault g (Some c)) (λ f k. ((apart, k.0), k.1)) e h
-
-pub nothing_wide : (g : KoreSignature) (c : ClaimSides) → keeps_values_apart g ≡ false → ¬ IsWideClaim g (Some c)
-nothing_wide g c mixed w = let apart : keeps_values_apart g ≡ true = w.0 in absurd (cc)

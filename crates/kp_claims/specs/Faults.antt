@@ -1,5 +1,5 @@
 -- The faults of a claims file and their order: that of the first sentence that has one, and of a claim's faults the first.
-use Rattle.std.specs.Prelude.{◌≡◌, ◌⊎◌, ℕ, true, List, [], ◌∷◌, ◌++◌, Option, Some, None, if◌then◌else◌, ⊤, IsTrue, option_to_list, codes, string_bytes}
+use Rattle.std.specs.Prelude.{◌≡◌, ◌⊎◌, ℕ, true, List, [], ◌∷◌, ◌++◌, Option, Some, None, if◌then◌else◌, ⊤, option_to_list, codes, string_bytes}
 use Rattle.std.specs.Option.{option_map, is_some}
 use Rattle.std.specs.List.{list_any}
 use Rattle.std.specs.Str.{bytes_eq}
@@ -11,7 +11,6 @@ use Rattle.kp_signature.specs.Places.{earlier, the_top}
 use Rattle.kp_signature.specs.Verify.{VerifyFault, first_fault}
 use Rattle.kp_semantics.specs.Instance.{Valuation}
 use Rattle.kp_semantics.specs.Numbers.{computes_wide}
-use Rattle.kp_sorts.specs.Regularity.{keeps_values_apart}
 use Rattle.kp_states.specs.Spelled.{first_foreign}
 use Rattle.kp_claims.specs.Claims.{counted, ClaimSides, is_one_path, ground_sides, label_of}
 use Rattle.kp_claims.specs.Files.{IsFileText, SpellsFile}
@@ -85,10 +84,9 @@ IsWide g p = (v : Valuation) → computes_wide g v p ≡ true
 abbrev pub HasWideSide : KoreSignature → ClaimSides → Type 0
 HasWideSide g c = IsWide g c.left ⊎ IsWide g c.right
 
--- over a signature that doesn't keep the sorts of values apart nothing is run, and no number is too wide
 abbrev pub IsWideClaim : KoreSignature → Option ClaimSides → Type 0
 IsWideClaim g None = ⊥
-IsWideClaim g (Some c) = IsTrue (keeps_values_apart g) × HasWideSide g c
+IsWideClaim g (Some c) = HasWideSide g c
 
 -- C2 that comes last
 abbrev pub IsNumberFault : KoreSignature → Option ClaimSides → Fault → Type 0

@@ -5,18 +5,16 @@ ghost use Rattle.kp_kore.specs.View.{view, sort_view};
 ghost use Rattle.kp_signature.specs.Places.{the_top};
 ghost use Rattle.kp_signature.specs.Verify.{first_fault, VerifiesAs};
 ghost use Rattle.kp_signature.specs.View.{signature_view};
-ghost use Rattle.kp_semantics.specs.Sorted.{IsRegular};
 ghost use Rattle.kp_states.specs.Spelled.{first_foreign as first_foreign_in};
 ghost use Rattle.kp_claims.specs.Claims.{is_ground};
-ghost use Rattle.kp_claims.specs.Faults.{unverified, foreign_symbol, bare_claim as stated_bare, IsWide, HasWideSide, IsWideClaim, IsNumberFault, IsFaultOfSides, AreFaultlessSides, TellsOf};
-ghost use Rattle.kp_claims.specs.Sides.{sides_view, HasMeaning, IsGroundAt, IsNumberFaultOf, IsNumberFaultOfSides, error_of_verify, error_of_state};
+ghost use Rattle.kp_claims.specs.Faults.{unverified, foreign_symbol, bare_claim as stated_bare, IsWide, IsWideClaim, IsNumberFault, IsFaultOfSides, AreFaultlessSides, TellsOf};
+ghost use Rattle.kp_claims.specs.Sides.{sides_view, HasMeaning, IsGroundAt, IsNumberFaultOf, error_of_verify, error_of_state};
 
 use crate::fault::{ClaimError, ClaimFault};
 use crate::outline::Sides;
 use kp_kore::{Pattern, Sort};
 use kp_semantics::Claim;
 use kp_signature::{Signature, VerifyError, verify};
-use kp_sorts::is_regular;
 use kp_states::{StateError, first_foreign, state_of};
 use std::alloc::{AllocError, Global};
 
@@ -85,22 +83,10 @@ fn check_foreign(alloc: Global, signature: &Signature, pattern: &Pattern) -> Res
     }
 }
 
-/// C2 where a verified side without foreign symbols computes a number beyond 128 bits, over a signature that keeps the
-/// sorts of values apart.
+/// C2 where a verified side without foreign symbols computes a number beyond 128 bits.
 fn check_numbers(alloc: Global, signature: &Signature, sides: Sides<'_>) -> Result<(), ClaimError>
     ensures ok { OnOk result (¬ IsWideClaim (signature_view signature.now) (Some (sides_view sides.entry))) }
     ensures err { HasMeaning (signature_view signature.now) (sides_view sides.entry) → IfErr result (TellsOf (IsNumberFault (signature_view signature.now) (Some (sides_view sides.entry)))) }
-{
-    if is_regular(signature) {
-        return check_both(alloc, signature, sides);
-    }
-    Ok(())
-}
-
-/// C2 where one of the sides computes such a number.
-fn check_both(alloc: Global, signature: &Signature, sides: Sides<'_>) -> Result<(), ClaimError>
-    ensures ok { OnOk result (¬ HasWideSide (signature_view signature.now) (sides_view sides.entry)) }
-    ensures err { IsRegular (signature_view signature.now) → HasMeaning (signature_view signature.now) (sides_view sides.entry) → IfErr result (TellsOf (IsNumberFaultOfSides (signature_view signature.now) (sides_view sides.entry))) }
 {
     check_number(alloc, signature, sides.left, sides.sort)?;
     Ok(check_number(alloc, signature, sides.right, sides.sort)?)
@@ -114,7 +100,7 @@ fn check_number(
     sort: &Sort,
 ) -> Result<(), ClaimError>
     ensures ok { OnOk result (¬ IsWide (signature_view signature.now) (view pattern.now)) }
-    ensures err { IsRegular (signature_view signature.now) → IsGroundAt (signature_view signature.now) (sort_view sort.now) (view pattern.now) → IfErr result (TellsOf (IsNumberFaultOf (signature_view signature.now) (view pattern.now))) }
+    ensures err { IsGroundAt (signature_view signature.now) (sort_view sort.now) (view pattern.now) → IfErr result (TellsOf (IsNumberFaultOf (signature_view signature.now) (view pattern.now))) }
 {
     match state_of(alloc, signature, pattern, sort.copy(alloc)?) {
         Ok(_) => Ok(()),

@@ -1,16 +1,14 @@
 -- Sorts and arguments by their number.
-use Rattle.std.proofs.Common.{◌≡◌, refl, sym, ◌∙◌, ap, ap₂, ℕ, Bool, true, false, ◌&&◌, ◌==◌, List, [], ◌∷◌, length, get_or, String, nat_le}
-use Rattle.std.specs.declared.alloc.Global.{Global}
+use Rattle.std.proofs.Common.{◌≡◌, refl, sym, ◌∙◌, ap, ap₂, ℕ, Bool, true, false, ◌&&◌, ◌==◌, List, [], ◌∷◌, length, get_or}
 use Rattle.std.proofs.lemmas.Bool.Decides.{Decides-eqb}
 use Rattle.kp_kore.specs.Syntax.{KoreSort, conjunction}
 use Rattle.kp_kore.specs.Signature.{KoreSignature, are_two, are_one}
-use Rattle.kp_kore.specs.Parts.{sort_list, is_term}
-use Rattle.kp_kore.specs.View.{names_view, sort_view, sorts_view, view, patterns_view}
+use Rattle.kp_kore.specs.Parts.{is_term}
+use Rattle.kp_kore.specs.View.{sort_view, sorts_view, view, patterns_view}
 use Rattle.kp_kore.specs.declared.sort.Sort.{Sort}
 use Rattle.kp_kore.specs.declared.pattern.Pattern.{Pattern}
 use Rattle.kp_semantics.specs.Value.{no_values, next_value}
 use Rattle.kp_semantics.specs.Instance.{Valuation, instance, instances, is_conjoined_pair}
-use Rattle.kp_signature.proofs.KnownSorts.{number_of_sorts}
 
 pub two_sorts : (test : KoreSort → Bool) (ss : List Sort) (a b : Sort) → length ss ≡ 2 → a ≡ get_or ss 0 a → b ≡ get_or ss 1 b → are_two test (sorts_view ss) ≡ test (sort_view a) && test (sort_view b)
 two_sorts test [] a b h p q = absurd (cc)
@@ -54,11 +52,6 @@ two_of_any [] = refl
 two_of_any (x ∷ []) = refl
 two_of_any (x ∷ y ∷ []) = refl
 two_of_any (x ∷ y ∷ z ∷ zs) = another_number (length (x ∷ y ∷ z ∷ zs)) _ refl (λ e. absurd (cc))
-
--- no parameters, and so many arguments
-pub plain_by_length : (ps : List (String Global)) (ss : List Sort) (m n : ℕ) → m ≡ length ps → m ≡ 0 → n ≡ length ss → nat_le n 64 ≡ (length (names_view ps) == 0) && nat_le (length (sort_list (sorts_view ss))) 64
-plain_by_length [] ss m n e z f = ap (λ k. nat_le k 64) (f ∙ sym (number_of_sorts ss))
-plain_by_length (p ∷ ps) ss m n e z f = absurd (cc)
 
 -- ---- conjunctions that aren't of two terms
 

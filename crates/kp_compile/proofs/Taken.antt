@@ -1,13 +1,11 @@
 -- How many arguments a verified application has, by the meaning of its symbol.
-use Rattle.std.proofs.Common.{◌≡◌, refl, sym, ap, ◌∙◌, subst, ℕ, suc, Bool, true, false, not, ◌&&◌, cond, List, [], ◌∷◌, length, Option, Some, None}
-use Rattle.std.specs.Prelude.{◌==◌, codes}
-use Rattle.std.specs.Option.{option_and_then}
+use Rattle.std.proofs.Common.{◌≡◌, refl, sym, ap, ◌∙◌, ℕ, suc, Bool, true, false, not, ◌&&◌, List, [], ◌∷◌, length, Option, Some, None}
+use Rattle.std.specs.Prelude.{◌==◌}
 use Rattle.std.proofs.lemmas.Bool.Decides.{Decides-eqb}
 use Rattle.kp_kore.specs.Syntax.{Text, KoreSort, KoreSorts, no_sorts, next_sort, KorePatterns, application, SymbolDeclaration, AliasDeclaration}
 use Rattle.kp_kore.specs.Parts.{sort_list, pattern_list}
-use Rattle.kp_kore.specs.Attributes.{text_of}
-use Rattle.kp_kore.specs.Hooks.{Hook, whole_arithmetic, whole_comparison, truth_connective, truth_negation, values_equal, values_different, hook_named}
-use Rattle.kp_kore.specs.Signature.{KoreSignature, SymbolMeaning, injection, construction, interpretation, foreign, meaning_of, symbol_meaning, symbol_declared, alias_declared, is_injection, is_constructor, is_plain, is_integer_sort, is_boolean_sort, are_two, are_one, fits_hook, fitting_hook}
+use Rattle.kp_kore.specs.Hooks.{Hook, whole_arithmetic, whole_comparison, truth_connective, truth_negation, values_equal, values_different}
+use Rattle.kp_kore.specs.Signature.{KoreSignature, SymbolMeaning, injection, construction, interpretation, foreign, meaning_of, symbol_meaning, symbol_declared, alias_declared, is_identity, is_constructor, is_plain, is_number_sort, is_truth_sort, are_two, are_one, fits_hook, fitting_hook}
 use Rattle.kp_kore.specs.View.{sorts_view, patterns_view}
 use Rattle.kp_kore.specs.declared.sort.Sort.{Sort}
 use Rattle.kp_kore.specs.declared.pattern.Pattern.{Pattern}
@@ -18,8 +16,7 @@ use Rattle.kp_signature.specs.Verify.{symbol_fault, wrong_number}
 use Rattle.kp_signature.proofs.Applied.{of_profile}
 use Rattle.kp_signature.proofs.KnownSorts.{number_of_sorts}
 use Rattle.kp_sorts.proofs.FaultLemmas.{no_fault_unless}
-use Rattle.kp_sorts.proofs.SortLemmas.{same_inside}
-use Rattle.kp_sorts.proofs.ApplicationLemmas.{meaning_by_tests}
+use Rattle.kp_sorts.proofs.MeaningLemmas.{an_interpretation, it_fits}
 use Rattle.kp_ground.specs.HookView.{hook_view}
 use Rattle.kp_ground.specs.declared.hook.Hook as code
 use Rattle.kp_ground.specs.declared.hook.Hook.TheVariants as hook
@@ -44,35 +41,14 @@ one_taken test (next_sort a no_sorts) e = refl
 one_taken test (next_sort a (next_sort b ss)) e = absurd (cc)
 
 fitting_number : (g : KoreSignature) (h : Hook) (ss : KoreSorts) (r : KoreSort) → fits_hook g h ss r ≡ true → length (sort_list ss) ≡ taken_by h
-fitting_number g (whole_arithmetic a) ss r e = two_taken (is_integer_sort g) ss (first_true (are_two (is_integer_sort g) ss) _ e)
-fitting_number g (whole_comparison c) ss r e = two_taken (is_integer_sort g) ss (first_true (are_two (is_integer_sort g) ss) _ e)
-fitting_number g (truth_connective c) ss r e = two_taken (is_boolean_sort g) ss (first_true (are_two (is_boolean_sort g) ss) _ e)
-fitting_number g truth_negation ss r e = one_taken (is_boolean_sort g) ss (first_true (are_one (is_boolean_sort g) ss) _ e)
+fitting_number g (whole_arithmetic a) ss r e = two_taken (is_number_sort g) ss (first_true (are_two (is_number_sort g) ss) _ e)
+fitting_number g (whole_comparison c) ss r e = two_taken (is_number_sort g) ss (first_true (are_two (is_number_sort g) ss) _ e)
+fitting_number g (truth_connective c) ss r e = two_taken (is_truth_sort g) ss (first_true (are_two (is_truth_sort g) ss) _ e)
+fitting_number g truth_negation ss r e = one_taken (is_truth_sort g) ss (first_true (are_one (is_truth_sort g) ss) _ e)
 fitting_number g values_equal ss r e = two_taken (λ s. true) ss (first_true (are_two (λ s. true) ss) _ e)
 fitting_number g values_different ss r e = two_taken (λ s. true) ss (first_true (are_two (λ s. true) ss) _ e)
 
 -- ---- the declaration of an interpreted symbol
-
-an_interpretation : (i c p : Bool) (o : Option Hook) (h : Hook) → meaning_by_tests i c p o ≡ interpretation h → o ≡ Some h
-an_interpretation true c p o h e = absurd (cc)
-an_interpretation false true p o h e = absurd (cc)
-an_interpretation false false true (Some k) h e = cc
-an_interpretation false false true None h e = absurd (cc)
-an_interpretation false false false o h e = absurd (cc)
-
-abbrev keep_fitting : KoreSignature → SymbolDeclaration → Hook → Option Hook
-keep_fitting g d k = cond (fits_hook g k d.arguments d.result) (Some k) None
-
-it_fits : (g : KoreSignature) (d : SymbolDeclaration) (h : Hook) → fitting_hook g d ≡ Some h → fits_hook g h d.arguments d.result ≡ true
-it_fits g d h e = by (option_and_then hook_named (text_of (codes "hook") d.attributes)) e
-  where
-    kept : (k : Hook) (b : Bool) → fits_hook g k d.arguments d.result ≡ b → cond b (Some k) None ≡ Some h → fits_hook g h d.arguments d.result ≡ true
-    kept k true t e = subst (λ x. fits_hook g x d.arguments d.result ≡ true) (same_inside k h e) t
-    kept k false t e = absurd (cc)
-
-    by : (o : Option Hook) → option_and_then (keep_fitting g d) o ≡ Some h → fits_hook g h d.arguments d.result ≡ true
-    by (Some k) e = kept k (fits_hook g k d.arguments d.result) refl e
-    by None e = absurd (cc)
 
 abbrev meaning_by : KoreSignature → Option SymbolDeclaration → SymbolMeaning
 meaning_by g (Some d) = symbol_meaning g d
@@ -96,7 +72,7 @@ interpreted_number g f ss ps h m fault = by (symbol_declared g f) refl
     by : (o : Option SymbolDeclaration) → symbol_declared g f ≡ o → length (pattern_list ps) ≡ taken_by h
     by None e = absurd (cc (sym (ap (meaning_by g) e) ∙ m))
     by (Some d) e =
-        let fits = it_fits g d h (an_interpretation (is_injection d) (is_constructor d) (is_plain d) (fitting_hook g d) h (sym (ap (meaning_by g) e) ∙ m)) in
+        let fits = it_fits g d h (an_interpretation (is_identity d) (is_constructor d) (is_plain d) (fitting_hook g d) h (sym (ap (meaning_by g) e) ∙ m)).1 in
         sym (declared_number g f ss ps d e fault) ∙ fitting_number g h d.arguments d.result fits
 
 -- ---- verified applications

@@ -1,6 +1,6 @@
 ghost use Rattle.std.specs.Prelude.{◌≡◌, true};
 ghost use Rattle.std.specs.Option.{option_map};
-ghost use Rattle.kp_kore.specs.Signature.{is_integer_sort, is_boolean_sort, are_two, are_one, fits_hook, fitting_hook, is_injection as injection_test, is_plain as plain_test, has_equations as equation_test, is_constructor as constructor_test, symbol_meaning as meaning_declared, meaning_of as meaning_named};
+ghost use Rattle.kp_kore.specs.Signature.{is_number_sort, is_truth_sort, are_two, are_one, fits_hook, fitting_hook, symbol_meaning as meaning_declared, meaning_of as meaning_named};
 ghost use Rattle.kp_kore.specs.View.{sort_view, sorts_view, symbol_sentence_view};
 ghost use Rattle.kp_signature.specs.View.{signature_view};
 ghost use Rattle.kp_compile.specs.Meanings.{function_view, meaning_view};
@@ -10,7 +10,8 @@ use crate::hooks::function_named;
 use kp_ground::Hook;
 use kp_kore::{Sort, SymbolSentence};
 use kp_signature::Signature;
-use kp_signature::attributes::{has_mark, text_of};
+use kp_signature::attributes::text_of;
+use kp_signature::symbols::{is_constructor, is_identity, is_plain};
 
 /// What the name at the head of an application means. `meaning_view` in specs/Meanings.antt says which meaning of
 /// kp_kore/specs/Signature.antt each is.
@@ -24,31 +25,29 @@ pub enum Meaning {
     Foreign,
 }
 
-const MOST_ARGUMENTS: usize = 64;
-
-fn are_two_integers(signature: &Signature, sorts: &[Sort]) -> bool
-    ensures { result ≡ are_two (is_integer_sort (signature_view signature.now)) (sorts_view sorts.now) }
+fn are_two_numbers(signature: &Signature, sorts: &[Sort]) -> bool
+    ensures { result ≡ are_two (is_number_sort (signature_view signature.now)) (sorts_view sorts.now) }
 {
     match sorts {
-        [first, second] => signature.is_integer_sort(first) && signature.is_integer_sort(second),
+        [first, second] => signature.is_number_sort(first) && signature.is_number_sort(second),
         _ => false,
     }
 }
 
-fn are_two_booleans(signature: &Signature, sorts: &[Sort]) -> bool
-    ensures { result ≡ are_two (is_boolean_sort (signature_view signature.now)) (sorts_view sorts.now) }
+fn are_two_truths(signature: &Signature, sorts: &[Sort]) -> bool
+    ensures { result ≡ are_two (is_truth_sort (signature_view signature.now)) (sorts_view sorts.now) }
 {
     match sorts {
-        [first, second] => signature.is_boolean_sort(first) && signature.is_boolean_sort(second),
+        [first, second] => signature.is_truth_sort(first) && signature.is_truth_sort(second),
         _ => false,
     }
 }
 
-fn is_one_boolean(signature: &Signature, sorts: &[Sort]) -> bool
-    ensures { result ≡ are_one (is_boolean_sort (signature_view signature.now)) (sorts_view sorts.now) }
+fn is_one_truth(signature: &Signature, sorts: &[Sort]) -> bool
+    ensures { result ≡ are_one (is_truth_sort (signature_view signature.now)) (sorts_view sorts.now) }
 {
     match sorts {
-        [only] => signature.is_boolean_sort(only),
+        [only] => signature.is_truth_sort(only),
         _ => false,
     }
 }
@@ -59,7 +58,7 @@ fn are_two_of_any(sorts: &[Sort]) -> bool
     sorts.len() == 2
 }
 
-/// Whether the arguments' sorts and the result's are of the function's kinds.
+/// Whether the arguments' sorts and the result's are of the function's kinds, and have values of these kinds alone.
 fn fits_function(
     signature: &Signature,
     function: Function,
@@ -70,19 +69,19 @@ fn fits_function(
 {
     match function {
         Function::Two(Hook::Arithmetic(_)) => {
-            are_two_integers(signature, arguments) && signature.is_integer_sort(result_sort)
+            are_two_numbers(signature, arguments) && signature.is_number_sort(result_sort)
         }
         Function::Two(Hook::Comparison(_)) => {
-            are_two_integers(signature, arguments) && signature.is_boolean_sort(result_sort)
+            are_two_numbers(signature, arguments) && signature.is_truth_sort(result_sort)
         }
         Function::Two(Hook::Connective(_)) => {
-            are_two_booleans(signature, arguments) && signature.is_boolean_sort(result_sort)
+            are_two_truths(signature, arguments) && signature.is_truth_sort(result_sort)
         }
         Function::Two(Hook::Equal | Hook::Different) => {
-            are_two_of_any(arguments) && signature.is_boolean_sort(result_sort)
+            are_two_of_any(arguments) && signature.is_truth_sort(result_sort)
         }
         Function::Negation => {
-            is_one_boolean(signature, arguments) && signature.is_boolean_sort(result_sort)
+            is_one_truth(signature, arguments) && signature.is_truth_sort(result_sort)
         }
     }
 }
@@ -105,40 +104,10 @@ fn fitting_function(signature: &Signature, declaration: &SymbolSentence) -> Opti
     }
 }
 
-fn is_injection(declaration: &SymbolSentence) -> bool
-    ensures { result ≡ injection_test (symbol_sentence_view declaration.now) }
-{
-    declaration.name.as_str() == "inj" && declaration.parameters.len() == 2
-}
-
-/// No sort parameters, and no more arguments than are read.
-fn is_plain(declaration: &SymbolSentence) -> bool
-    ensures { result ≡ plain_test (symbol_sentence_view declaration.now) }
-{
-    declaration.parameters.len() == 0 && declaration.arguments.len() <= MOST_ARGUMENTS
-}
-
-/// Equations that a constructor can't have.
-fn has_equations(declaration: &SymbolSentence) -> bool
-    ensures { result ≡ equation_test (symbol_sentence_view declaration.now) }
-{
-    has_mark(&declaration.attributes, "assoc")
-        || has_mark(&declaration.attributes, "comm")
-        || has_mark(&declaration.attributes, "idem")
-}
-
-fn is_constructor(declaration: &SymbolSentence) -> bool
-    ensures { result ≡ constructor_test (symbol_sentence_view declaration.now) }
-{
-    is_plain(declaration)
-        && has_mark(&declaration.attributes, "constructor")
-        && !has_equations(declaration)
-}
-
 fn symbol_meaning(signature: &Signature, declaration: &SymbolSentence) -> Meaning
     ensures { meaning_view result ≡ meaning_declared (signature_view signature.now) (symbol_sentence_view declaration.now) }
 {
-    if is_injection(declaration) {
+    if is_identity(declaration) {
         Meaning::Injection
     } else if is_constructor(declaration) {
         Meaning::Constructor

@@ -1,12 +1,7 @@
 -- Loops over the elements of a list.
-use Rattle.std.proofs.Common.{◌≡◌, sym, ap, subst, ◌∙◌, ℕ, ◌+◌, ◌<◌, ◌≤◌, inl, inr, ◌&&◌, ◌==◌, nat_le, List, [], ◌∷◌, length, take, get_or, Contains, String}
-use Rattle.std.specs.declared.alloc.Global.{Global}
+use Rattle.std.proofs.Common.{sym, subst, ℕ, ◌+◌, ◌<◌, ◌≤◌, inl, inr, List, [], length, take, get_or, Contains}
 use Rattle.std.proofs.lemmas.List.{take_more, take_all}
 use Rattle.std.proofs.lemmas.List.Elements.{Contains-push_cases, Contains-get_or}
-use Rattle.kp_kore.specs.Parts.{sort_list}
-use Rattle.kp_kore.specs.View.{names_view, sorts_view}
-use Rattle.kp_kore.specs.declared.sort.Sort.{Sort}
-use Rattle.kp_signature.proofs.KnownSorts.{number_of_sorts}
 use Rattle.kp_heads.proofs.Values.{nothing_in}
 
 module _ {A : Type 0} (P : A → Type 0) (xs : List A) where
@@ -24,8 +19,3 @@ module _ {A : Type 0} (P : A → Type 0) (xs : List A) where
 
   pub not_all : (i : ℕ) (d : A) → i < length xs → ¬ P (get_or xs i d) → ¬ ((x : A) → Contains xs x → P x)
   not_all i d short not all = not (all (get_or xs i d) (Contains-get_or xs i d short))
-
--- no parameters, and so many arguments
-pub plain_by_length : (ps : List (String Global)) (ss : List Sort) (m n : ℕ) → m ≡ length ps → m ≡ 0 → n ≡ length ss → nat_le n 64 ≡ (length (names_view ps) == 0) && nat_le (length (sort_list (sorts_view ss))) 64
-plain_by_length [] ss m n e z f = ap (λ k. nat_le k 64) (f ∙ sym (number_of_sorts ss))
-plain_by_length (p ∷ ps) ss m n e z f = absurd (cc)

@@ -1,19 +1,19 @@
 -- Steps lead from values to values, and each value's sort is reached by steps.
-use Rattle.std.proofs.Common.{◌≡◌, refl, sym, ap, subst, ◌∙◌, ℕ, zero, suc, ◌<◌, ◌⊎◌, inl, inr, Bool, true, false, not, ◌&&◌, ◌||◌, cond, Option, Some, None, List, [], ◌∷◌, map, get_or, Contains, arith, pos}
+use Rattle.std.proofs.Common.{◌≡◌, refl, sym, ap, subst, ◌∙◌, ℕ, zero, suc, ◌<◌, ◌⊎◌, inl, inr, Bool, true, false, ◌||◌, cond, Option, Some, None, List, [], ◌∷◌, map, get_or, Contains, arith, pos}
 use Rattle.std.specs.List.{find, flat_map}
 use Rattle.std.specs.Option.{option_and_then}
 use Rattle.std.specs.Str.{bytes_eq}
 use Rattle.std.proofs.lemmas.List.Elements.{Contains-append_left, Contains-append_right, Contains-append_cases}
 use Rattle.std.proofs.lemmas.Slice.Eq.{bytes_eq-Decides}
 use Rattle.kp_kore.specs.Syntax.{Text, KoreSort, KoreSorts, no_sorts, next_sort, SymbolDeclaration}
-use Rattle.kp_kore.specs.Hooks.{Hook}
 use Rattle.kp_kore.specs.Parts.{sort_list}
-use Rattle.kp_kore.specs.Signature.{KoreSignature, IsBelow, itself, through, Head, integers, booleans, tokens, constructor_of, IsHeadOf, integer_sort, boolean_sort, is_the, is_integer_sort, is_boolean_sort, is_token_sort, has_literals, symbol_declared, symbol_meaning, SymbolMeaning, injection, construction, interpretation, foreign, is_injection, is_constructor, is_plain, fitting_hook}
+use Rattle.kp_kore.specs.Signature.{KoreSignature, IsBelow, itself, through, Head, integers, booleans, tokens, constructor_of, IsHeadOf, integer_sort, boolean_sort, is_the, is_integer_sort, is_boolean_sort, is_token_sort, has_literals, symbol_declared, symbol_meaning, construction, is_constructor}
 use Rattle.kp_semantics.specs.Value.{Value, whole, truth, token, constructed, Values, no_values, next_value, HasSort, HaveSorts, head_of}
 use Rattle.kp_signature.proofs.Same.{sorts_equal-Decides}
 use Rattle.kp_signature.proofs.Below.{onwards}
 use Rattle.kp_heads.specs.Heads.{HasValue}
-use Rattle.kp_heads.specs.Steps.{makes_values, if_making, constructor_declared, Step, pair_step, constructor_step, constructor_steps, symbol_steps, steps_of}
+use Rattle.kp_sorts.proofs.MeaningLemmas.{constructor_constructs, makes_what_it_means}
+use Rattle.kp_heads.specs.Steps.{if_making, constructor_declared, Step, pair_step, constructor_step, constructor_steps, symbol_steps, steps_of}
 
 -- ---- lists
 
@@ -104,23 +104,7 @@ one_of_three false false c h = inr (inr h)
 
 -- ---- constructors
 
-abbrev hooked : Option Hook → SymbolMeaning
-hooked (Some h) = interpretation h
-hooked None = foreign
-
--- a symbol's meaning by four tests
-abbrev meaning_by_tests : Bool → Bool → Bool → Option Hook → SymbolMeaning
-meaning_by_tests i c p o = cond i injection (cond c construction (cond p (hooked o) foreign))
-
 module _ (g : KoreSignature) where
-  means_construction : (i c : Bool) (rest : SymbolMeaning) → (not i && c) ≡ true → cond i injection (cond c construction rest) ≡ construction
-  means_construction true c rest h = absurd (cc)
-  means_construction false true rest h = refl
-  means_construction false false rest h = absurd (cc)
-
-  makes : (d : SymbolDeclaration) → makes_values d ≡ true → symbol_meaning g d ≡ construction
-  makes d h = means_construction (is_injection d) (is_constructor d) _ h
-
   -- ---- values
 
   -- a value that has a sort has each sort above
@@ -163,22 +147,15 @@ module _ (g : KoreSignature) where
   if_made d e true h = (refl, inside d e h)
   if_made d e false h = absurd (cc)
 
-  declared_by : (o : Option SymbolDeclaration) (d : SymbolDeclaration) → option_and_then if_making o ≡ Some d → (o ≡ Some d) × (makes_values d ≡ true)
-  declared_by (Some e) d h = let k = if_made e d (makes_values e) h in (ap Some k.1, subst (λ (v : SymbolDeclaration). makes_values v ≡ true) k.1 k.0)
+  declared_by : (o : Option SymbolDeclaration) (d : SymbolDeclaration) → option_and_then if_making o ≡ Some d → (o ≡ Some d) × (is_constructor d ≡ true)
+  declared_by (Some e) d h = let k = if_made e d (is_constructor e) h in (ap Some k.1, subst (λ (v : SymbolDeclaration). is_constructor v ≡ true) k.1 k.0)
   declared_by None d h = absurd (cc)
 
   pub declared_so : (c : Text) (d : SymbolDeclaration) → constructor_declared g c ≡ Some d → (symbol_declared g c ≡ Some d) × (symbol_meaning g d ≡ construction)
-  declared_so c d h = let k = declared_by (symbol_declared g c) d h in (k.0, makes d k.1)
-
-  is_made : (i c p : Bool) (o : Option Hook) → meaning_by_tests i c p o ≡ construction → (not i && c) ≡ true
-  is_made true c p o e = absurd (cc)
-  is_made false true p o e = refl
-  is_made false false true (Some h) e = absurd (cc)
-  is_made false false true None e = absurd (cc)
-  is_made false false false o e = absurd (cc)
+  declared_so c d h = let k = declared_by (symbol_declared g c) d h in (k.0, constructor_constructs g d k.1)
 
   pub so_declared : (c : Text) (d : SymbolDeclaration) → symbol_declared g c ≡ Some d → symbol_meaning g d ≡ construction → constructor_declared g c ≡ Some d
-  so_declared c d e m = ap (option_and_then if_making) e ∙ ap (λ b. cond b (Some d) None) (is_made (is_injection d) (is_constructor d) (is_plain d) (fitting_hook g d) m)
+  so_declared c d e m = ap (option_and_then if_making) e ∙ ap (λ b. cond b (Some d) None) (makes_what_it_means g d m)
 
   -- a constructor heads a value where each of its arguments' sorts has one
   pub constructor_has : (c : Text) (d : SymbolDeclaration) → constructor_declared g c ≡ Some d → ((a : KoreSort) → Contains (sort_list d.arguments) a → HasValue g a) → (us : Values) × HasSort g d.result (constructed c us)

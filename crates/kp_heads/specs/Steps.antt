@@ -1,19 +1,15 @@
 -- From which sorts' values a sort has one: a subsort's value is the sort's own, and a constructor makes one of its
 -- arguments' values.
 -- Source: the K framework's Kore language (subsorts, constructors).
-use Rattle.std.specs.Prelude.{Bool, not, ◌&&◌, List, [], ◌∷◌, ◌++◌, map, Option, Some, None, if◌then◌else◌}
+use Rattle.std.specs.Prelude.{List, [], ◌∷◌, ◌++◌, map, Option, Some, None, if◌then◌else◌}
 use Rattle.std.specs.List.{flat_map}
 use Rattle.std.specs.Option.{option_and_then}
 use Rattle.kp_kore.specs.Syntax.{Text, KoreSort, SymbolDeclaration}
 use Rattle.kp_kore.specs.Parts.{sort_list}
-use Rattle.kp_kore.specs.Signature.{KoreSignature, symbol_declared, is_injection, is_constructor}
-
--- whether the declaration is a constructor's
-abbrev pub makes_values : SymbolDeclaration → Bool
-makes_values d = not (is_injection d) && is_constructor d
+use Rattle.kp_kore.specs.Signature.{KoreSignature, symbol_declared, is_constructor}
 
 abbrev pub if_making : SymbolDeclaration → Option SymbolDeclaration
-if_making d = if makes_values d then Some d else None
+if_making d = if is_constructor d then Some d else None
 
 -- the first declaration of the name, where it is a constructor's
 abbrev pub constructor_declared : KoreSignature → Text → Option SymbolDeclaration

@@ -10,9 +10,7 @@ use Rattle.kp_kore.specs.View.{module_view}
 use Rattle.kp_kore.specs.declared.sentence.Module.{Module}
 use Rattle.kp_signature.specs.View.{signature_view, sentences_of}
 use Rattle.kp_semantics.specs.Rules.{is_rewriting, priority_of, usual_priority}
-use Rattle.kp_semantics.specs.Sorted.{IsRegular}
 use Rattle.kp_semantics.specs.Theory.{NumberedAxiom, rewrite_axioms_from, rewrite_axioms, labels_of, rule_id}
-use Rattle.kp_sorts.specs.Regularity.{keeps_values_apart}
 use Rattle.kp_rules.specs.Bodies.{IsReadAs}
 use Rattle.kp_rules.specs.declared.rule.Rule.{Rule}
 use Rattle.kp_rules.specs.declared.rule.RuleSet.{RuleSet}
@@ -96,10 +94,10 @@ pub sentences_seen : (ms : List (Bor Module)) → sentences_of ms ≡ flat_map (
 sentences_seen ms = sym (flat_map-map (λ m. m.sentences) (λ m. module_view m.now) ms)
 
 pub runs : (ms : List KoreModule) (rules : RuleSet) → signature_view rules.signature ≡ signature_of (flat_map (λ m. m.sentences) ms) →
-    AreMadeOf (signature_view rules.signature) (labels_of (rewrite_axioms ms)) (rewrite_axioms ms) rules.rules.items → rules.is_regular ≡ keeps_values_apart (signature_view rules.signature) → (rules.is_regular ≡ true → IsRegular (signature_view rules.signature)) → IsRunOf ms rules
-runs ms rules e h tested regular = record {
+    AreMadeOf (signature_view rules.signature) (labels_of (rewrite_axioms ms)) (rewrite_axioms ms) rules.rules.items → IsRunOf ms rules
+runs ms rules e h = record {
   theory = record { signature = signature_view rules.signature; rules = h.meant };
   signature = e;
   meant = h.are_rules;
-  runs = record { signature = refl; each = h.are_code; tested = tested; regular = regular };
+  runs = record { signature = refl; each = h.are_code };
 }

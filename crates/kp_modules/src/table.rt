@@ -19,7 +19,6 @@ use indexmap::IndexMap;
 use kp_kore::{Definition, Module, Name};
 use kp_rules::RuleSet;
 use kp_signature::Signature;
-use kp_sorts::is_regular;
 use std::alloc::{AllocError, Global};
 
 /// The rule set of a definition's main module, with the names of the modules that it reaches.
@@ -81,12 +80,7 @@ fn rule_set(alloc: Global, modules: &[&Module]) -> Result<RuleSet, LoadError>
 {
     let signature = Signature::new(alloc, modules)?;
     let rules = rules_of(alloc, &signature, modules)?;
-    let is_regular = is_regular(&signature);
-    Ok(RuleSet {
-        signature,
-        rules,
-        is_regular,
-    })
+    Ok(RuleSet { signature, rules })
 }
 
 fn names_of(alloc: Global, modules: &[&Module]) -> Result<IndexMap<Name, ()>, AllocError>

@@ -4,7 +4,11 @@
 #[cfg(test)]
 mod compiling;
 #[cfg(test)]
+mod hooks;
+#[cfg(test)]
 mod rules;
+#[cfg(test)]
+mod stepping;
 #[cfg(test)]
 mod successors;
 #[cfg(test)]

@@ -10,7 +10,6 @@ use Rattle.kp_kore.specs.Sorting.{sort_of_term}
 use Rattle.kp_kore.specs.View.{view}
 use Rattle.kp_kore.specs.declared.pattern.Pattern.{Pattern}
 use Rattle.kp_semantics.specs.Value.{HasSort}
-use Rattle.kp_semantics.specs.Sorted.{IsRegular}
 use Rattle.kp_semantics.specs.Instance.{Valuation, instance, GivesSorts, is_named, IsTrueUnder}
 use Rattle.kp_semantics.specs.Rules as model
 use Rattle.kp_semantics.specs.Foreign.{IsRead, Reads, none_within, has_foreign_head, is_read_priority}
@@ -53,7 +52,7 @@ opposite false h = absurd (cc)
 rewrite_is : (g : KoreSignature) (s : KoreSort) (r : KorePattern) (m : model.Rewrite) (w : code.Rewrite) → IsConstrained m → IsMadeOf g s m w → IsVerifiedLeft g m.left →
     m.new_variables ≡ model.new_variables_of m.left r → w.chooses ≡ not (is_plain_by (λ y. is_named y (free_variables m.left)) r m.ensured) →
     sort_of_term g m.right ≡ Some s →
-    (IsRegular g → (v : Valuation) → GivesSorts g v (free_variables m.left) → m.new_variables ≡ [] → HasSort g s (instance g v m.right)) → IsRewriteOf g m w
+    ((v : Valuation) → GivesSorts g v (free_variables m.left) → m.new_variables ≡ [] → HasSort g s (instance g v m.right)) → IsRewriteOf g m w
 rewrite_is g s r m w constrained h verified new e right sorted = record {
   left = h.left;
   tests = h.tests verified;
@@ -67,7 +66,7 @@ rewrite_is g s r m w constrained h verified new e right sorted = record {
       let f : w.chooses ≡ false = e ∙ ap not so in absurd (cc);
   choice = h.choice;
   constrained = constrained;
-  sorted = λ regular v gives none. subst (λ t. HasSort g t (instance g v m.right)) (sym h.right_sort) (sorted regular v gives none);
+  sorted = λ v gives none. subst (λ t. HasSort g t (instance g v m.right)) (sym h.right_sort) (sorted v gives none);
 }
 
 verified_left : (g : KoreSignature) (a : Statement) (s : KoreSort) (l r : KorePattern) (m : model.Rewrite) → a.pattern ≡ rewriting s l r → model.rewrite_of (rewriting s l r) ≡ Some m →
@@ -82,7 +81,7 @@ verified_left g a s l r m e shape h place =
 
 pub rewrite_body : (g : KoreSignature) (a : Statement) (s : KoreSort) (l r : KorePattern) (m : model.Rewrite) (w : code.Rewrite) → a.pattern ≡ rewriting s l r →
     (first_fault g the_top (rewriting s l r) ≡ None → model.rewrite_of (rewriting s l r) ≡ Some m → (c : Place) × (first_fault g c m.left ≡ None)) →
-    (first_fault g the_top (rewriting s l r) ≡ None → model.rewrite_of (rewriting s l r) ≡ Some m → IsTrue (none_within (has_foreign_head g) (rewriting s l r)) → IsRegular g → (v : Valuation) → GivesSorts g v (free_variables m.left) → m.new_variables ≡ [] → HasSort g s (instance g v m.right)) →
+    (first_fault g the_top (rewriting s l r) ≡ None → model.rewrite_of (rewriting s l r) ≡ Some m → IsTrue (none_within (has_foreign_head g) (rewriting s l r)) → (v : Valuation) → GivesSorts g v (free_variables m.left) → m.new_variables ≡ [] → HasSort g s (instance g v m.right)) →
     IsStatementRead g a → model.rewrite_of (rewriting s l r) ≡ Some m → is_side_read g m.left m.condition ≡ true → first_fault g the_top a.pattern ≡ None → none_within (misapplies_injection g) a.pattern ≡ true →
     m.new_variables ≡ model.new_variables_of m.left r → IsMadeOf g s m w → w.chooses ≡ not (is_plain_by (λ y. is_named y (free_variables m.left)) r m.ensured) → IsReadBody g a (Rewrite w)
 rewrite_body g a s l r m w e place sorted statement shape side fault injections new made chooses =

@@ -11,7 +11,7 @@ use Rattle.kp_signature.specs.View.{signature_view}
 use Rattle.kp_signature.specs.Places.{Place}
 use Rattle.kp_signature.specs.Verify.{first_fault, VerifyFault, FailsWith}
 use Rattle.kp_semantics.specs.Value.{Value, HasSort}
-use Rattle.kp_semantics.specs.Sorted.{IsSorted, IsRegular}
+use Rattle.kp_semantics.specs.Sorted.{IsSorted}
 use Rattle.kp_semantics.specs.Instance.{Valuation, instance, IsTrueUnder, GivesSorts}
 use Rattle.kp_semantics.specs.Rules as model
 use Rattle.kp_semantics.specs.Foreign.{none_within, has_foreign_head, has_interpreted_head, IsRead, Reads, IsSkeletonInstance}
@@ -19,7 +19,6 @@ use Rattle.kp_semantics.specs.Numbers.{computes_wide}
 use Rattle.kp_semantics.specs.Theory.{Theory}
 use Rattle.kp_ground.specs.Conditions.{condition_holds, condition_narrow as is_condition_narrow}
 use Rattle.kp_ground.specs.ConditionView.{condition_view}
-use Rattle.kp_sorts.specs.Regularity.{keeps_values_apart}
 use Rattle.kp_compile.specs.Exact.{IsLeftOf, IsTermOf, IsNarrowAs}
 use Rattle.kp_compile.specs.Verified.{misapplies_injection}
 use Rattle.kp_rules.specs.Heads.{HasHead}
@@ -92,7 +91,7 @@ pub record IsRewriteOf (g : KoreSignature) (m : model.Rewrite) (r : code.Rewrite
   pub right_narrow : IsNarrowAs g m.right r.right
   pub condition_narrow : (v : Valuation) → is_condition_narrow v (condition_view r.condition) ≡ not (list_any (computes_wide g v) m.condition)
   pub right_sort : sort_of_term g m.right ≡ Some (sort_view r.right_sort)
-  pub sorted : IsRegular g → (v : Valuation) → GivesSorts g v (free_variables m.left) → m.new_variables ≡ [] → HasSort g (sort_view r.right_sort) (instance g v m.right)
+  pub sorted : (v : Valuation) → GivesSorts g v (free_variables m.left) → m.new_variables ≡ [] → HasSort g (sort_view r.right_sort) (instance g v m.right)
 
 -- and the skeleton is the foreign rule's: it stands for the same values
 abbrev pub IsBodyOf : KoreSignature → model.RuleBody → RuleBody → Type 0
@@ -130,5 +129,3 @@ pub record IsCodeOf (g : KoreSignature) (m : model.RewriteRule) (r : Rule) : Typ
 pub record RunsAs (t : Theory) (rules : RuleSet) : Type 0 where
   pub signature : signature_view rules.signature ≡ t.signature
   pub each : AllZip (IsCodeOf t.signature) t.rules rules.rules.items
-  pub tested : rules.is_regular ≡ keeps_values_apart t.signature
-  pub regular : rules.is_regular ≡ true → IsRegular t.signature

@@ -55,6 +55,4 @@ pub struct SortTest {
 pub struct RuleSet {
     pub signature: Signature,
     pub rules: Vec<Rule>,
-    /// Whether whole numbers and truth values have their sorts for themselves; over other signatures nothing is run.
-    pub is_regular: bool,
 }

@@ -1,5 +1,5 @@
 -- The states of a run: each is the only one so many steps on.
-use Rattle.std.proofs.Common.{◌≡◌, refl, sym, ap₂, subst, ◌∙◌, ℕ, zero, suc, ◌+◌, ◌<◌, ◌≤◌, Bool, true, false, inl, inr, arith}
+use Rattle.std.proofs.Common.{◌≡◌, refl, sym, ap₂, subst, ℕ, zero, suc, ◌+◌, ◌<◌, ◌≤◌, Bool, true, false, inl, inr, arith}
 use Rattle.std.specs.Prelude.{◌⊎◌, Result, Ok, Err, IfErr}
 use Rattle.kp_kore.specs.Syntax.{KoreSort}
 use Rattle.kp_kore.specs.Signature.{KoreSignature}
@@ -9,9 +9,7 @@ use Rattle.kp_semantics.specs.Rules.{RuleBody, rewrite, foreign_rule}
 use Rattle.kp_semantics.specs.Theory.{Theory}
 use Rattle.kp_semantics.specs.Steps.{HasTurn, IsUnknown, StepsBy, Steps}
 use Rattle.kp_semantics.proofs.SameLemmas.{sorts_equal-Decides}
-use Rattle.kp_rules.specs.Bodies.{RunsAs}
-use Rattle.kp_rules.specs.declared.rule.RuleSet.{RuleSet}
-use Rattle.kp_run.specs.Causes.{TwoAmong, Written, IsWrittenBy, IsNotStepped, several, IsNextState, IsStateIn, StopsUntold, IsNotAnswered}
+use Rattle.kp_run.specs.Causes.{TwoAmong, Written, IsWrittenBy, IsNotStepped, several, IsNextState, IsStateIn, StopsUntold}
 use Rattle.kp_run.specs.declared.error.RunError.{RunError}
 use Rattle.kp_run.specs.declared.error.RunError.TheVariants.{NotAnswered}
 use Rattle.kp_run.proofs.Among.{of_any, same_one}
@@ -127,22 +125,16 @@ pub one_told : (t : Theory) (s : Written) → IsTold t s → ¬ StopsUntold t s 
 one_told t s told = told_more t 0 s s (none_at_first t s) (λ other e. e) told
 
 -- the same of an answer
-pub one_not_answered : {A : Type 0} (t : Theory) (s : Written) (r : Result A RunError) → ¬ IsUnknown t s.value → IfErr r (λ e. e ≡ NotAnswered → IsNotStepped t s) → IfErr r (λ e. e ≡ NotAnswered → IsNotAnswered t s 1)
+pub one_not_answered : {A : Type 0} (t : Theory) (s : Written) (r : Result A RunError) → ¬ IsUnknown t s.value → IfErr r (λ e. e ≡ NotAnswered → IsNotStepped t s) → IfErr r (λ e. e ≡ NotAnswered → StopsUntold t s 1)
 one_not_answered t s (Ok a) known h = tt
-one_not_answered t s (Err e) known h = λ is. inr (one_untold t s known (h is))
-
--- over a rule set that is run, a run is answered where no state on the way is untold
-pub answered_over : (t : Theory) (rules : RuleSet) (s : Written) (bound : ℕ) → RunsAs t rules → rules.is_regular ≡ true → ¬ StopsUntold t s bound → ¬ IsNotAnswered t s bound
-answered_over t rules s bound runs regular told (inl irregular) = absurd (cc (runs.tested ∙ irregular, regular))
-answered_over t rules s bound runs regular told (inr untold) = told untold
+one_not_answered t s (Err e) known h = λ is. one_untold t s known (h is)
 
 -- and back, at the state where a run is
-pub told_at : (t : Theory) (s : Written) → ¬ IsNotAnswered t s 1 → IsTold t s
-told_at t s answered known cause = answered (inr (one_untold t s known cause))
+pub told_at : (t : Theory) (s : Written) → ¬ StopsUntold t s 1 → IsTold t s
+told_at t s answered known cause = answered (one_untold t s known cause)
 
-pub untold_later : (t : Theory) (n bound : ℕ) (s at : Written) → IsStateIn t n s at → n < bound → IsNotAnswered t at 1 → IsNotAnswered t s bound
-untold_later t n bound s at reached below (inl irregular) = inl irregular
-untold_later t n bound s at reached below (inr h) =
+pub untold_later : (t : Theory) (n bound : ℕ) (s at : Written) → IsStateIn t n s at → n < bound → StopsUntold t at 1 → StopsUntold t s bound
+untold_later t n bound s at reached below h =
     let first : h.depth ≡ 0 = omega (arith, h.below) in
     let same : h.state ≡ at = subst (λ d. IsStateIn t d at h.state) first h.reached in
-    inr (record { depth = n; below = below; state = at; reached = reached; known = subst (λ x. ¬ IsUnknown t x.value) same h.known; cause = subst (IsNotStepped t) same h.cause })
+    record { depth = n; below = below; state = at; reached = reached; known = subst (λ x. ¬ IsUnknown t x.value) same h.known; cause = subst (IsNotStepped t) same h.cause }

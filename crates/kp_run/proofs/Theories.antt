@@ -1,5 +1,5 @@
 -- From the code's rules to the rules of the theory.
-use Rattle.std.proofs.Common.{◌≡◌, refl, sym, ap, subst, ◌∙◌, ℕ, ◌<◌, ◌≤◌, true, ◌↔◌, List, [], ◌∷◌, Option, Some, None, Bor, arith}
+use Rattle.std.proofs.Common.{◌≡◌, refl, sym, ap, subst, ◌∙◌, ℕ, ◌<◌, ◌≤◌, ◌↔◌, List, [], ◌∷◌, Option, Some, None, Bor, arith}
 use Rattle.std.specs.Prelude.{string_bytes, MatchOption}
 use Rattle.std.specs.List.{AllByRecursion}
 use Rattle.kp_kore.specs.Syntax.{KorePattern}
@@ -8,7 +8,7 @@ use Rattle.kp_kore.specs.Signature.{KoreSignature}
 use Rattle.kp_kore.specs.View.{sort_view}
 use Rattle.kp_signature.specs.View.{signature_view}
 use Rattle.kp_semantics.specs.Value.{Value, HasSort}
-use Rattle.kp_semantics.specs.Sorted.{IsSorted, IsRegular}
+use Rattle.kp_semantics.specs.Sorted.{IsSorted}
 use Rattle.kp_semantics.specs.Instance.{Valuation, instance, IsTrueUnder, GivesSorts, AgreesOn, AgreesOff}
 use Rattle.kp_semantics.specs.Rules as model
 use Rattle.kp_semantics.specs.Theory.{Theory}
@@ -241,22 +241,22 @@ only_step t u f next other s one after steps =
     steps
 
 -- and the sort of what it leads to
-next_is_at : (t : Theory) (u : Value) (f : Firing) (next : State) → IsRegular t.signature → IsSorted t.signature u → IsOneOf t u f → IsAfterFiring t.signature f next → IsAt t next
-next_is_at t u f next regular s one after =
+next_is_at : (t : Theory) (u : Value) (f : Firing) (next : State) → IsSorted t.signature u → IsOneOf t u f → IsAfterFiring t.signature f next → IsAt t next
+next_is_at t u f next s one after =
     let g = t.signature in
     of_the_one (FiresWith g u f) (FiresAfter g u f.priority) (IsAt t next)
     (λ m h. let k = fired g u f m s h in
     let w = h.meant.meant in
     let plain : IsPlain w = h.meant.is.plain after.chooses in
     after.sort (subst (HasSort g (sort_view f.rewrite.now.right_sort)) (sym (right_value g u f next w h.meant.is s h.solved after k.valuation k.fires))
-    (h.meant.is.sorted regular k.valuation k.fires.sorts plain.new_variables))) t.rules one
+    (h.meant.is.sorted k.valuation k.fires.sorts plain.new_variables))) t.rules one
 
-goes_there : (t : Theory) (rules : RuleSet) (u : Value) (f : Firing) (next : State) → RunsAs t rules → rules.is_regular ≡ true → IsSorted t.signature u → ¬ IsUnknown t u →
+goes_there : (t : Theory) (rules : RuleSet) (u : Value) (f : Firing) (next : State) → RunsAs t rules → IsSorted t.signature u → ¬ IsUnknown t u →
     OneAmong (IsFiring t.signature u f) (GoesAfter t.signature u f.priority) rules.rules.items → IsAfterFiring t.signature f next →
     GoesOnlyTo t u (value_view next.value) × IsAt t next
-goes_there t rules u f next runs regular s known one after =
+goes_there t rules u f next runs s known one after =
     let one_in : IsOneOf t u f = one_of t rules u f runs s one in
-    ((some_step t u f next s known one_in after, λ other steps. only_step t u f next other s one_in after steps), next_is_at t u f next (runs.regular regular) s one_in after)
+    ((some_step t u f next s known one_in after, λ other steps. only_step t u f next other s one_in after steps), next_is_at t u f next s one_in after)
 
 -- ---- in the words of the code's signature
 
@@ -265,10 +265,10 @@ pub stuck_here : (t : Theory) (rules : RuleSet) (u : Value) → RunsAs t rules �
 stuck_here t rules u runs s known none =
     (none_fires_here t rules u runs s (subst (λ g. AllByRecursion (λ r. ¬ BodyFires g u r.body) rules.rules.items) runs.signature none), known)
 
-pub goes_here : (t : Theory) (rules : RuleSet) (u : Value) (f : Firing) (next : State) → RunsAs t rules → rules.is_regular ≡ true → IsSorted t.signature u → ¬ IsUnknown t u →
+pub goes_here : (t : Theory) (rules : RuleSet) (u : Value) (f : Firing) (next : State) → RunsAs t rules → IsSorted t.signature u → ¬ IsUnknown t u →
     OneAmong (IsFiring (signature_view rules.signature) u f) (GoesAfter (signature_view rules.signature) u f.priority) rules.rules.items → IsAfterFiring (signature_view rules.signature) f next →
     GoesOnlyTo t u (value_view next.value) × IsAt t next
-goes_here t rules u f next runs regular s known one after =
-    goes_there t rules u f next runs regular s known
+goes_here t rules u f next runs s known one after =
+    goes_there t rules u f next runs s known
     (subst (λ g. OneAmong (IsFiring g u f) (GoesAfter g u f.priority) rules.rules.items) runs.signature one)
     (subst (λ g. IsAfterFiring g f next) runs.signature after)

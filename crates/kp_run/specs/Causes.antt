@@ -1,6 +1,6 @@
 -- Why a run isn't answered, in the words of the theory.
 -- Source: this project; firing, turns and steps are those of the theory.
-use Rattle.std.specs.Prelude.{◌≡◌, ◌<◌, ◌⊎◌, ℕ, zero, suc, true, false, List, [], ◌∷◌, Some}
+use Rattle.std.specs.Prelude.{◌≡◌, ◌<◌, ◌⊎◌, ℕ, zero, suc, true, List, [], ◌∷◌, Some}
 use Rattle.std.specs.List.{list_any}
 use Rattle.kp_kore.specs.Syntax.{KoreSort}
 use Rattle.kp_kore.specs.Parts.{free_variables, term_depth}
@@ -13,7 +13,6 @@ use Rattle.kp_semantics.specs.Foreign.{most_depth}
 use Rattle.kp_semantics.specs.Numbers.{computes_wide}
 use Rattle.kp_semantics.specs.Theory.{Theory}
 use Rattle.kp_semantics.specs.Steps.{AnyByRecursion, FiresUnder, HasTurn, IsUnknown, Steps, StepsBy}
-use Rattle.kp_sorts.specs.Regularity.{keeps_values_apart}
 use Rattle.kp_rules.specs.Bodies.{IsPlain}
 use Rattle.kp_states.specs.Spelled.{spelling}
 
@@ -114,7 +113,3 @@ pub record StopsUntold (t : Theory) (s : Written) (bound : ℕ) : Type 0 where
   pub reached : IsStateIn t depth s state
   pub known : ¬ IsUnknown t state.value
   pub cause : IsNotStepped t state
-
--- or the signature doesn't keep whole numbers and truth values apart from other values
-abbrev pub IsNotAnswered : Theory → Written → ℕ → Type 0
-IsNotAnswered t s bound = (keeps_values_apart t.signature ≡ false) ⊎ StopsUntold t s bound

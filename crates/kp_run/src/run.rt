@@ -2,7 +2,7 @@ ghost use Rattle.std.specs.Prelude.{◌≡◌, ◌<◌, ◌≤◌, IfOk, IfErr, 
 ghost use Rattle.kp_semantics.specs.Theory.{Theory};
 ghost use Rattle.kp_ground.specs.View.{value_view};
 ghost use Rattle.kp_rules.specs.Bodies.{RunsAs};
-ghost use Rattle.kp_run.specs.Causes.{IsNotAnswered, IsStateIn};
+ghost use Rattle.kp_run.specs.Causes.{IsStateIn, StopsUntold};
 ghost use Rattle.kp_run.specs.Runs.{IsAt, IsRunOf, written_of};
 ghost use Rattle.kp_run.specs.Turns.{SomeOpen};
 ghost use Rattle.kp_run.specs.declared.error.RunError.TheVariants.{NotAnswered, Unbound};
@@ -33,7 +33,7 @@ pub struct Executed {
     pub state: State,
 }
 
-/// Runs the rule set from a state for at most `bound` steps. Over a signature that isn't regular nothing is run.
+/// Runs the rule set from a state for at most `bound` steps.
 pub fn execute(
     alloc: Global,
     rules: &RuleSet,
@@ -46,13 +46,10 @@ pub fn execute(
     ensures at_bound { IfOk result (λ e. e.stop ≡ DepthBound → e.depth ≡ bound) }
     ensures is_run { (t : Theory) → RunsAs t rules.now → IsAt t state → IfOk result (λ e. IsRunOf t (value_view state.value) bound e) }
     ensures written { (t : Theory) → RunsAs t rules.now → IsAt t state → IfOk result (λ e. IsStateIn t e.depth (written_of state) (written_of e.state)) }
-    ensures answered { (t : Theory) → RunsAs t rules.now → IsAt t state → IfOk result (λ _. ¬ IsNotAnswered t (written_of state) bound) }
-    ensures not_answered { (t : Theory) → RunsAs t rules.now → IsAt t state → IfErr result (λ e. e ≡ NotAnswered → IsNotAnswered t (written_of state) bound) }
+    ensures answered { (t : Theory) → RunsAs t rules.now → IsAt t state → IfOk result (λ _. ¬ StopsUntold t (written_of state) bound) }
+    ensures not_answered { (t : Theory) → RunsAs t rules.now → IsAt t state → IfErr result (λ e. e ≡ NotAnswered → StopsUntold t (written_of state) bound) }
     ensures unbound { IfErr result (λ e. e ≡ Unbound → SomeOpen rules.now.rules.items) }
 {
-    if !rules.is_regular {
-        return Err(RunError::NotAnswered);
-    }
     let mut state = state;
     let mut is_counted = false;
     for depth in 0..bound {

@@ -1,5 +1,5 @@
 -- From what was read of a request, and the end of its run, to its reply.
-use Rattle.std.proofs.Common.{◌≡◌, ◌⊎◌, ℕ, Bool, true, false, List, [], ◌∷◌, ◌++◌, Option, Some, None, Vec, ◌≢◌, refl, sym, ap, subst, ◌∙◌, inl, inr}
+use Rattle.std.proofs.Common.{◌≡◌, ◌⊎◌, ℕ, true, false, List, [], ◌∷◌, ◌++◌, Option, Some, None, Vec, ◌≢◌, refl, sym, ap, subst, ◌∙◌, inl, inr}
 use Rattle.std.specs.Option.{option_and_then, option_map}
 use Rattle.std.specs.Prelude.{codes}
 use Rattle.std.specs.declared.alloc.Global.{Global}
@@ -12,14 +12,12 @@ use Rattle.kp_ground.specs.View.{value_view}
 use Rattle.kp_json.specs.Trees.{SpellsWrapped}
 use Rattle.kp_semantics.specs.Value.{Value, HasSort, truth}
 use Rattle.kp_semantics.specs.Instance.{Valuation, instance}
-use Rattle.kp_semantics.specs.Sorted.{IsRegular}
 use Rattle.kp_semantics.specs.Foreign.{none_within}
 use Rattle.kp_semantics.specs.Replies.{IsRightExecuted, Reason}
 use Rattle.kp_semantics.specs.Rules.{RewriteRule}
 use Rattle.kp_semantics.specs.Steps.{IsUnknownBy}
 use Rattle.kp_semantics.specs.Theory.{Theory}
 use Rattle.kp_signature.specs.Verify.{VerifiesAs}
-use Rattle.kp_sorts.specs.Regularity.{keeps_values_apart}
 use Rattle.kp_rpc.specs.Frame.{IsFrame}
 use Rattle.kp_rpc.specs.Causes.{IsRefused}
 use Rattle.kp_rpc.specs.Request.{RequestId, ExecuteOptions, ExecuteRequest, HasParams, bound_of}
@@ -30,7 +28,7 @@ use Rattle.kp_rpc.specs.declared.fault.StateFault.{StateFault}
 use Rattle.kp_rpc.specs.declared.fault.StateFault.TheVariants as fault
 use Rattle.kp_rpc.specs.declared.request.Execute.{Execute}
 use Rattle.kp_modules.specs.Reaching.{has}
-use Rattle.kp_run.specs.Causes.{IsNotAnswered, IsStateIn, StopsUntold}
+use Rattle.kp_run.specs.Causes.{IsStateIn, StopsUntold}
 use Rattle.kp_run.proofs.Among.{between_any}
 use Rattle.kp_run.specs.Runs.{IsRunOf, reason_of, written_of}
 use Rattle.kp_states.specs.Spelled.{IsOtherShape, IsSpellingOf, spelling, has_two_sorts, first_foreign, injection_name}
@@ -43,7 +41,7 @@ use Rattle.kp_server.specs.Normal.{IsLater, EndsAt, TellsFirst, HasNoSpelling}
 use Rattle.kp_server.specs.Ends.{IsExecuteRead, IsStateAt, IsStatePattern, IsStateOf, IsEndOf, IsEndLine, IsFailureOf, IsListing, IsPlain, IsWrongTree, IsWrongPattern, IsLineTo, options_of, result_of, unanswered_bytes}
 use Rattle.kp_server.specs.Right.{IsLine, IsPatternFault, IsStateError, IsFaulted, IsAnswered}
 use Rattle.kp_server.specs.Setting.{IsElsewhere, IsModuleReached, Setting}
-use Rattle.kp_server.specs.Untold.{IsLeftOut, IsUntold, elsewhere, stops_at_rules, no_state, mixes_values, no_run}
+use Rattle.kp_server.specs.Untold.{IsLeftOut, IsUntold, elsewhere, stops_at_rules, no_state, no_run}
 use Rattle.kp_server.specs.Sides.{IsUnreached}
 use Rattle.kp_server.specs.declared.failure.Failure.{Failure}
 use Rattle.kp_server.specs.declared.failure.Failure.TheVariants as failure
@@ -90,7 +88,7 @@ left_out s e state is reached why = (reached, is.pattern, is.is_pattern.spells, 
 later_at : (s : Setting) (e : Execute) (end : Executed) (h : IsEndOf s e end) → IsLater s.theory h.is_start.pattern h.is_start.sort end.depth (written_of end.state)
 later_at s e end h =
     let st = h.is_start in
-    let ground = st.is_state.ground st.regular st.verifies in
+    let ground = st.is_state.ground st.verifies in
     record {
       start = value_view h.start.value;
       means = ground.meant;
@@ -140,19 +138,18 @@ is_told : (s : Setting) (e : Execute) (end : Executed) (h : IsEndOf s e end) →
 is_told s e end h (elsewhere x) = h.plain.here x
 is_told s e end h (stops_at_rules x) = x (both_empty (options_of e).cut_points (options_of e).terminals h.plain.cut_points h.plain.terminals)
 is_told s e end h (no_state x) = h.is_start.is_state.shape x
-is_told s e end h (mixes_values x) = h.told (inl x)
 is_told s e end h (no_run c means stops) =
     let st = h.is_start in
-    let ground = st.is_state.ground st.regular st.verifies in
+    let ground = st.is_state.ground st.verifies in
     let at_value = subst (λ (u : Value). StopsUntold s.theory (record { value = u; sort = st.sort }) (bound_of (options_of e))) (same_value s.theory.signature st.pattern c (value_view h.start.value) means ground.meant) stops in
-    h.told (inr (subst (λ (k : KoreSort). StopsUntold s.theory (record { value = value_view h.start.value; sort = k }) (bound_of (options_of e))) (sym st.is_state.sort_is) at_value))
+    h.told (subst (λ (k : KoreSort). StopsUntold s.theory (record { value = value_view h.start.value; sort = k }) (bound_of (options_of e))) (sym st.is_state.sort_is) at_value)
 
 pub answered : (s : Setting) (e : Execute) → IsExecuteRead e → (end : Executed) → IsEndOf s e end → (p : KorePattern) → IsSpellingOf s.theory.signature (value_view end.state.value) p
     → p ≡ spelling s.theory.signature (sort_view end.state.sort) (value_view end.state.value)
     → (tree : Data) → result_tree (result_of end p) ≡ Some tree → IsAnswered s (data_view e.request) (result_reply (id_view e.id) tree)
 answered s e r end h p sp normal tree w =
     let st = h.is_start in
-    let ground = st.is_state.ground st.regular st.verifies in
+    let ground = st.is_state.ground st.verifies in
     let request : ExecuteRequest = record { id = id_view e.id; state = st.pattern; options = options_view e.options } in
     record {
       members = r.members;
@@ -211,12 +208,9 @@ t2_pattern g LeftOut p sort (fault.Verify f) is v none out =
     subst (λ (x : VerifyFault). IsPatternFault g LeftOut p x) (sym shape) (sort, v, none, out)
 t2_pattern g LeftOut p sort (fault.NoModule name) is v none out = absurd (cc is)
 
--- another shape is left out, and over a signature that isn't regular each is
-pub shape_left_out : (g : KoreSignature) (s : Setting) → g ≡ s.theory.signature → (is_regular : Bool) → (is_regular ≡ true → IsRegular s.theory.signature) → is_regular ≡ keeps_values_apart s.theory.signature
-    → (options : ExecuteOptions) (p : KorePattern) (sort : KoreSort) → (IsRegular g → IsOtherShape g p) → IsLeftOut s options p sort
-shape_left_out g s same true regular tested options p sort h =
-    inl (no_state (subst (λ (k : KoreSignature). IsOtherShape k p) same (h (subst IsRegular (sym same) (regular refl)))))
-shape_left_out g s same false regular tested options p sort h = inl (mixes_values (sym tested))
+-- another shape is left out
+pub shape_left_out : (g : KoreSignature) (s : Setting) → g ≡ s.theory.signature → (options : ExecuteOptions) (p : KorePattern) (sort : KoreSort) → IsOtherShape g p → IsLeftOut s options p sort
+shape_left_out g s same options p sort h = inl (no_state (subst (λ (k : KoreSignature). IsOtherShape k p) same h))
 
 -- the module that the request names isn't reached
 pub name_failure : (s : Setting) (e : Execute) → IsExecuteRead e → (f : Failure) → IsUnreached s (options_of e).module_name f → IsFailureOf s e f
@@ -246,38 +240,27 @@ more_left_out s options main same p sort (inr x) = stops_at_rules (not_empty opt
 pub plain_at : (main there : Text) (options : ExecuteOptions) → main ≡ there → IsPlain main options → IsPlain there options
 plain_at main there options same h = subst (λ (m : Text). IsPlain m options) same h
 
-pub run_left_out : (s : Setting) (e : Execute) (state : State) (is : IsStateOf s.theory.signature e state) (bound : ℕ) → bound ≡ bound_of (options_of e) → IsNotAnswered s.theory (written_of state) bound → IsUntold s (options_of e) is.pattern is.sort
-run_left_out s e state is bound same (inl x) = mixes_values x
-run_left_out s e state is bound same (inr x) =
-    let ground = is.is_state.ground is.regular is.verifies in
+pub run_left_out : (s : Setting) (e : Execute) (state : State) (is : IsStateOf s.theory.signature e state) (bound : ℕ) → bound ≡ bound_of (options_of e) → StopsUntold s.theory (written_of state) bound → IsUntold s (options_of e) is.pattern is.sort
+run_left_out s e state is bound same x =
+    let ground = is.is_state.ground is.verifies in
     no_run (value_view state.value) ground.meant
     (subst (λ (n : ℕ). StopsUntold s.theory (record { value = value_view state.value; sort = is.sort }) n) same
     (subst (λ (k : KoreSort). StopsUntold s.theory (record { value = value_view state.value; sort = k }) bound) is.is_state.sort_is x))
 
 -- ---- states
 
-state_here : (g : KoreSignature) (e : Execute) (p : KorePattern) (sort : KoreSort) (s : State) → IsStatePattern e p → VerifiesAs g p sort → IsStateAt g p sort s → IsRegular g → IsStateOf g e s
-state_here g e p sort s is v at regular = record { pattern = p; is_pattern = is; sort = sort; verifies = v; regular = regular; is_state = at }
+state_here : (g : KoreSignature) (e : Execute) (p : KorePattern) (sort : KoreSort) (s : State) → IsStatePattern e p → VerifiesAs g p sort → IsStateAt g p sort s → IsStateOf g e s
+state_here g e p sort s is v at = record { pattern = p; is_pattern = is; sort = sort; verifies = v; is_state = at }
 
-pub state_is : (g h : KoreSignature) → g ≡ h → (e : Execute) (p : KorePattern) (sort : KoreSort) (s : State) → IsStatePattern e p → VerifiesAs g p sort → IsStateAt g p sort s → IsRegular h → IsStateOf h e s
-state_is g h same e p sort s is v at = subst (λ (k : KoreSignature). IsRegular k → IsStateOf k e s) same (state_here g e p sort s is v at)
+pub state_is : (g h : KoreSignature) → g ≡ h → (e : Execute) (p : KorePattern) (sort : KoreSort) (s : State) → IsStatePattern e p → VerifiesAs g p sort → IsStateAt g p sort s → IsStateOf h e s
+state_is g h same e p sort s is v at = subst (λ (k : KoreSignature). IsStateOf k e s) same (state_here g e p sort s is v at)
 
 -- the state's value has the sort that it is written at
 pub sorted_start : (g : KoreSignature) (e : Execute) (s : State) → IsStateOf g e s → HasSort g (sort_view s.sort) (value_view s.value)
-sorted_start g e s h = (h.is_state.ground h.regular h.verifies).sorted
+sorted_start g e s h = (h.is_state.ground h.verifies).sorted
 
--- T2 of a state over a signature that mixes values
-pub mixed_failure : (g : KoreSignature) (s : Setting) → g ≡ s.theory.signature → keeps_values_apart s.theory.signature ≡ false → (e : Execute) (p : KorePattern) (sort : KoreSort) (state : State)
-    → IsModuleReached s.names (options_of e).module_name → IsStatePattern e p → VerifiesAs g p sort → IsStateAt g p sort state
-    → (f : StateFault) → state_fault_view f ≡ not_verified other_shape → IsFailureOf s e (failure.Fault f)
-mixed_failure g s same mixed e p sort state reached is v at f t2 =
-    let error : IsPatternFault s.theory.signature (IsLeftOut s (options_of e)) p other_shape =
-    subst (λ (k : KoreSignature). IsPatternFault k (IsLeftOut s (options_of e)) p other_shape) same (sort, v, at.no_foreign, inl (mixes_values mixed)) in
-    (is.tree, is.has, subst (λ (x : RequestError). IsStateError s (options_of e) is.tree x) (sym t2) (reached, p, is.spells, error))
-
-pub spelled_at : (g h : KoreSignature) → g ≡ h → (s : KoreSort) (u : Value) (p : KorePattern) → (IsRegular g → HasSort g s u → IsSpellingOf g u p)
-    → IsRegular h → HasSort h s u → IsSpellingOf h u p
-spelled_at g h same s u p f = subst (λ (k : KoreSignature). IsRegular k → HasSort k s u → IsSpellingOf k u p) same f
+pub spelled_at : (g h : KoreSignature) → g ≡ h → (s : KoreSort) (u : Value) (p : KorePattern) → (HasSort g s u → IsSpellingOf g u p) → HasSort h s u → IsSpellingOf h u p
+spelled_at g h same s u p f = subst (λ (k : KoreSignature). HasSort k s u → IsSpellingOf k u p) same f
 
 -- ---- lines
 

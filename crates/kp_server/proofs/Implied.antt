@@ -1,6 +1,6 @@
 -- Two ground terms of one sort imply one another exactly where their values are one; from what was read of a request of
 -- implies to its reply.
-use Rattle.std.proofs.Common.{◌≡◌, ◌≢◌, true, false, List, ℕ, [], ◌∷◌, Option, Some, None, Vec, unwrap_or, refl, sym, ap, subst, ◌∙◌, inl, inr, string_bytes}
+use Rattle.std.proofs.Common.{◌≡◌, ◌≢◌, true, List, ℕ, [], ◌∷◌, Option, Some, None, Vec, unwrap_or, refl, sym, ap, subst, ◌∙◌, inl, inr, string_bytes}
 use Rattle.std.specs.Option.{option_and_then, option_map}
 use Rattle.std.specs.Prelude.{codes}
 use Rattle.std.specs.declared.alloc.Global.{Global}
@@ -16,13 +16,11 @@ use Rattle.kp_semantics.specs.Rules.{top_binders, under_binders}
 use Rattle.kp_semantics.specs.AtHand.{GivesAll, HasSome}
 use Rattle.kp_semantics.specs.Implied.{DoesImply, HasCounterexample, IsOfSort, IsWitness, witnessed, IsRightImplied}
 use Rattle.kp_semantics.specs.Implied as sides
-use Rattle.kp_semantics.specs.Sorted.{IsRegular}
 use Rattle.kp_semantics.proofs.InstanceLemmas.{one_instance}
 use Rattle.kp_json.specs.Trees.{SpellsWrapped}
 use Rattle.kp_ground.specs.View.{value_view}
 use Rattle.kp_signature.specs.Places.{own_sort}
 use Rattle.kp_signature.specs.Verify.{VerifiesAs}
-use Rattle.kp_sorts.specs.Regularity.{keeps_values_apart}
 use Rattle.kp_states.specs.Spelled.{IsGroundState}
 use Rattle.kp_states.specs.declared.state.State.{State}
 use Rattle.kp_rpc.specs.Frame.{IsFrame}
@@ -38,7 +36,7 @@ use Rattle.kp_server.proofs.Ended.{has_tree_of}
 use Rattle.kp_server.specs.Ends.{IsStateAt, IsWrongPattern}
 use Rattle.kp_server.specs.Right.{IsLine, IsTreeFault, IsSideFault, NoneLeftOut, IsImpliesError, unreached, unread_antecedent, unread_consequent, in_antecedent, in_consequent, untold, IsImpliesFaulted, IsImpliesAnswered}
 use Rattle.kp_server.specs.Setting.{IsElsewhere, IsModuleReached, Setting}
-use Rattle.kp_server.specs.Untold.{IsImpliesUntold, asked_elsewhere, no_antecedent, no_consequent, other_sorts, shares_sorts}
+use Rattle.kp_server.specs.Untold.{IsImpliesUntold, asked_elsewhere, no_antecedent, no_consequent, other_sorts}
 use Rattle.kp_server.specs.Sides.{IsImpliesRead, side_tree, antecedent_tree, consequent_tree, IsUnreached, IsTreeFailure, IsSideFailure, IsImpliesFailure, IsSideState, IsSideAt, AreCompared, AreBothCompared, AreApart, AreNotCompared, IsImpliedOf, IsImpliesLine, result_at, IsResultLine}
 use Rattle.kp_server.specs.declared.failure.Failure.{Failure}
 use Rattle.kp_server.specs.declared.failure.Failure.TheVariants as failure
@@ -188,12 +186,12 @@ fault_line s e r f w line l = (error_reply (id_view e.id) (state_fault_view f), 
 -- ---- results
 
 -- the sort that is verified is that of the side's term
-sort_of_side : (g : KoreSignature) (p : KorePattern) (sort : KoreSort) (a : State) → IsRegular g → VerifiesAs g p sort → IsStateAt g p sort a → IsOfSort g (sort_view a.sort) p
-sort_of_side g p sort a regular verifies at = subst (λ (s : KoreSort). IsOfSort g s p) (sym at.sort_is) (of_own_sort g p sort (at.ground regular verifies).term verifies.1)
+sort_of_side : (g : KoreSignature) (p : KorePattern) (sort : KoreSort) (a : State) → VerifiesAs g p sort → IsStateAt g p sort a → IsOfSort g (sort_view a.sort) p
+sort_of_side g p sort a verifies at = subst (λ (s : KoreSort). IsOfSort g s p) (sym at.sort_is) (of_own_sort g p sort (at.ground verifies).term verifies.1)
 
 -- the state of a side is its value
-ground_of : (g : KoreSignature) (p : KorePattern) (sort : KoreSort) (a : State) → IsRegular g → VerifiesAs g p sort → IsStateAt g p sort a → IsGroundState g p (sort_view a.sort) (value_view a.value)
-ground_of g p sort a regular verifies at = at.ground regular verifies
+ground_of : (g : KoreSignature) (p : KorePattern) (sort : KoreSort) (a : State) → VerifiesAs g p sort → IsStateAt g p sort a → IsGroundState g p (sort_view a.sort) (value_view a.value)
+ground_of g p sort a verifies at = at.ground verifies
 
 right_result : (g : KoreSignature) (p q : KorePattern) (a c : State) (o : Option KoreSort) → IsOfSort g (sort_view a.sort) p → IsGroundState g p (sort_view a.sort) (value_view a.value) → IsGroundState g q (sort_view c.sort) (value_view c.value)
     → AreCompared a c o → IsRightImplied g p q (implied_by (result_at o))
@@ -203,20 +201,19 @@ right_result g p q a c (Some at) sorted x y k =
     let same : IsGroundState g q (sort_view a.sort) (value_view a.value) = subst (λ (w : Value). IsGroundState g q (sort_view a.sort) w) (sym k.compared.1) there in
     subst (λ (t : KoreSort). IsRightImplied g p q (sides.valid (top t) (top t))) (sym k.compared.0) (valid_is_right g p q (sort_view a.sort) (value_view a.value) sorted x same)
 
-is_told : (s : Setting) (name : Option Text) (p q : KorePattern) (sort other : KoreSort) (a c : State) → ¬ IsElsewhere s.main name → keeps_values_apart s.theory.signature ≡ true
+is_told : (s : Setting) (name : Option Text) (p q : KorePattern) (sort other : KoreSort) (a c : State) → ¬ IsElsewhere s.main name
     → IsStateAt s.theory.signature p sort a → IsStateAt s.theory.signature q other c → sort_view a.sort ≡ sort_view c.sort → ¬ IsImpliesUntold s name p q sort other
-is_told s name p q sort other a c here apart x y same (asked_elsewhere z) = here z
-is_told s name p q sort other a c here apart x y same (no_antecedent z) = x.shape z
-is_told s name p q sort other a c here apart x y same (no_consequent z) = y.shape z
-is_told s name p q sort other a c here apart x y same (other_sorts z) = z (sym x.sort_is ∙ (same ∙ y.sort_is))
-is_told s name p q sort other a c here apart x y same (shares_sorts z) = let both : true ≡ false = sym apart ∙ z in absurd (cc both)
+is_told s name p q sort other a c here x y same (asked_elsewhere z) = here z
+is_told s name p q sort other a c here x y same (no_antecedent z) = x.shape z
+is_told s name p q sort other a c here x y same (no_consequent z) = y.shape z
+is_told s name p q sort other a c here x y same (other_sorts z) = z (sym x.sort_is ∙ (same ∙ y.sort_is))
 
 answered_of : (s : Setting) (e : Implies) → IsImpliesRead e → (o : Option KoreSort) (a c : Option State) → IsModuleReached s.names (name_view e.module_name) → ¬ IsElsewhere s.main (name_view e.module_name)
-    → keeps_values_apart s.theory.signature ≡ true → IsRegular s.theory.signature → IsSideAt s.theory.signature (antecedent_tree e) a → IsSideAt s.theory.signature (consequent_tree e) c → AreBothCompared a c o
+    → IsSideAt s.theory.signature (antecedent_tree e) a → IsSideAt s.theory.signature (consequent_tree e) c → AreBothCompared a c o
     → (tree : Data) → implied_tree (result_at o) ≡ Some tree → IsImpliesAnswered s (data_view e.request) (result_reply (id_view e.id) tree)
-answered_of s e r o None c reached here apart regular x y k tree w = absurd k
-answered_of s e r o (Some a) None reached here apart regular x y k tree w = absurd k
-answered_of s e r o (Some a) (Some c) reached here apart regular x y k tree w =
+answered_of s e r o None c reached here x y k tree w = absurd k
+answered_of s e r o (Some a) None reached here x y k tree w = absurd k
+answered_of s e r o (Some a) (Some c) reached here x y k tree w =
     let g = s.theory.signature in
     let request : ImpliesRequest = record { id = id_view e.id; antecedent = x.pattern; consequent = y.pattern; module_name = name_view e.module_name } in
     record {
@@ -239,20 +236,20 @@ answered_of s e r o (Some a) (Some c) reached here apart regular x y k tree w =
         consequent_verifies = y.side.verifies;
         antecedent_no_foreign = x.side.no_foreign;
         consequent_no_foreign = y.side.no_foreign;
-        told = is_told s (name_view e.module_name) x.pattern y.pattern x.sort y.sort a c here apart x.shaped y.shaped k.same_sort;
+        told = is_told s (name_view e.module_name) x.pattern y.pattern x.sort y.sort a c here x.shaped y.shaped k.same_sort;
       };
       right = record {
         result = result_at o;
         tree = tree;
         written = w;
         reply_is = refl;
-        right = right_result g x.pattern y.pattern a c o (sort_of_side g x.pattern x.sort a regular x.side.verifies x.shaped) (ground_of g x.pattern x.sort a regular x.side.verifies x.shaped) (ground_of g y.pattern y.sort c regular y.side.verifies y.shaped) k;
+        right = right_result g x.pattern y.pattern a c o (sort_of_side g x.pattern x.sort a x.side.verifies x.shaped) (ground_of g x.pattern x.sort a x.side.verifies x.shaped) (ground_of g y.pattern y.sort c y.side.verifies y.shaped) k;
       };
     }
 
 pub result_is_right : (s : Setting) (e : Implies) → IsImpliesRead e → (o : Option KoreSort) → IsImpliedOf s e o → (line : List ℕ) → IsResultLine e o line → IsImpliesLine s e line
 result_is_right s e r o h line l =
-    (result_reply (id_view e.id) l.0, inr (answered_of s e r o h.antecedent h.consequent h.reached h.here h.apart h.regular h.is_antecedent h.is_consequent h.compared l.0 l.1), l.2)
+    (result_reply (id_view e.id) l.0, inr (answered_of s e r o h.antecedent h.consequent h.reached h.here h.is_antecedent h.is_consequent h.compared l.0 l.1), l.2)
 
 -- ---- failures
 
@@ -304,31 +301,25 @@ pub elsewhere_failure : (s : Setting) (e : Implies) (a c : Option State) → IsS
 elsewhere_failure s e a c x y reached main same there f t2 =
     t2_failure s e a c x y reached (asked_elsewhere (subst (λ (m : Text). IsElsewhere m (name_view e.module_name)) same there)) f t2
 
-pub mixed_failure : (s : Setting) (e : Implies) (a c : Option State) → IsSideAt s.theory.signature (antecedent_tree e) a → IsSideAt s.theory.signature (consequent_tree e) c → IsModuleReached s.names (name_view e.module_name)
-    → keeps_values_apart s.theory.signature ≡ false → (f : StateFault) → state_fault_view f ≡ not_verified other_shape → IsImpliesFailure s e (failure.Fault f)
-mixed_failure s e a c x y reached mixed f t2 = t2_failure s e a c x y reached (shares_sorts mixed) f t2
-
-why_apart : (s : Setting) (name : Option Text) → IsRegular s.theory.signature → (ta tc : Data) (a c : Option State) → (x : IsSideAt s.theory.signature ta a) (y : IsSideAt s.theory.signature tc c) → AreApart a c
+why_apart : (s : Setting) (name : Option Text) (ta tc : Data) (a c : Option State) → (x : IsSideAt s.theory.signature ta a) (y : IsSideAt s.theory.signature tc c) → AreApart a c
     → IsImpliesUntold s name x.pattern y.pattern x.sort y.sort
-why_apart s name regular ta tc None c x y k = no_antecedent (x.shaped regular)
-why_apart s name regular ta tc (Some a) None x y k = no_consequent (y.shaped regular)
-why_apart s name regular ta tc (Some a) (Some c) x y k = other_sorts (λ same. k (x.shaped.sort_is ∙ (same ∙ sym y.shaped.sort_is)))
+why_apart s name ta tc None c x y k = no_antecedent x.shaped
+why_apart s name ta tc (Some a) None x y k = no_consequent y.shaped
+why_apart s name ta tc (Some a) (Some c) x y k = other_sorts (λ same. k (x.shaped.sort_is ∙ (same ∙ sym y.shaped.sort_is)))
 
 pub apart_failure : (s : Setting) (e : Implies) (a c : Option State) → IsSideAt s.theory.signature (antecedent_tree e) a → IsSideAt s.theory.signature (consequent_tree e) c → IsModuleReached s.names (name_view e.module_name)
-    → IsRegular s.theory.signature → (f : Failure) → AreNotCompared a c f → IsImpliesFailure s e f
-apart_failure s e a c x y reached regular failure.Memory k = tt
-apart_failure s e a c x y reached regular (failure.Fault f) k =
-    t2_failure s e a c x y reached (why_apart s (name_view e.module_name) regular (antecedent_tree e) (consequent_tree e) a c x y k.1) f k.0
+    → (f : Failure) → AreNotCompared a c f → IsImpliesFailure s e f
+apart_failure s e a c x y reached failure.Memory k = tt
+apart_failure s e a c x y reached (failure.Fault f) k =
+    t2_failure s e a c x y reached (why_apart s (name_view e.module_name) (antecedent_tree e) (consequent_tree e) a c x y k.1) f k.0
 
 -- ---- sides that are compared
 
 pub implied_of : (s : Setting) (e : Implies) (main : Text) (a c : Option State) (o : Option KoreSort) → IsModuleReached s.names (name_view e.module_name) → main ≡ s.main → ¬ IsElsewhere main (name_view e.module_name)
-    → keeps_values_apart s.theory.signature ≡ true → IsRegular s.theory.signature → IsSideAt s.theory.signature (antecedent_tree e) a → IsSideAt s.theory.signature (consequent_tree e) c → AreBothCompared a c o → IsImpliedOf s e o
-implied_of s e main a c o reached same here apart regular x y k = record {
+    → IsSideAt s.theory.signature (antecedent_tree e) a → IsSideAt s.theory.signature (consequent_tree e) c → AreBothCompared a c o → IsImpliedOf s e o
+implied_of s e main a c o reached same here x y k = record {
   reached = reached;
   here = subst (λ (m : Text). ¬ IsElsewhere m (name_view e.module_name)) same here;
-  apart = apart;
-  regular = regular;
   antecedent = a;
   consequent = c;
   is_antecedent = x;

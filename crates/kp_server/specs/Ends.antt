@@ -6,7 +6,7 @@ use Rattle.kp_kore.specs.Signature.{KoreSignature}
 use Rattle.kp_json.specs.Trees.{SpellsWrapped}
 use Rattle.kp_signature.specs.Verify.{FailsWith, VerifiesAs, VerifyFault}
 use Rattle.kp_states.specs.Spelled.{IsOtherShape, first_foreign, IsGroundState}
-use Rattle.kp_run.specs.Causes.{IsNotAnswered, IsStateIn}
+use Rattle.kp_run.specs.Causes.{IsStateIn, StopsUntold}
 use Rattle.kp_rpc.specs.Request.{ExecuteOptions, bound_of}
 use Rattle.kp_rpc.specs.Causes.{IsExecuteTree}
 use Rattle.kp_rpc.specs.Reply.{other_shape, not_verified, error_reply, reply_bytes, ExecuteResult, result_reply, result_tree}
@@ -15,7 +15,6 @@ use Rattle.serde_json.specs.View.{view as data_view}
 use Rattle.kp_kore.specs.View.{sort_view}
 use Rattle.kp_signature.specs.Faults.{fault_view}
 use Rattle.kp_signature.specs.declared.error.VerifyError.{VerifyError}
-use Rattle.kp_semantics.specs.Sorted.{IsRegular}
 use Rattle.kp_ground.specs.View.{value_view}
 use Rattle.kp_run.specs.Runs.{IsRunOf, reason_of, written_of}
 use Rattle.kp_states.specs.declared.state.State.{State}
@@ -78,7 +77,7 @@ pub record IsStateAt (g : KoreSignature) (p : KorePattern) (sort : KoreSort) (s 
   pub no_foreign : first_foreign g p ≡ None
   pub shape : ¬ IsOtherShape g p
   pub sort_is : sort_view s.sort ≡ sort
-  pub ground : IsRegular g → VerifiesAs g p sort → IsGroundState g p (sort_view s.sort) (value_view s.value)
+  pub ground : VerifiesAs g p sort → IsGroundState g p (sort_view s.sort) (value_view s.value)
 
 -- the request's state has no fault, and is this ground state
 pub record IsStateOf (g : KoreSignature) (e : Execute) (s : State) : Type 0 where
@@ -86,7 +85,6 @@ pub record IsStateOf (g : KoreSignature) (e : Execute) (s : State) : Type 0 wher
   pub is_pattern : IsStatePattern e pattern
   pub sort : KoreSort
   pub verifies : VerifiesAs g pattern sort
-  pub regular : IsRegular g
   pub is_state : IsStateAt g pattern sort s
 
 -- it has rules to stop at
@@ -107,7 +105,7 @@ pub record IsEndOf (s : Setting) (e : Execute) (end : Executed) : Type 0 where
   pub is_start : IsStateOf s.theory.signature e start
   pub run : IsRunOf s.theory (value_view start.value) (bound_of (options_of e)) end
   pub ends : IsStateIn s.theory end.depth (written_of start) (written_of end.state)
-  pub told : ¬ IsNotAnswered s.theory (written_of start) (bound_of (options_of e))
+  pub told : ¬ StopsUntold s.theory (written_of start) (bound_of (options_of e))
 
 -- ---- lines
 

@@ -1,15 +1,13 @@
 -- What is told between a request of implies and its reply; for private clauses.
-use Rattle.std.specs.Prelude.{◌≡◌, ◌≢◌, true, false, List, ℕ, Option, Some, None, unwrap_or, codes, ⊤}
+use Rattle.std.specs.Prelude.{◌≡◌, ◌≢◌, false, List, ℕ, Option, Some, None, unwrap_or, codes, ⊤}
 use Rattle.serde_json.specs.Data.{Data, null}
 use Rattle.serde_json.specs.View.{view as data_view}
 use Rattle.kp_kore.specs.Syntax.{Text, KoreSort, KorePattern, top}
 use Rattle.kp_kore.specs.Signature.{KoreSignature}
 use Rattle.kp_kore.specs.View.{sort_view}
-use Rattle.kp_semantics.specs.Sorted.{IsRegular}
 use Rattle.kp_semantics.specs.Value.{Value}
 use Rattle.kp_ground.specs.View.{value_view}
 use Rattle.kp_modules.specs.Reaching.{has}
-use Rattle.kp_sorts.specs.Regularity.{keeps_values_apart}
 use Rattle.kp_states.specs.Spelled.{IsOtherShape, first_foreign}
 use Rattle.kp_states.specs.declared.state.State.{State}
 use Rattle.kp_rpc.specs.Causes.{IsImpliesTree}
@@ -67,7 +65,7 @@ IsImpliesFailure s e (failure.Fault f) = IsImpliesError s (name_view e.module_na
 
 -- the ground state that a verified pattern of this sort is, or none where it has another shape
 abbrev pub IsShaped : KoreSignature → KorePattern → KoreSort → Option State → Type 0
-IsShaped g p sort None = IsRegular g → IsOtherShape g p
+IsShaped g p sort None = IsOtherShape g p
 IsShaped g p sort (Some state) = IsStateAt g p sort state
 
 abbrev pub IsSideState : KoreSignature → KorePattern → KoreSort → Option State → Type 0
@@ -109,8 +107,6 @@ AreNotCompared a c (failure.Fault f) = (state_fault_view f ≡ not_verified othe
 pub record IsImpliedOf (s : Setting) (e : Implies) (o : Option KoreSort) : Type 0 where
   pub reached : IsModuleReached s.names (name_view e.module_name)
   pub here : ¬ IsElsewhere s.main (name_view e.module_name)
-  pub apart : keeps_values_apart s.theory.signature ≡ true
-  pub regular : IsRegular s.theory.signature
   pub antecedent : Option State
   pub consequent : Option State
   pub is_antecedent : IsSideAt s.theory.signature (antecedent_tree e) antecedent

@@ -1,8 +1,7 @@
 -- Why no result is told of what has no fault: what stands outside a service of ground terms, and is told as T2.
 -- Source: this project.
-use Rattle.std.specs.Prelude.{◌≡◌, ◌≢◌, ◌⊎◌, false, [], ◌++◌, Option}
+use Rattle.std.specs.Prelude.{◌≡◌, ◌≢◌, ◌⊎◌, [], ◌++◌, Option}
 use Rattle.kp_kore.specs.Syntax.{Text, KoreSort, KorePattern}
-use Rattle.kp_sorts.specs.Regularity.{keeps_values_apart}
 use Rattle.kp_semantics.specs.Value.{Value}
 use Rattle.kp_semantics.specs.Instance.{Valuation, instance}
 use Rattle.kp_states.specs.Spelled.{IsOtherShape}
@@ -14,13 +13,11 @@ use Rattle.kp_server.specs.Setting.{IsElsewhere, Setting}
 -- ---- execute
 
 -- why no result is told of a pattern of this sort without a verify fault and without foreign symbols: it is asked for in
--- another module, or with rules to stop at; it is no ground state; the signature mixes whole numbers or truth values
--- with other values; the run from its value stops untold
+-- another module, or with rules to stop at; it is no ground state; the run from its value stops untold
 pub data IsUntold (s : Setting) (options : ExecuteOptions) (p : KorePattern) (sort : KoreSort) : Type 0 where
   elsewhere : IsElsewhere s.main options.module_name → IsUntold s options p sort
   stops_at_rules : ¬ (options.cut_points ++ options.terminals ≡ []) → IsUntold s options p sort
   no_state : IsOtherShape s.theory.signature p → IsUntold s options p sort
-  mixes_values : keeps_values_apart s.theory.signature ≡ false → IsUntold s options p sort
   no_run : (c : Value) → ((v : Valuation) → instance s.theory.signature v p ≡ c) → StopsUntold s.theory (record { value = c; sort = sort }) (bound_of options) → IsUntold s options p sort
 
 -- or the state that its run ends in has no spelling
@@ -30,10 +27,9 @@ IsLeftOut s options p sort = IsUntold s options p sort ⊎ HasNoSpelling s.theor
 -- ---- implies
 
 -- why no result is told of two sides without a fault, of these sorts: another module than main is named; a side is no
--- ground state; their sorts differ; the signature mixes whole numbers or truth values with other values
+-- ground state; their sorts differ
 pub data IsImpliesUntold (s : Setting) (name : Option Text) (a c : KorePattern) (sort other : KoreSort) : Type 0 where
   asked_elsewhere : IsElsewhere s.main name → IsImpliesUntold s name a c sort other
   no_antecedent : IsOtherShape s.theory.signature a → IsImpliesUntold s name a c sort other
   no_consequent : IsOtherShape s.theory.signature c → IsImpliesUntold s name a c sort other
   other_sorts : sort ≢ other → IsImpliesUntold s name a c sort other
-  shares_sorts : keeps_values_apart s.theory.signature ≡ false → IsImpliesUntold s name a c sort other

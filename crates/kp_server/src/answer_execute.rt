@@ -104,7 +104,7 @@ fn executed(alloc: Global, table: &Table, request: &Execute) -> Result<Executed,
     }
 }
 
-/// The request's state, verified; T2 over a signature whose whole numbers and truth values share their sorts.
+/// The request's state, verified.
 fn state_at(alloc: Global, rules: &RuleSet, request: &Execute) -> Result<State, Failure>
     requires { IsExecuteRead request.now }
     ensures found { (t : Theory) → RunsAs t rules.now → IfOk result (IsStateOf t.signature request.now) }
@@ -115,14 +115,7 @@ fn state_at(alloc: Global, rules: &RuleSet, request: &Execute) -> Result<State, 
         Ok(sort) => sort,
         Err(error) => return Err(verify_failure(alloc, error)),
     };
-    match ground_state(alloc, &rules.signature, &pattern, sort) {
-        Ok(state) => if rules.is_regular {
-            Ok(state)
-        } else {
-            Err(Failure::Fault(not_answered()))
-        },
-        Err(failure) => Err(failure),
-    }
+    ground_state(alloc, &rules.signature, &pattern, sort)
 }
 
 /// The pattern of the request's state.

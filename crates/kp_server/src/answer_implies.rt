@@ -114,9 +114,6 @@ fn implied(alloc: Global, table: &Table, request: &Implies) -> Result<Option<Sor
     if is_elsewhere(table, &request.module_name) {
         return Err(Failure::Fault(not_answered()));
     }
-    if !rules.is_regular {
-        return Err(Failure::Fault(not_answered()));
-    }
     compared_sides(alloc, &antecedent, &consequent)
 }
 

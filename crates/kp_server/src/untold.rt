@@ -5,7 +5,6 @@ ghost use Rattle.kp_modules.specs.Tables.{main_of};
 ghost use Rattle.kp_rpc.specs.Reply.{not_verified, other_shape};
 ghost use Rattle.kp_rpc.specs.Request.{ExecuteOptions};
 ghost use Rattle.kp_rpc.specs.View.{options_view, state_fault_view};
-ghost use Rattle.kp_semantics.specs.Sorted.{IsRegular};
 ghost use Rattle.kp_signature.specs.Verify.{VerifiesAs};
 ghost use Rattle.kp_signature.specs.View.{signature_view};
 ghost use Rattle.kp_states.specs.Spelled.{IsOtherShape};
@@ -60,7 +59,7 @@ pub fn ground_state(
     sort: Sort,
 ) -> Result<State, Failure>
     ensures found { IfOk result (IsStateAt (signature_view signature.now) (view pattern.now) (sort_view sort)) }
-    ensures failed { (s : Setting) (options : ExecuteOptions) → VerifiesAs (signature_view signature.now) (view pattern.now) (sort_view sort) → ((IsRegular (signature_view signature.now) → IsOtherShape (signature_view signature.now) (view pattern.now)) → IsLeftOut s options (view pattern.now) (sort_view sort)) → IfErr result (IsWrongPattern (signature_view signature.now) (IsLeftOut s options) (view pattern.now)) }
+    ensures failed { (s : Setting) (options : ExecuteOptions) → VerifiesAs (signature_view signature.now) (view pattern.now) (sort_view sort) → (IsOtherShape (signature_view signature.now) (view pattern.now) → IsLeftOut s options (view pattern.now) (sort_view sort)) → IfErr result (IsWrongPattern (signature_view signature.now) (IsLeftOut s options) (view pattern.now)) }
 {
     match state_of(alloc, signature, pattern, sort) {
         Ok(state) => Ok(state),

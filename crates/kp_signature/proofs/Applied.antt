@@ -4,12 +4,12 @@ use Rattle.std.specs.Prelude.{◌==◌}
 use Rattle.std.proofs.lemmas.Bool.Decides.{Decides-eqb}
 use Rattle.kp_kore.specs.Syntax.{Text, KoreSort, KoreSorts, no_sorts, next_sort, KorePatterns, application, SymbolDeclaration}
 use Rattle.kp_kore.specs.Parts.{sort_list, pattern_list}
-use Rattle.kp_kore.specs.Signature.{KoreSignature, symbol_declared, is_injection, IsBelow}
+use Rattle.kp_kore.specs.Signature.{KoreSignature, symbol_declared, is_injection, IsBelow, is_below}
 use Rattle.kp_kore.specs.Sorting.{all_at_arguments}
 use Rattle.kp_kore.specs.declared.sort.Sort.{Sort}
 use Rattle.kp_kore.specs.View.{sort_view, sorts_view}
 use Rattle.kp_signature.specs.Nodes.{two_sorts, injects}
-use Rattle.kp_signature.specs.Places.{is_below, Profile, profile_of}
+use Rattle.kp_signature.specs.Places.{Profile, profile_of}
 use Rattle.kp_signature.specs.Verify.{VerifyFault, fault_unless, symbol_fault, injection_fault, sort_differs, wrong_number, unknown_symbol}
 use Rattle.kp_signature.proofs.Below.{is_below-Decides}
 

@@ -3,8 +3,7 @@ use Rattle.std.proofs.Common.{◌≡◌, refl, sym, ap, subst, ℕ, zero, suc, �
 use Rattle.std.specs.Bool.{Decides}
 use Rattle.std.proofs.lemmas.List.Elements.{Contains-append_right}
 use Rattle.kp_kore.specs.Syntax.{KoreSort}
-use Rattle.kp_kore.specs.Signature.{IsBelow, itself, through}
-use Rattle.kp_signature.specs.Places.{is_below}
+use Rattle.kp_kore.specs.Signature.{IsBelow, is_below, itself, through}
 use Rattle.kp_signature.proofs.Same.{sorts_equal-Decides}
 
 -- an element of a list is the first or one of the others

@@ -1,3 +1,4 @@
+pub mod AloneLemmas
 pub mod Applied
 pub mod Below
 pub mod Declaring

@@ -7,11 +7,10 @@ use Rattle.std.proofs.lemmas.Grind.{not_there}
 use Rattle.std.proofs.lemmas.List.{append_assoc}
 use Rattle.std.proofs.lemmas.Slice.Eq.{bytes_eq-Decides}
 use Rattle.kp_kore.specs.Syntax.{Text, KoreSort, KoreSorts, sort_of, sort_variable, no_sorts, next_sort}
-use Rattle.kp_kore.specs.Signature.{IsBelow, itself, through}
+use Rattle.kp_kore.specs.Signature.{IsBelow, is_below, itself, through}
 use Rattle.kp_signature.specs.Names.{first_place}
 use Rattle.kp_signature.specs.Order.{marked_name, sort_key, sorts_key, Reaches, stays, goes, edges_of, IsNumber, IsOrderOf}
 use Rattle.kp_signature.specs.declared.order.SortOrder.{SortOrder}
-use Rattle.kp_signature.specs.Places.{is_below}
 use Rattle.kp_signature.proofs.Below.{is_below-Decides}
 use Rattle.kp_signature.proofs.EdgeLemmas.{nothing_there}
 

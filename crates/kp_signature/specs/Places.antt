@@ -1,9 +1,8 @@
 -- Where a pattern stands, what is written at its node, and which sorts are known and below which.
 -- Source: the K framework's Kore language (sorts, symbols with sort parameters, binders that bind by name).
-use Rattle.std.specs.Prelude.{ℕ, ◌+◌, Bool, false, ◌&&◌, ◌||◌, List, [], ◌∷◌, ◌++◌, length, Option, Some, None, if◌then◌else◌, ◌==◌, codes}
+use Rattle.std.specs.Prelude.{ℕ, ◌+◌, Bool, false, List, [], ◌∷◌, ◌++◌, length, Option, Some, None, if◌then◌else◌, ◌==◌, codes}
 use Rattle.std.specs.Str.{bytes_eq}
 use Rattle.kp_kore.specs.Syntax.{Text, KoreSort, sort_of, sort_variable, KoreSorts, no_sorts, next_sort, KorePattern, variable, set_variable, application, string_literal, literal, top, bottom, negation, next, conjunction, disjunction, implication, equivalence, rewriting, exists, forall, ceil, floor, equals, membership, mu, nu, SymbolDeclaration, SortDeclaration, AliasDeclaration}
-use Rattle.kp_kore.specs.Attributes.{sorts_equal}
 use Rattle.kp_kore.specs.Parts.{SortedName, sort_list, free_variables}
 use Rattle.kp_kore.specs.Signature.{KoreSignature, sort_declared, symbol_declared, alias_declared}
 use Rattle.kp_kore.specs.Sorting.{result_sort, all_at_arguments}
@@ -32,11 +31,6 @@ abbrev mutual
   pub unknown_sort_among : KoreSignature → KoreSorts → Option KoreSort
   unknown_sort_among g no_sorts = None
   unknown_sort_among g (next_sort s ss) = earlier (unknown_sort_in g s) (unknown_sort_among g ss)
-
--- whether A is below B: by all pairs but the first, or from A to the first pair and on from it to B
-abbrev pub is_below : List (KoreSort × KoreSort) → KoreSort → KoreSort → Bool
-is_below [] a b = sorts_equal a b
-is_below (pair ∷ pairs) a b = is_below pairs a b || (is_below pairs a pair.0 && is_below pairs pair.1 b)
 
 -- ---- what is written at a node
 

@@ -1,7 +1,8 @@
 -- How the code keeps a signature: the declarations in order, and for each name its first place among them.
-use Rattle.std.specs.Prelude.{◌≡◌, List, map, Option}
+use Rattle.std.specs.Prelude.{◌≡◌, List, map, Option, Some, None, if◌then◌else◌}
 use Rattle.std.specs.List.{find}
 use Rattle.std.specs.Option.{option_map}
+use Rattle.std.specs.Str.{bytes_eq}
 use Rattle.kp_kore.specs.Syntax.{Text, KoreSort, KoreSentence, SortDeclaration, SymbolDeclaration, AliasDeclaration}
 use Rattle.kp_kore.specs.Signature.{KoreSignature, sorts_in, symbols_in, aliases_in, subsorts_in, has_hook}
 use Rattle.kp_kore.specs.View.{sort_view, sort_sentence_view, symbol_sentence_view, alias_sentence_view}
@@ -50,3 +51,9 @@ IsIndexed t =
 -- the name of the first hooked sort with this hook
 abbrev pub name_hooked : Text → List SortDeclaration → Option Text
 name_hooked hook ds = option_map (λ d. d.name) (find (has_hook hook) ds)
+
+-- the second name, where it isn't the first
+abbrev pub name_other_than : Option Text → Option Text → Option Text
+name_other_than (Some n) (Some m) = if bytes_eq n m then None else Some m
+name_other_than (Some n) None = None
+name_other_than None o = o

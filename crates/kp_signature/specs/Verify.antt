@@ -9,8 +9,8 @@ use Rattle.std.specs.Str.Parse.{without_leading_sign, signed_digits_value}
 use Rattle.kp_kore.specs.Syntax.{Text, KoreSort, sort_of, sort_variable, KoreSorts, no_sorts, next_sort, KorePattern, KorePatterns, variable, set_variable, application, string_literal, literal, top, bottom, negation, next, conjunction, disjunction, implication, equivalence, rewriting, exists, forall, ceil, floor, equals, membership, mu, nu, no_patterns, next_pattern, SymbolDeclaration}
 use Rattle.kp_kore.specs.Attributes.{sorts_equal}
 use Rattle.kp_kore.specs.Parts.{SortedName, sort_list, pattern_list}
-use Rattle.kp_kore.specs.Signature.{KoreSignature, symbol_declared, is_injection, is_integer_sort, is_boolean_sort, is_token_sort}
-use Rattle.kp_signature.specs.Places.{earlier, unknown_sort_among, is_below, sorts_at, own_sort, Profile, profile_of, argument_sorts, Place, the_top, argument_at, part_at, after, under_binder, sort_in_scope}
+use Rattle.kp_kore.specs.Signature.{KoreSignature, symbol_declared, is_injection, is_below, is_integer_sort, is_boolean_sort, is_token_sort}
+use Rattle.kp_signature.specs.Places.{earlier, unknown_sort_among, sorts_at, own_sort, Profile, profile_of, argument_sorts, Place, the_top, argument_at, part_at, after, under_binder, sort_in_scope}
 
 pub data VerifyFault : Type 0 where
   -- V1: the sort's name isn't declared, or takes another number of arguments

@@ -3,7 +3,7 @@ ghost use Rattle.std.specs.Prelude.{◌≡◌, IfOk, codes, map, string_bytes};
 ghost use Rattle.std.specs.Option.{option_map};
 ghost use Rattle.kp_kore.specs.Signature.{has_hook as hook_test};
 ghost use Rattle.kp_kore.specs.View.{sort_sentence_view};
-ghost use Rattle.kp_signature.specs.Table.{name_hooked};
+ghost use Rattle.kp_signature.specs.Table.{name_hooked, name_other_than};
 
 use crate::attributes::text_of;
 use kp_kore::{Name, SortSentence};
@@ -19,6 +19,19 @@ pub fn first_hooked(sorts: &[SortSentence], hook: &str) -> Result<Option<Name>, 
         }
     }
     Ok(None)
+}
+
+/// The second name, where it isn't the first.
+pub fn other_than(first: &Option<Name>, second: Option<Name>) -> Option<Name>
+    ensures { option_map string_bytes result ≡ name_other_than (option_map string_bytes first.now) (option_map string_bytes second) }
+{
+    match first {
+        Some(first) => match second {
+            Some(second) => { if first == &second { None } else { Some(second) } }
+            None => None,
+        },
+        None => second,
+    }
 }
 
 fn has_hook(sort: &SortSentence, hook: &str) -> bool

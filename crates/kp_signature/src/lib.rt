@@ -3,8 +3,10 @@
 // or a law.
 #![tactic(auto)]
 
+mod alone;
 mod applications;
 pub mod attributes;
+mod declarations;
 mod edges;
 mod error;
 pub mod examples;
@@ -22,6 +24,7 @@ mod scope;
 pub mod signature;
 mod sort_key;
 mod subsorts;
+pub mod symbols;
 mod table;
 mod text;
 mod verification;

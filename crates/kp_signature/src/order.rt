@@ -9,7 +9,6 @@ ghost use Rattle.kp_signature.specs.Table.{subsort_view};
 
 use crate::edges::{add_edge, has, reached_from};
 use crate::names::NamePlaces;
-use crate::signature::Signature;
 use crate::sort_key::sort_key;
 use crate::table::Subsort;
 use indexmap::IndexMap;
@@ -82,7 +81,7 @@ impl SortOrder {
     }
 
     /// Whether a sort is another or lies below it.
-    fn is_below(&self, alloc: Global, lower: &Sort, upper: &Sort) -> Result<bool, AllocError>
+    pub fn is_below(&self, alloc: Global, lower: &Sort, upper: &Sort) -> Result<bool, AllocError>
         ensures { (pairs : List (KoreSort × KoreSort)) → IsOrderOf pairs self.now → IfOk result (λ b. IsTrue b ↔ IsBelow pairs (sort_view lower.now) (sort_view upper.now)) }
     {
         if lower.equal(upper) {
@@ -96,16 +95,5 @@ impl SortOrder {
         };
         let found = reached_from(alloc, &self.above, from)?;
         Ok(has(&found, to))
-    }
-}
-
-impl Signature {
-    ghost use Rattle.kp_signature.specs.View.{signature_view};
-
-    /// Whether a sort is another or lies below it, by the pairs that the attributes `subsort{A,B}()` give.
-    pub fn is_below(&self, alloc: Global, lower: &Sort, upper: &Sort) -> Result<bool, AllocError>
-        ensures { IfOk result (λ b. IsTrue b ↔ IsBelow (signature_view self.now).subsorts (sort_view lower.now) (sort_view upper.now)) }
-    {
-        Ok(self.order.is_below(alloc, lower, upper)?)
     }
 }

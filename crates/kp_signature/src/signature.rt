@@ -1,31 +1,28 @@
-ghost use Rattle.std.specs.Prelude.{◌≡◌, codes, map, string_bytes};
+ghost use Rattle.std.specs.Prelude.{◌≡◌, map, string_bytes};
 ghost use Rattle.std.specs.Option.{option_map};
 ghost use Rattle.std.proofs.Props.{props};
-ghost use Rattle.kp_signature.specs.Order.{IsOrderOf};
-ghost use Rattle.kp_signature.specs.Table.{IsIndexed, table_view, name_hooked};
+ghost use Rattle.kp_signature.specs.Alone.{numbers_stand_alone, truths_stand_alone};
+ghost use Rattle.kp_signature.specs.Table.{table_view};
 
-use crate::hooked::first_hooked;
-use crate::order::SortOrder;
-use crate::table::{Subsort, Table};
+use crate::declarations::Declarations;
+use crate::table::Subsort;
 use kp_kore::{AliasSentence, Module, Name, Sort, SortSentence, SymbolSentence};
 use std::alloc::{AllocError, Global};
 
-/// The signature of a definition: what the sentences of its modules declare.
+/// The signature of a definition: what the sentences of its modules declare, and whether the sorts of whole numbers and
+/// of truth values have these values alone.
 #[derive(Drop)]
 pub struct Signature {
-    table: Table,
-    pub(crate) order: SortOrder,
-    integers: Option<Name>,
-    booleans: Option<Name>,
-    ghost indexed: { IsIndexed table },
-    ghost ordered: { ∥ IsOrderOf (table_view table).subsorts order ∥₁ },
-    ghost integers_named: { option_map string_bytes integers ≡ name_hooked (codes "INT.Int") (table_view table).sorts } by { Prim.hlevel props },
-    ghost booleans_named: { option_map string_bytes booleans ≡ name_hooked (codes "BOOL.Bool") (table_view table).sorts } by { Prim.hlevel props },
+    pub(crate) declarations: Declarations,
+    pub(crate) numbers_alone: bool,
+    pub(crate) truths_alone: bool,
+    ghost numbers_told: { numbers_alone ≡ numbers_stand_alone (table_view declarations.table) } by { Prim.hlevel props },
+    ghost truths_told: { truths_alone ≡ truths_stand_alone (table_view declarations.table) } by { Prim.hlevel props },
 }
 
 impl Signature {
     ghost use Rattle.std.specs.Prelude.{◌↔◌, IfOk, IsTrue, None, length};
-    ghost use Rattle.kp_kore.specs.Signature.{signature_of, symbol_declared, alias_declared, integer_sort, boolean_sort};
+    ghost use Rattle.kp_kore.specs.Signature.{IsBelow, signature_of, symbol_declared, alias_declared, integer_sort, boolean_sort};
     ghost use Rattle.kp_kore.specs.View.{sort_view, sorts_view, sort_sentence_view, symbol_sentence_view, alias_sentence_view};
     ghost use Rattle.kp_kore.specs.Syntax.{KoreSorts, sort_of, no_sorts};
     ghost use Rattle.kp_kore.specs.Parts.{sort_list};
@@ -39,18 +36,13 @@ impl Signature {
     pub fn new(alloc: Global, modules: &[&Module]) -> Result<Signature, AllocError>
         ensures { IfOk result (λ g. signature_view g ≡ signature_of (sentences_of modules.now)) }
     {
-        let mut table = Table::new(alloc);
-        for module in modules {
-            table.add_all(alloc, &module.sentences)?;
-        }
-        let order = SortOrder::new(alloc, &table.subsorts)?;
-        let integers = first_hooked(&table.sorts, "INT.Int")?;
-        let booleans = first_hooked(&table.sorts, "BOOL.Bool")?;
+        let declarations = Declarations::new(alloc, modules)?;
+        let numbers_alone = declarations.numbers_stand_alone(alloc)?;
+        let truths_alone = declarations.truths_stand_alone(alloc)?;
         Ok(Signature {
-            table,
-            order,
-            integers,
-            booleans,
+            declarations,
+            numbers_alone,
+            truths_alone,
         })
     }
 
@@ -58,58 +50,50 @@ impl Signature {
     pub fn sort_named(&self, name: &str) -> Option<&SortSentence>
         ensures { option_map (λ d. sort_sentence_view d.now) result ≡ find (λ d. bytes_eq d.name name.now) (signature_view self.now).sorts }
     {
-        match self.table.sort_places.get(name) {
-            Some(place) => self.table.sorts.get(*place),
-            None => None,
-        }
+        self.declarations.sort_named(name)
     }
 
     /// The first declaration of a symbol of this name.
     pub fn symbol(&self, name: &str) -> Option<&SymbolSentence>
         ensures { option_map (λ d. symbol_sentence_view d.now) result ≡ symbol_declared (signature_view self.now) name.now }
     {
-        match self.table.symbol_places.get(name) {
-            Some(place) => self.table.symbols.get(*place),
-            None => None,
-        }
+        self.declarations.symbol(name)
     }
 
     /// The first declaration of an alias of this name.
     pub fn alias(&self, name: &str) -> Option<&AliasSentence>
         ensures { option_map (λ d. alias_sentence_view d.now) result ≡ alias_declared (signature_view self.now) name.now }
     {
-        match self.table.alias_places.get(name) {
-            Some(place) => self.table.aliases.get(*place),
-            None => None,
-        }
+        self.declarations.alias(name)
     }
 
     /// The declarations of symbols, in order.
     pub fn symbols(&self) -> &[SymbolSentence]
         ensures { map symbol_sentence_view result.now ≡ (signature_view self.now).symbols }
     {
-        &self.table.symbols
+        self.declarations.symbols()
     }
 
     /// The name of the sort of whole numbers, the first hooked sort with `INT.Int`.
     pub fn integer_sort(&self) -> Option<&Name>
         ensures { option_map (λ n. sort_of (string_bytes n.now) no_sorts) result ≡ integer_sort (signature_view self.now) }
     {
-        self.integers.as_ref()
+        self.declarations.integer_sort()
     }
 
-    /// The name of the sort of truth values, the first hooked sort with `BOOL.Bool`.
+    /// The name of the sort of truth values, the first hooked sort with `BOOL.Bool`, if it isn't that of whole
+    /// numbers.
     pub fn boolean_sort(&self) -> Option<&Name>
         ensures { option_map (λ n. sort_of (string_bytes n.now) no_sorts) result ≡ boolean_sort (signature_view self.now) }
     {
-        self.booleans.as_ref()
+        self.declarations.boolean_sort()
     }
 
     /// The pairs of sorts that the attributes `subsort{A,B}()` give, in order.
     pub fn subsorts(&self) -> &[Subsort]
         ensures { map subsort_view result.now ≡ (signature_view self.now).subsorts }
     {
-        &self.table.subsorts
+        self.declarations.subsorts()
     }
 
     /// Whether a sort and all sorts in it are declared, with as many arguments as they take.
@@ -157,5 +141,12 @@ impl Signature {
             Some(declaration) => declaration.parameters.len() == arguments,
             None => false,
         }
+    }
+
+    /// Whether a sort is another or lies below it, by the pairs that the attributes `subsort{A,B}()` give.
+    pub fn is_below(&self, alloc: Global, lower: &Sort, upper: &Sort) -> Result<bool, AllocError>
+        ensures { IfOk result (λ b. IsTrue b ↔ IsBelow (signature_view self.now).subsorts (sort_view lower.now) (sort_view upper.now)) }
+    {
+        self.declarations.is_below(alloc, lower, upper)
     }
 }

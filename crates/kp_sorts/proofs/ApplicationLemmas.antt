@@ -1,26 +1,24 @@
 -- An application that keeps the rules, of values of its arguments' sorts, has its own sort.
-use Rattle.std.proofs.Common.{◌≡◌, refl, sym, ap, subst, ◌∙◌, Bool, true, false, not, ◌&&◌, ◌||◌, cond, List, [], ◌∷◌, length, Option, Some, None}
-use Rattle.std.specs.Prelude.{◌==◌, codes}
-use Rattle.std.specs.Option.{option_and_then}
+use Rattle.std.proofs.Common.{◌≡◌, refl, sym, ap, subst, ◌∙◌, Bool, true, false, not, ◌&&◌, ◌||◌, length, Option, Some, None}
+use Rattle.std.specs.Prelude.{◌==◌}
 use Rattle.std.proofs.lemmas.Bool.Decides.{Decides-eqb}
 use Rattle.kp_kore.specs.Syntax.{Text, KoreSort, KoreSorts, no_sorts, next_sort, KorePatterns, application, SymbolDeclaration, AliasDeclaration}
 use Rattle.kp_kore.specs.Parts.{sort_list, pattern_list}
-use Rattle.kp_kore.specs.Attributes.{text_of, has_mark}
-use Rattle.kp_kore.specs.Hooks.{Hook, hook_named}
-use Rattle.kp_kore.specs.Signature.{KoreSignature, SymbolMeaning, injection, construction, interpretation, foreign, meaning_of, symbol_meaning, symbol_declared, alias_declared, is_injection, is_constructor, is_plain, has_equations, fits_hook, fitting_hook, IsBelow, itself}
+use Rattle.kp_kore.specs.Signature.{KoreSignature, SymbolMeaning, injection, construction, interpretation, foreign, meaning_of, symbol_meaning, symbol_declared, alias_declared, is_injection, is_identity, is_constructor, is_plain, fitting_hook, IsBelow, is_below, itself}
 use Rattle.kp_kore.specs.Sorting.{at_arguments, all_at_arguments, result_sort}
 use Rattle.kp_semantics.specs.Value.{Values, no_values, next_value, HasSort, HaveSorts}
 use Rattle.kp_semantics.specs.Instance.{only_value, applied}
 use Rattle.kp_semantics.specs.Foreign.{is_foreign_meaning}
-use Rattle.kp_semantics.specs.Sorted.{IsRegular}
 use Rattle.kp_semantics.proofs.InstanceLemmas.{first_true, second_true}
-use Rattle.kp_signature.specs.Places.{Profile, profile_of, argument_sorts, is_below}
+use Rattle.kp_signature.specs.Places.{Profile, profile_of, argument_sorts}
 use Rattle.kp_signature.specs.Verify.{VerifyFault, fault_unless, symbol_fault, injection_fault, wrong_number, sort_differs}
 use Rattle.kp_signature.proofs.Applied.{of_profile, as_many}
 use Rattle.kp_signature.proofs.Below.{is_below-Decides}
 use Rattle.kp_sorts.proofs.FaultLemmas.{no_fault_unless}
 use Rattle.kp_sorts.proofs.SortLemmas.{has_sort_above, at_no_arguments, all_at_no_arguments, same_inside}
 use Rattle.kp_sorts.proofs.CallLemmas.{call_is_sorted}
+use Rattle.kp_sorts.proofs.InjLemmas.{inj_goes_across}
+use Rattle.kp_sorts.proofs.MeaningLemmas.{an_injection, a_construction, an_interpretation, it_fits, no_parameters, constructor_is_plain}
 
 -- ---- what the first declaration of a name gives
 
@@ -83,60 +81,6 @@ goes_upwards g f a b ps d e inj h =
     by true below i t = t
     by false below i t = absurd (cc)
 
--- ---- what a symbol's meaning says of its declaration
-
-abbrev pub hooked : Option Hook → SymbolMeaning
-hooked (Some h) = interpretation h
-hooked None = foreign
-
-abbrev pub meaning_by_tests : Bool → Bool → Bool → Option Hook → SymbolMeaning
-meaning_by_tests i c p o = cond i injection (cond c construction (cond p (hooked o) foreign))
-
-an_injection : (i c p : Bool) (o : Option Hook) → meaning_by_tests i c p o ≡ injection → i ≡ true
-an_injection true c p o e = refl
-an_injection false true p o e = absurd (cc)
-an_injection false false true (Some h) e = absurd (cc)
-an_injection false false true None e = absurd (cc)
-an_injection false false false o e = absurd (cc)
-
-pub a_construction : (i c p : Bool) (o : Option Hook) → meaning_by_tests i c p o ≡ construction → c ≡ true
-a_construction true c p o e = absurd (cc)
-a_construction false true p o e = refl
-a_construction false false true (Some h) e = absurd (cc)
-a_construction false false true None e = absurd (cc)
-a_construction false false false o e = absurd (cc)
-
-an_interpretation : (i c p : Bool) (o : Option Hook) (h : Hook) → meaning_by_tests i c p o ≡ interpretation h → (p ≡ true) × (o ≡ Some h)
-an_interpretation true c p o h e = absurd (cc)
-an_interpretation false true p o h e = absurd (cc)
-an_interpretation false false true (Some k) h e = (refl, cc)
-an_interpretation false false true None h e = absurd (cc)
-an_interpretation false false false o h e = absurd (cc)
-
-abbrev keep_fitting : KoreSignature → SymbolDeclaration → Hook → Option Hook
-keep_fitting g d k = cond (fits_hook g k d.arguments d.result) (Some k) None
-
-it_fits : (g : KoreSignature) (d : SymbolDeclaration) (h : Hook) → fitting_hook g d ≡ Some h → fits_hook g h d.arguments d.result ≡ true
-it_fits g d h e = by (option_and_then hook_named (text_of (codes "hook") d.attributes)) e
-  where
-    kept : (k : Hook) (b : Bool) → fits_hook g k d.arguments d.result ≡ b → cond b (Some k) None ≡ Some h → fits_hook g h d.arguments d.result ≡ true
-    kept k true t e = subst (λ x. fits_hook g x d.arguments d.result ≡ true) (same_inside k h e) t
-    kept k false t e = absurd (cc)
-
-    by : (o : Option Hook) → option_and_then (keep_fitting g d) o ≡ Some h → fits_hook g h d.arguments d.result ≡ true
-    by (Some k) e = kept k (fits_hook g k d.arguments d.result) refl e
-    by None e = absurd (cc)
-
-none_of_them : (ns : List Text) → length ns ≡ 0 → ns ≡ []
-none_of_them [] e = refl
-none_of_them (n ∷ ns) e = absurd (cc)
-
-no_parameters : (d : SymbolDeclaration) → is_plain d ≡ true → d.parameters ≡ []
-no_parameters d e = none_of_them d.parameters ((Decides-eqb (length d.parameters) 0).0 (first_true (length d.parameters == 0) _ e))
-
-constructor_is_plain : (d : SymbolDeclaration) → is_constructor d ≡ true → is_plain d ≡ true
-constructor_is_plain d c = let mark = has_mark (codes "constructor") d.attributes in first_true (is_plain d) mark (first_true (is_plain d && mark) (not (has_equations d)) c)
-
 -- ---- by its meaning
 
 only_one_is_sorted : (g : KoreSignature) (a b : KoreSort) (us : Values) → IsBelow g.subsorts a b → HaveSorts g (next_sort a no_sorts) us → HasSort g b (only_value us)
@@ -144,15 +88,15 @@ only_one_is_sorted g a b no_values below h = absurd h
 only_one_is_sorted g a b (next_value u (next_value w us)) below h = absurd h.1
 only_one_is_sorted g a b (next_value u no_values) below h = has_sort_above g a b u below h.0
 
-injected_is_sorted : (g : KoreSignature) (f : Text) (ss : KoreSorts) (ps : KorePatterns) (s : KoreSort) (d : SymbolDeclaration) (us : Values) → symbol_declared g f ≡ Some d → is_injection d ≡ true →
-    length (sort_list ss) ≡ 2 → at_arguments d.parameters ss d.result ≡ s → injection_fault g (application f ss ps) ≡ None → IsRegular g → HaveSorts g (all_at_arguments d.parameters ss d.arguments) us → HasSort g s (only_value us)
-injected_is_sorted g f no_sorts ps s d us e inj n is h r sorted = absurd (cc)
-injected_is_sorted g f (next_sort a no_sorts) ps s d us e inj n is h r sorted = absurd (cc)
-injected_is_sorted g f (next_sort a (next_sort b (next_sort c ss))) ps s d us e inj n is h r sorted = absurd (cc)
-injected_is_sorted g f (next_sort a (next_sort b no_sorts)) ps s d us e inj n is h r sorted =
-    let usual = r.injections f d e inj a b in
+injected_is_sorted : (g : KoreSignature) (f : Text) (ss : KoreSorts) (ps : KorePatterns) (s : KoreSort) (d : SymbolDeclaration) (us : Values) → symbol_declared g f ≡ Some d → is_identity d ≡ true →
+    length (sort_list ss) ≡ 2 → at_arguments d.parameters ss d.result ≡ s → injection_fault g (application f ss ps) ≡ None → HaveSorts g (all_at_arguments d.parameters ss d.arguments) us → HasSort g s (only_value us)
+injected_is_sorted g f no_sorts ps s d us e inj n is h sorted = absurd (cc)
+injected_is_sorted g f (next_sort a no_sorts) ps s d us e inj n is h sorted = absurd (cc)
+injected_is_sorted g f (next_sort a (next_sort b (next_sort c ss))) ps s d us e inj n is h sorted = absurd (cc)
+injected_is_sorted g f (next_sort a (next_sort b no_sorts)) ps s d us e inj n is h sorted =
+    let usual = inj_goes_across d a b inj in
     subst (λ t. HasSort g t (only_value us)) (sym usual.gives ∙ is)
-    (only_one_is_sorted g a b us (goes_upwards g f a b ps d e inj h) (subst (λ ts. HaveSorts g ts us) usual.takes sorted))
+    (only_one_is_sorted g a b us (goes_upwards g f a b ps d e (first_true (is_injection d) _ inj) h) (subst (λ ts. HaveSorts g ts us) usual.takes sorted))
 
 -- the sorts of a symbol without sort parameters
 plain_result : (d : SymbolDeclaration) (ss : KoreSorts) (s : KoreSort) → is_plain d ≡ true → at_arguments d.parameters ss d.result ≡ s → d.result ≡ s
@@ -162,34 +106,34 @@ plain_arguments : (d : SymbolDeclaration) (ss : KoreSorts) → is_plain d ≡ tr
 plain_arguments d ss p = ap (λ ns. all_at_arguments ns ss d.arguments) (no_parameters d p) ∙ all_at_no_arguments ss d.arguments
 
 applied_is_sorted : (g : KoreSignature) (f : Text) (ss : KoreSorts) (ps : KorePatterns) (s : KoreSort) (d : SymbolDeclaration) (us : Values) (m : SymbolMeaning) → symbol_meaning g d ≡ m → symbol_declared g f ≡ Some d →
-    at_arguments d.parameters ss d.result ≡ s → symbol_fault g (application f ss ps) ≡ None → injection_fault g (application f ss ps) ≡ None → is_foreign_meaning m ≡ false → IsRegular g →
+    at_arguments d.parameters ss d.result ≡ s → symbol_fault g (application f ss ps) ≡ None → injection_fault g (application f ss ps) ≡ None → is_foreign_meaning m ≡ false →
     HaveSorts g (all_at_arguments d.parameters ss d.arguments) us → HasSort g s (applied m f us)
-applied_is_sorted g f ss ps s d us foreign is e result fault upwards known r sorted = absurd (cc)
-applied_is_sorted g f ss ps s d us injection is e result fault upwards known r sorted =
-    let inj = an_injection (is_injection d) (is_constructor d) (is_plain d) (fitting_hook g d) is in
-    injected_is_sorted g f ss ps s d us e inj (sym (as_many_sorts g f ss ps d e fault) ∙ (Decides-eqb (length d.parameters) 2).0 (second_true _ (length d.parameters == 2) inj)) result upwards r sorted
-applied_is_sorted g f ss ps s d us construction is e result fault upwards known r sorted =
-    let c = a_construction (is_injection d) (is_constructor d) (is_plain d) (fitting_hook g d) is in
+applied_is_sorted g f ss ps s d us foreign is e result fault upwards known sorted = absurd (cc)
+applied_is_sorted g f ss ps s d us injection is e result fault upwards known sorted =
+    let inj = an_injection (is_identity d) (is_constructor d) (is_plain d) (fitting_hook g d) is in
+    injected_is_sorted g f ss ps s d us e inj (sym (as_many_sorts g f ss ps d e fault) ∙ (Decides-eqb (length d.parameters) 2).0 (second_true _ (length d.parameters == 2) (first_true (is_injection d) _ inj))) result upwards sorted
+applied_is_sorted g f ss ps s d us construction is e result fault upwards known sorted =
+    let c = a_construction (is_identity d) (is_constructor d) (is_plain d) (fitting_hook g d) is in
     let p = constructor_is_plain d c in (
       (d.result, (d, e, is, refl), subst (IsBelow g.subsorts d.result) (plain_result d ss s p result) (itself d.result)),
       d.arguments,
       (d, e, refl),
       subst (λ ts. HaveSorts g ts us) (plain_arguments d ss p) sorted,
     )
-applied_is_sorted g f ss ps s d us (interpretation h) is e result fault upwards known r sorted =
-    let k = an_interpretation (is_injection d) (is_constructor d) (is_plain d) (fitting_hook g d) h is in
+applied_is_sorted g f ss ps s d us (interpretation h) is e result fault upwards known sorted =
+    let k = an_interpretation (is_identity d) (is_constructor d) (is_plain d) (fitting_hook g d) h is in
     subst (λ t. HasSort g t (applied (interpretation h) f us)) (plain_result d ss s k.0 result)
-    (call_is_sorted g h d.arguments d.result us r (it_fits g d h k.1) (subst (λ ts. HaveSorts g ts us) (plain_arguments d ss k.0) sorted))
+    (call_is_sorted g h d.arguments d.result us (it_fits g d h k.1) (subst (λ ts. HaveSorts g ts us) (plain_arguments d ss k.0) sorted))
 
 pub application_is_sorted : (g : KoreSignature) (f : Text) (ss : KoreSorts) (ps : KorePatterns) (s : KoreSort) (us : Values) →
-    result_sort g f ss ≡ Some s → symbol_fault g (application f ss ps) ≡ None → injection_fault g (application f ss ps) ≡ None → is_foreign_meaning (meaning_of g f) ≡ false → IsRegular g →
+    result_sort g f ss ≡ Some s → symbol_fault g (application f ss ps) ≡ None → injection_fault g (application f ss ps) ≡ None → is_foreign_meaning (meaning_of g f) ≡ false →
     HaveSorts g (argument_sorts g f ss) us → HasSort g s (applied (meaning_of g f) f us)
-application_is_sorted g f ss ps s us result fault upwards known r sorted = by (symbol_declared g f) refl
+application_is_sorted g f ss ps s us result fault upwards known sorted = by (symbol_declared g f) refl
   where
     by : (o : Option SymbolDeclaration) → symbol_declared g f ≡ o → HasSort g s (applied (meaning_of g f) f us)
     by None e = absurd (cc (sym (ap (λ m. is_foreign_meaning (meaning_by g m)) e) ∙ known))
     by (Some d) e =
         let m = meaning_at g f d e in
         subst (λ n. HasSort g s (applied n f us)) (sym m)
-        (applied_is_sorted g f ss ps s d us (symbol_meaning g d) refl e (result_at g f ss s d e result) fault upwards (sym (ap is_foreign_meaning m) ∙ known) r
+        (applied_is_sorted g f ss ps s d us (symbol_meaning g d) refl e (result_at g f ss s d e result) fault upwards (sym (ap is_foreign_meaning m) ∙ known)
         (subst (λ ts. HaveSorts g ts us) (sorts_at g f ss d e) sorted))

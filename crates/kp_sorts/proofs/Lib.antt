@@ -2,7 +2,10 @@ pub mod ApplicationLemmas
 pub mod CallLemmas
 pub mod FaultLemmas
 pub mod ListLemmas
-pub mod RegularLemmas
+pub mod HeadLemmas
+pub mod InjLemmas
+pub mod MeaningLemmas
+pub mod NumberLemmas
 pub mod RuleSides
 pub mod SortLemmas
 pub mod SortedInstances

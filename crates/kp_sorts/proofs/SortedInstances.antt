@@ -11,7 +11,6 @@ use Rattle.kp_kore.specs.Signature.{KoreSignature, meaning_of, integer_sort, boo
 use Rattle.kp_semantics.specs.Value.{whole, truth, token, HasSort, HaveSorts}
 use Rattle.kp_semantics.specs.Instance.{Valuation, GivesSorts, instance, instances, literal_value}
 use Rattle.kp_semantics.specs.Foreign.{none_within, has_foreign_head, is_foreign_meaning}
-use Rattle.kp_semantics.specs.Sorted.{IsRegular}
 use Rattle.kp_semantics.proofs.InstanceLemmas.{first_true, second_true}
 use Rattle.kp_signature.specs.Places.{Place, own_sort, argument_sorts, argument_at, after}
 use Rattle.kp_signature.specs.Verify.{first_fault, fault_at, arguments_fault, literal_fault, is_literal_of, is_numeral, no_literal}
@@ -64,27 +63,27 @@ same_rest m n e = omega arith
 
 mutual
   pub term_is_sorted : (g : KoreSignature) (c : Place) (p : KorePattern) (s : KoreSort) (v : Valuation) → first_fault g c p ≡ None → own_sort g p ≡ Some s → IsTrue (is_term p) →
-      IsTrue (none_within (has_foreign_head g) p) → IsRegular g → GivesSorts g v (free_variables p) → HasSort g s (instance g v p)
-  term_is_sorted g c (variable x t) s v e is term known r given = subst (λ w. HasSort g w (v x)) (same_inside t s is) given.0
-  term_is_sorted g c (literal t text) s v e is term known r given = subst (λ w. HasSort g w (literal_value g t text)) (same_inside t s is) (literal_is_sorted g t text (keeps_rules g c (literal t text) e).literals)
-  term_is_sorted g c (application f ss ps) s v e is term known r given =
+      IsTrue (none_within (has_foreign_head g) p) → GivesSorts g v (free_variables p) → HasSort g s (instance g v p)
+  term_is_sorted g c (variable x t) s v e is term known given = subst (λ w. HasSort g w (v x)) (same_inside t s is) given.0
+  term_is_sorted g c (literal t text) s v e is term known given = subst (λ w. HasSort g w (literal_value g t text)) (same_inside t s is) (literal_is_sorted g t text (keeps_rules g c (literal t text) e).literals)
+  term_is_sorted g c (application f ss ps) s v e is term known given =
       let k = keeps_rules g c (application f ss ps) (nothing_earlier _ _ e) in
       application_is_sorted g f ss ps s (instances g v ps) is k.symbol k.injection
-      (is_false (is_foreign_meaning (meaning_of g f)) (first_true (not (is_foreign_meaning (meaning_of g f))) (none_among (has_foreign_head g) ps) known)) r
+      (is_false (is_foreign_meaning (meaning_of g f)) (first_true (not (is_foreign_meaning (meaning_of g f))) (none_among (has_foreign_head g) ps) known))
       (terms_are_sorted g c (argument_sorts g f ss) ps v (nothing_later (fault_at g c (application f ss ps)) _ e) (as_many_arguments g f ss ps k.symbol) term
-      (second_true (not (is_foreign_meaning (meaning_of g f))) (none_among (has_foreign_head g) ps) known) r given)
-  term_is_sorted g c _ s v e is term known r given = absurd (cc)
+      (second_true (not (is_foreign_meaning (meaning_of g f))) (none_among (has_foreign_head g) ps) known) given)
+  term_is_sorted g c _ s v e is term known given = absurd (cc)
 
   -- each argument has the sort of its place
   pub terms_are_sorted : (g : KoreSignature) (c : Place) (ss : KoreSorts) (ps : KorePatterns) (v : Valuation) → arguments_fault g c ss ps ≡ None → length (sort_list ss) ≡ length (pattern_list ps) → IsTrue (are_terms ps) →
-      IsTrue (none_among (has_foreign_head g) ps) → IsRegular g → GivesSorts g v (all_free_variables ps) → HaveSorts g ss (instances g v ps)
-  terms_are_sorted g c no_sorts no_patterns v e n terms known r given = tt
-  terms_are_sorted g c no_sorts (next_pattern p ps) v e n terms known r given = absurd (cc)
-  terms_are_sorted g c (next_sort s ss) no_patterns v e n terms known r given = absurd (cc)
-  terms_are_sorted g c (next_sort s ss) (next_pattern p ps) v e n terms known r given =
+      IsTrue (none_among (has_foreign_head g) ps) → GivesSorts g v (all_free_variables ps) → HaveSorts g ss (instances g v ps)
+  terms_are_sorted g c no_sorts no_patterns v e n terms known given = tt
+  terms_are_sorted g c no_sorts (next_pattern p ps) v e n terms known given = absurd (cc)
+  terms_are_sorted g c (next_sort s ss) no_patterns v e n terms known given = absurd (cc)
+  terms_are_sorted g c (next_sort s ss) (next_pattern p ps) v e n terms known given =
       let here = nothing_earlier _ _ e in (
         term_is_sorted g (argument_at c s) p s v here (term_has_wanted_sort g (argument_at c s) p s (first_true (is_term p) (are_terms ps) terms) here refl)
-            (first_true (is_term p) (are_terms ps) terms) (none_in_first (has_foreign_head g) p ps known) r (gives_first g v (free_variables p) (all_free_variables ps) given),
+            (first_true (is_term p) (are_terms ps) terms) (none_in_first (has_foreign_head g) p ps known) (gives_first g v (free_variables p) (all_free_variables ps) given),
         terms_are_sorted g (after p c) ss ps v (nothing_later (first_fault g (argument_at c s) p) _ e) (same_rest (length (sort_list ss)) (length (pattern_list ps)) n) (second_true (is_term p) (are_terms ps) terms)
-            (none_in_others (has_foreign_head g) p ps known) r (gives_second g v (free_variables p) (all_free_variables ps) given),
+            (none_in_others (has_foreign_head g) p ps known) (gives_second g v (free_variables p) (all_free_variables ps) given),
       )

@@ -11,7 +11,6 @@ use Rattle.kp_semantics.specs.Value.{HasSort}
 use Rattle.kp_semantics.specs.Instance.{Valuation, GivesSorts, is_named, instance, conjuncts}
 use Rattle.kp_semantics.specs.Rules.{Rewrite, constrained_term, top_binders, rewrite_of}
 use Rattle.kp_semantics.specs.Foreign.{none_within, has_foreign_head}
-use Rattle.kp_semantics.specs.Sorted.{IsRegular}
 use Rattle.kp_semantics.proofs.InstanceLemmas.{second_true}
 use Rattle.kp_signature.specs.Places.{Place, own_sort, the_top, part_at, after, sort_in_scope}
 use Rattle.kp_signature.specs.Verify.{first_fault, fault_at}
@@ -104,8 +103,8 @@ right_stands g s l r t e known h =
 -- the right term of a verified rewrite axiom without new variables has the axiom's sort, where the left term's
 -- variables stand for values of theirs
 pub rule_right_is_sorted : (g : KoreSignature) (s : KoreSort) (l r : KorePattern) (m : Rewrite) → first_fault g the_top (rewriting s l r) ≡ None → rewrite_of (rewriting s l r) ≡ Some m →
-    IsTrue (none_within (has_foreign_head g) (rewriting s l r)) → IsRegular g → (v : Valuation) → GivesSorts g v (free_variables m.left) → m.new_variables ≡ [] → HasSort g s (instance g v m.right)
-rule_right_is_sorted g s l r m e h known regular v given none =
+    IsTrue (none_within (has_foreign_head g) (rewriting s l r)) → (v : Valuation) → GivesSorts g v (free_variables m.left) → m.new_variables ≡ [] → HasSort g s (instance g v m.right)
+rule_right_is_sorted g s l r m e h known v given none =
     let sides = sides_of s l r m h in
     let new = sym sides.new_variables ∙ none in
     let unbound = no_binders r (first_is_none (top_binders r) (filter (λ y. not (is_named y.name (free_variables m.left))) (free_variables r)) new) in
@@ -113,5 +112,5 @@ rule_right_is_sorted g s l r m e h known regular v given none =
     let left = left_stands g s l r m e h in
     let right = right_stands g s l r m.right (right_side_is_verified g s l r e) (none_on_the_right (has_foreign_head g) s l r known) (sym (ap constrained_term unbound) ∙ sides.right) in
     let stands = right.0.0 in
-    term_is_sorted g stands.place m.right s v stands.verified (term_has_wanted_sort g stands.place m.right s right.1 stands.verified stands.wanted) right.1 right.0.1 regular
+    term_is_sorted g stands.place m.right s v stands.verified (term_has_wanted_sort g stands.place m.right s right.1 stands.verified stands.wanted) right.1 right.0.1
     (right_variables g s v (free_variables l) (free_variables m.left) (free_variables r) m.right stands right.1 (left_variables g s l m.left left.0 left.1) given named)

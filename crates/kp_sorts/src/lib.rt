@@ -1,7 +1,3 @@
-// Instances of verified terms have the sorts of their terms: lemmas in proofs/, over signatures whose whole numbers and
-// truth values have their sorts for themselves, which `is_regular` tells.
+// Instances of verified terms have the sorts of their terms, and the sorts of numbers and truth values that hooks are read
+// over have these values alone: lemmas in proofs/.
 #![tactic(auto)]
-
-mod regular;
-
-pub use regular::is_regular;

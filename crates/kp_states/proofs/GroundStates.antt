@@ -20,7 +20,6 @@ use Rattle.kp_signature.specs.Places.{the_top}
 use Rattle.kp_signature.specs.Verify.{VerifiesAs}
 use Rattle.kp_semantics.specs.Value.{Value, truth, HasSort}
 use Rattle.kp_semantics.specs.Instance.{Valuation, instance, GivesSorts}
-use Rattle.kp_semantics.specs.Sorted.{IsRegular}
 use Rattle.kp_semantics.specs.Foreign.{none_within, has_foreign_head, is_foreign_meaning}
 use Rattle.kp_semantics.specs.Numbers.{computes_wide}
 use Rattle.kp_compile.specs.Parts.{seen}
@@ -74,14 +73,14 @@ no_foreign g p e = none_first g (subpatterns p) e
 
 -- ---- the state
 
-pub ground_state : (g : KoreSignature) (p : KorePattern) (s : KoreSort) (u : Value) → IsRegular g → VerifiesAs g p s → first_foreign g p ≡ None → IsTrue (is_term p) → free_variables p ≡ [] → ((v : Valuation) → instance g v p ≡ u) → IsGroundState g p s u
-ground_state g p s u r h f t c m =
+pub ground_state : (g : KoreSignature) (p : KorePattern) (s : KoreSort) (u : Value) → VerifiesAs g p s → first_foreign g p ≡ None → IsTrue (is_term p) → free_variables p ≡ [] → ((v : Valuation) → instance g v p ≡ u) → IsGroundState g p s u
+ground_state g p s u h f t c m =
     let v : Valuation = λ x. truth true in
     record {
       term = t;
       closed = c;
       meant = m;
-      sorted = subst (HasSort g s) (m v) (term_is_sorted g the_top p s v h.0 h.1 t (no_foreign g p f) r (subst (GivesSorts g v) (sym c) tt));
+      sorted = subst (HasSort g s) (m v) (term_is_sorted g the_top p s v h.0 h.1 t (no_foreign g p f) (subst (GivesSorts g v) (sym c) tt));
     }
 
 -- ---- the walk over the parts

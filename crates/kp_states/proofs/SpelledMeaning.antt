@@ -1,5 +1,5 @@
 -- The instance of a value's spelling is the value, and no interpreted call stands in it.
-use Rattle.std.proofs.Common.{◌≡◌, refl, sym, ap, ap₂, subst, ◌∙◌, ne_eqb, ℕ, ◌<◌, ◌^◌, ◌==◌, ◌≤◌, suc, neg_ℤ, Bool, true, false, not, ◌&&◌, ◌⊎◌, inl, inr, ℤ, pos, negsuc, List, [], ◌∷◌, ◌++◌, Option, Some, None, arith}
+use Rattle.std.proofs.Common.{◌≡◌, refl, sym, ap, ap₂, subst, ◌∙◌, ne_eqb, ℕ, ◌<◌, ◌^◌, ◌==◌, ◌≤◌, suc, neg_ℤ, Bool, true, false, not, ◌&&◌, ◌⊎◌, inl, inr, ℤ, pos, negsuc, List, [], ◌∷◌, ◌++◌, Option, Some, arith}
 use Rattle.std.specs.Prelude.{IsTrue, if◌then◌else◌, unwrap_or, codes, FitsSigned}
 use Rattle.std.specs.Int.{w128}
 use Rattle.std.specs.List.{list_all}
@@ -12,10 +12,10 @@ use Rattle.std.proofs.lemmas.List.Folds.{list_all-append}
 use Rattle.kp_kore.specs.Syntax.{Text, KoreSort, KoreSorts, no_sorts, next_sort, KorePattern, KorePatterns, application, literal, next_pattern}
 use Rattle.kp_kore.specs.Attributes.{sorts_equal}
 use Rattle.kp_kore.specs.Parts.{subpatterns, all_subpatterns}
-use Rattle.kp_kore.specs.Signature.{KoreSignature, injection, construction, meaning_of, integer_sort, boolean_sort, is_the, is_integer_sort, is_boolean_sort, is_token_sort, IsSortOfHead, itself, constructor_of}
+use Rattle.kp_kore.specs.Signature.{KoreSignature, injection, construction, meaning_of, integer_sort, boolean_sort, is_the, is_integer_sort, is_boolean_sort, is_token_sort, IsSortOfHead, constructor_of}
 use Rattle.kp_semantics.specs.Value.{Value, whole, truth, token, constructed, Values, no_values, next_value, HasSort, HaveSorts, ArgumentSorts}
 use Rattle.kp_semantics.specs.Instance.{Valuation, instance, instances, applied, literal_value}
-use Rattle.kp_semantics.specs.Sorted.{IsRegular}
+use Rattle.kp_sorts.proofs.SortLemmas.{boolean_is_no_integer}
 use Rattle.kp_semantics.specs.Foreign.{has_interpreted_head, is_interpretation}
 use Rattle.kp_semantics.proofs.SameLemmas.{sorts_equal-Decides}
 use Rattle.kp_states.specs.Spelled.{spelling, spellings, places_of, home_of, injected, injection_name, truth_text, has_two_sorts, NumbersFit, AllNumbersFit, IsSpellingOf}
@@ -99,22 +99,8 @@ truth_read : (b : Bool) → truth (bytes_eq (truth_text b) (codes "true")) ≡ t
 truth_read true = refl
 truth_read false = refl
 
--- a sort whose values are truth values isn't that of numbers
-other_sort : (g : KoreSignature) (own : KoreSort) (b : Bool) (u : Value) → IsRegular g → HasSort g own u → ((n : ℤ) → u ≡ whole n → ⊥) → is_integer_sort g own ≡ b → b ≡ false
-other_sort g own true u r h n e = by (integer_sort g) refl
-  where
-    by : (o : Option KoreSort) → integer_sort g ≡ o → true ≡ false
-    by None i = absurd (cc)
-    by (Some t) i = let same : t ≡ own = (sorts_equal-Decides t own).0 (sym (ap (λ x. is_the x own) i) ∙ e) in
-        let is : integer_sort g ≡ Some own = i ∙ ap Some same in
-        let found = r.numbers own u is h in absurd (n found.0 found.1)
-other_sort g own false u r h n e = refl
-
-truth_literal : (g : KoreSignature) (own : KoreSort) (b : Bool) → IsRegular g → boolean_sort g ≡ Some own → literal_value g own (truth_text b) ≡ truth b
-truth_literal g own b r e =
-    let home : HasSort g own (truth b) = (own, e, itself own) in
-    let other : is_integer_sort g own ≡ false = other_sort g own (is_integer_sort g own) (truth b) r home (λ n k. cc) refl in
-    rw (other, is_itself (boolean_sort g) own e) (truth_read b)
+truth_literal : (g : KoreSignature) (own : KoreSort) (b : Bool) → boolean_sort g ≡ Some own → literal_value g own (truth_text b) ≡ truth b
+truth_literal g own b e = rw (boolean_is_no_integer g own e, is_itself (boolean_sort g) own e) (truth_read b)
 
 second_true : (a b c : Bool) → (a && not b && not c) ≡ true → b ≡ false
 second_true true true c e = absurd (cc)
@@ -156,33 +142,33 @@ said_next g v u us p ps h k = record {
 -- ---- values
 
 mutual
-  pub said : (g : KoreSignature) (v : Valuation) (s : KoreSort) (u : Value) → IsRegular g → HasSort g s u → NumbersFit u → InjectsWell g (subpatterns (spelling g s u)) → Says g v u (spelling g s u)
-  said g v s (whole n) r h f i =
+  pub said : (g : KoreSignature) (v : Valuation) (s : KoreSort) (u : Value) → HasSort g s u → NumbersFit u → InjectsWell g (subpatterns (spelling g s u)) → Says g v u (spelling g s u)
+  said g v s (whole n) h f i =
       said_placed g v (whole n) (home_of g s (whole n)) s (literal (home_of g s (whole n)) (signed_decimal n)) (sorts_equal (home_of g s (whole n)) s) i
       (λ j. said_literal g v (home_of g s (whole n)) (signed_decimal n) (whole n) (subst (λ o. literal_value g o (signed_decimal n) ≡ whole n) (sym (home_is (integer_sort g) h.0 s h.1)) (number_literal g h.0 n h.1 f)))
-  said g v s (truth b) r h f i =
+  said g v s (truth b) h f i =
       said_placed g v (truth b) (home_of g s (truth b)) s (literal (home_of g s (truth b)) (truth_text b)) (sorts_equal (home_of g s (truth b)) s) i
-      (λ j. said_literal g v (home_of g s (truth b)) (truth_text b) (truth b) (subst (λ o. literal_value g o (truth_text b) ≡ truth b) (sym (home_is (boolean_sort g) h.0 s h.1)) (truth_literal g h.0 b r h.1)))
-  said g v s (token t x) r h f i =
+      (λ j. said_literal g v (home_of g s (truth b)) (truth_text b) (truth b) (subst (λ o. literal_value g o (truth_text b) ≡ truth b) (sym (home_is (boolean_sort g) h.0 s h.1)) (truth_literal g h.0 b h.1)))
+  said g v s (token t x) h f i =
       said_placed g v (token t x) t s (literal t x) (sorts_equal t s) i
       (λ j. said_literal g v t x (token t x) (token_literal g t x (subst (λ o. is_token_sort g o ≡ true) (sym h.1.0) h.1.1)))
-  said g v s (constructed c us) r h f i =
+  said g v s (constructed c us) h f i =
       said_placed g v (constructed c us) (home_of g s (constructed c us)) s (application c no_sorts (spellings g (places_of g c) us)) (sorts_equal (home_of g s (constructed c us)) s) i
-      (λ j. said_applied g v c us (spellings g (places_of g c) us) (constructor_means g c h.0.0 h.0.1) (said_all g v (places_of g c) us r (subst (λ ss. HaveSorts g ss us) (declared_places g c h.1 h.2) h.3) f (injects_right g (application c no_sorts (spellings g (places_of g c) us) ∷ []) (all_subpatterns (spellings g (places_of g c) us)) j)))
+      (λ j. said_applied g v c us (spellings g (places_of g c) us) (constructor_means g c h.0.0 h.0.1) (said_all g v (places_of g c) us (subst (λ ss. HaveSorts g ss us) (declared_places g c h.1 h.2) h.3) f (injects_right g (application c no_sorts (spellings g (places_of g c) us) ∷ []) (all_subpatterns (spellings g (places_of g c) us)) j)))
 
-  pub said_all : (g : KoreSignature) (v : Valuation) (ss : KoreSorts) (us : Values) → IsRegular g → HaveSorts g ss us → AllNumbersFit us → InjectsWell g (all_subpatterns (spellings g ss us)) → SayAll g v us (spellings g ss us)
-  said_all g v no_sorts no_values r h f i = record { meant = refl; computed = refl }
-  said_all g v no_sorts (next_value u us) r h f i = absurd h
-  said_all g v (next_sort s ss) no_values r h f i = absurd h
-  said_all g v (next_sort s ss) (next_value u us) r h f i =
+  pub said_all : (g : KoreSignature) (v : Valuation) (ss : KoreSorts) (us : Values) → HaveSorts g ss us → AllNumbersFit us → InjectsWell g (all_subpatterns (spellings g ss us)) → SayAll g v us (spellings g ss us)
+  said_all g v no_sorts no_values h f i = record { meant = refl; computed = refl }
+  said_all g v no_sorts (next_value u us) h f i = absurd h
+  said_all g v (next_sort s ss) no_values h f i = absurd h
+  said_all g v (next_sort s ss) (next_value u us) h f i =
       said_next g v u us (spelling g s u) (spellings g ss us)
-      (said g v s u r h.0 f.0 (injects_left g (subpatterns (spelling g s u)) (all_subpatterns (spellings g ss us)) i))
-      (said_all g v ss us r h.1 f.1 (injects_right g (subpatterns (spelling g s u)) (all_subpatterns (spellings g ss us)) i))
+      (said g v s u h.0 f.0 (injects_left g (subpatterns (spelling g s u)) (all_subpatterns (spellings g ss us)) i))
+      (said_all g v ss us h.1 f.1 (injects_right g (subpatterns (spelling g s u)) (all_subpatterns (spellings g ss us)) i))
 
-pub spelling_means : (g : KoreSignature) (s : KoreSort) (u : Value) → IsRegular g → HasSort g s u → NumbersFit u → InjectsWell g (subpatterns (spelling g s u)) → IsSpellingOf g u (spelling g s u)
-spelling_means g s u r h f i = record {
+pub spelling_means : (g : KoreSignature) (s : KoreSort) (u : Value) → HasSort g s u → NumbersFit u → InjectsWell g (subpatterns (spelling g s u)) → IsSpellingOf g u (spelling g s u)
+spelling_means g s u h f i = record {
   term = spelling_term g s u;
   closed = spelling_closed g s u;
-  computed = (said g (λ x. u) s u r h f i).computed;
-  meant = λ v. (said g v s u r h f i).meant;
+  computed = (said g (λ x. u) s u h f i).computed;
+  meant = λ v. (said g v s u h f i).meant;
 }

@@ -9,7 +9,6 @@ ghost use Rattle.kp_kore.specs.Signature.{injection, meaning_of as meaning_named
 ghost use Rattle.kp_kore.specs.View.{view, sort_view, sorts_view, patterns_view};
 ghost use Rattle.kp_signature.specs.View.{signature_view};
 ghost use Rattle.kp_semantics.specs.Value as model;
-ghost use Rattle.kp_semantics.specs.Sorted.{IsRegular};
 ghost use Rattle.kp_semantics.specs.Foreign.{none_within};
 ghost use Rattle.kp_ground.specs.View.{value_view, values_of};
 ghost use Rattle.kp_states.specs.declared.error.SpellingError.TheVariants.{NoInjection};
@@ -36,7 +35,7 @@ pub fn spelled(
     ensures written { IfOk result (λ p. IsTrue (none_within spec.is_other_form (view p))) }
     ensures no_injection { IfErr result (λ e. e ≡ NoInjection → ¬ (meaning_named (signature_view signature.now) spec.injection_name ≡ injection)) }
     ensures injects { IfErr result (λ e. e ≡ NoInjection → none_within spec.has_two_sorts (spelling (signature_view signature.now) (sort_view sort.now) (value_view value.now)) ≡ false) }
-    ensures meant { IsRegular (signature_view signature.now) → model.HasSort (signature_view signature.now) (sort_view sort.now) (value_view value.now) → IfOk result (λ p. IsSpellingOf (signature_view signature.now) (value_view value.now) (view p)) }
+    ensures meant { model.HasSort (signature_view signature.now) (sort_view sort.now) (value_view value.now) → IfOk result (λ p. IsSpellingOf (signature_view signature.now) (value_view value.now) (view p)) }
 {
     let pattern = spelled_at(value, alloc, signature, sort)?;
     if has_injection(signature) {

@@ -5,7 +5,7 @@ use Rattle.std.specs.List.{AllByRecursion, AllZip}
 use Rattle.kp_kore.specs.Syntax.{KorePattern}
 use Rattle.kp_kore.specs.Signature.{KoreSignature}
 use Rattle.kp_semantics.specs.Value.{Value}
-use Rattle.kp_semantics.specs.Sorted.{IsSorted, IsRegular}
+use Rattle.kp_semantics.specs.Sorted.{IsSorted}
 use Rattle.kp_semantics.specs.Rules as model
 use Rattle.kp_semantics.specs.Theory.{Theory}
 use Rattle.kp_semantics.specs.Steps.{AnyByRecursion, Fires, NoneBefore, HasTurn, IsUnknown}
@@ -78,23 +78,23 @@ successor_of t c m p known turn h = record {
   written = h.written;
 }
 
-successors_of : (t : Theory) (c : Value) (n : ℕ) (ms : List model.RewriteRule) (rs : List Rule) (ps : List KorePattern) → IsRegular t.signature → IsSorted t.signature c → ¬ IsUnknown t c → LeastAt t c n →
+successors_of : (t : Theory) (c : Value) (n : ℕ) (ms : List model.RewriteRule) (rs : List Rule) (ps : List KorePattern) → IsSorted t.signature c → ¬ IsUnknown t c → LeastAt t c n →
     AllByRecursion (λ m. m.priority < n → ¬ Fires t.signature m.body c) ms → AllZip (IsCodeOf t.signature) ms rs → AreNexts t.signature c n rs ps → AreSuccessors t c ms ps
-successors_of t c n [] [] ps regular s known least before z h = h
-successors_of t c n [] (r ∷ rs) ps regular s known least before z h = absurd z
-successors_of t c n (m ∷ ms) [] ps regular s known least before z h = absurd z
-successors_of t c n (m ∷ ms) (r ∷ rs) ps regular s known least before z (inl h) =
-    inl ((λ turn. h.0 ((fires_with_turn t c n m r s least before.0 z.0).1 turn)), successors_of t c n ms rs ps regular s known least before.1 z.1 h.1)
-successors_of t c n (m ∷ ms) (r ∷ rs) [] regular s known least before z (inr h) = absurd h.1
-successors_of t c n (m ∷ ms) (r ∷ rs) (p ∷ ps) regular s known least before z (inr h) =
+successors_of t c n [] [] ps s known least before z h = h
+successors_of t c n [] (r ∷ rs) ps s known least before z h = absurd z
+successors_of t c n (m ∷ ms) [] ps s known least before z h = absurd z
+successors_of t c n (m ∷ ms) (r ∷ rs) ps s known least before z (inl h) =
+    inl ((λ turn. h.0 ((fires_with_turn t c n m r s least before.0 z.0).1 turn)), successors_of t c n ms rs ps s known least before.1 z.1 h.1)
+successors_of t c n (m ∷ ms) (r ∷ rs) [] s known least before z (inr h) = absurd h.1
+successors_of t c n (m ∷ ms) (r ∷ rs) (p ∷ ps) s known least before z (inr h) =
     let turn = (fires_with_turn t c n m r s least before.0 z.0).0 h.0 in
-    inr (turn, (successor_of t c m p known turn (follows t.signature m.body r.body c p z.0.is_body regular s h.0.0 h.1.0), successors_of t c n ms rs ps regular s known least before.1 z.1 h.1.1))
+    inr (turn, (successor_of t c m p known turn (follows t.signature m.body r.body c p z.0.is_body s h.0.0 h.1.0), successors_of t c n ms rs ps s known least before.1 z.1 h.1.1))
 
-pub are_successors : (t : Theory) (rules : RuleSet) (c : Value) (n : ℕ) (ps : List KorePattern) → RunsAs t rules → IsRegular t.signature → IsSorted t.signature c → ¬ IsUnknown t c →
+pub are_successors : (t : Theory) (rules : RuleSet) (c : Value) (n : ℕ) (ps : List KorePattern) → RunsAs t rules → IsSorted t.signature c → ¬ IsUnknown t c →
     IsLeast t.signature c rules.rules.items (Some n) → AreNexts t.signature c n rules.rules.items ps → AreSuccessors t c t.rules ps
-are_successors t rules c n ps runs regular s known h nexts =
+are_successors t rules c n ps runs s known h nexts =
     let least = least_at t rules c n runs s h in
-    successors_of t c n t.rules rules.rules.items ps regular s known least least.none_before runs.each nexts
+    successors_of t c n t.rules rules.rules.items ps s known least least.none_before runs.each nexts
 
 -- where no rule fires
 none_follow : (t : Theory) (c : Value) (ms : List model.RewriteRule) → AllByRecursion (λ m. ¬ Fires t.signature m.body c) ms → AreSuccessors t c ms []

@@ -63,7 +63,7 @@ condition_stays g r u h w = let n = h w.valuation w.meets in let k = w.wide in a
 -- the same next pattern under as many valuations
 next_by_moved : (g : KoreSignature) (r : code.Rewrite) (o : Option RightSide) (P Q : Valuation → Type 0) (p : KorePattern) → ((v : Valuation) → Q v → P v) → IsNextBy g r o P p → IsNextBy g r o Q p
 next_by_moved g r None P Q p f h = record { value = h.value; meant = λ v q. h.meant v (f v q); spelled = h.spelled }
-next_by_moved g r (Some s) P Q p f h = record { terms = h.terms; names = h.names; spelled = λ regular v q gives. h.spelled regular v (f v q) gives; known = h.known; pattern = h.pattern }
+next_by_moved g r (Some s) P Q p f h = record { terms = h.terms; names = h.names; spelled = λ v q gives. h.spelled v (f v q) gives; known = h.known; pattern = h.pattern }
 
 pub next_moved : (g : KoreSignature) (r : code.Rewrite) (P Q : Valuation → Type 0) (p : KorePattern) → ((v : Valuation) → Q v → P v) → IsNextOf g r P p → IsNextOf g r Q p
 next_moved g r P Q p f h = next_by_moved g r r.choice P Q p f h

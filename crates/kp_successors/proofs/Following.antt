@@ -6,7 +6,7 @@ use Rattle.kp_kore.specs.Parts.{free_variables}
 use Rattle.kp_kore.specs.Signature.{KoreSignature}
 use Rattle.kp_kore.specs.View.{view, sort_view}
 use Rattle.kp_semantics.specs.Value.{Value, HasSort}
-use Rattle.kp_semantics.specs.Sorted.{IsSorted, IsRegular}
+use Rattle.kp_semantics.specs.Sorted.{IsSorted}
 use Rattle.kp_semantics.specs.Instance.{Valuation, instance, GivesSorts, is_named}
 use Rattle.kp_semantics.specs.Rules as model
 use Rattle.kp_semantics.specs.Steps.{FiresUnder, Rewrites}
@@ -42,12 +42,12 @@ spelled_instance g value p next h = (
   (λ i. (one_instance g i.0 p next h.term).0 i.2 ∙ h.meant i.0),
 )
 
-plain_is_exact : (g : KoreSignature) (w : model.Rewrite) (r : code.Rewrite) (u : Value) (p : KorePattern) → IsRewriteOf g w r → IsPlain w → IsRegular g → IsSorted g u → (v : Valuation) → FiresAs g r u v → PlainBy g r (FiresAs g r u) p →
+plain_is_exact : (g : KoreSignature) (w : model.Rewrite) (r : code.Rewrite) (u : Value) (p : KorePattern) → IsRewriteOf g w r → IsPlain w → IsSorted g u → (v : Valuation) → FiresAs g r u v → PlainBy g r (FiresAs g r u) p →
     IsExact g (model.rewrite w) u p
-plain_is_exact g w r u p is plain regular s v f by =
+plain_is_exact g w r u p is plain s v f by =
     let fires = (fired_under g w r is u s v).0 f in
     let here : (v : Valuation) → FiresUnder g w v u → by.value ≡ instance g v w.right = λ v k. by.meant v ((fired_under g w r is u s v).1 k) ∙ is.right v in
-    let spelling : IsSpellingOf g by.value p = by.spelled regular (subst (HasSort g (sort_view r.right_sort)) (sym (here v fires)) (is.sorted regular v fires.sorts plain.new_variables)) in
+    let spelling : IsSpellingOf g by.value p = by.spelled (subst (HasSort g (sort_view r.right_sort)) (sym (here v fires)) (is.sorted v fires.sorts plain.new_variables)) in
     record {
       exact = λ next. (
         (λ k. (spelled_instance g by.value p next spelling).0 (leads_only_to g w k.0 next plain k.2 ∙ sym (here k.0 k.1))),
@@ -66,14 +66,14 @@ known_there w s is h =
     (subst (λ qs. list_all (is_known (left_of s) (new_of s)) (free_beside w.right qs) ≡ true) is.ensured
     (subst (λ t. list_all (is_known (left_of s) (new_of s)) (free_beside t (ensured_of s)) ≡ true) is.term h)))
 
-chosen_is_exact : (g : KoreSignature) (w : model.Rewrite) (r : code.Rewrite) (side : RightSide) (u : Value) (p : KorePattern) → IsRewriteOf g w r → ¬ IsPlain w → IsSideOf w side → IsRegular g → IsSorted g u → (v : Valuation) → FiresAs g r u v →
+chosen_is_exact : (g : KoreSignature) (w : model.Rewrite) (r : code.Rewrite) (side : RightSide) (u : Value) (p : KorePattern) → IsRewriteOf g w r → ¬ IsPlain w → IsSideOf w side → IsSorted g u → (v : Valuation) → FiresAs g r u v →
     ChosenBy g (sort_view r.right_sort) side (FiresAs g r u) p → IsExact g (model.rewrite w) u p
-chosen_is_exact g w r side u p is chooses of regular s v f by =
+chosen_is_exact g w r side u p is chooses of s v f by =
     let sort = sort_view r.right_sort in
     let names : (x : Text) → is_replaced by.terms x ≡ (is_named x (free_variables w.left) && not (is_named x w.new_variables)) = λ x. by.names x ∙ ap (λ xs. is_named x xs && not (is_named x (new_of side))) of.left_variables ∙ ap (λ xs. is_named x (free_variables w.left) && not (is_named x xs)) of.new_variables in
     let choosing : IsPutIn w by.terms = record { constrained = is.constrained; names = names; known = known_there w side of by.known } in
     let spell : (v : Valuation) → FiresUnder g w v u → AllByRecursion (λ r. IsSpellingOf g (v r.name) r.term) by.terms =
-    λ v k. by.spelled regular v ((fired_under g w r is u s v).1 k) (subst (GivesSorts g v) (sym of.left_variables) k.sorts) in
+    λ v k. by.spelled v ((fired_under g w r is u s v).1 k) (subst (GivesSorts g v) (sym of.left_variables) k.sorts) in
     let pattern : p ≡ chosen_pattern sort by.terms w.right w.ensured w.new_variables =
     by.pattern
     ∙ ap (λ t. chosen_pattern sort by.terms t (ensured_of side) (new_of side)) of.term
@@ -90,15 +90,15 @@ chosen_is_exact g w r side u p is chooses of regular s v f by =
 
 -- ---- either
 
-follows_by : (g : KoreSignature) (w : model.Rewrite) (r : code.Rewrite) (u : Value) (p : KorePattern) (b : Bool) (o : Option RightSide) → IsRewriteOf g w r → r.chooses ≡ b → IsChoiceOf w b o → IsRegular g → IsSorted g u → (v : Valuation) → FiresAs g r u v →
+follows_by : (g : KoreSignature) (w : model.Rewrite) (r : code.Rewrite) (u : Value) (p : KorePattern) (b : Bool) (o : Option RightSide) → IsRewriteOf g w r → r.chooses ≡ b → IsChoiceOf w b o → IsSorted g u → (v : Valuation) → FiresAs g r u v →
     IsNextBy g r o (FiresAs g r u) p → IsExact g (model.rewrite w) u p
-follows_by g w r u p true (Some side) is e choice regular s v f by = chosen_is_exact g w r side u p is (is.chooses e) choice regular s v f by
-follows_by g w r u p false None is e choice regular s v f by = plain_is_exact g w r u p is (is.plain e) regular s v f by
-follows_by g w r u p true None is e choice regular s v f by = absurd choice
-follows_by g w r u p false (Some side) is e choice regular s v f by = absurd choice
+follows_by g w r u p true (Some side) is e choice s v f by = chosen_is_exact g w r side u p is (is.chooses e) choice s v f by
+follows_by g w r u p false None is e choice s v f by = plain_is_exact g w r u p is (is.plain e) s v f by
+follows_by g w r u p true None is e choice s v f by = absurd choice
+follows_by g w r u p false (Some side) is e choice s v f by = absurd choice
 
-pub follows : (g : KoreSignature) (m : model.RuleBody) (b : RuleBody) (u : Value) (p : KorePattern) → IsBodyOf g m b → IsRegular g → IsSorted g u → BodyFires g u b → Follows g u b p → IsExact g m u p
-follows g (model.rewrite w) (Rewrite r) u p is regular s f by = follows_by g w r u p r.chooses r.choice is refl is.choice regular s f.0 f.1 by
-follows g (model.foreign_rule l) (Foreign k) u p is regular s f by = absurd f
-follows g (model.rewrite w) (Foreign k) u p is regular s f by = absurd is
-follows g (model.foreign_rule l) (Rewrite r) u p is regular s f by = absurd is
+pub follows : (g : KoreSignature) (m : model.RuleBody) (b : RuleBody) (u : Value) (p : KorePattern) → IsBodyOf g m b → IsSorted g u → BodyFires g u b → Follows g u b p → IsExact g m u p
+follows g (model.rewrite w) (Rewrite r) u p is s f by = follows_by g w r u p r.chooses r.choice is refl is.choice s f.0 f.1 by
+follows g (model.foreign_rule l) (Foreign k) u p is s f by = absurd f
+follows g (model.rewrite w) (Foreign k) u p is s f by = absurd is
+follows g (model.foreign_rule l) (Rewrite r) u p is s f by = absurd is

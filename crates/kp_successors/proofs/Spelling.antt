@@ -10,7 +10,6 @@ use Rattle.kp_kore.specs.Signature.{KoreSignature}
 use Rattle.kp_kore.specs.View.{sort_view, sorted_variable_view}
 use Rattle.kp_kore.specs.declared.pattern_free.SortedVariable.{SortedVariable}
 use Rattle.kp_semantics.specs.Value.{HasSort}
-use Rattle.kp_semantics.specs.Sorted.{IsRegular}
 use Rattle.kp_semantics.specs.Instance.{Valuation, GivesSorts, is_named}
 use Rattle.kp_ground.specs.Solves.{Solves}
 use Rattle.kp_ground.specs.declared.binding.Binding.{Binding}
@@ -25,11 +24,11 @@ names_of new xs = map (λ x. x.name) (filter (λ x. not (is_named x.name new)) x
 
 -- the term spells what the bindings give
 abbrev pub IsSpelled : KoreSignature → List SortedName → List Binding → ReplacedName → Type 0
-IsSpelled g left bindings r = IsRegular g → (v : Valuation) → Solves v bindings → GivesSorts g v left → IsSpellingOf g (v r.name) r.term
+IsSpelled g left bindings r = (v : Valuation) → Solves v bindings → GivesSorts g v left → IsSpellingOf g (v r.name) r.term
 
 pub spell_all : (g : KoreSignature) (left : List SortedName) (bindings : List Binding) (rs : List ReplacedName) → AllByRecursion (IsSpelled g left bindings) rs → Spell g left (λ v. Solves v bindings) rs
-spell_all g left bindings [] h = λ regular v solves gives. tt
-spell_all g left bindings (r ∷ rs) h = λ regular v solves gives. (h.0 regular v solves gives, spell_all g left bindings rs h.1 regular v solves gives)
+spell_all g left bindings [] h = λ v solves gives. tt
+spell_all g left bindings (r ∷ rs) h = λ v solves gives. (h.0 v solves gives, spell_all g left bindings rs h.1 v solves gives)
 
 -- the variable at a place has its sort
 pub gives_at : (g : KoreSignature) (v : Valuation) (xs : List SortedVariable) (i : ℕ) (d : SortedVariable) → i < length xs → d ≡ get_or xs i d → GivesSorts g v (map sorted_variable_view xs) → HasSort g (sort_view d.sort) (v (string_bytes d.name))
@@ -118,9 +117,9 @@ all_named new xs items i found whole e le so =
     sym (append-nil (named found)) ∙ sym (ap (λ ps. named found ++ names_of new (map sorted_variable_view ps)) done) ∙ so
 
 pub spelled_added : (g : KoreSignature) (xs items : List SortedVariable) (i : ℕ) (x : SortedVariable) (bindings : List Binding) (found found' : List ReplacedName) (r : ReplacedName) → items ≡ xs → i < length items → x ≡ get_or items i x →
-    r.name ≡ string_bytes x.name → (IsRegular g → (v : Valuation) → Solves v bindings → HasSort g (sort_view x.sort) (v (string_bytes x.name)) → IsSpellingOf g (v (string_bytes x.name)) r.term) → found' ≡ found ++ r ∷ [] →
+    r.name ≡ string_bytes x.name → ((v : Valuation) → Solves v bindings → HasSort g (sort_view x.sort) (v (string_bytes x.name)) → IsSpellingOf g (v (string_bytes x.name)) r.term) → found' ≡ found ++ r ∷ [] →
     AllByRecursion (IsSpelled g (map sorted_variable_view xs) bindings) found → AllByRecursion (IsSpelled g (map sorted_variable_view xs) bindings) found'
 spelled_added g xs items i x bindings found found' r e lt is n f p h =
-    let here : IsSpelled g (map sorted_variable_view xs) bindings r = λ regular v solves gives. subst (λ m. IsSpellingOf g (v m) r.term) (sym n)
-    (f regular v solves (gives_at g v xs i x (subst (λ l. i < length l) e lt) (subst (λ l. x ≡ get_or l i x) e is) gives)) in
+    let here : IsSpelled g (map sorted_variable_view xs) bindings r = λ v solves gives. subst (λ m. IsSpellingOf g (v m) r.term) (sym n)
+    (f v solves (gives_at g v xs i x (subst (λ l. i < length l) e lt) (subst (λ l. x ≡ get_or l i x) e is) gives)) in
     subst (AllByRecursion (IsSpelled g (map sorted_variable_view xs) bindings)) (sym p) (all_and_last (IsSpelled g (map sorted_variable_view xs) bindings) found r h here)

@@ -6,7 +6,7 @@ use Rattle.kp_kore.specs.Syntax.{KoreSort, KorePattern}
 use Rattle.kp_kore.specs.Signature.{KoreSignature}
 use Rattle.kp_signature.specs.View.{signature_view}
 use Rattle.kp_semantics.specs.Value.{Value}
-use Rattle.kp_semantics.specs.Sorted.{IsSorted, IsRegular}
+use Rattle.kp_semantics.specs.Sorted.{IsSorted}
 use Rattle.kp_semantics.specs.Instance.{Valuation, instance}
 use Rattle.kp_semantics.specs.Numbers.{computes_wide}
 use Rattle.kp_semantics.specs.Theory.{Theory}
@@ -36,10 +36,10 @@ pub least_there : (t : Theory) (rules : RuleSet) (u : Value) (o : Option ℕ) �
 least_there t rules u o runs h = subst (λ g. IsLeast g u rules.rules.items o) runs.signature h
 
 -- the patterns at the least number
-pub nexts_are : (t : Theory) (rules : RuleSet) (u : Value) (n : ℕ) (ps : List KorePattern) → RunsAs t rules → IsRegular t.signature → IsSorted t.signature u → IsLeast (Here rules) u rules.rules.items (Some n) →
+pub nexts_are : (t : Theory) (rules : RuleSet) (u : Value) (n : ℕ) (ps : List KorePattern) → RunsAs t rules → IsSorted t.signature u → IsLeast (Here rules) u rules.rules.items (Some n) →
     AreNexts (Here rules) u n rules.rules.items ps → ¬ IsUnknown t u → AreSuccessors t u t.rules ps
-nexts_are t rules u n ps runs regular s least nexts known =
-    are_successors t rules u n ps runs regular s known (least_there t rules u (Some n) runs least) (subst (λ g. AreNexts g u n rules.rules.items ps) runs.signature nexts)
+nexts_are t rules u n ps runs s least nexts known =
+    are_successors t rules u n ps runs s known (least_there t rules u (Some n) runs least) (subst (λ g. AreNexts g u n rules.rules.items ps) runs.signature nexts)
 
 pub none_are : (t : Theory) (rules : RuleSet) (u : Value) → RunsAs t rules → IsSorted t.signature u → IsLeast (Here rules) u rules.rules.items None → AreSuccessors t u t.rules []
 none_are t rules u runs s least = no_successors t rules u runs s (least_there t rules u None runs least)
@@ -107,9 +107,6 @@ not_too_wide t rules p c u runs same narrow none (wide_right some) = none (inr (
 
 -- ---- refusals
 
-pub refused_irregular : (t : Theory) (rules : RuleSet) (p : KorePattern) (c : Value) → RunsAs t rules → rules.is_regular ≡ false → IsRefusedFor t p c Unread
-refused_irregular t rules p c runs h = inl (sym runs.tested ∙ h)
-
 pub refused_by_memory : (t : Theory) (p : KorePattern) (c : Value) (e : GroundError) → e ≡ Memory → IsRefusedFor t p c e
 refused_by_memory t p c e h = subst (IsRefusedFor t p c) (sym h) tt
 
@@ -117,7 +114,7 @@ pub refused_value : (t : Theory) (rules : RuleSet) (p : KorePattern) (s : KoreSo
 refused_value t rules p s c Memory runs state h = tt
 refused_value t rules p s c Number runs state h = wide_pattern (λ v. subst (λ g. computes_wide g v p ≡ true) runs.signature (h v))
 refused_value t rules p s c (Foreign id) runs state h = absurd h
-refused_value t rules p s c Unread runs state h = inr (λ verified. h (subst (λ g. IsVerifiedTerm g p) (sym runs.signature) verified) state.closed)
+refused_value t rules p s c Unread runs state h = λ verified. h (subst (λ g. IsVerifiedTerm g p) (sym runs.signature) verified) state.closed
 refused_value t rules p s c NoInjection runs state h = absurd h
 refused_value t rules p s c Unbound runs state h = absurd h
 

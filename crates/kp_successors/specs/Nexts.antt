@@ -6,7 +6,6 @@ use Rattle.kp_kore.specs.Parts.{SortedName}
 use Rattle.kp_kore.specs.Signature.{KoreSignature}
 use Rattle.kp_kore.specs.View.{view, sort_view, sorted_variable_view}
 use Rattle.kp_semantics.specs.Value.{Value, HasSort}
-use Rattle.kp_semantics.specs.Sorted.{IsRegular}
 use Rattle.kp_semantics.specs.Instance.{Valuation, GivesSorts}
 use Rattle.kp_ground.specs.Terms.{term_value, stays_narrow}
 use Rattle.kp_ground.specs.TermView.{term_view}
@@ -32,7 +31,7 @@ AreForLeft s terms = AreNamed (left_of s) (new_of s) terms
 
 -- and spell their values under each of these valuations
 abbrev pub Spell : KoreSignature → List SortedName → (Valuation → Type 0) → List ReplacedName → Type 0
-Spell g left Holds terms = IsRegular g → (v : Valuation) → Holds v → GivesSorts g v left → SpellUnder g v terms
+Spell g left Holds terms = (v : Valuation) → Holds v → GivesSorts g v left → SpellUnder g v terms
 
 -- each variable of the right side is
 abbrev pub is_known_side : RightSide → Bool
@@ -42,7 +41,7 @@ is_known_side s = list_all (is_known (left_of s) (new_of s)) (free_beside (view 
 pub record PlainBy (g : KoreSignature) (r : Rewrite) (Holds : Valuation → Type 0) (p : KorePattern) : Type 0 where
   pub value : Value
   pub meant : (v : Valuation) → Holds v → value ≡ term_value v (term_view r.right)
-  pub spelled : IsRegular g → HasSort g (sort_view r.right_sort) value → IsSpellingOf g value p
+  pub spelled : HasSort g (sort_view r.right_sort) value → IsSpellingOf g value p
 
 -- the right side, of this sort, with the spellings of the left term's variables
 pub record ChosenBy (g : KoreSignature) (sort : KoreSort) (side : RightSide) (Holds : Valuation → Type 0) (p : KorePattern) : Type 0 where

@@ -1,10 +1,9 @@
 -- When the successors of a configuration aren't told, and why.
-use Rattle.std.specs.Prelude.{◌≡◌, ◌⊎◌, false, string_bytes, ⊤}
+use Rattle.std.specs.Prelude.{◌⊎◌, string_bytes, ⊤}
 use Rattle.kp_kore.specs.Syntax.{KorePattern}
 use Rattle.kp_semantics.specs.Value.{Value}
 use Rattle.kp_semantics.specs.Theory.{Theory}
 use Rattle.kp_semantics.specs.Steps.{AnyByRecursion, HasTurn}
-use Rattle.kp_sorts.specs.Regularity.{keeps_values_apart}
 use Rattle.kp_compile.specs.Verified.{IsVerifiedTerm}
 use Rattle.kp_run.specs.Causes.{HasWideCondition}
 use Rattle.kp_run.specs.Runs.{IsFirstUnknown}
@@ -20,13 +19,13 @@ HasWideRule t c =
     ⊎ AnyByRecursion (λ r. HasTurn t r c × HasWideRight t.signature c r.body) t.rules
 
 -- G1 only where some number is beyond 128 bits; G2 only where none is, with the id of the foreign rule that goes first of
--- those that might rewrite the configuration; Unread only where the signature doesn't keep values apart, or the pattern
--- isn't a verified term without foreign symbols; NoInjection only where no symbol is inj. Open.antt says what Unbound is told
+-- those that might rewrite the configuration; Unread only where the pattern isn't a verified term
+-- without foreign symbols; NoInjection only where no symbol is inj. Open.antt says what Unbound is told
 -- of: it isn't of the theory
 abbrev pub IsRefusedFor : Theory → KorePattern → Value → GroundError → Type 0
 IsRefusedFor t p c Memory = ⊤
 IsRefusedFor t p c Number = IsTooWide t p c
 IsRefusedFor t p c (Foreign id) = (¬ IsTooWide t p c) × IsFirstUnknown t c (string_bytes id)
-IsRefusedFor t p c Unread = (keeps_values_apart t.signature ≡ false) ⊎ (¬ IsVerifiedTerm t.signature p)
+IsRefusedFor t p c Unread = ¬ IsVerifiedTerm t.signature p
 IsRefusedFor t p c NoInjection = LacksInjection t.signature
 IsRefusedFor t p c Unbound = ⊤

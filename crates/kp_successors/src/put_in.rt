@@ -3,7 +3,6 @@ ghost use Rattle.std.specs.Prelude.{◌≡◌, ◌++◌, ◌∷◌, [], true, no
 ghost use Rattle.kp_kore.specs.View.{view, sort_view};
 ghost use Rattle.kp_signature.specs.View.{signature_view};
 ghost use Rattle.kp_semantics.specs.Value.{HasSort};
-ghost use Rattle.kp_semantics.specs.Sorted.{IsRegular};
 ghost use Rattle.kp_semantics.specs.Instance.{Valuation};
 ghost use Rattle.kp_ground.specs.Solves.{Solves, bound_names};
 ghost use Rattle.kp_ground.specs.Terms.{is_one_of};
@@ -60,7 +59,7 @@ fn replacement_of(
     bindings: &[Binding],
 ) -> Result<Replacement, GroundError>
     ensures name { IfOk result (λ r. string_bytes r.name ≡ string_bytes variable.now.name) }
-    ensures spelled { IfOk result (λ r. IsRegular (signature_view signature.now) → (v : Valuation) → Solves v bindings.now →
+    ensures spelled { IfOk result (λ r. (v : Valuation) → Solves v bindings.now →
         HasSort (signature_view signature.now) (sort_view variable.now.sort) (v (string_bytes variable.now.name)) →
         IsSpellingOf (signature_view signature.now) (v (string_bytes variable.now.name)) (view r.term)) }
     ensures refused { IfErr result (IsCausedBy (signature_view signature.now) ⊥) }

@@ -4,7 +4,7 @@ ghost use Rattle.kp_kore.specs.Syntax.{KoreSort};
 ghost use Rattle.kp_kore.specs.Parts.{is_term, free_variables};
 ghost use Rattle.kp_kore.specs.View.{view};
 ghost use Rattle.kp_semantics.specs.Value as model;
-ghost use Rattle.kp_semantics.specs.Sorted.{IsSorted, IsRegular};
+ghost use Rattle.kp_semantics.specs.Sorted.{IsSorted};
 ghost use Rattle.kp_semantics.specs.Theory.{Theory};
 ghost use Rattle.kp_semantics.specs.Steps.{IsUnknown};
 ghost use Rattle.kp_ground.specs.View.{value_view};
@@ -42,9 +42,6 @@ pub fn ground_step(
     ensures refused { (t : Theory) (s : KoreSort) (c : model.Value) → RunsAs t rules.now → IsGroundState t.signature (view pattern.now) s c → IfErr result (IsRefusedFor t (view pattern.now) c) }
     ensures unbound { IfErr result (λ e. e ≡ Unbound → SomeLeavesOpen rules.now) }
 {
-    if !rules.is_regular {
-        return Err(GroundError::Unread);
-    }
     let value = value_of(alloc, &rules.signature, pattern)?;
     let nexts = nexts_of(alloc, rules, &value)?;
     match foreign_on(alloc, rules, &value)? {
@@ -64,7 +61,7 @@ fn foreign(rule: &Rule) -> Result<GroundError, AllocError>
 
 /// The patterns of the rules that fire and have the least priority number of these.
 fn nexts_of(alloc: Global, rules: &RuleSet, value: &Value) -> Result<Vec<Pattern>, GroundError>
-    ensures successors { (t : Theory) → RunsAs t rules.now → IsRegular t.signature → IsSorted t.signature (value_view value.now) →
+    ensures successors { (t : Theory) → RunsAs t rules.now → IsSorted t.signature (value_view value.now) →
         IfOk result (λ ps. (¬ IsUnknown t (value_view value.now)) → AreSuccessors t (value_view value.now) t.rules (map view ps.items)) }
     ensures narrow { (t : Theory) → RunsAs t rules.now → IsSorted t.signature (value_view value.now) → OnOk result (¬ HasWideRule t (value_view value.now)) }
     ensures refused { (t : Theory) → RunsAs t rules.now → IsSorted t.signature (value_view value.now) → IfErr result (IsCausedBy t.signature (HasWideRule t (value_view value.now))) }

@@ -1,20 +1,18 @@
 -- Opened Boolean expressions say that they are true, by their sign; terms are seen as they are.
-use Rattle.std.proofs.Common.{◌≡◌, refl, sym, ◌∙◌, ap, ap₂, subst, ℤ, ◌+ℤ◌, Bool, true, false, not, cond, ◌&&◌, ◌||◌, [], Option, Some, None, ◌↔◌}
+use Rattle.std.proofs.Common.{◌≡◌, refl, sym, ◌∙◌, ap, ap₂, subst, ℤ, ◌+ℤ◌, Bool, true, false, not, ◌&&◌, ◌||◌, [], Option, Some, None, ◌↔◌}
 use Rattle.std.specs.Prelude.{if◌then◌else◌}
-use Rattle.std.specs.Prelude.{codes}
-use Rattle.std.specs.List.{find}
-use Rattle.std.specs.Option.{option_and_then, option_map}
 use Rattle.std.specs.Bool.{beq, Decides}
-use Rattle.kp_kore.specs.Syntax.{Text, KoreSort, sort_variable, KoreSorts, no_sorts, next_sort, SortDeclaration, SymbolDeclaration}
-use Rattle.kp_kore.specs.Attributes.{text_of, sorts_equal}
-use Rattle.kp_kore.specs.Hooks.{hook_named, Comparison, Connective, both, either, implies, same as same_truth, other, Hook, whole_arithmetic, whole_comparison, truth_connective, truth_negation, values_equal, values_different}
-use Rattle.kp_kore.specs.Signature.{KoreSignature, SymbolMeaning, injection, construction, interpretation, foreign, meaning_of, symbol_meaning, symbol_declared, is_injection, is_constructor, is_plain, fits_hook, fitting_hook, declared_sort, has_hook, is_the, is_integer_sort, is_boolean_sort, are_one, are_two}
+use Rattle.kp_kore.specs.Syntax.{Text, KoreSort, sort_variable, KoreSorts, no_sorts, next_sort, SymbolDeclaration}
+use Rattle.kp_kore.specs.Attributes.{sorts_equal}
+use Rattle.kp_kore.specs.Hooks.{Comparison, Connective, both, either, implies, same as same_truth, other, Hook, whole_arithmetic, whole_comparison, truth_connective, truth_negation, values_equal, values_different}
+use Rattle.kp_kore.specs.Signature.{KoreSignature, SymbolMeaning, injection, construction, interpretation, foreign, meaning_of, symbol_meaning, symbol_declared, is_identity, is_constructor, is_plain, fits_hook, fitting_hook, boolean_sort, is_the, is_boolean_sort, has_only_truths, is_number_sort, is_truth_sort, are_one, are_two}
 use Rattle.kp_semantics.specs.Value.{Value, whole, truth, token, constructed, Values, no_values, next_value, values_same, HasSort, HaveSorts}
 use Rattle.kp_semantics.specs.Interpretation.{compared, connected, interpreted}
 use Rattle.kp_semantics.specs.Instance.{Valuation, GivesSorts, applied}
-use Rattle.kp_semantics.specs.Sorted.{IsRegular}
 use Rattle.kp_semantics.proofs.InstanceLemmas.{first_true, second_true}
 use Rattle.kp_semantics.proofs.SameLemmas.{sorts_equal-Decides, same_values_decide, equal_call}
+use Rattle.kp_sorts.proofs.MeaningLemmas.{an_interpretation, it_fits}
+use Rattle.kp_sorts.proofs.SortLemmas.{boolean_is_plain}
 use Rattle.kp_states.specs.Spelled.{places_of}
 use Rattle.kp_symbolic.specs.Terms.{SymbolicTerm, unknown, offset, known, headed, SymbolicTerms, no_terms, next_term, term_instance, term_instances, term_variables, all_term_variables}
 use Rattle.kp_symbolic.specs.Formulas.{Formula, all_of, one_of, Holds}
@@ -131,34 +129,6 @@ connective_says g v other ss m n alone b a c kept r q i j = stands_if g v (opene
 
 -- ---- what a hook is given
 
-abbrev hooked : Option Hook → SymbolMeaning
-hooked (Some h) = interpretation h
-hooked None = foreign
-
-abbrev meaning_by_tests : Bool → Bool → Bool → Option Hook → SymbolMeaning
-meaning_by_tests i c p o = cond i injection (cond c construction (cond p (hooked o) foreign))
-
-pub an_interpretation : (i c p : Bool) (o : Option Hook) (h : Hook) → meaning_by_tests i c p o ≡ interpretation h → o ≡ Some h
-an_interpretation true c p o h e = absurd (cc)
-an_interpretation false true p o h e = absurd (cc)
-an_interpretation false false true (Some k) h e = cc
-an_interpretation false false true None h e = absurd (cc)
-an_interpretation false false false o h e = absurd (cc)
-
-abbrev keep_fitting : KoreSignature → SymbolDeclaration → Hook → Option Hook
-keep_fitting g d k = cond (fits_hook g k d.arguments d.result) (Some k) None
-
-pub it_fits : (g : KoreSignature) (d : SymbolDeclaration) (h : Hook) → fitting_hook g d ≡ Some h → fits_hook g h d.arguments d.result ≡ true
-it_fits g d h e = by (option_and_then hook_named (text_of (codes "hook") d.attributes)) e
-  where
-    kept : (k : Hook) (b : Bool) → fits_hook g k d.arguments d.result ≡ b → cond b (Some k) None ≡ Some h → fits_hook g h d.arguments d.result ≡ true
-    kept k true t e = let q : k ≡ h = cc in subst (λ x. fits_hook g x d.arguments d.result ≡ true) q t
-    kept k false t e = absurd (cc)
-
-    by : (o : Option Hook) → option_and_then (keep_fitting g d) o ≡ Some h → fits_hook g h d.arguments d.result ≡ true
-    by (Some k) e = kept k (fits_hook g k d.arguments d.result) refl e
-    by None e = absurd (cc)
-
 abbrev pub meaning_by : KoreSignature → Option SymbolDeclaration → SymbolMeaning
 meaning_by g (Some d) = symbol_meaning g d
 meaning_by g None = foreign
@@ -171,7 +141,7 @@ fits_places g f h m = by (symbol_declared g f) refl
   where
     by : (o : Option SymbolDeclaration) → symbol_declared g f ≡ o → Fits g h (places_of g f)
     by None e = absurd (cc (sym (ap (meaning_by g) e) ∙ m))
-    by (Some d) e = (d.result, rw e (it_fits g d h (an_interpretation (is_injection d) (is_constructor d) (is_plain d) (fitting_hook g d) h (sym (ap (meaning_by g) e) ∙ m))))
+    by (Some d) e = (d.result, rw e (it_fits g d h (an_interpretation (is_identity d) (is_constructor d) (is_plain d) (fitting_hook g d) h (sym (ap (meaning_by g) e) ∙ m)).1))
 
 -- two terms, or one, of these sorts
 two_seen : (g : KoreSignature) (v : Valuation) (P : KoreSorts → Seens → Type 0) (test : KoreSort → Bool) (ss : KoreSorts) (ms : Seens) → are_two test ss ≡ true → HaveSorts g ss (seen_instances g v ms) → AreRight g v ms
@@ -212,13 +182,16 @@ compared_sums g v b o t u n c d p q =
     false_true : false ≡ true → ⊥
     false_true h = cc
 
-kept_truths : (g : KoreSignature) (a b : KoreSort) (m n : Value) → IsRegular g → HasSort g a m → HasSort g b n → (c : Bool) → sorts_equal a b ≡ c → is_boolean_sort g (if c then a else sort_variable []) ≡ true → IsTruth m × IsTruth n
-kept_truths g a b m n r h k true e i = (is_truth g a m r i h, is_truth g a n r i (subst (λ s. HasSort g s n) (sym ((sorts_equal-Decides a b).0 e)) k))
-kept_truths g a b m n r h k false e i = absurd (no_variable (find (has_hook (codes "BOOL.Bool")) g.sorts) i)
+kept_truths : (g : KoreSignature) (a b : KoreSort) (m n : Value) → HasSort g a m → HasSort g b n → (c : Bool) → sorts_equal a b ≡ c → is_truth_sort g (if c then a else sort_variable []) ≡ true → IsTruth m × IsTruth n
+kept_truths g a b m n h k true e i = (is_truth g a m i h, is_truth g a n i (subst (λ s. HasSort g s n) (sym ((sorts_equal-Decides a b).0 e)) k))
+kept_truths g a b m n h k false e i = absurd (no_variable (boolean_sort g) (boolean_is_plain g) (first_true (is_boolean_sort g (sort_variable [])) (has_only_truths g (sort_variable [])) i))
   where
-    no_variable : (o : Option SortDeclaration) → is_the (option_map declared_sort o) (sort_variable []) ≡ true → ⊥
-    no_variable (Some d) e = cc
-    no_variable None e = cc
+    no_variable : (o : Option KoreSort) → ((s : KoreSort) → o ≡ Some s → sorts_equal s (sort_variable []) ≡ false) → is_the o (sort_variable []) ≡ true → ⊥
+    no_variable (Some s) f e = false_true (sym (f s refl) ∙ e)
+      where
+        false_true : false ≡ true → ⊥
+        false_true h = cc
+    no_variable None f e = cc
 
 opposite_call : (b : Bool) (u w : Value) → signed (not b) (u ≡ w) ↔ signed b (truth (not (values_same u w)) ≡ truth true)
 opposite_call b u w = by b (values_same u w) (same_values_decide u w)
@@ -235,15 +208,15 @@ opposite_call b u w = by b (values_same u w) (same_values_decide u w)
         false_true : false ≡ true → ⊥
         false_true h = cc
 
-call_says : (g : KoreSignature) (v : Valuation) (h : Hook) (alone b : Bool) (kept : Formula Literal) (ss : KoreSorts) (ms : Seens) → IsRegular g → Fits g h ss → HaveSorts g ss (seen_instances g v ms) → AreRight g v ms → CallSays g v h alone b kept ss ms
-call_says g v truth_negation alone b kept ss ms r f s a = one_seen g v (CallSays g v truth_negation alone b kept) (is_boolean_sort g) ss ms (first_true (are_one (is_boolean_sort g) ss) (is_boolean_sort g f.0) f.1) s a
-    (λ x m p i q k. denied m q (is_truth g x (seen_instance g v m) r p i))
+call_says : (g : KoreSignature) (v : Valuation) (h : Hook) (alone b : Bool) (kept : Formula Literal) (ss : KoreSorts) (ms : Seens) → Fits g h ss → HaveSorts g ss (seen_instances g v ms) → AreRight g v ms → CallSays g v h alone b kept ss ms
+call_says g v truth_negation alone b kept ss ms f s a = one_seen g v (CallSays g v truth_negation alone b kept) (is_truth_sort g) ss ms (first_true (are_one (is_truth_sort g) ss) (is_truth_sort g f.0) f.1) s a
+    (λ x m p i q k. denied m q (is_truth g x (seen_instance g v m) p i))
   where
     denied : (m : Seen) → IsRight g v m → IsTruth (seen_instance g v m) → Says g v b (asked g alone (not b) m) (interpreted truth_negation (next_value (seen_instance g v m) no_values) ≡ truth true)
     denied m q i = subst (λ u. Says g v b (asked g alone (not b) m) (interpreted truth_negation (next_value u no_values) ≡ truth true)) (sym i.1)
         (from_stand g v b (not i.0) (asked g alone (not b) m) (stands_if g v (asked g alone (not b) m) (beq i.0 (not b)) (beq (not i.0) b) (opposite_is i.0 b) (asked_stands g v alone (not b) i.0 m q i.1)))
-call_says g v (truth_connective c) alone b kept ss ms r f s a = two_seen g v (CallSays g v (truth_connective c) alone b kept) (is_boolean_sort g) ss ms (first_true (are_two (is_boolean_sort g) ss) (is_boolean_sort g f.0) f.1) s a
-    (λ x y m n p o i j q w k. of x y m n q w (is_truth g x (seen_instance g v m) r p i) (is_truth g y (seen_instance g v n) r o j))
+call_says g v (truth_connective c) alone b kept ss ms f s a = two_seen g v (CallSays g v (truth_connective c) alone b kept) (is_truth_sort g) ss ms (first_true (are_two (is_truth_sort g) ss) (is_truth_sort g f.0) f.1) s a
+    (λ x y m n p o i j q w k. of x y m n q w (is_truth g x (seen_instance g v m) p i) (is_truth g y (seen_instance g v n) o j))
   where
     of : (x y : KoreSort) (m n : Seen) → IsRight g v m → IsRight g v n → IsTruth (seen_instance g v m) → IsTruth (seen_instance g v n) → Says g v b (opened_call g (next_sort x (next_sort y no_sorts)) (interpretation (truth_connective c)) (next_seen m (next_seen n none_seen)) alone b kept) (interpreted (truth_connective c) (next_value (seen_instance g v m) (next_value (seen_instance g v n) no_values)) ≡ truth true)
     of x y m n q w i j =
@@ -251,23 +224,23 @@ call_says g v (truth_connective c) alone b kept ss ms r f s a = two_seen g v (Ca
         subst (λ u. Says g v b F (interpreted (truth_connective c) (next_value u (next_value (seen_instance g v n) no_values)) ≡ truth true)) (sym i.1)
         (subst (λ u. Says g v b F (interpreted (truth_connective c) (next_value (truth i.0) (next_value u no_values)) ≡ truth true)) (sym j.1)
         (from_stand g v b (connected c i.0 j.0) F (connective_says g v c (next_sort x (next_sort y no_sorts)) m n alone b i.0 j.0 kept q w i.1 j.1)))
-call_says g v (whole_comparison o) alone b kept ss ms r f s a = two_seen g v (CallSays g v (whole_comparison o) alone b kept) (is_integer_sort g) ss ms (first_true (are_two (is_integer_sort g) ss) (is_boolean_sort g f.0) f.1) s a
+call_says g v (whole_comparison o) alone b kept ss ms f s a = two_seen g v (CallSays g v (whole_comparison o) alone b kept) (is_number_sort g) ss ms (first_true (are_two (is_number_sort g) ss) (is_truth_sort g f.0) f.1) s a
     (λ x y m n p w i j q z k. of x y m n q z k)
   where
     of : (x y : KoreSort) (m n : Seen) → IsRight g v m → IsRight g v n → CallSays g v (whole_comparison o) alone b kept (next_sort x (next_sort y no_sorts)) (next_seen m (next_seen n none_seen))
-    of x y (seen t p c ms) (seen u q d ns) i j k = with_sums g v b o kept (interpreted (whole_comparison o) (next_value (term_instance g v t) (next_value (term_instance g v u) no_values)) ≡ truth true) t u (sum_of g t) (sum_of g u) (λ z. sum_is g v t z r i.0.given) (λ z. sum_is g v u z r j.0.given) (compared_sums g v b o t u) k
-call_says g v (whole_arithmetic o) alone b kept ss ms r f s a = λ k. k
-call_says g v values_equal alone b kept ss ms r f s a = two_seen g v (CallSays g v values_equal alone b kept) (λ x. true) ss ms (first_true (are_two (λ x. true) ss) (is_boolean_sort g f.0) f.1) s a
+    of x y (seen t p c ms) (seen u q d ns) i j k = with_sums g v b o kept (interpreted (whole_comparison o) (next_value (term_instance g v t) (next_value (term_instance g v u) no_values)) ≡ truth true) t u (sum_of g t) (sum_of g u) (λ z. sum_is g v t z i.0.given) (λ z. sum_is g v u z j.0.given) (compared_sums g v b o t u) k
+call_says g v (whole_arithmetic o) alone b kept ss ms f s a = λ k. k
+call_says g v values_equal alone b kept ss ms f s a = two_seen g v (CallSays g v values_equal alone b kept) (λ x. true) ss ms (first_true (are_two (λ x. true) ss) (is_truth_sort g f.0) f.1) s a
     (λ x y m n p o i j q w k. says_the_same g v b (opened_seen g alone b (common_sort (next_sort x (next_sort y no_sorts))) kept m n) (seen_instance g v m ≡ seen_instance g v n) (truth (values_same (seen_instance g v m) (seen_instance g v n)) ≡ truth true) (swapped (equal_call (seen_instance g v m) (seen_instance g v n)))
-    (seen_says g v alone b (common_sort (next_sort x (next_sort y no_sorts))) x y kept m n r q w i j (kept_truths g x y (seen_instance g v m) (seen_instance g v n) r i j (sorts_equal x y) refl)
+    (seen_says g v alone b (common_sort (next_sort x (next_sort y no_sorts))) x y kept m n q w i j (kept_truths g x y (seen_instance g v m) (seen_instance g v n) i j (sorts_equal x y) refl)
     (says_the_same g v b kept (truth (values_same (seen_instance g v m) (seen_instance g v n)) ≡ truth true) (seen_instance g v m ≡ seen_instance g v n) (equal_call (seen_instance g v m) (seen_instance g v n)) k)))
   where
     swapped : {A B : Type 0} → A ↔ B → B ↔ A
     swapped e = (e.1, e.0)
-call_says g v values_different alone b kept ss ms r f s a = two_seen g v (CallSays g v values_different alone b kept) (λ x. true) ss ms (first_true (are_two (λ x. true) ss) (is_boolean_sort g f.0) f.1) s a
+call_says g v values_different alone b kept ss ms f s a = two_seen g v (CallSays g v values_different alone b kept) (λ x. true) ss ms (first_true (are_two (λ x. true) ss) (is_truth_sort g f.0) f.1) s a
     (λ x y m n p o i j q w k.
     let e = opposite_call b (seen_instance g v m) (seen_instance g v n) in
-    let z : Says g v (not b) (opened_seen g alone (not b) (common_sort (next_sort x (next_sort y no_sorts))) kept m n) (seen_instance g v m ≡ seen_instance g v n) = seen_says g v alone (not b) (common_sort (next_sort x (next_sort y no_sorts))) x y kept m n r q w i j (kept_truths g x y (seen_instance g v m) (seen_instance g v n) r i j (sorts_equal x y) refl) ((λ h. e.1 (k.0 h)), (λ h. k.1 (e.0 h))) in
+    let z : Says g v (not b) (opened_seen g alone (not b) (common_sort (next_sort x (next_sort y no_sorts))) kept m n) (seen_instance g v m ≡ seen_instance g v n) = seen_says g v alone (not b) (common_sort (next_sort x (next_sort y no_sorts))) x y kept m n q w i j (kept_truths g x y (seen_instance g v m) (seen_instance g v n) i j (sorts_equal x y) refl) ((λ h. e.1 (k.0 h)), (λ h. k.1 (e.0 h))) in
     ((λ h. e.0 (z.0 h)), (λ h. z.1 (e.1 h))))
 
 -- ---- terms are seen as they are
@@ -299,39 +272,39 @@ mutual
   values_seen g v no_values = refl
   values_seen g v (next_value u us) = ap₂ next_value (value_seen g v u) (values_seen g v us)
 
-headed_truth : (g : KoreSignature) (v : Valuation) (f : Text) (ts : SymbolicTerms) (m : SymbolMeaning) → meaning_of g f ≡ m → IsRegular g → HaveSorts g (places_of g f) (term_instances g v ts) → seen_instances g v (seen_terms g ts) ≡ term_instances g v ts → AreRight g v (seen_terms g ts)
+headed_truth : (g : KoreSignature) (v : Valuation) (f : Text) (ts : SymbolicTerms) (m : SymbolMeaning) → meaning_of g f ≡ m → HaveSorts g (places_of g f) (term_instances g v ts) → seen_instances g v (seen_terms g ts) ≡ term_instances g v ts → AreRight g v (seen_terms g ts)
     → SaysTruth g v (headed f ts) (opened_call g (places_of g f) m (seen_terms g ts))
-headed_truth g v f ts (interpretation h) m r s e a = λ alone b kept k.
+headed_truth g v f ts (interpretation h) m s e a = λ alone b kept k.
     let F = opened_call g (places_of g f) (interpretation h) (seen_terms g ts) alone b kept in
     let same : term_instance g v (headed f ts) ≡ interpreted h (seen_instances g v (seen_terms g ts)) = ap (λ n. applied n f (term_instances g v ts)) m ∙ ap (interpreted h) (sym e) in
     subst (λ u. Says g v b F (u ≡ truth true)) (sym same)
-    (call_says g v h alone b kept (places_of g f) (seen_terms g ts) r (fits_places g f h m) (subst (HaveSorts g (places_of g f)) (sym e) s) a
+    (call_says g v h alone b kept (places_of g f) (seen_terms g ts) (fits_places g f h m) (subst (HaveSorts g (places_of g f)) (sym e) s) a
     (subst (λ u. Says g v b kept (u ≡ truth true)) same k))
-headed_truth g v f ts injection m r s e a = kept_is g v (headed f ts)
-headed_truth g v f ts construction m r s e a = kept_is g v (headed f ts)
-headed_truth g v f ts foreign m r s e a = kept_is g v (headed f ts)
+headed_truth g v f ts injection m s e a = kept_is g v (headed f ts)
+headed_truth g v f ts construction m s e a = kept_is g v (headed f ts)
+headed_truth g v f ts foreign m s e a = kept_is g v (headed f ts)
 
 headed_head : (g : KoreSignature) (v : Valuation) (f : Text) (ts : SymbolicTerms) (c : Bool) → is_construction (meaning_of g f) ≡ c → seen_instances g v (seen_terms g ts) ≡ term_instances g v ts → SaysHead g v (headed f ts) (constructor_if c f) (seen_terms g ts)
 headed_head g v f ts true c e = (tt, ap (λ m. applied m f (term_instances g v ts)) (construction_is_meant (meaning_of g f) c) ∙ ap (constructed f) (sym e))
 headed_head g v f ts false c e = tt
 
 mutual
-  pub term_right : (g : KoreSignature) (v : Valuation) (t : SymbolicTerm) → IsRegular g → GivesSorts g v (term_variables t) → IsGivenSorts g v t → IsRight g v (seen_term g t)
-  term_right g v (unknown x) r h s = (record { truth_is = kept_is g v (unknown x); head_is = tt; given = h }, tt)
-  term_right g v (offset x c) r h s = (record { truth_is = kept_is g v (offset x c); head_is = tt; given = h }, tt)
-  term_right g v (known u) r h s = value_right g v u
-  term_right g v (headed f ts) r h s = (
+  pub term_right : (g : KoreSignature) (v : Valuation) (t : SymbolicTerm) → GivesSorts g v (term_variables t) → IsGivenSorts g v t → IsRight g v (seen_term g t)
+  term_right g v (unknown x) h s = (record { truth_is = kept_is g v (unknown x); head_is = tt; given = h }, tt)
+  term_right g v (offset x c) h s = (record { truth_is = kept_is g v (offset x c); head_is = tt; given = h }, tt)
+  term_right g v (known u) h s = value_right g v u
+  term_right g v (headed f ts) h s = (
     record {
-      truth_is = headed_truth g v f ts (meaning_of g f) refl r s.0 (terms_seen g v ts) (terms_right g v ts r h s.1);
+      truth_is = headed_truth g v f ts (meaning_of g f) refl s.0 (terms_seen g v ts) (terms_right g v ts h s.1);
       head_is = headed_head g v f ts (is_construction (meaning_of g f)) refl (terms_seen g v ts);
       given = h;
     },
-    terms_right g v ts r h s.1,
+    terms_right g v ts h s.1,
   )
 
-  pub terms_right : (g : KoreSignature) (v : Valuation) (ts : SymbolicTerms) → IsRegular g → GivesSorts g v (all_term_variables ts) → AreGivenSorts g v ts → AreRight g v (seen_terms g ts)
-  terms_right g v no_terms r h s = tt
-  terms_right g v (next_term t ts) r h s = (term_right g v t r (all_first (λ x. HasSort g x.sort (v x.name)) (term_variables t) (all_term_variables ts) h) s.0, terms_right g v ts r (all_second (λ x. HasSort g x.sort (v x.name)) (term_variables t) (all_term_variables ts) h) s.1)
+  pub terms_right : (g : KoreSignature) (v : Valuation) (ts : SymbolicTerms) → GivesSorts g v (all_term_variables ts) → AreGivenSorts g v ts → AreRight g v (seen_terms g ts)
+  terms_right g v no_terms h s = tt
+  terms_right g v (next_term t ts) h s = (term_right g v t (all_first (λ x. HasSort g x.sort (v x.name)) (term_variables t) (all_term_variables ts) h) s.0, terms_right g v ts (all_second (λ x. HasSort g x.sort (v x.name)) (term_variables t) (all_term_variables ts) h) s.1)
 
   pub term_seen : (g : KoreSignature) (v : Valuation) (t : SymbolicTerm) → seen_instance g v (seen_term g t) ≡ term_instance g v t
   term_seen g v (unknown x) = refl
@@ -345,15 +318,15 @@ mutual
 
 -- ---- equalities and Boolean expressions
 
-pub opened_same_says : (g : KoreSignature) (v : Valuation) (alone b : Bool) (s : KoreSort) (t u : SymbolicTerm) → IsRegular g → GivesSorts g v (term_variables t) → GivesSorts g v (term_variables u) → IsGivenSorts g v t → IsGivenSorts g v u → HasSort g s (term_instance g v t) → HasSort g s (term_instance g v u) → Says g v b (opened_same g alone b s t u) (term_instance g v t ≡ term_instance g v u)
-opened_same_says g v alone b s t u r i j m n h k =
+pub opened_same_says : (g : KoreSignature) (v : Valuation) (alone b : Bool) (s : KoreSort) (t u : SymbolicTerm) → GivesSorts g v (term_variables t) → GivesSorts g v (term_variables u) → IsGivenSorts g v t → IsGivenSorts g v u → HasSort g s (term_instance g v t) → HasSort g s (term_instance g v u) → Says g v b (opened_same g alone b s t u) (term_instance g v t ≡ term_instance g v u)
+opened_same_says g v alone b s t u i j m n h k =
     let p = term_seen g v t in
     let q = term_seen g v u in
     subst (λ x. Says g v b (opened_same g alone b s t u) (x ≡ term_instance g v u)) p
     (subst (λ y. Says g v b (opened_same g alone b s t u) (seen_instance g v (seen_term g t) ≡ y)) q
-    (seen_says g v alone b s s s (equality_fact b s t u) (seen_term g t) (seen_term g u) r (term_right g v t r i m) (term_right g v u r j n) (subst (HasSort g s) (sym p) h) (subst (HasSort g s) (sym q) k)
-    (λ e. (is_truth g s (seen_instance g v (seen_term g t)) r e (subst (HasSort g s) (sym p) h), is_truth g s (seen_instance g v (seen_term g u)) r e (subst (HasSort g s) (sym q) k)))
+    (seen_says g v alone b s s s (equality_fact b s t u) (seen_term g t) (seen_term g u) (term_right g v t i m) (term_right g v u j n) (subst (HasSort g s) (sym p) h) (subst (HasSort g s) (sym q) k)
+    (λ e. (is_truth g s (seen_instance g v (seen_term g t)) e (subst (HasSort g s) (sym p) h), is_truth g s (seen_instance g v (seen_term g u)) e (subst (HasSort g s) (sym q) k)))
     (subst (λ x. Says g v b (equality_fact b s t u) (x ≡ seen_instance g v (seen_term g u))) (sym p) (subst (λ y. Says g v b (equality_fact b s t u) (term_instance g v t ≡ y)) (sym q) (equality_says g v b s t u)))))
 
-pub opened_truth_says : (g : KoreSignature) (v : Valuation) (alone b : Bool) (t : SymbolicTerm) → IsRegular g → GivesSorts g v (term_variables t) → IsGivenSorts g v t → Says g v b (opened_truth g alone b t) (term_instance g v t ≡ truth true)
-opened_truth_says g v alone b t r i m = subst (λ x. Says g v b (opened_truth g alone b t) (x ≡ truth true)) (term_seen g v t) (asked_says g v alone b (seen_term g t) (term_right g v t r i m))
+pub opened_truth_says : (g : KoreSignature) (v : Valuation) (alone b : Bool) (t : SymbolicTerm) → GivesSorts g v (term_variables t) → IsGivenSorts g v t → Says g v b (opened_truth g alone b t) (term_instance g v t ≡ truth true)
+opened_truth_says g v alone b t i m = subst (λ x. Says g v b (opened_truth g alone b t) (x ≡ truth true)) (term_seen g v t) (asked_says g v alone b (seen_term g t) (term_right g v t i m))

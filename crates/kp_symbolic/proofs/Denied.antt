@@ -7,7 +7,6 @@ use Rattle.kp_kore.specs.Parts.{SortedName}
 use Rattle.kp_kore.specs.Signature.{KoreSignature}
 use Rattle.kp_semantics.specs.Value.{head_of}
 use Rattle.kp_semantics.specs.Instance.{Valuation}
-use Rattle.kp_semantics.specs.Sorted.{IsRegular}
 use Rattle.kp_symbolic.specs.Formulas.{Holds, AllHold, NoneHold}
 use Rattle.kp_symbolic.specs.States.{HeadTest, PassesHead, Atom, same, has_head, quoted, Literal, IsLiteralTrue, IsAtomTrue, AreTrue}
 use Rattle.kp_symbolic.specs.WellFormed.{IsGivenAtom, AreGivenLiterals}
@@ -49,25 +48,25 @@ head_literal g v b x test (Some c) a = decided_says g v b c (¬ ¬ PassesHead g 
     false_true h = cc
 head_literal g v b x test None a = ((λ h. h), (λ h. h))
 
-pub atom_says : (g : KoreSignature) (v : Valuation) (alone b : Bool) (a : Atom) → IsRegular g → IsGivenAtom g v a → Says g v b (opened_atom g alone b a) (IsAtomTrue g v a)
-atom_says g v alone b (same s t u) r h = opened_same_says g v alone b s t u r h.0 h.1 h.2 h.3 h.4 h.5
-atom_says g v alone b (has_head x test) r h = head_literal g v b x test (head_answer g x.sort test) (λ c e. head_answer_is g x.sort test (v x.name) c h e)
-atom_says g v alone b (quoted p rs) r h = ((λ k. k), (λ k. k))
+pub atom_says : (g : KoreSignature) (v : Valuation) (alone b : Bool) (a : Atom) → IsGivenAtom g v a → Says g v b (opened_atom g alone b a) (IsAtomTrue g v a)
+atom_says g v alone b (same s t u) h = opened_same_says g v alone b s t u h.0 h.1 h.2 h.3 h.4 h.5
+atom_says g v alone b (has_head x test) h = head_literal g v b x test (head_answer g x.sort test) (λ c e. head_answer_is g x.sort test (v x.name) c h e)
+atom_says g v alone b (quoted p rs) h = ((λ k. k), (λ k. k))
 
-by_sign : (g : KoreSignature) (v : Valuation) (h : Bool) (a : Atom) → IsRegular g → IsGivenAtom g v a → Holds (IsLiteralTrue g v) (opened_atom g false (beq false h) a) ↔ (¬ MatchBool h (IsAtomTrue g v a) (¬ IsAtomTrue g v a))
-by_sign g v true a r i = atom_says g v false false a r i
-by_sign g v false a r i = let j = atom_says g v false true a r i in ((λ k n. n (j.0 k)), (λ n. j.1 (stable_atom g v a n)))
+by_sign : (g : KoreSignature) (v : Valuation) (h : Bool) (a : Atom) → IsGivenAtom g v a → Holds (IsLiteralTrue g v) (opened_atom g false (beq false h) a) ↔ (¬ MatchBool h (IsAtomTrue g v a) (¬ IsAtomTrue g v a))
+by_sign g v true a i = atom_says g v false false a i
+by_sign g v false a i = let j = atom_says g v false true a i in ((λ k n. n (j.0 k)), (λ n. j.1 (stable_atom g v a n)))
 
-opposites_say : (g : KoreSignature) (v : Valuation) (c : List Literal) → IsRegular g → AllByRecursion (λ l. IsGivenAtom g v l.atom) c → SayOpposite g v c
-opposites_say g v [] r h = tt
-opposites_say g v (l ∷ c) r h = (by_sign g v l.holds l.atom r h.0, opposites_say g v c r h.1)
+opposites_say : (g : KoreSignature) (v : Valuation) (c : List Literal) → AllByRecursion (λ l. IsGivenAtom g v l.atom) c → SayOpposite g v c
+opposites_say g v [] h = tt
+opposites_say g v (l ∷ c) h = (by_sign g v l.holds l.atom h.0, opposites_say g v c h.1)
 
-all_opposites : (g : KoreSignature) (v : Valuation) (cs : List (List Literal)) → IsRegular g → AreGivenLiterals g v cs → AllByRecursion (SayOpposite g v) cs
-all_opposites g v [] r h = tt
-all_opposites g v (c ∷ cs) r h = (opposites_say g v c r h.0, all_opposites g v cs r h.1)
+all_opposites : (g : KoreSignature) (v : Valuation) (cs : List (List Literal)) → AreGivenLiterals g v cs → AllByRecursion (SayOpposite g v) cs
+all_opposites g v [] h = tt
+all_opposites g v (c ∷ cs) h = (opposites_say g v c h.0, all_opposites g v cs h.1)
 
-pub denied_is_opposite : (g : KoreSignature) (v : Valuation) (cs : List (List Literal)) → IsRegular g → AreGivenLiterals g v cs → AreTrue g v (distributed (denied g cs)) ↔ (¬ AreTrue g v cs)
-denied_is_opposite g v cs r h =
+pub denied_is_opposite : (g : KoreSignature) (v : Valuation) (cs : List (List Literal)) → AreGivenLiterals g v cs → AreTrue g v (distributed (denied g cs)) ↔ (¬ AreTrue g v cs)
+denied_is_opposite g v cs h =
     let i = clauses_say literals_same (IsLiteralTrue g v) literals_are (stable_literal g v) (denied g cs) in
-    let j = denied_says g v cs (all_opposites g v cs r h) in
+    let j = denied_says g v cs (all_opposites g v cs h) in
     ((λ k. j.0 (i.0 k)), (λ k. i.1 (j.1 k)))

@@ -8,14 +8,13 @@ use Rattle.std.proofs.lemmas.Bool.Decides.{Decides-int_eq}
 use Rattle.kp_kore.specs.Syntax.{Text, KoreSort, KorePattern, KorePatterns, variable, application, no_patterns, next_pattern}
 use Rattle.kp_kore.specs.Hooks.{addition, subtraction, Hook, whole_arithmetic}
 use Rattle.kp_kore.specs.Parts.{SortedName, free_variables, all_free_variables}
-use Rattle.kp_kore.specs.Signature.{KoreSignature, SymbolMeaning, injection, construction, interpretation, foreign, meaning_of, integer_sort, is_the, is_integer_sort}
+use Rattle.kp_kore.specs.Signature.{KoreSignature, SymbolMeaning, injection, construction, interpretation, foreign, meaning_of, is_number_sort}
 use Rattle.kp_semantics.specs.Value.{Value, whole, constructed, Values, next_value, HasSort}
 use Rattle.kp_semantics.specs.Forms.{two}
 use Rattle.kp_semantics.specs.Interpretation.{interpreted}
 use Rattle.kp_semantics.specs.Instance.{Valuation, GivesSorts, applied, instance, instances}
 use Rattle.kp_semantics.specs.Replies.{is_wide_value}
-use Rattle.kp_semantics.specs.Sorted.{IsRegular}
-use Rattle.kp_semantics.proofs.SameLemmas.{sorts_equal-Decides}
+use Rattle.kp_sorts.proofs.NumberLemmas.{number_value}
 use Rattle.kp_symbolic.specs.Terms.{SymbolicTerm, unknown, offset, known, headed, SymbolicTerms, no_terms, next_term, term_instance, term_instances, term_variables, all_term_variables, Replaced, replacement_for, under_replaced}
 use Rattle.kp_symbolic.specs.States.{variables_for, AreGiven}
 use Rattle.kp_symbolic.specs.Folding.{Sum, sum_of, can_be_added, summed, summed_call, with_first, values_known, only_term, made_construction, made_call, made, applied_term, term_for, folded, all_folded}
@@ -36,14 +35,6 @@ known_are g v (next_term (headed f us) ts) vs e = absurd (cc)
 
 -- ---- sums
 
--- a value of the whole-number sort is a whole number
-pub is_the_sort : (o : Option KoreSort) (s : KoreSort) → is_the o s ≡ true → o ≡ Some s
-is_the_sort (Some t) s e = ap Some ((sorts_equal-Decides t s).0 e)
-is_the_sort None s e = absurd (cc)
-
-pub whole_of : (g : KoreSignature) (s : KoreSort) (u : Value) → IsRegular g → is_integer_sort g s ≡ true → HasSort g s u → (n : ℤ) × (u ≡ whole n)
-whole_of g s u r e h = r.numbers s u (is_the_sort (integer_sort g) s e) h
-
 -- the term is the sum of the variable, which stands for a whole number, and the constant
 pub record IsSum (g : KoreSignature) (v : Valuation) (t : SymbolicTerm) (s : Sum) : Type 0 where
   pub number : ℤ
@@ -53,24 +44,24 @@ pub record IsSum (g : KoreSignature) (v : Valuation) (t : SymbolicTerm) (s : Sum
 nothing_added : (n : ℤ) → n ≡ n +ℤ pos 0
 nothing_added n = sym (+ℤ_idr n)
 
-sum_at : (g : KoreSignature) (v : Valuation) (t : SymbolicTerm) (x : SortedName) (c : ℤ) (s : Sum) (b : Bool) → is_integer_sort g x.sort ≡ b → (b ≡ true → IsSum g v t (record { variable = x; constant = c })) → (if b then Some (record { variable = x; constant = c }) else None) ≡ Some s → IsSum g v t s
+sum_at : (g : KoreSignature) (v : Valuation) (t : SymbolicTerm) (x : SortedName) (c : ℤ) (s : Sum) (b : Bool) → is_number_sort g x.sort ≡ b → (b ≡ true → IsSum g v t (record { variable = x; constant = c })) → (if b then Some (record { variable = x; constant = c }) else None) ≡ Some s → IsSum g v t s
 sum_at g v t x c s true e h q = subst (IsSum g v t) (some_inside q) (h refl)
   where
     some_inside : {A : Type 0} {a b : A} → Some a ≡ Some b → a ≡ b
     some_inside e = cc
 sum_at g v t x c s false e h q = absurd (cc)
 
-pub sum_is : (g : KoreSignature) (v : Valuation) (t : SymbolicTerm) (s : Sum) → IsRegular g → GivesSorts g v (term_variables t) → sum_of g t ≡ Some s → IsSum g v t s
-sum_is g v (unknown x) s r h e = sum_at g v (unknown x) x (pos 0) s (is_integer_sort g x.sort) refl (λ i. of (whole_of g x.sort (v x.name) r i h.0)) e
+pub sum_is : (g : KoreSignature) (v : Valuation) (t : SymbolicTerm) (s : Sum) → GivesSorts g v (term_variables t) → sum_of g t ≡ Some s → IsSum g v t s
+sum_is g v (unknown x) s h e = sum_at g v (unknown x) x (pos 0) s (is_number_sort g x.sort) refl (λ i. of (number_value g x.sort (v x.name) i h.0)) e
   where
     of : ((n : ℤ) × (v x.name ≡ whole n)) → IsSum g v (unknown x) (record { variable = x; constant = pos 0 })
     of w = record { number = w.0; is = w.1; value = w.1 ∙ ap whole (nothing_added w.0) }
-sum_is g v (offset x c) s r h e = sum_at g v (offset x c) x c s (is_integer_sort g x.sort) refl (λ i. of (whole_of g x.sort (v x.name) r i h.0)) e
+sum_is g v (offset x c) s h e = sum_at g v (offset x c) x c s (is_number_sort g x.sort) refl (λ i. of (number_value g x.sort (v x.name) i h.0)) e
   where
     of : ((n : ℤ) × (v x.name ≡ whole n)) → IsSum g v (offset x c) (record { variable = x; constant = c })
     of w = record { number = w.0; is = w.1; value = ap (λ u. interpreted (whole_arithmetic addition) (two u (whole c))) w.1 }
-sum_is g v (known u) s r h e = absurd (cc)
-sum_is g v (headed f ts) s r h e = absurd (cc)
+sum_is g v (known u) s h e = absurd (cc)
+sum_is g v (headed f ts) s h e = absurd (cc)
 
 -- a further constant
 three_added : (n a c : ℤ) → n +ℤ (a +ℤ c) ≡ (n +ℤ a) +ℤ c
@@ -93,25 +84,25 @@ summed_is g v t (Some s) c call u i w e = of (i s refl)
 -- ---- calls
 
 -- what is said of a call of two arguments: where one is known, the other is a sum or not
-pub summed_call_is : (g : KoreSignature) (v : Valuation) (h : Hook) (ts : SymbolicTerms) (call : SymbolicTerm) → IsRegular g → GivesSorts g v (all_term_variables ts) → term_instance g v call ≡ interpreted h (term_instances g v ts) → term_instance g v (summed_call g h ts call) ≡ interpreted h (term_instances g v ts)
-summed_call_is g v (whole_arithmetic addition) (next_term t (next_term (known (whole c)) no_terms)) call r a e =
-    summed_is g v t (sum_of g t) c call (interpreted (whole_arithmetic addition) (two (term_instance g v t) (whole c))) (λ s. sum_is g v t s r (all_first (λ x. HasSort g x.sort (v x.name)) (term_variables t) [] a))
+pub summed_call_is : (g : KoreSignature) (v : Valuation) (h : Hook) (ts : SymbolicTerms) (call : SymbolicTerm) → GivesSorts g v (all_term_variables ts) → term_instance g v call ≡ interpreted h (term_instances g v ts) → term_instance g v (summed_call g h ts call) ≡ interpreted h (term_instances g v ts)
+summed_call_is g v (whole_arithmetic addition) (next_term t (next_term (known (whole c)) no_terms)) call a e =
+    summed_is g v t (sum_of g t) c call (interpreted (whole_arithmetic addition) (two (term_instance g v t) (whole c))) (λ s. sum_is g v t s (all_first (λ x. HasSort g x.sort (v x.name)) (term_variables t) [] a))
     (λ m q. ap (λ u. interpreted (whole_arithmetic addition) (two u (whole c))) q) e
-summed_call_is g v (whole_arithmetic addition) (next_term (known (whole c)) (next_term t no_terms)) call r a e =
-    summed_is g v t (sum_of g t) c call (interpreted (whole_arithmetic addition) (two (whole c) (term_instance g v t))) (λ s. sum_is g v t s r (all_first (λ x. HasSort g x.sort (v x.name)) (term_variables t) [] a))
+summed_call_is g v (whole_arithmetic addition) (next_term (known (whole c)) (next_term t no_terms)) call a e =
+    summed_is g v t (sum_of g t) c call (interpreted (whole_arithmetic addition) (two (whole c) (term_instance g v t))) (λ s. sum_is g v t s (all_first (λ x. HasSort g x.sort (v x.name)) (term_variables t) [] a))
     (λ m q. ap (λ u. interpreted (whole_arithmetic addition) (two (whole c) u)) q ∙ ap whole (+ℤ_comm c m)) e
-summed_call_is g v (whole_arithmetic subtraction) (next_term t (next_term (known (whole c)) no_terms)) call r a e =
-    summed_is g v t (sum_of g t) (neg_ℤ c) call (interpreted (whole_arithmetic subtraction) (two (term_instance g v t) (whole c))) (λ s. sum_is g v t s r (all_first (λ x. HasSort g x.sort (v x.name)) (term_variables t) [] a))
+summed_call_is g v (whole_arithmetic subtraction) (next_term t (next_term (known (whole c)) no_terms)) call a e =
+    summed_is g v t (sum_of g t) (neg_ℤ c) call (interpreted (whole_arithmetic subtraction) (two (term_instance g v t) (whole c))) (λ s. sum_is g v t s (all_first (λ x. HasSort g x.sort (v x.name)) (term_variables t) [] a))
     (λ m q. ap (λ u. interpreted (whole_arithmetic subtraction) (two u (whole c))) q) e
-summed_call_is g v h ts call r a e = e
+summed_call_is g v h ts call a e = e
 
 by_width : (g : KoreSignature) (v : Valuation) (h : Hook) (f : Text) (ts : SymbolicTerms) (us : Values) (b : Bool) → meaning_of g f ≡ interpretation h → term_instances g v ts ≡ us → term_instance g v (if b then headed f ts else known (interpreted h us)) ≡ interpreted h (term_instances g v ts)
 by_width g v h f ts us true m e = rw m refl
 by_width g v h f ts us false m e = ap (interpreted h) (sym e)
 
-call_is : (g : KoreSignature) (v : Valuation) (h : Hook) (f : Text) (ts : SymbolicTerms) (o : Option Values) → IsRegular g → GivesSorts g v (all_term_variables ts) → meaning_of g f ≡ interpretation h → ((us : Values) → o ≡ Some us → term_instances g v ts ≡ us) → term_instance g v (made_call g h f ts o) ≡ interpreted h (term_instances g v ts)
-call_is g v h f ts (Some us) r a m k = by_width g v h f ts us (is_wide_value (interpreted h us)) m (k us refl)
-call_is g v h f ts None r a m k = summed_call_is g v h ts (headed f ts) r a (rw m refl)
+call_is : (g : KoreSignature) (v : Valuation) (h : Hook) (f : Text) (ts : SymbolicTerms) (o : Option Values) → GivesSorts g v (all_term_variables ts) → meaning_of g f ≡ interpretation h → ((us : Values) → o ≡ Some us → term_instances g v ts ≡ us) → term_instance g v (made_call g h f ts o) ≡ interpreted h (term_instances g v ts)
+call_is g v h f ts (Some us) a m k = by_width g v h f ts us (is_wide_value (interpreted h us)) m (k us refl)
+call_is g v h f ts None a m k = summed_call_is g v h ts (headed f ts) a (rw m refl)
 
 construction_is : (g : KoreSignature) (v : Valuation) (f : Text) (ts : SymbolicTerms) (o : Option Values) → meaning_of g f ≡ construction → ((us : Values) → o ≡ Some us → term_instances g v ts ≡ us) → term_instance g v (made_construction f ts o) ≡ constructed f (term_instances g v ts)
 construction_is g v f ts (Some us) m k = ap (constructed f) (sym (k us refl))
@@ -122,15 +113,15 @@ injection_is g v f no_terms = refl
 injection_is g v f (next_term t no_terms) = refl
 injection_is g v f (next_term t (next_term u ts)) = refl
 
-made_is : (g : KoreSignature) (v : Valuation) (m : SymbolMeaning) (f : Text) (ts : SymbolicTerms) → IsRegular g → GivesSorts g v (all_term_variables ts) → meaning_of g f ≡ m → term_instance g v (made g m f ts) ≡ applied m f (term_instances g v ts)
-made_is g v injection f ts r a e = injection_is g v f ts
-made_is g v construction f ts r a e = construction_is g v f ts (values_known ts) e (known_are g v ts)
-made_is g v (interpretation h) f ts r a e = call_is g v h f ts (values_known ts) r a e (known_are g v ts)
-made_is g v foreign f ts r a e = rw e refl
+made_is : (g : KoreSignature) (v : Valuation) (m : SymbolMeaning) (f : Text) (ts : SymbolicTerms) → GivesSorts g v (all_term_variables ts) → meaning_of g f ≡ m → term_instance g v (made g m f ts) ≡ applied m f (term_instances g v ts)
+made_is g v injection f ts a e = injection_is g v f ts
+made_is g v construction f ts a e = construction_is g v f ts (values_known ts) e (known_are g v ts)
+made_is g v (interpretation h) f ts a e = call_is g v h f ts (values_known ts) a e (known_are g v ts)
+made_is g v foreign f ts a e = rw e refl
 
 -- an application over folded arguments
-pub applied_is : (g : KoreSignature) (v : Valuation) (f : Text) (ts : SymbolicTerms) → IsRegular g → GivesSorts g v (all_term_variables ts) → term_instance g v (applied_term g f ts) ≡ applied (meaning_of g f) f (term_instances g v ts)
-applied_is g v f ts r a = made_is g v (meaning_of g f) f ts r a refl
+pub applied_is : (g : KoreSignature) (v : Valuation) (f : Text) (ts : SymbolicTerms) → GivesSorts g v (all_term_variables ts) → term_instance g v (applied_term g f ts) ≡ applied (meaning_of g f) f (term_instances g v ts)
+applied_is g v f ts a = made_is g v (meaning_of g f) f ts a refl
 
 -- ---- what holds of the variables of the arguments holds of those of the application
 
@@ -144,8 +135,8 @@ sum_among g Q x c s true q e = let f : x ≡ s.variable = cc in subst Q f q
 sum_among g Q x c s false q e = absurd (cc)
 
 sum_variable : (g : KoreSignature) (Q : SortedName → Type 0) (t : SymbolicTerm) (s : Sum) → AllByRecursion Q (term_variables t) → sum_of g t ≡ Some s → Q s.variable
-sum_variable g Q (unknown x) s a e = sum_among g Q x (pos 0) s (is_integer_sort g x.sort) a.0 e
-sum_variable g Q (offset x c) s a e = sum_among g Q x c s (is_integer_sort g x.sort) a.0 e
+sum_variable g Q (unknown x) s a e = sum_among g Q x (pos 0) s (is_number_sort g x.sort) a.0 e
+sum_variable g Q (offset x c) s a e = sum_among g Q x c s (is_number_sort g x.sort) a.0 e
 sum_variable g Q (known u) s a e = absurd (cc)
 sum_variable g Q (headed f ts) s a e = absurd (cc)
 
@@ -212,13 +203,13 @@ for_instance g rs v x s (Some t) e = rw e refl
 for_instance g rs v x s None e = rw e refl
 
 mutual
-  pub folded_is : (g : KoreSignature) (rs : List Replaced) (v : Valuation) (p : KorePattern) → IsRegular g → AreGiven g rs v (free_variables p) → term_instance g v (folded g rs p) ≡ instance g (under_replaced g rs v) p
-  folded_is g rs v (variable x s) r a = for_instance g rs v x s (replacement_for rs x) refl
-  folded_is g rs v (application f ss ps) r a = applied_is g v f (all_folded g rs ps) r (all_folded_variables g rs (λ x. HasSort g x.sort (v x.name)) ps a) ∙ ap (applied (meaning_of g f) f) (all_folded_is g rs v ps r a)
-  folded_is g rs v _ r a = refl
+  pub folded_is : (g : KoreSignature) (rs : List Replaced) (v : Valuation) (p : KorePattern) → AreGiven g rs v (free_variables p) → term_instance g v (folded g rs p) ≡ instance g (under_replaced g rs v) p
+  folded_is g rs v (variable x s) a = for_instance g rs v x s (replacement_for rs x) refl
+  folded_is g rs v (application f ss ps) a = applied_is g v f (all_folded g rs ps) (all_folded_variables g rs (λ x. HasSort g x.sort (v x.name)) ps a) ∙ ap (applied (meaning_of g f) f) (all_folded_is g rs v ps a)
+  folded_is g rs v _ a = refl
 
-  pub all_folded_is : (g : KoreSignature) (rs : List Replaced) (v : Valuation) (ps : KorePatterns) → IsRegular g → AreGiven g rs v (all_free_variables ps) → term_instances g v (all_folded g rs ps) ≡ instances g (under_replaced g rs v) ps
-  all_folded_is g rs v no_patterns r a = refl
-  all_folded_is g rs v (next_pattern p ps) r a = ap₂ next_value
-      (folded_is g rs v p r (all_first (λ x. GivesSorts g v (variables_for x (replacement_for rs x.name))) (free_variables p) (all_free_variables ps) a))
-      (all_folded_is g rs v ps r (all_second (λ x. GivesSorts g v (variables_for x (replacement_for rs x.name))) (free_variables p) (all_free_variables ps) a))
+  pub all_folded_is : (g : KoreSignature) (rs : List Replaced) (v : Valuation) (ps : KorePatterns) → AreGiven g rs v (all_free_variables ps) → term_instances g v (all_folded g rs ps) ≡ instances g (under_replaced g rs v) ps
+  all_folded_is g rs v no_patterns a = refl
+  all_folded_is g rs v (next_pattern p ps) a = ap₂ next_value
+      (folded_is g rs v p (all_first (λ x. GivesSorts g v (variables_for x (replacement_for rs x.name))) (free_variables p) (all_free_variables ps) a))
+      (all_folded_is g rs v ps (all_second (λ x. GivesSorts g v (variables_for x (replacement_for rs x.name))) (free_variables p) (all_free_variables ps) a))

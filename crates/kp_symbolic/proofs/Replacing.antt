@@ -14,7 +14,6 @@ use Rattle.kp_semantics.specs.Forms.{two}
 use Rattle.kp_semantics.specs.Interpretation.{interpreted}
 use Rattle.kp_semantics.specs.Instance.{Valuation, GivesSorts, applied}
 use Rattle.kp_semantics.specs.Foreign.{fits_number}
-use Rattle.kp_semantics.specs.Sorted.{IsRegular}
 use Rattle.kp_semantics.proofs.InstanceLemmas.{first_true}
 use Rattle.kp_symbolic.specs.Terms.{SymbolicTerm, unknown, offset, known, headed, SymbolicTerms, no_terms, next_term, term_instance, term_instances, term_variables, all_term_variables, Replaced, replacement_for, under_replaced}
 use Rattle.kp_symbolic.specs.States.{variables_for, AreGiven}
@@ -54,17 +53,17 @@ taken_away (truth b) c = refl
 taken_away (token s x) c = refl
 taken_away (constructed f us) c = refl
 
-written_sum : (g : KoreSignature) (v : Valuation) (a : Arithmetic) (f : Text) (t : SymbolicTerm) (n : ℤ) → IsRegular g → GivesSorts g v (term_variables t) → meaning_of g f ≡ interpretation (whole_arithmetic a) → term_instance g v (applied_term g f (next_term t (next_term (known (whole n)) no_terms))) ≡ interpreted (whole_arithmetic a) (two (term_instance g v t) (whole n))
-written_sum g v a f t n r h m = applied_is g v f (next_term t (next_term (known (whole n)) no_terms)) r (all_both (λ x. HasSort g x.sort (v x.name)) (term_variables t) [] h tt) ∙ ap (λ k. applied k f (two (term_instance g v t) (whole n))) m
+written_sum : (g : KoreSignature) (v : Valuation) (a : Arithmetic) (f : Text) (t : SymbolicTerm) (n : ℤ) → GivesSorts g v (term_variables t) → meaning_of g f ≡ interpretation (whole_arithmetic a) → term_instance g v (applied_term g f (next_term t (next_term (known (whole n)) no_terms))) ≡ interpreted (whole_arithmetic a) (two (term_instance g v t) (whole n))
+written_sum g v a f t n h m = applied_is g v f (next_term t (next_term (known (whole n)) no_terms)) (all_both (λ x. HasSort g x.sort (v x.name)) (term_variables t) [] h tt) ∙ ap (λ k. applied k f (two (term_instance g v t) (whole n))) m
 
-added_is : (g : KoreSignature) (v : Valuation) (a : Arithmetic) (o : Option Text) (t otherwise : SymbolicTerm) (n : ℤ) → IsRegular g → GivesSorts g v (term_variables t) → ((f : Text) → o ≡ Some f → meaning_of g f ≡ interpretation (whole_arithmetic a)) → is_some o ≡ true → term_instance g v (under_symbol g o t n otherwise) ≡ interpreted (whole_arithmetic a) (two (term_instance g v t) (whole n))
-added_is g v a (Some f) t otherwise n r h m e = written_sum g v a f t n r h (m f refl)
-added_is g v a None t otherwise n r h m e = absurd (cc)
+added_is : (g : KoreSignature) (v : Valuation) (a : Arithmetic) (o : Option Text) (t otherwise : SymbolicTerm) (n : ℤ) → GivesSorts g v (term_variables t) → ((f : Text) → o ≡ Some f → meaning_of g f ≡ interpretation (whole_arithmetic a)) → is_some o ≡ true → term_instance g v (under_symbol g o t n otherwise) ≡ interpreted (whole_arithmetic a) (two (term_instance g v t) (whole n))
+added_is g v a (Some f) t otherwise n h m e = written_sum g v a f t n h (m f refl)
+added_is g v a None t otherwise n h m e = absurd (cc)
 
-by_sign : (g : KoreSignature) (v : Valuation) (b p q : Bool) (t otherwise : SymbolicTerm) (c : ℤ) → IsRegular g → GivesSorts g v (term_variables t) → (if b then is_some (least_symbol g addition) && p else is_some (least_symbol g subtraction) && q) ≡ true
+by_sign : (g : KoreSignature) (v : Valuation) (b p q : Bool) (t otherwise : SymbolicTerm) (c : ℤ) → GivesSorts g v (term_variables t) → (if b then is_some (least_symbol g addition) && p else is_some (least_symbol g subtraction) && q) ≡ true
     → term_instance g v (if b then under_symbol g (least_symbol g addition) t c otherwise else under_symbol g (least_symbol g subtraction) t (neg_ℤ c) otherwise) ≡ interpreted (whole_arithmetic addition) (two (term_instance g v t) (whole c))
-by_sign g v true p q t otherwise c r h e = added_is g v addition (least_symbol g addition) t otherwise c r h (least_is g addition g.symbols) (first_true (is_some (least_symbol g addition)) p e)
-by_sign g v false p q t otherwise c r h e = added_is g v subtraction (least_symbol g subtraction) t otherwise (neg_ℤ c) r h (least_is g subtraction g.symbols) (first_true (is_some (least_symbol g subtraction)) q e) ∙ taken_away (term_instance g v t) c
+by_sign g v true p q t otherwise c h e = added_is g v addition (least_symbol g addition) t otherwise c h (least_is g addition g.symbols) (first_true (is_some (least_symbol g addition)) p e)
+by_sign g v false p q t otherwise c h e = added_is g v subtraction (least_symbol g subtraction) t otherwise (neg_ℤ c) h (least_is g subtraction g.symbols) (first_true (is_some (least_symbol g subtraction)) q e) ∙ taken_away (term_instance g v t) c
 
 under_variables : (g : KoreSignature) (Q : SortedName → Type 0) (o : Option Text) (t otherwise : SymbolicTerm) (n : ℤ) → AllByRecursion Q (term_variables t) → is_some o ≡ true → AllByRecursion Q (term_variables (under_symbol g o t n otherwise))
 under_variables g Q (Some f) t otherwise n a e = applied_variables g Q f (next_term t (next_term (known (whole n)) no_terms)) (all_both Q (term_variables t) [] a tt)
@@ -91,19 +90,19 @@ mutual
       (all_replaced_variables g rs Q ts w.1 (all_second (λ x. AllByRecursion Q (variables_for x (replacement_for rs x.name))) (term_variables t) (all_term_variables ts) a))
 
 mutual
-  pub replaced_is : (g : KoreSignature) (rs : List Replaced) (v : Valuation) (t : SymbolicTerm) → IsRegular g → AreWritten g t → AreGiven g rs v (term_variables t) → term_instance g v (replaced g rs t) ≡ term_instance g (under_replaced g rs v) t
-  replaced_is g rs v (unknown x) r w a = for_instance g rs v x.name x.sort (replacement_for rs x.name) refl
-  replaced_is g rs v (offset x c) r w a =
-      by_sign g v (int_lt (pos 0) c) (fits_number c) (fits_number (neg_ℤ c)) (term_for x (replacement_for rs x.name)) (offset x c) c r (for_variables (λ y. HasSort g y.sort (v y.name)) x (replacement_for rs x.name) a.0) w
+  pub replaced_is : (g : KoreSignature) (rs : List Replaced) (v : Valuation) (t : SymbolicTerm) → AreWritten g t → AreGiven g rs v (term_variables t) → term_instance g v (replaced g rs t) ≡ term_instance g (under_replaced g rs v) t
+  replaced_is g rs v (unknown x) w a = for_instance g rs v x.name x.sort (replacement_for rs x.name) refl
+  replaced_is g rs v (offset x c) w a =
+      by_sign g v (int_lt (pos 0) c) (fits_number c) (fits_number (neg_ℤ c)) (term_for x (replacement_for rs x.name)) (offset x c) c (for_variables (λ y. HasSort g y.sort (v y.name)) x (replacement_for rs x.name) a.0) w
       ∙ ap (λ u. interpreted (whole_arithmetic addition) (two u (whole c))) (for_instance g rs v x.name x.sort (replacement_for rs x.name) refl)
-  replaced_is g rs v (known u) r w a = refl
-  replaced_is g rs v (headed f ts) r w a = applied_is g v f (all_replaced g rs ts) r (all_replaced_variables g rs (λ y. HasSort g y.sort (v y.name)) ts w a) ∙ ap (applied (meaning_of g f) f) (all_replaced_is g rs v ts r w a)
+  replaced_is g rs v (known u) w a = refl
+  replaced_is g rs v (headed f ts) w a = applied_is g v f (all_replaced g rs ts) (all_replaced_variables g rs (λ y. HasSort g y.sort (v y.name)) ts w a) ∙ ap (applied (meaning_of g f) f) (all_replaced_is g rs v ts w a)
 
-  pub all_replaced_is : (g : KoreSignature) (rs : List Replaced) (v : Valuation) (ts : SymbolicTerms) → IsRegular g → AreAllWritten g ts → AreGiven g rs v (all_term_variables ts) → term_instances g v (all_replaced g rs ts) ≡ term_instances g (under_replaced g rs v) ts
-  all_replaced_is g rs v no_terms r w a = refl
-  all_replaced_is g rs v (next_term t ts) r w a = ap₂ next_value
-      (replaced_is g rs v t r w.0 (all_first (λ x. GivesSorts g v (variables_for x (replacement_for rs x.name))) (term_variables t) (all_term_variables ts) a))
-      (all_replaced_is g rs v ts r w.1 (all_second (λ x. GivesSorts g v (variables_for x (replacement_for rs x.name))) (term_variables t) (all_term_variables ts) a))
+  pub all_replaced_is : (g : KoreSignature) (rs : List Replaced) (v : Valuation) (ts : SymbolicTerms) → AreAllWritten g ts → AreGiven g rs v (all_term_variables ts) → term_instances g v (all_replaced g rs ts) ≡ term_instances g (under_replaced g rs v) ts
+  all_replaced_is g rs v no_terms w a = refl
+  all_replaced_is g rs v (next_term t ts) w a = ap₂ next_value
+      (replaced_is g rs v t w.0 (all_first (λ x. GivesSorts g v (variables_for x (replacement_for rs x.name))) (term_variables t) (all_term_variables ts) a))
+      (all_replaced_is g rs v ts w.1 (all_second (λ x. GivesSorts g v (variables_for x (replacement_for rs x.name))) (term_variables t) (all_term_variables ts) a))
 
 -- ---- where the equation is true
 
@@ -125,5 +124,5 @@ one_replaced g v x t e y = by (bytes_eq x y) refl
     by true q = rw q (sym e ∙ ap v ((bytes_eq-Decides x y).0 q))
     by false q = rw q refl
 
-pub solved_term_is : (g : KoreSignature) (v : Valuation) (x : Text) (t u : SymbolicTerm) → IsRegular g → AreWritten g u → AreGiven g (record { name = x; term = t } ∷ []) v (term_variables u) → v x ≡ term_instance g v t → term_instance g v (replaced g (record { name = x; term = t } ∷ []) u) ≡ term_instance g v u
-solved_term_is g v x t u r w a e = replaced_is g (record { name = x; term = t } ∷ []) v u r w a ∙ same_term g v (under_replaced g (record { name = x; term = t } ∷ []) v) u (one_replaced g v x t e)
+pub solved_term_is : (g : KoreSignature) (v : Valuation) (x : Text) (t u : SymbolicTerm) → AreWritten g u → AreGiven g (record { name = x; term = t } ∷ []) v (term_variables u) → v x ≡ term_instance g v t → term_instance g v (replaced g (record { name = x; term = t } ∷ []) u) ≡ term_instance g v u
+solved_term_is g v x t u w a e = replaced_is g (record { name = x; term = t } ∷ []) v u w a ∙ same_term g v (under_replaced g (record { name = x; term = t } ∷ []) v) u (one_replaced g v x t e)

@@ -13,7 +13,6 @@ use Rattle.kp_kore.specs.Signature.{KoreSignature, SymbolMeaning, injection, con
 use Rattle.kp_semantics.specs.Value.{Value, whole, truth, token, constructed, Values, no_values, next_value}
 use Rattle.kp_semantics.specs.Interpretation.{compared}
 use Rattle.kp_semantics.specs.Instance.{Valuation, GivesSorts, applied}
-use Rattle.kp_semantics.specs.Sorted.{IsRegular}
 use Rattle.kp_semantics.proofs.SameLemmas.{same_values_decide}
 use Rattle.kp_semantics.proofs.InstanceLemmas.{first_true, second_true}
 use Rattle.kp_symbolic.specs.Terms.{SymbolicTerm, unknown, offset, known, headed, SymbolicTerms, no_terms, next_term, term_instance, term_instances, term_variables}
@@ -147,12 +146,12 @@ equal_sums g v b t u n c d p q = decided_says g v b (int_eq c d) (term_instance 
     false_true : false ≡ true → ⊥
     false_true h = cc
 
-sums_say : (g : KoreSignature) (v : Valuation) (b : Bool) (kept : Formula Literal) (t u : SymbolicTerm) → IsRegular g → GivesSorts g v (term_variables t) → GivesSorts g v (term_variables u) → Says g v b kept (term_instance g v t ≡ term_instance g v u) → Says g v b (fixed_or (compared_at_once equal (sum_of g t) (sum_of g u)) b kept) (term_instance g v t ≡ term_instance g v u)
-sums_say g v b kept t u r i j k = with_sums g v b equal kept (term_instance g v t ≡ term_instance g v u) t u (sum_of g t) (sum_of g u) (λ s. sum_is g v t s r i) (λ s. sum_is g v u s r j) (equal_sums g v b t u) k
+sums_say : (g : KoreSignature) (v : Valuation) (b : Bool) (kept : Formula Literal) (t u : SymbolicTerm) → GivesSorts g v (term_variables t) → GivesSorts g v (term_variables u) → Says g v b kept (term_instance g v t ≡ term_instance g v u) → Says g v b (fixed_or (compared_at_once equal (sum_of g t) (sum_of g u)) b kept) (term_instance g v t ≡ term_instance g v u)
+sums_say g v b kept t u i j k = with_sums g v b equal kept (term_instance g v t ≡ term_instance g v u) t u (sum_of g t) (sum_of g u) (λ s. sum_is g v t s i) (λ s. sum_is g v u s j) (equal_sums g v b t u) k
 
-pub unconstructed_say : (g : KoreSignature) (v : Valuation) (b : Bool) (kept : Formula Literal) (t u : SymbolicTerm) → IsRegular g → GivesSorts g v (term_variables t) → GivesSorts g v (term_variables u) → terms_same t u ≡ false → Says g v b kept (term_instance g v t ≡ term_instance g v u) → Says g v b (unconstructed g b kept t u) (term_instance g v t ≡ term_instance g v u)
-unconstructed_say g v b kept (known u) (known w) r i j n k = never_says (IsLiteralTrue g v) b (u ≡ w) (λ e. absurd (false_true (sym n ∙ (same_values_decide u w).1 e)))
+pub unconstructed_say : (g : KoreSignature) (v : Valuation) (b : Bool) (kept : Formula Literal) (t u : SymbolicTerm) → GivesSorts g v (term_variables t) → GivesSorts g v (term_variables u) → terms_same t u ≡ false → Says g v b kept (term_instance g v t ≡ term_instance g v u) → Says g v b (unconstructed g b kept t u) (term_instance g v t ≡ term_instance g v u)
+unconstructed_say g v b kept (known u) (known w) i j n k = never_says (IsLiteralTrue g v) b (u ≡ w) (λ e. absurd (false_true (sym n ∙ (same_values_decide u w).1 e)))
   where
     false_true : false ≡ true → ⊥
     false_true h = cc
-unconstructed_say g v b kept t u r i j n k = sums_say g v b kept t u r i j k
+unconstructed_say g v b kept t u i j n k = sums_say g v b kept t u i j k

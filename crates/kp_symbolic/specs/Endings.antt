@@ -6,7 +6,7 @@ use Rattle.std.specs.List.{AllByRecursion, Contains, flat_map, filter, list_any,
 use Rattle.std.specs.Str.{bytes_eq}
 use Rattle.kp_kore.specs.Syntax.{KorePattern}
 use Rattle.kp_kore.specs.Parts.{SortedName, free_variables, subpatterns}
-use Rattle.kp_kore.specs.Signature.{KoreSignature, meaning_of}
+use Rattle.kp_kore.specs.Signature.{KoreSignature, meaning_of, has_only_numbers}
 use Rattle.kp_semantics.specs.Instance.{Valuation, conjoined_predicates, conjoined_terms, is_named}
 use Rattle.kp_semantics.specs.Rules.{RuleBody, rewrite, foreign_rule, RewriteRule, top_binders, under_binders}
 use Rattle.kp_semantics.specs.Foreign.{none_within, has_interpreted_head, repeats_literals_only, InjectionsSplit}
@@ -23,7 +23,7 @@ use Rattle.kp_symbolic.specs.Folding.{folded}
 use Rattle.kp_symbolic.specs.Heads.{is_construction}
 use Rattle.kp_symbolic.specs.Clauses.{clauses_of_conjuncts}
 use Rattle.kp_symbolic.specs.Solving.{Equation, equation_of, IsReadAs}
-use Rattle.kp_symbolic.specs.Plain.{has_only_numbers, has_only_tokens, IsPlainState, rough_clauses}
+use Rattle.kp_symbolic.specs.Plain.{has_only_tokens, IsPlainState, rough_clauses}
 use Rattle.kp_symbolic.specs.Weights.{IsWithinLimits}
 use Rattle.kp_symbolic.specs.Sources.{SymbolicRule, rule_beside, TermsMeet, IsMatch}
 use Rattle.kp_symbolic.specs.Shown.{Situation, question_of, is_rough, IsMetButRough, shown_clauses, RuleShape, IsEasy, Undecided, IsShown, IsLimitOfTerms}

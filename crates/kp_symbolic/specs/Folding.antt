@@ -6,7 +6,7 @@ use Rattle.std.specs.Ordering.{int_eq}
 use Rattle.kp_kore.specs.Syntax.{Text, KorePattern, KorePatterns, variable, application, literal, no_patterns, next_pattern, SymbolDeclaration}
 use Rattle.kp_kore.specs.Hooks.{Arithmetic, addition, subtraction, multiplication, Hook, whole_arithmetic}
 use Rattle.kp_kore.specs.Parts.{SortedName}
-use Rattle.kp_kore.specs.Signature.{KoreSignature, SymbolMeaning, injection, construction, interpretation, foreign, meaning_of, is_integer_sort}
+use Rattle.kp_kore.specs.Signature.{KoreSignature, SymbolMeaning, injection, construction, interpretation, foreign, meaning_of, is_number_sort}
 use Rattle.kp_semantics.specs.Value.{Value, whole, constructed, Values, no_values, next_value}
 use Rattle.kp_semantics.specs.Interpretation.{interpreted, no_meaning}
 use Rattle.kp_semantics.specs.Instance.{literal_value}
@@ -47,10 +47,10 @@ pub record Sum : Type 0 where
   pub variable : SortedName
   pub constant : ℤ
 
--- the term as a variable of the whole-number sort and a constant
+-- the term as a variable of the whole-number sort, which has no other values, and a constant
 abbrev pub sum_of : KoreSignature → SymbolicTerm → Option Sum
-sum_of g (unknown x) = if is_integer_sort g x.sort then Some (record { variable = x; constant = pos 0 }) else None
-sum_of g (offset x c) = if is_integer_sort g x.sort then Some (record { variable = x; constant = c }) else None
+sum_of g (unknown x) = if is_number_sort g x.sort then Some (record { variable = x; constant = pos 0 }) else None
+sum_of g (offset x c) = if is_number_sort g x.sort then Some (record { variable = x; constant = c }) else None
 sum_of g _ = None
 
 -- a positive constant is written as added, a negative one as its opposite subtracted: both need their symbol and room

@@ -10,7 +10,7 @@ use Rattle.kp_kore.specs.Syntax.{Text, KoreSort, sort_variable, KoreSorts, no_so
 use Rattle.kp_kore.specs.Attributes.{sorts_equal}
 use Rattle.kp_kore.specs.Hooks.{Comparison, equal, Connective, both, either, implies, same as same_truth, other, Hook, whole_arithmetic, whole_comparison, truth_connective, truth_negation, values_equal, values_different}
 use Rattle.kp_kore.specs.Parts.{SortedName, is_term, free_variables}
-use Rattle.kp_kore.specs.Signature.{KoreSignature, SymbolMeaning, injection, construction, interpretation, meaning_of, boolean_sort, is_boolean_sort, Head, integers, booleans, constructor_of}
+use Rattle.kp_kore.specs.Signature.{KoreSignature, SymbolMeaning, injection, construction, interpretation, meaning_of, boolean_sort, is_truth_sort, Head, integers, booleans, constructor_of}
 use Rattle.kp_semantics.specs.Value.{Value, truth, constructed, Values, no_values, next_value, head_of}
 use Rattle.kp_semantics.specs.Interpretation.{compared}
 use Rattle.kp_semantics.specs.Instance.{is_named, is_conjoined_pair}
@@ -178,7 +178,7 @@ abbrev mutual
   pub opened_seen : KoreSignature → Bool → Bool → KoreSort → Formula Literal → Seen → Seen → Formula Literal
   opened_seen g alone b s kept (seen t p c ms) (seen u q d ns) =
       if terms_same t u then fixed b
-      else if is_boolean_sort g s then opened_truths g alone b kept (seen t p c ms) (seen u q d ns)
+      else if is_truth_sort g s then opened_truths g alone b kept (seen t p c ms) (seen u q d ns)
       else opened_sides g b kept t u c d (opened_members g (alone && b) b (sorts_of_members g c) ms ns)
 
   pub opened_members : KoreSignature → Bool → Bool → KoreSorts → Seens → Seens → Formulas Literal

@@ -8,41 +8,24 @@ use Rattle.kp_kore.specs.Syntax.{Text, KoreSort}
 use Rattle.kp_kore.specs.Attributes.{sorts_equal}
 use Rattle.kp_kore.specs.Hooks.{Comparison, equal, different, less, at_most, greater, at_least, whole_comparison, values_equal, values_different}
 use Rattle.kp_kore.specs.Parts.{SortedName}
-use Rattle.kp_kore.specs.Signature.{KoreSignature, SymbolMeaning, interpretation, meaning_of, is_boolean_sort, Head, integers, booleans, tokens}
+use Rattle.kp_kore.specs.Signature.{KoreSignature, SymbolMeaning, interpretation, meaning_of, is_truth_sort, Head, tokens, heads_of, has_only_numbers, has_only_truths}
 use Rattle.kp_semantics.specs.Value.{Value, whole, truth, token, constructed, no_values}
 use Rattle.kp_semantics.specs.Instance.{is_named}
 use Rattle.kp_symbolic.specs.Terms.{SymbolicTerm, unknown, offset, known, headed, no_terms, next_term, term_variables}
 use Rattle.kp_symbolic.specs.States.{HeadTest, one_head, Atom, same, has_head, quoted, Literal, clause_variables, SymbolicState}
-use Rattle.kp_symbolic.specs.Heads.{heads_of}
 use Rattle.kp_symbolic.specs.Solving.{Equation, equation_of}
 
--- ---- sorts of one kind of value
+-- ---- sorts of tokens
 
 abbrev pub is_tokens_of : KoreSort → Head → Bool
 is_tokens_of s (tokens t) = sorts_equal s t
 is_tokens_of s h = false
 
-abbrev pub are_numbers : List Head → Bool
-are_numbers (integers ∷ hs) = are_numbers hs
-are_numbers (h ∷ hs) = false
-are_numbers [] = true
-
-abbrev pub are_truths : List Head → Bool
-are_truths (booleans ∷ hs) = are_truths hs
-are_truths (h ∷ hs) = false
-are_truths [] = true
-
 abbrev pub are_tokens_of_one : List Head → Bool
 are_tokens_of_one (tokens s ∷ hs) = list_all (is_tokens_of s) hs
 are_tokens_of_one hs = false
 
--- all values of the sort are whole numbers, truth values, tokens of one sort; a sort without values has no heads
-abbrev pub has_only_numbers : KoreSignature → KoreSort → Bool
-has_only_numbers g s = are_numbers (heads_of g s)
-
-abbrev pub has_only_truths : KoreSignature → KoreSort → Bool
-has_only_truths g s = are_truths (heads_of g s)
-
+-- all values of the sort are tokens of one sort
 abbrev pub has_only_tokens : KoreSignature → KoreSort → Bool
 has_only_tokens g s = are_tokens_of_one (heads_of g s)
 
@@ -141,7 +124,7 @@ abbrev pub form_of : KoreSignature → Literal → Option Form
 form_of g l = of_atom l.holds l.atom
   where
     of_atom : Bool → Atom → Option Form
-    of_atom b (same s t u) = same_form g (is_boolean_sort g s) b t u
+    of_atom b (same s t u) = same_form g (is_truth_sort g s) b t u
     of_atom b (has_head x test) = None
     of_atom b (quoted p rs) = None
 

@@ -6,7 +6,7 @@ use Rattle.std.specs.List.{AllByRecursion, Contains, flat_map, list_any, list_al
 use Rattle.kp_kore.specs.Syntax.{Text, KoreSort, sort_variable, KorePattern, variable, application, literal}
 use Rattle.kp_kore.specs.Hooks.{whole_arithmetic, whole_comparison}
 use Rattle.kp_kore.specs.Parts.{SortedName, subpatterns, free_variables, term_depth}
-use Rattle.kp_kore.specs.Signature.{KoreSignature, meaning_of, SymbolMeaning, interpretation, is_integer_sort, is_boolean_sort}
+use Rattle.kp_kore.specs.Signature.{KoreSignature, meaning_of, SymbolMeaning, interpretation, is_integer_sort, is_boolean_sort, is_number_sort, has_only_numbers}
 use Rattle.kp_semantics.specs.Value.{whole}
 use Rattle.kp_semantics.specs.Interpretation.{no_meaning, computed}
 use Rattle.kp_semantics.specs.Instance.{Valuation, GivesSorts, conjuncts, is_named}
@@ -20,7 +20,7 @@ use Rattle.kp_symbolic.specs.Folding.{replaced}
 use Rattle.kp_symbolic.specs.Opening.{opened_same}
 use Rattle.kp_symbolic.specs.Clauses.{clauses_of_conjuncts, distributed}
 use Rattle.kp_symbolic.specs.Writing.{written_term}
-use Rattle.kp_symbolic.specs.Plain.{Form, compares, is_truth, equates, form_of, whole_part, has_only_numbers, read_clause, read_clauses, ReadLiteral, is_plain_clause, plain_clauses, rough_clauses}
+use Rattle.kp_symbolic.specs.Plain.{Form, compares, is_truth, equates, form_of, whole_part, read_clause, read_clauses, ReadLiteral, is_plain_clause, plain_clauses, rough_clauses}
 use Rattle.kp_symbolic.specs.Weights.{Weight, bits, literals, product, limit_of, IsWeight, IsOver, IsBitLength, largest, numeric_names, all_bounds, each_once}
 use Rattle.kp_symbolic.specs.Sources.{SymbolicRule, IsSourced, IsSourcedPart, opened_under, parts_of, state_parts}
 
@@ -152,12 +152,12 @@ is_simple_form f = false
 
 -- a comparison of whole-number terms, whatever they are
 abbrev pub compares_numbers : KoreSignature → Atom → Bool
-compares_numbers g (same s (headed f ts) (known u)) = is_comparison (meaning_of g f) || is_integer_sort g s
+compares_numbers g (same s (headed f ts) (known u)) = is_comparison (meaning_of g f) || is_number_sort g s
   where
     is_comparison : SymbolMeaning → Bool
     is_comparison (interpretation (whole_comparison c)) = true
     is_comparison m = false
-compares_numbers g (same s t u) = is_integer_sort g s
+compares_numbers g (same s t u) = is_number_sort g s
 compares_numbers g a = false
 
 -- near: but for whole-number comparisons and parts

@@ -4,7 +4,7 @@ use Rattle.std.specs.Prelude.{◌≡◌, Bool, true, false, List, [], Option, So
 use Rattle.std.specs.List.{AllByRecursion, Contains}
 use Rattle.kp_kore.specs.Syntax.{KoreSort, KoreSorts, no_sorts, next_sort}
 use Rattle.kp_kore.specs.Parts.{SortedName, free_variables}
-use Rattle.kp_kore.specs.Signature.{KoreSignature, SymbolMeaning, construction, interpretation, meaning_of, integer_sort, IsBelow}
+use Rattle.kp_kore.specs.Signature.{KoreSignature, SymbolMeaning, construction, interpretation, meaning_of, is_number_sort, IsBelow}
 use Rattle.kp_kore.specs.Sorting.{result_sort}
 use Rattle.kp_signature.specs.Places.{is_below}
 use Rattle.kp_semantics.specs.Value.{HasSort, HaveSorts}
@@ -40,7 +40,7 @@ stands_in_terms _ = false
 abbrev mutual
   pub IsWellSorted : KoreSignature → KoreSort → SymbolicTerm → Type 0
   IsWellSorted g place (unknown x) = IsBelow g.subsorts x.sort place
-  IsWellSorted g place (offset x c) = (integer_sort g ≡ Some x.sort) × (can_be_added g c ≡ true) × IsBelow g.subsorts x.sort place
+  IsWellSorted g place (offset x c) = (is_number_sort g x.sort ≡ true) × (can_be_added g c ≡ true) × IsBelow g.subsorts x.sort place
   IsWellSorted g place (known u) = HasSort g place u × NumbersFit u
   IsWellSorted g place (headed f ts) = IsTrue (stands_in_terms (meaning_of g f)) × IsPlaced g place (headed f ts) × AreWellSorted g (places_of g f) ts
 

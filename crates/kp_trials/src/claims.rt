@@ -62,8 +62,8 @@ fn file(alloc: Global, sentences: &str) -> Result<String, Fail> {
     Ok(text)
 }
 
-/// A constructor makes a value of the whole-number sort.
-const IRREGULAR: &str = r#"module COUNTING
+/// A constructor makes a value of the whole-number sort, so the hook is not read.
+const FOREIGN_HOOK: &str = r#"module COUNTING
   hooked-sort SortInt{} [hook{}("INT.Int")]
   hooked-symbol Lblmul{}(SortInt{}, SortInt{}) : SortInt{} [hook{}("INT.mul"), function{}()]
   symbol Lblinfinity{}() : SortInt{} [constructor{}()]
@@ -71,13 +71,13 @@ endmodule []
 "#;
 
 #[test]
-fn no_number_is_too_wide_where_nothing_is_run(rt: HostRuntime) -> Result<(), Fail> {
+fn a_symbol_whose_hook_is_not_read_is_foreign(rt: HostRuntime) -> Result<(), Fail> {
     let alloc = rt.alloc();
     let wide = file(
         alloc,
         r#"claim{} \implies{SortInt{}}(Lblinfinity{}(), weakAlwaysFinally{SortInt{}}(Lblmul{}(\dv{SortInt{}}("170141183460469231731687303715884105727"), \dv{SortInt{}}("2")))) [label{}("a")]"#,
     )?;
-    assert_eq!(rt; told_over(alloc, IRREGULAR, wide.as_str())?.as_str(), "a ");
+    assert_eq!(rt; told_over(alloc, FOREIGN_HOOK, wide.as_str())?.as_str(), "C9");
     Ok(())
 }
 

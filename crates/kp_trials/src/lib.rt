@@ -7,8 +7,6 @@ mod claims;
 #[cfg(test)]
 mod definitions;
 #[cfg(test)]
-mod regularity;
-#[cfg(test)]
 mod substituting;
 #[cfg(test)]
 mod texts;

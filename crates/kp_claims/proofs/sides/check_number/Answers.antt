@@ -11,10 +11,10 @@ pub returns-in-Ok-clause-ok : goal.returns-in-Ok-clause-ok
 returns-in-Ok-clause-ok c = not_wide (signature_view c.args.signature.now) (view c.args.pattern.now) c.in-Ok.ensures.shape
 
 pub returns-clause-err : goal.returns-clause-err
-returns-clause-err c regular at =
+returns-clause-err c at =
     let g = signature_view c.args.signature.now in
     let s = sort_view c.args.sort.now in
     let p = view c.args.pattern.now in
     let same : sort_view c.in_ok-copy.field-0 ≡ s = search rules in
     subst (TellsOf (IsNumberFaultOf g p)) (sym c.wide_side.ensures)
-    (told_number g s p c.in-Err.error at c.in-Err.ensures.refused (c.in-Err.ensures.other_shape regular (subst (VerifiesAs g p) (sym same) at.verified)))
+    (told_number g s p c.in-Err.error at c.in-Err.ensures.refused (c.in-Err.ensures.other_shape (subst (VerifiesAs g p) (sym same) at.verified)))

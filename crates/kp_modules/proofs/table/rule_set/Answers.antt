@@ -18,11 +18,9 @@ pub returns-clause-ok : goal.returns-clause-ok
 returns-clause-ok c =
     let ms = c.args.modules.now in
     runs (map (λ m. module_view m.now) ms)
-    (record { signature = c.in_ok-signature.signature; rules = c.in_ok-rules.rules; is_regular = c.is_regular-is_regular.result })
+    (record { signature = c.in_ok-signature.signature; rules = c.in_ok-rules.rules })
     (c.in_ok-signature.ensures ∙ ap signature_of (sentences_seen ms))
     c.in_ok-rules.ensures.ok
-    c.is_regular-is_regular.ensures.is
-    c.is_regular-is_regular.ensures.regular
 
 pub returns-clause-sound : goal.returns-clause-sound
 returns-clause-sound c = subst (λ g. AreSound g (rewrite_axioms (map (λ m. module_view m.now) c.args.modules.now))) c.in_ok-signature.ensures c.in_ok-rules.ensures.sound

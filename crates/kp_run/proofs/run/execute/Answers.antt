@@ -8,7 +8,7 @@ use Rattle.kp_ground.specs.View.{value_view}
 use Rattle.kp_run.specs.Runs.{IsAt, IsStuck, IsFirstUnknown, GoesOnlyTo, IsNext, IsWrittenNext, written_of}
 use Rattle.kp_run.specs.Shallow.{IsShallowNext}
 use Rattle.kp_run.proofs.Runs.{goes_on, not_final, first_is_unknown}
-use Rattle.kp_run.proofs.States.{only_goes_on, states_go_on, told_at, told_more, ends_told, untold_later, answered_over}
+use Rattle.kp_run.proofs.States.{only_goes_on, states_go_on, told_at, told_more, ends_told, untold_later}
 use Rattle.kp_run.proofs.run.execute.Goals as goal
 
 pub loop-depth-preserved : goal.loop-depth-preserved
@@ -45,23 +45,19 @@ pub returns-in-Stuck-clause-answered : goal.returns-in-Stuck-clause-answered
 returns-in-Stuck-clause-answered c = λ t runs at.
     let now = value_view c.loop-depth.state.value in
     let sorted : IsSorted t.signature now = (sort_view c.loop-depth.state.sort, (c.loop-depth.invariant.goes t runs at).1) in
-    let regular : c.args.rules.now.is_regular ≡ true = search rules in
     let stuck : IsStuck t now = subst (IsNext t now) c.in-Stuck.is (c.in_ok-next.ensures.next t runs sorted) in
-    answered_over t c.args.rules.now (written_of c.args.state) c.args.bound runs regular
-    (ends_told t c.loop-depth.depth c.args.bound (written_of c.args.state) (written_of c.loop-depth.state) (c.loop-depth.invariant.told t runs at) (c.loop-depth.invariant.only t runs at)
+    ends_told t c.loop-depth.depth c.args.bound (written_of c.args.state) (written_of c.loop-depth.state) (c.loop-depth.invariant.told t runs at) (c.loop-depth.invariant.only t runs at)
     (told_at t (written_of c.loop-depth.state) (c.in_ok-next.ensures.answered t runs sorted))
-    (λ next to. not_final t now next.value to.steps (inr stuck.0)))
+    (λ next to. not_final t now next.value to.steps (inr stuck.0))
 
 pub returns-in-ForeignRule-clause-answered : goal.returns-in-ForeignRule-clause-answered
 returns-in-ForeignRule-clause-answered c = λ t runs at.
     let now = value_view c.loop-depth.state.value in
     let sorted : IsSorted t.signature now = (sort_view c.loop-depth.state.sort, (c.loop-depth.invariant.goes t runs at).1) in
-    let regular : c.args.rules.now.is_regular ≡ true = search rules in
     let first : IsFirstUnknown t now (string_bytes c.in-ForeignRule.id) = subst (IsNext t now) c.in-ForeignRule.is (c.in_ok-next.ensures.next t runs sorted) in
-    answered_over t c.args.rules.now (written_of c.args.state) c.args.bound runs regular
-    (ends_told t c.loop-depth.depth c.args.bound (written_of c.args.state) (written_of c.loop-depth.state) (c.loop-depth.invariant.told t runs at) (c.loop-depth.invariant.only t runs at)
+    ends_told t c.loop-depth.depth c.args.bound (written_of c.args.state) (written_of c.loop-depth.state) (c.loop-depth.invariant.told t runs at) (c.loop-depth.invariant.only t runs at)
     (told_at t (written_of c.loop-depth.state) (c.in_ok-next.ensures.answered t runs sorted))
-    (λ next to. not_final t now next.value to.steps (inl (first_is_unknown t now (string_bytes c.in-ForeignRule.id) first))))
+    (λ next to. not_final t now next.value to.steps (inl (first_is_unknown t now (string_bytes c.in-ForeignRule.id) first)))
 
 pub returns-in-ForeignRule-clause-is_run : goal.returns-in-ForeignRule-clause-is_run
 returns-in-ForeignRule-clause-is_run c = λ t runs at.

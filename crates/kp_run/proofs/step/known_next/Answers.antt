@@ -11,7 +11,7 @@ use Rattle.kp_run.proofs.Theories.{stuck_here, goes_here}
 use Rattle.kp_run.proofs.step.known_next.Goals as goal
 
 pub returns-in-Nobody-clause-next : goal.returns-in-Nobody-clause-next
-returns-in-Nobody-clause-next c = λ t runs regular s known.
+returns-in-Nobody-clause-next c = λ t runs s known.
     stuck_here t c.args.rules.now (value_view c.args.state.now.value) runs s known
     (subst (IsTurn (signature_view c.args.rules.now.signature) (value_view c.args.state.now.value) c.args.rules.now.rules.items) c.in-Nobody.is c.in_ok-turn_on.ensures.turn)
 
@@ -39,15 +39,15 @@ returns-in_err-after-in-One-clause-not_answered c = λ t runs s known.
     (c.in_err-after-in-One.ensures.not_followed is))
 
 pub returns-in_ok-after-in-One-clause-next : goal.returns-in_ok-after-in-One-clause-next
-returns-in_ok-after-in-One-clause-next c = λ t runs regular s known.
-    goes_here t c.args.rules.now (value_view c.args.state.now.value) c.in-One.firing c.in_ok-after-in-One.field-0 runs regular s known
+returns-in_ok-after-in-One-clause-next c = λ t runs s known.
+    goes_here t c.args.rules.now (value_view c.args.state.now.value) c.in-One.firing c.in_ok-after-in-One.field-0 runs s known
     (subst (IsTurn (signature_view c.args.rules.now.signature) (value_view c.args.state.now.value) c.args.rules.now.rules.items) c.in-One.is c.in_ok-turn_on.ensures.turn)
     c.in_ok-after-in-One.ensures.after
 
 pub returns-in_ok-after-in-One-clause-written : goal.returns-in_ok-after-in-One-clause-written
-returns-in_ok-after-in-One-clause-written c = λ t runs regular s known.
+returns-in_ok-after-in-One-clause-written c = λ t runs s known.
     let turn = subst (IsTurn (signature_view c.args.rules.now.signature) (value_view c.args.state.now.value) c.args.rules.now.rules.items) c.in-One.is c.in_ok-turn_on.ensures.turn in
-    let goes = (goes_here t c.args.rules.now (value_view c.args.state.now.value) c.in-One.firing c.in_ok-after-in-One.field-0 runs regular s known turn c.in_ok-after-in-One.ensures.after).0 in
+    let goes = (goes_here t c.args.rules.now (value_view c.args.state.now.value) c.in-One.firing c.in_ok-after-in-One.field-0 runs s known turn c.in_ok-after-in-One.ensures.after).0 in
     record {
       only = goes.1;
       steps = goes.0;

@@ -1,11 +1,11 @@
-use Rattle.std.proofs.Common.{rules, ◌≡◌, subst, true}
+use Rattle.std.proofs.Common.{rules, ◌≡◌, subst}
 use Rattle.std.proofs.lemmas.Result.{IfOk-weaker}
 use Rattle.std.specs.Prelude.{MatchOption, string_bytes}
 use Rattle.kp_ground.specs.View.{value_view}
 use Rattle.kp_semantics.specs.Steps.{IsUnknown}
 use Rattle.kp_run.specs.Runs.{IsFirstUnknown, written_of}
 use Rattle.kp_run.proofs.Runs.{first_is_unknown}
-use Rattle.kp_run.proofs.States.{one_told, one_not_answered, answered_over}
+use Rattle.kp_run.proofs.States.{one_told, one_not_answered}
 use Rattle.kp_run.proofs.Theories.{told_here}
 use Rattle.kp_run.proofs.step.next_of.Goals as goal
 
@@ -20,36 +20,31 @@ returns-in_ok-clone-in-Some-clause-next c = λ t runs s.
 pub returns-in_ok-clone-in-Some-clause-answered : goal.returns-in_ok-clone-in-Some-clause-answered
 returns-in_ok-clone-in-Some-clause-answered c = λ t runs s.
     let u = value_view c.args.state.now.value in
-    let regular : c.args.rules.now.is_regular ≡ true = search rules in
     let told = told_here t c.args.rules.now u c.in_ok-rule.field-0 runs s c.in_ok-rule.ensures in
     let first : IsFirstUnknown t u (string_bytes c.in-Some.rule.now.id) = subst (λ o. MatchOption o (¬ IsUnknown t u) (λ f. IsFirstUnknown t u (string_bytes f.now.id))) c.in-Some.is told in
-    answered_over t c.args.rules.now (written_of c.args.state.now) 1 runs regular
-    (one_told t (written_of c.args.state.now) (λ known. absurd (known (first_is_unknown t u (string_bytes c.in-Some.rule.now.id) first))))
+    one_told t (written_of c.args.state.now) (λ known. absurd (known (first_is_unknown t u (string_bytes c.in-Some.rule.now.id) first)))
 
 pub returns-in-None-clause-next : goal.returns-in-None-clause-next
 returns-in-None-clause-next c = λ t runs s.
     let u = value_view c.args.state.now.value in
-    let regular : c.args.rules.now.is_regular ≡ true = search rules in
     let told = told_here t c.args.rules.now u c.in_ok-rule.field-0 runs s c.in_ok-rule.ensures in
     let known : ¬ IsUnknown t u = subst (λ o. MatchOption o (¬ IsUnknown t u) (λ f. IsFirstUnknown t u (string_bytes f.now.id))) c.in-None.is told in
-    c.known_next.ensures.next t runs regular s known
+    c.known_next.ensures.next t runs s known
 
 pub returns-in-None-clause-written : goal.returns-in-None-clause-written
 returns-in-None-clause-written c = λ t runs s.
     let u = value_view c.args.state.now.value in
-    let regular : c.args.rules.now.is_regular ≡ true = search rules in
     let told = told_here t c.args.rules.now u c.in_ok-rule.field-0 runs s c.in_ok-rule.ensures in
     let known : ¬ IsUnknown t u = subst (λ o. MatchOption o (¬ IsUnknown t u) (λ f. IsFirstUnknown t u (string_bytes f.now.id))) c.in-None.is told in
-    c.known_next.ensures.written t runs regular s known
+    c.known_next.ensures.written t runs s known
 
 pub returns-in-None-clause-answered : goal.returns-in-None-clause-answered
 returns-in-None-clause-answered c = λ t runs s.
     let u = value_view c.args.state.now.value in
-    let regular : c.args.rules.now.is_regular ≡ true = search rules in
     let told = told_here t c.args.rules.now u c.in_ok-rule.field-0 runs s c.in_ok-rule.ensures in
     let known : ¬ IsUnknown t u = subst (λ o. MatchOption o (¬ IsUnknown t u) (λ f. IsFirstUnknown t u (string_bytes f.now.id))) c.in-None.is told in
     IfOk-weaker c.known_next.result _ _
-    (λ n stepped. answered_over t c.args.rules.now (written_of c.args.state.now) 1 runs regular (one_told t (written_of c.args.state.now) (λ _. stepped)))
+    (λ n stepped. one_told t (written_of c.args.state.now) (λ _. stepped))
     (c.known_next.ensures.answered t runs s known)
 
 pub returns-in-None-clause-not_answered : goal.returns-in-None-clause-not_answered

@@ -1,6 +1,6 @@
 use Rattle.std.proofs.Common.{subst}
 use Rattle.kp_ground.specs.View.{value_view}
-use Rattle.kp_run.specs.Causes.{IsNotAnswered}
+use Rattle.kp_run.specs.Causes.{StopsUntold}
 use Rattle.kp_run.specs.Runs.{IsRunOf, written_of}
 use Rattle.kp_server.specs.Ends.{options_of}
 use Rattle.std.proofs.lemmas.Result.{err_from_is_err_and}
@@ -31,7 +31,7 @@ returns-in-Ok-clause-found c = λ s is.
       is_start = start;
       run = subst (λ n. IsRunOf s.theory (value_view c.in_ok-state.state.value) n c.in-Ok.end) c.bound_of.ensures (c.in-Ok.ensures.is_run s.theory runs (sorted_start s.theory.signature e c.in_ok-state.state start));
       ends = c.in-Ok.ensures.written s.theory runs (sorted_start s.theory.signature e c.in_ok-state.state start);
-      told = subst (λ n. ¬ IsNotAnswered s.theory (written_of c.in_ok-state.state) n) c.bound_of.ensures (c.in-Ok.ensures.answered s.theory runs (sorted_start s.theory.signature e c.in_ok-state.state start));
+      told = subst (λ n. ¬ StopsUntold s.theory (written_of c.in_ok-state.state) n) c.bound_of.ensures (c.in-Ok.ensures.answered s.theory runs (sorted_start s.theory.signature e c.in_ok-state.state start));
     }
 
 pub returns-in-Err-NotAnswered-clause-failed : goal.returns-in-Err-NotAnswered-clause-failed

@@ -1,7 +1,6 @@
-use Rattle.std.proofs.Common.{sym, ◌∙◌}
 use Rattle.std.proofs.lemmas.Result.{IfErr-weaker, IfOk-weaker, err_from_is_err_and}
 use Rattle.kp_server.specs.Sides.{antecedent_tree, consequent_tree}
-use Rattle.kp_server.proofs.Implied.{antecedent_failure, apart_failure, at_request, consequent_failure, elsewhere_failure, implied_of, mixed_failure, unread_antecedent_failure, unread_consequent_failure, unreached_failure}
+use Rattle.kp_server.proofs.Implied.{antecedent_failure, apart_failure, at_request, consequent_failure, elsewhere_failure, implied_of, unread_antecedent_failure, unread_consequent_failure, unreached_failure}
 use Rattle.kp_server.proofs.answer_implies.implied.Goals as goal
 
 pub returns-in_err-check_module-clause-failed : goal.returns-in_err-check_module-clause-failed
@@ -42,21 +41,13 @@ returns-then-is_elsewhere-clause-failed c = λ s is.
     let y = at_request _ s same _ (consequent_tree e) c.sides_of-sides.ensures.consequent c.in_ok-consequent.consequent (c.in_ok-consequent.ensures.found _ c.in_ok-right.ensures.found) in
     elsewhere_failure s e c.in_ok-antecedent.antecedent c.in_ok-consequent.consequent x y (c.in_ok-check_module.ensures.reached s is) _ is.main_is (c.is_elsewhere.ensures.0 c.if-is_elsewhere.true) c.not_answered.result c.not_answered.ensures
 
-pub returns-then-not-rules-clause-failed : goal.returns-then-not-rules-clause-failed
-returns-then-not-rules-clause-failed c = λ s is.
-    let e = c.args.request.now in
-    let runs = c.rules_of-rules.ensures s is in
-    let x = at_request _ s runs.signature _ (antecedent_tree e) c.sides_of-sides.ensures.antecedent c.in_ok-antecedent.antecedent (c.in_ok-antecedent.ensures.found _ c.in_ok-left.ensures.found) in
-    let y = at_request _ s runs.signature _ (consequent_tree e) c.sides_of-sides.ensures.consequent c.in_ok-consequent.consequent (c.in_ok-consequent.ensures.found _ c.in_ok-right.ensures.found) in
-    mixed_failure s e c.in_ok-antecedent.antecedent c.in_ok-consequent.consequent x y (c.in_ok-check_module.ensures.reached s is) (sym runs.tested ∙ c.if-not-rules.true) c.not_answered-then-not-rules.result c.not_answered-then-not-rules.ensures
-
 pub returns-clause-failed : goal.returns-clause-failed
 returns-clause-failed c = λ s is.
     let e = c.args.request.now in
     let runs = c.rules_of-rules.ensures s is in
     let x = at_request _ s runs.signature _ (antecedent_tree e) c.sides_of-sides.ensures.antecedent c.in_ok-antecedent.antecedent (c.in_ok-antecedent.ensures.found _ c.in_ok-left.ensures.found) in
     let y = at_request _ s runs.signature _ (consequent_tree e) c.sides_of-sides.ensures.consequent c.in_ok-consequent.consequent (c.in_ok-consequent.ensures.found _ c.in_ok-right.ensures.found) in
-    IfErr-weaker c.compared_sides.result _ _ (λ f k. apart_failure s e c.in_ok-antecedent.antecedent c.in_ok-consequent.consequent x y (c.in_ok-check_module.ensures.reached s is) (runs.regular c.if-not-rules.false) f k) c.compared_sides.ensures.failed
+    IfErr-weaker c.compared_sides.result _ _ (λ f k. apart_failure s e c.in_ok-antecedent.antecedent c.in_ok-consequent.consequent x y (c.in_ok-check_module.ensures.reached s is) f k) c.compared_sides.ensures.failed
 
 pub returns-clause-found : goal.returns-clause-found
 returns-clause-found c = λ s is.
@@ -64,4 +55,4 @@ returns-clause-found c = λ s is.
     let runs = c.rules_of-rules.ensures s is in
     let x = at_request _ s runs.signature _ (antecedent_tree e) c.sides_of-sides.ensures.antecedent c.in_ok-antecedent.antecedent (c.in_ok-antecedent.ensures.found _ c.in_ok-left.ensures.found) in
     let y = at_request _ s runs.signature _ (consequent_tree e) c.sides_of-sides.ensures.consequent c.in_ok-consequent.consequent (c.in_ok-consequent.ensures.found _ c.in_ok-right.ensures.found) in
-    IfOk-weaker c.compared_sides.result _ _ (λ o k. implied_of s e _ c.in_ok-antecedent.antecedent c.in_ok-consequent.consequent _ (c.in_ok-check_module.ensures.reached s is) is.main_is (λ there. absurd (cc (c.is_elsewhere.ensures.1 there, c.if-is_elsewhere.false))) (sym runs.tested ∙ c.if-not-rules.false) (runs.regular c.if-not-rules.false) x y k) c.compared_sides.ensures.found
+    IfOk-weaker c.compared_sides.result _ _ (λ o k. implied_of s e _ c.in_ok-antecedent.antecedent c.in_ok-consequent.consequent _ (c.in_ok-check_module.ensures.reached s is) is.main_is (λ there. absurd (cc (c.is_elsewhere.ensures.1 there, c.if-is_elsewhere.false))) x y k) c.compared_sides.ensures.found

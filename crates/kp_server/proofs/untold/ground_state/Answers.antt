@@ -12,4 +12,4 @@ returns-in-Err-OtherShape-clause-failed c = λ s options verifies why.
     let g = signature_view c.args.signature.now in
     let p = view c.args.pattern.now in
     let none = subst (IsTold (first_foreign g p)) c.in-Err-OtherShape.field-0-is c.in-Err-OtherShape.ensures.refused in
-    t2_pattern g (IsLeftOut s options) p (sort_view c.args.sort) c.not_answered.result c.not_answered.ensures verifies none (why (λ regular. c.in-Err-OtherShape.ensures.other_shape regular verifies c.in-Err-OtherShape.field-0-is))
+    t2_pattern g (IsLeftOut s options) p (sort_view c.args.sort) c.not_answered.result c.not_answered.ensures verifies none (why (c.in-Err-OtherShape.ensures.other_shape verifies c.in-Err-OtherShape.field-0-is))

@@ -10,5 +10,5 @@ returns-in-Err-OtherShape-clause-found c = λ verifies.
     let g = signature_view c.args.signature.now in
     let p = view c.args.pattern.now in (
       subst (IsTold (first_foreign g p)) c.in-Err-OtherShape.field-0-is c.in-Err-OtherShape.ensures.refused,
-      λ regular. c.in-Err-OtherShape.ensures.other_shape regular verifies c.in-Err-OtherShape.field-0-is,
+      c.in-Err-OtherShape.ensures.other_shape verifies c.in-Err-OtherShape.field-0-is,
     )

@@ -11,14 +11,14 @@ use Rattle.kp_states.proofs.SpelledMeaning.{spelling_means}
 use Rattle.kp_states.proofs.spell.spelled.Goals as goal
 
 pub returns-then-has_injection-clause-meant : goal.returns-then-has_injection-clause-meant
-returns-then-has_injection-clause-meant c = λ r h.
+returns-then-has_injection-clause-meant c = λ h.
     subst (IsSpellingOf (signature_view c.args.signature.now) (value_view c.args.value.now)) (sym c.in_ok-pattern.ensures.normal)
-    (spelling_means (signature_view c.args.signature.now) (sort_view c.args.sort.now) (value_view c.args.value.now) r h (c.in_ok-pattern.ensures.fits h) (inl (c.has_injection.ensures.0 c.if-has_injection.true)))
+    (spelling_means (signature_view c.args.signature.now) (sort_view c.args.sort.now) (value_view c.args.value.now) h (c.in_ok-pattern.ensures.fits h) (inl (c.has_injection.ensures.0 c.if-has_injection.true)))
 
 pub returns-clause-meant : goal.returns-clause-meant
-returns-clause-meant c = λ r h.
+returns-clause-meant c = λ h.
     subst (IsSpellingOf (signature_view c.args.signature.now) (value_view c.args.value.now)) (sym c.in_ok-pattern.ensures.normal)
-    (spelling_means (signature_view c.args.signature.now) (sort_view c.args.sort.now) (value_view c.args.value.now) r h (c.in_ok-pattern.ensures.fits h)
+    (spelling_means (signature_view c.args.signature.now) (sort_view c.args.sort.now) (value_view c.args.value.now) h (c.in_ok-pattern.ensures.fits h)
     (inr (subst (λ p. IsTrue (none_within has_two_sorts p)) c.in_ok-pattern.ensures.normal (none_there c.in_ok-injects.field-0 (none_within has_two_sorts (view c.in_ok-pattern.pattern)) c.in_ok-injects.ensures c.if-branch.false))))
 
 pub returns-then-has_injection-clause-written : goal.returns-then-has_injection-clause-written

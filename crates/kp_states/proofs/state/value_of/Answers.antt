@@ -14,11 +14,11 @@ pub returns-in-Ok-clause-narrow : goal.returns-in-Ok-clause-narrow
 returns-in-Ok-clause-narrow c = value_narrow c.evaluated.result (signature_view c.args.signature.now) (view c.args.pattern.now) c.in-Ok.term c.in-Ok.ensures.narrow c.evaluated.ensures.narrow
 
 pub returns-in-Ok-clause-other_shape : goal.returns-in-Ok-clause-other_shape
-returns-in-Ok-clause-other_shape c = λ regular place verified none.
+returns-in-Ok-clause-other_shape c = λ place verified none.
     value_wide c.evaluated.result (signature_view c.args.signature.now) (view c.args.pattern.now) c.in-Ok.term c.in-Ok.ensures.narrow c.evaluated.ensures.wide
 
 -- what is verified and without foreign symbols is compiled
 pub returns-in-Err-clause-other_shape : goal.returns-in-Err-clause-other_shape
-returns-in-Err-clause-other_shape c = λ regular place verified none is.
+returns-in-Err-clause-other_shape c = λ place verified none is.
     let term : IsTrue (is_term (view c.args.pattern.now)) = search rules in
-    absurd (c.refused.ensures.other_shape is (c.in-Err.ensures.refused (is_compiled (signature_view c.args.signature.now) place (view c.args.pattern.now) regular verified none term)))
+    absurd (c.refused.ensures.other_shape is (c.in-Err.ensures.refused (is_compiled (signature_view c.args.signature.now) place (view c.args.pattern.now) verified none term)))

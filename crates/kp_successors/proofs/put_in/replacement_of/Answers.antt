@@ -19,12 +19,12 @@ returns-in_err-spelled-in-Some-clause-refused c =
     rw p.1 (from_spelling (signature_view c.args.signature.now) _ c.in_err-spelled-in-Some.field-0.0 p.0 p.2 (λ is. c.in_err-spelled-in-Some.ensures.no_injection is))
 
 pub returns-in_ok-spelled-in-Some-clause-spelled : goal.returns-in_ok-spelled-in-Some-clause-spelled
-returns-in_ok-spelled-in-Some-clause-spelled c = λ regular v s sorted.
+returns-in_ok-spelled-in-Some-clause-spelled c = λ v s sorted.
     let g = signature_view c.args.signature.now in
     let bound : v (string_bytes c.args.variable.now.name) ≡ value_view c.in-Some.value.now =
     subst (λ n. v n ≡ value_view c.in-Some.value.now) c.as_str.ensures.value (c.in-Some.ensures.found v s) in
     subst (λ w. IsSpellingOf g w (view c.in_ok-spelled-in-Some.field-0)) (sym bound)
-    (c.in_ok-spelled-in-Some.ensures.meant regular (subst (HasSort g (sort_view c.args.variable.now.sort)) bound sorted))
+    (c.in_ok-spelled-in-Some.ensures.meant (subst (HasSort g (sort_view c.args.variable.now.sort)) bound sorted))
 
 pub returns-in-None-clause-unbound : goal.returns-in-None-clause-unbound
 returns-in-None-clause-unbound c = λ _.

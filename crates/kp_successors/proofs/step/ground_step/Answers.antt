@@ -1,4 +1,4 @@
-use Rattle.std.proofs.Common.{rules, ◌≡◌, sym, subst, true, map, string_bytes}
+use Rattle.std.proofs.Common.{rules, sym, subst, map, string_bytes}
 use Rattle.std.specs.Prelude.{MatchOption}
 use Rattle.std.proofs.lemmas.Result.{err_from_is_err_and}
 use Rattle.kp_kore.specs.View.{view}
@@ -48,12 +48,11 @@ returns-in-Some-clause-refused c = λ t s u runs state.
 pub returns-clause-successors : goal.returns-clause-successors
 returns-clause-successors c = λ t s u runs state.
     let w = value_view c.in_ok-value.value in
-    let regular : c.args.rules.now.is_regular ≡ true = search rules in
     let same = same_value t c.args.rules.now (view c.args.pattern.now) s u w runs state c.in_ok-value.ensures.meant in
     let sorted = has_sort t (view c.args.pattern.now) s u w state same in
     let told = told_here t c.args.rules.now w c.in_ok-rule.field-0 runs sorted c.in_ok-rule.ensures in
     let known : ¬ IsUnknown t w = subst (λ o. MatchOption o (¬ IsUnknown t w) (λ f. IsFirstUnknown t w (string_bytes f.now.id))) c.in-None.is told in
-    subst (λ x. AreSuccessors t x t.rules (map view c.in_ok-nexts.nexts.items)) (sym same) (c.in_ok-nexts.ensures.successors t runs (runs.regular regular) sorted known)
+    subst (λ x. AreSuccessors t x t.rules (map view c.in_ok-nexts.nexts.items)) (sym same) (c.in_ok-nexts.ensures.successors t runs sorted known)
 
 pub returns-clause-known : goal.returns-clause-known
 returns-clause-known c = λ t s u runs state.

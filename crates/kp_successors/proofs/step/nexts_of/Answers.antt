@@ -14,10 +14,10 @@ returns-in_err-priority-clause-refused c = λ t runs s.
     rw (p.1, p.2) (least_refused t c.args.rules.now (value_view c.args.value.now) c.in_err-priority.field-0.0 runs s c.in_err-priority.ensures.refused)
 
 pub returns-in-Some-clause-successors : goal.returns-in-Some-clause-successors
-returns-in-Some-clause-successors c = λ t runs regular s.
+returns-in-Some-clause-successors c = λ t runs s.
     let u = value_view c.args.value.now in
     let least = subst (IsLeast (signature_view c.args.rules.now.signature) u c.args.rules.now.rules.items) c.in-Some.is c.in_ok-priority.ensures.least in
-    IfOk-weaker c.nexts_at.result _ _ (λ ps next known. nexts_are t c.args.rules.now u c.in-Some.priority _ runs regular s least next known) c.nexts_at.ensures.nexts
+    IfOk-weaker c.nexts_at.result _ _ (λ ps next known. nexts_are t c.args.rules.now u c.in-Some.priority _ runs s least next known) c.nexts_at.ensures.nexts
 
 pub returns-in-Some-clause-narrow : goal.returns-in-Some-clause-narrow
 returns-in-Some-clause-narrow c = λ t runs s.
@@ -32,7 +32,7 @@ returns-in-Some-clause-refused c = λ t runs s.
     IfErr-weaker c.nexts_at.result _ _ (λ e h. nexts_refused t c.args.rules.now u c.in-Some.priority e runs s least h) c.nexts_at.ensures.refused
 
 pub returns-in-None-clause-successors : goal.returns-in-None-clause-successors
-returns-in-None-clause-successors c = λ t runs regular s known.
+returns-in-None-clause-successors c = λ t runs s known.
     let u = value_view c.args.value.now in
     subst (λ ps. AreSuccessors t u t.rules (map view ps)) (sym c.new.ensures.items)
     (none_are t c.args.rules.now u runs s (subst (IsLeast (signature_view c.args.rules.now.signature) u c.args.rules.now.rules.items) c.in-None.is c.in_ok-priority.ensures.least))
