@@ -43,12 +43,14 @@ fn take_new(labels: &mut Labels, label: &Name) -> Result<Name, ClaimError>
     Ok(label.clone()?)
 }
 
+/// Whether the label was noted before.
 fn is_noted(labels: &Labels, label: &Name) -> bool
     ensures { (before : List Text) → Lists before labels.now → result ≡ list_any (bytes_eq (string_bytes label.now)) before }
 {
     labels.contains_key(label.as_str())
 }
 
+/// Notes a label.
 fn note(labels: &mut Labels, label: &Name) -> Result<(), AllocError>
     ensures { (before : List Text) → Lists before labels.old → OnOk result (Lists (before ++ string_bytes label.now ∷ []) labels.new) }
 {
@@ -66,6 +68,7 @@ fn label_of(attributes: &[Pattern]) -> Option<&Name>
     }
 }
 
+/// The text, where it is a label.
 fn if_label(text: &Name) -> Option<&Name>
     ensures { option_map (λ l. string_bytes l.now) result ≡ stated_if_label (Some (string_bytes text.now)) }
 {
@@ -76,12 +79,14 @@ fn if_label(text: &Name) -> Option<&Name>
     }
 }
 
+/// Whether it is one or more characters of labels.
 fn is_label(text: &[u8]) -> bool
     ensures { result ≡ label_test text.now }
 {
     0 < text.len() && are_label_characters(text)
 }
 
+/// Whether each byte may stand in a label.
 fn are_label_characters(text: &[u8]) -> bool
     ensures { result ≡ list_all character_test text.now }
 {

@@ -125,6 +125,7 @@ fn is_closed(alloc: Global, pattern: &Pattern) -> Result<bool, AllocError>
     Ok(are_none(found.as_slice()))
 }
 
+/// Whether there is no variable.
 fn are_none(found: &[SortedVariable]) -> bool
     ensures { result ≡ none_test (map sorted_variable_view found.now) }
 {
@@ -165,6 +166,7 @@ fn reached_on_all<'a>(sort: &Sort, pattern: &'a Pattern) -> Option<&'a Pattern>
     }
 }
 
+/// The argument of `weakAlwaysFinally` at this sort, if it is that.
 fn argument_on_all<'a>(
     sort: &Sort,
     symbol: &str,

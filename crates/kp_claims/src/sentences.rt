@@ -23,6 +23,7 @@ pub fn counted_sentences<'a>(
     Ok(found)
 }
 
+/// Adds the sentences that are axioms or claims.
 fn add_counted<'a>(
     found: &mut Vec<&'a Sentence>,
     sentences: &'a [Sentence],
@@ -48,6 +49,7 @@ fn counts(sentence: &Sentence) -> bool
     }
 }
 
+/// Whether it is `\rewrites`.
 fn is_rewriting(pattern: &Pattern) -> bool
     ensures { result ≡ rewriting_test (view pattern.now) }
 {

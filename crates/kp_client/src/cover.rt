@@ -41,7 +41,7 @@ pub enum CoverAnswer {
     Refused(i64),
 }
 
-// The question whether a state is one of the claim's right side.
+/// The question whether a state is one of the claim's right side.
 fn cover_question_of(
     alloc: Global,
     id: u64,
@@ -58,7 +58,7 @@ fn cover_question_of(
     })
 }
 
-// What an error's code says of the cover.
+/// What an error's code says of the cover.
 fn failed_cover(code: i64, line: Vec<u8>) -> CoverAnswer
     ensures { (claim : ReachabilityClaim) (s : KorePattern) (e : Exchange) → e.reply ≡ line.items → Tells (cover_question claim s) implies e (failed code)
         → IsCoverAnswer claim s (e ∷ []) result }
@@ -69,7 +69,7 @@ fn failed_cover(code: i64, line: Vec<u8>) -> CoverAnswer
     CoverAnswer::Refused(code)
 }
 
-// What a reply says of the cover.
+/// What a reply says of the cover.
 fn told_cover(reply: ServerReply, line: Vec<u8>) -> CoverAnswer
     ensures { (claim : ReachabilityClaim) (s : KorePattern) (e : Exchange) → e.reply ≡ line.items → Tells (cover_question claim s) implies e (reply_view reply)
         → IsCoverAnswer claim s (e ∷ []) result }
@@ -82,7 +82,7 @@ fn told_cover(reply: ServerReply, line: Vec<u8>) -> CoverAnswer
     }
 }
 
-// What a question comes to says of the cover.
+/// What a question comes to says of the cover.
 fn cover_answer_of(heard: Heard) -> CoverAnswer
     ensures { (claim : ReachabilityClaim) (s : KorePattern) (i : RequestId) (es : List Exchange) → IsGivenId i →
         IsHeard implies (cover_question claim s i) es heard → IsCoverAnswer claim s es result }

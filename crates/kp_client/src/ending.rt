@@ -9,7 +9,7 @@ use crate::outcome::Outcome;
 use kp_graph::{NodeId, Tree, Why};
 use std::alloc::{AllocError, Global};
 
-// Why a node is held, once more.
+/// Why a node is held, once more.
 fn copy_why(alloc: Global, why: &Why) -> Result<Why, AllocError>
     ensures { IfOk result (λ w. why_view w ≡ why_view why.now) }
 {
@@ -20,7 +20,7 @@ fn copy_why(alloc: Global, why: &Why) -> Result<Why, AllocError>
     }
 }
 
-// The held node of the least number, and why it is.
+/// The held node of the least number, and why it is.
 fn first_held(alloc: Global, tree: &Tree) -> Result<Option<(NodeId, Why)>, AllocError>
     ensures found { IfOk result (λ o. IfSome o (λ h. IsFirstHeld (tree_view tree.now) h.0.number (why_view h.1))) }
     ensures none { IfOk result (λ o. IfNone o (IsNoneHeld (tree_view tree.now))) }

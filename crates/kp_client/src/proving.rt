@@ -31,7 +31,7 @@ const MOST_ROUNDS: u64 = 1000;
 /// The outcome of a proof, and its tree.
 type Proof = (Outcome, Tree);
 
-// The end of a proof without an open node.
+/// The end of a proof without an open node.
 fn end_settled(alloc: Global, tree: Tree) -> Result<Proof, ProveFault>
     ensures ending { IfOk result (λ r. IsEnding (tree_view tree) (outcome_view r.0)) }
     ensures kept { IfOk result (λ r. tree_view r.1 ≡ tree_view tree) }
@@ -41,7 +41,7 @@ fn end_settled(alloc: Global, tree: Tree) -> Result<Proof, ProveFault>
     Ok((outcome, tree))
 }
 
-// The end of a proof after the last round that may be.
+/// The end of a proof after the last round that may be.
 fn end_of_rounds(alloc: Global, mut tree: Tree) -> Result<Proof, ProveFault>
     ensures open { (n : ℕ) → least_open (tree_view tree) ≡ Some n → IfOk result (λ r. (tree_view r.1 ≡ with_hold n rounds (tree_view tree)) × (outcome_view r.0 ≡ pending_at n rounds)) }
     ensures settled { least_open (tree_view tree) ≡ None → IfOk result (λ r. (tree_view r.1 ≡ tree_view tree) × IsEnding (tree_view tree) (outcome_view r.0)) }
@@ -62,7 +62,7 @@ fn end_of_rounds(alloc: Global, mut tree: Tree) -> Result<Proof, ProveFault>
     }
 }
 
-// Plays the rounds of a claim's proof to its end.
+/// Plays the rounds of a claim's proof to its end.
 fn play_rounds<L: Link>(
     alloc: Global,
     link: &mut L,

@@ -21,7 +21,7 @@ use std::alloc::Global;
 /// A tree has at most so many nodes.
 const MOST_NODES: usize = 10_000;
 
-// An edge to a new node, unless there are as many as there may be: then the node is held.
+/// An edge to a new node, unless there are as many as there may be: then the node is held.
 fn grow(
     tree: &mut Tree,
     node: NodeId,
@@ -43,7 +43,7 @@ fn grow(
     }))
 }
 
-// The tree where a node is held by a line.
+/// The tree where a node is held by a line.
 fn hold_by(tree: &mut Tree, node: NodeId, line: Vec<u8>) -> Result<Option<Outcome>, ProveFault>
     ensures held { IfOk result (λ o. round_end (tree_view tree.new) o ≡ goes_on (with_hold node.number (reply line.items) (tree_view tree.old))) }
     ensures fault { IsErrOf result LinkFault → ⊥ }
@@ -52,7 +52,7 @@ fn hold_by(tree: &mut Tree, node: NodeId, line: Vec<u8>) -> Result<Option<Outcom
     Ok(None)
 }
 
-// The tree where a node is stuck: the proof fails there.
+/// The tree where a node is stuck: the proof fails there.
 fn fail_at(tree: &mut Tree, node: NodeId) -> Result<Option<Outcome>, ProveFault>
     ensures fails { IfOk result (λ o. round_end (tree_view tree.new) o ≡ ends (with_arc node.number stuck (tree_view tree.old)) (failed_at node.number)) }
     ensures fault { IsErrOf result LinkFault → ⊥ }
@@ -61,7 +61,7 @@ fn fail_at(tree: &mut Tree, node: NodeId) -> Result<Option<Outcome>, ProveFault>
     Ok(Some(Outcome::Failed { node }))
 }
 
-// The tree where a node is covered.
+/// The tree where a node is covered.
 fn cover_at(tree: &mut Tree, node: NodeId) -> Result<Option<Outcome>, ProveFault>
     ensures covers { IfOk result (λ o. round_end (tree_view tree.new) o ≡ goes_on (with_arc node.number cover (tree_view tree.old))) }
     ensures fault { IsErrOf result LinkFault → ⊥ }
@@ -70,7 +70,7 @@ fn cover_at(tree: &mut Tree, node: NodeId) -> Result<Option<Outcome>, ProveFault
     Ok(None)
 }
 
-// Asks for the next steps of an open node, and has the tree say so.
+/// Asks for the next steps of an open node, and has the tree say so.
 fn play_steps<L: Link>(
     alloc: Global,
     link: &mut L,

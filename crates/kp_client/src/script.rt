@@ -38,7 +38,7 @@ impl ScriptLink {
         }
     }
 
-    // The line that replies to the next question: none behind the last.
+    /// The line that replies to the next question: none behind the last.
     fn next_line(&self) -> Option<&[u8]>
         ensures { option_map (λ line. line.now) result ≡ slice_get (map (λ line. line.items) self.now.script.items) (length self.now.spoken.items) }
     {
@@ -48,7 +48,7 @@ impl ScriptLink {
         }
     }
 
-    // Counts one more failure.
+    /// Counts one more failure.
     fn count_fault(&mut self)
         ensures spoken { self.new.spoken ≡ self.old.spoken }
         ensures script { self.new.script ≡ self.old.script }
@@ -57,7 +57,7 @@ impl ScriptLink {
         self.faults = self.faults.saturating_add(1);
     }
 
-    // Notes one more exchange.
+    /// Notes one more exchange.
     fn note(&mut self, frame: Vec<u8>, reply: Vec<u8>) -> Result<(), LinkError>
         ensures noted { OnOk result (exchanges_view self.new.spoken.items ≡ exchanges_view self.old.spoken.items ++ record { frame = frame.items; reply = reply.items } ∷ []) }
         ensures kept { OnErr result (exchanges_view self.new.spoken.items ≡ exchanges_view self.old.spoken.items) }
@@ -72,7 +72,7 @@ impl ScriptLink {
     }
 }
 
-// The bytes once more.
+/// The bytes once more.
 fn copy_of(alloc: Global, bytes: &[u8]) -> Result<Vec<u8>, AllocError>
     ensures { IfOk result (λ copy. copy.items ≡ bytes.now) }
 {

@@ -33,7 +33,7 @@ pub enum StepAnswer {
     Refused(i64),
 }
 
-// The question where so many steps from a state lead.
+/// The question where so many steps from a state lead.
 fn step_question_of(
     alloc: Global,
     id: u64,
@@ -54,7 +54,7 @@ fn step_question_of(
     })
 }
 
-// A sort at which a term and this predicate may be joined: the predicate's, where it has one.
+/// A sort at which a term and this predicate may be joined: the predicate's, where it has one.
 fn sort_beside(alloc: Global, predicate: &Pattern) -> Result<Sort, AllocError> {
     match predicate {
         Pattern::Top { sort } => sort.copy(alloc),
@@ -74,14 +74,14 @@ fn sort_beside(alloc: Global, predicate: &Pattern) -> Result<Sort, AllocError> {
     }
 }
 
-// A conjunction of these patterns.
+/// A conjunction of these patterns.
 fn conjunction_of(sort: Sort, patterns: Vec<Pattern>) -> Pattern
     ensures { view result ≡ conjunction (sort_view sort) (patterns_view patterns.items) }
 {
     Pattern::And { sort, patterns }
 }
 
-// The conjunction of a term and a predicate.
+/// The conjunction of a term and a predicate.
 fn joined(alloc: Global, term: Pattern, predicate: Pattern) -> Result<Pattern, AllocError>
     ensures { IfOk result (λ p. IsStatePattern (record { term = view term; predicate = Some (view predicate) }) (view p)) }
 {
@@ -92,7 +92,7 @@ fn joined(alloc: Global, term: Pattern, predicate: Pattern) -> Result<Pattern, A
     Ok(conjunction_of(sort, patterns))
 }
 
-// The state that a run ends in.
+/// The state that a run ends in.
 fn state_of(alloc: Global, term: Pattern, predicate: Option<Pattern>) -> Result<Pattern, AllocError>
     ensures { IfOk result (λ p. IsStatePattern (record { term = view term; predicate = option_map view predicate }) (view p)) }
 {
@@ -102,7 +102,7 @@ fn state_of(alloc: Global, term: Pattern, predicate: Option<Pattern>) -> Result<
     }
 }
 
-// What a run says of the steps.
+/// What a run says of the steps.
 fn run_answer(alloc: Global, run: Run, line: Vec<u8>) -> Result<StepAnswer, AllocError>
     ensures { IfOk result (λ a. (depth : ℕ) (s : KorePattern) (e : Exchange) → e.reply ≡ line.items → Tells (step_question depth s) execute e (executed (run_view run))
         → IsStepAnswer depth s (e ∷ []) a) }
@@ -123,7 +123,7 @@ fn run_answer(alloc: Global, run: Run, line: Vec<u8>) -> Result<StepAnswer, Allo
     }
 }
 
-// What a reply says of the steps.
+/// What a reply says of the steps.
 fn told_steps(alloc: Global, reply: ServerReply, line: Vec<u8>) -> Result<StepAnswer, AllocError>
     ensures { IfOk result (λ a. (depth : ℕ) (s : KorePattern) (e : Exchange) → e.reply ≡ line.items → Tells (step_question depth s) execute e (reply_view reply)
         → IsStepAnswer depth s (e ∷ []) a) }
@@ -135,7 +135,7 @@ fn told_steps(alloc: Global, reply: ServerReply, line: Vec<u8>) -> Result<StepAn
     }
 }
 
-// What a question comes to says of the steps.
+/// What a question comes to says of the steps.
 fn step_answer_of(alloc: Global, heard: Heard) -> Result<StepAnswer, AllocError>
     ensures { IfOk result (λ a. (depth : ℕ) (s : KorePattern) (i : RequestId) (es : List Exchange) → IsGivenId i →
         IsHeard execute (step_question depth s i) es heard → IsStepAnswer depth s es a) }

@@ -8,6 +8,7 @@ ghost use Rattle.kp_compile.specs.Meanings.{function_view, arithmetic_rows, comp
 use crate::function::Function;
 use kp_ground::{Arithmetic, Comparison, Connective, Hook};
 
+/// The arithmetic that a hook's name stands for, if it does.
 fn arithmetic_named(name: &str) -> Option<Arithmetic>
     ensures { option_map (λ a. whole_arithmetic (arithmetic_view a)) result ≡ found_under name.now arithmetic_rows }
 {
@@ -22,6 +23,7 @@ fn arithmetic_named(name: &str) -> Option<Arithmetic>
     }
 }
 
+/// The comparison of whole numbers that a hook's name stands for, if it does.
 fn comparison_named(name: &str) -> Option<Comparison>
     ensures { option_map (λ c. whole_comparison (comparison_view c)) result ≡ found_under name.now comparison_rows }
 {
@@ -42,6 +44,7 @@ fn comparison_named(name: &str) -> Option<Comparison>
     }
 }
 
+/// The conjunction or disjunction of truth values that a hook's name stands for, if it does.
 fn joining_named(name: &str) -> Option<Connective>
     ensures { option_map (λ c. truth_connective (connective_view c)) result ≡ found_under name.now joining_rows }
 {
@@ -54,6 +57,7 @@ fn joining_named(name: &str) -> Option<Connective>
     }
 }
 
+/// The implication or comparison of truth values that a hook's name stands for, if it does.
 fn comparing_named(name: &str) -> Option<Connective>
     ensures { option_map (λ c. truth_connective (connective_view c)) result ≡ found_under name.now comparing_rows }
 {
@@ -68,6 +72,7 @@ fn comparing_named(name: &str) -> Option<Connective>
     }
 }
 
+/// The equality of any two values that a hook's name stands for, or its opposite.
 fn equality_named(name: &str) -> Option<Hook>
     ensures { option_map hook_view result ≡ found_under name.now equality_rows }
 {
@@ -80,6 +85,7 @@ fn equality_named(name: &str) -> Option<Hook>
     }
 }
 
+/// The function of truth values that a hook's name stands for, if it does.
 fn of_truth_named(name: &str) -> Option<Function>
     ensures { option_map function_view result ≡ found_under name.now truth_rows }
 {

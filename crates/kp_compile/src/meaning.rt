@@ -52,6 +52,7 @@ fn is_one_truth(signature: &Signature, sorts: &[Sort]) -> bool
     }
 }
 
+/// Whether these are two sorts.
 fn are_two_of_any(sorts: &[Sort]) -> bool
     ensures { result ≡ are_two (λ s. true) (sorts_view sorts.now) }
 {
@@ -104,6 +105,7 @@ fn fitting_function(signature: &Signature, declaration: &SymbolSentence) -> Opti
     }
 }
 
+/// What the declared symbol means.
 fn symbol_meaning(signature: &Signature, declaration: &SymbolSentence) -> Meaning
     ensures { meaning_view result ≡ meaning_declared (signature_view signature.now) (symbol_sentence_view declaration.now) }
 {

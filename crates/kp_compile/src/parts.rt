@@ -57,6 +57,7 @@ pub fn add_subpatterns<'a>(
     }
 }
 
+/// Adds the parts of each pattern, itself first.
 #[cycle(parts)]
 fn add_all_subpatterns<'a>(
     patterns: &'a [Pattern],

@@ -48,6 +48,7 @@ impl Made {
         Ok(made)
     }
 
+    /// No sorts and no rows.
     fn empty(alloc: Global) -> Made
         ensures { IsMade [] result }
     {
@@ -57,6 +58,7 @@ impl Made {
         }
     }
 
+    /// Takes in each subsort of the signature.
     fn add_pairs(&mut self, alloc: Global, signature: &Signature) -> Result<(), AllocError>
         ensures { IsMade [] self.old → OnOk result (IsMade (map pair_step (signature_view signature.now).subsorts) self.new) }
     {
@@ -66,6 +68,7 @@ impl Made {
         Ok(())
     }
 
+    /// Takes in one subsort: a value of the lower sort is one of the upper.
     fn add_pair(&mut self, alloc: Global, pair: &Subsort) -> Result<(), AllocError>
         ensures { (steps : List Step) → IsMade steps self.old → OnOk result (IsMade (steps ++ pair_step (subsort_view pair.now) ∷ []) self.new) }
     {
@@ -76,6 +79,7 @@ impl Made {
         Ok(self.rows.push(Row { needs, gives })?)
     }
 
+    /// Takes in each symbol of the signature.
     fn add_symbols(&mut self, alloc: Global, signature: &Signature) -> Result<(), AllocError>
         ensures { (steps : List Step) → IsMade steps self.old → OnOk result (IsMade (steps ++ flat_map (symbol_steps (signature_view signature.now)) (signature_view signature.now).symbols) self.new) }
     {
@@ -85,6 +89,7 @@ impl Made {
         Ok(())
     }
 
+    /// Takes in a symbol, where it is a constructor.
     fn add_symbol(
         &mut self,
         alloc: Global,
@@ -99,6 +104,7 @@ impl Made {
         }
     }
 
+    /// Takes in a constructor: values of its arguments' sorts make one of its own.
     fn add_constructor(
         &mut self,
         alloc: Global,

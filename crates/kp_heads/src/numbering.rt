@@ -31,6 +31,7 @@ impl Numbering {
         }
     }
 
+    /// Whether the number is this sort's.
     fn is_number(&self, number: usize, sort: &Sort) -> bool
         ensures { IsTrue result ↔ IsNumber (sorts_in self.now) number (sort_view sort.now) }
     {
@@ -40,6 +41,7 @@ impl Numbering {
         false
     }
 
+    /// The sort's number among these.
     fn find_among(&self, numbers: &[usize], sort: &Sort) -> Option<usize>
         ensures found { (i : ℕ) → result ≡ Some i → IsNumber (sorts_in self.now) i (sort_view sort.now) }
         ensures none { result ≡ None → (i : ℕ) → Contains numbers.now i → ¬ IsNumber (sorts_in self.now) i (sort_view sort.now) }
@@ -75,6 +77,7 @@ impl Numbering {
         }
     }
 
+    /// Gives a new sort its number.
     fn add_sort(&mut self, alloc: Global, sort: &Sort) -> Result<usize, AllocError>
         ensures { IsNumbering self.old → ¬ Contains (sorts_in self.old) (sort_view sort.now) → IfOk result (HasNumber (sorts_in self.old) self.new (sort_view sort.now)) }
     {
@@ -95,6 +98,7 @@ impl Numbering {
         }
     }
 
+    /// Begins a group for the sorts of one name.
     fn add_group(&mut self, alloc: Global, name: &Name) -> Result<usize, AllocError>
         ensures { IsNumbering self.old → None ≡ get_by_text self.old.names (string_bytes name.now) → IfOk result (HasGroup self.old self.new (string_bytes name.now)) }
     {
@@ -105,6 +109,7 @@ impl Numbering {
     }
 }
 
+/// The sort's own name.
 fn outer_name(sort: &Sort) -> &Name
     ensures { string_bytes result.now ≡ name_of (sort_view sort.now) }
 {

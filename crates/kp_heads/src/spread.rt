@@ -11,12 +11,14 @@ use std::alloc::AllocError;
 /// Numbers, each once, in the order in which they were found.
 pub type Numbers = IndexSet<usize>;
 
+/// Whether the number was found.
 fn has(found: &Numbers, number: usize) -> bool
     ensures { IsTrue result ↔ Contains found.now.keys number }
 {
     found.contains(&number)
 }
 
+/// Whether all of the numbers were found.
 fn has_all(found: &Numbers, numbers: &[usize]) -> bool
     ensures { IsTrue result ↔ ((n : ℕ) → Contains numbers.now n → Contains found.now.keys n) }
 {
@@ -39,6 +41,7 @@ fn try_row(row: &Row, found: &mut Numbers) -> Result<(), AllocError>
     Ok(())
 }
 
+/// Finds what the row at this place gives, where all that it needs was found.
 fn try_place(rows: &[Row], place: usize, found: &mut Numbers) -> Result<(), AllocError>
     ensures { OnOk result (Woken rows.now (place ∷ []) found.old.keys found.new.keys) }
 {
@@ -48,6 +51,7 @@ fn try_place(rows: &[Row], place: usize, found: &mut Numbers) -> Result<(), Allo
     Ok(())
 }
 
+/// Finds what the rows at these places give.
 fn try_places(rows: &[Row], places: &[usize], found: &mut Numbers) -> Result<(), AllocError>
     ensures { OnOk result (Woken rows.now places.now found.old.keys found.new.keys) }
 {

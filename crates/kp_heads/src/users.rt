@@ -6,6 +6,7 @@ use crate::numbering::add_edge;
 use crate::row::Row;
 use std::alloc::{AllocError, Global};
 
+/// As many sorts that no row needs.
 fn no_users(alloc: Global, count: usize) -> Result<Vec<Vec<usize>>, AllocError>
     ensures { IfOk result (λ users. length users.items ≡ count) }
 {
@@ -16,6 +17,7 @@ fn no_users(alloc: Global, count: usize) -> Result<Vec<Vec<usize>>, AllocError>
     Ok(users)
 }
 
+/// Notes that a row needs a sort.
 fn add_use(users: &mut Vec<Vec<usize>>, number: usize, place: usize) -> Result<(), AllocError>
     ensures { OnOk result (HasUses users.old.items users.new.items (number ∷ []) place) }
 {
@@ -25,6 +27,7 @@ fn add_use(users: &mut Vec<Vec<usize>>, number: usize, place: usize) -> Result<(
     Ok(())
 }
 
+/// Notes that a row needs these sorts.
 fn add_uses(users: &mut Vec<Vec<usize>>, numbers: &[usize], place: usize) -> Result<(), AllocError>
     ensures { OnOk result (HasUses users.old.items users.new.items numbers.now place) }
 {

@@ -26,7 +26,7 @@ impl<'a, R: Files> Disk<'a, R> {
         Disk { files, faults: 0 }
     }
 
-    // Counts one more fault.
+    /// Counts one more fault.
     fn count_fault(&mut self)
         ensures { CountsFault self.old.faults self.new.faults ⊤ }
     {

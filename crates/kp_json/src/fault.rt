@@ -48,7 +48,7 @@ impl<T: Drop> From<AllocFailed<T>> for JsonError {
     }
 }
 
-// J1.
+/// J1.
 pub fn no_tag(alloc: Global, name: &str) -> JsonError
     ensures { (fault_of result ≡ None) ⊎ (fault_of result ≡ Some (unknown_tag name.now)) }
 {
@@ -58,7 +58,7 @@ pub fn no_tag(alloc: Global, name: &str) -> JsonError
     }
 }
 
-// J2.
+/// J2.
 pub fn missing(alloc: Global, name: &str) -> JsonError
     ensures { (fault_of result ≡ None) ⊎ (fault_of result ≡ Some (missing_member name.now)) }
 {
@@ -68,7 +68,7 @@ pub fn missing(alloc: Global, name: &str) -> JsonError
     }
 }
 
-// J3.
+/// J3.
 pub fn other_kind(alloc: Global, name: &str) -> JsonError
     ensures { (fault_of result ≡ None) ⊎ (fault_of result ≡ Some (wrong_kind name.now)) }
 {
@@ -78,7 +78,7 @@ pub fn other_kind(alloc: Global, name: &str) -> JsonError
     }
 }
 
-// J4.
+/// J4.
 pub fn other_format(alloc: Global, name: &str) -> JsonError
     ensures { (fault_of result ≡ None) ⊎ (fault_of result ≡ Some (wrong_format name.now)) }
 {

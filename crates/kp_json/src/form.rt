@@ -12,6 +12,7 @@ use kp_kore::Sort;
 use serde_json::{Map, Value};
 use std::alloc::{AllocError, Global};
 
+/// The object of a variable.
 pub fn variable(alloc: Global, name: &str, sort: &Sort) -> Result<Object, AllocError>
     ensures { IfOk result (λ o. object (members_view o.entries) ≡ tagged (codes "EVar")
         ((codes "name", string name.now) ∷ sort_member (sort_view sort.now) ∷ [])) }
@@ -21,6 +22,7 @@ pub fn variable(alloc: Global, name: &str, sort: &Sort) -> Result<Object, AllocE
     with_text(alloc, members, "tag", "EVar")
 }
 
+/// The object of a symbol applied to these objects.
 pub fn application(
     alloc: Global,
     symbol: &str,
@@ -37,6 +39,7 @@ pub fn application(
     with_text(alloc, members, "tag", "App")
 }
 
+/// The object of a literal.
 pub fn literal(alloc: Global, sort: &Sort, text: &str) -> Result<Object, AllocError>
     ensures { IfOk result (λ o. object (members_view o.entries) ≡ tagged (codes "DV")
         (sort_member (sort_view sort.now) ∷ (codes "value", string text.now) ∷ [])) }
@@ -45,12 +48,14 @@ pub fn literal(alloc: Global, sort: &Sort, text: &str) -> Result<Object, AllocEr
     sorted(alloc, "DV", sort, members)
 }
 
+/// The object of a pattern that has a sort alone.
 pub fn alone(alloc: Global, tag: &str, sort: &Sort) -> Result<Object, AllocError>
     ensures { IfOk result (λ o. object (members_view o.entries) ≡ tagged tag.now (sort_member (sort_view sort.now) ∷ [])) }
 {
     sorted(alloc, tag, sort, Map::new(alloc))
 }
 
+/// The object of a pattern over one other.
 pub fn one_below(alloc: Global, tag: &str, sort: &Sort, below: Object) -> Result<Object, AllocError>
     ensures { IfOk result (λ o. object (members_view o.entries) ≡ tagged tag.now
         (sort_member (sort_view sort.now) ∷ (codes "arg", object (members_view below.entries)) ∷ [])) }
@@ -59,6 +64,7 @@ pub fn one_below(alloc: Global, tag: &str, sort: &Sort, below: Object) -> Result
     sorted(alloc, tag, sort, members)
 }
 
+/// The object of a pattern over a list of others.
 pub fn list_below(
     alloc: Global,
     tag: &str,
@@ -72,6 +78,7 @@ pub fn list_below(
     sorted(alloc, tag, sort, members)
 }
 
+/// The object of a pattern over two others.
 pub fn two_below(
     alloc: Global,
     tag: &str,
@@ -87,6 +94,7 @@ pub fn two_below(
     sorted(alloc, tag, sort, members)
 }
 
+/// The object of `\rewrites`.
 pub fn rewriting(
     alloc: Global,
     sort: &Sort,
@@ -101,6 +109,7 @@ pub fn rewriting(
     sorted(alloc, "Rewrites", sort, members)
 }
 
+/// The object of a quantifier.
 pub fn bound(
     alloc: Global,
     tag: &str,
@@ -118,6 +127,7 @@ pub fn bound(
     sorted(alloc, tag, sort, members)
 }
 
+/// The object of a pattern of two sorts over one other.
 pub fn sorted_one(
     alloc: Global,
     tag: &str,
@@ -132,6 +142,7 @@ pub fn sorted_one(
     sorted_twice(alloc, tag, argument_sort, sort, members)
 }
 
+/// The object of a pattern of two sorts over two others.
 pub fn sorted_two(
     alloc: Global,
     tag: &str,
@@ -148,7 +159,7 @@ pub fn sorted_two(
     sorted_twice(alloc, tag, argument_sort, sort, members)
 }
 
-// The object with its sort and its tag.
+/// The object with its sort and its tag.
 fn sorted(alloc: Global, tag: &str, sort: &Sort, members: Object) -> Result<Object, AllocError>
     ensures { IfOk result (λ o. members_view o.entries ≡ with_member (codes "tag") (string tag.now)
         (with_member (codes "sort") (sort_tree (sort_view sort.now)) (members_view members.entries))) }
@@ -157,7 +168,7 @@ fn sorted(alloc: Global, tag: &str, sort: &Sort, members: Object) -> Result<Obje
     with_text(alloc, members, "tag", tag)
 }
 
-// The object with its argument's sort, its own sort and its tag.
+/// The object with its argument's sort, its own sort and its tag.
 fn sorted_twice(
     alloc: Global,
     tag: &str,

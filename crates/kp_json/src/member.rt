@@ -13,7 +13,7 @@ use std::alloc::Global;
 /// The members of a JSON object.
 pub type Object = Map<String, Value>;
 
-// The member, if there is one.
+/// The member, if there is one.
 pub fn find<'a>(object: &'a Object, key: &str) -> Option<&'a Value>
     ensures { option_map (λ v. view v.now) result
         ≡ get_member key.now (members_view object.now.entries) }
@@ -21,7 +21,7 @@ pub fn find<'a>(object: &'a Object, key: &str) -> Option<&'a Value>
     object.get(key)
 }
 
-// The member that must be there.
+/// The member that must be there.
 pub fn member<'a>(alloc: Global, object: &'a Object, key: &str) -> Result<&'a Value, JsonError>
     ensures found { IfOk result (λ v. member_at (members_view object.now.entries) key.now ≡ read (view v.now)) }
     ensures fault { IfErr result (λ e. Tells e (member_at (members_view object.now.entries) key.now)) }
@@ -32,7 +32,7 @@ pub fn member<'a>(alloc: Global, object: &'a Object, key: &str) -> Result<&'a Va
     }
 }
 
-// The text that the member must be.
+/// The text that the member must be.
 pub fn text<'a>(alloc: Global, key: &str, value: &'a Value) -> Result<&'a str, JsonError>
     ensures found { IfOk result (λ t. text_in key.now (view value.now) ≡ read t.now) }
     ensures fault { IfErr result (λ e. Tells e (text_in key.now (view value.now))) }
@@ -43,7 +43,7 @@ pub fn text<'a>(alloc: Global, key: &str, value: &'a Value) -> Result<&'a str, J
     }
 }
 
-// The name that the member must be.
+/// The name that the member must be.
 pub fn name<'a>(alloc: Global, key: &str, value: &'a Value) -> Result<&'a str, JsonError>
     ensures found { IfOk result (λ n. name_in key.now (view value.now) ≡ read n.now) }
     ensures fault { IfErr result (λ e. Tells e (name_in key.now (view value.now))) }
@@ -56,7 +56,7 @@ pub fn name<'a>(alloc: Global, key: &str, value: &'a Value) -> Result<&'a str, J
     }
 }
 
-// The object that the member must be.
+/// The object that the member must be.
 pub fn tree<'a>(alloc: Global, key: &str, value: &'a Value) -> Result<&'a Object, JsonError>
     ensures found { IfOk result (λ o. tree_in key.now (view value.now) ≡ read (members_view o.now.entries)) }
     ensures fault { IfErr result (λ e. Tells e (tree_in key.now (view value.now))) }
@@ -67,7 +67,7 @@ pub fn tree<'a>(alloc: Global, key: &str, value: &'a Value) -> Result<&'a Object
     }
 }
 
-// The list of objects that the member must be.
+/// The list of objects that the member must be.
 pub fn trees<'a>(alloc: Global, key: &str, value: &'a Value) -> Result<&'a Vec<Value>, JsonError>
     ensures found { IfOk result (λ l. trees_in key.now (view value.now) ≡ read (items_view l.now.items)) }
     ensures fault { IfErr result (λ e. Tells e (trees_in key.now (view value.now))) }
@@ -84,6 +84,7 @@ pub fn trees<'a>(alloc: Global, key: &str, value: &'a Value) -> Result<&'a Vec<V
     }
 }
 
+/// Whether each of them is an object.
 fn all_objects(values: &[Value]) -> bool
     ensures { result ≡ are_objects (items_view values.now) }
 {
@@ -95,7 +96,7 @@ fn all_objects(values: &[Value]) -> bool
     true
 }
 
-// The object's tag.
+/// The object's tag.
 pub fn tag<'a>(alloc: Global, object: &'a Object) -> Result<&'a str, JsonError>
     ensures found { IfOk result (λ t. tag_of (members_view object.now.entries) ≡ read t.now) }
     ensures fault { IfErr result (λ e. Tells e (tag_of (members_view object.now.entries))) }
@@ -103,7 +104,7 @@ pub fn tag<'a>(alloc: Global, object: &'a Object) -> Result<&'a str, JsonError>
     text(alloc, "tag", member(alloc, object, "tag")?)
 }
 
-// A letter, and then letters, digits, ' and -.
+/// A letter, and then letters, digits, ' and -.
 fn is_name(text: &[u8]) -> bool
     ensures { result ≡ is_identifier text.now }
 {
@@ -113,6 +114,7 @@ fn is_name(text: &[u8]) -> bool
     }
 }
 
+/// Whether each byte may stand in a name.
 fn are_name_bytes(text: &[u8]) -> bool
     ensures { result ≡ list_all is_identifier_byte text.now }
 {
@@ -124,6 +126,7 @@ fn are_name_bytes(text: &[u8]) -> bool
     true
 }
 
+/// A letter, a digit, ' or -.
 fn is_name_byte(b: u8) -> bool
     ensures { result ≡ is_identifier_byte b }
 {

@@ -15,6 +15,7 @@ use std::alloc::Global;
 
 // What the members of each form are, but for the patterns below, which stay trees.
 
+/// The sort of a pattern that has nothing else.
 #[tactic(auto, unfolding(crate::specs::Faults::sort_alone))]
 pub fn sort_alone(alloc: Global, object: &Object) -> Result<Sort, JsonError>
     ensures found { IfOk result (λ s. spec.sort_alone (members_view object.now.entries) ≡ read (sort_view s)) }
@@ -24,6 +25,7 @@ pub fn sort_alone(alloc: Global, object: &Object) -> Result<Sort, JsonError>
     sort_of(alloc, tree(alloc, "sort", sort)?)
 }
 
+/// The variable that an object spells.
 #[tactic(auto, unfolding(crate::specs::Faults::name_and_sort))]
 pub fn variable_of(alloc: Global, object: &Object) -> Result<Pattern, JsonError>
     ensures found { IfOk result (λ p. after (spec.name_and_sort (members_view object.now.entries)) (λ r. read (variable r.0 r.1)) ≡ read (view p)) }
@@ -40,6 +42,7 @@ pub fn variable_of(alloc: Global, object: &Object) -> Result<Pattern, JsonError>
     })
 }
 
+/// The literal that an object spells.
 #[tactic(auto, unfolding(crate::specs::Faults::sort_and_value))]
 pub fn literal_of(alloc: Global, object: &Object) -> Result<Pattern, JsonError>
     ensures found { IfOk result (λ p. after (spec.sort_and_value (members_view object.now.entries)) (λ r. read (literal r.0 r.1)) ≡ read (view p)) }
@@ -56,6 +59,7 @@ pub fn literal_of(alloc: Global, object: &Object) -> Result<Pattern, JsonError>
     })
 }
 
+/// The symbol, the sorts and the arguments of an application.
 #[tactic(auto, unfolding(crate::specs::Faults::symbol_and_lists))]
 pub fn symbol_and_lists<'a>(
     alloc: Global,
@@ -74,6 +78,7 @@ pub fn symbol_and_lists<'a>(
     Ok((Name::from_str(alloc, symbol)?, sorts, arguments))
 }
 
+/// The sort, and the object of the one part.
 #[tactic(auto, unfolding(crate::specs::Faults::sort_and_one))]
 pub fn sort_and_one<'a>(alloc: Global, object: &'a Object) -> Result<(Sort, &'a Object), JsonError>
     ensures found { IfOk result (λ r. spec.sort_and_one (members_view object.now.entries) ≡ read (sort_view r.0, members_view r.1.now.entries)) }
@@ -86,6 +91,7 @@ pub fn sort_and_one<'a>(alloc: Global, object: &'a Object) -> Result<(Sort, &'a 
     Ok((sort_of(alloc, sort)?, below))
 }
 
+/// The sort, and the objects of the two parts under these keys.
 #[tactic(auto, unfolding(crate::specs::Faults::sort_and_two))]
 pub fn sort_and_two<'a>(
     alloc: Global,
@@ -105,6 +111,7 @@ pub fn sort_and_two<'a>(
     Ok((sort_of(alloc, sort)?, left, right))
 }
 
+/// Both sorts, and the object of the one part.
 #[tactic(auto, unfolding(crate::specs::Faults::sorts_and_one))]
 pub fn sorts_and_one<'a>(
     alloc: Global,
@@ -119,6 +126,7 @@ pub fn sorts_and_one<'a>(
     sorts_and_one_in(alloc, argument_sort, sort, below)
 }
 
+/// Both sorts and the one part, of the members that were found.
 fn sorts_and_one_in<'a>(
     alloc: Global,
     argument_sort: &Value,
@@ -135,6 +143,7 @@ fn sorts_and_one_in<'a>(
     Ok((argument_sort, sort_of(alloc, sort)?, below))
 }
 
+/// Both sorts, and the objects of the two parts.
 #[tactic(auto, unfolding(crate::specs::Faults::sorts_and_two))]
 pub fn sorts_and_two<'a>(
     alloc: Global,
@@ -150,6 +159,7 @@ pub fn sorts_and_two<'a>(
     sorts_and_two_in(alloc, argument_sort, sort, left, right)
 }
 
+/// Both sorts and the two parts, of the members that were found.
 fn sorts_and_two_in<'a>(
     alloc: Global,
     argument_sort: &Value,
@@ -167,6 +177,7 @@ fn sorts_and_two_in<'a>(
     sorts_and_two_of(alloc, argument_sort, sort, left, right)
 }
 
+/// Both sorts read, with the two parts.
 fn sorts_and_two_of<'a>(
     alloc: Global,
     argument_sort: &Object,
@@ -181,6 +192,7 @@ fn sorts_and_two_of<'a>(
     Ok((argument_sort, sort_of(alloc, sort)?, left, right))
 }
 
+/// The sort, the bound variable with its sort, and the object of the part.
 #[tactic(auto, unfolding(crate::specs::Faults::bound_and_one))]
 pub fn bound_and_one<'a>(
     alloc: Global,
@@ -196,6 +208,7 @@ pub fn bound_and_one<'a>(
     bound_and_one_in(alloc, sort, found, name_sort, below)
 }
 
+/// The sort, the bound variable and the part, of the members that were found.
 fn bound_and_one_in<'a>(
     alloc: Global,
     sort: &Value,
@@ -213,6 +226,7 @@ fn bound_and_one_in<'a>(
     bound_and_one_of(alloc, sort, name, name_sort, below)
 }
 
+/// The sorts read, with the name and the part.
 fn bound_and_one_of<'a>(
     alloc: Global,
     sort: &Object,

@@ -19,7 +19,7 @@ use std::alloc::Global;
 
 // In each function below, patterns may nest so deep from its own tree, or below it.
 
-// The pattern that a tree spells.
+/// The pattern that a tree spells.
 #[cycle(pattern)]
 pub fn pattern_at(alloc: Global, levels: usize, object: &Object) -> Result<Pattern, JsonError>
     ensures found { IfOk result (λ p. pattern_within levels (members_view object.now.entries) ≡ read (view p)) }
@@ -32,6 +32,7 @@ pub fn pattern_at(alloc: Global, levels: usize, object: &Object) -> Result<Patte
     pattern_tagged(alloc, levels - 1, object, tag)
 }
 
+/// The pattern of an object with this tag.
 #[cycle(pattern)]
 fn pattern_tagged(
     alloc: Global,
@@ -57,6 +58,7 @@ fn pattern_tagged(
     }
 }
 
+/// The pattern of an object with a tag of patterns over a list.
 #[cycle(pattern)]
 fn listed_tagged(
     alloc: Global,
@@ -86,6 +88,7 @@ fn listed_tagged(
     }
 }
 
+/// The pattern of an object with a tag of patterns over one other.
 #[cycle(pattern)]
 #[tactic(auto, unfolding(crate::specs::Faults::single_tagged))]
 fn single_tagged(
@@ -140,6 +143,7 @@ fn single_tagged(
     }
 }
 
+/// The pattern of an object with a tag of patterns over two others.
 #[cycle(pattern)]
 #[tactic(auto, unfolding(crate::specs::Faults::double_tagged))]
 fn double_tagged(
@@ -191,7 +195,7 @@ fn double_tagged(
     }
 }
 
-// The members of And and Or.
+/// The members of And and Or.
 #[cycle(pattern)]
 fn sort_and_members(
     alloc: Global,
@@ -214,6 +218,7 @@ fn sort_and_members(
     }
 }
 
+/// The sort, and the patterns of the list.
 #[cycle(pattern)]
 fn sort_and_list(
     alloc: Global,
@@ -231,6 +236,7 @@ fn sort_and_list(
     Ok((sort, patterns))
 }
 
+/// The sort, and the patterns of the two parts.
 #[cycle(pattern)]
 fn sort_and_pair(
     alloc: Global,
@@ -247,7 +253,7 @@ fn sort_and_pair(
     Ok((sort, patterns))
 }
 
-// The patterns that the trees spell, one by one.
+/// The patterns that the trees spell, one by one.
 #[cycle(pattern)]
 fn patterns_of(
     alloc: Global,
@@ -266,6 +272,7 @@ fn patterns_of(
     Ok(patterns)
 }
 
+/// The pattern of an object, boxed.
 #[cycle(pattern)]
 fn boxed(alloc: Global, below: usize, object: &Object) -> Result<Box<Pattern>, JsonError>
     ensures found { IfOk result (λ p. pattern_within below (members_view object.now.entries) ≡ read (view p.value)) }

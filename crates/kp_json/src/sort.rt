@@ -11,7 +11,7 @@ use kp_kore::{Name, Sort};
 use serde_json::Value;
 use std::alloc::Global;
 
-// The sort that a tree spells.
+/// The sort that a tree spells.
 #[cycle(sort)]
 #[tactic(auto, using(crate::proofs::Sorts::sort_unfolds))]
 pub fn sort_of(alloc: Global, object: &Object) -> Result<Sort, JsonError>
@@ -22,6 +22,7 @@ pub fn sort_of(alloc: Global, object: &Object) -> Result<Sort, JsonError>
     sort_tagged(alloc, object, tag)
 }
 
+/// The sort of an object with this tag.
 #[cycle(sort)]
 fn sort_tagged(alloc: Global, object: &Object, tag: &str) -> Result<Sort, JsonError>
     ensures found { IfOk result (λ s. spec.sort_tagged sort_reading (members_view object.now.entries) tag.now ≡ read (sort_view s)) }
@@ -36,6 +37,7 @@ fn sort_tagged(alloc: Global, object: &Object, tag: &str) -> Result<Sort, JsonEr
     }
 }
 
+/// The sort variable that an object spells.
 fn named_sort_variable(alloc: Global, object: &Object) -> Result<Sort, JsonError>
     ensures found { IfOk result (λ s. spec.named_sort_variable (members_view object.now.entries) ≡ read (sort_view s)) }
     ensures fault { IfErr result (λ e. Tells e (spec.named_sort_variable (members_view object.now.entries))) }
@@ -47,6 +49,7 @@ fn named_sort_variable(alloc: Global, object: &Object) -> Result<Sort, JsonError
     })
 }
 
+/// The sort with arguments that an object spells.
 #[cycle(sort)]
 fn sort_application(alloc: Global, object: &Object) -> Result<Sort, JsonError>
     ensures found { IfOk result (λ s. spec.sort_application sort_reading (members_view object.now.entries) ≡ read (sort_view s)) }
@@ -63,7 +66,7 @@ fn sort_application(alloc: Global, object: &Object) -> Result<Sort, JsonError>
     })
 }
 
-// The sorts that the trees spell, one by one.
+/// The sorts that the trees spell, one by one.
 #[cycle(sort)]
 pub fn sorts_of(alloc: Global, key: &str, values: &[Value]) -> Result<Vec<Sort>, JsonError>
     ensures found { IfOk result (λ ss. sort_items sort_reading key.now (items_view values.now) ≡ read (sorts_view ss.items)) }

@@ -10,6 +10,7 @@ use crate::member::Object;
 use serde_json::{Map, Value, put};
 use std::alloc::{AllocError, Global};
 
+/// The object with one more member, a text.
 pub fn with_text(
     alloc: Global,
     mut members: Object,
@@ -23,6 +24,7 @@ pub fn with_text(
     Ok(members)
 }
 
+/// The object with one more member, an object.
 pub fn with_tree(
     alloc: Global,
     mut members: Object,
@@ -35,6 +37,7 @@ pub fn with_tree(
     Ok(members)
 }
 
+/// The object with one more member, a list.
 pub fn with_trees(
     alloc: Global,
     mut members: Object,
@@ -47,6 +50,7 @@ pub fn with_trees(
     Ok(members)
 }
 
+/// The object that names format and version around a pattern's.
 pub fn wrapped(alloc: Global, term: Object) -> Result<Object, AllocError>
     ensures { IfOk result (λ o. object (members_view o.entries) ≡ spec.wrapped (object (members_view term.entries))) }
 {
@@ -55,6 +59,7 @@ pub fn wrapped(alloc: Global, term: Object) -> Result<Object, AllocError>
     with_text(alloc, members, "format", "KORE")
 }
 
+/// The object of a sort applied to these.
 pub fn sort_application(
     alloc: Global,
     name: &str,
@@ -68,6 +73,7 @@ pub fn sort_application(
     with_text(alloc, members, "tag", "SortApp")
 }
 
+/// The object of a sort variable.
 pub fn sort_variable(alloc: Global, name: &str) -> Result<Object, AllocError>
     ensures { IfOk result (λ o. object (members_view o.entries) ≡ tagged (codes "SortVar") ((codes "name", string name.now) ∷ [])) }
 {

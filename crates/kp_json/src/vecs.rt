@@ -5,7 +5,7 @@ ghost use Rattle.kp_kore.specs.Folds.{conjunction_of, disjunction_of};
 use kp_kore::{Pattern, Sort};
 use std::alloc::{AllocError, Global};
 
-// A list of two.
+/// A list of two.
 pub fn two(alloc: Global, first: Pattern, second: Pattern) -> Result<Vec<Pattern>, AllocError>
     ensures { IfOk result (λ ps. ps.items ≡ first ∷ second ∷ []) }
 {
@@ -15,7 +15,7 @@ pub fn two(alloc: Global, first: Pattern, second: Pattern) -> Result<Vec<Pattern
     Ok(patterns)
 }
 
-// And of any number of members.
+/// And of any number of members.
 pub fn conjunction(sort: Sort, mut patterns: Vec<Pattern>) -> Pattern
     ensures { view result ≡ conjunction_of (sort_view sort) (patterns_view patterns.items) }
 {
@@ -28,7 +28,7 @@ pub fn conjunction(sort: Sort, mut patterns: Vec<Pattern>) -> Pattern
     }
 }
 
-// Or of any number of members.
+/// Or of any number of members.
 pub fn disjunction(sort: Sort, mut patterns: Vec<Pattern>) -> Pattern
     ensures { view result ≡ disjunction_of (sort_view sort) (patterns_view patterns.items) }
 {

@@ -28,7 +28,7 @@ pub fn pattern_of(alloc: Global, tree: &Value) -> Result<Pattern, JsonError>
     read_wrapped(alloc, tree)
 }
 
-// What is read of a wrapper.
+/// What is read of a wrapper.
 fn read_wrapped(alloc: Global, tree: &Value) -> Result<Pattern, JsonError>
     ensures found { IfOk result (λ p. wrapped_reading (data_view tree.now) ≡ read (view p)) }
     ensures fault { IfErr result (λ e. Tells e (wrapped_reading (data_view tree.now))) }
@@ -38,7 +38,7 @@ fn read_wrapped(alloc: Global, tree: &Value) -> Result<Pattern, JsonError>
     pattern_at(alloc, MOST_PATTERNS, term)
 }
 
-// What is no object has no format either.
+/// What is no object has no format either.
 fn wrapper<'a>(alloc: Global, tree: &'a Value) -> Result<&'a Object, JsonError>
     ensures found { IfOk result (λ o. wrapped_object (data_view tree.now) ≡ read (members_view o.now.entries)) }
     ensures fault { IfErr result (λ e. Tells e (wrapped_object (data_view tree.now))) }
@@ -49,7 +49,7 @@ fn wrapper<'a>(alloc: Global, tree: &'a Value) -> Result<&'a Object, JsonError>
     }
 }
 
-// The term of a wrapper of the right format and version.
+/// The term of a wrapper of the right format and version.
 fn term<'a>(alloc: Global, object: &'a Object) -> Result<&'a Object, JsonError>
     ensures found { IfOk result (λ o. wrapped_term (members_view object.now.entries) ≡ read (members_view o.now.entries)) }
     ensures fault { IfErr result (λ e. Tells e (wrapped_term (members_view object.now.entries))) }
@@ -69,7 +69,7 @@ fn term<'a>(alloc: Global, object: &'a Object) -> Result<&'a Object, JsonError>
     }
 }
 
-// The whole number that the member must be.
+/// The whole number that the member must be.
 fn whole(alloc: Global, key: &str, value: &Value) -> Result<Number, JsonError>
     ensures found { IfOk result (λ n. whole_in key.now (data_view value.now) ≡ read (number_view n)) }
     ensures fault { IfErr result (λ e. Tells e (whole_in key.now (data_view value.now))) }

@@ -57,7 +57,7 @@ impl<T: Drop> From<AllocFailed<T>> for Unwritten {
     }
 }
 
-// The members of a pattern's tree.
+/// The members of a pattern's tree.
 #[cycle(pattern)]
 fn pattern_object(alloc: Global, pattern: &Pattern) -> Result<Object, Unwritten>
     ensures written { IfOk result (λ o. pattern_tree (view pattern.now) ≡ Some (object (members_view o.entries))) }
@@ -165,6 +165,7 @@ fn pattern_object(alloc: Global, pattern: &Pattern) -> Result<Object, Unwritten>
     }
 }
 
+/// The objects of the patterns, in order.
 #[cycle(pattern)]
 fn pattern_values(alloc: Global, patterns: &[Pattern]) -> Result<Vec<Value>, Unwritten>
     ensures written { IfOk result (λ vs. pattern_trees (patterns_view patterns.now) ≡ Some (items_view vs.items)) }

@@ -11,7 +11,7 @@ use kp_kore::Sort;
 use serde_json::{Value, push};
 use std::alloc::{AllocError, Global};
 
-// The members of a sort's tree.
+/// The members of a sort's tree.
 #[cycle(sort)]
 pub fn sort_object(alloc: Global, sort: &Sort) -> Result<Object, AllocError>
     ensures { IfOk result (λ o. object (members_view o.entries) ≡ sort_tree (sort_view sort.now)) }
@@ -25,6 +25,7 @@ pub fn sort_object(alloc: Global, sort: &Sort) -> Result<Object, AllocError>
     }
 }
 
+/// The objects of the sorts, in order.
 #[cycle(sort)]
 pub fn sort_values(alloc: Global, sorts: &[Sort]) -> Result<Vec<Value>, AllocError>
     ensures { IfOk result (λ vs. items_view vs.items ≡ sort_trees (sorts_view sorts.now)) }
@@ -37,7 +38,7 @@ pub fn sort_values(alloc: Global, sorts: &[Sort]) -> Result<Vec<Value>, AllocErr
     Ok(values)
 }
 
-// The object with a sort as a member.
+/// The object with a sort as a member.
 pub fn with_sort(
     alloc: Global,
     members: Object,

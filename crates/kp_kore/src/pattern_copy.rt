@@ -192,6 +192,7 @@ impl Pattern {
         Ok(copies)
     }
 
+    /// The same pattern once more, boxed.
     #[cycle(copy)]
     fn copy_box(&self, alloc: Global) -> Result<Box<Pattern>, AllocError>
         ensures { IfOk result (λ p. view p.value ≡ view self.now) }
@@ -200,7 +201,7 @@ impl Pattern {
     }
 }
 
-// A name with its sort.
+/// A name with its sort.
 fn copy_name(alloc: Global, name: &Name, sort: &Sort) -> Result<(Name, Sort), AllocError>
     ensures name { IfOk result (λ r. string_bytes r.0 ≡ string_bytes name.now) }
     ensures sort { IfOk result (λ r. sort_view r.1 ≡ sort_view sort.now) }
@@ -208,7 +209,7 @@ fn copy_name(alloc: Global, name: &Name, sort: &Sort) -> Result<(Name, Sort), Al
     Ok((name.clone()?, sort.copy(alloc)?))
 }
 
-// Two sorts.
+/// Two sorts.
 fn copy_sorts(alloc: Global, first: &Sort, second: &Sort) -> Result<(Sort, Sort), AllocError>
     ensures first { IfOk result (λ r. sort_view r.0 ≡ sort_view first.now) }
     ensures second { IfOk result (λ r. sort_view r.1 ≡ sort_view second.now) }

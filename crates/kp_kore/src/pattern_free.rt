@@ -23,6 +23,7 @@ impl Pattern {
         Ok(found)
     }
 
+    /// Adds the free variables, in order of their places.
     #[cycle(free)]
     fn add_free_vars(
         &self,
@@ -73,6 +74,7 @@ impl Pattern {
         }
     }
 
+    /// Adds the free variables of each pattern.
     #[cycle(free)]
     fn add_all_free_vars(
         patterns: &[Pattern],
@@ -89,7 +91,7 @@ impl Pattern {
     }
 }
 
-// Adds the variables that don't have the name, which a binder hides.
+/// Adds the variables that don't have the name, which a binder hides.
 fn add_others(
     found: &mut Vec<SortedVariable>,
     inner: Vec<SortedVariable>,

@@ -8,7 +8,7 @@ use crate::sentence::{
 use crate::sort::{Name, Sort};
 use std::alloc::{AllocError, Global};
 
-// The names, one by one.
+/// The names, one by one.
 fn copy_names(alloc: Global, names: &[Name]) -> Result<Vec<Name>, AllocError>
     ensures { IfOk result (λ copies. names_view copies.items ≡ names_view names.now) }
 {
@@ -98,7 +98,7 @@ impl Sentence {
     }
 }
 
-// The sentences, one by one.
+/// The sentences, one by one.
 fn copy_sentences(alloc: Global, sentences: &[Sentence]) -> Result<Vec<Sentence>, AllocError>
     ensures { IfOk result (λ copies. map sentence_view copies.items ≡ map sentence_view sentences.now) }
 {
@@ -122,7 +122,7 @@ impl Module {
     }
 }
 
-// The modules, one by one.
+/// The modules, one by one.
 fn copy_modules(alloc: Global, modules: &[Module]) -> Result<Vec<Module>, AllocError>
     ensures { IfOk result (λ copies. map module_view copies.items ≡ map module_view modules.now) }
 {

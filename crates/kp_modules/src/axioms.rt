@@ -30,6 +30,7 @@ pub fn rewrite_axioms<'a>(
     Ok(found)
 }
 
+/// Adds the rewrite axioms of a module, counted from 1.
 fn add_axioms<'a>(
     found: &mut Vec<RewriteAxiom<'a>>,
     key: &'a Name,
@@ -47,6 +48,7 @@ fn add_axioms<'a>(
     Ok(())
 }
 
+/// Adds an axiom, where it is `\rewrites`.
 fn add_axiom<'a>(
     found: &mut Vec<RewriteAxiom<'a>>,
     key: &'a Name,
@@ -65,6 +67,7 @@ fn add_axiom<'a>(
     Ok(())
 }
 
+/// Whether it is `\rewrites`.
 fn is_rewriting(pattern: &Pattern) -> bool
     ensures { result ≡ rewriting_test (view pattern.now) }
 {

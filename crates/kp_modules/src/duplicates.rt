@@ -38,6 +38,7 @@ pub fn check_symbols(alloc: Global, modules: &[&Module]) -> Result<(), LoadError
     }
 }
 
+/// The names of the sorts that the modules declare.
 fn sort_names<'a>(alloc: Global, modules: &[&'a Module]) -> Result<Vec<&'a Name>, AllocError>
     ensures { IfOk result (λ names. texts_of names.items ≡ sorts_named (sorts_in (sentences_of modules.now))) }
 {
@@ -49,6 +50,7 @@ fn sort_names<'a>(alloc: Global, modules: &[&'a Module]) -> Result<Vec<&'a Name>
     Ok(names)
 }
 
+/// Adds the names of the sorts that these sentences declare.
 fn add_sort_names<'a>(
     names: &mut Vec<&'a Name>,
     sentences: &'a [Sentence],
@@ -63,6 +65,7 @@ fn add_sort_names<'a>(
     Ok(())
 }
 
+/// The name of the sort that a sentence declares, if it does.
 fn sort_of(sentence: &Sentence) -> Option<&Name>
     ensures { sorts_named (sorts_in (sentence_view sentence.now ∷ [])) ≡ option_to_list (option_map (λ n. string_bytes n.now) result) }
 {
@@ -72,6 +75,7 @@ fn sort_of(sentence: &Sentence) -> Option<&Name>
     }
 }
 
+/// The names of the symbols that the modules declare.
 fn symbol_names<'a>(alloc: Global, modules: &[&'a Module]) -> Result<Vec<&'a Name>, AllocError>
     ensures { IfOk result (λ names. texts_of names.items ≡ symbols_named (symbols_in (sentences_of modules.now))) }
 {
@@ -83,6 +87,7 @@ fn symbol_names<'a>(alloc: Global, modules: &[&'a Module]) -> Result<Vec<&'a Nam
     Ok(names)
 }
 
+/// Adds the names of the symbols that these sentences declare.
 fn add_symbol_names<'a>(
     names: &mut Vec<&'a Name>,
     sentences: &'a [Sentence],
@@ -97,6 +102,7 @@ fn add_symbol_names<'a>(
     Ok(())
 }
 
+/// The name of the symbol that a sentence declares, if it does.
 fn symbol_of(sentence: &Sentence) -> Option<&Name>
     ensures { symbols_named (symbols_in (sentence_view sentence.now ∷ [])) ≡ option_to_list (option_map (λ n. string_bytes n.now) result) }
 {

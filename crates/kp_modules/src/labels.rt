@@ -40,6 +40,7 @@ fn note_label(
     }
 }
 
+/// Counts a label once more.
 fn add_label(alloc: Global, labels: &mut Labels, label: &str) -> Result<(), AllocError>
     ensures { (names : List Text) → Counts names labels.old → OnOk result (Counts (names ++ label.now ∷ []) labels.new) }
 {
@@ -68,6 +69,7 @@ pub fn rule_id(
     }
 }
 
+/// Whether one rule alone has the label.
 fn is_alone(labels: &Labels, label: &str) -> bool
     ensures { (names : List Text) → Counts names labels.now → result ≡ stands_once label.now names }
 {

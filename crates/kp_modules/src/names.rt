@@ -26,6 +26,7 @@ pub fn check_names(alloc: Global, modules: &[Module]) -> Result<(), LoadError>
     }
 }
 
+/// The modules' names, in order.
 fn names_in<'a>(alloc: Global, modules: &'a [Module]) -> Result<Vec<&'a Name>, AllocError>
     ensures { IfOk result (λ names. texts_of names.items ≡ module_names modules.now) }
 {
@@ -36,6 +37,7 @@ fn names_in<'a>(alloc: Global, modules: &'a [Module]) -> Result<Vec<&'a Name>, A
     Ok(names)
 }
 
+/// The name of the module at this place.
 fn name_at(modules: &[Module], place: usize) -> &Name
     requires { place < length modules.now }
     ensures { module_names (take (place + 1) modules.now) ≡ module_names (take place modules.now) ++ string_bytes result.now ∷ [] }
@@ -55,6 +57,7 @@ pub fn module_places(alloc: Global, modules: &[Module]) -> Result<NamePlaces, Al
     Ok(places)
 }
 
+/// Notes a module's place, unless its name has one.
 fn add_name(places: &mut NamePlaces, name: &Name, place: usize) -> Result<(), AllocError>
     ensures { (names : List Text) → Indexes names places.old → place ≡ length names → OnOk result (Indexes (names ++ string_bytes name.now ∷ []) places.new) }
 {

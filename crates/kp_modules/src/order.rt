@@ -39,6 +39,7 @@ pub fn reached<'a>(
     Ok(modules_at(alloc, modules, order.as_slice())?)
 }
 
+/// The modules at these places.
 fn modules_at<'a>(
     alloc: Global,
     modules: &'a [Module],
@@ -54,6 +55,7 @@ fn modules_at<'a>(
     Ok(found)
 }
 
+/// The module at this place.
 fn module_at(modules: &[Module], place: usize) -> &Module
     requires { place < length modules.now }
     ensures { slice_get modules.now place ≡ Some result.now }

@@ -36,6 +36,7 @@ pub fn rules_of(
     rules_among(alloc, signature, &index, &labels, &axioms)
 }
 
+/// The rules that the axioms make.
 fn rules_among(
     alloc: Global,
     signature: &Signature,
@@ -55,6 +56,7 @@ fn rules_among(
     Ok(rules)
 }
 
+/// The rule that an axiom makes.
 fn rule_of(
     alloc: Global,
     signature: &Signature,

@@ -83,6 +83,7 @@ fn rule_set(alloc: Global, modules: &[&Module]) -> Result<RuleSet, LoadError>
     Ok(RuleSet { signature, rules })
 }
 
+/// The modules' names.
 fn names_of(alloc: Global, modules: &[&Module]) -> Result<IndexMap<Name, ()>, AllocError>
     ensures { IfOk result (λ names. Lists (names_among (map (λ m. module_view m.now) modules.now)) names) }
 {
@@ -93,6 +94,7 @@ fn names_of(alloc: Global, modules: &[&Module]) -> Result<IndexMap<Name, ()>, Al
     Ok(names)
 }
 
+/// Adds a name.
 fn add_name(names: &mut IndexMap<Name, ()>, name: &Name) -> Result<(), AllocError>
     ensures { (before : List Text) → Lists before names.old → OnOk result (Lists (before ++ string_bytes name.now ∷ []) names.new) }
 {

@@ -39,6 +39,7 @@ pub fn check_imports(
     Ok(())
 }
 
+/// Notes the places of the modules that these sentences import.
 fn note_imports(
     marks: &mut Vec<Mark>,
     found: &mut Vec<usize>,
@@ -62,6 +63,7 @@ fn note_imports(
     Ok(())
 }
 
+/// Notes a module's place, unless it was seen before.
 fn note_place(marks: &mut Vec<Mark>, found: &mut Vec<usize>, place: usize) -> Result<(), AllocError>
     requires place { place < length marks.old.items }
     requires found { AllByRecursion (λ p. p < length marks.old.items) found.old.items }

@@ -12,7 +12,7 @@ use kp_rpc::{Object, with_member_at};
 use serde_json::Value;
 use std::alloc::{AllocError, Global};
 
-// The object with the reason of a run that a rule ends.
+/// The object with the reason of a run that a rule ends.
 fn with_rule_at(
     alloc: Global,
     object: Object,
@@ -26,7 +26,7 @@ fn with_rule_at(
     with_word_at(alloc, object, "reason", reason)
 }
 
-// The object with the cause of an aborted run.
+/// The object with the cause of an aborted run.
 fn with_cause_at(alloc: Global, object: Object, cause: &Cause) -> Result<Object, AllocError>
     ensures { IfOk result (λ o. members_view o.entries ≡ with_ending (aborted (cause_view cause.now)) (members_view object.entries)) }
 {
@@ -41,7 +41,7 @@ fn with_cause_at(alloc: Global, object: Object, cause: &Cause) -> Result<Object,
     }
 }
 
-// The object with the reason of a run.
+/// The object with the reason of a run.
 fn with_reason_at(alloc: Global, object: Object, reason: &Reason) -> Result<Object, AllocError>
     ensures { IfOk result (λ o. members_view o.entries ≡ with_ending (reason_view reason.now) (members_view object.entries)) }
 {
@@ -68,7 +68,7 @@ fn with_reason_at(alloc: Global, object: Object, reason: &Reason) -> Result<Obje
     }
 }
 
-// The object with next states.
+/// The object with next states.
 fn with_next_states_at(
     alloc: Global,
     object: Object,
@@ -87,7 +87,7 @@ fn with_next_states_at(
     }
 }
 
-// The object with the next states that stand with a reason.
+/// The object with the next states that stand with a reason.
 fn with_nexts_at(
     alloc: Global,
     object: Object,
@@ -107,7 +107,7 @@ fn with_nexts_at(
     }
 }
 
-// The object with the depth, the reason and the state of a run.
+/// The object with the depth, the reason and the state of a run.
 fn members_at(alloc: Global, executed: &Executed, state: Value) -> Result<Object, AllocError>
     ensures { IfOk result (λ o. members_view o.entries ≡ executed_members executed.now.depth (reason_view executed.now.reason) (view state)) }
 {
@@ -116,7 +116,7 @@ fn members_at(alloc: Global, executed: &Executed, state: Value) -> Result<Object
     with_member_at(alloc, object, "depth", Value::from(executed.depth))
 }
 
-// The tree of a result, from its state's.
+/// The tree of a result, from its state's.
 fn full_value(alloc: Global, executed: &Executed, state: Value) -> Result<Option<Value>, AllocError>
     ensures { IfOk result (λ o. option_map view o ≡ option_map object_data (with_nexts (reason_view executed.now.reason) (nexts_view executed.now.next_states.items)
         (executed_members executed.now.depth (reason_view executed.now.reason) (view state)))) }
@@ -125,7 +125,7 @@ fn full_value(alloc: Global, executed: &Executed, state: Value) -> Result<Option
     Ok(object_value(with_nexts_at(alloc, object, &executed.reason, &executed.next_states)?))
 }
 
-// The tree of the result of execute; none where Kore JSON has no tag for a pattern in it.
+/// The tree of the result of execute; none where Kore JSON has no tag for a pattern in it.
 pub fn executed_value(alloc: Global, executed: &Executed) -> Result<Option<Value>, AllocError>
     ensures { IfOk result (λ o. option_map view o ≡ executed_tree (executed_view executed.now)) }
 {

@@ -57,21 +57,21 @@ pub enum Failure {
     Duplicate { entry: u64, name: String },
 }
 
-// The data of a fault that has a kind alone.
+/// The data of a fault that has a kind alone.
 fn kind_value(alloc: Global, kind: &str) -> Result<Value, AllocError>
     ensures { IfOk result (λ v. view v ≡ kind_only kind.now) }
 {
     json!(in alloc; {"kind": kind})
 }
 
-// The data of a fault that has a kind and a name.
+/// The data of a fault that has a kind and a name.
 fn named_value(alloc: Global, kind: &str, name: &str) -> Result<Value, AllocError>
     ensures { IfOk result (λ v. view v ≡ kind_and_name kind.now name.now) }
 {
     json!(in alloc; {"kind": kind, "name": name})
 }
 
-// The data of a fault of an implication's sides.
+/// The data of a fault of an implication's sides.
 fn sides_value(alloc: Global, fault: &SidesFault) -> Result<Value, AllocError>
     ensures { IfOk result (λ v. view v ≡ sides_data (sides_view fault.now)) }
 {
@@ -82,7 +82,7 @@ fn sides_value(alloc: Global, fault: &SidesFault) -> Result<Value, AllocError>
     }
 }
 
-// The name of a weight.
+/// The name of a weight.
 fn name_of(weight: Weight) -> &'static str
     ensures { result.now ≡ weight_name (weight_view weight) }
 {
@@ -94,21 +94,21 @@ fn name_of(weight: Weight) -> &'static str
     }
 }
 
-// The tree of a call whose value leaves signed 128 bits.
+/// The tree of a call whose value leaves signed 128 bits.
 fn call_value(alloc: Global, first: &str, second: &str, symbol: &str) -> Result<Value, AllocError>
     ensures { IfOk result (λ v. view v ≡ limit_tree (wide_call first.now second.now symbol.now)) }
 {
     json!(in alloc; {"first": first, "name": "number", "second": second, "symbol": symbol})
 }
 
-// The tree of a weight and the number that it reached.
+/// The tree of a weight and the number that it reached.
 fn weight_value(alloc: Global, weight: Weight, number: u64) -> Result<Value, AllocError>
     ensures { IfOk result (λ v. view v ≡ limit_tree (weighed (weight_view weight) number)) }
 {
     json!(in alloc; {"name": name_of(weight), "number": number})
 }
 
-// The tree of a limit.
+/// The tree of a limit.
 fn limit_value(alloc: Global, limit: &Limit) -> Result<Value, AllocError>
     ensures { IfOk result (λ v. view v ≡ limit_tree (limit_view limit.now)) }
 {
@@ -122,7 +122,7 @@ fn limit_value(alloc: Global, limit: &Limit) -> Result<Value, AllocError>
     }
 }
 
-// The object with a limit, where there is one.
+/// The object with a limit, where there is one.
 fn with_limit_at(alloc: Global, object: Object, limit: &Option<Limit>) -> Result<Object, AllocError>
     ensures { IfOk result (λ o. members_view o.entries ≡ with_limit (option_map limit_view limit.now) (members_view object.entries)) }
 {
@@ -135,7 +135,7 @@ fn with_limit_at(alloc: Global, object: Object, limit: &Option<Limit>) -> Result
     }
 }
 
-// The data of a predicate that wasn't decided; none where Kore JSON has no tag for a pattern in it.
+/// The data of a predicate that wasn't decided; none where Kore JSON has no tag for a pattern in it.
 fn predicate_value(
     alloc: Global,
     predicate: &Pattern,
@@ -147,7 +147,7 @@ fn predicate_value(
     Ok(object_value(with_pattern_at(alloc, object, "unknown-predicate", predicate)?))
 }
 
-// The data of a limit that was passed.
+/// The data of a limit that was passed.
 fn passed_value(alloc: Global, limit: &Limit) -> Result<Value, AllocError>
     ensures { IfOk result (λ v. view v ≡ object_of ((codes "limit", limit_tree (limit_view limit.now)) ∷ [])) }
 {
@@ -155,7 +155,7 @@ fn passed_value(alloc: Global, limit: &Limit) -> Result<Value, AllocError>
     json!(in alloc; {"limit": tree})
 }
 
-// The data of what wasn't decided.
+/// The data of what wasn't decided.
 fn undecided_value(alloc: Global, undecided: &Undecided) -> Result<Option<Value>, AllocError>
     ensures { IfOk result (λ o. option_map view o ≡ undecided_data (undecided_view undecided.now)) }
 {
@@ -165,7 +165,7 @@ fn undecided_value(alloc: Global, undecided: &Undecided) -> Result<Option<Value>
     }
 }
 
-// The data of a text that is no module.
+/// The data of a text that is no module.
 fn text_value(alloc: Global, at: u64, kind: u64) -> Result<Value, AllocError>
     ensures { IfOk result (λ v. view v ≡ object_of ((codes "at", number (unsigned at))
         ∷ (codes "kind", string (codes "text")) ∷ (codes "number", number (unsigned kind)) ∷ [])) }
@@ -173,7 +173,7 @@ fn text_value(alloc: Global, at: u64, kind: u64) -> Result<Value, AllocError>
     json!(in alloc; {"at": at, "kind": "text", "number": kind})
 }
 
-// The data of a module that can't be added.
+/// The data of a module that can't be added.
 fn addition_value(alloc: Global, fault: &AdditionFault) -> Result<Value, AllocError>
     ensures { IfOk result (λ v. view v ≡ addition_data (addition_view fault.now)) }
 {
@@ -187,14 +187,14 @@ fn addition_value(alloc: Global, fault: &AdditionFault) -> Result<Value, AllocEr
     }
 }
 
-// The data of a name that is bound to another text.
+/// The data of a name that is bound to another text.
 fn duplicate_value(alloc: Global, entry: u64, name: &str) -> Result<Value, AllocError>
     ensures { IfOk result (λ v. view v ≡ object_of ((codes "entry", number (unsigned entry)) ∷ (codes "name", string name.now) ∷ [])) }
 {
     json!(in alloc; {"entry": entry, "name": name})
 }
 
-// The data of a failure; none where Kore JSON has no tag for a pattern in it.
+/// The data of a failure; none where Kore JSON has no tag for a pattern in it.
 fn data_value(alloc: Global, failure: &Failure) -> Result<Option<Value>, AllocError>
     ensures { IfOk result (λ o. option_map view o ≡ failure_data (failure_view failure.now)) }
 {
@@ -210,7 +210,7 @@ fn data_value(alloc: Global, failure: &Failure) -> Result<Option<Value>, AllocEr
     }
 }
 
-// The code of a failure.
+/// The code of a failure.
 fn code_of(failure: &Failure) -> u64
     ensures { result ≡ failure_code (failure_view failure.now) }
 {
@@ -222,7 +222,7 @@ fn code_of(failure: &Failure) -> u64
     }
 }
 
-// The message of a failure.
+/// The message of a failure.
 fn message_of(failure: &Failure) -> &'static str
     ensures { result.now ≡ failure_message (failure_view failure.now) }
 {
@@ -234,14 +234,14 @@ fn message_of(failure: &Failure) -> &'static str
     }
 }
 
-// The tree of a failure's error, from its data.
+/// The tree of a failure's error, from its data.
 fn error_value(alloc: Global, failure: &Failure, details: Value) -> Result<Value, AllocError>
     ensures { IfOk result (λ v. view v ≡ failure_error (failure_view failure.now) (view details)) }
 {
     json!(in alloc; {"code": code_of(failure), "data": details, "message": message_of(failure)})
 }
 
-// The tree of the reply with an error.
+/// The tree of the reply with an error.
 fn failed_value(alloc: Global, id: &Id, error: Value) -> Result<Value, AllocError>
     ensures { IfOk result (λ v. view v ≡ failed_reply (id_view id.now) (view error)) }
 {
@@ -249,7 +249,7 @@ fn failed_value(alloc: Global, id: &Id, error: Value) -> Result<Value, AllocErro
     json!(in alloc; {"error": error, "id": id_member, "jsonrpc": "2.0"})
 }
 
-// The bytes of the reply with an error.
+/// The bytes of the reply with an error.
 fn error_line(alloc: Global, id: &Id, error: Value) -> Result<Vec<u8>, AllocError>
     ensures { IfOk result (λ b. has_float (view error) ≡ false → b.items ≡ reply_bytes (failed_reply (id_view id.now) (view error))) }
 {
@@ -257,7 +257,7 @@ fn error_line(alloc: Global, id: &Id, error: Value) -> Result<Vec<u8>, AllocErro
     line_of(alloc, &tree)
 }
 
-// The bytes of the reply with a failure, from its data.
+/// The bytes of the reply with a failure, from its data.
 fn detailed_line(
     alloc: Global,
     id: &Id,

@@ -10,14 +10,14 @@ use kp_rpc::{Object, with_member_at};
 use serde_json::{Map, Value};
 use std::alloc::{AllocError, Global};
 
-// An object without members.
+/// An object without members.
 pub fn empty_object(alloc: Global) -> Object
     ensures { members_view result.entries ≡ no_members }
 {
     Map::new(alloc)
 }
 
-// The tree of an object, where there is one.
+/// The tree of an object, where there is one.
 pub fn object_value(object: Option<Object>) -> Option<Value>
     ensures { option_map view result ≡ option_map object_data (option_map (λ m. members_view m.entries) object) }
 {
@@ -27,7 +27,7 @@ pub fn object_value(object: Option<Object>) -> Option<Value>
     }
 }
 
-// The object with a text.
+/// The object with a text.
 pub fn with_word_at(
     alloc: Global,
     object: Object,
@@ -40,7 +40,7 @@ pub fn with_word_at(
     with_member_at(alloc, object, key, value)
 }
 
-// The object with a pattern; none where Kore JSON has no tag for a pattern in it.
+/// The object with a pattern; none where Kore JSON has no tag for a pattern in it.
 pub fn with_pattern_at(
     alloc: Global,
     object: Object,
@@ -55,7 +55,7 @@ pub fn with_pattern_at(
     }
 }
 
-// The object with a pattern, where there is one.
+/// The object with a pattern, where there is one.
 pub fn with_optional_at(
     alloc: Global,
     object: Object,

@@ -17,12 +17,14 @@ pub fn is_rule_id(text: &str) -> bool
     0 < text.len() && are_visible(text.as_bytes())
 }
 
+/// Whether each byte is a character from 33 to 126.
 fn are_visible(text: &[u8]) -> bool
     ensures { result ≡ list_all visible_test text.now }
 {
     text.iter().all(|byte| is_visible(*byte))
 }
 
+/// Whether a byte is a character from 33 to 126.
 fn is_visible(byte: u8) -> bool
     ensures { result ≡ visible_test byte }
 {
@@ -37,6 +39,7 @@ pub fn is_module_id(text: &str) -> bool
     is_mark_and_digits(text.as_bytes())
 }
 
+/// Whether it is m and 64 lower-case hexadecimal digits.
 fn is_mark_and_digits(text: &[u8]) -> bool
     ensures { result ≡ module_id_test text.now }
 {
@@ -46,19 +49,21 @@ fn is_mark_and_digits(text: &[u8]) -> bool
     }
 }
 
+/// Whether each byte is a lower-case hexadecimal digit.
 fn are_hexadecimal(text: &[u8]) -> bool
     ensures { result ≡ list_all is_lower_hexadecimal text.now }
 {
     text.iter().all(|byte| is_hexadecimal(*byte))
 }
 
+/// Whether a byte is a lower-case hexadecimal digit.
 fn is_hexadecimal(byte: u8) -> bool
     ensures { result ≡ is_lower_hexadecimal byte }
 {
     byte.is_ascii_digit() || (97 <= byte && byte <= 102)
 }
 
-// The module's id that a text is.
+/// The module's id that a text is.
 fn module_named(alloc: Global, text: &str) -> Result<Option<String>, AllocError>
     ensures { IfOk result (λ o. option_map string_bytes o ≡ if_module_id text.now) }
 {
@@ -68,7 +73,7 @@ fn module_named(alloc: Global, text: &str) -> Result<Option<String>, AllocError>
     Ok(None)
 }
 
-// The added module's id of a result.
+/// The added module's id of a result.
 pub fn module_at(alloc: Global, value: &Value) -> Result<Option<String>, AllocError>
     ensures { IfOk result (λ o. option_map string_bytes o ≡ option_and_then if_module_id (text_in (get (codes "module") (view value.now)))) }
 {
@@ -78,7 +83,7 @@ pub fn module_at(alloc: Global, value: &Value) -> Result<Option<String>, AllocEr
     }
 }
 
-// The rule's id that a text is.
+/// The rule's id that a text is.
 fn named(alloc: Global, text: &str) -> Result<Option<String>, AllocError>
     ensures { IfOk result (λ o. option_map string_bytes o ≡ if_rule_id text.now) }
 {
@@ -88,7 +93,7 @@ fn named(alloc: Global, text: &str) -> Result<Option<String>, AllocError>
     Ok(None)
 }
 
-// The rule's id under a key.
+/// The rule's id under a key.
 pub fn rule_at(alloc: Global, value: &Value, key: &str) -> Result<Option<String>, AllocError>
     ensures { IfOk result (λ o. option_map string_bytes o ≡ read_rule (get key.now (view value.now))) }
 {
@@ -98,7 +103,7 @@ pub fn rule_at(alloc: Global, value: &Value, key: &str) -> Result<Option<String>
     }
 }
 
-// The rule's id that a tree is.
+/// The rule's id that a tree is.
 fn rule_of(alloc: Global, tree: &Value) -> Result<Option<String>, AllocError>
     ensures { IfOk result (λ o. option_map string_bytes o ≡ option_and_then if_rule_id (as_str (view tree.now))) }
 {
@@ -108,7 +113,7 @@ fn rule_of(alloc: Global, tree: &Value) -> Result<Option<String>, AllocError>
     }
 }
 
-// The rule's id under a key, where there is such a member.
+/// The rule's id under a key, where there is such a member.
 pub fn optional_rule_at(
     alloc: Global,
     value: &Value,

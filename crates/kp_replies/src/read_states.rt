@@ -10,7 +10,7 @@ use kp_rpc::{predicate_at, wrapped_at};
 use serde_json::Value;
 use std::alloc::{AllocError, Global};
 
-// The state that a tree tells.
+/// The state that a tree tells.
 fn state_of(alloc: Global, value: &Value) -> Result<Option<State>, AllocError>
     ensures { IfOk result (λ o. option_map state_view o ≡ read_state (view value.now)) }
 {
@@ -23,7 +23,7 @@ fn state_of(alloc: Global, value: &Value) -> Result<Option<State>, AllocError>
     Ok(Some(State { term, predicate }))
 }
 
-// The state under the key of one.
+/// The state under the key of one.
 pub fn state_at(alloc: Global, value: &Value) -> Result<Option<State>, AllocError>
     ensures { IfOk result (λ o. option_map state_view o ≡ option_and_then read_state (get (codes "state") (view value.now))) }
 {
@@ -33,7 +33,7 @@ pub fn state_at(alloc: Global, value: &Value) -> Result<Option<State>, AllocErro
     }
 }
 
-// The next state that a tree tells.
+/// The next state that a tree tells.
 fn next_of(alloc: Global, value: &Value) -> Result<Option<NextState>, AllocError>
     ensures { IfOk result (λ o. option_map next_view o ≡ read_next (view value.now)) }
 {
@@ -53,7 +53,7 @@ fn next_of(alloc: Global, value: &Value) -> Result<Option<NextState>, AllocError
     }))
 }
 
-// The next states that trees tell.
+/// The next states that trees tell.
 fn nexts_of(alloc: Global, values: &[Value]) -> Result<Option<Vec<NextState>>, AllocError>
     ensures { IfOk result (λ o. option_map (λ ns. nexts_view ns.items) o ≡ read_nexts (items_view values.now)) }
 {
@@ -70,7 +70,7 @@ fn nexts_of(alloc: Global, values: &[Value]) -> Result<Option<Vec<NextState>>, A
     Ok(Some(nexts))
 }
 
-// The next states of a result.
+/// The next states of a result.
 pub fn nexts_at(alloc: Global, value: &Value) -> Result<Option<Vec<NextState>>, AllocError>
     ensures { IfOk result (λ o. option_map (λ ns. nexts_view ns.items) o ≡ read_next_states (view value.now)) }
 {

@@ -10,7 +10,7 @@ use kp_rpc::{Object, with_text_at};
 use serde_json::Value;
 use std::alloc::{AllocError, Global};
 
-// The object with the members of a state.
+/// The object with the members of a state.
 fn with_state_at(alloc: Global, object: Object, state: &State) -> Result<Option<Object>, AllocError>
     ensures { IfOk result (λ o. option_map (λ m. members_view m.entries) o ≡ with_state (state_view state.now) (members_view object.entries)) }
 {
@@ -20,14 +20,14 @@ fn with_state_at(alloc: Global, object: Object, state: &State) -> Result<Option<
     }
 }
 
-// The tree of a state; none where Kore JSON has no tag for a pattern in it.
+/// The tree of a state; none where Kore JSON has no tag for a pattern in it.
 pub fn state_value(alloc: Global, state: &State) -> Result<Option<Value>, AllocError>
     ensures { IfOk result (λ o. option_map view o ≡ state_tree (state_view state.now)) }
 {
     Ok(object_value(with_state_at(alloc, empty_object(alloc), state)?))
 }
 
-// The object with the state and the predicate of a next state.
+/// The object with the state and the predicate of a next state.
 fn with_next_at(
     alloc: Global,
     object: Object,
@@ -42,7 +42,7 @@ fn with_next_at(
     }
 }
 
-// The tree of a next state; none where Kore JSON has no tag for a pattern in it.
+/// The tree of a next state; none where Kore JSON has no tag for a pattern in it.
 fn next_value(alloc: Global, next: &NextState) -> Result<Option<Value>, AllocError>
     ensures { IfOk result (λ o. option_map view o ≡ next_tree (next_view next.now)) }
 {
@@ -50,7 +50,7 @@ fn next_value(alloc: Global, next: &NextState) -> Result<Option<Value>, AllocErr
     Ok(object_value(with_next_at(alloc, object, next)?))
 }
 
-// The trees of next states; none where Kore JSON has no tag for a pattern in one.
+/// The trees of next states; none where Kore JSON has no tag for a pattern in one.
 pub fn nexts_value(alloc: Global, nexts: &[NextState]) -> Result<Option<Vec<Value>>, AllocError>
     ensures { IfOk result (λ o. option_map (λ vs. items_view vs.items) o ≡ next_trees (nexts_view nexts.now)) }
 {

@@ -43,7 +43,7 @@ pub enum ServerReply {
 
 // ---- execute
 
-// The reason of a run that is cut before a rule.
+/// The reason of a run that is cut before a rule.
 fn cut_at(alloc: Global, value: &Value) -> Result<Option<Reason>, AllocError>
     ensures { IfOk result (λ o. option_map reason_view o ≡ option_map cut_point (read_rule (get (codes "rule") (view value.now)))) }
 {
@@ -53,7 +53,7 @@ fn cut_at(alloc: Global, value: &Value) -> Result<Option<Reason>, AllocError>
     }
 }
 
-// The reason of a run that ends behind a rule.
+/// The reason of a run that ends behind a rule.
 fn terminal_at(alloc: Global, value: &Value) -> Result<Option<Reason>, AllocError>
     ensures { IfOk result (λ o. option_map reason_view o ≡ option_map terminal (read_rule (get (codes "rule") (view value.now)))) }
 {
@@ -63,7 +63,7 @@ fn terminal_at(alloc: Global, value: &Value) -> Result<Option<Reason>, AllocErro
     }
 }
 
-// The reason of a run that a foreign rule aborts.
+/// The reason of a run that a foreign rule aborts.
 fn aborted_at(alloc: Global, value: &Value) -> Result<Option<Reason>, AllocError>
     ensures { IfOk result (λ o. option_map reason_view o ≡ option_map (λ id. aborted (foreign id)) (read_rule (get (codes "foreign-rule") (view value.now)))) }
 {
@@ -75,7 +75,7 @@ fn aborted_at(alloc: Global, value: &Value) -> Result<Option<Reason>, AllocError
     }
 }
 
-// The reason that a word names.
+/// The reason that a word names.
 fn reason_named(alloc: Global, value: &Value, word: &str) -> Result<Option<Reason>, AllocError>
     ensures { IfOk result (λ o. option_map reason_view o ≡ ending_named (view value.now) word.now) }
 {
@@ -103,7 +103,7 @@ fn reason_named(alloc: Global, value: &Value, word: &str) -> Result<Option<Reaso
     Ok(None)
 }
 
-// The reason of a run.
+/// The reason of a run.
 fn reason_at(alloc: Global, value: &Value) -> Result<Option<Reason>, AllocError>
     ensures { IfOk result (λ o. option_map reason_view o ≡ read_ending (view value.now)) }
 {
@@ -113,7 +113,7 @@ fn reason_at(alloc: Global, value: &Value) -> Result<Option<Reason>, AllocError>
     }
 }
 
-// The one next state of a cut point.
+/// The one next state of a cut point.
 fn one_next_at(alloc: Global, value: &Value) -> Result<Option<Vec<NextState>>, AllocError>
     ensures { IfOk result (λ o. option_map (λ ns. nexts_view ns.items) o ≡ option_and_then one_alone (read_next_states (view value.now))) }
 {
@@ -127,7 +127,7 @@ fn one_next_at(alloc: Global, value: &Value) -> Result<Option<Vec<NextState>>, A
     }
 }
 
-// The next states that stand with a reason.
+/// The next states that stand with a reason.
 fn nexts_of(
     alloc: Global,
     value: &Value,
@@ -146,7 +146,7 @@ fn nexts_of(
     }
 }
 
-// The result of execute.
+/// The result of execute.
 fn executed_of(alloc: Global, value: &Value) -> Result<Option<Executed>, AllocError>
     ensures { IfOk result (λ o. option_map executed_view o ≡ read_executed (view value.now)) }
 {
@@ -172,7 +172,7 @@ fn executed_of(alloc: Global, value: &Value) -> Result<Option<Executed>, AllocEr
 
 // ---- replies
 
-// The result of a method.
+/// The result of a method.
 fn result_of(
     alloc: Global,
     method: Method,
@@ -200,7 +200,7 @@ fn result_of(
     }
 }
 
-// The code of an error.
+/// The code of an error.
 fn failure_of(error: &Value) -> Option<ServerReply>
     ensures { option_map reply_view result ≡ read_code (view error.now) }
 {
@@ -210,7 +210,7 @@ fn failure_of(error: &Value) -> Option<ServerReply>
     }
 }
 
-// What the tree of a reply tells.
+/// What the tree of a reply tells.
 fn tree_reply(
     alloc: Global,
     method: Method,
@@ -233,7 +233,7 @@ fn tree_reply(
     }
 }
 
-// What the text of a reply tells.
+/// What the text of a reply tells.
 fn frame_reply(
     alloc: Global,
     method: Method,

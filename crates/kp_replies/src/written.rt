@@ -32,7 +32,7 @@ pub fn executed_text(
     }
 }
 
-// The tree of the result of simplify; none where Kore JSON has no tag for a pattern in it.
+/// The tree of the result of simplify; none where Kore JSON has no tag for a pattern in it.
 fn simplified_value(alloc: Global, state: &Pattern) -> Result<Option<Value>, AllocError>
     ensures { IfOk result (λ o. option_map view o ≡ simplified_tree (pattern_view state.now)) }
 {
@@ -57,7 +57,7 @@ pub fn simplified_text(
     }
 }
 
-// The tree of the result of add-module.
+/// The tree of the result of add-module.
 fn added_value(alloc: Global, name: &str) -> Result<Value, AllocError>
     ensures { IfOk result (λ v. view v ≡ added_tree name.now) }
 {

@@ -21,7 +21,7 @@ pub struct Line {
     pub result: Outcome,
 }
 
-// Why a run is no further.
+/// Why a run is no further.
 fn run_why(alloc: Global, reason: &Reason) -> Result<String, AllocError>
     ensures { IfOk result (λ t. string_bytes t ≡ run_why_text (reason_view reason.now)) }
 {
@@ -32,14 +32,14 @@ fn run_why(alloc: Global, reason: &Reason) -> Result<String, AllocError>
     }
 }
 
-// The word for what isn't decided.
+/// The word for what isn't decided.
 fn undecided(alloc: Global) -> Result<String, AllocError>
     ensures { IfOk result (λ t. string_bytes t ≡ codes "undecided") }
 {
     String::from_str(alloc, "undecided")
 }
 
-// Why a node is held by what its line tells.
+/// Why a node is held by what its line tells.
 fn told_why(alloc: Global, reply: ServerReply) -> Result<String, AllocError>
     ensures { (line : List ℕ) → IsReplyOf execute line (reply_view reply) → IfOk result (λ t. IsReplyWhy line (string_bytes t)) }
 {
@@ -50,7 +50,7 @@ fn told_why(alloc: Global, reply: ServerReply) -> Result<String, AllocError>
     }
 }
 
-// Why a node is held by this line.
+/// Why a node is held by this line.
 fn line_why(alloc: Global, line: &[u8]) -> Result<String, AllocError>
     ensures { IfOk result (λ t. IsReplyWhy line.now (string_bytes t)) }
 {
@@ -60,7 +60,7 @@ fn line_why(alloc: Global, line: &[u8]) -> Result<String, AllocError>
     }
 }
 
-// Why a node is held.
+/// Why a node is held.
 fn why_text(alloc: Global, why: &Why) -> Result<String, AllocError>
     ensures { IfOk result (λ t. IsWhy (why_view why.now) (string_bytes t)) }
 {
@@ -71,14 +71,14 @@ fn why_text(alloc: Global, why: &Why) -> Result<String, AllocError>
     }
 }
 
-// The line of a failed proof.
+/// The line of a failed proof.
 fn failed_line(alloc: Global, label: &Name, number: usize) -> Result<String, AllocError>
     ensures { IfOk result (λ t. IsLine (string_bytes label.now) (failed_at number) (string_bytes t)) }
 {
     format!(in alloc; "failed {label} node {number}\n")
 }
 
-// The line of a pending proof, of which this says why.
+/// The line of a pending proof, of which this says why.
 fn pending_text(
     alloc: Global,
     label: &Name,
@@ -90,7 +90,7 @@ fn pending_text(
     format!(in alloc; "pending {label} node {number} {why}\n")
 }
 
-// The line of a pending proof.
+/// The line of a pending proof.
 fn pending_line(alloc: Global, label: &Name, number: usize, why: &Why) -> Result<String, AllocError>
     ensures { IfOk result (λ t. IsLine (string_bytes label.now) (pending_at number (why_view why.now)) (string_bytes t)) }
 {
@@ -98,21 +98,21 @@ fn pending_line(alloc: Global, label: &Name, number: usize, why: &Why) -> Result
     Ok(pending_text(alloc, label, number, &why)?)
 }
 
-// A code's digits.
+/// A code's digits.
 fn code_text(alloc: Global, code: i64) -> Result<String, AllocError>
     ensures { IfOk result (λ t. string_bytes t ≡ signed_decimal code) }
 {
     code.to_string(alloc)
 }
 
-// The line of a proof that the refusal of a question ends, with the code's digits.
+/// The line of a proof that the refusal of a question ends, with the code's digits.
 fn refused_text(alloc: Global, label: &Name, code: &String) -> Result<String, AllocError>
     ensures { IfOk result (λ t. string_bytes t ≡ codes "refused " ++ string_bytes label.now ++ codes " code " ++ string_bytes code.now ++ codes "\n") }
 {
     format!(in alloc; "refused {label} code {code}\n")
 }
 
-// The line of a proof that the refusal of a question ends.
+/// The line of a proof that the refusal of a question ends.
 fn refused_line(alloc: Global, label: &Name, code: i64) -> Result<String, AllocError>
     ensures { IfOk result (λ t. IsLine (string_bytes label.now) (refused_with code) (string_bytes t)) }
 {
@@ -120,7 +120,7 @@ fn refused_line(alloc: Global, label: &Name, code: i64) -> Result<String, AllocE
     Ok(refused_text(alloc, label, &code)?)
 }
 
-// The line of a proof.
+/// The line of a proof.
 fn line_text(alloc: Global, line: &Line) -> Result<String, AllocError>
     ensures { IfOk result (λ t. IsLine (string_bytes line.now.label) (outcome_view line.now.result) (string_bytes t)) }
 {

@@ -15,7 +15,7 @@ use kp_rpc::{Id, Object, request_value, with_member_at, with_text_at};
 use serde_json::{Map, Value};
 use std::alloc::{AllocError, Global};
 
-// The params of simplify.
+/// The params of simplify.
 fn simplify_object(
     alloc: Global,
     module_name: &Option<String>,
@@ -27,7 +27,7 @@ fn simplify_object(
     with_member_at(alloc, object, "state", state)
 }
 
-// The tree of a request of simplify; none where Kore JSON has no tag for a pattern in it.
+/// The tree of a request of simplify; none where Kore JSON has no tag for a pattern in it.
 fn simplify_value(
     alloc: Global,
     id: &Id,
@@ -65,7 +65,7 @@ pub fn simplify_text(
     }
 }
 
-// The params of add-module.
+/// The params of add-module.
 fn add_module_object(alloc: Global, text: &str, name_as_id: bool) -> Result<Object, AllocError>
     ensures { IfOk result (λ o. members_view o.entries ≡ add_module_params text.now name_as_id) }
 {
@@ -81,7 +81,7 @@ fn add_module_object(alloc: Global, text: &str, name_as_id: bool) -> Result<Obje
     Ok(object)
 }
 
-// The tree of a request of add-module.
+/// The tree of a request of add-module.
 fn add_module_value(
     alloc: Global,
     id: &Id,

@@ -27,7 +27,7 @@ pub struct Call {
     pub asked: Asked,
 }
 
-// A request, or invalid params where there is none.
+/// A request, or invalid params where there is none.
 fn or_refused(request: Option<Request>) -> Asked
     ensures { asked_view result ≡ or_invalid_params (option_map request_view request) }
 {
@@ -37,7 +37,7 @@ fn or_refused(request: Option<Request>) -> Asked
     }
 }
 
-// What a method of this name is asked by its params, where these are an object.
+/// What a method of this name is asked by its params, where these are an object.
 fn asked_of(alloc: Global, method: &str, params: Option<&Value>) -> Result<Asked, AllocError>
     ensures { IfOk result (λ a. asked_view a ≡ spec_asked_of method.now (option_map (λ v. view v.now) params.entry)) }
 {
@@ -56,7 +56,7 @@ fn asked_of(alloc: Global, method: &str, params: Option<&Value>) -> Result<Asked
     Ok(Asked::Refused(Refusal::MethodNotFound))
 }
 
-// The id of a call, where it has one; none where that is unlawful.
+/// The id of a call, where it has one; none where that is unlawful.
 fn call_id(value: &Value) -> Result<Option<Option<Id>>, AllocError>
     ensures { IfOk result (λ o. option_map (option_map id_view) o ≡ read_call_id (get (codes "id") (view value.now))) }
 {
@@ -69,7 +69,7 @@ fn call_id(value: &Value) -> Result<Option<Option<Id>>, AllocError>
     }
 }
 
-// The id that the reply to a value carries which is no request.
+/// The id that the reply to a value carries which is no request.
 fn echoed_id(value: &Value) -> Result<Id, AllocError>
     ensures { IfOk result (λ id. id_view id ≡ echoed (view value.now)) }
 {
@@ -80,7 +80,7 @@ fn echoed_id(value: &Value) -> Result<Id, AllocError>
     }
 }
 
-// The call of a value that is no request.
+/// The call of a value that is no request.
 fn no_request(value: &Value) -> Result<Call, AllocError>
     ensures { IfOk result (λ c. call_view c ≡ invalid_call (view value.now)) }
 {

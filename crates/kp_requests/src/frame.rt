@@ -22,7 +22,7 @@ pub enum Parsed {
 
 const FRAME_LIMIT: usize = 4_194_304;
 
-// The JSON value that the bytes are the text of.
+/// The JSON value that the bytes are the text of.
 fn json_of(alloc: Global, bytes: &[u8]) -> Result<Option<Value>, AllocError>
     ensures found { IfOk result (λ o. IfSome o (λ v. IsJson bytes.now (view v))) }
     ensures none { IfOk result (λ o. IfNone o ((d : Data) → ¬ IsJson bytes.now d)) }
@@ -40,7 +40,7 @@ fn json_of(alloc: Global, bytes: &[u8]) -> Result<Option<Value>, AllocError>
     }
 }
 
-// What the members of a batch ask, each on its own.
+/// What the members of a batch ask, each on its own.
 fn calls_of(alloc: Global, members: &[Value]) -> Result<Vec<Call>, AllocError>
     ensures { IfOk result (λ cs. calls_view cs.items ≡ read_calls (items_view members.now)) }
 {
@@ -51,7 +51,7 @@ fn calls_of(alloc: Global, members: &[Value]) -> Result<Vec<Call>, AllocError>
     Ok(calls)
 }
 
-// What a batch asks.
+/// What a batch asks.
 fn batch_of(alloc: Global, members: &[Value]) -> Result<Parsed, AllocError>
     ensures { IfOk result (λ p. parsed_view p ≡ read_batch (items_view members.now)) }
 {
@@ -61,7 +61,7 @@ fn batch_of(alloc: Global, members: &[Value]) -> Result<Parsed, AllocError>
     Ok(Parsed::Batch(calls_of(alloc, members)?))
 }
 
-// What a JSON value asks.
+/// What a JSON value asks.
 fn parsed_of(alloc: Global, value: &Value) -> Result<Parsed, AllocError>
     ensures { IfOk result (λ p. parsed_view p ≡ read_frame (view value.now)) }
 {

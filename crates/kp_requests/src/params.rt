@@ -12,7 +12,7 @@ use kp_rpc::{ParamsError, member_text, object_at, options_of, text_at};
 use serde_json::Value;
 use std::alloc::{AllocError, Global};
 
-// What is read of a pattern's tree.
+/// What is read of a pattern's tree.
 fn reading_of(alloc: Global, tree: &Value) -> Result<Reading, AllocError>
     ensures { IfOk result (λ r. reading_view r ≡ wrapped_reading (view tree.now)) }
 {
@@ -23,7 +23,7 @@ fn reading_of(alloc: Global, tree: &Value) -> Result<Reading, AllocError>
     }
 }
 
-// An optional truth value: absent and null are false.
+/// An optional truth value: absent and null are false.
 fn flag_at(params: &Value, key: &str) -> Option<bool>
     ensures { result ≡ read_flag (get key.now (view params.now)) }
 {
@@ -34,7 +34,7 @@ fn flag_at(params: &Value, key: &str) -> Option<bool>
     }
 }
 
-// A copy of a text, where there is one.
+/// A copy of a text, where there is one.
 fn copied(alloc: Global, text: Option<&str>) -> Result<Option<String>, AllocError>
     ensures { IfOk result (λ o. option_map string_bytes o ≡ option_map (λ t. t.now) text.entry) }
 {
@@ -64,7 +64,7 @@ pub fn execute_of(alloc: Global, params: Option<&Value>) -> Result<Option<Reques
     }
 }
 
-// The implication of two trees, in a module of this name.
+/// The implication of two trees, in a module of this name.
 fn implication_of(
     alloc: Global,
     antecedent: &Value,
@@ -102,7 +102,7 @@ pub fn implies_of(alloc: Global, params: Option<&Value>) -> Result<Option<Reques
     Ok(Some(implication_of(alloc, antecedent, consequent, name)?))
 }
 
-// The state of a tree to simplify, in a module of this name.
+/// The state of a tree to simplify, in a module of this name.
 fn simplified_of(alloc: Global, tree: &Value, name: Option<&str>) -> Result<Request, AllocError>
     ensures { IfOk result (λ r. request_view r ≡ simplify (wrapped_reading (view tree.now)) (option_map (λ t. t.now) name.entry)) }
 {

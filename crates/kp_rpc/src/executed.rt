@@ -25,7 +25,7 @@ pub enum Reason {
     AbortedByRule { id: String },
 }
 
-// The tree of a result whose reason has no more to tell.
+/// The tree of a result whose reason has no more to tell.
 fn ended_value(alloc: Global, depth: u64, reason: &str, state: Value) -> Result<Value, AllocError>
     ensures { IfOk result (λ v. view v ≡ object_of ((codes "depth", number (unsigned depth))
         ∷ (codes "reason", string reason.now) ∷ (codes "state", view state) ∷ [])) }
@@ -33,14 +33,14 @@ fn ended_value(alloc: Global, depth: u64, reason: &str, state: Value) -> Result<
     json!(in alloc; {"depth": depth, "reason": reason, "state": state})
 }
 
-// The tree of the result of a run that the foreign rule of this id aborts.
+/// The tree of the result of a run that the foreign rule of this id aborts.
 fn aborted_value(alloc: Global, depth: u64, id: &str, state: Value) -> Result<Value, AllocError>
     ensures { IfOk result (λ v. view v ≡ result_object depth (aborted_by_rule id.now) (view state)) }
 {
     json!(in alloc; {"depth": depth, "foreign-rule": id, "reason": "aborted", "state": state})
 }
 
-// The tree of a result, from the tree of its state's term.
+/// The tree of a result, from the tree of its state's term.
 fn result_value(
     alloc: Global,
     depth: u64,
@@ -57,7 +57,7 @@ fn result_value(
     }
 }
 
-// The tree of the reply with a result.
+/// The tree of the reply with a result.
 pub fn reply_value(alloc: Global, id: &Id, outcome: Value) -> Result<Value, AllocError>
     ensures { IfOk result (λ v. view v ≡ result_reply (id_view id.now) (view outcome)) }
 {
@@ -65,7 +65,7 @@ pub fn reply_value(alloc: Global, id: &Id, outcome: Value) -> Result<Value, Allo
     json!(in alloc; {"id": id_member, "jsonrpc": "2.0", "result": outcome})
 }
 
-// The bytes of the reply with a result, from the tree of its state's term.
+/// The bytes of the reply with a result, from the tree of its state's term.
 fn written_text(
     alloc: Global,
     id: &Id,

@@ -46,21 +46,21 @@ pub enum StateFault {
     NoModule { name: String },
 }
 
-// The data of a fault that has a kind alone.
+/// The data of a fault that has a kind alone.
 fn kind_value(alloc: Global, kind: &str) -> Result<Value, AllocError>
     ensures { IfOk result (λ v. view v ≡ kind_only kind.now) }
 {
     json!(in alloc; {"kind": kind})
 }
 
-// The data of a fault that has a kind and a name.
+/// The data of a fault that has a kind and a name.
 fn named_value(alloc: Global, kind: &str, name: &str) -> Result<Value, AllocError>
     ensures { IfOk result (λ v. view v ≡ kind_and_name kind.now name.now) }
 {
     json!(in alloc; {"kind": kind, "name": name})
 }
 
-// The data of a tree's fault.
+/// The data of a tree's fault.
 fn json_value(alloc: Global, fault: &JsonFault) -> Result<Value, AllocError>
     ensures { IfOk result (λ v. view v ≡ tree_fault_data (fault_view fault.now)) }
 {
@@ -73,7 +73,7 @@ fn json_value(alloc: Global, fault: &JsonFault) -> Result<Value, AllocError>
     }
 }
 
-// The data of a pattern's fault.
+/// The data of a pattern's fault.
 fn pattern_value(alloc: Global, fault: &PatternFault) -> Result<Value, AllocError>
     ensures { IfOk result (λ v. view v ≡ verify_fault_data (pattern_fault_view fault.now)) }
 {
@@ -94,7 +94,7 @@ fn pattern_value(alloc: Global, fault: &PatternFault) -> Result<Value, AllocErro
     }
 }
 
-// The data of two sorts that differ.
+/// The data of two sorts that differ.
 fn differing_value(alloc: Global, expected: &str, found: &str) -> Result<Value, AllocError>
     ensures { IfOk result (λ v. view v ≡ object_of ((codes "expected", string expected.now)
         ∷ (codes "found", string found.now) ∷ (codes "kind", string (codes "V4")) ∷ [])) }
@@ -102,7 +102,7 @@ fn differing_value(alloc: Global, expected: &str, found: &str) -> Result<Value, 
     json!(in alloc; {"expected": expected, "found": found, "kind": "V4"})
 }
 
-// The tree of an error that has data.
+/// The tree of an error that has data.
 fn detailed_value(
     alloc: Global,
     code: u64,
@@ -115,7 +115,7 @@ fn detailed_value(
     json!(in alloc; {"code": code, "data": details, "message": message})
 }
 
-// The tree of the error that a fault is answered with.
+/// The tree of the error that a fault is answered with.
 fn fault_value(alloc: Global, fault: &StateFault) -> Result<Value, AllocError>
     ensures { IfOk result (λ v. view v ≡ error_tree (state_fault_view fault.now)) }
 {
@@ -135,7 +135,7 @@ fn fault_value(alloc: Global, fault: &StateFault) -> Result<Value, AllocError>
     }
 }
 
-// The tree of the reply to a request whose state or module is at fault.
+/// The tree of the reply to a request whose state or module is at fault.
 fn fault_reply(alloc: Global, id: &Id, fault: &StateFault) -> Result<Value, AllocError>
     ensures { IfOk result (λ v. view v ≡ error_reply (id_view id.now) (state_fault_view fault.now)) }
 {

@@ -38,7 +38,7 @@ pub fn frame_of(alloc: Global, bytes: &[u8]) -> Result<Value, FrameError>
     }
 }
 
-// Space, tab, carriage return or line feed.
+/// Space, tab, carriage return or line feed.
 fn is_white_byte(byte: u8) -> bool
     ensures { result ≡ is_white byte }
 {

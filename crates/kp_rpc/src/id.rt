@@ -31,7 +31,7 @@ pub fn id_of(value: &Value) -> Result<Option<Id>, AllocError>
     }
 }
 
-// The id that a number is, where it is whole.
+/// The id that a number is, where it is whole.
 fn number_id(number: &Number) -> Option<Id>
     ensures { option_map id_view result ≡ read_number_id (number_view number.now) }
 {
@@ -44,7 +44,7 @@ fn number_id(number: &Number) -> Option<Id>
     }
 }
 
-// The lawful id of a request object.
+/// The lawful id of a request object.
 pub fn id_at(value: &Value) -> Result<Option<Id>, AllocError>
     ensures { IfOk result (λ o. option_map id_view o
         ≡ option_and_then read_id (get (codes "id") (view value.now))) }

@@ -25,7 +25,7 @@ pub enum Implied {
     },
 }
 
-// The tree of an implication that holds.
+/// The tree of an implication that holds.
 fn valid_value(alloc: Global, predicate: Value, substitution: Value) -> Result<Value, AllocError>
     ensures { IfOk result (λ v. view v ≡ valid_object (view predicate) (view substitution)) }
 {
@@ -35,14 +35,14 @@ fn valid_value(alloc: Global, predicate: Value, substitution: Value) -> Result<V
     })
 }
 
-// The tree of an implication that doesn't hold.
+/// The tree of an implication that doesn't hold.
 fn not_valid_value(alloc: Global) -> Result<Value, AllocError>
     ensures { IfOk result (λ v. view v ≡ not_valid_object) }
 {
     json!(in alloc; {"valid": false})
 }
 
-// The tree of the result of implies; none where Kore JSON has no tag for a pattern in it.
+/// The tree of the result of implies; none where Kore JSON has no tag for a pattern in it.
 fn implied_value(alloc: Global, implied: &Implied) -> Result<Option<Value>, AllocError>
     ensures { IfOk result (λ o. option_map view o ≡ implied_tree (implied_view implied.now)) }
 {
@@ -55,7 +55,7 @@ fn implied_value(alloc: Global, implied: &Implied) -> Result<Option<Value>, Allo
     }
 }
 
-// The tree of an implication that holds under this condition.
+/// The tree of an implication that holds under this condition.
 fn condition_value(
     alloc: Global,
     predicate: &Pattern,

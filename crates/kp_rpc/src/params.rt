@@ -60,7 +60,7 @@ impl<T: Drop> From<AllocFailed<T>> for ParamsError {
     }
 }
 
-// An optional whole number from 0: absent and null are none.
+/// An optional whole number from 0: absent and null are none.
 fn number_at(params: &Value, key: &str) -> Option<Option<u64>>
     ensures { result ≡ read_number (get key.now (view params.now)) }
 {
@@ -88,7 +88,7 @@ pub fn text_at<'a>(params: &'a Value, key: &str) -> Option<Option<&'a str>>
     }
 }
 
-// The texts of a list of texts.
+/// The texts of a list of texts.
 fn texts_of(alloc: Global, members: &[Value]) -> Result<Option<Vec<String>>, AllocError>
     ensures { IfOk result (λ o. option_map (λ v. texts_view v.items) o ≡ read_items (items_view members.now)) }
 {
@@ -105,7 +105,7 @@ fn texts_of(alloc: Global, members: &[Value]) -> Result<Option<Vec<String>>, All
     Ok(Some(texts))
 }
 
-// An optional list of texts: absent and null are the empty list.
+/// An optional list of texts: absent and null are the empty list.
 fn texts_at(alloc: Global, params: &Value, key: &str) -> Result<Option<Vec<String>>, AllocError>
     ensures { IfOk result (λ o. option_map (λ v. texts_view v.items) o ≡ read_texts (get key.now (view params.now))) }
 {
@@ -175,7 +175,7 @@ pub fn state_of(request: &Value) -> Option<&Value>
     }
 }
 
-// The other members of a request's params.
+/// The other members of a request's params.
 pub fn options_at(alloc: Global, request: &Value) -> Result<Options, ParamsError>
     ensures found { IfOk result (λ o. read_all_options (view request.now) ≡ Some (options_view o)) }
     ensures only { IfErr result (λ e. e ≡ OtherKind → read_all_options (view request.now) ≡ None) }
@@ -186,7 +186,7 @@ pub fn options_at(alloc: Global, request: &Value) -> Result<Options, ParamsError
     }
 }
 
-// A side in the params of a request of implies.
+/// A side in the params of a request of implies.
 fn side_of<'a>(request: &'a Value, key: &str) -> Option<&'a Value>
     ensures { option_map (λ v. view v.now) result ≡ read_side key.now (view request.now) }
 {
@@ -210,7 +210,7 @@ pub fn consequent_of(request: &Value) -> Option<&Value>
     side_of(request, "consequent")
 }
 
-// The module that params name.
+/// The module that params name.
 fn name_at(alloc: Global, params: &Value) -> Result<Option<String>, ParamsError>
     ensures found { IfOk result (λ o. read_text (get (codes "module") (view params.now)) ≡ Some (name_view o)) }
     ensures only { IfErr result (λ e. e ≡ OtherKind → read_text (get (codes "module") (view params.now)) ≡ None) }
@@ -224,7 +224,7 @@ fn name_at(alloc: Global, params: &Value) -> Result<Option<String>, ParamsError>
     }
 }
 
-// The module that a request's params name.
+/// The module that a request's params name.
 pub fn module_at(alloc: Global, request: &Value) -> Result<Option<String>, ParamsError>
     ensures found { IfOk result (λ o. read_module (view request.now) ≡ Some (name_view o)) }
     ensures only { IfErr result (λ e. e ≡ OtherKind → read_module (view request.now) ≡ None) }

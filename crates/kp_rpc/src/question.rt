@@ -36,7 +36,7 @@ pub enum Question {
 /// The members of an object.
 pub type Object = Map<String, Value>;
 
-// The object with a number, where there is one.
+/// The object with a number, where there is one.
 fn with_number_at(
     alloc: Global,
     mut object: Object,
@@ -72,14 +72,14 @@ pub fn with_text_at(
     }
 }
 
-// The tree of a text.
+/// The tree of a text.
 fn text_value(text: &String) -> Result<Value, AllocError>
     ensures { IfOk result (λ v. view v ≡ string (string_bytes text.now)) }
 {
     Ok(Value::from(text.clone()?))
 }
 
-// The list of texts.
+/// The list of texts.
 fn texts_value(alloc: Global, texts: &[String]) -> Result<Vec<Value>, AllocError>
     ensures { IfOk result (λ vs. items_view vs.items ≡ text_items (texts_view texts.now)) }
 {
@@ -90,7 +90,7 @@ fn texts_value(alloc: Global, texts: &[String]) -> Result<Vec<Value>, AllocError
     Ok(values)
 }
 
-// The object with a list of texts, where there are some.
+/// The object with a list of texts, where there are some.
 fn with_texts_at(
     alloc: Global,
     mut object: Object,
@@ -120,7 +120,7 @@ pub fn with_member_at(
     Ok(object)
 }
 
-// The params of execute.
+/// The params of execute.
 fn execute_object(alloc: Global, options: &Options, state: Value) -> Result<Object, AllocError>
     ensures { IfOk result (λ o. members_view o.entries ≡ execute_params (options_view options.now) (view state)) }
 {
@@ -131,7 +131,7 @@ fn execute_object(alloc: Global, options: &Options, state: Value) -> Result<Obje
     with_texts_at(alloc, object, "cut-point-rules", &options.cut_points)
 }
 
-// The params of implies.
+/// The params of implies.
 fn implies_object(
     alloc: Global,
     module_name: &Option<String>,
@@ -159,7 +159,7 @@ pub fn request_value(
     json!(in alloc; {"id": id_member, "jsonrpc": "2.0", "method": method, "params": params})
 }
 
-// The tree of a request of execute; none where Kore JSON has no tag for a pattern in it.
+/// The tree of a request of execute; none where Kore JSON has no tag for a pattern in it.
 fn execute_value(
     alloc: Global,
     id: &Id,
@@ -176,7 +176,7 @@ fn execute_value(
     Ok(Some(request_value(alloc, id, "execute", params)?))
 }
 
-// The tree of a request of implies; none where Kore JSON has no tag for a pattern in it.
+/// The tree of a request of implies; none where Kore JSON has no tag for a pattern in it.
 fn implies_value(
     alloc: Global,
     id: &Id,
@@ -197,7 +197,7 @@ fn implies_value(
     Ok(Some(request_value(alloc, id, "implies", params)?))
 }
 
-// The tree of a question; none where Kore JSON has no tag for a pattern in it.
+/// The tree of a question; none where Kore JSON has no tag for a pattern in it.
 fn question_value(alloc: Global, question: &Question) -> Result<Option<Value>, AllocError>
     ensures { IfOk result (λ o. option_map view o ≡ question_tree (question_view question.now)) }
 {

@@ -43,7 +43,7 @@ pub enum ServerReply {
     Failed { code: i64 },
 }
 
-// The pattern that a tree spells.
+/// The pattern that a tree spells.
 fn pattern_of(alloc: Global, tree: &Value) -> Result<Option<Pattern>, AllocError>
     ensures { IfOk result (λ o. option_map pattern_view o ≡ pattern_in (wrapped_reading (view tree.now))) }
 {
@@ -77,27 +77,28 @@ pub fn predicate_at(alloc: Global, state: &Value) -> Result<Option<Option<Patter
     }
 }
 
-// Whether a text may be a rule's id: it has one or more characters, all from 33 to 126.
+/// Whether a text may be a rule's id: it has one or more characters, all from 33 to 126.
 fn is_rule_id(text: &[u8]) -> bool
     ensures { result ≡ is_rule_id_text text.now }
 {
     0 < text.len() && are_visible(text)
 }
 
+/// Whether each byte is a character from 33 to 126.
 fn are_visible(text: &[u8]) -> bool
     ensures { result ≡ list_all is_visible_character text.now }
 {
     text.iter().all(|byte| is_visible(*byte))
 }
 
-// Whether a byte is a character from 33 to 126.
+/// Whether a byte is a character from 33 to 126.
 fn is_visible(byte: u8) -> bool
     ensures { result ≡ is_visible_character byte }
 {
     33 <= byte && byte <= 126
 }
 
-// The reason of a run that the foreign rule of this id aborts.
+/// The reason of a run that the foreign rule of this id aborts.
 fn aborted_by(alloc: Global, id: &str) -> Result<Option<Reason>, AllocError>
     ensures { IfOk result (λ o. option_map reason_view o ≡ option_map aborted_by_rule (if_rule_id id.now)) }
 {
@@ -109,7 +110,7 @@ fn aborted_by(alloc: Global, id: &str) -> Result<Option<Reason>, AllocError>
     }))
 }
 
-// The reason of a run that a foreign rule aborts.
+/// The reason of a run that a foreign rule aborts.
 fn aborted_at(alloc: Global, value: &Value) -> Result<Option<Reason>, AllocError>
     ensures { IfOk result (λ o. option_map reason_view o ≡ option_map aborted_by_rule (rule_in (get (codes "foreign-rule") (view value.now)))) }
 {
@@ -119,7 +120,7 @@ fn aborted_at(alloc: Global, value: &Value) -> Result<Option<Reason>, AllocError
     }
 }
 
-// The reason of a run.
+/// The reason of a run.
 fn reason_at(alloc: Global, value: &Value) -> Result<Option<Reason>, AllocError>
     ensures { IfOk result (λ o. option_map reason_view o ≡ read_reason (view value.now)) }
 {
@@ -138,7 +139,7 @@ fn reason_at(alloc: Global, value: &Value) -> Result<Option<Reason>, AllocError>
     Ok(None)
 }
 
-// The result of execute.
+/// The result of execute.
 fn run_of(alloc: Global, value: &Value) -> Result<Option<Run>, AllocError>
     ensures { IfOk result (λ o. option_map run_view o ≡ read_run (view value.now)) }
 {
@@ -165,7 +166,7 @@ fn run_of(alloc: Global, value: &Value) -> Result<Option<Run>, AllocError>
     }))
 }
 
-// The result of an implication that holds.
+/// The result of an implication that holds.
 fn condition_of(alloc: Global, value: &Value) -> Result<Option<Implied>, AllocError>
     ensures { IfOk result (λ o. option_map implied_view o ≡ read_condition (view value.now)) }
 {
@@ -195,7 +196,7 @@ pub fn implied_of(alloc: Global, value: &Value) -> Result<Option<Implied>, Alloc
     }
 }
 
-// The result of a method.
+/// The result of a method.
 fn result_of(
     alloc: Global,
     method: Method,
@@ -215,7 +216,7 @@ fn result_of(
     }
 }
 
-// The code of an error.
+/// The code of an error.
 fn failure_of(error: &Value) -> Option<ServerReply>
     ensures { option_map reply_view result ≡ read_code (view error.now) }
 {
@@ -225,7 +226,7 @@ fn failure_of(error: &Value) -> Option<ServerReply>
     }
 }
 
-// What the tree of a reply tells.
+/// What the tree of a reply tells.
 fn tree_reply(
     alloc: Global,
     method: Method,
@@ -248,7 +249,7 @@ fn tree_reply(
     }
 }
 
-// What the text of a reply tells.
+/// What the text of a reply tells.
 fn frame_reply(
     alloc: Global,
     method: Method,

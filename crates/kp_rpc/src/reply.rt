@@ -10,7 +10,7 @@ use crate::request::Refusal;
 use serde_json::{Value, json};
 use std::alloc::{AllocError, Global};
 
-// The code of a refusal.
+/// The code of a refusal.
 fn code_of(refusal: Refusal) -> i64
     ensures { of_integer result ≡ (error_parts (refusal_view refusal)).code }
 {
@@ -22,7 +22,7 @@ fn code_of(refusal: Refusal) -> i64
     }
 }
 
-// The message of a refusal.
+/// The message of a refusal.
 fn message_of(refusal: Refusal) -> &'static str
     ensures { result.now ≡ (error_parts (refusal_view refusal)).message }
 {
@@ -34,7 +34,7 @@ fn message_of(refusal: Refusal) -> &'static str
     }
 }
 
-// The tree of the reply to a refused frame.
+/// The tree of the reply to a refused frame.
 fn refusal_value(alloc: Global, id: &Id, refusal: Refusal) -> Result<Value, AllocError>
     ensures { IfOk result (λ v. view v ≡ error_reply (id_view id.now) (refusal_view refusal)) }
 {

@@ -48,7 +48,7 @@ pub enum Parsed {
     Implies(Implies),
 }
 
-// What the members beside the params tell.
+/// What the members beside the params tell.
 #[derive(Drop)]
 enum Heading {
     NoRequest,
@@ -74,7 +74,7 @@ pub fn is_version_two(value: &Value) -> bool
     }
 }
 
-// The id that a reply to any tree carries.
+/// The id that a reply to any tree carries.
 fn echoed_id(value: &Value) -> Result<Id, AllocError>
     ensures { IfOk result (λ id. EchoesId (view value.now) (id_view id)) }
 {
@@ -84,7 +84,7 @@ fn echoed_id(value: &Value) -> Result<Id, AllocError>
     }
 }
 
-// The heading of a tree.
+/// The heading of a tree.
 fn heading_of(value: &Value) -> Result<Heading, AllocError>
     ensures { IfOk result (λ h. IsHeading (view value.now) h) }
 {
@@ -106,7 +106,7 @@ fn heading_of(value: &Value) -> Result<Heading, AllocError>
     }
 }
 
-// The request of execute in a tree whose heading is one.
+/// The request of execute in a tree whose heading is one.
 fn execute_of(alloc: Global, id: Id, value: Value) -> Result<Parsed, AllocError>
     requires { (o : Members) × (view value ≡ object o) × IsRequest o (id_view id) execute_method }
     ensures { IfOk result (λ p. IsTreeParsed (view value) p) }
@@ -125,7 +125,7 @@ fn execute_of(alloc: Global, id: Id, value: Value) -> Result<Parsed, AllocError>
     }
 }
 
-// The request of implies in a tree whose heading is one.
+/// The request of implies in a tree whose heading is one.
 fn implies_of(alloc: Global, id: Id, value: Value) -> Result<Parsed, AllocError>
     requires { (o : Members) × (view value ≡ object o) × IsRequest o (id_view id) implies_method }
     ensures { IfOk result (λ p. IsTreeParsed (view value) p) }
@@ -147,7 +147,7 @@ fn implies_of(alloc: Global, id: Id, value: Value) -> Result<Parsed, AllocError>
     }
 }
 
-// What the tree of a frame asks for.
+/// What the tree of a frame asks for.
 fn tree_request(alloc: Global, value: Value) -> Result<Parsed, AllocError>
     ensures { IfOk result (λ p. IsTreeParsed (view value) p) }
 {

@@ -29,6 +29,7 @@ pub fn choice_of(
     Ok(Some(right_side(alloc, shape, right)?))
 }
 
+/// The right side with its ensured condition and its new variables.
 fn right_side(alloc: Global, shape: &Shape<'_>, right: &Pattern) -> Result<RightSide, AllocError>
     ensures { IfOk result (IsSideOf (rewrite_seen (view right.now) shape.now)) }
 {
@@ -42,6 +43,7 @@ fn right_side(alloc: Global, shape: &Shape<'_>, right: &Pattern) -> Result<Right
     })
 }
 
+/// The patterns once more.
 fn copies(alloc: Global, patterns: &[&Pattern]) -> Result<Vec<Pattern>, AllocError>
     ensures { IfOk result (λ ps. map view ps.items ≡ seen patterns.now) }
 {
@@ -67,6 +69,7 @@ fn new_variables(
     Ok(found)
 }
 
+/// The variables that these quantifiers bind.
 fn bound_variables(alloc: Global, binders: &[Binder<'_>]) -> Result<Vec<SortedVariable>, AllocError>
     ensures { IfOk result (λ vs. map sorted_variable_view vs.items ≡ variables_seen binders.now) }
 {
@@ -77,6 +80,7 @@ fn bound_variables(alloc: Global, binders: &[Binder<'_>]) -> Result<Vec<SortedVa
     Ok(variables)
 }
 
+/// The variable that a quantifier binds.
 fn bound_variable(alloc: Global, binder: &Binder<'_>) -> Result<SortedVariable, AllocError>
     ensures { IfOk result (λ v. sorted_variable_view v ≡ record { name = string_bytes binder.now.name.now; sort = sort_view binder.now.sort.now }) }
 {
@@ -86,6 +90,7 @@ fn bound_variable(alloc: Global, binder: &Binder<'_>) -> Result<SortedVariable, 
     })
 }
 
+/// Adds the variables whose names aren't among these.
 fn add_unnamed(
     found: &mut Vec<SortedVariable>,
     variables: Vec<SortedVariable>,

@@ -18,6 +18,7 @@ pub fn is_within(pattern: &Pattern, levels: usize) -> bool
     }
 }
 
+/// Whether none of the terms nests deeper than so many levels.
 #[cycle(depth)]
 fn all_are_within(patterns: &[Pattern], levels: usize) -> bool
     ensures { IsTrue result ↔ (most_term_depth (patterns_view patterns.now) ≤ levels) }

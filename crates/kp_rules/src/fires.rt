@@ -99,6 +99,7 @@ impl Rewrite {
         }
     }
 
+    /// What the rule's variables are bound to, where its condition holds under these bindings.
     fn fires_where(
         &self,
         alloc: Global,

@@ -19,6 +19,7 @@ pub fn is_term(pattern: &Pattern) -> bool
     }
 }
 
+/// Whether each of them is a term.
 #[cycle(term)]
 fn are_terms(patterns: &[Pattern]) -> bool
     ensures { result ≡ terms_test (patterns_view patterns.now) }
@@ -64,6 +65,7 @@ pub fn is_predicate(pattern: &Pattern) -> bool
     }
 }
 
+/// Whether each of them is a predicate.
 #[cycle(predicate)]
 fn are_predicates(patterns: &[Pattern]) -> bool
     ensures { result ≡ predicates_test (patterns_view patterns.now) }
@@ -86,6 +88,7 @@ fn is_conjoined_pair(pattern: &Pattern) -> bool
     }
 }
 
+/// Whether these are two, and both are terms.
 fn are_two_terms(patterns: &[Pattern]) -> bool
     ensures { (s : KoreSort) → result ≡ pair_test (conjunction s (patterns_view patterns.now)) }
 {

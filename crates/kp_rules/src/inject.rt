@@ -33,6 +33,7 @@ pub fn is_split(
     }
 }
 
+/// Whether this application is `inj` of a variable whose sorts share heads.
 fn applied_is_split(
     alloc: Global,
     signature: &Signature,
@@ -56,6 +57,7 @@ fn applied_is_split(
     index.splits(alloc, signature, &sorts[0], &sorts[1])
 }
 
+/// Whether the symbol is `inj`.
 fn is_injection(signature: &Signature, symbol: &Name) -> bool
     ensures { IsTrue result ↔ (meaning_named (signature_view signature.now) (string_bytes symbol.now) ≡ injection) }
 {
@@ -65,6 +67,7 @@ fn is_injection(signature: &Signature, symbol: &Name) -> bool
     }
 }
 
+/// Whether this is one pattern, and a variable.
 fn is_one_variable(patterns: &[Pattern]) -> bool
     ensures { result ≡ is_one_variable (patterns_view patterns.now) }
 {
@@ -74,6 +77,7 @@ fn is_one_variable(patterns: &[Pattern]) -> bool
     is_variable(&patterns[0])
 }
 
+/// Whether it is a variable.
 fn is_variable(pattern: &Pattern) -> bool
     ensures { result ≡ is_variable (view pattern.now) }
 {

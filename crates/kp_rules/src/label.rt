@@ -19,6 +19,7 @@ pub fn label_of(statement: &AxiomSentence) -> Option<&str>
     }
 }
 
+/// The text, where it is a label.
 fn if_label(text: &str) -> Option<&str>
     ensures { option_map (λ t. t.now) result ≡ (if label_test text.now then Some text.now else None) }
 {
@@ -29,12 +30,14 @@ fn if_label(text: &str) -> Option<&str>
     }
 }
 
+/// Whether it is one or more characters of labels.
 fn is_label(text: &[u8]) -> bool
     ensures { result ≡ label_test text.now }
 {
     0 < text.len() && are_label_characters(text)
 }
 
+/// Whether each byte may stand in a label.
 fn are_label_characters(text: &[u8]) -> bool
     ensures { result ≡ list_all character_test text.now }
 {

@@ -24,6 +24,7 @@ use kp_signature::rules::is_numeral;
 use std::alloc::{AllocError, Global};
 use std::num::ParseIntError;
 
+/// Whether it has no meaning here.
 fn is_foreign(meaning: Meaning) -> bool
     ensures { result ≡ is_foreign_meaning (meaning_view meaning) }
 {
@@ -33,6 +34,7 @@ fn is_foreign(meaning: Meaning) -> bool
     }
 }
 
+/// Whether it is an interpreted symbol's.
 fn is_interpreted(meaning: Meaning) -> bool
     ensures { result ≡ is_interpretation (meaning_view meaning) }
 {
@@ -62,6 +64,7 @@ fn has_interpreted_head(signature: &Signature, pattern: &Pattern) -> bool
     }
 }
 
+/// Whether it is that of `inj`.
 fn is_injection(meaning: Meaning) -> bool
     ensures { result ≡ is_injection_meaning (meaning_view meaning) }
 {
@@ -71,6 +74,7 @@ fn is_injection(meaning: Meaning) -> bool
     }
 }
 
+/// Whether this is one pattern.
 fn is_one(patterns: &[Pattern]) -> bool
     ensures { result ≡ (length (pattern_list (patterns_view patterns.now)) == 1) }
 {
@@ -103,6 +107,7 @@ pub fn inject_one(signature: &Signature, parts: &[&Pattern]) -> bool
     true
 }
 
+/// Whether it is a set variable.
 fn is_set_variable(pattern: &Pattern) -> bool
     ensures { result ≡ set_variable_test (view pattern.now) }
 {
@@ -112,6 +117,7 @@ fn is_set_variable(pattern: &Pattern) -> bool
     }
 }
 
+/// Whether it is `\exists` or `\forall`.
 fn is_quantifier(pattern: &Pattern) -> bool
     ensures { result ≡ quantifier_test (view pattern.now) }
 {
@@ -121,6 +127,7 @@ fn is_quantifier(pattern: &Pattern) -> bool
     }
 }
 
+/// Whether it is `\floor` of a term.
 fn is_floor_of_term(pattern: &Pattern) -> bool
     ensures { result ≡ floor_test (view pattern.now) }
 {
@@ -147,6 +154,7 @@ fn is_wide(text: &Name) -> bool
     is_numeral(text.as_str()) && !fits(text.as_str())
 }
 
+/// Whether a numeral's number fits in 128 bits.
 fn fits(text: &str) -> bool
     ensures { IsTrue (writes_number text.now) → result ≡ fits_number (signed_digits_value 10 text.now) }
 {

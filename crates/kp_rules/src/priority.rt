@@ -36,6 +36,7 @@ pub fn priority_of(attributes: &[Pattern]) -> Priority
     }
 }
 
+/// The priority of a rule that states no number.
 fn priority_without_number(attributes: &[Pattern]) -> u32
     ensures { result ≡ (if mark_among (codes "owise") (patterns_view attributes.now) then owise_priority else usual_priority) }
 {
@@ -60,12 +61,14 @@ fn decimal_number(text: &str) -> Priority
     }
 }
 
+/// Whether it is one or more digits.
 fn is_decimal(text: &[u8]) -> bool
     ensures { result ≡ (nat_lt 0 (length text.now) && list_all is_ascii_digit text.now) }
 {
     0 < text.len() && are_digits(text)
 }
 
+/// Whether each byte is a digit.
 fn are_digits(text: &[u8]) -> bool
     ensures { result ≡ list_all is_ascii_digit text.now }
 {

@@ -123,6 +123,7 @@ fn body_of(
     }
 }
 
+/// The body of a rule that isn't read: what its left side may stand for.
 fn foreign_body(
     alloc: Global,
     signature: &Signature,
@@ -204,6 +205,7 @@ fn is_read_statement(
     all_split(alloc, signature, index, &parts)
 }
 
+/// Whether the priority is a number that is read.
 fn is_number(priority: Priority) -> bool
     ensures { (stated : Option ℕ) → Tells priority stated → result ≡ is_read_priority stated }
 {
@@ -242,6 +244,7 @@ fn is_read_predicate(
     Ok(are_named(&variables, names))
 }
 
+/// Whether each predicate of the condition is read over these variables.
 fn is_read_condition(
     alloc: Global,
     condition: &[&Pattern],
@@ -339,6 +342,7 @@ fn chooses(
     Ok(!are_named(&variables, names))
 }
 
+/// Whether it is `\exists`.
 fn is_binder(pattern: &Pattern) -> bool
     ensures { result ≡ binder_test (view pattern.now) }
 {
@@ -348,6 +352,7 @@ fn is_binder(pattern: &Pattern) -> bool
     }
 }
 
+/// Whether it is `\top`.
 fn is_top(pattern: &Pattern) -> bool
     ensures { result ≡ is_top_pattern (view pattern.now) }
 {
@@ -357,6 +362,7 @@ fn is_top(pattern: &Pattern) -> bool
     }
 }
 
+/// Whether each of them is `\top`.
 fn are_tops(patterns: &[&Pattern]) -> bool
     ensures { result ≡ list_all is_top_pattern (seen patterns.now) }
 {
@@ -368,6 +374,7 @@ fn are_tops(patterns: &[&Pattern]) -> bool
     true
 }
 
+/// The rule that its parts make.
 fn compiled(
     alloc: Global,
     signature: &Signature,

@@ -42,6 +42,7 @@ pub struct Shape<'a> {
     pub right: Side<'a>,
 }
 
+/// Adds what a pattern is the conjunction of.
 #[cycle(conjuncts)]
 fn add_conjuncts<'a>(pattern: &'a Pattern, found: &mut Vec<&'a Pattern>) -> Result<(), AllocError>
     ensures { OnOk result (seen found.new.items ≡ seen found.old.items ++ conjuncts_of (view pattern.now)) }
@@ -52,6 +53,7 @@ fn add_conjuncts<'a>(pattern: &'a Pattern, found: &mut Vec<&'a Pattern>) -> Resu
     }
 }
 
+/// Adds what each pattern is the conjunction of.
 #[cycle(conjuncts)]
 fn add_all_conjuncts<'a>(
     patterns: &'a [Pattern],
@@ -74,6 +76,7 @@ fn conjuncts<'a>(alloc: Global, pattern: &'a Pattern) -> Result<Vec<&'a Pattern>
     Ok(found)
 }
 
+/// The terms among the patterns.
 fn terms_among<'a>(alloc: Global, patterns: &[&'a Pattern]) -> Result<Vec<&'a Pattern>, AllocError>
     ensures { IfOk result (λ ps. seen ps.items ≡ filter term_test (seen patterns.now)) }
 {
@@ -86,6 +89,7 @@ fn terms_among<'a>(alloc: Global, patterns: &[&'a Pattern]) -> Result<Vec<&'a Pa
     Ok(found)
 }
 
+/// The patterns that are no terms.
 fn others_among<'a>(alloc: Global, patterns: &[&'a Pattern]) -> Result<Vec<&'a Pattern>, AllocError>
     ensures { IfOk result (λ ps. seen ps.items ≡ filter (λ p. not (term_test p)) (seen patterns.now)) }
 {
@@ -98,6 +102,7 @@ fn others_among<'a>(alloc: Global, patterns: &[&'a Pattern]) -> Result<Vec<&'a P
     Ok(found)
 }
 
+/// Whether each of them is a predicate.
 fn are_predicates(patterns: &[&Pattern]) -> bool
     ensures { result ≡ list_all predicate_test (seen patterns.now) }
 {
@@ -120,6 +125,7 @@ fn only<'a>(terms: &[&'a Pattern]) -> Option<&'a Pattern>
     }
 }
 
+/// A side's one term and predicates, where it has these alone.
 fn side_among<'a>(terms: &[&'a Pattern], predicates: Vec<&'a Pattern>) -> Option<Side<'a>>
     ensures { option_map side_view result ≡ option_map (λ t. (t, seen predicates.entry.items)) (if list_all predicate_test (seen predicates.entry.items) then only_one (seen terms.now) else None) }
 {
@@ -145,6 +151,7 @@ pub fn constrained_side<'a>(
     Ok(side_among(&terms, predicates))
 }
 
+/// Adds the variables that leading quantifiers bind; what is under them.
 #[cycle(binders)]
 fn add_binders<'a>(
     pattern: &'a Pattern,
@@ -180,6 +187,7 @@ pub fn under_binders<'a>(alloc: Global, pattern: &'a Pattern) -> Result<Bound<'a
     Ok(Bound { variables, pattern })
 }
 
+/// Whether one of the variables has this name.
 fn is_named(name: &str, variables: &[Binder<'_>]) -> bool
     ensures { result ≡ named_among name.now (variables_seen variables.now) }
 {
@@ -220,6 +228,7 @@ pub fn shape_of<'a>(
     Ok(joined(left, right))
 }
 
+/// A rule's shape, where both sides have one.
 fn joined<'a>(left: Option<Side<'a>>, right: Option<Side<'a>>) -> Option<Shape<'a>>
     ensures { (l r : KorePattern) → option_map side_view left.entry ≡ side_of l → option_map side_view right.entry ≡ side_of (what_is_bound r) → option_map (rewrite_seen r) result ≡ joined_sides l r (constrained_term l) (constrained_term (what_is_bound r)) }
 {

@@ -94,6 +94,7 @@ fn any_result(
     }
 }
 
+/// Anything of an alias's result sort.
 fn any_result_of_alias(
     alloc: Global,
     signature: &Signature,
@@ -143,6 +144,7 @@ fn variable(
     }
 }
 
+/// The one value of a variable's name at its sort.
 fn one_value(alloc: Global, name: &Name, sort: &Sort) -> Result<Skeleton, AllocError>
     ensures { IfOk result (λ k. skeleton_view k ≡ one_of (string_bytes name.now) (sort_view sort.now)) }
 {
@@ -178,6 +180,7 @@ fn truth_value(text: &str) -> Option<Value>
     None
 }
 
+/// A token as a value.
 fn token_of(alloc: Global, sort: &Sort, text: &Name) -> Result<Value, AllocError>
     ensures { IfOk result (λ u. value_view u ≡ model.token (sort_view sort.now) (string_bytes text.now)) }
 {
@@ -276,6 +279,7 @@ pub fn skeleton_of(
     }
 }
 
+/// What each of the patterns may stand for.
 #[cycle(skeleton)]
 fn skeletons_of(
     patterns: &[Pattern],
@@ -294,6 +298,7 @@ fn skeletons_of(
     Ok(found)
 }
 
+/// What the first of the patterns may stand for.
 #[cycle(skeleton)]
 fn skeleton_of_first(
     patterns: &[Pattern],
@@ -311,6 +316,7 @@ fn skeleton_of_first(
     Ok(nothing())
 }
 
+/// What nothing stands for.
 fn nothing() -> Skeleton
     ensures { skeleton_view result ≡ nothing_form }
 {

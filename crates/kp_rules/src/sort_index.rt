@@ -50,6 +50,7 @@ impl SortIndex {
         }
     }
 
+    /// Takes in each subsort of the signature.
     fn add_pairs(&mut self, alloc: Global, signature: &Signature) -> Result<(), AllocError>
         ensures { IsIndexUpTo (signature_view signature.now) [] [] [] self.old → OnOk result ((sorts : List KoreSort) × IsIndexUpTo (signature_view signature.now) (signature_view signature.now).subsorts [] sorts self.new) }
     {
@@ -59,6 +60,7 @@ impl SortIndex {
         Ok(())
     }
 
+    /// Takes in one subsort.
     fn add_pair(
         &mut self,
         alloc: Global,
@@ -83,6 +85,7 @@ impl SortIndex {
         Ok(())
     }
 
+    /// Marks the result sort of a symbol that makes values.
     fn mark_result(
         &mut self,
         alloc: Global,
@@ -97,6 +100,7 @@ impl SortIndex {
         }
     }
 
+    /// Marks a sort as one that has heads of its own.
     fn mark(&mut self, alloc: Global, sort: &Sort) -> Result<(), AllocError>
         ensures { (g : KoreSignature) (pairs : List (KoreSort × KoreSort)) (ds : List SymbolDeclaration) (sorts : List KoreSort) (d : SymbolDeclaration) → constructed_sort g d.name ≡ Some (sort_view sort.now) → IsIndexUpTo g pairs ds sorts self.old → OnOk result (IsIndexUpTo g pairs (ds ++ d ∷ []) sorts self.new) }
     {
@@ -131,6 +135,7 @@ impl SortIndex {
         }
     }
 
+    /// Gives a new sort its number.
     fn add_sort(
         &mut self,
         alloc: Global,

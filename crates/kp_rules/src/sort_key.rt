@@ -16,6 +16,7 @@ pub fn sort_key(alloc: Global, sort: &Sort) -> Result<Name, AllocError>
     Ok(text)
 }
 
+/// Adds a sort's key.
 #[cycle(add)]
 fn add_sort(sort: &Sort, text: &mut Name) -> Result<(), AllocError>
     ensures { OnOk result (string_bytes text.new ≡ string_bytes text.old ++ sort_text (sort_view sort.now)) }
@@ -33,6 +34,7 @@ fn add_sort(sort: &Sort, text: &mut Name) -> Result<(), AllocError>
     }
 }
 
+/// Adds the keys of the arguments.
 #[cycle(add)]
 fn add_sorts(sorts: &[Sort], text: &mut Name) -> Result<(), AllocError>
     ensures { OnOk result (string_bytes text.new ≡ string_bytes text.old ++ sorts_text (sorts_view sorts.now)) }
@@ -44,6 +46,7 @@ fn add_sorts(sorts: &[Sort], text: &mut Name) -> Result<(), AllocError>
     Ok(text.push_str(")")?)
 }
 
+/// Adds a name behind its length.
 fn add_name(name: &Name, text: &mut Name) -> Result<(), AllocError>
     ensures { OnOk result (string_bytes text.new ≡ string_bytes text.old ++ marked_name (string_bytes name.now)) }
 {
@@ -52,6 +55,7 @@ fn add_name(name: &Name, text: &mut Name) -> Result<(), AllocError>
     Ok(text.push_str(name)?)
 }
 
+/// Adds so many ones.
 fn add_ones(count: usize, text: &mut Name) -> Result<(), AllocError>
     ensures { OnOk result (string_bytes text.new ≡ string_bytes text.old ++ replicate count 49) }
 {

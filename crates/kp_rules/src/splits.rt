@@ -80,6 +80,7 @@ impl SortIndex {
         Ok(found)
     }
 
+    /// Whether the sort of this number has heads of its own.
     fn owns_heads(&self, number: usize) -> bool
         ensures { IsTrue result ↔ OwnsHeads self.now number }
     {
@@ -89,6 +90,7 @@ impl SortIndex {
         false
     }
 
+    /// Whether each of these sorts is settled.
     fn all_settled(
         &self,
         alloc: Global,

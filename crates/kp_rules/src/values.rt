@@ -15,6 +15,7 @@ use kp_kore::{Name, Sort};
 use kp_signature::Signature;
 use std::alloc::{AllocError, Global};
 
+/// Whether the name is a constructor's.
 fn is_construction(signature: &Signature, name: &str) -> bool
     ensures { IsTrue result ↔ (meaning_named (signature_view signature.now) name.now ≡ construction) }
 {
@@ -34,6 +35,7 @@ fn plain_sort(alloc: Global, name: &Name) -> Result<Sort, AllocError>
     })
 }
 
+/// Whether the sort of this name, if there is one, is below the sort.
 fn is_named_below(
     alloc: Global,
     signature: &Signature,
@@ -51,6 +53,7 @@ fn is_named_below(
     }
 }
 
+/// Whether the constructor's result is of the sort.
 fn is_result_below(
     alloc: Global,
     signature: &Signature,
@@ -68,6 +71,7 @@ fn is_result_below(
     }
 }
 
+/// Whether tokens of the one sort are of the other.
 fn is_token_below(
     alloc: Global,
     signature: &Signature,

@@ -54,6 +54,7 @@ pub fn check_application(
     Ok(sorts_at(profile.arguments, alloc, profile.parameters, sorts)?)
 }
 
+/// What a declared symbol takes and gives, where it has so many sorts and arguments.
 fn check_symbol<'a>(
     signature: &'a Signature,
     symbol: &Name,
@@ -102,6 +103,7 @@ impl Signature {
         }
     }
 
+    /// What an alias takes and gives.
     fn alias_profile(&self, symbol: &str) -> Option<Profile<'_>>
         ensures takes { symbol_declared (signature_view self.now) symbol.now ≡ None → option_map (λ p. record { parameters = names_view p.parameters.now; arguments = sorts_view p.arguments.now }) result ≡ profile_of (signature_view self.now) symbol.now }
         ensures gives { (ss : KoreSorts) → symbol_declared (signature_view self.now) symbol.now ≡ None → option_map (λ p. at_arguments (names_view p.parameters.now) ss (sort_view p.result_sort.now)) result ≡ result_sort (signature_view self.now) symbol.now ss }
@@ -117,6 +119,7 @@ impl Signature {
     }
 }
 
+/// Whether `inj` goes from a sort to one above it.
 fn check_injection(
     alloc: Global,
     signature: &Signature,
@@ -132,6 +135,7 @@ fn check_injection(
     Ok(check_upwards(alloc, signature, symbol, &sorts[0], &sorts[1])?)
 }
 
+/// Whether `inj` between these sorts goes upwards.
 fn check_upwards(
     alloc: Global,
     signature: &Signature,
@@ -155,6 +159,7 @@ fn check_upwards(
 }
 
 impl Signature {
+    /// Whether the symbol is `inj`.
     fn injects(&self, symbol: &str) -> bool
         ensures { result ≡ injects (signature_view self.now) symbol.now }
     {

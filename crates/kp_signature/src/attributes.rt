@@ -20,6 +20,7 @@ pub fn has_mark(attributes: &[Pattern], name: &str) -> bool
     false
 }
 
+/// Whether the attribute is this mark, without sorts and arguments.
 fn is_mark(attribute: &Pattern, name: &str) -> bool
     ensures { result ≡ mark_test name.now (view attribute.now) }
 {
@@ -33,6 +34,7 @@ fn is_mark(attribute: &Pattern, name: &str) -> bool
     }
 }
 
+/// Whether an application of this symbol is the mark.
 fn is_mark_of(symbol: &str, sorts: &[Sort], arguments: &[Pattern], name: &str) -> bool
     ensures { result ≡ mark_test name.now (application symbol.now (sorts_view sorts.now) (patterns_view arguments.now)) }
 {
@@ -58,6 +60,7 @@ pub fn text_of<'a>(attributes: &'a [Pattern], name: &str) -> Option<&'a Name>
     None
 }
 
+/// The text that the attribute of this name has.
 fn marked_text<'a>(attribute: &'a Pattern, name: &str) -> Option<&'a Name>
     ensures { option_map (λ t. string_bytes t.now) result ≡ text_marked_by name.now (view attribute.now) }
 {
@@ -71,6 +74,7 @@ fn marked_text<'a>(attribute: &'a Pattern, name: &str) -> Option<&'a Name>
     }
 }
 
+/// The text that an application of this name has.
 fn text_marked<'a>(
     symbol: &str,
     sorts: &[Sort],
@@ -91,6 +95,7 @@ fn text_marked<'a>(
     literal_text(&arguments[0])
 }
 
+/// The text of a string literal.
 fn literal_text(pattern: &Pattern) -> Option<&Name>
     ensures { option_map (λ t. string_bytes t.now) result ≡ text_literal (view pattern.now) }
 {

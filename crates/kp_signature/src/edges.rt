@@ -46,6 +46,7 @@ fn add_next(edges: &[Vec<usize>], number: usize, found: &mut Numbers) -> Result<
     Ok(())
 }
 
+/// Adds the numbers.
 fn add_all(found: &mut Numbers, numbers: &[usize]) -> Result<(), AllocError>
     ensures { OnOk result (Extended found.old.keys numbers.now found.new.keys) }
 {
@@ -55,6 +56,7 @@ fn add_all(found: &mut Numbers, numbers: &[usize]) -> Result<(), AllocError>
     Ok(())
 }
 
+/// Adds a number.
 fn add(found: &mut Numbers, number: usize) -> Result<(), AllocError>
     ensures { OnOk result (Extended found.old.keys (number ∷ []) found.new.keys) }
 {

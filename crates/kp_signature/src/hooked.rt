@@ -34,6 +34,7 @@ pub fn other_than(first: &Option<Name>, second: Option<Name>) -> Option<Name>
     }
 }
 
+/// Whether the sort has this hook.
 fn has_hook(sort: &SortSentence, hook: &str) -> bool
     ensures { result ≡ hook_test hook.now (sort_sentence_view sort.now) }
 {

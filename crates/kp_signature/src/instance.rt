@@ -7,6 +7,7 @@ ghost use Rattle.kp_kore.specs.View.{sort_view, sorts_of, sorts_view, names_view
 use kp_kore::{Name, Sort};
 use std::alloc::{AllocError, Global};
 
+/// The argument in the place of a parameter.
 fn argument_of(
     alloc: Global,
     parameters: &[Name],
@@ -26,6 +27,7 @@ fn argument_of(
     Ok(variable_named(name)?)
 }
 
+/// The sort variable of this name.
 fn variable_named(name: &Name) -> Result<Sort, AllocError>
     ensures { IfOk result (λ s. sort_view s ≡ sort_variable (string_bytes name.now)) }
 {

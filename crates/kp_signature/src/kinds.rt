@@ -74,6 +74,7 @@ pub fn is_named(name: Option<&Name>, sort: &Sort) -> bool
     }
 }
 
+/// Whether it is this name without arguments.
 fn is_plain_sort(wanted: &Name, sort: &Sort) -> bool
     ensures { result ≡ sorts_equal (sort_of (string_bytes wanted.now) no_sorts) (sort_view sort.now) }
 {

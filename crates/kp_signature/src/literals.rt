@@ -36,6 +36,7 @@ pub fn check_literal(
     Ok(check_depth(depth)?)
 }
 
+/// Whether a literal is spelled as its sort asks.
 fn check_spelling(signature: &Signature, sort: &Sort, text: &Name) -> Result<(), VerifyError>
     ensures ok { OnOk result (literal_fault (signature_view signature.now) (literal (sort_view sort.now) (string_bytes text.now)) ≡ None) }
     ensures err { IfErr result (λ e. (f : VerifyFault) → fault_view e ≡ Some f → literal_fault (signature_view signature.now) (literal (sort_view sort.now) (string_bytes text.now)) ≡ Some f) }
@@ -48,6 +49,7 @@ fn check_spelling(signature: &Signature, sort: &Sort, text: &Name) -> Result<(),
     })
 }
 
+/// Whether the text is a literal of the sort.
 fn is_literal_of(signature: &Signature, sort: &Sort, text: &str) -> bool
     ensures { result ≡ literal_test (signature_view signature.now) (sort_view sort.now) text.now }
 {
@@ -60,6 +62,7 @@ fn is_literal_of(signature: &Signature, sort: &Sort, text: &str) -> bool
     }
 }
 
+/// Whether a numeral's number fits in 128 bits.
 fn check_width(signature: &Signature, sort: &Sort, text: &Name) -> Result<(), VerifyError>
     ensures ok { OnOk result (literal_fault (signature_view signature.now) (literal (sort_view sort.now) (string_bytes text.now)) ≡ None → width_fault (signature_view signature.now) (literal (sort_view sort.now) (string_bytes text.now)) ≡ None) }
     ensures err { IfErr result (λ e. (f : VerifyFault) → literal_fault (signature_view signature.now) (literal (sort_view sort.now) (string_bytes text.now)) ≡ None → fault_view e ≡ Some f → width_fault (signature_view signature.now) (literal (sort_view sort.now) (string_bytes text.now)) ≡ Some f) }
@@ -75,6 +78,7 @@ fn check_width(signature: &Signature, sort: &Sort, text: &Name) -> Result<(), Ve
     })
 }
 
+/// Whether a numeral's number fits in 128 bits.
 fn fits(text: &str) -> bool
     ensures { numeral_test text.now ≡ true → result ≡ fits_in_128_bits (signed_digits_value 10 text.now) }
 {

@@ -44,6 +44,7 @@ impl SortOrder {
         }
     }
 
+    /// Takes in one subsort.
     fn add_pair(&mut self, alloc: Global, pair: &Subsort) -> Result<(), AllocError>
         ensures { (pairs : List (KoreSort × KoreSort)) (sorts : List KoreSort) → IsOrderUpTo pairs sorts self.old → OnOk result ((all : List KoreSort) × IsOrderUpTo (pairs ++ subsort_view pair.now ∷ []) all self.new) }
     {
@@ -70,6 +71,7 @@ impl SortOrder {
         }
     }
 
+    /// Gives a new sort its number.
     fn add_sort(&mut self, alloc: Global, sort: &Sort) -> Result<usize, AllocError>
         ensures { (pairs : List (KoreSort × KoreSort)) (sorts : List KoreSort) → IsOrderUpTo pairs sorts self.old → None ≡ get_by_text self.old.numbers (key_of (sort_view sort.now)) → IfOk result (λ n. IsNumber (sorts ++ sort_view sort.now ∷ []) n (sort_view sort.now) × IsOrderUpTo pairs (sorts ++ sort_view sort.now ∷ []) self.new) }
     {

@@ -48,6 +48,7 @@ pub fn own_sort(
     }
 }
 
+/// The result sort of a symbol at these sorts.
 fn applied_sort(
     alloc: Global,
     signature: &Signature,

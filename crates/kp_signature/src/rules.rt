@@ -57,12 +57,14 @@ pub fn is_numeral(text: &str) -> bool
     0 < digits.len() && are_digits(digits)
 }
 
+/// Whether each byte is a digit.
 fn are_digits(text: &[u8]) -> bool
     ensures { result ≡ list_all (λ c. nat_lt (digit_value c) 10) text.now }
 {
     text.iter().all(|byte| char::from(*byte).is_digit(10))
 }
 
+/// The text behind its sign, if it has one.
 fn without_sign(text: &[u8]) -> &[u8]
     ensures { result.now ≡ without_leading_sign text.now }
 {

@@ -35,6 +35,7 @@ pub fn meet_variable(
     }
 }
 
+/// Brings a new variable into scope.
 fn add_variable(
     alloc: Global,
     scope: &mut Scope,

@@ -134,6 +134,7 @@ impl Signature {
         None
     }
 
+    /// Whether the sort is declared with so many parameters.
     fn is_known(&self, name: &Name, arguments: usize) -> bool
         ensures { (ss : KoreSorts) → length (sort_list ss) ≡ arguments → result ≡ is_known (signature_view self.now) (string_bytes name.now) ss }
     {

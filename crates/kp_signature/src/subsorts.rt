@@ -11,6 +11,7 @@ use crate::table::Subsort;
 use kp_kore::{Pattern, Sort};
 use std::alloc::{AllocError, Global};
 
+/// The two sorts of a subsort mark.
 fn subsort_of(attribute: &Pattern) -> Option<(&Sort, &Sort)>
     ensures { option_map (λ p. (sort_view p.0.now, sort_view p.1.now)) result ≡ marked_sorts (codes "subsort") (view attribute.now) }
 {
@@ -24,6 +25,7 @@ fn subsort_of(attribute: &Pattern) -> Option<(&Sort, &Sort)>
     }
 }
 
+/// The two sorts of an application that is a subsort mark.
 fn sorts_marked<'a>(
     symbol: &str,
     sorts: &'a [Sort],
@@ -52,6 +54,7 @@ pub fn add_subsorts(
     Ok(())
 }
 
+/// Adds the pair that an attribute states, if it does.
 fn add_subsort(
     subsorts: &mut Vec<Subsort>,
     alloc: Global,

@@ -72,6 +72,7 @@ impl Table {
         }
     }
 
+    /// Takes in a sort's declaration.
     fn add_sort(&mut self, alloc: Global, declaration: &SortSentence) -> Result<(), AllocError>
         ensures { (sentences : List KoreSentence) → IsTableOf self.old sentences → OnOk result (IsTableOf self.new (sentences ++ sort_sentence (sort_sentence_view declaration.now) ∷ [])) }
     {
@@ -79,6 +80,7 @@ impl Table {
         Ok(self.sorts.push(declaration.copy(alloc)?)?)
     }
 
+    /// Takes in a symbol's declaration.
     fn add_symbol(&mut self, alloc: Global, declaration: &SymbolSentence) -> Result<(), AllocError>
         ensures { (sentences : List KoreSentence) → IsTableOf self.old sentences → OnOk result (IsTableOf self.new (sentences ++ symbol_sentence (symbol_sentence_view declaration.now) ∷ [])) }
     {
@@ -90,6 +92,7 @@ impl Table {
         Ok(self.symbols.push(declaration.copy(alloc)?)?)
     }
 
+    /// Takes in an alias's declaration.
     fn add_alias(&mut self, alloc: Global, declaration: &AliasSentence) -> Result<(), AllocError>
         ensures { (sentences : List KoreSentence) → IsTableOf self.old sentences → OnOk result (IsTableOf self.new (sentences ++ alias_sentence (alias_sentence_view declaration.now) ∷ [])) }
     {

@@ -16,6 +16,7 @@ pub fn sort_text(alloc: Global, sort: &Sort) -> Result<String, AllocError>
     Ok(text)
 }
 
+/// Adds a sort as it is written.
 #[cycle(text)]
 fn add_sort(sort: &Sort, text: &mut String) -> Result<(), AllocError>
     ensures { OnOk result (string_bytes text.new ≡ string_bytes text.old ++ text_of_sort (sort_view sort.now)) }

@@ -19,6 +19,7 @@ use indexmap::IndexMap;
 use kp_kore::{Pattern, Sort};
 use std::alloc::Global;
 
+/// The first fault of a pattern at its place, and what it brings into scope.
 #[cycle(verify)]
 fn verify_at(
     pattern: &Pattern,
@@ -126,6 +127,7 @@ fn verify_at(
     }
 }
 
+/// The first fault of the arguments at their places.
 #[cycle(verify)]
 fn verify_arguments(
     arguments: &[Pattern],
@@ -148,6 +150,7 @@ fn verify_arguments(
     Ok(())
 }
 
+/// The first fault of the members of a connective.
 #[cycle(verify)]
 fn verify_members(
     members: &[Pattern],

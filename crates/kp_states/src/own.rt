@@ -30,6 +30,7 @@ pub fn own_sort(
     }
 }
 
+/// The result sort of a constructor.
 fn result_of(
     alloc: Global,
     signature: &Signature,
@@ -43,6 +44,7 @@ fn result_of(
     }
 }
 
+/// The sort of this name, if there is one.
 fn sort_named(alloc: Global, name: Option<&Name>) -> Result<Option<Sort>, AllocError>
     ensures { IfOk result (λ o. option_map sort_view o ≡ option_map (λ n. sort_of (string_bytes n.now) no_sorts) name.entry) }
 {

@@ -77,6 +77,7 @@ fn are_others(parts: &[&Pattern]) -> bool
     true
 }
 
+/// Whether it is an application at two sorts.
 fn has_two_sorts(pattern: &Pattern) -> bool
     ensures { result ≡ spec.has_two_sorts (view pattern.now) }
 {
@@ -86,6 +87,7 @@ fn has_two_sorts(pattern: &Pattern) -> bool
     }
 }
 
+/// The value as a term at this sort.
 #[cycle(spelling)]
 fn spelled_at(
     value: &Value,
@@ -180,6 +182,7 @@ fn placed_at(alloc: Global, own: Sort, sort: &Sort, inner: Pattern) -> Result<Pa
     injected(alloc, own, sort.copy(alloc)?, inner)
 }
 
+/// The term under `inj` from the lower sort to the upper.
 fn injected(
     alloc: Global,
     lower: Sort,
@@ -200,6 +203,7 @@ fn injected(
     })
 }
 
+/// The literal of a text at a sort.
 fn literal_of(alloc: Global, sort: &Sort, text: Name) -> Result<Pattern, AllocError>
     ensures { IfOk result (λ p. view p ≡ literal (sort_view sort.now) (string_bytes text)) }
 {
@@ -209,6 +213,7 @@ fn literal_of(alloc: Global, sort: &Sort, text: Name) -> Result<Pattern, AllocEr
     })
 }
 
+/// The number's decimal digits.
 fn number_text(alloc: Global, number: i128) -> Result<Name, AllocError>
     ensures text { IfOk result (λ t. string_bytes t ≡ signed_decimal number) }
     ensures fits { FitsSigned w128 number }
@@ -216,6 +221,7 @@ fn number_text(alloc: Global, number: i128) -> Result<Name, AllocError>
     number.to_string(alloc)
 }
 
+/// The truth value's word.
 fn truth_text(alloc: Global, holds: bool) -> Result<Name, AllocError>
     ensures { IfOk result (λ t. string_bytes t ≡ spec.truth_text holds) }
 {
@@ -226,6 +232,7 @@ fn truth_text(alloc: Global, holds: bool) -> Result<Name, AllocError>
     }
 }
 
+/// The constructor over these terms.
 fn applied(
     alloc: Global,
     constructor: &Name,

@@ -6,6 +6,7 @@ ghost use Rattle.kp_kore.specs.View.{view, sort_view, sorts_view, patterns_view}
 use kp_kore::{Name, Pattern, Sort};
 use std::alloc::{AllocError, Global};
 
+/// A symbol applied to these patterns.
 pub fn application_of(
     alloc: Global,
     symbol: &Name,
@@ -21,6 +22,7 @@ pub fn application_of(
     })
 }
 
+/// The `\and` of these patterns.
 pub fn conjunction_of(
     alloc: Global,
     sort: &Sort,
@@ -34,6 +36,7 @@ pub fn conjunction_of(
     })
 }
 
+/// The `\or` of these patterns.
 pub fn disjunction_of(
     alloc: Global,
     sort: &Sort,
@@ -47,6 +50,7 @@ pub fn disjunction_of(
     })
 }
 
+/// The `\not` of a pattern.
 pub fn negation_of(alloc: Global, sort: &Sort, pattern: Box<Pattern>) -> Result<Pattern, AllocError>
     ensures { IfOk result (λ p. view p ≡ negation (sort_view sort.now) (view pattern.value)) }
 {
@@ -56,6 +60,7 @@ pub fn negation_of(alloc: Global, sort: &Sort, pattern: Box<Pattern>) -> Result<
     })
 }
 
+/// The `\next` of a pattern.
 pub fn next_of(alloc: Global, sort: &Sort, pattern: Box<Pattern>) -> Result<Pattern, AllocError>
     ensures { IfOk result (λ p. view p ≡ next (sort_view sort.now) (view pattern.value)) }
 {
@@ -65,6 +70,7 @@ pub fn next_of(alloc: Global, sort: &Sort, pattern: Box<Pattern>) -> Result<Patt
     })
 }
 
+/// The `\implies` of two patterns.
 pub fn implication_of(
     alloc: Global,
     sort: &Sort,
@@ -80,6 +86,7 @@ pub fn implication_of(
     })
 }
 
+/// The `\iff` of two patterns.
 pub fn equivalence_of(
     alloc: Global,
     sort: &Sort,
@@ -95,6 +102,7 @@ pub fn equivalence_of(
     })
 }
 
+/// The `\rewrites` of two patterns.
 pub fn rewriting_of(
     alloc: Global,
     sort: &Sort,
@@ -110,6 +118,7 @@ pub fn rewriting_of(
     })
 }
 
+/// The `\exists` of a variable over a pattern.
 pub fn exists_of(
     alloc: Global,
     sort: &Sort,
@@ -127,6 +136,7 @@ pub fn exists_of(
     })
 }
 
+/// The `\forall` of a variable over a pattern.
 pub fn forall_of(
     alloc: Global,
     sort: &Sort,
@@ -144,6 +154,7 @@ pub fn forall_of(
     })
 }
 
+/// The `\ceil` of a pattern.
 pub fn ceil_of(
     alloc: Global,
     argument_sort: &Sort,
@@ -159,6 +170,7 @@ pub fn ceil_of(
     })
 }
 
+/// The `\floor` of a pattern.
 pub fn floor_of(
     alloc: Global,
     argument_sort: &Sort,
@@ -174,6 +186,7 @@ pub fn floor_of(
     })
 }
 
+/// The `\equals` of two patterns.
 pub fn equals_of(
     alloc: Global,
     argument_sort: &Sort,
@@ -191,6 +204,7 @@ pub fn equals_of(
     })
 }
 
+/// The `\in` of two patterns.
 pub fn membership_of(
     alloc: Global,
     argument_sort: &Sort,
@@ -208,6 +222,7 @@ pub fn membership_of(
     })
 }
 
+/// The `\mu` of a set variable over a pattern.
 pub fn mu_of(
     alloc: Global,
     name: &Name,
@@ -223,6 +238,7 @@ pub fn mu_of(
     })
 }
 
+/// The `\nu` of a set variable over a pattern.
 pub fn nu_of(
     alloc: Global,
     name: &Name,

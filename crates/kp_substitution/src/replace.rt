@@ -27,6 +27,7 @@ pub fn substitute(
     put(pattern, alloc, &lent)
 }
 
+/// The replacements, lent one by one.
 fn lend<'a>(
     alloc: Global,
     replacements: &'a [Replacement],
@@ -40,6 +41,7 @@ fn lend<'a>(
     Ok(lent)
 }
 
+/// The pattern with the replacements put in.
 #[cycle(put)]
 fn put(
     pattern: &Pattern,
@@ -169,6 +171,7 @@ fn put(
     }
 }
 
+/// The pattern with the replacements put in, boxed.
 #[cycle(put)]
 fn put_box(
     pattern: &Pattern,
@@ -180,6 +183,7 @@ fn put_box(
     Ok(Box::new(alloc, put(pattern, alloc, replacements)?)?)
 }
 
+/// The patterns with the replacements put in.
 #[cycle(put)]
 fn put_all(
     patterns: &[Pattern],

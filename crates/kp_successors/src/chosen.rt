@@ -47,6 +47,7 @@ fn ensured(
     Ok(found)
 }
 
+/// Whether it is `\top`.
 fn is_top(pattern: &Pattern) -> bool
     ensures { result ≡ top_test (view pattern.now) }
 {
@@ -88,6 +89,7 @@ fn equal_to_itself(
     equality(alloc, variable.sort.copy(alloc)?, sort, left, right)
 }
 
+/// The `\equals` of two patterns.
 fn equality(
     alloc: Global,
     argument_sort: Sort,
@@ -105,6 +107,7 @@ fn equality(
     })
 }
 
+/// The variable as a pattern.
 fn variable_of(alloc: Global, variable: &SortedVariable) -> Result<Pattern, AllocError>
     ensures { IfOk result (λ p. view p ≡ variable_at (string_bytes variable.now.name) (sort_view variable.now.sort)) }
 {
@@ -131,6 +134,7 @@ fn constrained(
     conjoined(alloc, sort, patterns)
 }
 
+/// The `\and` of these patterns.
 fn conjoined(alloc: Global, sort: &Sort, patterns: Vec<Pattern>) -> Result<Pattern, AllocError>
     ensures { IfOk result (λ p. view p ≡ conjunction (sort_view sort.now) (patterns_view patterns.items)) }
 {

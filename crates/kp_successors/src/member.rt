@@ -25,12 +25,14 @@ pub fn is_named(name: &str, variables: &[SortedVariable]) -> bool
     false
 }
 
+/// Whether both are the same sort.
 fn is_same_sort(sort: &Sort, other: &Sort) -> bool
     ensures { result ≡ sorts_equal (sort_view sort.now) (sort_view other.now) }
 {
     sort.equal(other)
 }
 
+/// Whether both are the same variable, by name and sort.
 fn is_same(variable: &SortedVariable, other: &SortedVariable) -> bool
     ensures { result ≡ (bytes_eq (string_bytes variable.now.name) (string_bytes other.now.name) && sorts_equal (sort_view variable.now.sort) (sort_view other.now.sort)) }
 {
@@ -62,6 +64,7 @@ fn is_known(variable: &SortedVariable, side: &RightSide) -> bool
     is_named(variable.name.as_str(), &side.left_variables)
 }
 
+/// Whether each variable is one of the left side's or a new one.
 fn are_known(variables: &[SortedVariable], side: &RightSide) -> bool
     ensures { result ≡ list_all (known_variable (left_of side.now) (new_of side.now)) (map sorted_variable_view variables.now) }
 {
@@ -90,6 +93,7 @@ pub fn free_beside(alloc: Global, side: &RightSide) -> Result<Vec<SortedVariable
     Ok(found)
 }
 
+/// Adds the free variables of the patterns.
 fn add_free(
     alloc: Global,
     patterns: &[Pattern],
@@ -104,6 +108,7 @@ fn add_free(
     Ok(())
 }
 
+/// Adds these variables.
 fn add_all(found: &mut Vec<SortedVariable>, more: Vec<SortedVariable>) -> Result<(), AllocError>
     ensures { OnOk result (map sorted_variable_view found.new.items ≡ map sorted_variable_view found.old.items ++ map sorted_variable_view more.items) }
 {

@@ -39,6 +39,7 @@ pub fn narrow(
     narrow_parts(alloc, signature, side, &parts, bindings)
 }
 
+/// Whether no part without new variables computes a number beyond 128 bits.
 fn narrow_parts(
     alloc: Global,
     signature: &Signature,
@@ -56,6 +57,7 @@ fn narrow_parts(
     Ok(())
 }
 
+/// Whether the part, where it has no new variables, computes no number beyond 128 bits.
 fn narrow_part(
     alloc: Global,
     signature: &Signature,
@@ -81,6 +83,7 @@ fn has_no_new(alloc: Global, side: &RightSide, part: &Pattern) -> Result<bool, A
     Ok(are_old(&variables, &side.new_variables))
 }
 
+/// Whether none of them is a new variable.
 fn are_old(variables: &[SortedVariable], new_variables: &[SortedVariable]) -> bool
     ensures { result ≡ list_all (λ x. not (named_among x.name (map sorted_variable_view new_variables.now))) (map sorted_variable_view variables.now) }
 {

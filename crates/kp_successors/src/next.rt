@@ -149,6 +149,7 @@ pub fn nexts_at(
     Ok(found)
 }
 
+/// Adds a next state, where there is one.
 fn add_next(found: &mut Vec<Pattern>, next: Option<Pattern>) -> Result<(), AllocError>
     ensures { OnOk result (map view found.new.items ≡ map view found.old.items ++ next_list next) }
 {

@@ -46,12 +46,14 @@ pub fn put_in(
     Ok(found)
 }
 
+/// Adds a replacement.
 fn add(found: &mut Vec<Replacement>, replacement: Replacement) -> Result<(), AllocError>
     ensures { OnOk result (replacements_view found.new.items ≡ replacements_view found.old.items ++ replacement_view replacement ∷ []) }
 {
     Ok(found.push(replacement)?)
 }
 
+/// What stands for a variable: the spelling of the value that it is bound to.
 fn replacement_of(
     alloc: Global,
     signature: &Signature,

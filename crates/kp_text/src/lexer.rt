@@ -59,12 +59,14 @@ pub fn first_character(text: &str) -> Option<(char, &str)>
     }
 }
 
+/// Whether it is white space.
 fn is_blank(c: char) -> bool
     ensures { result ≡ is_white c }
 {
     c == ' ' || c == '\t' || c == '\r' || c == '\n'
 }
 
+/// A letter, a digit, ' or -.
 fn is_identifier_character(c: char) -> bool
     ensures { result ≡ is_identifier_byte c }
 {
@@ -234,6 +236,7 @@ fn after_colon(text: &str, tail: Tail, left: usize) -> Ahead<'_>
     }
 }
 
+/// A bracket, a comma or @.
 fn is_mark_character(c: char) -> bool
     ensures { result ≡ is_mark c }
 {
