@@ -14,7 +14,8 @@ use Rattle.kp_semantics.specs.Value.{Value, whole, truth, token, constructed, no
 use Rattle.kp_semantics.specs.Forms.{two}
 use Rattle.kp_semantics.specs.Interpretation.{interpreted}
 use Rattle.kp_semantics.specs.Instance.{Valuation, instance, instances, applied}
-use Rattle.kp_semantics.specs.Foreign.{is_interpretation, fits_number}
+use Rattle.kp_kore.specs.Limits.{fits_number}
+use Rattle.kp_semantics.specs.Foreign.{is_interpretation}
 use Rattle.kp_semantics.specs.Numbers.{is_wide_call, computes_wide}
 use Rattle.kp_semantics.specs.Replies.{is_wide_value}
 use Rattle.kp_ground.specs.Terms.{RuleTerm, call, opposite, term_value, is_narrow, stays_narrow, all_stay_narrow}

@@ -6,7 +6,8 @@ ghost use Rattle.kp_semantics.specs.Instance.{literal_value as value_written};
 ghost use Rattle.kp_ground.specs.View.{value_view};
 ghost use Rattle.kp_signature.specs.View.{signature_view};
 ghost use Rattle.kp_signature.specs.Places.{Place};
-ghost use Rattle.kp_signature.specs.Verify.{is_numeral, fits_in_128_bits, first_fault};
+ghost use Rattle.kp_kore.specs.Limits.{writes_number, fits_number};
+ghost use Rattle.kp_signature.specs.Verify.{first_fault};
 ghost use Rattle.kp_compile.specs.declared.error.CompileError.TheVariants.{Memory};
 
 use crate::error::CompileError;
@@ -18,7 +19,7 @@ use std::alloc::Global;
 /// The number that a text writes.
 fn whole_number(text: &str) -> Result<i128, CompileError>
     ensures written { IfOk result (λ n. n ≡ signed_digits_value 10 text.now) }
-    ensures refused { IfErr result (λ e. IsTrue (is_numeral text.now) → IsTrue (fits_in_128_bits (signed_digits_value 10 text.now)) → e ≡ Memory) }
+    ensures refused { IfErr result (λ e. IsTrue (writes_number text.now) → IsTrue (fits_number (signed_digits_value 10 text.now)) → e ≡ Memory) }
 {
     match text.parse::<i128>() {
         Ok(number) => Ok(number),

@@ -9,7 +9,7 @@ use Rattle.kp_semantics.specs.Value.{Value, whole, constructed, Values, no_value
 use Rattle.kp_semantics.specs.Forms.{two}
 use Rattle.kp_semantics.specs.Interpretation.{interpreted}
 use Rattle.kp_semantics.specs.Instance.{Valuation}
-use Rattle.kp_semantics.specs.Foreign.{fits_number}
+use Rattle.kp_kore.specs.Limits.{fits_number}
 
 mutual
   pub data RuleTerm : Type 0 where

@@ -81,7 +81,7 @@ impl Arithmetic {
     ghost use Rattle.std.specs.Prelude.{MatchOption, false, true};
     ghost use Rattle.kp_ground.specs.HookView.{arithmetic_view};
     ghost use Rattle.kp_semantics.specs.Interpretation.{computed};
-    ghost use Rattle.kp_semantics.specs.Foreign.{fits_number};
+    ghost use Rattle.kp_kore.specs.Limits.{fits_number};
 
     /// The number that is computed, where it is within 128 bits.
     pub fn computes(self, left: i128, right: i128) -> Option<i128>

@@ -1,6 +1,7 @@
 pub mod Attributes
 pub mod Folds
 pub mod Hooks
+pub mod Limits
 pub mod Parts
 pub mod Signature
 pub mod Sorting

@@ -131,12 +131,12 @@ pub record IsImplies (o : Members) (request : ImpliesRequest) : Type 0 where
   pub spells_consequent : SpellsWrapped (object consequent) request.consequent
 
 -- the bound of a run: more than the most, and none, is the most
-abbrev pub most_depth : ℕ
-most_depth = 10000
+abbrev pub most_steps : ℕ
+most_steps = 10000
 
 abbrev pub bound_of : ExecuteOptions → ℕ
 bound_of options = bounded options.max_depth
   where
     bounded : Option ℕ → ℕ
-    bounded (Some n) = min n most_depth
-    bounded None = most_depth
+    bounded (Some n) = min n most_steps
+    bounded None = most_steps

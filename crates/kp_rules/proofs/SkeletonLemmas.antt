@@ -13,7 +13,8 @@ use Rattle.kp_semantics.specs.Instance.{Valuation}
 use Rattle.kp_semantics.specs.Foreign.{IsAnyOf, IsAnyOfMaybe, IsConstructedBy, MayBe, MayBeAll, InjectionsSplit}
 use Rattle.kp_semantics.specs.Instance.{conjoined_predicates}
 use Rattle.kp_semantics.specs.Rules.{constrained_term}
-use Rattle.kp_semantics.specs.Foreign.{IsSkeletonInstance, most_depth}
+use Rattle.kp_kore.specs.Limits.{most_depth}
+use Rattle.kp_semantics.specs.Foreign.{IsSkeletonInstance}
 use Rattle.kp_rules.specs.Shapes.{side_of}
 use Rattle.kp_rules.specs.Skeletons.{IsAdmitted, Form, built, nothing, any_form, maybe_form, forms_of, skeleton_view, Admits, AdmitAll, StandsFor, StandForAll, StandsForFirst}
 use Rattle.kp_rules.specs.declared.skeleton.Skeleton.{Skeleton}

@@ -10,7 +10,8 @@ use Rattle.kp_kore.specs.View.{view, sort_view}
 use Rattle.kp_semantics.specs.Sorted.{IsSorted}
 use Rattle.kp_semantics.specs.Instance.{Valuation, instance, is_named, GivesSorts, IsTrueUnder}
 use Rattle.kp_semantics.specs.Rules as model
-use Rattle.kp_semantics.specs.Foreign.{Reads, most_depth, is_wide_literal, has_foreign_head, has_interpreted_head, is_set_variable, is_quantifier, is_floor_of_term, repeats_literals_only, InjectionsSplit, is_read_priority}
+use Rattle.kp_kore.specs.Limits.{most_depth}
+use Rattle.kp_semantics.specs.Foreign.{Reads, is_wide_literal, has_foreign_head, has_interpreted_head, is_set_variable, is_quantifier, is_floor_of_term, repeats_literals_only, InjectionsSplit, is_read_priority}
 use Rattle.std.specs.Bool.{Decides}
 use Rattle.kp_semantics.specs.Numbers.{computes_wide}
 use Rattle.kp_ground.specs.Conditions.{condition_holds, condition_narrow as is_condition_narrow}

@@ -3,7 +3,8 @@ ghost use Rattle.std.specs.Prelude.{◌≡◌, ◌==◌, ◌&&◌, IfOk, MatchBo
 ghost use Rattle.std.specs.List.{list_all, AllByRecursion};
 ghost use Rattle.kp_kore.specs.Parts.{pattern_list};
 ghost use Rattle.kp_kore.specs.View.{view, patterns_view};
-ghost use Rattle.kp_semantics.specs.Foreign.{is_foreign_meaning, is_interpretation, has_foreign_head as foreign_head, has_interpreted_head as interpreted_head, is_set_variable as set_variable_test, is_quantifier as quantifier_test, is_floor_of_term as floor_test, is_wide_literal as wide_literal, writes_number, fits_number, InjectionsSplit};
+ghost use Rattle.kp_kore.specs.Limits.{writes_number, fits_number};
+ghost use Rattle.kp_semantics.specs.Foreign.{is_foreign_meaning, is_interpretation, has_foreign_head as foreign_head, has_interpreted_head as interpreted_head, is_set_variable as set_variable_test, is_quantifier as quantifier_test, is_floor_of_term as floor_test, is_wide_literal as wide_literal, InjectionsSplit};
 ghost use Rattle.std.specs.Str.Parse.{signed_digits_value};
 ghost use Rattle.kp_signature.specs.View.{signature_view};
 ghost use Rattle.kp_compile.specs.Meanings.{meaning_view};

@@ -9,7 +9,8 @@ ghost use Rattle.kp_kore.specs.View.{view, patterns_view, sort_view, sorts_view,
 ghost use Rattle.kp_signature.specs.View.{signature_view};
 ghost use Rattle.kp_semantics.specs.Value as model;
 ghost use Rattle.kp_semantics.specs.Sorted.{IsSorted};
-ghost use Rattle.kp_semantics.specs.Foreign.{IsSkeletonInstance, writes_number, fits_number};
+ghost use Rattle.kp_kore.specs.Limits.{writes_number, fits_number};
+ghost use Rattle.kp_semantics.specs.Foreign.{IsSkeletonInstance};
 ghost use Rattle.kp_semantics.specs.Rules.{constrained_term};
 ghost use Rattle.kp_ground.specs.View.{value_view};
 ghost use Rattle.kp_rules.specs.Index.{IsIndexOf};

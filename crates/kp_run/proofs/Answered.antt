@@ -10,7 +10,7 @@ use Rattle.kp_kore.specs.View.{sort_view}
 use Rattle.kp_signature.specs.View.{signature_view}
 use Rattle.kp_semantics.specs.Value.{Value}
 use Rattle.kp_semantics.specs.Sorted.{IsSorted}
-use Rattle.kp_semantics.specs.Foreign.{most_depth}
+use Rattle.kp_kore.specs.Limits.{most_depth}
 use Rattle.kp_semantics.specs.Rules as model
 use Rattle.kp_semantics.specs.Theory.{Theory}
 use Rattle.kp_semantics.specs.Steps.{AnyByRecursion, Fires, HasTurn}

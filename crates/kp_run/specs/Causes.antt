@@ -9,7 +9,7 @@ use Rattle.kp_kore.specs.Sorting.{sort_of_term}
 use Rattle.kp_semantics.specs.Value.{Value}
 use Rattle.kp_semantics.specs.Instance.{Valuation, instance, GivesSorts}
 use Rattle.kp_semantics.specs.Rules.{Rewrite, RuleBody, rewrite, foreign_rule, RewriteRule}
-use Rattle.kp_semantics.specs.Foreign.{most_depth}
+use Rattle.kp_kore.specs.Limits.{most_depth}
 use Rattle.kp_semantics.specs.Numbers.{computes_wide}
 use Rattle.kp_semantics.specs.Theory.{Theory}
 use Rattle.kp_semantics.specs.Steps.{AnyByRecursion, FiresUnder, HasTurn, IsUnknown, Steps, StepsBy}

@@ -5,7 +5,7 @@ use Rattle.kp_kore.specs.Parts.{term_depth}
 use Rattle.kp_kore.specs.Signature.{KoreSignature}
 use Rattle.kp_kore.specs.View.{sort_view}
 use Rattle.kp_semantics.specs.Value.{Value}
-use Rattle.kp_semantics.specs.Foreign.{most_depth}
+use Rattle.kp_kore.specs.Limits.{most_depth}
 use Rattle.kp_semantics.specs.Instance.{Valuation}
 use Rattle.kp_ground.specs.LeftView.{left_view}
 use Rattle.kp_ground.specs.Solves.{Solves}

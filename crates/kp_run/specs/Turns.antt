@@ -7,7 +7,7 @@ use Rattle.kp_kore.specs.Signature.{KoreSignature}
 use Rattle.kp_kore.specs.View.{sort_view}
 use Rattle.kp_semantics.specs.Value.{Value, HasSort}
 use Rattle.kp_semantics.specs.Instance.{Valuation}
-use Rattle.kp_semantics.specs.Foreign.{most_depth}
+use Rattle.kp_kore.specs.Limits.{most_depth}
 use Rattle.kp_semantics.specs.Steps.{AnyByRecursion}
 use Rattle.kp_ground.specs.Solves.{Solves}
 use Rattle.kp_ground.specs.LeftView.{left_view}

@@ -7,6 +7,7 @@ use Rattle.std.specs.Char.{digit_value}
 use Rattle.std.specs.Str.{bytes_eq}
 use Rattle.std.specs.Str.Parse.{without_leading_sign, signed_digits_value}
 use Rattle.kp_kore.specs.Syntax.{Text, KoreSort, sort_of, sort_variable, no_sorts, next_sort, KorePattern, KorePatterns, variable, set_variable, application, literal, exists, forall, floor, no_patterns, next_pattern}
+use Rattle.kp_kore.specs.Limits.{most_depth, fits_number, writes_number}
 use Rattle.kp_kore.specs.Parts.{SortedName, is_term, subpatterns, free_variables, term_depth}
 use Rattle.kp_kore.specs.Signature.{KoreSignature, SymbolMeaning, injection, construction, interpretation, foreign, meaning_of, has_literals, is_integer_sort, is_boolean_sort, is_token_sort, IsBelow, Head, IsHeadOf}
 use Rattle.kp_kore.specs.Sorting.{sort_of_term, result_sort}
@@ -15,17 +16,6 @@ use Rattle.kp_semantics.specs.Instance.{Valuation, is_named, literal_value}
 use Rattle.kp_semantics.specs.Rules.{Rewrite, ForeignLeft, RuleBody, rewrite, foreign_rule, rewrite_of, foreign_left, priority_of, most_priority}
 
 -- ---- what a rule must not have
-
-abbrev pub most_depth : ℕ
-most_depth = 48
-
--- signed 128 bits
-abbrev pub fits_number : ℤ → Bool
-fits_number n = int_le (neg_ℤ (pos (2 ^ 127))) n && int_lt n (pos (2 ^ 127))
-
--- one or more decimal digits, after a sign or none
-abbrev pub writes_number : Text → Bool
-writes_number text = nat_lt 0 (length (without_leading_sign text)) && list_all (λ c. nat_lt (digit_value c) 10) (without_leading_sign text)
 
 -- a whole-number literal outside signed 128 bits
 abbrev pub is_wide_literal : KoreSignature → KorePattern → Bool

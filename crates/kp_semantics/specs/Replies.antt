@@ -10,7 +10,8 @@ use Rattle.kp_kore.specs.Signature.{KoreSignature, meaning_of}
 use Rattle.kp_semantics.specs.Value.{Value, whole}
 use Rattle.kp_semantics.specs.Instance.{Valuation, instance, GivesSorts, AgreesOff, IsInstance, is_named, conjoined_predicates}
 use Rattle.kp_semantics.specs.Rules.{RewriteRule}
-use Rattle.kp_semantics.specs.Foreign.{is_interpretation, fits_number}
+use Rattle.kp_kore.specs.Limits.{fits_number}
+use Rattle.kp_semantics.specs.Foreign.{is_interpretation}
 use Rattle.kp_semantics.specs.Theory.{Theory}
 use Rattle.kp_semantics.specs.Steps.{AnyByRecursion, HasTurn, IsUnknown, IsUnknownBy, StepsIn, IsFinal, NoneFires}
 

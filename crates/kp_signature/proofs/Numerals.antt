@@ -8,7 +8,7 @@ use Rattle.std.specs.Str.Parse.{IsNumeral, AllDigits, without_leading_sign, sign
 use Rattle.std.proofs.lemmas.Bool.Decides.{Decides-ltb}
 use Rattle.std.proofs.lemmas.Bool.{leb-true, le-leb}
 use Rattle.kp_kore.specs.Syntax.{Text}
-use Rattle.kp_signature.specs.Verify.{is_numeral, fits_in_128_bits}
+use Rattle.kp_kore.specs.Limits.{writes_number, fits_number}
 
 below_both : (n m k : ℕ) → k ≡ m + 1 → n ≤ m → n < k
 below_both n m k e h = omega arith
@@ -16,7 +16,7 @@ below_both n m k e h = omega arith
 below_one : (n m k : ℕ) → k ≡ m + 1 → n < k → n ≤ m
 below_one n m k e h = omega arith
 
-fits_Decides : (k : ℤ) → Decides (fits_in_128_bits k) (SFits w128 k)
+fits_Decides : (k : ℤ) → Decides (fits_number k) (SFits w128 k)
 fits_Decides (pos n) = let d = Decides-ltb n (2 ^ 127) in (λ h. record { sfits = d.0 h }, λ f. d.1 f.sfits)
 fits_Decides (negsuc n) = by (nat_le n (2 ^ 127 - 1)) refl
   where
@@ -32,7 +32,7 @@ all_digits (c ∷ cs) h = by (nat_lt (digit_value c) 10) (Decides-ltb (digit_val
     by true d h rest = (d.0 refl, rest h)
     by false d h rest = absurd (cc)
 
-numeral : (t : Text) → is_numeral t ≡ true → IsNumeral 10 (without_leading_sign t)
+numeral : (t : Text) → writes_number t ≡ true → IsNumeral 10 (without_leading_sign t)
 numeral t h = by (nat_lt 0 (length (without_leading_sign t))) (Decides-ltb 0 (length (without_leading_sign t))) h
   where
     by : (b : Bool) → Decides b (0 < length (without_leading_sign t)) → b && list_all (λ c. nat_lt (digit_value c) 10) (without_leading_sign t) ≡ true → IsNumeral 10 (without_leading_sign t)
@@ -44,6 +44,6 @@ told (Ok x) b v h d = sym (d.1 h.0)
 told (Err e) true v h d = absurd (h (d.0 refl))
 told (Err e) false v h d = refl
 
-pub parsed : {E : Type 0} (t : Text) (r : Result ℤ E) → is_numeral t ≡ true → ParsesSigned w128 10 t r → is_ok r ≡ fits_in_128_bits (signed_digits_value 10 t)
+pub parsed : {E : Type 0} (t : Text) (r : Result ℤ E) → writes_number t ≡ true → ParsesSigned w128 10 t r → is_ok r ≡ fits_number (signed_digits_value 10 t)
 parsed t r h p = let d = fits_Decides (signed_digits_value 10 t) in
-    told r (fits_in_128_bits (signed_digits_value 10 t)) (signed_digits_value 10 t) p (λ e. (numeral t h, d.0 e), λ q. d.1 q.1)
+    told r (fits_number (signed_digits_value 10 t)) (signed_digits_value 10 t) p (λ e. (numeral t h, d.0 e), λ q. d.1 q.1)

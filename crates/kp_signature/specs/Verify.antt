@@ -8,6 +8,7 @@ use Rattle.std.specs.Str.{bytes_eq}
 use Rattle.std.specs.Str.Parse.{without_leading_sign, signed_digits_value}
 use Rattle.kp_kore.specs.Syntax.{Text, KoreSort, sort_of, sort_variable, KoreSorts, no_sorts, next_sort, KorePattern, KorePatterns, variable, set_variable, application, string_literal, literal, top, bottom, negation, next, conjunction, disjunction, implication, equivalence, rewriting, exists, forall, ceil, floor, equals, membership, mu, nu, no_patterns, next_pattern, SymbolDeclaration}
 use Rattle.kp_kore.specs.Attributes.{sorts_equal}
+use Rattle.kp_kore.specs.Limits.{most_depth, fits_number, writes_number}
 use Rattle.kp_kore.specs.Parts.{SortedName, sort_list, pattern_list}
 use Rattle.kp_kore.specs.Signature.{KoreSignature, symbol_declared, is_injection, is_below, is_integer_sort, is_boolean_sort, is_token_sort}
 use Rattle.kp_signature.specs.Places.{earlier, unknown_sort_among, sorts_at, own_sort, Profile, profile_of, argument_sorts, Place, the_top, argument_at, part_at, after, under_binder, sort_in_scope}
@@ -73,14 +74,10 @@ injection_fault g (application f (next_sort a (next_sort b no_sorts)) ps) = of_d
     of_declared None = None
 injection_fault g _ = None
 
--- decimal digits, one or more, after a sign or none
-abbrev pub is_numeral : Text → Bool
-is_numeral t = nat_lt 0 (length (without_leading_sign t)) && list_all (λ c. nat_lt (digit_value c) 10) (without_leading_sign t)
-
 -- what may stand as a literal of a sort: a numeral, true or false, any text of a token sort, nothing of others
 abbrev pub is_literal_of : KoreSignature → KoreSort → Text → Bool
 is_literal_of g s t =
-    if is_integer_sort g s then is_numeral t
+    if is_integer_sort g s then writes_number t
     else if is_boolean_sort g s then bytes_eq t (codes "true") || bytes_eq t (codes "false")
     else is_token_sort g s
 
@@ -89,20 +86,14 @@ abbrev pub literal_fault : KoreSignature → KorePattern → Option VerifyFault
 literal_fault g (literal s t) = fault_unless (is_literal_of g s t) (no_literal t)
 literal_fault g _ = None
 
-abbrev pub fits_in_128_bits : ℤ → Bool
-fits_in_128_bits k = int_le (neg_ℤ (pos (2 ^ 127))) k && int_lt k (pos (2 ^ 127))
-
 -- V5
 abbrev pub width_fault : KoreSignature → KorePattern → Option VerifyFault
-width_fault g (literal s t) = fault_unless (not (is_integer_sort g s) || fits_in_128_bits (signed_digits_value 10 t)) (number_too_wide t)
+width_fault g (literal s t) = fault_unless (not (is_integer_sort g s) || fits_number (signed_digits_value 10 t)) (number_too_wide t)
 width_fault g _ = None
-
-abbrev pub deepest : ℕ
-deepest = 48
 
 -- V6: at the node that lies one deeper than a term may
 abbrev pub depth_fault : ℕ → Option VerifyFault
-depth_fault depth = fault_unless (nat_le depth deepest) term_too_deep
+depth_fault depth = fault_unless (nat_le depth most_depth) term_too_deep
 
 -- ---- the first fault
 

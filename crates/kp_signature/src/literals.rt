@@ -6,7 +6,8 @@ ghost use Rattle.kp_kore.specs.View.{sort_view};
 ghost use Rattle.kp_kore.specs.Syntax.{literal};
 ghost use Rattle.kp_signature.specs.Faults.{fault_view};
 ghost use Rattle.kp_signature.specs.Nodes.{literal_node_fault};
-ghost use Rattle.kp_signature.specs.Verify.{VerifyFault, is_literal_of as literal_test, is_numeral as numeral_test, fits_in_128_bits, literal_fault, width_fault};
+ghost use Rattle.kp_kore.specs.Limits.{writes_number as numeral_test, fits_number};
+ghost use Rattle.kp_signature.specs.Verify.{VerifyFault, is_literal_of as literal_test, literal_fault, width_fault};
 ghost use Rattle.kp_signature.specs.View.{signature_view};
 
 use crate::error::VerifyError;
@@ -80,7 +81,7 @@ fn check_width(signature: &Signature, sort: &Sort, text: &Name) -> Result<(), Ve
 
 /// Whether a numeral's number fits in 128 bits.
 fn fits(text: &str) -> bool
-    ensures { numeral_test text.now ≡ true → result ≡ fits_in_128_bits (signed_digits_value 10 text.now) }
+    ensures { numeral_test text.now ≡ true → result ≡ fits_number (signed_digits_value 10 text.now) }
 {
     let number: Result<i128, ParseIntError> = text.parse();
     number.is_ok()

@@ -6,7 +6,8 @@ ghost use Rattle.std.specs.Option.{option_map};
 ghost use Rattle.std.specs.Str.Parse.{without_leading_sign};
 ghost use Rattle.kp_kore.specs.View.{sort_view};
 ghost use Rattle.kp_signature.specs.Faults.{fault_view};
-ghost use Rattle.kp_signature.specs.Verify.{VerifyFault, difference, depth_fault, is_numeral as numeral_test};
+ghost use Rattle.kp_kore.specs.Limits.{writes_number as numeral_test};
+ghost use Rattle.kp_signature.specs.Verify.{VerifyFault, difference, depth_fault};
 
 use crate::error::VerifyError;
 use kp_kore::Sort;

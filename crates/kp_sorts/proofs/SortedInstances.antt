@@ -13,7 +13,8 @@ use Rattle.kp_semantics.specs.Instance.{Valuation, GivesSorts, instance, instanc
 use Rattle.kp_semantics.specs.Foreign.{none_within, has_foreign_head, is_foreign_meaning}
 use Rattle.kp_semantics.proofs.InstanceLemmas.{first_true, second_true}
 use Rattle.kp_signature.specs.Places.{Place, own_sort, argument_sorts, argument_at, after}
-use Rattle.kp_signature.specs.Verify.{first_fault, fault_at, arguments_fault, literal_fault, is_literal_of, is_numeral, no_literal}
+use Rattle.kp_kore.specs.Limits.{writes_number}
+use Rattle.kp_signature.specs.Verify.{first_fault, fault_at, arguments_fault, literal_fault, is_literal_of, no_literal}
 use Rattle.kp_sorts.proofs.FaultLemmas.{nothing_earlier, nothing_later, term_has_wanted_sort, keeps_rules, no_fault_unless}
 use Rattle.kp_sorts.proofs.SortLemmas.{is_that_sort, same_inside}
 use Rattle.kp_sorts.proofs.ApplicationLemmas.{as_many_arguments, application_is_sorted}
@@ -27,7 +28,7 @@ literal_is_sorted : (g : KoreSignature) (s : KoreSort) (text : Text) → literal
 literal_is_sorted g s text e =
     by (is_integer_sort g s) (is_boolean_sort g s) refl refl (no_fault_unless (is_literal_of g s text) (no_literal text) e)
   where
-    by : (i b : Bool) → is_integer_sort g s ≡ i → is_boolean_sort g s ≡ b → taken i b (is_numeral text) (bytes_eq text (codes "true") || bytes_eq text (codes "false")) (is_token_sort g s) ≡ true →
+    by : (i b : Bool) → is_integer_sort g s ≡ i → is_boolean_sort g s ≡ b → taken i b (writes_number text) (bytes_eq text (codes "true") || bytes_eq text (codes "false")) (is_token_sort g s) ≡ true →
         HasSort g s (cond i (whole (signed_digits_value 10 text)) (cond b (truth (bytes_eq text (codes "true"))) (token s text)))
     by true b p q h = (s, is_that_sort (integer_sort g) s p, itself s)
     by false true p q h = (s, is_that_sort (boolean_sort g) s q, itself s)

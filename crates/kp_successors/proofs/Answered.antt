@@ -18,7 +18,7 @@ use Rattle.kp_run.specs.Causes.{HasWideCondition}
 use Rattle.kp_run.specs.Turns.{BodyFires, BodyIsWide, FiresAt}
 use Rattle.kp_run.proofs.Among.{of_some, zip_all, zip_any}
 use Rattle.kp_run.proofs.Theories.{same_firing, only_rewrites_fire}
-use Rattle.kp_successors.specs.Successors.{IsSuccessor, AreSuccessors, HasWideRight}
+use Rattle.kp_successors.specs.Successors.{IsSuccessor, AreSuccessors, HasWidePart}
 use Rattle.kp_successors.specs.Turns.{RightIsWide, IsWideAt, IsLeast, AreNexts}
 use Rattle.kp_successors.proofs.Lists.{by_either}
 use Rattle.kp_successors.proofs.Following.{IsExact, follows}
@@ -122,25 +122,25 @@ wide_at t c n m r s is w = fires r.body w
     fires (Foreign k) w = absurd w
 
 pub rights_narrow : (t : Theory) (rules : RuleSet) (c : Value) (n : ℕ) → RunsAs t rules → IsSorted t.signature c → IsLeast t.signature c rules.rules.items (Some n) → AllByRecursion (λ r. ¬ IsWideAt t.signature c n r) rules.rules.items →
-    ¬ AnyByRecursion (λ m. HasTurn t m c × HasWideRight t.signature c m.body) t.rules
+    ¬ AnyByRecursion (λ m. HasTurn t m c × HasWidePart t.signature c m.body) t.rules
 rights_narrow t rules c n runs s h none some =
     let g = t.signature in
     let least = least_at t rules c n runs s h in
-    of_some (λ m. (m.priority < n → ¬ Fires g m.body c) → ¬ (HasTurn t m c × HasWideRight g c m.body)) (λ m. (m.priority < n → ¬ Fires g m.body c) × HasTurn t m c × HasWideRight g c m.body) ⊥ (λ m no k. no k.0 (k.1, k.2)) t.rules
-    (zip_all (IsCodeOf g) (λ r. ¬ IsWideAt g c n r) (λ m. (m.priority < n → ¬ Fires g m.body c) → ¬ (HasTurn t m c × HasWideRight g c m.body))
+    of_some (λ m. (m.priority < n → ¬ Fires g m.body c) → ¬ (HasTurn t m c × HasWidePart g c m.body)) (λ m. (m.priority < n → ¬ Fires g m.body c) × HasTurn t m c × HasWidePart g c m.body) ⊥ (λ m no k. no k.0 (k.1, k.2)) t.rules
+    (zip_all (IsCodeOf g) (λ r. ¬ IsWideAt g c n r) (λ m. (m.priority < n → ¬ Fires g m.body c) → ¬ (HasTurn t m c × HasWidePart g c m.body))
     (λ m r is no before k. no ((((fires_with_turn t c n m r s least before is).1 k.0).1), (wide_right g m.body r.body c s is.is_body).1 k.1)) t.rules rules.rules.items runs.each none)
     (with_before t.rules least.none_before some)
   where
-    with_before : (ms : List model.RewriteRule) → AllByRecursion (λ m. m.priority < n → ¬ Fires t.signature m.body c) ms → AnyByRecursion (λ m. HasTurn t m c × HasWideRight t.signature c m.body) ms →
-        AnyByRecursion (λ m. (m.priority < n → ¬ Fires t.signature m.body c) × HasTurn t m c × HasWideRight t.signature c m.body) ms
+    with_before : (ms : List model.RewriteRule) → AllByRecursion (λ m. m.priority < n → ¬ Fires t.signature m.body c) ms → AnyByRecursion (λ m. HasTurn t m c × HasWidePart t.signature c m.body) ms →
+        AnyByRecursion (λ m. (m.priority < n → ¬ Fires t.signature m.body c) × HasTurn t m c × HasWidePart t.signature c m.body) ms
     with_before [] b a = a
     with_before (m ∷ ms) b (inl a) = inl (b.0, a.0, a.1)
     with_before (m ∷ ms) b (inr a) = inr (with_before ms b.1 a)
 
-pub no_turns : (t : Theory) (rules : RuleSet) (c : Value) → RunsAs t rules → IsSorted t.signature c → IsLeast t.signature c rules.rules.items None → ¬ AnyByRecursion (λ m. HasTurn t m c × HasWideRight t.signature c m.body) t.rules
+pub no_turns : (t : Theory) (rules : RuleSet) (c : Value) → RunsAs t rules → IsSorted t.signature c → IsLeast t.signature c rules.rules.items None → ¬ AnyByRecursion (λ m. HasTurn t m c × HasWidePart t.signature c m.body) t.rules
 no_turns t rules c runs s h some =
     let g = t.signature in
-    of_some (λ m. ¬ Fires g m.body c) (λ m. HasTurn t m c × HasWideRight g c m.body) ⊥ (λ m no k. no k.0.fires) t.rules
+    of_some (λ m. ¬ Fires g m.body c) (λ m. HasTurn t m c × HasWidePart g c m.body) ⊥ (λ m no k. no k.0.fires) t.rules
     (zip_all (IsCodeOf g) (λ r. ¬ BodyFires g c r.body) (λ m. ¬ Fires g m.body c) (λ m r is no f. no ((same_firing g m.body r.body c s is.is_body).1 f)) t.rules rules.rules.items runs.each h) some
 
 pub condition_wide : (t : Theory) (rules : RuleSet) (c : Value) → RunsAs t rules → IsSorted t.signature c → AnyByRecursion (λ r. BodyIsWide t.signature c r.body) rules.rules.items → AnyByRecursion (λ m. HasWideCondition t.signature c m.body) t.rules
@@ -149,11 +149,11 @@ condition_wide t rules c runs s h =
     zip_any (IsCodeOf g) (λ r. BodyIsWide g c r.body) (λ m. HasWideCondition g c m.body) (λ m r is w. (wide_condition g m.body r.body c s is.is_body).0 w) t.rules rules.rules.items runs.each h
 
 pub right_wide : (t : Theory) (rules : RuleSet) (c : Value) (n : ℕ) → RunsAs t rules → IsSorted t.signature c → IsLeast t.signature c rules.rules.items (Some n) → AnyByRecursion (IsWideAt t.signature c n) rules.rules.items →
-    AnyByRecursion (λ m. HasTurn t m c × HasWideRight t.signature c m.body) t.rules
+    AnyByRecursion (λ m. HasTurn t m c × HasWidePart t.signature c m.body) t.rules
 right_wide t rules c n runs s h some =
     let g = t.signature in
     let least = least_at t rules c n runs s h in
-    zip_any (IsCodeOf g) (IsWideAt g c n) (λ m. HasTurn t m c × HasWideRight g c m.body)
+    zip_any (IsCodeOf g) (IsWideAt g c n) (λ m. HasTurn t m c × HasWidePart g c m.body)
     (λ m r is w.
     let b : BodyFires g c r.body = wide_at t c n m r s is w.1 in
     (turn_of t c n m least ((same_firing g m.body r.body c s is.is_body).0 b) (firing_priority g m r c is b ∙ w.0), (wide_right g m.body r.body c s is.is_body).0 w.1)) t.rules rules.rules.items runs.each some

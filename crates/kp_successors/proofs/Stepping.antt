@@ -20,7 +20,7 @@ use Rattle.kp_run.specs.Runs.{IsFirstUnknown}
 use Rattle.kp_run.specs.Turns.{BodyIsWide}
 use Rattle.kp_successors.specs.Errors.{IsCausedBy, IsUnvalued, IsForeignBy}
 use Rattle.kp_successors.specs.Refusals.{HasWideRule, IsRefusedFor}
-use Rattle.kp_successors.specs.Successors.{AreSuccessors, HasWideRight, IsTooWide, wide_pattern, wide_condition, wide_right}
+use Rattle.kp_successors.specs.Successors.{AreSuccessors, HasWidePart, IsTooWide, wide_pattern, wide_condition, wide_right}
 use Rattle.kp_successors.specs.Turns.{IsWideAt, IsLeast, AreNexts}
 use Rattle.kp_successors.specs.declared.error.GroundError.{GroundError}
 use Rattle.kp_successors.specs.declared.error.GroundError.TheVariants.{Memory, Number, Foreign, Unread, NoInjection, Unbound}
@@ -103,7 +103,7 @@ not_too_wide t rules p c u runs same narrow none (wide_pattern h) =
     let isnt : computes_wide t.signature v p ≡ false = subst (λ g. computes_wide g v p ≡ false) runs.signature (narrow v) in
     absurd (cc)
 not_too_wide t rules p c u runs same narrow none (wide_condition some) = none (inl (subst (λ w. AnyByRecursion (λ r. HasWideCondition t.signature w r.body) t.rules) same some))
-not_too_wide t rules p c u runs same narrow none (wide_right some) = none (inr (subst (λ w. AnyByRecursion (λ r. HasTurn t r w × HasWideRight t.signature w r.body) t.rules) same some))
+not_too_wide t rules p c u runs same narrow none (wide_right some) = none (inr (subst (λ w. AnyByRecursion (λ r. HasTurn t r w × HasWidePart t.signature w r.body) t.rules) same some))
 
 -- ---- refusals
 
@@ -120,7 +120,7 @@ refused_value t rules p s c Unbound runs state h = absurd h
 
 too_wide_by : (t : Theory) (p : KorePattern) (c u : Value) → c ≡ u → HasWideRule t u → IsTooWide t p c
 too_wide_by t p c u same (inl some) = wide_condition (subst (λ w. AnyByRecursion (λ r. HasWideCondition t.signature w r.body) t.rules) (sym same) some)
-too_wide_by t p c u same (inr some) = wide_right (subst (λ w. AnyByRecursion (λ r. HasTurn t r w × HasWideRight t.signature w r.body) t.rules) (sym same) some)
+too_wide_by t p c u same (inr some) = wide_right (subst (λ w. AnyByRecursion (λ r. HasTurn t r w × HasWidePart t.signature w r.body) t.rules) (sym same) some)
 
 pub refused_rule : (t : Theory) (p : KorePattern) (c u : Value) (e : GroundError) → c ≡ u → IsCausedBy t.signature (HasWideRule t u) e → IsRefusedFor t p c e
 refused_rule t p c u Memory same h = tt

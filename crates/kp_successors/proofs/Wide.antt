@@ -23,7 +23,7 @@ use Rattle.kp_run.specs.Causes.{HasWideCondition}
 use Rattle.kp_run.specs.Turns.{BodyIsWide}
 use Rattle.kp_successors.specs.WideParts.{holds_none, part_computes_wide}
 use Rattle.kp_successors.specs.Nexts.{is_right_narrow, is_right_narrow_by}
-use Rattle.kp_successors.specs.Successors.{HasWideRight}
+use Rattle.kp_successors.specs.Successors.{HasWidePart}
 use Rattle.kp_successors.specs.Turns.{RightIsWide}
 
 -- ---- conditions
@@ -127,7 +127,7 @@ right_by g w r false None is e choice v =
 right_by g w r true None is e choice v = absurd choice
 right_by g w r false (Some side) is e choice v = absurd choice
 
-pub wide_right : (g : KoreSignature) (m : model.RuleBody) (b : RuleBody) (u : Value) → IsSorted g u → IsBodyOf g m b → RightIsWide g u b ↔ HasWideRight g u m
+pub wide_right : (g : KoreSignature) (m : model.RuleBody) (b : RuleBody) (u : Value) → IsSorted g u → IsBodyOf g m b → RightIsWide g u b ↔ HasWidePart g u m
 wide_right g (model.rewrite w) (Rewrite r) u s is = (
   (λ h. record {
     valuation = h.0;

@@ -8,7 +8,7 @@ use Rattle.kp_compile.specs.Verified.{IsVerifiedTerm}
 use Rattle.kp_run.specs.Causes.{HasWideCondition}
 use Rattle.kp_run.specs.Runs.{IsFirstUnknown}
 use Rattle.kp_successors.specs.Errors.{LacksInjection}
-use Rattle.kp_successors.specs.Successors.{HasWideRight, IsTooWide}
+use Rattle.kp_successors.specs.Successors.{HasWidePart, IsTooWide}
 use Rattle.kp_successors.specs.declared.error.GroundError.{GroundError}
 use Rattle.kp_successors.specs.declared.error.GroundError.TheVariants.{Memory, Number, Foreign, Unread, NoInjection, Unbound}
 
@@ -16,7 +16,7 @@ use Rattle.kp_successors.specs.declared.error.GroundError.TheVariants.{Memory, N
 abbrev pub HasWideRule : Theory → Value → Type 0
 HasWideRule t c =
     AnyByRecursion (λ r. HasWideCondition t.signature c r.body) t.rules
-    ⊎ AnyByRecursion (λ r. HasTurn t r c × HasWideRight t.signature c r.body) t.rules
+    ⊎ AnyByRecursion (λ r. HasTurn t r c × HasWidePart t.signature c r.body) t.rules
 
 -- G1 only where some number is beyond 128 bits; G2 only where none is, with the id of the foreign rule that goes first of
 -- those that might rewrite the configuration; Unread only where the pattern isn't a verified term

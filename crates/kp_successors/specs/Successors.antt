@@ -62,14 +62,14 @@ AreSuccessors t c (r ∷ rs) ps =
 -- ---- G1
 
 -- it fires, and under that valuation a part of the right term in which no new variable stands computes one
-pub record WideRight (g : KoreSignature) (c : Value) (m : Rewrite) : Type 0 where
+pub record WidePart (g : KoreSignature) (c : Value) (m : Rewrite) : Type 0 where
   pub valuation : Valuation
   pub fires : FiresUnder g m valuation c
   pub wide : part_computes_wide g valuation m.new_variables m.right ≡ true
 
-abbrev pub HasWideRight : KoreSignature → Value → RuleBody → Type 0
-HasWideRight g c (rewrite m) = WideRight g c m
-HasWideRight g c (foreign_rule l) = ⊥
+abbrev pub HasWidePart : KoreSignature → Value → RuleBody → Type 0
+HasWidePart g c (rewrite m) = WidePart g c m
+HasWidePart g c (foreign_rule l) = ⊥
 
 -- of a configuration c that the pattern spells
 pub data IsTooWide (t : Theory) (p : KorePattern) (c : Value) : Type 0 where
@@ -78,4 +78,4 @@ pub data IsTooWide (t : Theory) (p : KorePattern) (c : Value) : Type 0 where
   -- the condition of some rule whose left term matches
   wide_condition : AnyByRecursion (λ r. HasWideCondition t.signature c r.body) t.rules → IsTooWide t p c
   -- the right term of some rule that has its turn
-  wide_right : AnyByRecursion (λ r. HasTurn t r c × HasWideRight t.signature c r.body) t.rules → IsTooWide t p c
+  wide_right : AnyByRecursion (λ r. HasTurn t r c × HasWidePart t.signature c r.body) t.rules → IsTooWide t p c

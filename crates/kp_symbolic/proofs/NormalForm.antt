@@ -11,7 +11,7 @@ use Rattle.kp_kore.specs.Parts.{SortedName}
 use Rattle.kp_kore.specs.Signature.{KoreSignature, SymbolMeaning, injection, construction, interpretation, foreign, meaning_of, is_integer_sort}
 use Rattle.kp_semantics.specs.Value.{Value, whole, Values}
 use Rattle.kp_semantics.specs.Interpretation.{interpreted}
-use Rattle.kp_semantics.specs.Foreign.{fits_number}
+use Rattle.kp_kore.specs.Limits.{fits_number}
 use Rattle.kp_semantics.specs.Replies.{is_wide_value}
 use Rattle.kp_symbolic.specs.Terms.{SymbolicTerm, unknown, offset, known, headed, SymbolicTerms, no_terms, next_term, Replaced, replacement_for}
 use Rattle.kp_symbolic.specs.WellFormed.{IsFolded}

@@ -13,7 +13,7 @@ use Rattle.kp_semantics.specs.Value.{Value, whole, truth, token, constructed, ne
 use Rattle.kp_semantics.specs.Forms.{two}
 use Rattle.kp_semantics.specs.Interpretation.{interpreted}
 use Rattle.kp_semantics.specs.Instance.{Valuation, GivesSorts, applied}
-use Rattle.kp_semantics.specs.Foreign.{fits_number}
+use Rattle.kp_kore.specs.Limits.{fits_number}
 use Rattle.kp_semantics.proofs.InstanceLemmas.{first_true}
 use Rattle.kp_symbolic.specs.Terms.{SymbolicTerm, unknown, offset, known, headed, SymbolicTerms, no_terms, next_term, term_instance, term_instances, term_variables, all_term_variables, Replaced, replacement_for, under_replaced}
 use Rattle.kp_symbolic.specs.States.{variables_for, AreGiven}

@@ -15,7 +15,8 @@ use Rattle.kp_kore.specs.Sorting.{at_arguments, all_at_arguments, result_sort}
 use Rattle.kp_semantics.specs.Value.{Value, whole, truth, token, Values, no_values, next_value, HasSort, HaveSorts}
 use Rattle.kp_semantics.specs.Interpretation.{interpreted, no_meaning}
 use Rattle.kp_semantics.specs.Instance.{literal_value}
-use Rattle.kp_semantics.specs.Foreign.{none_within, has_foreign_head, is_foreign_meaning, fits_number}
+use Rattle.kp_kore.specs.Limits.{fits_number}
+use Rattle.kp_semantics.specs.Foreign.{none_within, has_foreign_head, is_foreign_meaning}
 use Rattle.kp_semantics.specs.Replies.{is_wide_value}
 use Rattle.kp_semantics.specs.Sorted.{IsRegular}
 use Rattle.kp_semantics.proofs.InstanceLemmas.{first_true, second_true}

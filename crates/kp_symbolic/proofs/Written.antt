@@ -15,7 +15,7 @@ use Rattle.kp_semantics.specs.Value.{Value, whole, no_values, next_value}
 use Rattle.kp_semantics.specs.Forms.{two}
 use Rattle.kp_semantics.specs.Interpretation.{interpreted}
 use Rattle.kp_semantics.specs.Instance.{Valuation, instance, instances, applied, literal_value, IsTrueUnder, NoneTrueUnder, AllTrueUnder}
-use Rattle.kp_semantics.specs.Foreign.{fits_number}
+use Rattle.kp_kore.specs.Limits.{fits_number}
 use Rattle.kp_semantics.specs.Sorted.{IsRegular}
 use Rattle.kp_semantics.proofs.InstanceLemmas.{first_true, second_true}
 use Rattle.kp_semantics.proofs.SameLemmas.{sorts_equal-Decides}

@@ -10,7 +10,7 @@ use Rattle.kp_kore.specs.Signature.{KoreSignature, SymbolMeaning, injection, con
 use Rattle.kp_semantics.specs.Value.{Value, whole, constructed, Values, no_values, next_value}
 use Rattle.kp_semantics.specs.Interpretation.{interpreted, no_meaning}
 use Rattle.kp_semantics.specs.Instance.{literal_value}
-use Rattle.kp_semantics.specs.Foreign.{fits_number}
+use Rattle.kp_kore.specs.Limits.{fits_number}
 use Rattle.kp_semantics.specs.Replies.{is_wide_value}
 use Rattle.kp_symbolic.specs.Terms.{SymbolicTerm, unknown, offset, known, headed, SymbolicTerms, no_terms, next_term, Replaced, replacement_for}
 

@@ -10,7 +10,7 @@ use Rattle.kp_kore.specs.Signature.{KoreSignature, meaning_of, SymbolMeaning, in
 use Rattle.kp_semantics.specs.Value.{whole}
 use Rattle.kp_semantics.specs.Interpretation.{no_meaning, computed}
 use Rattle.kp_semantics.specs.Instance.{Valuation, GivesSorts, conjuncts, is_named}
-use Rattle.kp_semantics.specs.Foreign.{most_depth, fits_number}
+use Rattle.kp_kore.specs.Limits.{most_depth, fits_number}
 use Rattle.kp_semantics.specs.Steps.{AnyByRecursion}
 use Rattle.kp_symbolic.specs.Terms.{term_instance, SymbolicTerm, unknown, known, headed, no_terms, next_term, Replaced}
 use Rattle.kp_symbolic.specs.Formulas.{one_of, Formulas, no_formulas, next_formula}
