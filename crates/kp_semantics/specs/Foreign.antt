@@ -1,11 +1,10 @@
 -- Which rewrite axioms are read, and what a foreign rule's skeleton stands for.
 -- A rule is foreign where some part of it has no meaning here: then a configuration that its left term might
 -- match, whatever stands for the parts without meaning, is unknown.
-use Rattle.std.specs.Prelude.{◌≡◌, ℕ, zero, suc, ◌^◌, ℤ, pos, neg_ℤ, int_le, int_lt, Bool, true, false, not, ◌&&◌, ◌||◌, nat_le, nat_lt, ◌↔◌, List, [], ◌∷◌, length, Option, Some, None, IsTrue, MatchBool, MatchOption, ⊤, ◌⊎◌, if◌then◌else◌, codes}
+use Rattle.std.specs.Prelude.{◌≡◌, ℕ, zero, suc, Bool, true, false, not, ◌&&◌, ◌||◌, nat_le, ◌↔◌, List, [], ◌∷◌, Option, Some, None, IsTrue, MatchBool, MatchOption, ⊤, ◌⊎◌, if◌then◌else◌, codes}
 use Rattle.std.specs.List.{list_all, AllByRecursion}
-use Rattle.std.specs.Char.{digit_value}
 use Rattle.std.specs.Str.{bytes_eq}
-use Rattle.std.specs.Str.Parse.{without_leading_sign, signed_digits_value}
+use Rattle.std.specs.Str.Parse.{signed_digits_value}
 use Rattle.kp_kore.specs.Syntax.{Text, KoreSort, sort_of, sort_variable, no_sorts, next_sort, KorePattern, KorePatterns, variable, set_variable, application, literal, exists, forall, floor, no_patterns, next_pattern}
 use Rattle.kp_kore.specs.Limits.{most_depth, fits_number, writes_number}
 use Rattle.kp_kore.specs.Parts.{SortedName, is_term, subpatterns, free_variables, term_depth}
