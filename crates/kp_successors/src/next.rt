@@ -115,7 +115,7 @@ fn next_at(
     priority: u32,
 ) -> Result<Option<Pattern>, GroundError>
     ensures next { IfOk result (λ o. MatchOption o (¬ FiresAt (signature_view signature.now) (value_view value.now) priority rule.now)
-        (λ p. FiresAt (signature_view signature.now) (value_view value.now) priority rule.now × Follows (signature_view signature.now) (value_view value.now) rule.now.body (view p))) }
+        (λ p. FiresAt (signature_view signature.now) (value_view value.now) priority rule.now × Follows (signature_view signature.now) (value_view value.now) rule.now.body.value (view p))) }
     ensures narrow { OnOk result (¬ IsWideAt (signature_view signature.now) (value_view value.now) priority rule.now) }
     ensures refused { IfErr result (IsCausedBy (signature_view signature.now) (BodyIsWide (signature_view signature.now) (value_view value.now) rule.now.body.value ⊎ IsWideAt (signature_view signature.now) (value_view value.now) priority rule.now)) }
     ensures unbound { IfErr result (λ e. e ≡ Unbound → LeavesOpen (signature_view signature.now) rule.now.body.value) }
