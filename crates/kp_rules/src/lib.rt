@@ -26,7 +26,7 @@ mod values;
 pub use label::label_of;
 pub use priority::{Priority, USUAL_PRIORITY, priority_of};
 pub use read::{RuleError, read_rule};
-pub use rule::{Rewrite, RightSide, Rule, RuleBody, RuleSet, SortTest};
+pub use rule::{Rewrite, RightSide, Rule, RuleBody, RuleSet, RuleSource, SortTest};
 pub use skeleton::Skeleton;
 pub use sort_index::SortIndex;
 pub use values::has_sort;
