@@ -15,7 +15,7 @@ mod parts_read;
 pub mod priority;
 mod read;
 pub mod rule;
-mod shape;
+pub mod shape;
 pub mod skeleton;
 pub mod sort_index;
 mod sort_key;
