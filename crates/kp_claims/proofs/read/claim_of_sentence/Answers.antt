@@ -1,7 +1,7 @@
-use Rattle.std.proofs.Common.{sym, subst, IfErr, OnOk}
+use Rattle.std.proofs.Common.{rules, refl, sym, subst, IfErr, OnOk}
 use Rattle.kp_kore.specs.View.{sentence_view}
 use Rattle.kp_signature.specs.View.{signature_view}
-use Rattle.kp_claims.specs.Faults.{IsFaultAt, IsFaultless, TellsOf}
+use Rattle.kp_claims.specs.Faults.{IsFaultAt, IsFaultless, TellsOf, other_shape}
 use Rattle.kp_claims.proofs.read.claim_of_sentence.Goals as goal
 
 pub returns-in-Claim-clause-faultless : goal.returns-in-Claim-clause-faultless
@@ -11,3 +11,8 @@ returns-in-Claim-clause-faultless c before is =
 pub returns-in-Claim-clause-err : goal.returns-in-Claim-clause-err
 returns-in-Claim-clause-err c before is =
     subst (λ s. IfErr c.claim_of.result (TellsOf (IsFaultAt (signature_view c.args.signature.now) before (sentence_view s)))) (sym c.in-Claim.is) (c.claim_of.ensures.err before is)
+
+pub returns-in-Import-clause-err : goal.returns-in-Import-clause-err
+returns-in-Import-clause-err c before is =
+    let holds : IsFaultAt (signature_view c.args.signature.now) before (sentence_view c.args.sentence.now) other_shape = search rules in
+    record { fault = other_shape; told = refl; holds = holds }
