@@ -5,9 +5,11 @@
 
 mod executed;
 mod failure;
+mod implied;
 pub mod laws;
 mod members;
 mod named;
+mod patterns;
 mod read_states;
 mod states;
 mod told;
@@ -16,4 +18,4 @@ mod written;
 pub use failure::{AdditionFault, Failure, SidesFault, failure_text};
 pub use named::{is_module_id, is_rule_id};
 pub use told::{Method, ServerReply, reply_of};
-pub use written::{added_text, executed_text, simplified_text};
+pub use written::{added_text, executed_text, implied_text, simplified_text};
