@@ -15,7 +15,7 @@ use Rattle.kp_semantics.proofs.Ended.{stuck_reply}
 use Rattle.serde_json.specs.Data.{unsigned, negative, float}
 use Rattle.kp_rpc.specs.Request.{RequestId, id_text, id_number, id_null, ExecuteRequest, ImpliesRequest}
 use Rattle.kp_rpc.specs.Questions.{IsReadBack}
-use Rattle.kp_rpc.specs.Replied.{IsReadId}
+use Rattle.kp_rpc.specs.Request.{IsReadId}
 use Rattle.kp_results.specs.Results.{NextParts, Ending, vacuous, depth_bound, stuck, branching, cut_point, terminal, aborted, ExecutedParts, IsPatternOf, IsReasonOf, IsResultOf}
 use Rattle.kp_replies.specs.Read.{execute, implies, executed, implied}
 use Rattle.kp_replies.specs.Replies.{StandWith}

@@ -12,9 +12,9 @@ use Rattle.kp_states.specs.Spelled.{no_term}
 use Rattle.kp_states.proofs.SpelledForms.{spelling_term}
 use Rattle.kp_rpc.specs.Frame.{IsFrame}
 use Rattle.kp_rpc.specs.Questions.{IsReadBack}
-use Rattle.kp_rpc.specs.Replied.{IsReadId}
+use Rattle.kp_rpc.specs.Request.{IsReadId}
 use Rattle.kp_rpc.specs.Reply.{RequestError, error_reply, result_reply, reply_bytes}
-use Rattle.kp_rpc.specs.Request.{RequestId, IsRequest, ExecuteRequest, bound_of, most_depth}
+use Rattle.kp_rpc.specs.Request.{RequestId, IsRequest, ExecuteRequest, bound_of, most_steps}
 use Rattle.kp_rpc.proofs.IdsRead.{id_read, refused_read}
 use Rattle.kp_rpc.proofs.TermsBack.{term_back, top_back, bottom_back}
 use Rattle.kp_results.specs.Results as parts
@@ -74,11 +74,11 @@ implies_faulted s t frame line d reply is_frame r is =
 -- ---- runs
 
 -- no run is longer than a number of 64 bits
-bounded : (n : Option ℕ) (name : Option Text) (cut_points terminals : List Text) → bound_of (record { max_depth = n; module_name = name; cut_points = cut_points; terminals = terminals }) ≤ most_depth
+bounded : (n : Option ℕ) (name : Option Text) (cut_points terminals : List Text) → bound_of (record { max_depth = n; module_name = name; cut_points = cut_points; terminals = terminals }) ≤ most_steps
 bounded None name cut_points terminals = omega arith
 bounded (Some n) name cut_points terminals = omega arith
 
-fits : (depth bound : ℕ) → depth ≤ bound → bound ≤ most_depth → depth < 2 ^ 64
+fits : (depth bound : ℕ) → depth ≤ bound → bound ≤ most_steps → depth < 2 ^ 64
 fits depth bound h k = omega arith
 
 -- without a predicate a state has one pattern

@@ -8,7 +8,7 @@ use Rattle.kp_json.specs.Written.{two_parts, wrapped_pattern}
 use Rattle.kp_semantics.specs.Causes.{foreign}
 use Rattle.kp_semantics.specs.Implied.{Implied, not_valid, valid}
 use Rattle.kp_rpc.specs.Questions.{IsReadBack}
-use Rattle.kp_rpc.specs.Replied.{IsReadId}
+use Rattle.kp_rpc.specs.Request.{IsReadId}
 use Rattle.kp_rpc.specs.Reply.{result_reply, reply_bytes}
 use Rattle.kp_rpc.specs.Request.{RequestId}
 use Rattle.kp_results.specs.Results.{NextParts, Ending, vacuous, depth_bound, stuck, branching, cut_point, terminal, aborted, ExecutedParts}

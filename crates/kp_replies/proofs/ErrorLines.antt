@@ -8,7 +8,7 @@ use Rattle.kp_json.specs.Members.{object_of}
 use Rattle.kp_json.specs.Faults.{TreeFault, unknown_tag, missing_member, wrong_kind, wrong_format, nested_too_deep}
 use Rattle.kp_rpc.specs.Request.{RequestId}
 use Rattle.kp_rpc.specs.Reply.{reply_bytes, RequestError, parse_error, invalid_request, method_not_found, invalid_params, no_module, no_pattern, not_verified, VerifyFault, unknown_sort, unknown_symbol, other_number, sorts_differ, wide_number, deep_term, no_literal, foreign_symbol, other_shape, kind_only, kind_and_name, tree_fault_data, verify_fault_data, error_parts, error_tree, error_reply}
-use Rattle.kp_rpc.specs.Replied.{IsReadId}
+use Rattle.kp_rpc.specs.Request.{IsReadId}
 use Rattle.kp_rpc.proofs.ReadBack.{Back, number_back, negative_back, id_back}
 use Rattle.kp_replies.specs.Read.{Method, ServerReply, failed}
 use Rattle.kp_replies.specs.Replies.{IsReplyOf}

@@ -11,7 +11,7 @@ use Rattle.kp_semantics.specs.Implied.{Implied, not_valid, valid}
 use Rattle.kp_results.specs.Results.{NextParts, Ending, vacuous, depth_bound, stuck, branching, cut_point, terminal, aborted, ExecutedParts, Limit, weighed, wide_call, predicate, limit}
 use Rattle.kp_rpc.specs.Request.{RequestId}
 use Rattle.kp_rpc.specs.Reply.{result_reply, reply_bytes}
-use Rattle.kp_rpc.specs.Replied.{IsReadId}
+use Rattle.kp_rpc.specs.Request.{IsReadId}
 use Rattle.kp_rpc.specs.Questions.{with_text}
 use Rattle.kp_rpc.proofs.CompactRead.{compact_reads}
 use Rattle.kp_rpc.proofs.ReadBack.{Back, ItemsBack, IsBack, two_back, number_back, id_back, reply_back, wrapped_back, plain_back, read_compact}

@@ -9,7 +9,7 @@ ghost use Rattle.kp_rpc.specs.Request.{RequestId};
 ghost use Rattle.kp_semantics.specs.Implied.{Implied};
 ghost use Rattle.kp_rpc.specs.Questions.{IsReadBack};
 ghost use Rattle.kp_rpc.specs.Reply.{RequestError, error_parts, error_reply, result_reply, reply_bytes};
-ghost use Rattle.kp_rpc.specs.Replied.{IsReadId};
+ghost use Rattle.kp_rpc.specs.Request.{IsReadId};
 ghost use Rattle.kp_results.specs.Results.{ExecutedParts, StateParts, IsPatternOf};
 ghost use Rattle.kp_replies.specs.Written.{executed_tree, implied_tree, simplified_tree, added_tree};
 ghost use Rattle.kp_replies.specs.Failures.{Failure, failure_code, failure_reply};

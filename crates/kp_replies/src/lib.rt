@@ -3,6 +3,7 @@
 // line is specs/Read.antt; laws.rt says that what was written is read back.
 #![tactic(auto)]
 
+pub mod examples;
 mod executed;
 mod failure;
 mod implied;

@@ -46,15 +46,15 @@ pub enum StateFault {
     NoModule { name: String },
 }
 
-// The data of a fault that has a kind alone.
-fn kind_value(alloc: Global, kind: &str) -> Result<Value, AllocError>
+/// The data of a fault that has a kind alone.
+pub fn kind_value(alloc: Global, kind: &str) -> Result<Value, AllocError>
     ensures { IfOk result (λ v. view v ≡ kind_only kind.now) }
 {
     json!(in alloc; {"kind": kind})
 }
 
-// The data of a fault that has a kind and a name.
-fn named_value(alloc: Global, kind: &str, name: &str) -> Result<Value, AllocError>
+/// The data of a fault that has a kind and a name.
+pub fn named_value(alloc: Global, kind: &str, name: &str) -> Result<Value, AllocError>
     ensures { IfOk result (λ v. view v ≡ kind_and_name kind.now name.now) }
 {
     json!(in alloc; {"kind": kind, "name": name})
