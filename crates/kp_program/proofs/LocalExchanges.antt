@@ -22,6 +22,7 @@ use Rattle.kp_results.specs.Results.{StateParts, NextParts, Ending, ExecutedPart
 use Rattle.kp_replies.specs.Read.{execute, implies, executed, implied, failed}
 use Rattle.kp_replies.specs.Replies.{IsReplyOf, IsBare, IsImpliedReadBack}
 use Rattle.kp_replies.specs.Right.{asked_options}
+use Rattle.kp_replies.specs.Written.{executed_tree, implied_tree}
 use Rattle.kp_replies.proofs.Alone.{run_line_alone, run_line_no_implication, implication_line_alone, implication_line_no_run}
 use Rattle.kp_replies.proofs.ErrorLines.{error_line}
 use Rattle.kp_client.specs.Links.{Exchange, ToldTheory, IsRightRun, IsRightExchange}
@@ -117,6 +118,18 @@ right_run : (t : Theory) (request : ExecuteRequest) (x : ExecutedParts) (meant :
 right_run t request x meant bare means right other also =
     subst (λ (k : Executed). IsRightExecuted t (asked_options request.options) request.state k) (one_meaning x meant other bare means also) right
 
+-- the line of such a run tells that run alone, and no result of implies
+run_told : (id : RequestId) (x y : ExecutedParts) (tree : Data) (line : List ℕ) → IsReadId id → x.depth < 2 ^ 64 → IsBare x → IsReadBack x.state.term
+    → executed_tree x ≡ Some tree → line ≡ reply_bytes (result_reply id tree) → IsReplyOf execute line (executed y) → y ≡ x
+run_told id x y tree line lawful short bare back written is h =
+    let same : executed y ≡ executed x = run_line_alone id x tree (executed y) lawful short bare back written (subst (λ (l : List ℕ). IsReplyOf execute l (executed y)) is h) in
+    cc same
+
+run_tells_no_implication : (id : RequestId) (x : ExecutedParts) (y : Implied) (tree : Data) (line : List ℕ) → IsReadId id → x.depth < 2 ^ 64 → IsBare x
+    → executed_tree x ≡ Some tree → line ≡ reply_bytes (result_reply id tree) → IsReplyOf implies line (implied y) → ⊥
+run_tells_no_implication id x y tree line lawful short bare written is h =
+    run_line_no_implication id x tree (implied y) lawful short bare written (subst (λ (l : List ℕ). IsReplyOf implies l (implied y)) is h)
+
 answered : (s : Setting) (frame line : List ℕ) (d reply : Data) → IsFrame frame d → IsAnswered s d reply → line ≡ reply_bytes reply → IsRightExchange (told_theory s) (record { frame = frame; reply = line })
 answered s frame line d reply is_frame r is =
     let options = r.request.options in
@@ -130,18 +143,15 @@ answered s frame line d reply is_frame r is =
     let back = term_back x.state.term term in
     let made = at_reply line reply (result_reply id tree) is r.right.reply_is in
     let right = right_run s.theory r.request x r.right.meant r.bare r.right.means r.right.right in
-    let run_told : (y : ExecutedParts) → IsReplyOf execute line (executed y) → y ≡ x = λ y h.
-    let same : executed y ≡ executed x = run_line_alone id x tree (executed y) lawful short r.bare back r.right.written (subst (λ (l : List ℕ). IsReplyOf execute l (executed y)) made h) in
-    cc same in
     record {
       executes = λ y h. record {
         members = r.members;
         request = r.request;
         is_frame = subst (λ (e : Data). IsFrame frame e) r.tree is_frame;
         is_request = r.is_request;
-        right = λ asked. subst (λ (z : ExecutedParts). IsRightRun s.theory r.request z) (sym (run_told y h)) right;
+        right = λ asked. subst (λ (z : ExecutedParts). IsRightRun s.theory r.request z) (sym (run_told id x y tree line lawful short r.bare back r.right.written made h)) right;
       };
-      implies_so = λ y h. absurd (run_line_no_implication id x tree (implied y) lawful short r.bare r.right.written (subst (λ (l : List ℕ). IsReplyOf implies l (implied y)) made h));
+      implies_so = λ y h. absurd (run_tells_no_implication id x y tree line lawful short r.bare r.right.written made h);
     }
 
 -- ---- implications
@@ -167,6 +177,18 @@ result_read_back : (s : Setting) (a c : KorePattern) (x : Implied) → top_binde
 result_read_back s a c not_valid none right = tt
 result_read_back s a c (valid p q) none right = condition_read_back s a c p q none right.1
 
+-- the line of an implication tells it alone, and no result of execute
+implication_told : (id : RequestId) (x y : Implied) (tree : Data) (line : List ℕ) → IsReadId id → IsImpliedReadBack x
+    → implied_tree x ≡ Some tree → line ≡ reply_bytes (result_reply id tree) → IsReplyOf implies line (implied y) → y ≡ x
+implication_told id x y tree line lawful back written is h =
+    let same : implied y ≡ implied x = implication_line_alone id x tree (implied y) lawful back written (subst (λ (l : List ℕ). IsReplyOf implies l (implied y)) is h) in
+    cc same
+
+implication_tells_no_run : (id : RequestId) (x : Implied) (y : ExecutedParts) (tree : Data) (line : List ℕ) → IsReadId id
+    → implied_tree x ≡ Some tree → line ≡ reply_bytes (result_reply id tree) → IsReplyOf execute line (executed y) → ⊥
+implication_tells_no_run id x y tree line lawful written is h =
+    implication_line_no_run id x tree (executed y) lawful written (subst (λ (l : List ℕ). IsReplyOf execute l (executed y)) is h)
+
 implies_answered : (s : Setting) (frame line : List ℕ) (d reply : Data) → IsFrame frame d → IsImpliesAnswered s d reply → line ≡ reply_bytes reply → IsRightExchange (told_theory s) (record { frame = frame; reply = line })
 implies_answered s frame line d reply is_frame r is =
     let a = r.request.antecedent in
@@ -175,17 +197,14 @@ implies_answered s frame line d reply is_frame r is =
     let lawful = id_of_request frame d r.members r.request.id _ is_frame r.tree r.is_request.is_request in
     let back = result_read_back s a c x (binds_none s r.request.module_name a c r.is_told.sort r.is_told.other r.is_told.told) r.right.right in
     let made = at_reply line reply (result_reply r.request.id r.right.tree) is r.right.reply_is in
-    let implication_told : (y : Implied) → IsReplyOf implies line (implied y) → y ≡ x = λ y h.
-    let same : implied y ≡ implied x = implication_line_alone r.request.id x r.right.tree (implied y) lawful back r.right.written (subst (λ (l : List ℕ). IsReplyOf implies l (implied y)) made h) in
-    cc same in
     record {
-      executes = λ y h. absurd (implication_line_no_run r.request.id x r.right.tree (executed y) lawful r.right.written (subst (λ (l : List ℕ). IsReplyOf execute l (executed y)) made h));
+      executes = λ y h. absurd (implication_tells_no_run r.request.id x y r.right.tree line lawful r.right.written made h);
       implies_so = λ y h. record {
         members = r.members;
         request = r.request;
         is_frame = subst (λ (e : Data). IsFrame frame e) r.tree is_frame;
         is_request = r.is_request;
-        right = λ asked. subst (λ (z : Implied). IsRightImplied s.theory.signature a c z) (sym (implication_told y h)) r.right.right;
+        right = λ asked. subst (λ (z : Implied). IsRightImplied s.theory.signature a c z) (sym (implication_told r.request.id x y r.right.tree line lawful back r.right.written made h)) r.right.right;
       };
     }
 

@@ -15,7 +15,7 @@ use Rattle.kp_results.specs.Results.{NextParts, Ending, vacuous, depth_bound, st
 use Rattle.kp_replies.specs.Written.{with_nexts, executed_members, executed_tree, not_valid_object, valid_object, implied_tree}
 use Rattle.kp_replies.specs.Read.{execute, implies, ServerReply, executed, implied, pattern_in, is_rule_id, read_executed, read_implied, condition_from}
 use Rattle.kp_replies.specs.Replies.{IsReplyOf, IsBare, IsImpliedReadBack}
-use Rattle.kp_replies.proofs.Patterns.{only_in}
+use Rattle.kp_replies.proofs.PatternsRead.{only_in}
 use Rattle.kp_replies.proofs.Texts.{executed_line_read, implied_line_read}
 
 same : {A : Type 0} (x y : A) → Some x ≡ Some y → x ≡ y

@@ -14,7 +14,7 @@ use Rattle.kp_rpc.specs.Questions.{with_text}
 use Rattle.kp_replies.specs.Written.{state_tree, next_tree, first_item, next_trees, with_nexts, executed_members, executed_tree, not_valid_object, valid_object, implied_tree, simplified_tree, added_tree}
 use Rattle.kp_replies.specs.Failures.{Failure, bad_sides, undecided, bad_module, duplicate, failure_code, failure_data, failure_error, failed_reply, failure_reply}
 use Rattle.kp_replies.specs.Read.{Method, execute, simplify, add_module, executed, simplified, added, failed, is_module_id, read_state, read_next, first_next, read_nexts, read_executed, read_implied, read_reply, implies, implied}
-use Rattle.kp_replies.proofs.Patterns.{read_in, written}
+use Rattle.kp_replies.proofs.PatternsRead.{read_in, written}
 use Rattle.kp_replies.specs.Replies.{IsSpelled, IsSpelledState, IsSpelledImplied, IsNamed, IsWritableNext, IsWritableEnding, IsWritable}
 
 same : {A : Type 0} (x y : A) → Some x ≡ Some y → x ≡ y

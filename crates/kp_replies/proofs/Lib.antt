@@ -5,6 +5,6 @@ mod Lines
 pub mod Methods
 mod NextsRead
 mod NextsWritten
-pub mod Patterns
+pub mod PatternsRead
 mod Plain
 mod Texts

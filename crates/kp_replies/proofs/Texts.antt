@@ -108,7 +108,8 @@ pub line_tells : (method : Method) (d : Data) (r : ServerReply) → read (compac
 line_tells method d r back (text, is, (e, frame, tells)) =
     let one : compact_text d ≡ text = same_front (compact_text d) text is in
     let both : Some e ≡ Some d = sym frame.reads ∙ ap read (sym one) ∙ back in
-    subst (λ t. read_reply method t ≡ Some r) (cc both) tells
+    let same : e ≡ d = cc both in
+    subst (λ t. read_reply method t ≡ Some r) same tells
 
 -- a line whose tree is what JSON makes of its outline tells what its tree tells
 pub line_read : (method : Method) (d : Data) (r : ServerReply) → Back d → IsReplyOf method (reply_bytes d) r → read_reply method d ≡ Some r

@@ -38,11 +38,11 @@ IsSpelled p = (d : Data) × SpellsWrapped d p
 
 abbrev pub IsSpelledState : KorePattern → Option KorePattern → Type 0
 IsSpelledState term None = IsSpelled term
-IsSpelledState term (Some predicate) = IsSpelled term × IsSpelled predicate
+IsSpelledState term (Some p) = IsSpelled term × IsSpelled p
 
 abbrev pub IsSpelledImplied : Implied → Type 0
 IsSpelledImplied not_valid = Unit {0}
-IsSpelledImplied (valid predicate substitution) = IsSpelled predicate × IsSpelled substitution
+IsSpelledImplied (valid p q) = IsSpelled p × IsSpelled q
 
 -- next states stand with branching and, one alone, with a cut point
 abbrev pub StandWith : Ending → List NextParts → Type 0
@@ -89,7 +89,7 @@ pub record IsBare (x : ExecutedParts) : Type 0 where
 -- the trees that are written of the result's patterns spell no others
 abbrev pub IsImpliedReadBack : Implied → Type 0
 IsImpliedReadBack not_valid = Unit {0}
-IsImpliedReadBack (valid predicate substitution) = IsReadBack predicate × IsReadBack substitution
+IsImpliedReadBack (valid p q) = IsReadBack p × IsReadBack q
 
 -- the numbers are of 64 bits
 abbrev pub Fits : Limit → Type 0

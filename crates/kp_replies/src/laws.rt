@@ -54,33 +54,28 @@ pub fn an_error_is_read_back()
 // ---- what is told
 
 /// A reply to a method tells a result of that method, or an error's code.
-#[tactic(auto, using(crate::proofs::Methods::line_of_method))]
 pub fn a_reply_is_of_its_method()
     ensures { (method : Method) (line : List ℕ) (r : ServerReply) → IsReplyOf method line r → IsOfMethod method r }
 {}
 
 /// A rule's id that is read of a line is of one or more visible characters.
-#[tactic(auto, using(crate::proofs::Methods::told_ids))]
 pub fn a_rules_id_that_is_read_is_visible()
     ensures { (line : List ℕ) (x : ExecutedParts) → IsReplyOf execute line (executed x) → IsNamedEnding x.ending }
 {}
 
 /// The next states that are read of a line stand with its reason.
-#[tactic(auto, using(crate::proofs::Methods::told_nexts))]
 pub fn next_states_that_are_read_stand_with_their_reason()
     ensures { (line : List ℕ) (x : ExecutedParts) → IsReplyOf execute line (executed x) → StandWith x.ending x.nexts }
 {}
 
 /// The state that is read of a line is spelled by trees; what is written of it is read back, of its term and of the
 /// conjunction of its term and its predicate at any sort.
-#[tactic(auto, using(crate::proofs::Methods::told_state, crate::proofs::Methods::state_back))]
 pub fn a_read_state_is_read_back()
     ensures spelled { (line : List ℕ) (x : ExecutedParts) → IsReplyOf execute line (executed x) → IsSpelledState x.state.term x.state.predicate }
     ensures back { (s : StateParts) (p : KorePattern) → IsSpelledState s.term s.predicate → IsPatternOf s p → IsReadBack p }
 {}
 
 /// Where the text of a tree is read as that tree, its line tells nothing but what the tree tells.
-#[tactic(auto, using(crate::proofs::Texts::line_tells))]
 pub fn a_line_tells_what_its_tree_tells()
     ensures { (method : Method) (d : Data) (r : ServerReply) → read (compact_text d) ≡ Some d → IsReplyOf method (reply_bytes d) r → read_reply method d ≡ Some r }
 {}
@@ -94,7 +89,6 @@ pub fn what_is_executed_is_read()
 
 /// The text that is written of a reply with a result of implies is read as that reply, where it nests no deeper than a
 /// frame may.
-#[tactic(auto, using(crate::proofs::Texts::implied_read))]
 pub fn what_is_implied_is_read()
     ensures { (id : RequestId) (x : Implied) (tree : Data) → IsReadId id → implied_tree x ≡ Some tree
         → depth (result_reply id tree) ≤ max_depth → read (compact_text (result_reply id tree)) ≡ Some (result_reply id tree) }
@@ -131,7 +125,6 @@ pub fn a_failures_line_tells_its_code()
 {}
 
 /// The line that is written of an error tells its code and nothing else, whatever was asked.
-#[tactic(auto, using(crate::proofs::ErrorLines::error_line))]
 pub fn an_errors_line_tells_its_code()
     ensures { (method : Method) (id : RequestId) (e : RequestError) (r : ServerReply) → IsReadId id
         → IsReplyOf method (reply_bytes (error_reply id e)) r → (code : ℤ) × (as_i64 (error_parts e).code ≡ Some code) × (r ≡ failed code) }
@@ -141,7 +134,6 @@ pub fn an_errors_line_tells_its_code()
 
 /// The line that is written of a result of execute without next states and predicates tells nothing but that result, where
 /// the tree of its term spells no other pattern; asked of implies, it tells nothing.
-#[tactic(auto, using(crate::proofs::Alone::run_line_alone, crate::proofs::Alone::run_line_no_implication))]
 pub fn a_bare_runs_line_tells_that_run_alone()
     ensures alone { (id : RequestId) (x : ExecutedParts) (tree : Data) (r : ServerReply) → IsReadId id → x.depth < 2 ^ 64 → IsBare x → IsReadBack x.state.term
         → executed_tree x ≡ Some tree → IsReplyOf execute (reply_bytes (result_reply id tree)) r → r ≡ executed x }
@@ -151,7 +143,6 @@ pub fn a_bare_runs_line_tells_that_run_alone()
 
 /// The line that is written of a result of implies tells nothing but that result, where the trees of its patterns spell no
 /// other patterns; asked of execute, it tells nothing.
-#[tactic(auto, using(crate::proofs::Alone::implication_line_alone, crate::proofs::Alone::implication_line_no_run))]
 pub fn an_implications_line_tells_it_alone()
     ensures alone { (id : RequestId) (x : Implied) (tree : Data) (r : ServerReply) → IsReadId id → IsImpliedReadBack x → implied_tree x ≡ Some tree
         → IsReplyOf implies (reply_bytes (result_reply id tree)) r → r ≡ implied x }

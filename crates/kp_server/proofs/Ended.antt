@@ -15,10 +15,7 @@ use Rattle.kp_semantics.specs.Instance.{Valuation, instance}
 use Rattle.kp_semantics.specs.Sorted.{IsRegular}
 use Rattle.kp_semantics.specs.Foreign.{none_within}
 use Rattle.kp_semantics.specs.Replies as three
-use Rattle.kp_semantics.specs.Executions.{IsRightExecuted}
-use Rattle.kp_semantics.specs.Executions as seven
-use Rattle.kp_semantics.specs.Ground.{executed_of}
-use Rattle.kp_semantics.specs.Ground as ground
+use Rattle.kp_semantics.specs.Ground.{executed_of, reason_of as reason_among_seven}
 use Rattle.kp_semantics.proofs.GroundReplies.{ground_is_right}
 use Rattle.kp_semantics.specs.Rules.{RewriteRule}
 use Rattle.kp_semantics.specs.Steps.{IsUnknownBy}
@@ -159,7 +156,7 @@ is_told s e end h (no_run c means stops) =
 abbrev ended : Executed → KorePattern → three.Executed
 ended end p = record { depth = end.depth; reason = reason_of end.stop; state = p }
 
-reason_meant : (stop : Stop) → IsReasonOf (ending_of stop) [] (ground.reason_of (reason_of stop))
+reason_meant : (stop : Stop) → IsReasonOf (ending_of stop) [] (reason_among_seven (reason_of stop))
 reason_meant Stuck = (refl, refl)
 reason_meant DepthBound = (refl, refl)
 reason_meant (ForeignRule id) = (refl, refl)

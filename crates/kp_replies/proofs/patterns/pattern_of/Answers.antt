@@ -1,7 +1,7 @@
 use Rattle.std.proofs.Common.{sym}
 use Rattle.serde_json.specs.View.{view}
 use Rattle.kp_kore.specs.View.{view as pattern_view}
-use Rattle.kp_replies.proofs.Patterns.{read_in, no_pattern}
+use Rattle.kp_replies.proofs.PatternsRead.{read_in, no_pattern}
 use Rattle.kp_replies.proofs.patterns.pattern_of.Goals as goal
 
 pub returns-in-Ok : goal.returns-in-Ok
