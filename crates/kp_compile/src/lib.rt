@@ -21,6 +21,7 @@ pub use condition::compile_condition;
 pub use error::CompileError;
 pub use function::Function;
 pub use left::compile_left;
+pub use literal::literal_value;
 pub use meaning::{Meaning, meaning_of};
 pub use parts::{add_subpatterns, subpatterns};
 pub use shape::is_term;

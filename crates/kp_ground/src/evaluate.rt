@@ -126,7 +126,7 @@ fn connective(operation: Connective, left: &Value, right: &Value) -> Value
 }
 
 /// The opposite truth value.
-fn negation(value: &Value) -> Value
+pub fn negation(value: &Value) -> Value
     ensures { value_view result ≡ interpreted truth_negation (next_value (value_view value.now) no_values) }
 {
     match value {
@@ -136,7 +136,7 @@ fn negation(value: &Value) -> Value
 }
 
 /// The value of a call of two arguments.
-fn call_of_two(hook: Hook, left: &Value, right: &Value) -> Result<Value, EvaluationError>
+pub fn call_of_two(hook: Hook, left: &Value, right: &Value) -> Result<Value, EvaluationError>
     ensures { GivesCall result (interpreted (hook_view hook) (two (value_view left.now) (value_view right.now))) }
 {
     match hook {

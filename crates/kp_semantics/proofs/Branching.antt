@@ -19,7 +19,8 @@ use Rattle.kp_semantics.specs.Arcs.{BranchSays}
 use Rattle.kp_semantics.specs.Children.{branch_child}
 use Rattle.kp_semantics.proofs.ListLemmas.{all_map, all_both, all_left, all_right, any_mapped, all_mapped, any_map_all}
 use Rattle.kp_semantics.proofs.NameLemmas.{members_named, by_name, true_is_false}
-use Rattle.kp_semantics.proofs.Rebased.{met_same, is_named_or, not_beyond, beyond_other, sorts_on, rebased, SeenFrom, on_state, seen_from}
+use Rattle.kp_semantics.proofs.Rebased.{is_named_or, not_beyond, beyond_other, sorts_on, rebased, SeenFrom, on_state, seen_from}
+use Rattle.kp_semantics.proofs.ConjunctionLemmas.{same_pattern_instance}
 
 -- the values of variables of n as they are under u, of the others as under w
 mixed : KorePattern → Valuation → Valuation → Valuation
@@ -102,7 +103,7 @@ from_node m s t leads n one only v c later sorts met child = let h : (c' : Value
     ]
 
     inner : IsOver m.signature t w n.state later
-    inner = record { chosen = mixed n.state u seen.at; agrees = off_t; sorts = sorts_on m.signature (free_variables n.state) u (mixed n.state u seen.at) on_n child.sorts; met = met_same m.signature n.state u (mixed n.state u seen.at) later on_n child.met }
+    inner = record { chosen = mixed n.state u seen.at; agrees = off_t; sorts = sorts_on m.signature (free_variables n.state) u (mixed n.state u seen.at) on_n child.sorts; met = same_pattern_instance m.signature n.state u (mixed n.state u seen.at) later on_n child.met }
 
     off_s : (y : Text) → is_named y (variables_beyond s t) ≡ false → w y ≡ v y
     off_s y e = elim (is_named_or y (free_variables n.state)) [

@@ -4,40 +4,19 @@ use Rattle.std.specs.Prelude.{if◌then◌else◌}
 use Rattle.std.specs.List.{AllByRecursion, filter, list_any}
 use Rattle.std.specs.Str.{bytes_eq}
 use Rattle.std.proofs.lemmas.Slice.Eq.{bytes_eq-Decides}
-use Rattle.kp_kore.specs.Syntax.{Text, KorePattern, exists}
-use Rattle.kp_kore.specs.Parts.{SortedName, is_term, free_variables, variable_names}
+use Rattle.kp_kore.specs.Syntax.{Text, KorePattern}
+use Rattle.kp_kore.specs.Parts.{SortedName, free_variables, variable_names}
 use Rattle.kp_kore.specs.Signature.{KoreSignature}
 use Rattle.kp_semantics.specs.Value.{Value, HasSort}
-use Rattle.kp_semantics.specs.Instance.{Valuation, assigned, GivesSorts, AgreesOff, AgreesOn, is_named, IsInstance, IsInstanceOfOne, IsConjunctionInstance, conjuncts, conjoined_terms, conjoined_predicates}
+use Rattle.kp_semantics.specs.Instance.{Valuation, GivesSorts, AgreesOff, AgreesOn, is_named, IsInstance}
 use Rattle.kp_semantics.specs.Theory.{Theory}
 use Rattle.kp_semantics.specs.Replies.{IsFreshName, IsAbsent, variables_beyond}
 use Rattle.kp_semantics.specs.AtHand.{IsOver, HasNewNames}
 use Rattle.kp_semantics.specs.Onward.{Leads}
-use Rattle.kp_semantics.proofs.InstanceLemmas.{same_instance}
-use Rattle.kp_semantics.proofs.TruthLemmas.{agrees_under}
-use Rattle.kp_semantics.proofs.ListLemmas.{all_map, all_filter}
-use Rattle.kp_semantics.proofs.NameLemmas.{members_named, by_name, true_is_false, taken_named, of_conjuncts}
-use Rattle.kp_semantics.proofs.ClaimRuleLemmas.{all_true}
+use Rattle.kp_semantics.proofs.ConjunctionLemmas.{same_pattern_instance}
+use Rattle.kp_semantics.proofs.ListLemmas.{all_map}
+use Rattle.kp_semantics.proofs.NameLemmas.{members_named, by_name, true_is_false, taken_named}
 use Rattle.kp_semantics.proofs.StandingNames.{free_stands_names}
-
--- ---- instances depend on the free variables alone
-
-one_of_same : (g : KoreSignature) (v w : Valuation) (ts : List KorePattern) (u : Value) → AllByRecursion (λ q. AgreesOn (free_variables q) v w) ts → IsInstanceOfOne g v ts u → IsInstanceOfOne g w ts u
-one_of_same g v w [] u a h = h
-one_of_same g v w (t ∷ []) u a h = h ∙ sym (same_instance g v w t a.0)
-one_of_same g v w (t ∷ s ∷ ts) u a h = h
-
-conjunction_same : (g : KoreSignature) (p : KorePattern) (v w : Valuation) (u : Value) → AgreesOn (free_variables p) v w → IsConjunctionInstance g v p u → IsConjunctionInstance g w p u
-conjunction_same g p v w u a h =
-    let each : AllByRecursion (λ q. AgreesOn (free_variables q) v w) (conjuncts p) = of_conjuncts (λ x. w x.name ≡ v x.name) p a in
-    record {
-      term = one_of_same g v w (conjoined_terms p) u (all_filter (λ q. AgreesOn (free_variables q) v w) is_term (conjuncts p) each) h.term;
-      predicates = all_true g v w (conjoined_predicates p) (all_filter (λ q. AgreesOn (free_variables q) v w) (λ q. not (is_term q)) (conjuncts p) each) h.predicates;
-    }
-
-pub met_same : (g : KoreSignature) (p : KorePattern) (v w : Valuation) (u : Value) → AgreesOn (free_variables p) v w → IsInstance g v p u → IsInstance g w p u
-met_same g (exists s x t p) v w u a h = (h.0, h.1, met_same g p (assigned v x h.0) (assigned w x h.0) u (agrees_under x h.0 v w (free_variables p) a) h.2)
-met_same g p v w u a h = conjunction_same g p v w u a h
 
 -- ---- names
 
@@ -121,7 +100,7 @@ rebased m s t n v w c vw names child =
       chosen = back_to (variables_beyond s n) v child.chosen;
       agrees = λ y e. back_old (variables_beyond s n) v child.chosen y e;
       sorts = sorts_on m.signature (free_variables n) child.chosen (back_to (variables_beyond s n) v child.chosen) on child.sorts;
-      met = met_same m.signature n child.chosen (back_to (variables_beyond s n) v child.chosen) c on child.met;
+      met = same_pattern_instance m.signature n child.chosen (back_to (variables_beyond s n) v child.chosen) c on child.met;
     }
 
 -- ---- the reply's state at depth 0, seen from the node's state

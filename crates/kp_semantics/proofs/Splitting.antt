@@ -22,7 +22,8 @@ use Rattle.kp_semantics.proofs.ListLemmas.{all_append, all_left, all_right, all_
 use Rattle.kp_semantics.proofs.NameLemmas.{of_conjuncts, members_named, by_name, true_is_false}
 use Rattle.kp_semantics.proofs.ClaimRuleLemmas.{met_of, conjunction_of}
 use Rattle.kp_semantics.proofs.ClaimRuns.{none_fire}
-use Rattle.kp_semantics.proofs.Rebased.{SeenFrom, seen_from, not_beyond, not_absent, kept_in, back_to, back_new, back_old, is_named_or, sorts_on, met_same}
+use Rattle.kp_semantics.proofs.Rebased.{SeenFrom, seen_from, not_beyond, not_absent, kept_in, back_to, back_new, back_old, is_named_or, sorts_on}
+use Rattle.kp_semantics.proofs.ConjunctionLemmas.{same_pattern_instance}
 use Rattle.kp_semantics.proofs.Branching.{fresh_from}
 use Rattle.kp_semantics.proofs.Conjuncts.{filter_append, filter_twice, filter_other, filter_none, filter_all, single, no_terms, of_truth, conjuncts_listed}
 
@@ -127,7 +128,7 @@ in_part m sort s t q term v c one pred names sorts met w vw part = record {
   chosen = chosen;
   agrees = λ y e. back_old beyond v part.chosen y e;
   sorts = of_child (λ x. HasSort m.signature x.sort (chosen x.name)) sort s q (sorts_on m.signature (free_variables s) v chosen on_s sorts) (sorts_on m.signature (free_variables q) part.chosen chosen on_q part.sorts);
-  met = child_met m.signature chosen sort s q term c pred one (met_same m.signature s v chosen c on_s met) ((same_truth m.signature q part.chosen chosen on_q).0 part.holds);
+  met = child_met m.signature chosen sort s q term c pred one (same_pattern_instance m.signature s v chosen c on_s met) ((same_truth m.signature q part.chosen chosen on_q).0 part.holds);
 }
   where
     child : KorePattern
@@ -159,7 +160,7 @@ in_part m sort s t q term v c one pred names sorts met w vw part = record {
 
 -- an instance of the child is one of s
 from_part : (m : Theory) (sort : KoreSort) (s q term : KorePattern) (v : Valuation) (c : Value) → conjoined_terms s ≡ term ∷ [] → is_predicate q ≡ true → IsOver m.signature s v (with_part sort s q) c → IsInstance m.signature v s c
-from_part m sort s q term v c one pred child = met_same m.signature s child.chosen v c
+from_part m sort s q term v c one pred child = same_pattern_instance m.signature s child.chosen v c
     (all_map (λ x. is_named x.name (free_variables s) ≡ true) (λ x. v x.name ≡ child.chosen x.name) (free_variables s) (λ x h. sym (child.agrees x.name (not_beyond s (with_part sort s q) x.name h))) (members_named (free_variables s)))
     (met_child m.signature child.chosen sort s q term c pred one child.met)
 
@@ -174,7 +175,7 @@ itself_in : (m : Theory) (s : KorePattern) (v : Valuation) (c : Value) → Gives
 itself_in m s v c sorts met = record { chosen = v; agrees = λ y e. refl; sorts = sorts; met = met }
 
 from_itself : (m : Theory) (s : KorePattern) (v : Valuation) (c : Value) → IsOver m.signature s v s c → IsInstance m.signature v s c
-from_itself m s v c child = met_same m.signature s child.chosen v c
+from_itself m s v c child = same_pattern_instance m.signature s child.chosen v c
     (all_map (λ x. is_named x.name (free_variables s) ≡ true) (λ x. v x.name ≡ child.chosen x.name) (free_variables s) (λ x h. sym (child.agrees x.name (not_beyond s s x.name h))) (members_named (free_variables s))) child.met
 
 -- ---- the split

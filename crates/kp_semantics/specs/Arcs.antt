@@ -1,6 +1,6 @@
 -- What an arc of a proof's tree says of its node's state, and when a tree of such arcs proves a claim.
 -- Source: pyk's KCFG (edge, split, cover, vacuous, stuck); All-Path Reachability Logic.
-use Rattle.std.specs.Prelude.{◌≡◌, ℕ, ◌≤◌, List, [], ◌∷◌, Option}
+use Rattle.std.specs.Prelude.{◌≡◌, ℕ, ◌≤◌, List, Option}
 use Rattle.std.specs.List.{AllByRecursion}
 use Rattle.kp_kore.specs.Syntax.{Text, KorePattern}
 use Rattle.kp_kore.specs.Parts.{free_variables}
@@ -55,18 +55,6 @@ VacuousSays t claim s =
 -- stuck: each instance is final
 abbrev pub StuckSays : Theory → KorePattern → Type 0
 StuckSays t s = (v : Valuation) (c : Value) → GivesSorts t.signature v (free_variables s) → IsInstance t.signature v s c → IsFinal t c
-
--- a tree of edges and splits whose leaves are covers or vacuous, without the use of claims as rules
-mutual
-  pub data PlainProof (t : Theory) (claim : ReachabilityClaim) : KorePattern → Type 0 where
-    cover : (s : KorePattern) → CoverSays t claim s → PlainProof t claim s
-    vacuous : (s : KorePattern) → VacuousSays t claim s → PlainProof t claim s
-    edge : (s s' : KorePattern) (listed : List Text) (d : ℕ) → EdgeSays t listed s s' d → PlainProof t claim s' → PlainProof t claim s
-    split : (s : KorePattern) (children : List KorePattern) → SplitSays t s children → PlainProofs t claim children → PlainProof t claim s
-
-  pub data PlainProofs (t : Theory) (claim : ReachabilityClaim) : List KorePattern → Type 0 where
-    no_children : PlainProofs t claim []
-    next_child : (s : KorePattern) (children : List KorePattern) → PlainProof t claim s → PlainProofs t claim children → PlainProofs t claim (s ∷ children)
 
 -- no variable of the claim's left side has a name that new variables have
 abbrev pub HasNoFreshName : ReachabilityClaim → Type 0

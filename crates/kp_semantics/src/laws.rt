@@ -11,7 +11,6 @@ ghost use Rattle.kp_semantics.specs.Forms.{injected, marked, marked_by, two, who
 ghost use Rattle.kp_semantics.specs.Interpretation.{interpreted};
 ghost use Rattle.kp_semantics.specs.Instance.{Valuation, AgreesOn, instance, IsInstance, IsConjunctionInstance, IsTrueUnder};
 ghost use Rattle.kp_semantics.specs.Rules.{RewriteRule, RuleBody, priority_of};
-ghost use Rattle.kp_semantics.specs.Arcs.{PlainProof, HasNoFreshName};
 ghost use Rattle.kp_semantics.specs.Claims.{ReachabilityClaim, Holds};
 ghost use Rattle.kp_semantics.specs.Theory.{Theory};
 ghost use Rattle.kp_semantics.specs.Steps.{Fires, HasTurn, NoneFires};
@@ -184,11 +183,6 @@ pub fn connectives_and_quantifiers_are_classical()
         IsTrueUnder g v (negation s (negation s p)) ↔ IsTrueUnder g v p }
     ensures not_all { (g : KoreSignature) (v : Valuation) (s t : KoreSort) (x : Text) (p : KorePattern) →
         IsTrueUnder g v (negation s (forall s x t p)) ↔ IsTrueUnder g v (exists s x t (negation s p)) }
-{}
-
-/// A tree of edges and splits from a claim's left side, whose leaves are covers or vacuous, makes the claim hold.
-pub fn a_plain_proof_is_sound()
-    ensures { (t : Theory) (claim : ReachabilityClaim) → HasNoFreshName claim → PlainProof t claim claim.left → Holds t claim }
 {}
 
 /// The instances of a pattern depend on its free variables alone, also of a conjunction and under `\exists`.

@@ -26,6 +26,7 @@ fn has_lower(pairs: &[Subsort], sort: &Sort) -> bool
     false
 }
 
+/// Whether two sorts are one.
 fn is_same(first: &Sort, second: &Sort) -> bool
     ensures { result ≡ sorts_equal (sort_view first.now) (sort_view second.now) }
 {
@@ -77,6 +78,7 @@ impl Declarations {
         }
     }
 
+    /// Whether no head but the sort's own stands below it: not the other of the two sorts, no tokens, no constructor.
     fn has_no_other_heads(
         &self,
         alloc: Global,

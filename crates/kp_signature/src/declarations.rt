@@ -123,6 +123,7 @@ impl Declarations {
         self.holds_tokens(sort) && !self.is_integer_sort(sort) && !self.is_boolean_sort(sort)
     }
 
+    /// Whether the sort is declared as a hooked one, or with `hasDomainValues`.
     fn holds_tokens(&self, sort: &Sort) -> bool
         ensures { result ≡ holds_tokens (table_view self.now.table) (sort_view sort.now) }
     {

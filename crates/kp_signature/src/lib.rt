@@ -30,6 +30,7 @@ mod text;
 mod verification;
 
 pub use error::VerifyError;
+pub use own::own_sort;
 pub use signature::Signature;
 pub use table::Subsort;
 pub use text::sort_text;

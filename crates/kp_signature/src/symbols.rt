@@ -53,6 +53,7 @@ pub fn is_identity(declaration: &SymbolSentence) -> bool
         )
 }
 
+/// Whether two parameters, one argument and a result are `{From,To}(From) : To`.
 fn goes_across(parameters: &[Name], arguments: &[Sort], result_sort: &Sort) -> bool
     ensures { result ≡ across_test (names_view parameters.now) (sorts_view arguments.now) (sort_view result_sort.now) }
 {
@@ -65,12 +66,14 @@ fn goes_across(parameters: &[Name], arguments: &[Sort], result_sort: &Sort) -> b
     goes_between(&parameters[0], &parameters[1], &arguments[0], result_sort)
 }
 
+/// Whether the argument is the first of two different parameters, and the result the second.
 fn goes_between(first: &Name, second: &Name, argument: &Sort, result_sort: &Sort) -> bool
     ensures { result ≡ (parameter_test (string_bytes first.now) (sort_view argument.now) && parameter_test (string_bytes second.now) (sort_view result_sort.now) && not (bytes_eq (string_bytes first.now) (string_bytes second.now))) }
 {
     is_parameter(argument, first) && is_parameter(result_sort, second) && first != second
 }
 
+/// Whether the sort is this parameter.
 fn is_parameter(sort: &Sort, parameter: &Name) -> bool
     ensures { result ≡ parameter_test (string_bytes parameter.now) (sort_view sort.now) }
 {
