@@ -1,7 +1,6 @@
 -- The text that is written of a tree is read as that tree, where it nests no deeper than a frame may: of patterns, ids and
 -- replies with a result.
-use Rattle.std.proofs.Common.{◌≡◌, ℕ, suc, max, ◌^◌, ◌<◌, ◌≤◌, [], ◌∷◌, Option, Some, None, option_map, option_and_then, pos, negsuc, refl, sym, ap, ap₂, ◌∙◌, subst, arith, append-nil}
-use Rattle.std.specs.Prelude.{codes}
+use Rattle.std.proofs.Common.{◌≡◌, ℕ, suc, max, ◌^◌, ◌<◌, ◌≤◌, [], Option, Some, None, option_map, option_and_then, pos, negsuc, refl, sym, ap, ap₂, ◌∙◌, subst, arith, append-nil}
 use Rattle.json.specs.Lex.{tokens}
 use Rattle.json.specs.Json as json
 use Rattle.json.specs.Tree as tree
@@ -15,7 +14,6 @@ use Rattle.serde_json.specs.Written.{outline, items_outline, members_outline, co
 use Rattle.serde_json.proofs.Texts.{print-outline}
 use Rattle.serde_json.proofs.Numbers.{number_of-decimal, number_of-negative}
 use Rattle.kp_kore.specs.Syntax.{KoreSort, sort_of, sort_variable, KoreSorts, no_sorts, next_sort, KorePattern, KorePatterns, variable, application, literal, top, bottom, negation, conjunction, disjunction, implication, equivalence, rewriting, exists, forall, ceil, floor, equals, membership, no_patterns, next_pattern}
-use Rattle.kp_json.specs.Members.{object_of}
 use Rattle.kp_json.specs.Written.{sort_tree, sort_trees, one_part, one_list, first_and_rest, two_parts, pattern_tree, pattern_trees, wrapped, wrapped_pattern}
 use Rattle.kp_rpc.specs.Request.{RequestId, IsReadId, id_text, id_number, id_null, id_tree}
 use Rattle.kp_rpc.specs.Reply.{result_reply}

@@ -68,7 +68,6 @@ pub fn bottom_is_read_back()
 {}
 
 /// The tree that is written of the conjunction of two patterns that trees spell spells no other pattern, at any sort.
-#[tactic(auto, using(crate::proofs::StatesBack::pair_back))]
 pub fn a_conjunction_of_what_was_read_is_read_back()
     ensures { (s : KoreSort) (p q : KorePattern) (d e : Data) → SpellsWrapped d p → SpellsWrapped e q → IsReadBack (conjunction s (next_pattern p (next_pattern q no_patterns))) }
 {}
