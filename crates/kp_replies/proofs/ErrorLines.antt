@@ -1,5 +1,5 @@
 -- The line that is written of an error that is found in reading a request tells the error's code and nothing else.
-use Rattle.std.proofs.Common.{◌≡◌, ◌<◌, ◌^◌, [], ◌∷◌, Some, negsuc, refl, arith}
+use Rattle.std.proofs.Common.{◌≡◌, [], ◌∷◌, Some, negsuc, refl, arith}
 use Rattle.std.specs.Prelude.{ℤ, codes}
 use Rattle.serde_json.specs.Data.{Data, Num, unsigned, negative, number, string}
 use Rattle.serde_json.specs.Find.{as_i64}

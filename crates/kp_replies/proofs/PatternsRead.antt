@@ -1,5 +1,5 @@
 -- Patterns that are read of a reply: those that its trees spell, and no others.
-use Rattle.std.proofs.Common.{◌≡◌, [], ◌∷◌, Option, Some, None, option_map, refl, sym, ap, ◌∙◌, subst}
+use Rattle.std.proofs.Common.{◌≡◌, Some, None, sym, ap}
 use Rattle.serde_json.specs.Data.{Data}
 use Rattle.kp_kore.specs.Syntax.{KorePattern}
 use Rattle.kp_json.specs.Faults.{Reading, read, fault, wrapped_reading}
