@@ -85,7 +85,7 @@ impl Declarations {
         own: &Sort,
         other: Option<&Sort>,
     ) -> Result<bool, AllocError>
-        ensures { IfOk result (λ b. b ≡ no_other_heads (table_view self.now.table) (sort_view own.now) (option_map (λ s. sort_view s.now) other)) }
+        ensures { IfOk result (λ b. b ≡ no_other_heads (table_view self.now.table) (sort_view own.now) (option_map (λ s. sort_view s.now) other.entry)) }
     {
         let has_lower = has_lower(self.subsorts(), own);
         if self.is_own_below(alloc, has_lower, other, own)? {
@@ -172,14 +172,14 @@ impl Declarations {
         &self,
         alloc: Global,
         has_lower: bool,
-        head: Option<&Sort>,
+        made: Option<&Sort>,
         sort: &Sort,
     ) -> Result<bool, AllocError>
         requires { has_lower ≡ lower_test (table_view self.now.table).subsorts (sort_view sort.now) }
-        ensures { IfOk result (λ b. b ≡ is_own_below (table_view self.now.table) (sort_view sort.now) (option_map (λ s. sort_view s.now) head)) }
+        ensures { IfOk result (λ b. b ≡ is_own_below (table_view self.now.table) (sort_view sort.now) (option_map (λ s. sort_view s.now) made.entry)) }
     {
-        match head {
-            Some(head) => self.lies_below(alloc, has_lower, head, sort),
+        match made {
+            Some(made) => self.lies_below(alloc, has_lower, made, sort),
             None => Ok(false),
         }
     }

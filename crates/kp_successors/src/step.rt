@@ -52,10 +52,10 @@ pub fn ground_step(
 
 /// G2 by the rule.
 fn foreign(rule: &Rule) -> Result<GroundError, AllocError>
-    ensures { IfOk result (IsForeignBy (string_bytes rule.now.id)) }
+    ensures { IfOk result (IsForeignBy (string_bytes rule.now.id.value)) }
 {
     Ok(GroundError::Foreign {
-        id: rule.id.clone()?,
+        id: String::from_str(alloc, rule.id.as_str())?,
     })
 }
 

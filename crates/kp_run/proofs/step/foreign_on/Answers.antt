@@ -6,7 +6,7 @@ use Rattle.kp_run.proofs.step.foreign_on.Goals as goal
 
 pub loop-rule-preserved : goal.loop-rule-preserved
 loop-rule-preserved c = λ sorted.
-    let g = signature_view c.args.rules.now.signature in
+    let g = signature_view c.args.rules.now.signature.value in
     let u = value_view c.args.value.now in
     let rules = c.args.rules.now.rules.items in
     told_more g u rules c.deref-rule-items.result.now c.loop-rule.rule-index c.rule-item.result c.told_after-first.result c.deref-rule-items.ensures.value c.loop-rule-test.true c.rule-item.is

@@ -8,7 +8,7 @@ use Rattle.kp_run.proofs.step.turn_on.Goals as goal
 
 pub loop-rule-preserved : goal.loop-rule-preserved
 loop-rule-preserved c =
-    let g = signature_view c.args.rules.now.signature in
+    let g = signature_view c.args.rules.now.signature.value in
     let u = value_view c.args.value.now in
     let rules = c.args.rules.now.rules.items in
     record {
@@ -21,11 +21,11 @@ loop-rule-preserved c =
 pub returns-in_err-firing-clause-wide : goal.returns-in_err-firing-clause-wide
 returns-in_err-firing-clause-wide c =
     let p = err_from_is_err_and c.from_residual.result c.from_residual.ensures.1 in
-    rw (p.1, p.2) (λ is. here_among (λ r. BodyIsWide (signature_view c.args.rules.now.signature) (value_view c.args.value.now) r.body) c.args.rules.now.rules.items c.deref-rule-items.result.now c.loop-rule.rule-index c.rule-item.result
+    rw (p.1, p.2) (λ is. here_among (λ r. BodyIsWide (signature_view c.args.rules.now.signature.value) (value_view c.args.value.now) r.body.value) c.args.rules.now.rules.items c.deref-rule-items.result.now c.loop-rule.rule-index c.rule-item.result
     c.deref-rule-items.ensures.value c.loop-rule-test.true c.rule-item.is (c.in_err-firing.ensures.wide is))
 
 pub returns-in_err-firing-clause-unbound : goal.returns-in_err-firing-clause-unbound
 returns-in_err-firing-clause-unbound c =
     let p = err_from_is_err_and c.from_residual.result c.from_residual.ensures.1 in
-    rw (p.1, p.2) (λ is. here_among (λ r. IsOpen r.body) c.args.rules.now.rules.items c.deref-rule-items.result.now c.loop-rule.rule-index c.rule-item.result
+    rw (p.1, p.2) (λ is. here_among (λ r. IsOpen r.body.value) c.args.rules.now.rules.items c.deref-rule-items.result.now c.loop-rule.rule-index c.rule-item.result
     c.deref-rule-items.ensures.value c.loop-rule-test.true c.rule-item.is (c.in_err-firing.ensures.unbound is))

@@ -14,7 +14,7 @@ use Rattle.kp_server.proofs.answer_execute.answer_end.Goals as goal
 pub returns-in-Ok : goal.returns-in-Ok
 returns-in-Ok c = λ s runs h.
     let end = c.args.end.now in
-    let spelled = spelled_at (signature_view c.args.rules.now.signature) s.theory.signature runs.signature (sort_view end.state.sort) (value_view end.state.value) (view c.in-Ok.term) c.in-Ok.ensures.meant h.run.sorted in
+    let spelled = spelled_at (signature_view c.args.rules.now.signature.value) s.theory.signature runs.signature (sort_view end.state.sort) (value_view end.state.value) (view c.in-Ok.term) c.in-Ok.ensures.meant h.run.sorted in
     let normal = subst (λ (g : KoreSignature). view c.in-Ok.term ≡ spelling g (sort_view end.state.sort) (value_view end.state.value)) runs.signature c.in-Ok.ensures.normal in
     IfOk-weaker c.end_line.result _ _ (λ line l. end_is_right s c.args.request.now c.requires end h (view c.in-Ok.term) spelled normal (executed_view c.in_ok-written-in-Ok.written) c.in_ok-written-in-Ok.ensures line l) c.end_line.ensures
 

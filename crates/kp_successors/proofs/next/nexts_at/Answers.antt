@@ -15,7 +15,7 @@ use Rattle.kp_successors.proofs.next.nexts_at.Goals as goal
 
 pub loop-rule-preserved : goal.loop-rule-preserved
 loop-rule-preserved c =
-    let g = signature_view c.args.rules.now.signature in
+    let g = signature_view c.args.rules.now.signature.value in
     let u = value_view c.args.value.now in
     let n = c.args.priority in
     let rules = c.args.rules.now.rules.items in
@@ -30,16 +30,16 @@ loop-rule-preserved c =
 
 pub returns-in_err-next-clause-refused : goal.returns-in_err-next-clause-refused
 returns-in_err-next-clause-refused c =
-    let g = signature_view c.args.rules.now.signature in
+    let g = signature_view c.args.rules.now.signature.value in
     let u = value_view c.args.value.now in
     let n = c.args.priority in
     let p = err_from_is_err_and c.from_residual.result c.from_residual.ensures.1 in
     rw (p.1, p.2) (caused_by g _ _ c.in_err-next.field-0.0
-    (λ w. some_member (λ r. BodyIsWide g u r.body ⊎ IsWideAt g u n r) c.args.rules.now.rules.items c.deref-rule-items.result.now c.loop-rule.rule-index c.rule-item.result
+    (λ w. some_member (λ r. BodyIsWide g u r.body.value ⊎ IsWideAt g u n r) c.args.rules.now.rules.items c.deref-rule-items.result.now c.loop-rule.rule-index c.rule-item.result
     c.deref-rule-items.ensures.value c.loop-rule-test.true c.rule-item.is w) c.in_err-next.ensures.refused)
 
 pub returns-in_err-next-clause-unbound : goal.returns-in_err-next-clause-unbound
 returns-in_err-next-clause-unbound c =
     let p = err_from_is_err_and c.from_residual.result c.from_residual.ensures.1 in
-    rw (p.1, p.2) (λ is. some_member (λ r. LeavesOpen (signature_view c.args.rules.now.signature) r.body) c.args.rules.now.rules.items c.deref-rule-items.result.now c.loop-rule.rule-index c.rule-item.result
+    rw (p.1, p.2) (λ is. some_member (λ r. LeavesOpen (signature_view c.args.rules.now.signature.value) r.body.value) c.args.rules.now.rules.items c.deref-rule-items.result.now c.loop-rule.rule-index c.rule-item.result
     c.deref-rule-items.ensures.value c.loop-rule-test.true c.rule-item.is (c.in_err-next.ensures.unbound is))

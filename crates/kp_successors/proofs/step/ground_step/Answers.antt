@@ -41,7 +41,7 @@ returns-in-Some-clause-refused c = λ t s u runs state.
     let same = same_value t c.args.rules.now (view c.args.pattern.now) s u w runs state c.in_ok-value.ensures.meant in
     let sorted = has_sort t (view c.args.pattern.now) s u w state same in
     let told = told_here t c.args.rules.now w c.in_ok-rule.field-0 runs sorted c.in_ok-rule.ensures in
-    let first : IsFirstUnknown t w (string_bytes c.in-Some.rule.now.id) = subst (λ o. MatchOption o (¬ IsUnknown t w) (λ f. IsFirstUnknown t w (string_bytes f.now.id))) c.in-Some.is told in
+    let first : IsFirstUnknown t w (string_bytes c.in-Some.rule.now.id) = subst (λ o. MatchOption o (¬ IsUnknown t w) (λ f. IsFirstUnknown t w (string_bytes f.now.id.value))) c.in-Some.is told in
     let narrow = not_too_wide t c.args.rules.now (view c.args.pattern.now) u w runs same c.in_ok-value.ensures.narrow (c.in_ok-nexts.ensures.narrow t runs sorted) in
     refused_foreign t (view c.args.pattern.now) u w (string_bytes c.in-Some.rule.now.id) c.in_ok-foreign-in-Some.field-0 same narrow first c.in_ok-foreign-in-Some.ensures
 
@@ -51,7 +51,7 @@ returns-clause-successors c = λ t s u runs state.
     let same = same_value t c.args.rules.now (view c.args.pattern.now) s u w runs state c.in_ok-value.ensures.meant in
     let sorted = has_sort t (view c.args.pattern.now) s u w state same in
     let told = told_here t c.args.rules.now w c.in_ok-rule.field-0 runs sorted c.in_ok-rule.ensures in
-    let known : ¬ IsUnknown t w = subst (λ o. MatchOption o (¬ IsUnknown t w) (λ f. IsFirstUnknown t w (string_bytes f.now.id))) c.in-None.is told in
+    let known : ¬ IsUnknown t w = subst (λ o. MatchOption o (¬ IsUnknown t w) (λ f. IsFirstUnknown t w (string_bytes f.now.id.value))) c.in-None.is told in
     subst (λ x. AreSuccessors t x t.rules (map view c.in_ok-nexts.nexts.items)) (sym same) (c.in_ok-nexts.ensures.successors t runs sorted known)
 
 pub returns-clause-known : goal.returns-clause-known
@@ -60,7 +60,7 @@ returns-clause-known c = λ t s u runs state.
     let same = same_value t c.args.rules.now (view c.args.pattern.now) s u w runs state c.in_ok-value.ensures.meant in
     let sorted = has_sort t (view c.args.pattern.now) s u w state same in
     let told = told_here t c.args.rules.now w c.in_ok-rule.field-0 runs sorted c.in_ok-rule.ensures in
-    let known : ¬ IsUnknown t w = subst (λ o. MatchOption o (¬ IsUnknown t w) (λ f. IsFirstUnknown t w (string_bytes f.now.id))) c.in-None.is told in
+    let known : ¬ IsUnknown t w = subst (λ o. MatchOption o (¬ IsUnknown t w) (λ f. IsFirstUnknown t w (string_bytes f.now.id.value))) c.in-None.is told in
     subst (λ x. ¬ IsUnknown t x) (sym same) known
 
 pub returns-clause-narrow : goal.returns-clause-narrow
@@ -73,7 +73,7 @@ returns-clause-narrow c = λ t s u runs state.
 pub returns-in_err-value-clause-unbound : goal.returns-in_err-value-clause-unbound
 returns-in_err-value-clause-unbound c =
     let p = err_from_is_err_and c.from_residual.result c.from_residual.ensures.1 in
-    rw (p.1, p.2) (λ is. absurd (subst (IsUnvalued (signature_view c.args.rules.now.signature) (view c.args.pattern.now)) is c.in_err-value.ensures.refused))
+    rw (p.1, p.2) (λ is. absurd (subst (IsUnvalued (signature_view c.args.rules.now.signature.value) (view c.args.pattern.now)) is c.in_err-value.ensures.refused))
 
 pub returns-in_err-nexts-clause-unbound : goal.returns-in_err-nexts-clause-unbound
 returns-in_err-nexts-clause-unbound c =

@@ -3,7 +3,7 @@ use Rattle.std.proofs.lemmas.Result.{IfOk-weaker}
 use Rattle.kp_kore.specs.View.{sort_view}
 use Rattle.kp_signature.specs.Table.{table_view}
 use Rattle.kp_signature.proofs.AloneLemmas.{below_is, equal_is_below}
-use Rattle.kp_signature.proofs.alone.Declarations.lies_below.Goals as goal
+use Rattle.kp_signature.proofs.declarations.Declarations.lies_below.Goals as goal
 
 pub returns-then-not-has_lower : goal.returns-then-not-has_lower
 returns-then-not-has_lower c =
