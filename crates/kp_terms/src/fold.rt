@@ -11,6 +11,7 @@ ghost use Rattle.kp_signature.specs.View.{signature_view};
 ghost use Rattle.kp_symbolic.specs.Terms.{replacement_for, unknown, known};
 ghost use Rattle.kp_symbolic.specs.Folding as model;
 ghost use Rattle.kp_terms.specs.View.{term_view, terms_of, replaced_view};
+ghost use Rattle.kp_terms.specs.Languages.{language_view};
 ghost use Rattle.kp_terms.specs.Faultless.{IsFaultless};
 
 use crate::atom::Replaced;
@@ -34,8 +35,8 @@ pub fn term_under(
     language: &Language,
     replaced: &[Replaced],
 ) -> Result<Term, CompileError>
-    ensures meant { IfOk result (λ t. term_view t ≡ model.folded (signature_view language.now.signature.now) (map replaced_view replaced.now) (view pattern.now)) }
-    ensures refused { IfErr result (λ e. IsFaultless (signature_view language.now.signature.now) (view pattern.now) → e ≡ Memory) }
+    ensures meant { IfOk result (λ t. term_view t ≡ model.folded (language_view language.now) (map replaced_view replaced.now) (view pattern.now)) }
+    ensures refused { IfErr result (λ e. IsFaultless (language_view language.now) (view pattern.now) → e ≡ Memory) }
 {
     match pattern {
         Pattern::Variable { name, sort } => Ok(variable_under(alloc, replaced, name, sort)?),
@@ -60,8 +61,8 @@ pub fn terms_under(
     language: &Language,
     replaced: &[Replaced],
 ) -> Result<Vec<Term>, CompileError>
-    ensures meant { IfOk result (λ ts. terms_of (map term_view ts.items) ≡ model.all_folded (signature_view language.now.signature.now) (map replaced_view replaced.now) (patterns_view patterns.now)) }
-    ensures refused { IfErr result (λ e. AllByRecursion (λ p. IsFaultless (signature_view language.now.signature.now) (view p)) patterns.now → e ≡ Memory) }
+    ensures meant { IfOk result (λ ts. terms_of (map term_view ts.items) ≡ model.all_folded (language_view language.now) (map replaced_view replaced.now) (patterns_view patterns.now)) }
+    ensures refused { IfErr result (λ e. AllByRecursion (λ p. IsFaultless (language_view language.now) (view p)) patterns.now → e ≡ Memory) }
 {
     let mut terms = Vec::new(alloc);
     for pattern in patterns {
@@ -86,7 +87,7 @@ fn apply_named(
     symbol: &Name,
     arguments: Vec<Term>,
 ) -> Result<Term, AllocError>
-    ensures { IfOk result (λ t. term_view t ≡ model.applied_term (signature_view language.now.signature.now) (string_bytes symbol.now) (terms_of (map term_view arguments.items))) }
+    ensures { IfOk result (λ t. term_view t ≡ model.applied_term (language_view language.now) (string_bytes symbol.now) (terms_of (map term_view arguments.items))) }
 {
     let name = Arc::new(alloc, symbol.clone()?)?;
     apply(alloc, language, name, Arc::new(alloc, arguments)?)

@@ -7,10 +7,10 @@ ghost use Rattle.kp_semantics.specs.Interpretation.{interpreted};
 ghost use Rattle.kp_ground.specs.HookView.{hook_view};
 ghost use Rattle.kp_ground.specs.View.{value_view, values_of};
 ghost use Rattle.kp_compile.specs.Meanings.{function_view};
-ghost use Rattle.kp_signature.specs.View.{signature_view};
 ghost use Rattle.kp_symbolic.specs.Terms.{headed, known};
 ghost use Rattle.kp_symbolic.specs.Folding as model;
 ghost use Rattle.kp_terms.specs.View.{term_view, terms_of};
+ghost use Rattle.kp_terms.specs.Languages.{language_view};
 ghost use Rattle.kp_terms.specs.Calls.{IsCalled, values_in, value_or, made_of_constructor, made_of_call};
 
 use crate::language::Language;
@@ -153,7 +153,7 @@ fn made_call(
     symbol: Arc<String>,
     arguments: Arc<Vec<Term>>,
 ) -> Result<Term, AllocError>
-    ensures { IfOk result (λ t. term_view t ≡ made_of_call (signature_view language.now.signature.now) (function_view function) (string_bytes symbol.value) (terms_of (map term_view arguments.value.items))) }
+    ensures { IfOk result (λ t. term_view t ≡ made_of_call (language_view language.now) (function_view function) (string_bytes symbol.value) (terms_of (map term_view arguments.value.items))) }
 {
     let call = make_headed(symbol, arguments.clone()?);
     match values_known(alloc, &arguments)? {
@@ -169,7 +169,7 @@ pub fn apply(
     symbol: Arc<String>,
     arguments: Arc<Vec<Term>>,
 ) -> Result<Term, AllocError>
-    ensures { IfOk result (λ t. term_view t ≡ model.applied_term (signature_view language.now.signature.now) (string_bytes symbol.value) (terms_of (map term_view arguments.value.items))) }
+    ensures { IfOk result (λ t. term_view t ≡ model.applied_term (language_view language.now) (string_bytes symbol.value) (terms_of (map term_view arguments.value.items))) }
 {
     match meaning_of(language.signature, &symbol) {
         Meaning::Injection => only_term(alloc, &arguments),

@@ -3,12 +3,12 @@ ghost use Rattle.std.specs.Prelude.{◌≡◌, IfOk, IfErr, map, string_bytes, t
 ghost use Rattle.std.specs.Option.{option_map};
 ghost use Rattle.kp_kore.specs.Parts.{SortedName};
 ghost use Rattle.kp_compile.specs.declared.error.CompileError.TheVariants.{Memory};
-ghost use Rattle.kp_signature.specs.View.{signature_view};
 ghost use Rattle.kp_symbolic.specs.Terms.{replacement_for, offset, known};
 ghost use Rattle.kp_symbolic.specs.Folding as model;
 ghost use Rattle.kp_symbolic.specs.Folding.{AreWritten, AreAllWritten};
 ghost use Rattle.kp_semantics.specs.Value.{whole};
 ghost use Rattle.kp_terms.specs.View.{variable_view, term_view, terms_of, replaced_view};
+ghost use Rattle.kp_terms.specs.Languages.{language_view};
 ghost use Rattle.kp_terms.specs.Sums.{pair};
 
 use crate::atom::Replaced;
@@ -66,7 +66,7 @@ fn under_symbol(
     term: Term,
     number: i128,
 ) -> Result<Term, AllocError>
-    ensures { IfOk result (λ t. term_view t ≡ model.applied_term (signature_view language.now.signature.now) (string_bytes symbol.now.value) (pair (term_view term) (known (whole number)))) }
+    ensures { IfOk result (λ t. term_view t ≡ model.applied_term (language_view language.now) (string_bytes symbol.now.value) (pair (term_view term) (known (whole number)))) }
 {
     let mut arguments = Vec::new(alloc);
     arguments.push(term)?;
@@ -86,8 +86,8 @@ fn added(
     term: Term,
     constant: i128,
 ) -> Result<Term, CompileError>
-    ensures meant { (x : SortedName) → IfOk result (λ t. term_view t ≡ model.added (signature_view language.now.signature.now) (term_view term) constant (offset x constant)) }
-    ensures refused { model.can_be_added (signature_view language.now.signature.now) constant ≡ true → IfErr result (λ e. e ≡ Memory) }
+    ensures meant { (x : SortedName) → IfOk result (λ t. term_view t ≡ model.added (language_view language.now) (term_view term) constant (offset x constant)) }
+    ensures refused { model.can_be_added (language_view language.now) constant ≡ true → IfErr result (λ e. e ≡ Memory) }
 {
     let (symbol, number) = if constant > 0 {
         (&language.addition, Some(constant))
@@ -109,8 +109,8 @@ impl Term {
         language: &Language,
         replaced: &[Replaced],
     ) -> Result<Term, CompileError>
-        ensures meant { IfOk result (λ t. term_view t ≡ model.replaced (signature_view language.now.signature.now) (map replaced_view replaced.now) (term_view self.now)) }
-        ensures refused { IfErr result (λ e. AreWritten (signature_view language.now.signature.now) (term_view self.now) → e ≡ Memory) }
+        ensures meant { IfOk result (λ t. term_view t ≡ model.replaced (language_view language.now) (map replaced_view replaced.now) (term_view self.now)) }
+        ensures refused { IfErr result (λ e. AreWritten (language_view language.now) (term_view self.now) → e ≡ Memory) }
     {
         match self {
             Term::Unknown { variable } => Ok(term_for(alloc, replaced, variable)?),
@@ -134,8 +134,8 @@ impl Term {
         language: &Language,
         replaced: &[Replaced],
     ) -> Result<Vec<Term>, CompileError>
-        ensures meant { IfOk result (λ ts. terms_of (map term_view ts.items) ≡ model.all_replaced (signature_view language.now.signature.now) (map replaced_view replaced.now) (terms_of (map term_view terms.now))) }
-        ensures refused { IfErr result (λ e. AreAllWritten (signature_view language.now.signature.now) (terms_of (map term_view terms.now)) → e ≡ Memory) }
+        ensures meant { IfOk result (λ ts. terms_of (map term_view ts.items) ≡ model.all_replaced (language_view language.now) (map replaced_view replaced.now) (terms_of (map term_view terms.now))) }
+        ensures refused { IfErr result (λ e. AreAllWritten (language_view language.now) (terms_of (map term_view terms.now)) → e ≡ Memory) }
     {
         let mut found = Vec::new(alloc);
         for term in terms {

@@ -8,6 +8,7 @@ ghost use Rattle.kp_signature.specs.View.{signature_view};
 ghost use Rattle.kp_symbolic.specs.Terms.{unknown, offset};
 ghost use Rattle.kp_symbolic.specs.Folding.{can_be_added as addition_test, sum_of as sum_read, summed as sum_added, summed_call};
 ghost use Rattle.kp_terms.specs.View.{variable_view, term_view, terms_of};
+ghost use Rattle.kp_terms.specs.Languages.{language_view};
 ghost use Rattle.kp_terms.specs.Sums.{sum_view, whole_in, whole_known, pair, constant_added, IsTaken};
 
 use crate::language::Language;
@@ -49,7 +50,7 @@ fn sum_if<'a>(signature: &Signature, variable: &'a Arc<Variable>, constant: i128
 
 /// Whether the sum of a variable and the constant can be written.
 pub fn can_be_added(language: &Language, constant: i128) -> bool
-    ensures { result ≡ addition_test (signature_view language.now.signature.now) constant }
+    ensures { result ≡ addition_test (language_view language.now) constant }
 {
     if constant > 0 {
         language.addition.is_some()
@@ -102,7 +103,7 @@ fn offset_or(
     constant: i128,
     call: Term,
 ) -> Result<Term, AllocError>
-    ensures { IfOk result (λ t. term_view t ≡ constant_added (signature_view language.now.signature.now) (variable_view variable.now.value) constant (term_view call)) }
+    ensures { IfOk result (λ t. term_view t ≡ constant_added (language_view language.now) (variable_view variable.now.value) constant (term_view call)) }
 {
     if constant == 0 {
         return make_unknown(variable);
@@ -121,7 +122,7 @@ fn summed(
     number: i128,
     call: Term,
 ) -> Result<Term, AllocError>
-    ensures { (c : ℤ) → IsTaken operation number c → IfOk result (λ t. term_view t ≡ sum_added (signature_view language.now.signature.now) (option_map sum_view sum.entry) c (term_view call)) }
+    ensures { (c : ℤ) → IsTaken operation number c → IfOk result (λ t. term_view t ≡ sum_added (language_view language.now) (option_map sum_view sum.entry) c (term_view call)) }
 {
     match sum {
         Some(sum) => match operation.computes(sum.constant, number) {
@@ -139,7 +140,7 @@ fn summed_both(
     right: &Term,
     call: Term,
 ) -> Result<Term, AllocError>
-    ensures { IfOk result (λ t. term_view t ≡ summed_call (signature_view language.now.signature.now) (whole_arithmetic addition) (pair (term_view left.now) (term_view right.now)) (term_view call)) }
+    ensures { IfOk result (λ t. term_view t ≡ summed_call (language_view language.now) (whole_arithmetic addition) (pair (term_view left.now) (term_view right.now)) (term_view call)) }
 {
     if let Some(number) = whole_of(right) {
         let sum = sum_of(language.signature, left);
@@ -161,7 +162,7 @@ fn less_constant(
     right: &Term,
     call: Term,
 ) -> Result<Term, AllocError>
-    ensures { IfOk result (λ t. term_view t ≡ summed_call (signature_view language.now.signature.now) (whole_arithmetic subtraction) (pair (term_view left.now) (term_view right.now)) (term_view call)) }
+    ensures { IfOk result (λ t. term_view t ≡ summed_call (language_view language.now) (whole_arithmetic subtraction) (pair (term_view left.now) (term_view right.now)) (term_view call)) }
 {
     match whole_of(right) {
         Some(number) => {
@@ -179,7 +180,7 @@ pub fn summed_or(
     arguments: &[Term],
     call: Term,
 ) -> Result<Term, AllocError>
-    ensures { IfOk result (λ t. term_view t ≡ summed_call (signature_view language.now.signature.now) (function_view function) (terms_of (map term_view arguments.now)) (term_view call)) }
+    ensures { IfOk result (λ t. term_view t ≡ summed_call (language_view language.now) (function_view function) (terms_of (map term_view arguments.now)) (term_view call)) }
 {
     if arguments.len() != 2 {
         return Ok(call);
