@@ -45,7 +45,7 @@ returns-in-Some-clause-refused c = λ t s u runs state.
     let sorted = has_sort t (view c.args.pattern.now) s u w state same in
     let told = told_here t c.args.rules.now w c.in_ok-rule.field-0 runs sorted c.in_ok-rule.ensures in
     let first : IsFirstUnknown t w (string_bytes c.in-Some.rule.now.id.value) = subst (λ o. MatchOption o (¬ IsUnknown t w) (λ f. IsFirstUnknown t w (string_bytes f.now.id.value))) c.in-Some.is told in
-    let narrow = not_too_wide t c.args.rules.now (view c.args.pattern.now) u w runs same 
+    let narrow = not_too_wide t c.args.rules.now (view c.args.pattern.now) u w runs same
     (subst (λ s. (v : Valuation) → computes_wide (signature_view s) v (view c.args.pattern.now) ≡ false) c.deref.ensures c.in_ok-value.ensures.narrow)
     (c.in_ok-nexts.ensures.narrow t runs sorted) in
     refused_foreign t (view c.args.pattern.now) u w (string_bytes c.in-Some.rule.now.id.value) c.in_ok-foreign-in-Some.field-0 same narrow first c.in_ok-foreign-in-Some.ensures
@@ -73,7 +73,7 @@ returns-clause-narrow c = λ t s u runs state.
     let w = value_view c.in_ok-value.value in
     let same = same_value t c.args.rules.now (view c.args.pattern.now) s u w runs state (subst (λ s. (v : Valuation) → instance (signature_view s) v (view c.args.pattern.now) ≡ w) c.deref.ensures c.in_ok-value.ensures.meant) in
     let sorted = has_sort t (view c.args.pattern.now) s u w state same in
-    not_too_wide t c.args.rules.now (view c.args.pattern.now) u w runs same 
+    not_too_wide t c.args.rules.now (view c.args.pattern.now) u w runs same
     (subst (λ s. (v : Valuation) → computes_wide (signature_view s) v (view c.args.pattern.now) ≡ false) c.deref.ensures c.in_ok-value.ensures.narrow)
     (c.in_ok-nexts.ensures.narrow t runs sorted)
 
