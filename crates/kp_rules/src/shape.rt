@@ -77,7 +77,10 @@ pub fn conjuncts<'a>(alloc: Global, pattern: &'a Pattern) -> Result<Vec<&'a Patt
 }
 
 /// The terms among the patterns.
-pub fn terms_among<'a>(alloc: Global, patterns: &[&'a Pattern]) -> Result<Vec<&'a Pattern>, AllocError>
+pub fn terms_among<'a>(
+    alloc: Global,
+    patterns: &[&'a Pattern],
+) -> Result<Vec<&'a Pattern>, AllocError>
     ensures { IfOk result (λ ps. seen ps.items ≡ filter term_test (seen patterns.now)) }
 {
     let mut found = Vec::new(alloc);
