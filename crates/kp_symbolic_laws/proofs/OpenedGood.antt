@@ -239,7 +239,7 @@ named_either x (z ∷ before) y e =
     both_false true b e f = absurd (cc)
     both_false false b e f = f
 
-turned_test : (x y : Text) → bytes_eq x y ≡ false → bytes_eq y x ≡ false
+pub turned_test : (x y : Text) → bytes_eq x y ≡ false → bytes_eq y x ≡ false
 turned_test x y h = by (bytes_eq y x) refl
   where
     by : (b : Bool) → bytes_eq y x ≡ b → bytes_eq y x ≡ false
