@@ -1,5 +1,9 @@
 pub mod Course
 pub mod Found
+pub mod HeadTests
 pub mod Keeping
+pub mod NewNames
+pub mod OpenedGood
+pub mod ReadState
 pub mod Right
 pub mod Step

@@ -3,3 +3,4 @@
 #![tactic(auto)]
 
 pub mod solving;
+pub mod writing;

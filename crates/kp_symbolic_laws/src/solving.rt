@@ -1,10 +1,16 @@
 // Laws of the whole of solving, from a state to the one in which no equation can be solved.
-ghost use Rattle.std.specs.Prelude.{◌≡◌, ◌↔◌, Some, List, map};
+ghost use Rattle.std.specs.Prelude.{◌≡◌, ◌↔◌, true, Some, None, List};
+ghost use Rattle.std.specs.List.{AllByRecursion};
+ghost use Rattle.kp_kore.specs.Syntax.{KorePattern};
+ghost use Rattle.kp_kore.specs.Parts.{free_variables};
 ghost use Rattle.kp_kore.specs.Signature.{KoreSignature};
 ghost use Rattle.kp_semantics.specs.Value.{Value};
-ghost use Rattle.kp_semantics.specs.Instance.{Valuation, GivesSorts};
-ghost use Rattle.kp_symbolic.specs.States.{Literal, SymbolicState, IsStateInstance};
-ghost use Rattle.kp_symbolic.specs.Solving.{Solvable, first_solvable, solved_at, Solving};
+ghost use Rattle.kp_semantics.specs.Instance.{Valuation, GivesSorts, is_predicate, conjoined_predicates};
+ghost use Rattle.kp_semantics.specs.Foreign.{none_within, has_foreign_head};
+ghost use Rattle.kp_signature.specs.Places.{Place};
+ghost use Rattle.kp_signature.specs.Verify.{first_fault};
+ghost use Rattle.kp_symbolic.specs.States.{Literal, SymbolicState, IsStateInstance, HasInstancesOf};
+ghost use Rattle.kp_symbolic.specs.Solving.{Solvable, first_solvable, solved_at, Solving, opened_state, IsReadAs};
 ghost use Rattle.kp_symbolic_laws.specs.Runs.{IsSortedState, IsKeptWhole, IsWrittenOfThese, IsWrittenRight, OfEachKept};
 
 /// Where an equation is solved, a state with the sorts of its places keeps them, and its instances; what stays one literal
@@ -24,4 +30,16 @@ pub fn solving_keeps_sorts_and_instances()
     ensures instances { (g : KoreSignature) (v : Valuation) (s t : SymbolicState) (u : Value) → IsSortedState g s → GivesSorts g v s.variables →
         OfEachKept g (IsWrittenOfThese g) s → OfEachKept g (IsWrittenRight g v) s → Solving g s t →
         IsStateInstance g v s u ↔ IsStateInstance g v t u }
+{}
+
+/// A verified pattern of one term and predicates is opened as, and read as, a state with the sorts of its places; that which
+/// it is read as has its instances. What stays one literal for its size is written of the variables at hand, and right.
+pub fn a_pattern_has_the_instances_of_what_it_is_read_as()
+    ensures opened { (g : KoreSignature) (c : Place) (p : KorePattern) (s : SymbolicState) → first_fault g c p ≡ None → none_within (has_foreign_head g) p ≡ true →
+        AllByRecursion (λ q. is_predicate q ≡ true) (conjoined_predicates p) → opened_state g p ≡ Some s → IsSortedState g s }
+    ensures read { (g : KoreSignature) (c : Place) (p : KorePattern) (s : SymbolicState) → first_fault g c p ≡ None → none_within (has_foreign_head g) p ≡ true →
+        AllByRecursion (λ q. is_predicate q ≡ true) (conjoined_predicates p) → (r : IsReadAs g p s) → OfEachKept g (IsWrittenOfThese g) r.opened → IsSortedState g s }
+    ensures instances { (g : KoreSignature) (c : Place) (p : KorePattern) (s : SymbolicState) → first_fault g c p ≡ None → none_within (has_foreign_head g) p ≡ true →
+        AllByRecursion (λ q. is_predicate q ≡ true) (conjoined_predicates p) → (r : IsReadAs g p s) → OfEachKept g (IsWrittenOfThese g) r.opened →
+        ((v : Valuation) → GivesSorts g v (free_variables p) → OfEachKept g (IsWrittenRight g v) r.opened) → HasInstancesOf g p s }
 {}
