@@ -1,4 +1,5 @@
 pub mod Course
+pub mod Easy
 pub mod Found
 pub mod HeadTests
 pub mod Keeping
