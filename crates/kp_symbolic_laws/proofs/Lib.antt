@@ -8,3 +8,4 @@ pub mod OpenedGood
 pub mod ReadState
 pub mod Right
 pub mod Step
+pub mod WrittenClauses
