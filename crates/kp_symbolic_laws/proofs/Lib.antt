@@ -9,3 +9,4 @@ pub mod ReadState
 pub mod Right
 pub mod Step
 pub mod WrittenClauses
+pub mod WrittenVariables
