@@ -1,4 +1,5 @@
 pub mod Course
+pub mod Easy
 pub mod Found
 pub mod HeadTests
 pub mod Keeping
@@ -7,3 +8,5 @@ pub mod OpenedGood
 pub mod ReadState
 pub mod Right
 pub mod Step
+pub mod WrittenClauses
+pub mod WrittenVariables

@@ -1,14 +1,15 @@
 -- What holds of the states on the way from a pattern to the state that it is read as.
 -- Source: equations of variables by substitution, as unification has them; the K framework's Kore language (sorts).
-use Rattle.std.specs.Prelude.{◌≡◌, ◌↔◌, true, List, [], ◌∷◌, Some}
+use Rattle.std.specs.Prelude.{◌≡◌, ◌↔◌, ◌+◌, ◌<◌, ◌^◌, true, List, [], ◌∷◌, length, Some, ⊤}
 use Rattle.std.specs.List.{AllByRecursion, Contains}
 use Rattle.kp_kore.specs.Syntax.{KoreSort}
-use Rattle.kp_kore.specs.Parts.{SortedName, free_variables}
-use Rattle.kp_kore.specs.Signature.{KoreSignature}
+use Rattle.kp_kore.specs.Parts.{SortedName, sort_list, free_variables}
+use Rattle.kp_kore.specs.Signature.{KoreSignature, construction, meaning_of}
 use Rattle.kp_semantics.specs.Steps.{AnyByRecursion}
 use Rattle.kp_semantics.specs.Instance.{Valuation, IsTrueUnder}
+use Rattle.kp_states.specs.Spelled.{places_of}
 use Rattle.kp_symbolic.specs.Terms.{term_variables}
-use Rattle.kp_symbolic.specs.States.{quoted, atom_variables, Literal, IsClauseTrue, SymbolicState}
+use Rattle.kp_symbolic.specs.States.{one_head, head_of_sort, Atom, same, has_head, quoted, atom_variables, Literal, IsClauseTrue, SymbolicState}
 use Rattle.kp_symbolic.specs.WellFormed.{IsWellSorted, IsWellSortedAtom, AreAtHand}
 use Rattle.kp_symbolic.specs.Writing.{written_clause}
 use Rattle.kp_symbolic.specs.Solving.{Equation, replacement, solved_clauses, Solvable, first_solvable, solved_at}
@@ -55,3 +56,10 @@ IsWrittenRight g v s c = IsTrueUnder g v (written_clause g s.sort c) ↔ IsClaus
 -- P holds of each clause that stays one literal on the way from this state on
 abbrev pub OfEachKept : KoreSignature → (SymbolicState → List Literal → Type 0) → SymbolicState → Type 0
 OfEachKept g P s = (x : SymbolicState) (o : Solvable) (c : List Literal) → ComesBy g s x → first_solvable g x ≡ Some o → IsKeptWhole g x o c → P x c
+
+-- an equality, or a test of a head: no predicate that isn't opened; the constructor that is asked for has few arguments
+abbrev pub IsOpenedWhole : KoreSignature → Atom → Type 0
+IsOpenedWhole g (same s t u) = ⊤
+IsOpenedWhole g (has_head x (one_head c)) = (meaning_of g c ≡ construction) × (1 + length (sort_list (places_of g c)) < 2 ^ 64)
+IsOpenedWhole g (has_head x (head_of_sort s)) = ⊤
+IsOpenedWhole g (quoted p rs) = ⊥

@@ -2,5 +2,6 @@
 // last. They stand above it, so that none of the crates on it waits for them.
 #![tactic(auto)]
 
+pub mod deciding;
 pub mod solving;
 pub mod writing;

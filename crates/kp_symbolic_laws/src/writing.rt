@@ -1,15 +1,16 @@
 // Laws of what is written for symbolic states: new names, tests of heads.
 ghost use Rattle.std.specs.Prelude.{◌≡◌, ◌+◌, ◌<◌, ◌^◌, true, false, Some, List, [], ◌∷◌, length};
-ghost use Rattle.std.specs.List.{list_any};
+ghost use Rattle.std.specs.List.{AllByRecursion, list_any};
 ghost use Rattle.std.specs.Str.{bytes_eq};
 ghost use Rattle.kp_kore.specs.Syntax.{Text, KoreSort, KoreSorts, variable};
 ghost use Rattle.kp_kore.specs.Attributes.{sorts_equal};
 ghost use Rattle.kp_kore.specs.Parts.{SortedName, sort_list};
 ghost use Rattle.kp_kore.specs.Signature.{KoreSignature, injection, construction, meaning_of};
 ghost use Rattle.kp_semantics.specs.Value.{HasSort};
-ghost use Rattle.kp_semantics.specs.Instance.{Valuation, is_named};
+ghost use Rattle.kp_semantics.specs.Instance.{Valuation, GivesSorts, is_named};
 ghost use Rattle.kp_states.specs.Spelled.{places_of, injection_name};
-ghost use Rattle.kp_symbolic.specs.States.{one_head, head_of_sort, has_head};
+ghost use Rattle.kp_symbolic.specs.States.{one_head, head_of_sort, has_head, Literal, SymbolicState};
+ghost use Rattle.kp_symbolic_laws.specs.Runs.{IsSortedLiteral, IsOpenedWhole, IsWrittenOfThese, IsWrittenRight};
 ghost use Rattle.kp_symbolic.specs.Opening.{head_question, are_variables};
 ghost use Rattle.kp_symbolic.specs.Writing.{least_fresh, new_variables, variables_of, written_test, IsSaid};
 
@@ -36,4 +37,13 @@ pub fn written_tests_say_what_they_said()
         meaning_of g injection_name ≡ injection → meaning_of g c ≡ construction → 1 + length (sort_list (places_of g c)) < 2 ^ 64 → IsSaid g v sort (has_head x (one_head c)) }
     ensures sort { (g : KoreSignature) (v : Valuation) (sort s : KoreSort) (x : SortedName) → HasSort g x.sort (v x.name) →
         meaning_of g injection_name ≡ injection → IsSaid g v sort (has_head x (head_of_sort s)) }
+{}
+
+/// What is written for a clause of equalities and tests of heads has no variables but the clause's, and says what the clause
+/// says, where inj is what it should be.
+pub fn written_clauses_of_tests_say_what_they_said()
+    ensures variables { (g : KoreSignature) (s : SymbolicState) (c : List Literal) → AllByRecursion (IsSortedLiteral g s.variables) c →
+        AllByRecursion (λ l. IsOpenedWhole g l.atom) c → IsWrittenOfThese g s c }
+    ensures says { (g : KoreSignature) (v : Valuation) (s : SymbolicState) (c : List Literal) → meaning_of g injection_name ≡ injection → GivesSorts g v s.variables →
+        AllByRecursion (IsSortedLiteral g s.variables) c → AllByRecursion (λ l. IsOpenedWhole g l.atom) c → IsWrittenRight g v s c }
 {}
