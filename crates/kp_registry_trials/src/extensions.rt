@@ -10,7 +10,7 @@ const TOYS: &str =
     "[] module TOYS sort SortS{} [] symbol LblOne{}() : SortS{} [constructor{}()] symbol LblTwo{}() : SortS{} [constructor{}()] axiom{} \\rewrites{SortS{}}(LblOne{}(), LblTwo{}()) [label{}(\"TOYS.go\")] endmodule []";
 
 /// The table of the definition.
-fn toys(alloc: Global) -> Result<Table, Fail> {
+pub fn toys(alloc: Global) -> Result<Table, Fail> {
     let definition = read_definition(alloc, TOYS.as_bytes()).map_err(|_| "no definition")?;
     Ok(load(alloc, &definition, "TOYS").map_err(|_| "no table")?)
 }
