@@ -31,14 +31,14 @@ module TOYS
 endmodule []
 "#;
 
-fn definition(alloc: Global) -> Result<Definition, Fail> {
+pub fn definition(alloc: Global) -> Result<Definition, Fail> {
     match read_definition(alloc, TOYS.as_bytes()) {
         Ok(definition) => Ok(definition),
         Err(_) => Err(Fail::from("no definition")),
     }
 }
 
-fn signature_of(alloc: Global, modules: &[Module]) -> Result<Signature, Fail> {
+pub fn signature_of(alloc: Global, modules: &[Module]) -> Result<Signature, Fail> {
     let mut all = Vec::new(alloc);
     for module in modules {
         all.push(module)?;
@@ -71,7 +71,7 @@ fn add_item(text: &mut String, item: &ClaimItem) -> Result<(), Fail> {
 }
 
 /// What is wrong with a file of claims.
-fn error_text(alloc: Global, error: &ClaimError) -> Result<String, Fail> {
+pub fn error_text(alloc: Global, error: &ClaimError) -> Result<String, Fail> {
     match error {
         ClaimError::Memory => Err(Fail::from("memory")),
         ClaimError::Text(fault) => {
