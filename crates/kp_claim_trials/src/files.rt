@@ -20,20 +20,25 @@ module TOYS
   symbol Lbldone{}() : SortS{} [constructor{}()]
   symbol Lblnum{}(SortE{}) : SortS{} [constructor{}()]
   symbol Lbltwo{}(SortE{}, SortE{}) : SortS{} [constructor{}()]
+  symbol Lblsq{}(SortInt{}) : SortS{} [constructor{}()]
+  symbol Lbllone{}() : SortS{} [constructor{}()]
+  symbol Lblgoal{}() : SortS{} [constructor{}()]
+  symbol Lblloop{}() : SortS{} [constructor{}()]
+  symbol Lblvf{}(SortInt{}) : SortS{} [constructor{}()]
   symbol Lblvh{}(SortInt{}) : SortS{} [constructor{}()]
   symbol Lblother{}(SortInt{}) : SortInt{} [function{}()]
   axiom{R} \exists{R}(Val:SortE{}, \equals{SortE{}, R}(Val:SortE{}, inj{SortInt{}, SortE{}}(From:SortInt{}))) [subsort{SortInt{}, SortE{}}()]
 endmodule []
 "#;
 
-fn definition(alloc: Global) -> Result<Definition, Fail> {
+pub fn definition(alloc: Global) -> Result<Definition, Fail> {
     match read_definition(alloc, TOYS.as_bytes()) {
         Ok(definition) => Ok(definition),
         Err(_) => Err(Fail::from("no definition")),
     }
 }
 
-fn signature_of(alloc: Global, modules: &[Module]) -> Result<Signature, Fail> {
+pub fn signature_of(alloc: Global, modules: &[Module]) -> Result<Signature, Fail> {
     let mut all = Vec::new(alloc);
     for module in modules {
         all.push(module)?;
@@ -66,7 +71,7 @@ fn add_item(text: &mut String, item: &ClaimItem) -> Result<(), Fail> {
 }
 
 /// What is wrong with a file of claims.
-fn error_text(alloc: Global, error: &ClaimError) -> Result<String, Fail> {
+pub fn error_text(alloc: Global, error: &ClaimError) -> Result<String, Fail> {
     match error {
         ClaimError::Memory => Err(Fail::from("memory")),
         ClaimError::Text(fault) => {
@@ -144,8 +149,19 @@ fn of_claims(alloc: Global, rows: &str) -> Result<String, Fail> {
 const DOWN: &str =
     r#"\and{SortS{}}(Lblcount{}(X:SortInt{}), \equals{SortBool{}, SortS{}}(Lblge{}(X:SortInt{}, \dv{SortInt{}}("0")), \dv{SortBool{}}("true"))) => Lbldone{}() [label{}("T.down"), circularity{}()]"#;
 
-const READ: [(&str, &str); 10] = [
+const ALL_AND_LOOP: &str =
+    r#"Lblcount{}(X:SortInt{}) => Lbldone{}() [label{}("T.all"), circularity{}()]
+Lblloop{}() => Lblgoal{}() [label{}("T.loop"), circularity{}()]
+Lblvf{}(X:SortInt{}) => Lblvh{}(X:SortInt{}) [label{}("T.back")]
+Lblsq{}(X:SortInt{}) => Lbldone{}() [label{}("T.sq")]"#;
+
+const SAME_AND_LONE: &str = r#"Lbllone{}() => Lbllone{}() [label{}("T.same")]
+Lbllone{}() => Lblgoal{}() [label{}("T.lone"), circularity{}(), depends{}("T.same")]"#;
+
+const READ: [(&str, &str); 12] = [
     (DOWN, "T.down! "),
+    (ALL_AND_LOOP, "T.all! T.loop! T.back T.sq "),
+    (SAME_AND_LONE, "T.same T.lone!<T.same "),
     (
         r#"Lblcount{}(\dv{SortInt{}}("2")) => Lbldone{}() [label{}("T.two")]"#,
         "T.two ",

@@ -6,4 +6,6 @@ mod files;
 #[cfg(test)]
 mod layers;
 #[cfg(test)]
+mod many;
+#[cfg(test)]
 mod modules;
