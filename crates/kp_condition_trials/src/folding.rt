@@ -179,3 +179,19 @@ fn a_term_is_put_in_the_place_of_a_variable(rt: HostRuntime) -> Result<(), Fail>
     );
     Ok(())
 }
+
+/// Whether a folded text and what shares it are one term.
+fn shares(alloc: Global, text: &str) -> Result<bool, Fail> {
+    let signature = signature(alloc, SMALL)?;
+    let language = Language::new(alloc, &signature)?;
+    let term = folded(alloc, &language, &[], text)?;
+    let shared = term.share(alloc)?;
+    Ok(shared.same(&term))
+}
+
+#[test]
+fn what_shares_a_term_is_the_term(rt: HostRuntime) -> Result<(), Fail> {
+    assert!(rt; shares(rt.alloc(), r#"f{}(plus{}(X:Int{}, \dv{Int{}}("2")))"#)?);
+    assert!(rt; shares(rt.alloc(), r#"\dv{Bool{}}("true")"#)?);
+    Ok(())
+}
