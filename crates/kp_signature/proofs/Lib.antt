@@ -9,10 +9,13 @@ pub mod Marks
 pub mod Same
 pub mod SortTexts
 pub mod NewOrder
+mod Numbered
+pub mod Numbers
 pub mod NodeLemmas
 pub mod Numerals
 pub mod OrderLemmas
 pub mod OwnSorts
 pub mod ScopeLemmas
+pub mod SpanLemmas
 pub mod SubsortPairs
 pub mod VerifyLemmas

@@ -1,11 +1,14 @@
+pub mod Edges
 pub mod Examples
 pub mod Faults
 pub mod Kinds
 pub mod Names
 pub mod Nodes
+pub mod Numbering
 pub mod Places
 pub mod Order
 pub mod Scopes
+pub mod Spans
 pub mod Table
 pub mod Texts
 pub mod Verify

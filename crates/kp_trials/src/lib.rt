@@ -9,6 +9,8 @@ mod definitions;
 #[cfg(test)]
 mod regularity;
 #[cfg(test)]
+mod subsorts;
+#[cfg(test)]
 mod substituting;
 #[cfg(test)]
 mod texts;
