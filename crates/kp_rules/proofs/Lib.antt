@@ -1,5 +1,6 @@
 pub mod AloneLemmas
 pub mod Constrained
+pub mod Declared
 pub mod Fired
 pub mod Firing
 pub mod Forms
