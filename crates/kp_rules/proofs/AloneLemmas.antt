@@ -101,9 +101,9 @@ straight_more below narrow marks after b numbers n before long is those test i j
     cases (suc n) (suc i) h = elim (cases n i (omega arith)) [ inl l ↦ inl (omega (arith, l)) | inr e ↦ inr (ap suc e) ]
 
 -- marks of what passes a test, one more
-pub marks_more : {P : ℕ → Type 0} (marks after : List Bool) (b : Bool) (n : ℕ) → ((i : ℕ) → IsTrue (get_or marks i false) → P i) → length marks ≡ n → after ≡ marks ++ b ∷ [] → (b ≡ true → P n) →
+pub marks_more : (P : ℕ → Type 0) (marks after : List Bool) (b : Bool) (n : ℕ) → ((i : ℕ) → IsTrue (get_or marks i false) → P i) → length marks ≡ n → after ≡ marks ++ b ∷ [] → (b ≡ true → P n) →
     (i : ℕ) → IsTrue (get_or after i false) → P i
-marks_more {P = P} marks after b n before long is test i m = elim (cases (length marks) i (subst (λ k. i < k) (ap length is ∙ pushed_length marks b) (marked_within after i m))) [
+marks_more P marks after b n before long is test i m = elim (cases (length marks) i (subst (λ k. i < k) (ap length is ∙ pushed_length marks b) (marked_within after i m))) [
   | inl old ↦ before i (sym (ap (λ (l : List Bool). get_or l i false) is ∙ pushed_before marks b false i old) ∙ m)
   | inr last ↦
       let yes : b ≡ true = sym (pushed_last marks b false) ∙ ap (λ k. get_or (marks ++ b ∷ []) k false) (sym last) ∙ sym (ap (λ (k : List Bool). get_or k i false) is) ∙ m in

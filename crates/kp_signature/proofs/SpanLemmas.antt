@@ -60,13 +60,6 @@ within_more spans i x j h is =
 pub within_here : (spans : List Span) (i : ℕ) (x : Span) (j : ℕ) → i < length spans → x ≡ get_or spans i x → Holds x j → IsWithin spans j
 within_here spans i x j h is k = (x, (i, h, sym is), k)
 
--- one span after another
-pub one_more : {A B C D : Type 0} → A ↔ (B ⊎ C) → D ↔ (A ⊎ B) → D ↔ (B ⊎ C)
-one_more first second = (
-  λ d. elim (second.0 d) [ inl a ↦ first.0 a | inr b ↦ inl b ],
-  λ h. second.1 (inl (first.1 h)),
-)
-
 -- what is added moves from what is left to what is there
 pub moved : {There Here Left After More : Type 0} → After ↔ (There ⊎ Here) → Left ↔ (Here ⊎ More) → (After ⊎ More) ↔ (There ⊎ Left)
 moved after left = (
@@ -95,10 +88,6 @@ added_on mid new all = (
     | inr a ↦ elim (all.0 a) [ inl x ↦ new.1 (inl (mid.1 (inr x))) | inr y ↦ new.1 (inr y) ]
   ],
 )
-
--- nothing left
-pub nothing_left : {There Left : Type 0} → ¬ Left → (There ⊎ Left) ↔ There
-nothing_left none = (λ h. elim h [ inl t ↦ t | inr l ↦ absurd (none l) ], λ t. inl t)
 
 -- ---- spans of numbers
 
@@ -218,11 +207,11 @@ number_more numbers i j h before added = (
   ]),
 )
 
-pub none_dropped : (more : List Span) (i j : ℕ) {There : Type 0} → length more ≤ i → There ↔ (There ⊎ IsWithin (drop i more) j)
-none_dropped more i j past = (λ t. inl t, λ h. elim h [ inl t ↦ t | inr w ↦ absurd (none_in (drop i more) j (drop_all i more past) w) ])
+pub none_dropped : (There : Type 0) (more : List Span) (i j : ℕ) → length more ≤ i → There ↔ (There ⊎ IsWithin (drop i more) j)
+none_dropped There more i j past = (λ t. inl t, λ h. elim h [ inl t ↦ t | inr w ↦ absurd (none_in (drop i more) j (drop_all i more past) w) ])
 
-pub all_dropped : (more : List Span) (n i j : ℕ) {There : Type 0} → length more ≤ n → length more ≤ i → (There ⊎ IsWithin (drop n more) j) ↔ (There ⊎ IsWithin (drop i more) j)
-all_dropped more n i j end past = subst (λ l. (_ ⊎ IsWithin (drop n more) j) ↔ (_ ⊎ IsWithin l j)) (drop_all n more end ∙ sym (drop_all i more past)) (λ h. h, λ h. h)
+pub all_dropped : (There : Type 0) (more : List Span) (n i j : ℕ) → length more ≤ n → length more ≤ i → (There ⊎ IsWithin (drop n more) j) ↔ (There ⊎ IsWithin (drop i more) j)
+all_dropped There more n i j end past = subst (λ l. (There ⊎ IsWithin (drop n more) j) ↔ (There ⊎ IsWithin l j)) (drop_all n more end ∙ sym (drop_all i more past)) (λ h. h, λ h. h)
 
 -- one span of the one list, behind those of the other that begin before it
 module _ {Here There Left Taken Rest Next All After One : Type 0} (before : (Here ⊎ Left) ↔ (There ⊎ Taken)) (next : (Next ⊎ Rest) ↔ (Here ⊎ Left)) (after : After ↔ (Next ⊎ One)) (all : All ↔ (Taken ⊎ One)) where

@@ -1,4 +1,5 @@
 use Rattle.std.proofs.Common.{rules, ◌≤◌, ◌<◌, length}
+use Rattle.kp_signature.specs.Spans.{IsWithin}
 use Rattle.kp_signature.proofs.SpanLemmas.{both_ways, moved, within_drop, all_dropped}
 use Rattle.kp_signature.proofs.spans.add_before.Goals as goal
 
@@ -12,4 +13,4 @@ loop-i-preserved c j =
 pub returns : goal.returns
 returns c j =
     let past : length c.args.more.now ≤ c.loop-i.i = search rules in
-    both_ways (all_dropped c.args.more.now c.len.result c.loop-i.i j (search rules) past) (c.loop-i.invariant j)
+    both_ways (all_dropped (IsWithin c.loop-i.spans.items j) c.args.more.now c.len.result c.loop-i.i j (search rules) past) (c.loop-i.invariant j)

@@ -1,4 +1,4 @@
-use Rattle.std.proofs.Common.{rules, ◌≤◌, ◌↔◌, ◌⊎◌, subst, inl, inr, take, length}
+use Rattle.std.proofs.Common.{rules, ◌≤◌, ◌↔◌, ◌⊎◌, subst, inl, inr, drop, length}
 use Rattle.std.proofs.lemmas.List.{take_all}
 use Rattle.kp_signature.specs.Spans.{IsWithin}
 use Rattle.kp_signature.proofs.SpanLemmas.{none_within, none_in, within_more, both_ways, merged_more}
@@ -19,4 +19,4 @@ pub returns : goal.returns
 returns c j =
     let past : length c.args.right.now ≤ c.loop-span.span-index = search rules in
     both_ways (c.in_ok-add_rest.ensures j)
-    (subst (λ l. (IsWithin c.loop-span.all.items j ⊎ IsWithin (_) j) ↔ (IsWithin c.args.left.now j ⊎ IsWithin l j)) (take_all c.loop-span.span-index c.args.right.now past) (c.loop-span.invariant j))
+    (subst (λ l. (IsWithin c.loop-span.all.items j ⊎ IsWithin (drop c.loop-span.next c.args.left.now) j) ↔ (IsWithin c.args.left.now j ⊎ IsWithin l j)) (take_all c.loop-span.span-index c.args.right.now past) (c.loop-span.invariant j))
