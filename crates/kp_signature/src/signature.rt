@@ -144,10 +144,11 @@ impl Signature {
         }
     }
 
-    /// Whether a sort is another or lies below it, by the pairs that the attributes `subsort{A,B}()` give.
-    pub fn is_below(&self, alloc: Global, lower: &Sort, upper: &Sort) -> Result<bool, AllocError>
-        ensures { IfOk result (λ b. IsTrue b ↔ IsBelow (signature_view self.now).subsorts (sort_view lower.now) (sort_view upper.now)) }
+    /// Whether a sort is another or lies below it, by the pairs that the attributes `subsort{A,B}()` give. Takes no
+    /// memory, and as many steps as the upper sort has spans (see `SortOrder`).
+    pub fn subsort(&self, lower: &Sort, upper: &Sort) -> bool
+        ensures { IsTrue result ↔ IsBelow (signature_view self.now).subsorts (sort_view lower.now) (sort_view upper.now) }
     {
-        self.declarations.is_below(alloc, lower, upper)
+        self.declarations.subsort(lower, upper)
     }
 }

@@ -1,9 +1,16 @@
+use Rattle.std.proofs.Common.{subst, map}
+use Rattle.kp_signature.specs.Order.{IsOrderOf}
 use Rattle.kp_signature.specs.View.{signature_view}
-use Rattle.kp_rules.proofs.NewIndex.{index_made}
+use Rattle.kp_rules.proofs.MarkLemmas.{own_marks}
 use Rattle.kp_rules.proofs.sort_index.SortIndex.new.Goals as goal
 
 pub returns : goal.returns
 returns c =
     let g = signature_view c.args.signature.now in
-    let pairs = c.in_ok-add_pairs.ensures (c.empty-index.ensures g) in
-    index_made g pairs.0 c.mark_results.new.self (c.in_ok-mark_results.ensures g.subsorts pairs.0 pairs.1)
+    let order = subst (λ l. IsOrderOf l c.in_ok-order.order) c.subsorts.ensures c.in_ok-order.ensures in
+    let marks = c.in_ok-heads.ensures order in
+    record {
+      order = order;
+      heads = own_marks g c.in_ok-order.order.graph c.in_ok-heads.heads.items marks;
+      alone = c.in_ok-alone.ensures g.subsorts order;
+    }
