@@ -1,9 +1,11 @@
 pub mod AloneLemmas
 pub mod Applied
 pub mod Below
+pub mod Decided
 pub mod Declaring
 pub mod EdgeLemmas
 pub mod FirstPlaces
+pub mod HiddenOrder
 pub mod InstanceLemmas
 pub mod KnownSorts
 pub mod Marks

@@ -1,13 +1,11 @@
 -- What lies below by numbers lies below by pairs.
-use Rattle.std.proofs.Common.{◌≡◌, refl, sym, subst, ◌∙◌, ℕ, zero, suc, ◌<◌, ◌↔◌, inl, inr, Bool, true, List, [], ◌∷◌, length, Contains, arith}
-use Rattle.std.proofs.lemmas.Bool.{cases_Bool}
-use Rattle.std.proofs.lemmas.Grind.{not_there}
+use Rattle.std.proofs.Common.{◌≡◌, refl, sym, subst, ◌∙◌, ℕ, zero, suc, ◌<◌, ◌↔◌, List, [], ◌∷◌, length, Contains, arith}
 use Rattle.kp_kore.specs.Syntax.{KoreSort}
-use Rattle.kp_kore.specs.Signature.{IsBelow, is_below, itself, through}
+use Rattle.kp_kore.specs.Signature.{IsBelow, itself, through}
 use Rattle.kp_signature.specs.Edges.{Leads, stays, goes, edges_of, IsNumber}
 use Rattle.kp_signature.specs.Order.{IsGraphOf, Under, sorts_of}
 use Rattle.kp_signature.specs.declared.graph.SortGraph.{SortGraph}
-use Rattle.kp_signature.proofs.Below.{is_below-Decides, onwards}
+use Rattle.kp_signature.proofs.Below.{onwards}
 use Rattle.kp_signature.proofs.EdgeLemmas.{further}
 
 -- a number has one sort
@@ -53,15 +51,3 @@ module _ (pairs : List (KoreSort × KoreSort)) (x : SortGraph) (ix : IsGraphOf p
   pub none_below : (a b : KoreSort) → (¬ Contains (sorts_of x) b) → IsBelow pairs a b → a ≡ b
   none_below a _ none (itself _) = refl
   none_below a b none (through _ c _ p more) = absurd (none (subst (λ v. Contains (sorts_of x) v) (none_below c b none more) (ix.named a c p).1))
-
--- ---- what a hidden fact tells
-
-is_true_by : {A : Type 0} (t : Bool) → ∥ A ∥₁ → (A → t ≡ true) → t ≡ true
-is_true_by t hidden so = elim (cases_Bool t) [ inl set ↦ set | inr unset ↦ absurd (not_there hidden (λ x. let e = so x in cc)) ]
-
-pub told_below : {A : Type 0} (pairs : List (KoreSort × KoreSort)) (a b : KoreSort) (t : Bool) → ∥ A ∥₁ → (A → (t ≡ true) ↔ IsBelow pairs a b) → (t ≡ true) ↔ IsBelow pairs a b
-told_below pairs a b t hidden so =
-    let test = is_below-Decides pairs a b in (
-      λ e. test.0 (is_true_by (is_below pairs a b) hidden (λ x. test.1 ((so x).0 e))),
-      λ h. is_true_by t hidden (λ x. (so x).1 h),
-    )

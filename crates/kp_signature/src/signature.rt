@@ -5,6 +5,7 @@ ghost use Rattle.kp_signature.specs.Alone.{numbers_stand_alone, truths_stand_alo
 ghost use Rattle.kp_signature.specs.Table.{table_view};
 
 use crate::declarations::Declarations;
+use crate::order::SortOrder;
 use crate::table::Subsort;
 use kp_kore::{AliasSentence, Module, Name, Sort, SortSentence, SymbolSentence};
 use std::alloc::{AllocError, Global};
@@ -29,6 +30,7 @@ impl Signature {
     ghost use Rattle.kp_signature.specs.Places.{unknown_sort_in, unknown_sort_among, is_known};
     ghost use Rattle.std.specs.List.{find};
     ghost use Rattle.std.specs.Str.{bytes_eq};
+    ghost use Rattle.kp_signature.specs.Order.{IsOrderOf};
     ghost use Rattle.kp_signature.specs.Table.{subsort_view};
     ghost use Rattle.kp_signature.specs.View.{signature_view, sentences_of};
 
@@ -142,6 +144,13 @@ impl Signature {
             Some(declaration) => declaration.parameters.len() == arguments,
             None => false,
         }
+    }
+
+    /// The order of the sorts, by the pairs that the attributes `subsort{A,B}()` give.
+    pub fn order(&self) -> &SortOrder
+        ensures { IsOrderOf (signature_view self.now).subsorts result.now }
+    {
+        self.declarations.order()
     }
 
     /// Whether a sort is another or lies below it, by the pairs that the attributes `subsort{A,B}()` give. Takes no
