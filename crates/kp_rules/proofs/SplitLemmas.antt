@@ -127,7 +127,7 @@ none_failed x others failed none i h = absurd (no h.0 (subst (λ n. h.0 < n) non
     no k h = omega arith
 
 -- one that shares lower sorts with comparable ones alone
-pub alone_splits : (x : SortIndex) (t u : ℕ) → IsAlone x.order.graph t → NumbersSplit x t u
+pub alone_splits : (x : SortIndex) (t u : ℕ) → IsAlone x.order.now.graph t → NumbersSplit x t u
 alone_splits x t u alone i h o s = elim (alone o i s.first s.second) [
   | inl b ↦ record { number = i; first = b; second = stays i; all = λ k r. r.second }
   | inr a ↦ record { number = t; first = stays t; second = a; all = λ k r. r.first }

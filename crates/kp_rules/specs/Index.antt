@@ -15,10 +15,10 @@ use Rattle.kp_rules.specs.declared.sort_index.SortIndex.{SortIndex}
 
 -- the edges downwards, and upwards
 abbrev pub down : SortIndex → List (List ℕ)
-down x = edges_of x.order.graph.below.items
+down x = edges_of x.order.now.graph.below.items
 
 abbrev pub up : SortIndex → List (List ℕ)
-up x = edges_of x.order.graph.above.items
+up x = edges_of x.order.now.graph.above.items
 
 -- j is i or lies below it
 abbrev pub Under : SortIndex → ℕ → ℕ → Type 0
@@ -93,9 +93,9 @@ HasOwnHeads g a = (h : Head) × IsSortOfHead g h a
 
 -- the index of a signature: its order, which sorts own heads, and which are marked as alone
 pub record IsIndexOf (g : KoreSignature) (x : SortIndex) : Type 0 where
-  pub order : IsOrderOf g.subsorts x.order
-  pub heads : (i : ℕ) (a : KoreSort) → IsNumber (sorts_of x.order.graph) i a → OwnsHeads x i ↔ HasOwnHeads g a
-  pub alone : (i : ℕ) → IsTrue (get_or x.alone.items i false) → IsAlone x.order.graph i
+  pub order : IsOrderOf g.subsorts x.order.now
+  pub heads : (i : ℕ) (a : KoreSort) → IsNumber (sorts_of x.order.now.graph) i a → OwnsHeads x i ↔ HasOwnHeads g a
+  pub alone : (i : ℕ) → IsTrue (get_or x.alone.items i false) → IsAlone x.order.now.graph i
 
 -- ---- marks that are being made
 

@@ -9,23 +9,23 @@ use kp_signature::Signature;
 use kp_signature::order::SortOrder;
 use std::alloc::{AllocError, Global};
 
-/// The sorts that subsort pairs name, and of each whether some head has it for its own, and whether it is marked as
-/// sharing lower sorts with comparable ones alone.
+/// The order of a signature's sorts, and of each sort that has a number whether some head has it for its own, and
+/// whether it is marked as sharing lower sorts with comparable ones alone.
 #[derive(Drop)]
-pub struct SortIndex {
-    pub order: SortOrder,
+pub struct SortIndex<'a> {
+    pub order: &'a SortOrder,
     pub heads: Vec<bool>,
     pub alone: Vec<bool>,
 }
 
-impl SortIndex {
+impl<'a> SortIndex<'a> {
     /// The index of the sorts of a signature, made in proportion to it.
-    pub fn new(alloc: Global, signature: &Signature) -> Result<SortIndex, AllocError>
+    pub fn new(alloc: Global, signature: &'a Signature) -> Result<SortIndex<'a>, AllocError>
         ensures { IfOk result (IsIndexOf (signature_view signature.now)) }
     {
-        let order = SortOrder::new(alloc, signature.subsorts())?;
-        let heads = own_heads(alloc, signature, &order)?;
-        let alone = alone_marks(alloc, &order)?;
+        let order = signature.order();
+        let heads = own_heads(alloc, signature, order)?;
+        let alone = alone_marks(alloc, order)?;
         Ok(SortIndex {
             order,
             heads,

@@ -15,7 +15,7 @@ use kp_signature::Signature;
 use kp_signature::edges::{Numbers, add_all, add_if, all_reached, has, reached_from};
 use std::alloc::{AllocError, Global};
 
-impl SortIndex {
+impl<'a> SortIndex<'a> {
     /// Whether `X:T` under `inj{T,U}` splits by heads: each sort below U that has heads in common with T has a sort
     /// below both with exactly these.
     pub fn splits(
@@ -42,7 +42,7 @@ impl SortIndex {
 
     /// Whether the number is marked as alone.
     fn is_alone(&self, number: usize) -> bool
-        ensures { (g : KoreSignature) → IsIndexOf g self.now → IsTrue result → IsAlone self.now.order.graph number }
+        ensures { (g : KoreSignature) → IsIndexOf g self.now → IsTrue result → IsAlone self.now.order.now.graph number }
     {
         if number < self.alone.len() {
             return self.alone[number];
