@@ -1,5 +1,5 @@
 -- What attributes of other numbers of sorts and arguments mark, and those of the right numbers.
-use Rattle.std.proofs.Common.{◌≡◌, refl, ap, ℕ, ◌<◌, Bool, true, false, cond, ◌&&◌, List, [], ◌∷◌, length, get_or, Option, None, sym, ◌∙◌, arith}
+use Rattle.std.proofs.Common.{◌≡◌, refl, ap, ◌<◌, Bool, true, false, cond, ◌&&◌, List, [], ◌∷◌, length, get_or, Option, None, sym, ◌∙◌, arith}
 use Rattle.std.specs.Str.{bytes_eq}
 use Rattle.kp_kore.specs.Syntax.{Text, KoreSort, sort_of, no_sorts, KorePattern, KorePatterns, application, string_literal, no_patterns, next_pattern}
 use Rattle.kp_kore.specs.Attributes.{is_mark, marked_text, sorts_equal}

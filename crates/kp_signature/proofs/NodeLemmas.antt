@@ -1,6 +1,6 @@
 -- The first of several faults, step by step.
 use Rattle.std.proofs.Common.{◌≡◌, refl, sym, ap, ◌∙◌, Option, Some, None}
-use Rattle.kp_kore.specs.Syntax.{KoreSort, KoreSorts, next_sort, no_sorts}
+use Rattle.kp_kore.specs.Syntax.{KoreSort}
 use Rattle.kp_kore.specs.Signature.{KoreSignature}
 use Rattle.kp_signature.specs.Nodes.{sorts_fault, one_sort, two_sorts}
 use Rattle.kp_signature.specs.Places.{earlier, unknown_sort_in, unknown_sort_among}

@@ -1,5 +1,5 @@
 -- A pattern without a fault has a sort.
-use Rattle.std.proofs.Common.{◌≡◌, refl, sym, ap, ◌∙◌, List, Option, Some, None}
+use Rattle.std.proofs.Common.{◌≡◌, refl, Option, Some, None}
 use Rattle.kp_kore.specs.Syntax.{Text, KoreSorts, KorePattern, KorePatterns, variable, set_variable, application, string_literal, literal, top, bottom, negation, next, conjunction, disjunction, implication, equivalence, rewriting, exists, forall, ceil, floor, equals, membership, mu, nu, SymbolDeclaration, AliasDeclaration}
 use Rattle.kp_kore.specs.Signature.{KoreSignature, symbol_declared, alias_declared}
 use Rattle.kp_kore.specs.Sorting.{at_arguments, result_sort}

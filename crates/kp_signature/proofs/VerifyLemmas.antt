@@ -1,7 +1,7 @@
 -- The faults of lists of patterns, member by member.
-use Rattle.std.proofs.Common.{◌≡◌, refl, sym, ap, subst, ◌∙◌, ℕ, ◌+◌, ◌<◌, ◌≤◌, List, [], ◌∷◌, ◌++◌, length, take, drop, get_or, Option, Some, None, arith}
+use Rattle.std.proofs.Common.{◌≡◌, refl, sym, ap, ◌∙◌, ℕ, ◌+◌, ◌<◌, ◌≤◌, List, ◌++◌, length, take, drop, get_or, None}
 use Rattle.std.proofs.lemmas.List.{drop_all, drop_more}
-use Rattle.kp_kore.specs.Syntax.{KoreSort, KoreSorts, no_sorts, next_sort, KorePattern, KorePatterns, no_patterns, next_pattern}
+use Rattle.kp_kore.specs.Syntax.{KoreSorts, no_sorts, next_sort, no_patterns, next_pattern}
 use Rattle.kp_kore.specs.Parts.{SortedName, free_variables, all_free_variables}
 use Rattle.kp_kore.specs.Signature.{KoreSignature}
 use Rattle.kp_kore.specs.declared.sort.Sort.{Sort}
@@ -9,8 +9,7 @@ use Rattle.kp_kore.specs.declared.pattern.Pattern.{Pattern}
 use Rattle.kp_kore.specs.View.{sort_view, sorts_view, view, patterns_view}
 use Rattle.kp_kore.proofs.FreeVariables.{free_more}
 use Rattle.kp_signature.specs.Places.{Place, earlier, argument_at}
-use Rattle.kp_signature.specs.Verify.{VerifyFault, first_fault, members_fault, arguments_fault}
-use Rattle.kp_signature.proofs.NodeLemmas.{first_told}
+use Rattle.kp_signature.specs.Verify.{first_fault, members_fault, arguments_fault}
 
 -- the place with these variables in scope too
 abbrev pub with_found : Place → List SortedName → Place

@@ -59,7 +59,7 @@ impl Declarations {
 
     /// Whether no head but the sort's own stands below it: not the other of the two sorts, no tokens, no constructor.
     fn has_no_other_heads(&self, own: &Sort, other: Option<&Sort>) -> bool
-        ensures { result ≡ no_other_heads (table_view self.now.table) (sort_view own.now) (option_map (λ s. sort_view s.now) other) }
+        ensures { result ≡ no_other_heads (table_view self.now.table) (sort_view own.now) (option_map (λ s. sort_view s.now) other.entry) }
     {
         !self.is_own_below(other, own) && self.has_no_tokens(own) && self.has_no_constructors(own)
     }
@@ -114,11 +114,11 @@ impl Declarations {
     }
 
     /// Whether a head's own sort, where it has one, is the sort or lies below it.
-    fn is_own_below(&self, head: Option<&Sort>, sort: &Sort) -> bool
-        ensures { result ≡ is_own_below (table_view self.now.table) (sort_view sort.now) (option_map (λ s. sort_view s.now) head) }
+    fn is_own_below(&self, made: Option<&Sort>, sort: &Sort) -> bool
+        ensures { result ≡ is_own_below (table_view self.now.table) (sort_view sort.now) (option_map (λ s. sort_view s.now) made.entry) }
     {
-        match head {
-            Some(head) => self.lies_below(head, sort),
+        match made {
+            Some(made) => self.lies_below(made, sort),
             None => false,
         }
     }

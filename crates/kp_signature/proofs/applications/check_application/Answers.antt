@@ -1,4 +1,4 @@
-use Rattle.std.proofs.Common.{◌≡◌, refl, sym, ap, ◌∙◌, Some, None, length, string_bytes}
+use Rattle.std.proofs.Common.{refl, sym, ap, ◌∙◌, Some, length}
 use Rattle.std.specs.Option.{option_map}
 use Rattle.std.proofs.lemmas.Result.{err_from_is_err_and}
 use Rattle.kp_kore.specs.Parts.{sort_list}

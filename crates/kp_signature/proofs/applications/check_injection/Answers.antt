@@ -1,7 +1,6 @@
 use Rattle.std.proofs.Common.{◌≡◌, subst, Some, None, string_bytes, arith}
 use Rattle.std.proofs.lemmas.Result.{err_from_is_err_and}
 use Rattle.kp_kore.specs.Syntax.{application}
-use Rattle.kp_kore.specs.View.{sort_view}
 use Rattle.kp_signature.specs.Verify.{injection_fault}
 use Rattle.kp_signature.specs.View.{signature_view}
 use Rattle.kp_signature.proofs.Applied.{not_two, just_two}

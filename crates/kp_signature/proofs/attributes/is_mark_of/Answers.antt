@@ -1,5 +1,5 @@
-use Rattle.std.proofs.Common.{◌∙◌, sym, arith}
-use Rattle.kp_signature.proofs.Marks.{no_mark_with_sorts, no_mark_with_arguments, mark_by_name}
+use Rattle.std.proofs.Common.{arith}
+use Rattle.kp_signature.proofs.Marks.{no_mark_with_sorts, no_mark_with_arguments}
 use Rattle.kp_signature.proofs.attributes.is_mark_of.Goals as goal
 
 pub returns-then-sorts-gt0 : goal.returns-then-sorts-gt0

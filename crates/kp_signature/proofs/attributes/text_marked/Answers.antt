@@ -1,5 +1,5 @@
-use Rattle.std.proofs.Common.{◌∙◌, sym, ap, arith}
-use Rattle.kp_signature.proofs.Marks.{no_text_with_sorts, no_text_of_others, text_by_name}
+use Rattle.std.proofs.Common.{arith}
+use Rattle.kp_signature.proofs.Marks.{no_text_with_sorts, no_text_of_others}
 use Rattle.kp_signature.proofs.attributes.text_marked.Goals as goal
 
 pub returns-then-sorts-gt0 : goal.returns-then-sorts-gt0

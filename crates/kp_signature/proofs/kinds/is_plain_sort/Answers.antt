@@ -1,4 +1,4 @@
-use Rattle.std.proofs.Common.{rules, ◌≡◌, ◌∙◌, sym, string_bytes, length, arith}
+use Rattle.std.proofs.Common.{rules, ◌≡◌, ◌∙◌, string_bytes, length, arith}
 use Rattle.kp_kore.specs.Syntax.{sort_of}
 use Rattle.kp_kore.specs.View.{sort_view, sorts_view}
 use Rattle.kp_kore.specs.declared.sort.Sort.{the_lemmas}

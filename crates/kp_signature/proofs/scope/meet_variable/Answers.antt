@@ -1,11 +1,8 @@
-use Rattle.std.proofs.Common.{◌≡◌, sym, ap, ◌∙◌, subst, string_bytes, Some, None}
+use Rattle.std.proofs.Common.{◌≡◌, sym, ap, ◌∙◌, subst, string_bytes, Some}
 use Rattle.std.specs.Option.{option_map}
 use Rattle.indexmap.specs.IndexMap.{get_by_text}
-use Rattle.kp_kore.specs.Syntax.{KoreSort}
 use Rattle.kp_kore.specs.View.{sort_view}
-use Rattle.kp_kore.specs.Parts.{SortedName}
 use Rattle.kp_signature.specs.Places.{sort_in_scope}
-use Rattle.kp_signature.specs.Scopes.{Knows}
 use Rattle.kp_signature.specs.Verify.{difference}
 use Rattle.kp_signature.proofs.ScopeLemmas.{kept_name, on_ok, ok_map, err_map}
 use Rattle.kp_signature.proofs.scope.meet_variable.Goals as goal

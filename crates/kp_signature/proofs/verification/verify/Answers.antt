@@ -1,4 +1,4 @@
-use Rattle.std.proofs.Common.{rules, ◌≡◌, sym, ap, ◌∙◌, []}
+use Rattle.std.proofs.Common.{rules, sym, ap, ◌∙◌, []}
 use Rattle.std.specs.Option.{option_map}
 use Rattle.std.proofs.lemmas.Result.{err_from_is_err_and}
 use Rattle.kp_kore.specs.View.{view, sort_view}

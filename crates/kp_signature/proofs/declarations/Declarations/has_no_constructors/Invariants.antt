@@ -2,7 +2,7 @@ use Rattle.std.proofs.Common.{◌≡◌, map, drop}
 use Rattle.kp_kore.specs.View.{sort_view, symbol_sentence_view}
 use Rattle.kp_signature.specs.Alone.{no_constructors_below}
 use Rattle.kp_signature.specs.Table.{table_view}
-use Rattle.kp_signature.proofs.alone.Declarations.has_no_constructors.Given as goal
+use Rattle.kp_signature.proofs.declarations.Declarations.has_no_constructors.Given as goal
 
 -- all pass exactly where those that are left do
 abbrev pub invariant-loop-symbol : goal.invariant-loop-symbol

@@ -3,7 +3,7 @@ use Rattle.std.proofs.lemmas.Result.{IfOk-weaker}
 use Rattle.kp_signature.specs.Alone.{none_but_own}
 use Rattle.kp_signature.specs.Table.{table_view}
 use Rattle.kp_signature.proofs.AloneLemmas.{truths_told, integers_are, booleans_are}
-use Rattle.kp_signature.proofs.alone.Declarations.truths_stand_alone.Goals as goal
+use Rattle.kp_signature.proofs.declarations.Declarations.truths_stand_alone.Goals as goal
 
 pub returns : goal.returns
 returns c =

@@ -2,7 +2,7 @@ use Rattle.std.proofs.Common.{◌≡◌, map, drop}
 use Rattle.kp_kore.specs.View.{sort_view}
 use Rattle.kp_signature.specs.Alone.{no_tokens_below}
 use Rattle.kp_signature.specs.Table.{subsort_view, table_view}
-use Rattle.kp_signature.proofs.alone.Declarations.has_no_tokens.Given as goal
+use Rattle.kp_signature.proofs.declarations.Declarations.has_no_tokens.Given as goal
 
 -- all pass exactly where those that are left do
 abbrev pub invariant-loop-pair : goal.invariant-loop-pair

@@ -2,7 +2,7 @@ use Rattle.std.proofs.Common.{sym, ◌∙◌}
 use Rattle.kp_kore.specs.View.{sort_view}
 use Rattle.kp_signature.specs.View.{signature_view}
 use Rattle.kp_signature.proofs.AloneLemmas.{number_sort_is, no_number_sort}
-use Rattle.kp_signature.proofs.kinds.Signature.is_number_sort.Goals as goal
+use Rattle.kp_signature.proofs.signature.Signature.is_number_sort.Goals as goal
 
 pub returns-then-is_integer_sort : goal.returns-then-is_integer_sort
 returns-then-is_integer_sort c = number_sort_is (signature_view c.args.self.now) (sort_view c.args.sort.now) c.args.self.now.numbers_alone c.args.self.now.numbers_told (sym c.is_integer_sort.ensures ∙ c.if-is_integer_sort.true)
