@@ -40,6 +40,7 @@ fn narrow_marks(alloc: Global, order: &SortOrder) -> Result<Vec<bool>, AllocErro
     Ok(marks)
 }
 
+/// Whether one of the numbers above, a greater one, lies below all of them.
 fn is_narrow(order: &SortOrder, number: usize, above: &[usize]) -> bool
     ensures { (pairs : List (KoreSort × KoreSort)) → IsOrderOf pairs order.now → above.now ≡ get_or (edges_of order.now.graph.above.items) number [] → IsTrue result → IsNarrow order.now.graph number }
 {
@@ -89,6 +90,7 @@ fn straight_marks(
     Ok(marks)
 }
 
+/// Whether each of the numbers has both marks.
 fn are_straight(numbers: &[usize], narrow: &[bool], marks: &[bool]) -> bool
     ensures { IsTrue result → (i : ℕ) → Contains numbers.now i → (i < length marks.now) × IsTrue (get_or marks.now i false) × IsTrue (get_or narrow.now i false) }
 {
@@ -100,6 +102,7 @@ fn are_straight(numbers: &[usize], narrow: &[bool], marks: &[bool]) -> bool
     true
 }
 
+/// Whether the number has both marks.
 fn is_straight(number: usize, narrow: &[bool], marks: &[bool]) -> bool
     ensures { IsTrue result → (number < length marks.now) × IsTrue (get_or marks.now number false) × IsTrue (get_or narrow.now number false) }
 {

@@ -51,6 +51,7 @@ fn mark_results(marks: &mut Vec<bool>, signature: &Signature, order: &SortOrder)
     }
 }
 
+/// Marks the result sort of a constructor.
 fn mark_result(
     marks: &mut Vec<bool>,
     signature: &Signature,
@@ -64,6 +65,7 @@ fn mark_result(
     }
 }
 
+/// Marks the number of a sort, where it has one.
 fn mark(marks: &mut Vec<bool>, order: &SortOrder, sort: &Sort)
     ensures { (g : KoreSignature) (ds : List SymbolDeclaration) (d : SymbolDeclaration) → constructed_sort g d.name ≡ Some (sort_view sort.now) → IsOrderOf g.subsorts order.now → AreMarked g ds (sorts_of order.now.graph) marks.old.items → AreMarked g (ds ++ d ∷ []) (sorts_of order.now.graph) marks.new.items }
 {

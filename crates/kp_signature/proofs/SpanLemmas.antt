@@ -1,7 +1,7 @@
 -- What lists of spans hold once spans are added, and what is reached from each number.
 use Rattle.std.proofs.Common.{◌≡◌, refl, sym, ap, subst, ◌∙◌, ℕ, zero, suc, ◌+◌, ◌<◌, ◌≤◌, ◌⊎◌, ◌↔◌, inl, inr, List, [], ◌∷◌, ◌++◌, map, length, take, drop, get_or, Vec, Global, Contains, arith}
-use Rattle.std.proofs.lemmas.List.{drop_all, take_more}
-use Rattle.std.proofs.lemmas.List.Elements.{Contains-append_left, Contains-append_right, Contains-push, Contains-push_cases, Contains-append_cases}
+use Rattle.std.proofs.lemmas.List.{drop_all, drop_more, take_more}
+use Rattle.std.proofs.lemmas.List.Elements.{Contains-get_or, Contains-append_left, Contains-append_right, Contains-push, Contains-push_cases, Contains-append_cases}
 use Rattle.kp_signature.specs.Edges.{Leads, Reaches, stays, goes, edges_of}
 use Rattle.kp_signature.specs.Spans.{Holds, IsWithin, IsSpread, spans_of}
 use Rattle.kp_signature.specs.declared.spans.Span.{Span}
@@ -22,6 +22,41 @@ within_push spans s j = (
   ],
 )
 
+-- a span is added that holds what is to be added
+pub pushed_one : {P : Type 0} (spans after : List Span) (s : Span) (j : ℕ) → after ≡ spans ++ s ∷ [] → Holds s j ↔ P → IsWithin after j ↔ (IsWithin spans j ⊎ P)
+pushed_one spans after s j is one =
+    let push = within_push spans s j in (
+      λ w. elim (push.0 (subst (λ l. IsWithin l j) is w)) [ inl old ↦ inl old | inr new ↦ inr (one.0 new) ],
+      λ h. subst (λ l. IsWithin l j) (sym is) (push.1 (elim h [ inl old ↦ inl old | inr new ↦ inr (one.1 new) ])),
+    )
+
+-- the last one is taken off, and added again with another one
+pub put_back : (all spans after : List Span) (last s : Span) (j : ℕ) → all ≡ spans ++ last ∷ [] → IsWithin after j ↔ (IsWithin spans j ⊎ (Holds last j ⊎ Holds s j)) → IsWithin after j ↔ (IsWithin all j ⊎ Holds s j)
+put_back all spans after last s j is added =
+    let push = within_push spans last j in (
+      λ w. elim (added.0 w) [
+        | inl old ↦ inl (subst (λ l. IsWithin l j) (sym is) (push.1 (inl old)))
+        | inr new ↦ elim new [ inl here ↦ inl (subst (λ l. IsWithin l j) (sym is) (push.1 (inr here))) | inr other ↦ inr other ]
+      ],
+      λ h. added.1 (elim h [
+        | inl old ↦ elim (push.0 (subst (λ l. IsWithin l j) is old)) [ inl there ↦ inl there | inr here ↦ inr (inl here) ]
+        | inr other ↦ inr (inr other)
+      ]),
+    )
+
+-- a span of one number
+pub one_number : (n j : ℕ) (s : Span) → s.first ≡ n → s.last ≡ n → Holds s j ↔ (n ≡ j)
+one_number n j s e f = (λ h. same h.0 h.1, λ h. (omega (arith, h, e), omega (arith, h, f)))
+  where
+    same : s.first ≤ j → j ≤ s.last → n ≡ j
+    same a b = omega (arith, a, b, e, f)
+
+pub either_of : {P Q R S : Type 0} → P ↔ (Q ⊎ R) → R ↔ S → P ↔ (Q ⊎ S)
+either_of f g = (
+  λ p. elim (f.0 p) [ inl q ↦ inl q | inr r ↦ inr (g.0 r) ],
+  λ h. f.1 (elim h [ inl q ↦ inl q | inr s ↦ inr (g.1 s) ]),
+)
+
 pub within_both : (left right : List Span) (j : ℕ) → IsWithin (left ++ right) j ↔ (IsWithin left j ⊎ IsWithin right j)
 within_both left right j = (
   λ h. elim (Contains-append_cases left right h.0 h.1) [ inl old ↦ inl (h.0, old, h.2) | inr new ↦ inr (h.0, new, h.2) ],
@@ -30,15 +65,6 @@ within_both left right j = (
     | inr new ↦ (new.0, Contains-append_right left right new.0 new.1, new.2)
   ],
 )
-
--- the first of what is left
-drop_more : (spans : List Span) (i : ℕ) (d : Span) → i < length spans → drop i spans ≡ get_or spans i d ∷ drop (i + 1) spans
-drop_more [] i d h = absurd (no i h)
-  where
-    no : (i : ℕ) → i < 0 → ⊥
-    no i h = omega arith
-drop_more (s ∷ ss) zero d h = refl
-drop_more (s ∷ ss) (suc i) d h = drop_more ss i d (omega arith)
 
 pub within_drop : (spans : List Span) (i : ℕ) (d : Span) (j : ℕ) → i < length spans → IsWithin (drop i spans) j ↔ (Holds (get_or spans i d) j ⊎ IsWithin (drop (i + 1) spans) j)
 within_drop spans i d j h =
@@ -51,14 +77,13 @@ within_drop spans i d j h =
       λ w. subst (λ l. IsWithin l j) (sym (drop_more spans i d h)) (both.1 (elim w [ inl here ↦ inl (one.1 (inr here)) | inr rest ↦ inr rest ])),
     )
 
-pub within_more : (spans : List Span) (i : ℕ) (x : Span) (j : ℕ) → i < length spans → x ≡ get_or spans i x → IsWithin (take (i + 1) spans) j ↔ (IsWithin (take i spans) j ⊎ Holds x j)
-within_more spans i x j h is =
-    let more = take_more spans i x h ∙ ap (λ s. take i spans ++ s ∷ []) (sym is) in
-    let push = within_push (take i spans) x j in
-    (λ w. push.0 (subst (λ l. IsWithin l j) more w), λ w. subst (λ l. IsWithin l j) (sym more) (push.1 w))
+pub within_more : (spans : List Span) (i : ℕ) (d : Span) (j : ℕ) → i < length spans → IsWithin (take (i + 1) spans) j ↔ (IsWithin (take i spans) j ⊎ Holds (get_or spans i d) j)
+within_more spans i d j h =
+    let push = within_push (take i spans) (get_or spans i d) j in
+    (λ w. push.0 (subst (λ l. IsWithin l j) (take_more spans i d h) w), λ w. subst (λ l. IsWithin l j) (sym (take_more spans i d h)) (push.1 w))
 
-pub within_here : (spans : List Span) (i : ℕ) (x : Span) (j : ℕ) → i < length spans → x ≡ get_or spans i x → Holds x j → IsWithin spans j
-within_here spans i x j h is k = (x, (i, h, sym is), k)
+pub within_here : (spans : List Span) (i : ℕ) (d : Span) (j : ℕ) → i < length spans → Holds (get_or spans i d) j → IsWithin spans j
+within_here spans i d j h k = (get_or spans i d, Contains-get_or spans i d h, k)
 
 -- what is added moves from what is left to what is there
 pub moved : {There Here Left After More : Type 0} → After ↔ (There ⊎ Here) → Left ↔ (Here ⊎ More) → (After ⊎ More) ↔ (There ⊎ Left)
@@ -132,7 +157,7 @@ pushed_length [] y = refl
 pushed_length (x ∷ xs) y = ap suc (pushed_length xs y)
 
 pub one_longer : {A : Type 0} (xs ys : List A) (y : A) (n : ℕ) → ys ≡ xs ++ y ∷ [] → length xs ≡ n → length ys ≡ n + 1
-one_longer xs ys y n is e = ap length is ∙ pushed_length xs y ∙ ap suc e
+one_longer xs ys y n is e = let long : length ys ≡ suc (length xs) = ap length is ∙ pushed_length xs y in omega (arith, long, e)
 
 pub nothing_spread : (edges : List (List ℕ)) (spans : List (Vec Span Global)) → length spans ≡ 0 → IsSpread edges spans
 nothing_spread edges spans none i j h = absurd (no i (subst (λ n. i < n) none h))
@@ -194,9 +219,9 @@ reached_by edges spans next n all own before is short those added j = (to, from)
 pub none_in : (spans : List Span) (j : ℕ) → spans ≡ [] → ¬ IsWithin spans j
 none_in spans j none w = none_within j (subst (λ l. IsWithin l j) none w)
 
-pub number_more : (numbers : List ℕ) (i j : ℕ) {spans after : List Span} → i < length numbers → IsWithin spans j ↔ Contains (take i numbers) j →
+pub number_more : (numbers : List ℕ) (i j : ℕ) (spans after : List Span) → i < length numbers → IsWithin spans j ↔ Contains (take i numbers) j →
     IsWithin after j ↔ (IsWithin spans j ⊎ (get_or numbers i 0 ≡ j)) → IsWithin after j ↔ Contains (take (i + 1) numbers) j
-number_more numbers i j h before added = (
+number_more numbers i j spans after h before added = (
   λ w. subst (λ l. Contains l j) (sym (take_more numbers i 0 h)) (elim (added.0 w) [
     | inl old ↦ Contains-append_left (take i numbers) (get_or numbers i 0 ∷ []) j (before.0 old)
     | inr same ↦ subst (λ v. Contains (take i numbers ++ get_or numbers i 0 ∷ []) v) same (Contains-push (take i numbers) (get_or numbers i 0))
@@ -234,11 +259,11 @@ module _ {Here There Left Taken Rest Next All After One : Type 0} (before : (Her
   )
 
 -- the spans of one number more
-pub those_more : (spans : List (Vec Span Global)) (numbers : List ℕ) (i j : ℕ) {all after : List Span} → i < length numbers →
+pub those_more : (spans : List (Vec Span Global)) (numbers : List ℕ) (i j : ℕ) (all after : List Span) → i < length numbers →
     IsWithin all j ↔ ((k : ℕ) × Contains (take i numbers) k × IsWithin (get_or (spans_of spans) k []) j) →
     IsWithin after j ↔ (IsWithin all j ⊎ IsWithin (get_or (spans_of spans) (get_or numbers i 0) []) j) →
     IsWithin after j ↔ ((k : ℕ) × Contains (take (i + 1) numbers) k × IsWithin (get_or (spans_of spans) k []) j)
-those_more spans numbers i j h before added = (
+those_more spans numbers i j all after h before added = (
   λ w. elim (added.0 w) [
     | inl old ↦ let b = before.0 old in (b.0, subst (λ l. Contains l b.0) (sym (take_more numbers i 0 h)) (Contains-append_left (take i numbers) (get_or numbers i 0 ∷ []) b.0 b.1), b.2)
     | inr new ↦ (get_or numbers i 0, subst (λ l. Contains l (get_or numbers i 0)) (sym (take_more numbers i 0 h)) (Contains-push (take i numbers) (get_or numbers i 0)), new)

@@ -41,6 +41,7 @@ fn closure_of(
     Ok(own)
 }
 
+/// The spans of what a search from the number finds.
 fn searched(alloc: Global, edges: &[Vec<usize>], number: usize) -> Result<Vec<Span>, AllocError>
     ensures { IfOk result (λ own. (j : ℕ) → IsWithin own.items j ↔ Reaches (edges_of edges.now) number j) }
 {
@@ -48,6 +49,7 @@ fn searched(alloc: Global, edges: &[Vec<usize>], number: usize) -> Result<Vec<Sp
     Ok(spans_among(alloc, found.as_slice())?)
 }
 
+/// Whether all numbers are smaller than another.
 fn are_below(numbers: &[usize], limit: usize) -> bool
     ensures { IsTrue result → (i : ℕ) → Contains numbers.now i → i < limit }
 {
@@ -74,6 +76,7 @@ fn spans_of_all(
     Ok(all)
 }
 
+/// Adds the spans of a number.
 fn with_spans_of(
     alloc: Global,
     all: Vec<Span>,

@@ -42,6 +42,7 @@ impl SortGraph {
         Ok(())
     }
 
+    /// Adds a pair, with numbers for its sorts.
     fn add_pair(&mut self, alloc: Global, pair: &Subsort) -> Result<(), AllocError>
         ensures { (pairs : List (KoreSort × KoreSort)) → IsGraphOf pairs self.old → OnOk result (IsGraphOf (pairs ++ subsort_view pair.now ∷ []) self.new) }
     {
@@ -61,6 +62,7 @@ impl SortGraph {
         }
     }
 
+    /// Gives a number to a sort that has none.
     fn add_sort(&mut self, alloc: Global, sort: &Sort) -> Result<usize, AllocError>
         ensures { (pairs : List (KoreSort × KoreSort)) → IsGraphOf pairs self.old → ¬ Contains (sorts_of self.old) (sort_view sort.now) → IfOk result (HasNew pairs (sorts_of self.old) self.new (sort_view sort.now)) }
     {
@@ -85,6 +87,7 @@ impl SortGraph {
         Ok(())
     }
 
+    /// Gives a number to the sort at this place.
     fn add_sort_at(&mut self, alloc: Global, sorts: &[Sort], place: usize) -> Result<(), AllocError>
         ensures { IsGraphOf [] self.old → OnOk result (IsGraphOf [] self.new) }
     {

@@ -14,6 +14,7 @@ struct Walk {
 }
 
 impl Walk {
+    /// No number is met yet.
     fn new(alloc: Global, count: usize) -> Result<Walk, AllocError> {
         let mut met = Vec::new(alloc);
         let mut followed = Vec::new(alloc);
@@ -88,6 +89,7 @@ fn walked(alloc: Global, edges: &[Vec<usize>], starts: &[usize]) -> Result<Vec<u
     Ok(done)
 }
 
+/// The numbers in order.
 fn all_numbers(alloc: Global, count: usize) -> Result<Vec<usize>, AllocError> {
     let mut numbers = Vec::new(alloc);
     for number in 0..count {
@@ -96,6 +98,7 @@ fn all_numbers(alloc: Global, count: usize) -> Result<Vec<usize>, AllocError> {
     Ok(numbers)
 }
 
+/// No edges for each number.
 fn no_edges(alloc: Global, count: usize) -> Result<Vec<Vec<usize>>, AllocError> {
     let mut edges = Vec::new(alloc);
     for _i in 0..count {
@@ -104,6 +107,7 @@ fn no_edges(alloc: Global, count: usize) -> Result<Vec<Vec<usize>>, AllocError> 
     Ok(edges)
 }
 
+/// Adds the edges that lead from a number, turned round.
 fn add_turned(
     turned: &mut Vec<Vec<usize>>,
     edges: &[Vec<usize>],

@@ -12,6 +12,7 @@ pub struct Span {
     pub last: usize,
 }
 
+/// Whether the number stands in the span.
 fn holds(span: Span, number: usize) -> bool
     ensures { IsTrue result ↔ Holds span number }
 {
@@ -40,6 +41,7 @@ fn joins(first: Span, second: Span) -> bool
     second.first <= first.last || second.first - 1 == first.last
 }
 
+/// The span of both, where the second joins the first.
 fn joined(first: Span, second: Span) -> Span
     ensures { (first.first ≤ second.first) → (second.first ≤ first.last + 1) → (j : ℕ) → Holds result j ↔ (Holds first j ⊎ Holds second j) }
 {
@@ -74,6 +76,7 @@ fn add_behind(spans: &mut Vec<Span>, last: Span, span: Span) -> Result<(), Alloc
     Ok(spans.push(span)?)
 }
 
+/// Adds the spans in their order.
 fn add_spans(spans: &mut Vec<Span>, more: &[Span]) -> Result<(), AllocError>
     ensures { OnOk result ((j : ℕ) → IsWithin spans.new.items j ↔ (IsWithin spans.old.items j ⊎ IsWithin more.now j)) }
 {

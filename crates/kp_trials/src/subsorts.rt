@@ -21,6 +21,7 @@ const RING: &str = r#"module RING
 endmodule []
 "#;
 
+/// The sort of this name without arguments.
 fn sort_named(alloc: Global, name: &str) -> Result<Sort, Fail> {
     Ok(Sort::App {
         name: String::from_str(alloc, name)?,

@@ -1,4 +1,4 @@
-use Rattle.std.proofs.Common.{rules, ◌≤◌, ◌<◌, length}
+use Rattle.std.proofs.Common.{length, arith}
 use Rattle.kp_signature.specs.Spans.{IsWithin}
 use Rattle.kp_signature.proofs.SpanLemmas.{both_ways, moved, within_drop, all_dropped}
 use Rattle.kp_signature.proofs.spans.add_before.Goals as goal
@@ -8,9 +8,8 @@ loop-i-init c j = (λ h. h, λ h. h)
 
 pub loop-i-preserved : goal.loop-i-preserved
 loop-i-preserved c j =
-    both_ways (moved (c.in_ok-add_span.ensures j) (within_drop c.args.more.now c.loop-i.i c.index-2.result.now j (search rules))) (c.loop-i.invariant j)
+    both_ways (moved (c.in_ok-add_span.ensures j) (within_drop c.args.more.now c.loop-i.i _ j c.loop-i-test.true)) (c.loop-i.invariant j)
 
 pub returns : goal.returns
 returns c j =
-    let past : length c.args.more.now ≤ c.loop-i.i = search rules in
-    both_ways (all_dropped (IsWithin c.loop-i.spans.items j) c.args.more.now c.len.result c.loop-i.i j (search rules) past) (c.loop-i.invariant j)
+    both_ways (all_dropped (IsWithin c.loop-i.spans.items j) c.args.more.now (length c.args.more.now) c.loop-i.i j (omega arith) c.loop-i-test.false) (c.loop-i.invariant j)

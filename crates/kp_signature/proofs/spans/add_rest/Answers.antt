@@ -1,4 +1,3 @@
-use Rattle.std.proofs.Common.{rules, ◌≤◌, length}
 use Rattle.kp_signature.specs.Spans.{IsWithin}
 use Rattle.kp_signature.proofs.SpanLemmas.{both_ways, moved, within_drop, none_dropped}
 use Rattle.kp_signature.proofs.spans.add_rest.Goals as goal
@@ -8,9 +7,8 @@ loop-i-init c j = (λ h. h, λ h. h)
 
 pub loop-i-preserved : goal.loop-i-preserved
 loop-i-preserved c j =
-    both_ways (moved (c.in_ok-add_span.ensures j) (within_drop c.args.more.now c.loop-i.i c.index.result.now j (search rules))) (c.loop-i.invariant j)
+    both_ways (moved (c.in_ok-add_span.ensures j) (within_drop c.args.more.now c.loop-i.i _ j c.loop-i-test.true)) (c.loop-i.invariant j)
 
 pub returns : goal.returns
 returns c j =
-    let past : length c.args.more.now ≤ c.loop-i.i = search rules in
-    both_ways (none_dropped (IsWithin c.loop-i.spans.items j) c.args.more.now c.loop-i.i j past) (c.loop-i.invariant j)
+    both_ways (none_dropped (IsWithin c.loop-i.spans.items j) c.args.more.now c.loop-i.i j c.loop-i-test.false) (c.loop-i.invariant j)

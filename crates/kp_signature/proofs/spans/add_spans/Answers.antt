@@ -10,7 +10,7 @@ loop-span-init c j = (λ w. inl w, λ h. elim h [ inl w ↦ w | inr none ↦ abs
 pub loop-span-preserved : goal.loop-span-preserved
 loop-span-preserved c j =
     added_on (c.loop-span.invariant j) (c.in_ok-add_span.ensures j)
-    (within_more c.args.more.now c.loop-span.span-index c.span-item.result j c.loop-span-test.true c.span-item.is)
+    (within_more c.args.more.now c.loop-span.span-index _ j c.loop-span-test.true)
 
 pub returns : goal.returns
 returns c j =

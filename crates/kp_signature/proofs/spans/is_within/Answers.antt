@@ -9,12 +9,12 @@ loop-span-init c = none_within c.args.number
 
 pub returns-then-holds : goal.returns-then-holds
 returns-then-holds c = (
-  λ _. within_here c.args.spans.now c.loop-span.span-index c.span-item.result c.args.number c.loop-span-test.true c.span-item.is (c.holds.ensures.0 (search rules)),
+  λ _. within_here c.args.spans.now c.loop-span.span-index _ c.args.number c.loop-span-test.true (c.holds.ensures.0 (search rules)),
   λ _. refl,
 )
 
 pub loop-span-preserved : goal.loop-span-preserved
-loop-span-preserved c w = elim ((within_more c.args.spans.now c.loop-span.span-index c.span-item.result c.args.number c.loop-span-test.true c.span-item.is).0 w) [
+loop-span-preserved c w = elim ((within_more c.args.spans.now c.loop-span.span-index (record { first = 0; last = 0 }) c.args.number c.loop-span-test.true).0 w) [
   | inl old ↦ c.loop-span.invariant old
   | inr here ↦ absurd (cc (c.holds.ensures.1 here, c.if-holds.false))
 ]

@@ -12,8 +12,8 @@ loop-span-init c j = (
 
 pub loop-span-preserved : goal.loop-span-preserved
 loop-span-preserved c j =
-    merged_more (c.loop-span.invariant j) (c.in_ok-add_before.ensures j) (c.in_ok-add_span.ensures j)
-    (within_more c.args.right.now c.loop-span.span-index c.span-item.result j c.loop-span-test.true c.span-item.is)
+    merged_more (c.loop-span.invariant j) (c.in_ok-next.ensures j) (c.in_ok-add_span.ensures j)
+    (within_more c.args.right.now c.loop-span.span-index _ j c.loop-span-test.true)
 
 pub returns : goal.returns
 returns c j =

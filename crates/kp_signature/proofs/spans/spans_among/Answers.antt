@@ -10,7 +10,7 @@ loop-number-init c j = (λ w. absurd (none_in c.new-spans.result.items j c.new-s
 
 pub loop-number-preserved : goal.loop-number-preserved
 loop-number-preserved c j =
-    number_more c.args.numbers.now c.loop-number.number-index j c.loop-number-test.true (c.loop-number.invariant j) (c.in_ok-add_number.ensures j)
+    number_more c.args.numbers.now c.loop-number.number-index j _ _ c.loop-number-test.true (c.loop-number.invariant j) (c.in_ok-add_number.ensures j)
 
 pub returns : goal.returns
 returns c j =
