@@ -7,4 +7,4 @@ pub returns : goal.returns
 returns c before is =
     let yes : c.are_below.result ≡ true = search rules in
     reached_by (edges_of c.args.edges.now) c.args.spans.now c.args.next.now c.args.number c.in_ok-own.own.items c.add_number.new.spans.items before is
-    (λ i h. search rules) c.in_ok-own.ensures c.in_ok-add_number.ensures
+    (c.are_below.ensures yes) c.in_ok-own.ensures c.in_ok-add_number.ensures

@@ -13,7 +13,7 @@ loop-number-preserved c =
     let n = c.loop-number.number in
     let spans = c.loop-number.spans.items in
     let next = edges_read edges n c.index-edges-number.result (search rules) c.index-edges-number.is in
-    let before = subst (IsSpread (edges_of edges)) (sym c.deref-2.ensures.value) c.loop-number.invariant.1 in
+    let before = subst (IsSpread (edges_of edges)) (sym c.deref-in-loop-number.ensures.value) c.loop-number.invariant.1 in
     let own = c.in_ok-own.ensures before (c.deref.ensures.value ∙ next) in (
       one_longer spans c.push.new.self.items c.in_ok-own.own n c.in_ok-push.ensures.items c.loop-number.invariant.0,
       spread_more (edges_of edges) spans c.push.new.self.items c.in_ok-own.own n c.loop-number.invariant.1 c.loop-number.invariant.0 c.in_ok-push.ensures.items own,

@@ -10,7 +10,7 @@ loop-number-init c j = (λ w. absurd (none_in c.new-all.result.items j c.new-all
 
 pub loop-number-preserved : goal.loop-number-preserved
 loop-number-preserved c j =
-    those_more c.args.spans.now c.args.numbers.now c.loop-number.number-index j _ _ c.loop-number-test.true (c.loop-number.invariant j) (c.in_ok-with_spans_of.ensures j)
+    those_more c.args.spans.now c.args.numbers.now c.loop-number.number-index j _ _ c.loop-number-test.true (c.loop-number.invariant j) (c.in_ok-all.ensures j)
 
 pub returns : goal.returns
 returns c j =
