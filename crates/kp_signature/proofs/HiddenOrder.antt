@@ -87,7 +87,7 @@ is_within : (spans : List Span) (j : ℕ) → IsDecided (IsWithin spans j)
 is_within spans j = like (λ h. (h.element, h.among, h.holds)) (λ h. record { element = h.0; among = h.1; holds = h.2 }) (some_of (λ s. Holds s j) (holds j) spans)
 
 -- the sort of a number
-sort_at : List KoreSort → ℕ → KoreSort
+abbrev sort_at : List KoreSort → ℕ → KoreSort
 sort_at sorts i = get_or sorts i (sort_variable [])
 
 is_at : (sorts : List KoreSort) (i : ℕ) → i < length sorts → IsNumber sorts i (sort_at sorts i)

@@ -18,11 +18,11 @@ returns-in_default c pairs ix =
     let none = subst (TellsNumber (sorts_of x) a) c.in_default.is (c.number_of.ensures pairs ix) in
     (λ h. absurd (cc), λ h. absurd (cc (c.equal.ensures.1 (none_above pairs x ix.graph a (sort_view c.args.upper.now) none h), c.if-equal.false)))
 
-pub returns-in_default-2 : goal.returns-in_default-2
-returns-in_default-2 c pairs ix =
+pub returns-in_default-number_of : goal.returns-in_default-number_of
+returns-in_default-number_of c pairs ix =
     let x = c.args.self.now.graph in
     let b = sort_view c.args.upper.now in
-    let none = subst (TellsNumber (sorts_of x) b) c.in_default-2.is (c.number_of-2.ensures pairs ix) in
+    let none = subst (TellsNumber (sorts_of x) b) c.in_default-number_of.is (c.number_of-2.ensures pairs ix) in
     (λ h. absurd (cc), λ h. absurd (cc (c.equal.ensures.1 (none_below pairs x ix.graph (sort_view c.args.lower.now) b none h), c.if-equal.false)))
 
 pub returns : goal.returns
@@ -30,9 +30,9 @@ returns c pairs ix =
     let x = c.args.self.now.graph in
     let a = sort_view c.args.lower.now in
     let b = sort_view c.args.upper.now in
-    let i = c.in-Some-2.to in
+    let i = c.in-Some-number_of.to in
     let j = c.in-Some.from in
     let n = subst (TellsNumber (sorts_of x) a) c.in-Some.is (c.number_of.ensures pairs ix) in
-    let m = subst (TellsNumber (sorts_of x) b) c.in-Some-2.is (c.number_of-2.ensures pairs ix) in
+    let m = subst (TellsNumber (sorts_of x) b) c.in-Some-number_of.is (c.number_of-2.ensures pairs ix) in
     let test = c.is_under.ensures pairs ix m.0 in
     (λ h. under_is_below pairs x ix.graph i j a b m n (test.0 h), λ h. test.1 (below_is_under pairs x ix.graph i j a b m n h))
