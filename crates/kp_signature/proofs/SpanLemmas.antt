@@ -273,3 +273,11 @@ those_more spans numbers i j all after h before added = (
     | inr same ↦ inr (subst (λ v. IsWithin (get_or (spans_of spans) v []) j) (sym same) k.2)
   ]),
 )
+
+-- the spans of the same numbers
+pub those_same : (spans : List (Vec Span Global)) (before after : List ℕ) (all : List Span) (j : ℕ) → ((i : ℕ) → Contains before i ↔ Contains after i) →
+    IsWithin all j ↔ ((k : ℕ) × Contains before k × IsWithin (get_or (spans_of spans) k []) j) → IsWithin all j ↔ ((k : ℕ) × Contains after k × IsWithin (get_or (spans_of spans) k []) j)
+those_same spans before after all j same those = (
+  λ w. let k = those.0 w in (k.0, (same k.0).0 k.1, k.2),
+  λ k. those.1 (k.0, (same k.0).1 k.1, k.2),
+)

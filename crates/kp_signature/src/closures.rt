@@ -36,9 +36,19 @@ fn closure_of(
     if !are_below(next, spans.len()) {
         return Ok(searched(alloc, edges, number)?);
     }
-    let mut own = spans_of_all(alloc, spans, next)?;
+    let ascending = ascending(alloc, next)?;
+    let mut own = spans_of_all(alloc, spans, &ascending)?;
     add_number(&mut own, number)?;
     Ok(own)
+}
+
+/// The numbers, the smallest first.
+fn ascending(alloc: Global, numbers: &[usize]) -> Result<Vec<usize>, AllocError>
+    ensures { IfOk result (λ all. (i : ℕ) → Contains all.items i ↔ Contains numbers.now i) }
+{
+    let mut all = numbers.to_vec(alloc)?;
+    all.sort_unstable();
+    Ok(all)
 }
 
 /// The spans of what a search from the number finds.
