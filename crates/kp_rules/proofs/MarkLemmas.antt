@@ -34,9 +34,9 @@ pub not_marked : (g : KoreSignature) (ds : List SymbolDeclaration) (sorts : List
     AreMarked g ds sorts marks → AreMarked g (ds ++ d ∷ []) sorts marks
 not_marked g ds sorts marks d none m = record {
   as_many = m.as_many;
-  marks = λ i a n.
+  told = λ i a n.
       let o = owns_more g ds d a in
-      let k = m.marks i a n in
+      let k = m.told i a n in
       (λ h. o.1 (inl (k.0 h)), λ h. elim (o.0 h) [ inl old ↦ k.1 old | inr e ↦ absurd (none a (there sorts i a n) e) ]);
 }
 
@@ -72,9 +72,9 @@ pub marked : (g : KoreSignature) (ds : List SymbolDeclaration) (sorts : List Kor
     AreMarked g ds sorts marks → AreMarked g (ds ++ d ∷ []) sorts after
 marked g ds sorts marks after d s n is num once set_is m = record {
   as_many = ap length set_is ∙ set_length marks n ∙ m.as_many;
-  marks = λ i a k.
+  told = λ i a k.
       let o = owns_more g ds d a in
-      let before = m.marks i a k in
+      let before = m.told i a k in
       let t = set_cases marks n i (subst (λ v. n < v) (sym m.as_many) num.0) in (
         λ h. o.1 (elim (t.0 (sym (ap (λ l. get_or l i false) set_is) ∙ h)) [
           | inl old ↦ inl (before.0 old)
@@ -110,10 +110,10 @@ pub literal_more : (g : KoreSignature) (sorts : List KoreSort) (s : KoreSort) (m
     AreMarked g [] sorts marks → AreMarked g [] (sorts ++ s ∷ []) after
 literal_more g sorts s marks after b test is m = record {
   as_many = ap length is ∙ pushed_length marks b ∙ ap suc m.as_many ∙ sym (pushed_length sorts s);
-  marks = λ i a n. elim (number_cases sorts s i a n) [
+  told = λ i a n. elim (number_cases sorts s i a n) [
     | inl old ↦
         let same : get_or after i false ≡ get_or marks i false = ap (λ l. get_or l i false) is ∙ pushed_before marks b false i (subst (λ k. i < k) (sym m.as_many) old.0) in
-        let before = m.marks i a old in
+        let before = m.told i a old in
         (λ h. before.0 (sym same ∙ h), λ o. same ∙ before.1 o)
     | inr new ↦
         let at : i ≡ length marks = new.0 ∙ sym m.as_many in
@@ -128,7 +128,7 @@ literal_more g sorts s marks after b test is m = record {
 pub no_marks : (g : KoreSignature) (marks : List Bool) → marks ≡ [] → AreMarked g [] [] marks
 no_marks g marks none = record {
   as_many = ap length none;
-  marks = λ i a n. absurd (no i n.0);
+  told = λ i a n. absurd (no i n.0);
 }
   where
     no : (i : ℕ) → i < 0 → ⊥
@@ -198,4 +198,4 @@ module _ (g : KoreSignature) where
           inr (e.0, f.0, ap (λ n. constructed_sort g n) f.1 ∙ ap (option_and_then (λ d. result_where (symbol_meaning g d) d.result)) e.1 ∙ ap (λ m. result_where m e.0.result) e.2 ∙ ap Some e.3)
 
 pub own_marks : (g : KoreSignature) (x : SortGraph) (marks : List Bool) → AreMarked g g.symbols (sorts_of x) marks → (i : ℕ) (a : KoreSort) → IsNumber (sorts_of x) i a → IsTrue (get_or marks i false) ↔ HasOwnHeads g a
-own_marks g x marks m i a n = let k = m.marks i a n in let h = all_heads g a in (λ e. h.0 (k.0 e), λ e. k.1 (h.1 e))
+own_marks g x marks m i a n = let k = m.told i a n in let h = all_heads g a in (λ e. h.0 (k.0 e), λ e. k.1 (h.1 e))

@@ -63,9 +63,9 @@ module _ (x : SortIndex) (i : ℕ) (below heads down common : List ℕ)
   covered m = ((downs m.number).1 m.under, (m.among, λ o h. let k = (commons o).0 h in m.all o k.0 ((downs o).0 k.1)))
 
 -- what lies below one that isn't over all isn't over all
-pub none_is_over : (x : SortIndex) (i : ℕ) (others down failed after added : List ℕ) → ((j : ℕ) → Contains down j ↔ Under x i j) → added ≡ down → ¬ ((o : ℕ) → Contains others o → Contains down o) →
+pub none_is_over : (x : SortIndex) (i : ℕ) (others lower failed after added : List ℕ) → ((j : ℕ) → Contains lower j ↔ Under x i j) → added ≡ lower → ¬ ((o : ℕ) → Contains others o → Contains lower o) →
     AreNotOver x others failed → Extended failed added after → AreNotOver x others after
-none_is_over x i others down failed after added downs e not none more j h = elim (there_or_added failed added after j more h) [
+none_is_over x i others lower failed after added downs e not none more j h = elim (there_or_added failed added after j more h) [
   | inl old ↦ none j old
   | inr new ↦ λ all. not (λ o k. (downs o).1 (onwards (down x) i j o ((downs j).0 (subst (λ l. Contains l j) e new)) (all o k)))
 ]

@@ -114,7 +114,7 @@ OwnsBy g ds a = IsTrue (has_literals g a) ⊎ ((d : SymbolDeclaration) × Contai
 -- the numbers of the sorts that own heads by these declarations are marked
 pub record AreMarked (g : KoreSignature) (ds : List SymbolDeclaration) (sorts : List KoreSort) (marks : List Bool) : Type 0 where
   pub as_many : length marks ≡ length sorts
-  pub marks : (i : ℕ) (a : KoreSort) → IsNumber sorts i a → IsTrue (get_or marks i false) ↔ OwnsBy g ds a
+  pub told : (i : ℕ) (a : KoreSort) → IsNumber sorts i a → IsTrue (get_or marks i false) ↔ OwnsBy g ds a
 
 -- ---- a variable under inj
 
