@@ -32,6 +32,16 @@ pub data Fault : Type 0 where
   unverified : VerifyFault → Fault
   -- C9: a foreign symbol stands in a side
   foreign_symbol : Text → Fault
+  -- C9: a side isn't one term and predicates
+  other_side : Fault
+  -- C3: a variable has a name that new variables may have
+  fresh_name : Text → Fault
+  -- C8: the claim is used as a rule, and can't be one
+  no_rule : Fault
+  -- C4: it depends on a label that no claim of the file has
+  unknown_label : Text → Fault
+  -- C5: the claim of this label depends on itself
+  circle : Text → Fault
 
 -- the fault that the code tells
 abbrev pub told_fault : ClaimFault → Option Fault
@@ -41,6 +51,11 @@ told_fault told.NoLabel = Some no_label
 told_fault (told.RepeatedLabel l) = Some (repeated_label (string_bytes l))
 told_fault (told.Unverified e) = option_map unverified (verify.fault_view e)
 told_fault (told.ForeignSymbol n) = Some (foreign_symbol (string_bytes n))
+told_fault told.OtherSide = Some other_side
+told_fault (told.FreshName n) = Some (fresh_name (string_bytes n))
+told_fault told.NoRule = Some no_rule
+told_fault (told.UnknownLabel l) = Some (unknown_label (string_bytes l))
+told_fault (told.Circle l) = Some (circle (string_bytes l))
 
 -- the code that is shown of a fault
 abbrev pub fault_code : ClaimFault → Text
@@ -50,6 +65,11 @@ fault_code told.NoLabel = codes "C6"
 fault_code (told.RepeatedLabel l) = codes "C7"
 fault_code (told.Unverified e) = codes "C9"
 fault_code (told.ForeignSymbol n) = codes "C9"
+fault_code told.OtherSide = codes "C9"
+fault_code (told.FreshName n) = codes "C3"
+fault_code told.NoRule = codes "C8"
+fault_code (told.UnknownLabel l) = codes "C4"
+fault_code (told.Circle l) = codes "C5"
 
 -- ---- the first fault of a claim
 

@@ -18,6 +18,16 @@ pub enum ClaimFault {
     Unverified(VerifyError),
     /// C9: a foreign symbol or an alias stands in a side, by its name.
     ForeignSymbol(Name),
+    /// C9: a side isn't one term and predicates.
+    OtherSide,
+    /// C3: a variable has a name that new variables may have.
+    FreshName(Name),
+    /// C8: the claim is used as a rule, and can't be one.
+    NoRule,
+    /// C4: the claim depends on a label that no claim of the file has.
+    UnknownLabel(Name),
+    /// C5: the claim of this label depends on itself, at once or over others.
+    Circle(Name),
 }
 
 impl ClaimFault {
@@ -35,6 +45,11 @@ impl ClaimFault {
             ClaimFault::RepeatedLabel(_) => "C7",
             ClaimFault::Unverified(_) => "C9",
             ClaimFault::ForeignSymbol(_) => "C9",
+            ClaimFault::OtherSide => "C9",
+            ClaimFault::FreshName(_) => "C3",
+            ClaimFault::NoRule => "C8",
+            ClaimFault::UnknownLabel(_) => "C4",
+            ClaimFault::Circle(_) => "C5",
         }
     }
 }

@@ -44,14 +44,14 @@ fn take_new(labels: &mut Labels, label: &Name) -> Result<Name, ClaimError>
 }
 
 /// Whether the label was noted before.
-fn is_noted(labels: &Labels, label: &Name) -> bool
+pub fn is_noted(labels: &Labels, label: &Name) -> bool
     ensures { (before : List Text) → Lists before labels.now → result ≡ list_any (bytes_eq (string_bytes label.now)) before }
 {
     labels.contains_key(label.as_str())
 }
 
 /// Notes a label.
-fn note(labels: &mut Labels, label: &Name) -> Result<(), AllocError>
+pub fn note(labels: &mut Labels, label: &Name) -> Result<(), AllocError>
     ensures { (before : List Text) → Lists before labels.old → OnOk result (Lists (before ++ string_bytes label.now ∷ []) labels.new) }
 {
     labels.insert(label.clone()?, ())?;
@@ -59,7 +59,7 @@ fn note(labels: &mut Labels, label: &Name) -> Result<(), AllocError>
 }
 
 /// The text of the first `label{}("..")`, where it is a label.
-fn label_of(attributes: &[Pattern]) -> Option<&Name>
+pub fn label_of(attributes: &[Pattern]) -> Option<&Name>
     ensures { option_map (λ l. string_bytes l.now) result ≡ stated_label (patterns_view attributes.now) }
 {
     match text_of(attributes, "label") {

@@ -4,13 +4,13 @@
 #![tactic(auto)]
 
 mod fault;
-mod file;
+pub mod file;
 mod item;
-mod label;
-mod outline;
+pub mod label;
+pub mod outline;
 mod read;
-mod sentences;
-mod sides;
+pub mod sentences;
+pub mod sides;
 
 pub use fault::{ClaimError, ClaimFault};
 pub use item::ClaimItem;

@@ -38,7 +38,7 @@ pub fn outline<'a>(alloc: Global, statement: &'a AxiomSentence) -> Result<Sides<
 }
 
 /// Whether the right side is reached on some path.
-fn is_one_path(pattern: &Pattern) -> bool
+pub fn is_one_path(pattern: &Pattern) -> bool
     ensures { result ≡ one_path_test (view pattern.now) }
 {
     match pattern {
@@ -83,7 +83,7 @@ fn is_plain(statement: &AxiomSentence) -> bool
 }
 
 /// Whether an attribute of this name is among them.
-fn has_attribute(attributes: &[Pattern], name: &str) -> bool
+pub fn has_attribute(attributes: &[Pattern], name: &str) -> bool
     ensures { result ≡ attribute_test name.now (patterns_view attributes.now) }
 {
     for attribute in attributes {
@@ -136,7 +136,7 @@ fn are_none(found: &[SortedVariable]) -> bool
 }
 
 /// The sides of `\implies{S}(left, weakAlwaysFinally{S}(right))`.
-fn sides_of(pattern: &Pattern) -> Option<Sides<'_>>
+pub fn sides_of(pattern: &Pattern) -> Option<Sides<'_>>
     ensures { option_map sides_view result ≡ stated_sides (view pattern.now) }
 {
     match pattern {

@@ -41,7 +41,7 @@ pub fn checked_claim(
 }
 
 /// `\implies{S}(left, right)`.
-fn bare_claim(alloc: Global, sides: Sides<'_>) -> Result<Pattern, AllocError>
+pub fn bare_claim(alloc: Global, sides: Sides<'_>) -> Result<Pattern, AllocError>
     ensures { IfOk result (λ p. view p ≡ stated_bare (sides_view sides.entry)) }
 {
     Ok(Pattern::Implies {
@@ -52,7 +52,11 @@ fn bare_claim(alloc: Global, sides: Sides<'_>) -> Result<Pattern, AllocError>
 }
 
 /// C9 of the first verify fault.
-fn check_verified(alloc: Global, signature: &Signature, pattern: &Pattern) -> Result<(), ClaimError>
+pub fn check_verified(
+    alloc: Global,
+    signature: &Signature,
+    pattern: &Pattern,
+) -> Result<(), ClaimError>
     ensures ok { OnOk result (first_fault (signature_view signature.now) the_top (view pattern.now) ≡ None) }
     ensures err { IfErr result (TellsOf (λ f. option_map unverified (first_fault (signature_view signature.now) the_top (view pattern.now)) ≡ Some f)) }
 {
@@ -73,7 +77,11 @@ fn unverified_side(error: VerifyError) -> ClaimError
 }
 
 /// C9 of the first foreign symbol.
-fn check_foreign(alloc: Global, signature: &Signature, pattern: &Pattern) -> Result<(), ClaimError>
+pub fn check_foreign(
+    alloc: Global,
+    signature: &Signature,
+    pattern: &Pattern,
+) -> Result<(), ClaimError>
     ensures ok { OnOk result (first_foreign_in (signature_view signature.now) (view pattern.now) ≡ None) }
     ensures err { IfErr result (TellsOf (λ f. option_map foreign_symbol (first_foreign_in (signature_view signature.now) (view pattern.now)) ≡ Some f)) }
 {

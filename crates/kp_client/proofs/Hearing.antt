@@ -3,9 +3,10 @@ use Rattle.std.proofs.Common.{◌≡◌, refl, ◌<◌, ℕ, pos, negsuc, Option
 use Rattle.serde_json.specs.Data.{Data}
 use Rattle.serde_json.specs.Written.{compact_text}
 use Rattle.kp_rpc.specs.Questions.{Question, question_tree}
-use Rattle.kp_rpc.specs.Replied.{Method, ServerReply, IsReplyOf}
-use Rattle.kp_rpc.specs.View.{reply_view}
-use Rattle.kp_rpc.specs.declared.replied.ServerReply.{ServerReply as RustReply}
+use Rattle.kp_replies.specs.Read.{Method, ServerReply}
+use Rattle.kp_replies.specs.Replies.{IsReplyOf}
+use Rattle.kp_replies.specs.View.{reply_view}
+use Rattle.kp_replies.specs.declared.told.ServerReply.{ServerReply as RustReply}
 use Rattle.kp_client.specs.Links.{Exchange, LinkState, Makes, IsTextOf}
 use Rattle.kp_client.specs.Answers.{IsHeard}
 use Rattle.kp_client.specs.Rounds.{undecided_code}

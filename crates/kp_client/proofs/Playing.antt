@@ -29,11 +29,11 @@ pub steps_edge : (depth : ℕ) (tree : List ProofNode) (n : ℕ) (s : KorePatter
 steps_edge depth tree n s es d next end a few many = elim (split most_nodes (length tree)) [
   | inl l ↦ (let is : end ≡ ends (with_hold n graph.nodes tree) (pending_at n graph.nodes) = many l in
       subst (λ fs. Stepping depth tree n s fs end) (sym a.only) (subst (Stepping depth tree n s (a.exchange ∷ [])) (sym is)
-      (rounds.too_many a.exchange a.run a.tells (subst (λ k. 1 ≤ k) (sym a.fact.0) a.fact.1) l)))
+      (rounds.too_many a.exchange a.run a.tells a.followed (subst (λ k. 1 ≤ k) (sym a.fact.0) a.fact.1) l)))
   | inr l ↦ (let is : end ≡ goes_on (with_edge n d (view next) false tree) = few l in
       subst (λ fs. Stepping depth tree n s fs end) (sym a.only) (subst (Stepping depth tree n s (a.exchange ∷ [])) (sym is)
       (subst (λ k. Stepping depth tree n s (a.exchange ∷ []) (goes_on (with_edge n k (view next) false tree))) a.fact.0
-      (rounds.edge a.exchange a.run (view next) a.tells (subst (λ k. 1 ≤ k) (sym a.fact.0) a.fact.1) a.fact.2 l))))
+      (rounds.edge a.exchange a.run (view next) a.tells a.followed (subst (λ k. 1 ≤ k) (sym a.fact.0) a.fact.1) a.fact.2 l))))
 ]
 
 pub steps_stuck : (depth : ℕ) (tree : List ProofNode) (n : ℕ) (s : KorePattern) (es : List Exchange) (end : RoundEnd) → IsStepAnswer depth s es steps.Stuck → end ≡ ends (with_arc n graph.stuck tree) (failed_at n) → Stepping depth tree n s es end
@@ -42,7 +42,7 @@ steps_stuck depth tree n s es end a is = subst (λ fs. Stepping depth tree n s f
 pub steps_held : (depth : ℕ) (tree : List ProofNode) (n : ℕ) (s : KorePattern) (es : List Exchange) (line : Vec ℕ Global) (end : RoundEnd) → IsStepAnswer depth s es (steps.Held line) → end ≡ goes_on (with_hold n (graph.reply line.items) tree) → Stepping depth tree n s es end
 steps_held depth tree n s es line end a is =
     let same : end ≡ goes_on (with_hold n (graph.reply a.exchange.reply) tree) = is ∙ ap (λ b. goes_on (with_hold n (graph.reply b) tree)) (sym a.fact.2) in
-    subst (λ fs. Stepping depth tree n s fs end) (sym a.only) (subst (Stepping depth tree n s (a.exchange ∷ [])) (sym same) (rounds.held a.exchange a.run a.tells a.fact.0 a.fact.1))
+    subst (λ fs. Stepping depth tree n s fs end) (sym a.only) (subst (Stepping depth tree n s (a.exchange ∷ [])) (sym same) (rounds.held a.exchange a.run a.tells a.followed a.fact.0 a.fact.1))
 
 pub steps_refused : (depth : ℕ) (tree : List ProofNode) (n : ℕ) (s : KorePattern) (es : List Exchange) (code : ℤ) → IsStepAnswer depth s es (steps.Refused code) → Stepping depth tree n s es (ends tree (refused_with code))
 steps_refused depth tree n s es code a = rounds.refused es code a

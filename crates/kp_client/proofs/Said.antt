@@ -27,10 +27,10 @@ use Rattle.kp_client.proofs.Right.{cover_is_right, uncovered_is_right, edge_is_r
 -- ---- a round keeps what the arcs say
 
 says_stepping : (t : ToldTheory) (claim : ReachabilityClaim) (depth : ℕ) (tree : List ProofNode) (n : ℕ) (x : ProofNode) (es : List Exchange) (end : RoundEnd) → depth < 2 ^ 64 → IsReadBack x.state → TreeSays t.theory [] [] claim tree → arc_fault tree n ≡ None → node_at tree n ≡ Some x → AllByRecursion (IsRightExchange t) es → Stepping depth tree n x.state es end → TreeSays t.theory [] [] claim (end_tree end)
-says_stepping t claim depth tree n x es end fits back said free at right (rounds.edge e r beyond tells d p l) = plain_edge_says t.theory [] [] claim tree n r.depth x [] beyond false said free at (edge_is_right t depth x.state beyond e r fits back right.0 tells d p)
-says_stepping t claim depth tree n x es end fits back said free at right (rounds.too_many e r tells d l) = hold_says t.theory [] [] claim tree n graph.nodes said free
+says_stepping t claim depth tree n x es end fits back said free at right (rounds.edge e r beyond tells f d p l) = plain_edge_says t.theory [] [] claim tree n r.depth x [] beyond false said free at (edge_is_right t depth x.state beyond e r fits back right.0 tells f d p)
+says_stepping t claim depth tree n x es end fits back said free at right (rounds.too_many e r tells f d l) = hold_says t.theory [] [] claim tree n graph.nodes said free
 says_stepping t claim depth tree n x es end fits back said free at right (rounds.stuck e r tells d w) = stuck_says t.theory [] [] claim tree n x said free at (stuck_is_right t depth x.state e r fits back right.0 tells d w)
-says_stepping t claim depth tree n x es end fits back said free at right (rounds.held e r tells d w) = hold_says t.theory [] [] claim tree n (graph.reply e.reply) said free
+says_stepping t claim depth tree n x es end fits back said free at right (rounds.held e r tells f d w) = hold_says t.theory [] [] claim tree n (graph.reply e.reply) said free
 says_stepping t claim depth tree n x es end fits back said free at right (rounds.refused fs code r) = said
 
 says_round : (t : ToldTheory) (claim : ReachabilityClaim) (depth : ℕ) (tree : List ProofNode) (n : ℕ) (x : ProofNode) (es : List Exchange) (end : RoundEnd) → depth < 2 ^ 64 → free_variables claim.right ≡ [] → IsReadBack x.state → IsReadBack claim.right → TreeSays t.theory [] [] claim tree → arc_fault tree n ≡ None → node_at tree n ≡ Some x → AllByRecursion (IsRightExchange t) es → Round claim depth tree n x.state es end → TreeSays t.theory [] [] claim (end_tree end)
@@ -78,12 +78,12 @@ FailsAt t claim (goes_on tree) m = Unit {0}
 FailsAt t claim (ends tree outcome) m = outcome ≡ failed_at m → IsStuckAt t.theory claim tree m
 
 fails_stepping : (t : ToldTheory) (claim : ReachabilityClaim) (depth : ℕ) (tree : List ProofNode) (n : ℕ) (x : ProofNode) (es : List Exchange) (end : RoundEnd) (m : ℕ) → depth < 2 ^ 64 → IsReadBack x.state → arc_fault tree n ≡ None → node_at tree n ≡ Some x → AllByRecursion (IsRightExchange t) es → HasCounterexample t.theory.signature x.state claim.right → Stepping depth tree n x.state es end → FailsAt t claim end m
-fails_stepping t claim depth tree n x es end m fits back free at right un (rounds.edge e r beyond tells d p l) = tt
-fails_stepping t claim depth tree n x es end m fits back free at right un (rounds.too_many e r tells d l) = λ o. absurd (cc)
+fails_stepping t claim depth tree n x es end m fits back free at right un (rounds.edge e r beyond tells f d p l) = tt
+fails_stepping t claim depth tree n x es end m fits back free at right un (rounds.too_many e r tells f d l) = λ o. absurd (cc)
 fails_stepping t claim depth tree n x es end m fits back free at right un (rounds.stuck e r tells d w) = λ o.
     let same : n ≡ m = cc in
     subst (IsStuckAt t.theory claim (with_arc n graph.stuck tree)) same (stuck_at t claim tree n x free at (stuck_is_right t depth x.state e r fits back right.0 tells d w) un)
-fails_stepping t claim depth tree n x es end m fits back free at right un (rounds.held e r tells d w) = tt
+fails_stepping t claim depth tree n x es end m fits back free at right un (rounds.held e r tells f d w) = tt
 fails_stepping t claim depth tree n x es end m fits back free at right un (rounds.refused fs code r) = λ o. absurd (cc)
 
 fails_round : (t : ToldTheory) (claim : ReachabilityClaim) (depth : ℕ) (tree : List ProofNode) (n : ℕ) (x : ProofNode) (es : List Exchange) (end : RoundEnd) (m : ℕ) → depth < 2 ^ 64 → IsReadBack x.state → IsReadBack claim.right → arc_fault tree n ≡ None → node_at tree n ≡ Some x → AllByRecursion (IsRightExchange t) es → Round claim depth tree n x.state es end → FailsAt t claim end m

@@ -1,19 +1,17 @@
 -- Each state of a proof's tree is read back, where the claim's left side is.
 use Rattle.std.proofs.Common.{◌≡◌, ℕ, ◌+◌, Bool, false, Option, Some, None, List, length}
-use Rattle.std.specs.Prelude.{codes}
 use Rattle.std.specs.List.{AllByRecursion}
-use Rattle.serde_json.specs.Data.{Data}
 use Rattle.kp_kore.specs.Syntax.{KorePattern}
 use Rattle.kp_semantics.specs.Claims.{ReachabilityClaim}
 use Rattle.kp_graph.specs.Tree as graph
 use Rattle.kp_graph.specs.Tree.{ProofNode, NodeArc, HeldBy, node_at, child_node, with_arc, with_hold, with_edge}
 use Rattle.kp_rpc.specs.Questions.{IsReadBack}
-use Rattle.kp_rpc.specs.Reply.{ExecuteResult, IsStatePattern}
-use Rattle.kp_rpc.specs.Replied.{WrappedAt, OptionalAt, IsSpelledState, execute, executed, IsReplyOf}
+use Rattle.kp_results.specs.Results.{ExecutedParts, IsPatternOf}
+use Rattle.kp_replies.specs.Read.{execute, executed}
 use Rattle.kp_client.specs.Links.{Exchange}
 use Rattle.kp_client.specs.Rounds.{RoundEnd, goes_on, ends, Stepping, Round, Rounds, none_yet, one_more, step_question, Tells}
 use Rattle.kp_client.specs.Rounds as rounds
-use Rattle.kp_rpc.proofs.StatesBack.{state_read_back}
+use Rattle.kp_replies.proofs.Methods.{told_state, state_back}
 use Rattle.kp_client.proofs.EachNode.{of_node, of_changed, of_more}
 use Rattle.kp_client.proofs.Trees.{end_tree}
 
@@ -36,23 +34,16 @@ edge_read tree n d s terminal h r = of_more (λ x. IsReadBack x.state) (with_arc
 
 -- ---- the state of a reply
 
-spelled : (d : Data) (term : KorePattern) (predicate : Option KorePattern) → WrappedAt d (codes "term") term → OptionalAt d (codes "predicate") predicate → IsSpelledState term predicate
-spelled d term None a b = (a.0, a.2)
-spelled d term (Some p) a b = ((a.0, a.2), (b.0, b.2))
-
-state_spelled : (line : List ℕ) (x : ExecuteResult) → IsReplyOf execute line (executed x) → IsSpelledState x.state.term x.state.predicate
-state_spelled line x told = let run = told.2.2.2 in spelled run.state x.state.term x.state.predicate run.tells_state.term run.tells_state.predicate
-
-next_read : (depth : ℕ) (s beyond : KorePattern) (e : Exchange) (x : ExecuteResult) → Tells (step_question depth s) execute e (executed x) → IsStatePattern x.state beyond → IsReadBack beyond
-next_read depth s beyond e x tells is = state_read_back x.state beyond (state_spelled e.reply x tells.told) is
+next_read : (depth : ℕ) (s beyond : KorePattern) (e : Exchange) (x : ExecutedParts) → Tells (step_question depth s) execute e (executed x) → IsPatternOf x.state beyond → IsReadBack beyond
+next_read depth s beyond e x tells is = state_back x.state beyond (told_state e.reply x tells.told) is
 
 -- ---- rounds
 
 stepping_read : (depth : ℕ) (tree : List ProofNode) (n : ℕ) (s : KorePattern) (es : List Exchange) (end : RoundEnd) → AreStatesRead tree → Stepping depth tree n s es end → AreStatesRead (end_tree end)
-stepping_read depth tree n s es end h (rounds.edge e x beyond tells d p l) = edge_read tree n x.depth beyond false h (next_read depth s beyond e x tells p)
-stepping_read depth tree n s es end h (rounds.too_many e x tells d l) = hold_read tree n graph.nodes h
+stepping_read depth tree n s es end h (rounds.edge e x beyond tells f d p l) = edge_read tree n x.depth beyond false h (next_read depth s beyond e x tells p)
+stepping_read depth tree n s es end h (rounds.too_many e x tells f d l) = hold_read tree n graph.nodes h
 stepping_read depth tree n s es end h (rounds.stuck e x tells d r) = arc_read tree n graph.stuck h
-stepping_read depth tree n s es end h (rounds.held e x tells d r) = hold_read tree n (graph.reply e.reply) h
+stepping_read depth tree n s es end h (rounds.held e x tells f d r) = hold_read tree n (graph.reply e.reply) h
 stepping_read depth tree n s es end h (rounds.refused fs code r) = h
 
 round_read : (claim : ReachabilityClaim) (depth : ℕ) (tree : List ProofNode) (n : ℕ) (s : KorePattern) (es : List Exchange) (end : RoundEnd) → AreStatesRead tree → Round claim depth tree n s es end → AreStatesRead (end_tree end)

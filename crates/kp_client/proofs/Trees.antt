@@ -85,10 +85,10 @@ end_tree (goes_on tree) = tree
 end_tree (ends tree outcome) = tree
 
 from_stepping : (claim : ReachabilityClaim) (depth : ℕ) (tree : List ProofNode) (n : ℕ) (s : KorePattern) (es : List Exchange) (end : RoundEnd) → IsFrom claim tree → arc_fault tree n ≡ None → Stepping depth tree n s es end → IsFrom claim (end_tree end)
-from_stepping claim depth tree n s es end h free (rounds.edge e x beyond t d p l) = from_edge claim tree n x.depth beyond false h free
-from_stepping claim depth tree n s es end h free (rounds.too_many e x t d l) = from_hold claim tree n graph.nodes h free
+from_stepping claim depth tree n s es end h free (rounds.edge e x beyond t f d p l) = from_edge claim tree n x.depth beyond false h free
+from_stepping claim depth tree n s es end h free (rounds.too_many e x t f d l) = from_hold claim tree n graph.nodes h free
 from_stepping claim depth tree n s es end h free (rounds.stuck e x t d r) = from_arc claim tree n graph.stuck h free stuck_leaf
-from_stepping claim depth tree n s es end h free (rounds.held e x t d r) = from_hold claim tree n (graph.reply e.reply) h free
+from_stepping claim depth tree n s es end h free (rounds.held e x t f d r) = from_hold claim tree n (graph.reply e.reply) h free
 from_stepping claim depth tree n s es end h free (rounds.refused fs code t) = h
 
 pub from_round : (claim : ReachabilityClaim) (depth : ℕ) (tree : List ProofNode) (n : ℕ) (s : KorePattern) (es : List Exchange) (end : RoundEnd) → IsFrom claim tree → arc_fault tree n ≡ None → Round claim depth tree n s es end → IsFrom claim (end_tree end)
@@ -104,10 +104,10 @@ IsCalm (goes_on tree) = some_failed tree ≡ false
 IsCalm (ends tree outcome) = (outcome ≡ passed) → ⊥
 
 calm_stepping : (depth : ℕ) (tree : List ProofNode) (n : ℕ) (s : KorePattern) (es : List Exchange) (end : RoundEnd) → some_failed tree ≡ false → arc_fault tree n ≡ None → Stepping depth tree n s es end → IsCalm end
-calm_stepping depth tree n s es end h free (rounds.edge e x beyond t d p l) = failed_with_edge tree n x.depth beyond false free ∙ h
-calm_stepping depth tree n s es end h free (rounds.too_many e x t d l) = λ o. absurd (cc)
+calm_stepping depth tree n s es end h free (rounds.edge e x beyond t f d p l) = failed_with_edge tree n x.depth beyond false free ∙ h
+calm_stepping depth tree n s es end h free (rounds.too_many e x t f d l) = λ o. absurd (cc)
 calm_stepping depth tree n s es end h free (rounds.stuck e x t d r) = λ o. absurd (cc)
-calm_stepping depth tree n s es end h free (rounds.held e x t d r) = failed_with_hold tree n (graph.reply e.reply) free ∙ h
+calm_stepping depth tree n s es end h free (rounds.held e x t f d r) = failed_with_hold tree n (graph.reply e.reply) free ∙ h
 calm_stepping depth tree n s es end h free (rounds.refused fs code t) = λ o. absurd (cc)
 
 calm_round : (claim : ReachabilityClaim) (depth : ℕ) (tree : List ProofNode) (n : ℕ) (s : KorePattern) (es : List Exchange) (end : RoundEnd) → some_failed tree ≡ false → arc_fault tree n ≡ None → Round claim depth tree n s es end → IsCalm end

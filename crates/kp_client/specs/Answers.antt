@@ -1,16 +1,17 @@
 -- What the parts of a round come to, as the code keeps them.
-use Rattle.std.specs.Prelude.{◌≡◌, ◌≢◌, ◌≤◌, ℕ, List, [], ◌∷◌, Some, None}
+use Rattle.std.specs.Prelude.{◌≡◌, ◌≢◌, ◌≤◌, ℕ, true, List, [], ◌∷◌, Some, None}
 use Rattle.kp_kore.specs.Syntax.{KorePattern}
 use Rattle.kp_kore.specs.View.{view}
 use Rattle.kp_semantics.specs.Claims.{ReachabilityClaim}
-use Rattle.kp_semantics.specs.Replies as replies
+use Rattle.kp_semantics.specs.Implied.{not_valid, valid}
 use Rattle.kp_graph.specs.Tree.{ProofNode, HeldBy, node_at}
 use Rattle.kp_rpc.specs.Questions.{Question, question_tree}
-use Rattle.kp_rpc.specs.Reply.{ExecuteResult, not_valid, valid, IsStatePattern}
-use Rattle.kp_rpc.specs.Replied.{Method, execute, implies, ServerReply, executed, implied, failed, IsReplyOf}
-use Rattle.kp_rpc.specs.View.{reply_view}
+use Rattle.kp_results.specs.Results.{stuck, ExecutedParts, IsPatternOf}
+use Rattle.kp_replies.specs.Read.{Method, execute, implies, ServerReply, executed, implied, failed}
+use Rattle.kp_replies.specs.Replies.{IsReplyOf}
+use Rattle.kp_replies.specs.View.{reply_view}
 use Rattle.kp_client.specs.Links.{Exchange, LinkState, Makes, IsTextOf}
-use Rattle.kp_client.specs.Rounds.{cover_question, step_question, Tells, Refuses, undecided_code, Stepping, Round, RoundEnd, Rounds, Proves, ProofOutcome, passed, pending_at, IsNoneHeld, IsFirstHeld}
+use Rattle.kp_client.specs.Rounds.{cover_question, step_question, Tells, Refuses, undecided_code, is_followed, Stepping, Round, RoundEnd, Rounds, Proves, ProofOutcome, passed, pending_at, IsNoneHeld, IsFirstHeld}
 use Rattle.kp_client.specs.declared.hear.Heard.{Heard}
 use Rattle.kp_client.specs.declared.hear.Heard.TheVariants as heard
 use Rattle.kp_client.specs.declared.cover.CoverAnswer.{CoverAnswer}
@@ -34,18 +35,19 @@ IsCoverAnswer claim s es (cover.Undecided line) =
     (e : Exchange) × (es ≡ e ∷ []) × (e.reply ≡ line.items) × Tells (cover_question claim s) implies e (failed undecided_code)
 IsCoverAnswer claim s es (cover.Refused code) = Refuses (cover_question claim s) implies es code × (code ≢ undecided_code)
 
--- the reply to the question of the next steps tells a run of which this holds
-pub record TellsRunThat (depth : ℕ) (s : KorePattern) (es : List Exchange) (P : Exchange → ExecuteResult → Type 0) : Type 0 where
+-- the reply to the question of the next steps tells a run that the prover goes by, of which this holds
+pub record TellsRunThat (depth : ℕ) (s : KorePattern) (es : List Exchange) (P : Exchange → ExecutedParts → Type 0) : Type 0 where
   pub exchange : Exchange
-  pub run : ExecuteResult
+  pub run : ExecutedParts
   pub only : es ≡ exchange ∷ []
   pub tells : Tells (step_question depth s) execute exchange (executed run)
+  pub followed : is_followed run.ending ≡ true
   pub fact : P exchange run
 
 abbrev pub IsStepAnswer : ℕ → KorePattern → List Exchange → StepAnswer → Type 0
-IsStepAnswer depth s es (steps.Stepped length next) = TellsRunThat depth s es (λ e x. (x.depth ≡ length) × (1 ≤ length) × IsStatePattern x.state (view next))
-IsStepAnswer depth s es steps.Stuck = TellsRunThat depth s es (λ e x. (x.depth ≡ 0) × (x.reason ≡ replies.stuck))
-IsStepAnswer depth s es (steps.Held line) = TellsRunThat depth s es (λ e x. (x.depth ≡ 0) × (x.reason ≢ replies.stuck) × (e.reply ≡ line.items))
+IsStepAnswer depth s es (steps.Stepped length next) = TellsRunThat depth s es (λ e x. (x.depth ≡ length) × (1 ≤ length) × IsPatternOf x.state (view next))
+IsStepAnswer depth s es steps.Stuck = TellsRunThat depth s es (λ e x. (x.depth ≡ 0) × (x.ending ≡ stuck))
+IsStepAnswer depth s es (steps.Held line) = TellsRunThat depth s es (λ e x. (x.depth ≡ 0) × (x.ending ≢ stuck) × (e.reply ≡ line.items))
 IsStepAnswer depth s es (steps.Refused code) = Refuses (step_question depth s) execute es code
 
 -- the second half of a round of node n

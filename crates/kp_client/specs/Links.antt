@@ -4,16 +4,17 @@ use Rattle.std.specs.Prelude.{◌≡◌, ◌≤◌, ℕ, List, ◌++◌, map, Op
 use Rattle.std.specs.List.{AllByRecursion}
 use Rattle.serde_json.specs.Data.{Data, object, Members}
 use Rattle.serde_json.specs.Written.{compact_text}
-use Rattle.kp_kore.specs.Syntax.{Text, KorePattern}
+use Rattle.kp_kore.specs.Syntax.{Text}
 use Rattle.kp_semantics.specs.Theory.{Theory}
-use Rattle.kp_semantics.specs.Replies.{IsRightExecuted}
-use Rattle.kp_semantics.specs.Implied.{IsRightImplied}
+use Rattle.kp_semantics.specs.Executions.{Executed, IsRightExecuted}
+use Rattle.kp_semantics.specs.Implied.{Implied, IsRightImplied}
 use Rattle.kp_rpc.specs.Frame.{IsFrame}
-use Rattle.kp_rpc.specs.Request.{ExecuteRequest, IsExecute, ImpliesRequest, IsImplies, bound_of}
+use Rattle.kp_rpc.specs.Request.{ExecuteRequest, IsExecute, ImpliesRequest, IsImplies}
 use Rattle.kp_rpc.specs.Questions.{Question, question_tree}
-use Rattle.kp_rpc.specs.Reply.{ExecuteResult, ImpliesResult, IsStatePattern}
-use Rattle.kp_rpc.specs.Replied.{execute, executed, implies, implied, IsReplyOf}
-use Rattle.kp_rpc.specs.Implications.{IsMainAsked, implied_by}
+use Rattle.kp_results.specs.Results.{ExecutedParts, IsResultOf}
+use Rattle.kp_replies.specs.Read.{execute, executed, implies, implied}
+use Rattle.kp_replies.specs.Replies.{IsReplyOf}
+use Rattle.kp_replies.specs.Right.{asked_options, IsMainAsked}
 
 -- a frame, and the line that replied to it
 pub record Exchange : Type 0 where
@@ -37,14 +38,13 @@ pub record LinkState : Type 1 where
 abbrev pub IsTextOf : Question → List ℕ → Type 0
 IsTextOf q bytes = (d : Data) × (question_tree q ≡ Some d) × (bytes ≡ compact_text d)
 
--- the result of execute is right for the theory and the request, at whatever sort the state's conjunction is written
-abbrev pub IsRightRun : Theory → ExecuteRequest → ExecuteResult → Type 0
-IsRightRun t q x =
-    (s : KorePattern) → IsStatePattern x.state s →
-    IsRightExecuted t (q.options.cut_points ++ q.options.terminals) (bound_of q.options) q.state (record { depth = x.depth; reason = x.reason; state = s })
+-- the result of execute is right for the theory and the request, at whatever sorts the conjunctions of its states are
+-- written
+abbrev pub IsRightRun : Theory → ExecuteRequest → ExecutedParts → Type 0
+IsRightRun t q x = (meant : Executed) → IsResultOf x meant → IsRightExecuted t (asked_options q.options) q.state meant
 
 -- the frame is a request of execute, and where it asks of the main module, the result is right for it
-pub record AsksForRun (t : ToldTheory) (frame : List ℕ) (x : ExecuteResult) : Type 0 where
+pub record AsksForRun (t : ToldTheory) (frame : List ℕ) (x : ExecutedParts) : Type 0 where
   pub members : Members
   pub request : ExecuteRequest
   pub is_frame : IsFrame frame (object members)
@@ -52,17 +52,17 @@ pub record AsksForRun (t : ToldTheory) (frame : List ℕ) (x : ExecuteResult) : 
   pub right : IsMainAsked t.main request.options.module_name → IsRightRun t.theory request x
 
 -- the same of a request of implies
-pub record AsksForImplication (t : ToldTheory) (frame : List ℕ) (x : ImpliesResult) : Type 0 where
+pub record AsksForImplication (t : ToldTheory) (frame : List ℕ) (x : Implied) : Type 0 where
   pub members : Members
   pub request : ImpliesRequest
   pub is_frame : IsFrame frame (object members)
   pub is_request : IsImplies members request
-  pub right : IsMainAsked t.main request.module_name → IsRightImplied t.theory.signature request.antecedent request.consequent (implied_by x)
+  pub right : IsMainAsked t.main request.module_name → IsRightImplied t.theory.signature request.antecedent request.consequent x
 
 -- a reply tells a result only of a request, and the result is right for that request
 pub record IsRightExchange (t : ToldTheory) (e : Exchange) : Type 0 where
-  pub executes : (x : ExecuteResult) → IsReplyOf execute e.reply (executed x) → AsksForRun t e.frame x
-  pub implies_so : (x : ImpliesResult) → IsReplyOf implies e.reply (implied x) → AsksForImplication t e.frame x
+  pub executes : (x : ExecutedParts) → IsReplyOf execute e.reply (executed x) → AsksForRun t e.frame x
+  pub implies_so : (x : Implied) → IsReplyOf implies e.reply (implied x) → AsksForImplication t e.frame x
 
 -- the link serves the theory: what its exchanges meet makes them right
 abbrev pub Serves : LinkState → ToldTheory → Type 0

@@ -1,17 +1,19 @@
 -- The rounds of a proof: what is asked of each node, and what the replies make of it.
 -- Source: pyk's APRProver (the cover is asked first, then the next steps; pending, stuck, covered nodes); the K Haskell
 -- backend's JSON-RPC documentation (execute, implies).
-use Rattle.std.specs.Prelude.{◌≡◌, ◌≢◌, ◌<◌, ◌≤◌, ◌^◌, ℕ, suc, ℤ, pos, negsuc, List, [], ◌∷◌, ◌++◌, length, Option, Some, None, slice_get, false}
+use Rattle.std.specs.Prelude.{◌≡◌, ◌≢◌, ◌<◌, ◌≤◌, ◌^◌, ℕ, suc, ℤ, pos, negsuc, List, [], ◌∷◌, ◌++◌, length, Option, Some, None, slice_get, Bool, true, false}
 use Rattle.kp_kore.specs.Syntax.{KorePattern}
 use Rattle.kp_semantics.specs.Claims.{ReachabilityClaim}
-use Rattle.kp_semantics.specs.Replies as replies
+use Rattle.kp_semantics.specs.Implied.{not_valid, valid}
 use Rattle.kp_graph.specs.Tree as graph
 use Rattle.kp_graph.specs.Tree.{ProofNode, HeldBy, node_at, open_nodes, first_nodes, with_arc, with_hold, with_edge}
 use Rattle.serde_json.specs.Data.{unsigned}
 use Rattle.kp_rpc.specs.Request.{RequestId, id_number}
 use Rattle.kp_rpc.specs.Questions.{Question, to_execute, to_imply, question_tree}
-use Rattle.kp_rpc.specs.Reply.{ExecuteResult, not_valid, valid, IsStatePattern}
-use Rattle.kp_rpc.specs.Replied.{Method, execute, implies, ServerReply, executed, implied, failed, IsReplyOf}
+use Rattle.kp_results.specs.Results as parts
+use Rattle.kp_results.specs.Results.{Ending, ExecutedParts, IsPatternOf}
+use Rattle.kp_replies.specs.Read.{Method, execute, implies, ServerReply, executed, implied, failed}
+use Rattle.kp_replies.specs.Replies.{IsReplyOf}
 use Rattle.kp_client.specs.Links.{Exchange, IsTextOf}
 
 -- ---- questions and their replies
@@ -43,11 +45,22 @@ pub record TellsNothing (question : RequestId → Question) (method : Method) (e
   pub asked : IsTextOf (question number) e.frame
   pub none : (r : ServerReply) → ¬ IsReplyOf method e.reply r
 
--- The question is refused with this code: the reply is that error; or it is no reply to the method, -32700; or a pattern
--- in the question has no Kore JSON, so that nothing is asked, 1.
+-- the reasons whose runs the prover goes by; it can't use the others yet
+abbrev pub is_followed : Ending → Bool
+is_followed parts.vacuous = false
+is_followed parts.depth_bound = true
+is_followed parts.stuck = true
+is_followed parts.branching = false
+is_followed (parts.cut_point id) = false
+is_followed (parts.terminal id) = false
+is_followed (parts.aborted cause) = true
+
+-- The question is refused with this code: the reply is that error; or it is no reply to the method, or one that the prover
+-- can't use, -32700; or a pattern in the question has no Kore JSON, so that nothing is asked, 1.
 pub data Refuses (question : RequestId → Question) (method : Method) : List Exchange → ℤ → Type 0 where
   by_error : (e : Exchange) (code : ℤ) → Tells question method e (failed code) → Refuses question method (e ∷ []) code
   by_no_reply : (e : Exchange) → TellsNothing question method e → Refuses question method (e ∷ []) (negsuc 32699)
+  by_reason : (e : Exchange) (x : ExecutedParts) → Tells question method e (executed x) → is_followed x.ending ≡ false → Refuses question method (e ∷ []) (negsuc 32699)
   by_no_text : (i : RequestId) → question_tree (question i) ≡ None → Refuses question method [] (pos 1)
 
 -- ---- one round
@@ -69,14 +82,14 @@ most_nodes = 10000
 -- What the next steps from the node's state make of the tree: an edge to a new node, unless there are as many nodes as
 -- there may be; or the node is stuck, and the proof fails; or it is held by a reply that goes no step and isn't stuck.
 pub data Stepping (depth : ℕ) (tree : List ProofNode) (n : ℕ) (s : KorePattern) : List Exchange → RoundEnd → Type 0 where
-  edge : (e : Exchange) (x : ExecuteResult) (next : KorePattern) → Tells (step_question depth s) execute e (executed x) → 1 ≤ x.depth →
-      IsStatePattern x.state next → length tree < most_nodes → Stepping depth tree n s (e ∷ []) (goes_on (with_edge n x.depth next false tree))
-  too_many : (e : Exchange) (x : ExecuteResult) → Tells (step_question depth s) execute e (executed x) → 1 ≤ x.depth →
+  edge : (e : Exchange) (x : ExecutedParts) (next : KorePattern) → Tells (step_question depth s) execute e (executed x) → is_followed x.ending ≡ true → 1 ≤ x.depth →
+      IsPatternOf x.state next → length tree < most_nodes → Stepping depth tree n s (e ∷ []) (goes_on (with_edge n x.depth next false tree))
+  too_many : (e : Exchange) (x : ExecutedParts) → Tells (step_question depth s) execute e (executed x) → is_followed x.ending ≡ true → 1 ≤ x.depth →
       most_nodes ≤ length tree → Stepping depth tree n s (e ∷ []) (ends (with_hold n graph.nodes tree) (pending_at n graph.nodes))
-  stuck : (e : Exchange) (x : ExecuteResult) → Tells (step_question depth s) execute e (executed x) → x.depth ≡ 0 →
-      x.reason ≡ replies.stuck → Stepping depth tree n s (e ∷ []) (ends (with_arc n graph.stuck tree) (failed_at n))
-  held : (e : Exchange) (x : ExecuteResult) → Tells (step_question depth s) execute e (executed x) → x.depth ≡ 0 →
-      x.reason ≢ replies.stuck → Stepping depth tree n s (e ∷ []) (goes_on (with_hold n (graph.reply e.reply) tree))
+  stuck : (e : Exchange) (x : ExecutedParts) → Tells (step_question depth s) execute e (executed x) → x.depth ≡ 0 →
+      x.ending ≡ parts.stuck → Stepping depth tree n s (e ∷ []) (ends (with_arc n graph.stuck tree) (failed_at n))
+  held : (e : Exchange) (x : ExecutedParts) → Tells (step_question depth s) execute e (executed x) → is_followed x.ending ≡ true → x.depth ≡ 0 →
+      x.ending ≢ parts.stuck → Stepping depth tree n s (e ∷ []) (goes_on (with_hold n (graph.reply e.reply) tree))
   refused : (es : List Exchange) (code : ℤ) → Refuses (step_question depth s) execute es code → Stepping depth tree n s es (ends tree (refused_with code))
 
 -- a server's code where it can't decide an implication

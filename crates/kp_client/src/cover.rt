@@ -4,10 +4,11 @@ ghost use Rattle.kp_kore.specs.Syntax.{KorePattern};
 ghost use Rattle.kp_kore.specs.View.{view};
 ghost use Rattle.kp_semantics.specs.Claims.{ReachabilityClaim};
 ghost use Rattle.kp_semantics.specs.ClaimView.{claim_view};
-ghost use Rattle.kp_rpc.specs.Replied.{implies, failed};
+ghost use Rattle.kp_replies.specs.Read.{implies, failed};
+ghost use Rattle.kp_replies.specs.View.{reply_view};
 ghost use Rattle.serde_json.specs.Data.{unsigned};
 ghost use Rattle.kp_rpc.specs.Request.{RequestId, id_number};
-ghost use Rattle.kp_rpc.specs.View.{question_view, reply_view};
+ghost use Rattle.kp_rpc.specs.View.{question_view};
 ghost use Rattle.kp_client.specs.Answers.{IsHeard, IsCoverAnswer};
 ghost use Rattle.kp_client.specs.Links.{Exchange, Makes};
 ghost use Rattle.kp_client.specs.Rounds.{IsGivenId, cover_question, Tells};
@@ -17,7 +18,9 @@ use crate::hear::{Heard, hear};
 use crate::link::Link;
 use crate::outcome::ProveFault;
 use kp_kore::Pattern;
-use kp_rpc::{Id, Implied, Method, Question, ServerReply};
+use kp_replies::{Method, ServerReply};
+use kp_results::Implied;
+use kp_rpc::{Id, Question};
 use kp_semantics::Claim;
 use std::alloc::{AllocError, Global};
 
@@ -79,6 +82,8 @@ fn told_cover(reply: ServerReply, line: Vec<u8>) -> CoverAnswer
         ServerReply::Implied(Implied::NotValid) => CoverAnswer::Uncovered,
         ServerReply::Failed { code } => failed_cover(code, line),
         ServerReply::Executed(_) => CoverAnswer::Refused(PARSE_ERROR),
+        ServerReply::Simplified(_) => CoverAnswer::Refused(PARSE_ERROR),
+        ServerReply::Added(_) => CoverAnswer::Refused(PARSE_ERROR),
     }
 }
 

@@ -1,13 +1,15 @@
 ghost use Rattle.std.specs.Prelude.{IfOk, IsErrOf, List};
 ghost use Rattle.kp_io.specs.Outside.{Rose};
-ghost use Rattle.kp_rpc.specs.View.{method_view, question_view};
+ghost use Rattle.kp_replies.specs.View.{method_view};
+ghost use Rattle.kp_rpc.specs.View.{question_view};
 ghost use Rattle.kp_client.specs.Answers.{IsHeard};
 ghost use Rattle.kp_client.specs.Links.{Exchange, Makes};
 ghost use Rattle.kp_client.specs.declared.outcome.ProveFault.TheVariants.{LinkFault};
 
 use crate::link::Link;
 use crate::outcome::ProveFault;
-use kp_rpc::{Method, Question, ServerReply, question_text, reply_of};
+use kp_replies::{Method, ServerReply, reply_of};
+use kp_rpc::{Question, question_text};
 use std::alloc::Global;
 
 /// What a question comes to.

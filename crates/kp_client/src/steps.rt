@@ -1,15 +1,17 @@
-ghost use Rattle.std.specs.Prelude.{◌≡◌, ◌∷◌, [], IfOk, IsErrOf, List, Some, ℕ, option_map};
+ghost use Rattle.std.specs.Prelude.{◌≡◌, ◌≢◌, ◌∷◌, [], true, false, IfOk, IsErrOf, List, Some, ℕ};
 ghost use Rattle.kp_io.specs.Outside.{Rose};
 ghost use Rattle.kp_kore.specs.Syntax.{KorePattern, conjunction};
 ghost use Rattle.kp_kore.specs.View.{view, sort_view, patterns_view};
-ghost use Rattle.kp_rpc.specs.Replied.{execute, executed};
-ghost use Rattle.kp_rpc.specs.Reply.{IsStatePattern};
+ghost use Rattle.kp_results.specs.Results.{IsPatternOf, stuck};
+ghost use Rattle.kp_results.specs.View.{executed_view, reason_view, state_view};
+ghost use Rattle.kp_replies.specs.Read.{execute, executed};
+ghost use Rattle.kp_replies.specs.View.{reply_view};
 ghost use Rattle.serde_json.specs.Data.{unsigned};
 ghost use Rattle.kp_rpc.specs.Request.{RequestId, id_number};
-ghost use Rattle.kp_rpc.specs.View.{question_view, reply_view, run_view};
+ghost use Rattle.kp_rpc.specs.View.{question_view};
 ghost use Rattle.kp_client.specs.Answers.{IsHeard, IsStepAnswer};
 ghost use Rattle.kp_client.specs.Links.{Exchange, Makes};
-ghost use Rattle.kp_client.specs.Rounds.{IsGivenId, step_question, Tells};
+ghost use Rattle.kp_client.specs.Rounds.{IsGivenId, is_followed as goes_by, step_question, Tells};
 ghost use Rattle.kp_client.specs.declared.outcome.ProveFault.TheVariants.{LinkFault};
 
 use crate::cover::{NO_PATTERN, PARSE_ERROR};
@@ -17,7 +19,9 @@ use crate::hear::{Heard, hear};
 use crate::link::Link;
 use crate::outcome::ProveFault;
 use kp_kore::{Pattern, Sort};
-use kp_rpc::{Id, Method, Options, Question, Reason, Run, ServerReply};
+use kp_replies::{Method, ServerReply};
+use kp_results::{Executed, Reason, State};
+use kp_rpc::{Id, Options, Question};
 use std::alloc::{AllocError, Global};
 
 /// Where the steps from a state lead.
@@ -83,7 +87,7 @@ fn conjunction_of(sort: Sort, patterns: Vec<Pattern>) -> Pattern
 
 /// The conjunction of a term and a predicate.
 fn joined(alloc: Global, term: Pattern, predicate: Pattern) -> Result<Pattern, AllocError>
-    ensures { IfOk result (λ p. IsStatePattern (record { term = view term; predicate = Some (view predicate) }) (view p)) }
+    ensures { IfOk result (λ p. IsPatternOf (record { term = view term; predicate = Some (view predicate) }) (view p)) }
 {
     let sort = sort_beside(alloc, &predicate)?;
     let mut patterns = Vec::new(alloc);
@@ -93,34 +97,63 @@ fn joined(alloc: Global, term: Pattern, predicate: Pattern) -> Result<Pattern, A
 }
 
 /// The state that a run ends in.
-fn state_of(alloc: Global, term: Pattern, predicate: Option<Pattern>) -> Result<Pattern, AllocError>
-    ensures { IfOk result (λ p. IsStatePattern (record { term = view term; predicate = option_map view predicate }) (view p)) }
+fn state_of(alloc: Global, state: State) -> Result<Pattern, AllocError>
+    ensures { IfOk result (λ p. IsPatternOf (state_view state) (view p)) }
 {
+    let State { term, predicate } = state;
     match predicate {
         None => Ok(term),
         Some(predicate) => joined(alloc, term, predicate),
     }
 }
 
+/// Whether the prover goes by a run that ends for this reason; it can't use the others yet.
+fn is_followed(reason: &Reason) -> bool
+    ensures { result ≡ goes_by (reason_view reason.now) }
+{
+    match reason {
+        Reason::Vacuous => false,
+        Reason::DepthBound => true,
+        Reason::Stuck => true,
+        Reason::Branching => false,
+        Reason::CutPoint { rule: _ } => false,
+        Reason::Terminal { rule: _ } => false,
+        Reason::Aborted { cause: _ } => true,
+    }
+}
+
+/// Whether no rule fires on a run's last state.
+fn is_stuck(reason: &Reason) -> bool
+    ensures yes { result ≡ true → reason_view reason.now ≡ stuck }
+    ensures no { result ≡ false → reason_view reason.now ≢ stuck }
+{
+    match reason {
+        Reason::Vacuous => false,
+        Reason::DepthBound => false,
+        Reason::Stuck => true,
+        Reason::Branching => false,
+        Reason::CutPoint { rule: _ } => false,
+        Reason::Terminal { rule: _ } => false,
+        Reason::Aborted { cause: _ } => false,
+    }
+}
+
 /// What a run says of the steps.
-fn run_answer(alloc: Global, run: Run, line: Vec<u8>) -> Result<StepAnswer, AllocError>
-    ensures { IfOk result (λ a. (depth : ℕ) (s : KorePattern) (e : Exchange) → e.reply ≡ line.items → Tells (step_question depth s) execute e (executed (run_view run))
+fn run_answer(alloc: Global, run: Executed, line: Vec<u8>) -> Result<StepAnswer, AllocError>
+    ensures { IfOk result (λ a. (depth : ℕ) (s : KorePattern) (e : Exchange) → e.reply ≡ line.items → Tells (step_question depth s) execute e (executed (executed_view run))
         → IsStepAnswer depth s (e ∷ []) a) }
 {
-    let Run {
-        depth,
-        reason,
-        term,
-        predicate,
-    } = run;
+    if !is_followed(&run.reason) {
+        return Ok(StepAnswer::Refused(PARSE_ERROR));
+    }
+    let depth = run.depth;
     if depth > 0 {
-        return Ok(StepAnswer::Stepped(depth, state_of(alloc, term, predicate)?));
+        return Ok(StepAnswer::Stepped(depth, state_of(alloc, run.state)?));
     }
-    match reason {
-        Reason::Stuck => Ok(StepAnswer::Stuck),
-        Reason::DepthBound => Ok(StepAnswer::Held(line)),
-        Reason::AbortedByRule { id: _ } => Ok(StepAnswer::Held(line)),
+    if is_stuck(&run.reason) {
+        return Ok(StepAnswer::Stuck);
     }
+    Ok(StepAnswer::Held(line))
 }
 
 /// What a reply says of the steps.
@@ -132,6 +165,8 @@ fn told_steps(alloc: Global, reply: ServerReply, line: Vec<u8>) -> Result<StepAn
         ServerReply::Executed(run) => run_answer(alloc, run, line),
         ServerReply::Failed { code } => Ok(StepAnswer::Refused(code)),
         ServerReply::Implied(_) => Ok(StepAnswer::Refused(PARSE_ERROR)),
+        ServerReply::Simplified(_) => Ok(StepAnswer::Refused(PARSE_ERROR)),
+        ServerReply::Added(_) => Ok(StepAnswer::Refused(PARSE_ERROR)),
     }
 }
 

@@ -1,4 +1,4 @@
-use kp_demands::{Demand, Limits, Tables};
+use kp_demands::{Demand, Limits, Tables, can_be_met, search_choices};
 use std::alloc::{AllocError, Global};
 use std::test::Fail;
 
@@ -143,5 +143,96 @@ fn five_thousand_random_conditions(rt: HostRuntime) -> Result<(), Fail> {
         }
     }
     assert!(rt; 1000 < yes && yes < 4000, "{yes}");
+    Ok(())
+}
+
+/// Whether the values meet one of the ways.
+fn meets_one(values: Values, ways: &[Vec<Demand>]) -> bool {
+    for way in ways {
+        if meets_all(values, way) {
+            return true;
+        }
+    }
+    false
+}
+
+/// Whether the values meet one way of each choice.
+fn meets_each(values: Values, choices: &[Vec<Vec<Demand>>]) -> bool {
+    for ways in choices {
+        if !meets_one(values, ways) {
+            return false;
+        }
+    }
+    true
+}
+
+/// Whether some values meet all demands and one way of each choice, by trying all.
+fn some_meet_each(choices: &[Vec<Vec<Demand>>], demands: &[Demand]) -> bool {
+    for n in 0..5184 {
+        let values = values_at(n);
+        if meets_all(values, demands) && meets_each(values, choices) {
+            return true;
+        }
+    }
+    false
+}
+
+/// What is said of choices beside demands, where all are on unknowns that the tables have. The demands are asked alone
+/// first, or aren't.
+fn ask_choices(
+    alloc: Global,
+    choices: &[Vec<Vec<Demand>>],
+    demands: &mut Vec<Demand>,
+    is_asked_first: bool,
+) -> Result<Option<bool>, AllocError> {
+    let limits = Limits {
+        wholes: 2,
+        truths: 2,
+        classes: 4,
+        bound: 4,
+    };
+    if !limits.allow_all(demands) || !limits.allow_choices(choices) {
+        return Ok(None);
+    }
+    let mut tables = Tables::new(alloc, 2, 2, 4, 2)?;
+    if is_asked_first {
+        return Ok(Some(can_be_met(choices, demands, &mut tables)?));
+    }
+    Ok(Some(search_choices(choices, demands, &mut tables)?))
+}
+
+/// Up to three ways of up to eight demands each.
+fn some_ways(alloc: Global, seed: &mut u64) -> Result<Vec<Vec<Demand>>, AllocError> {
+    let mut ways = Vec::new(alloc);
+    for _ in 0..next(seed, 4) {
+        ways.push(some_demands(alloc, seed)?)?;
+    }
+    Ok(ways)
+}
+
+/// Up to three choices.
+fn some_choices(alloc: Global, seed: &mut u64) -> Result<Vec<Vec<Vec<Demand>>>, AllocError> {
+    let mut choices = Vec::new(alloc);
+    for _ in 0..next(seed, 4) {
+        choices.push(some_ways(alloc, seed)?)?;
+    }
+    Ok(choices)
+}
+
+#[test]
+fn a_thousand_random_choices(rt: HostRuntime) -> Result<(), Fail> {
+    let mut seed = 20_261_129;
+    let mut yes = 0u32;
+    for n in 0..1000 {
+        let choices = some_choices(rt.alloc(), &mut seed)?;
+        let mut demands = some_demands(rt.alloc(), &mut seed)?;
+        let wanted = some_meet_each(&choices, &demands);
+        let answer = ask_choices(rt.alloc(), &choices, &mut demands, n % 2 == 0)?;
+        assert_eq!(rt; answer, Some(wanted));
+        if wanted {
+            yes = yes.saturating_add(1);
+        }
+    }
+    assert!(rt; 100 < yes && yes < 900, "{yes}");
     Ok(())
 }

@@ -2,24 +2,22 @@
 use Rattle.std.proofs.Common.{arith, ◌≡◌, refl, sym, ◌∙◌, ap, subst, ◌↔◌, ℤ, pos, ◌+ℤ◌, Bool, true, false, not, List, [], ◌∷◌, ◌++◌, Option, Some, None}
 use Rattle.std.specs.Prelude.{if◌then◌else◌, int_le, int_lt, MatchBool}
 use Rattle.std.specs.Bool.{beq, Decides}
-use Rattle.std.specs.List.{list_all}
 use Rattle.std.specs.Ordering.{int_eq}
 use Rattle.std.proofs.lemmas.Int.{ints}
-use Rattle.kp_kore.specs.Syntax.{Text, KoreSort}
+use Rattle.kp_kore.specs.Syntax.{Text}
 use Rattle.kp_kore.specs.Hooks.{Comparison, equal, different, less, at_most, greater, at_least, whole_arithmetic, addition, whole_comparison, truth_connective, truth_negation, values_equal, values_different}
 use Rattle.kp_kore.specs.Parts.{SortedName}
-use Rattle.kp_kore.specs.Signature.{KoreSignature, SymbolMeaning, injection, construction, interpretation, foreign, meaning_of, is_boolean_sort, Head, integers, booleans, tokens, constructor_of}
+use Rattle.kp_kore.specs.Signature.{KoreSignature, SymbolMeaning, injection, construction, interpretation, foreign, meaning_of, is_truth_sort, has_only_numbers, has_only_truths}
 use Rattle.kp_semantics.specs.Value.{Value, whole, truth, token, constructed, values_same, HasSort}
 use Rattle.kp_semantics.specs.Forms.{two}
 use Rattle.kp_semantics.specs.Interpretation.{compared, interpreted}
 use Rattle.kp_semantics.specs.Instance.{Valuation, GivesSorts, applied}
 use Rattle.kp_semantics.proofs.SameLemmas.{same_values_decide}
+use Rattle.kp_sorts.proofs.NumberLemmas.{only_numbers, only_truths}
 use Rattle.kp_symbolic.specs.Terms.{SymbolicTerm, unknown, offset, known, headed, no_terms, next_term, term_instance, term_variables}
 use Rattle.kp_symbolic.specs.States.{Atom, same, has_head, quoted, Literal, IsAtomTrue, IsLiteralTrue}
 use Rattle.kp_symbolic.specs.WellFormed.{IsGivenAtom}
-use Rattle.kp_symbolic.specs.Heads.{heads_of}
-use Rattle.kp_symbolic.specs.Plain.{are_numbers, are_truths, has_only_numbers, has_only_truths, has_only_tokens, WholePart, whole_part_of, whole_part, TokenPart, some_token, token_part, Form, compares, is_truth, equates, comparison_if, comparing, equating, first_form, equality_form, call_form, truth_form, same_form, form_of}
-use Rattle.kp_symbolic.proofs.HeadLemmas.{passed_by_heads, head_from_sort}
+use Rattle.kp_symbolic.specs.Plain.{has_only_tokens, WholePart, whole_part_of, whole_part, TokenPart, some_token, token_part, Form, compares, is_truth, equates, comparison_if, comparing, equating, first_form, equality_form, call_form, truth_form, same_form, form_of}
 use Rattle.kp_conditions.specs.Saying.{number_of, whole_value, token_value, Says}
 use Rattle.kp_conditions.proofs.Ways.{through}
 
@@ -45,42 +43,6 @@ some_if false r m e = none_some e
 turned : {A B : Type 0} → A ↔ B → B ↔ A
 turned f = (f.1, f.0)
 
--- ---- sorts of one kind of value
-
-abbrev is_integers : Head → Bool
-is_integers integers = true
-is_integers _ = false
-
-abbrev is_booleans : Head → Bool
-is_booleans booleans = true
-is_booleans _ = false
-
-numbers_all : (hs : List Head) → are_numbers hs ≡ true → list_all is_integers hs ≡ true
-numbers_all [] e = refl
-numbers_all (integers ∷ hs) e = numbers_all hs e
-numbers_all (booleans ∷ hs) e = false_true e
-numbers_all (tokens s ∷ hs) e = false_true e
-numbers_all (constructor_of c ∷ hs) e = false_true e
-
-truths_all : (hs : List Head) → are_truths hs ≡ true → list_all is_booleans hs ≡ true
-truths_all [] e = refl
-truths_all (booleans ∷ hs) e = truths_all hs e
-truths_all (integers ∷ hs) e = false_true e
-truths_all (tokens s ∷ hs) e = false_true e
-truths_all (constructor_of c ∷ hs) e = false_true e
-
-pub a_number : (g : KoreSignature) (s : KoreSort) (u : Value) → has_only_numbers g s ≡ true → HasSort g s u → (n : ℤ) × (u ≡ whole n)
-a_number g s (whole n) o h = (n, refl)
-a_number g s (truth b) o h = false_true (passed_by_heads g s booleans is_integers (numbers_all (heads_of g s) o) (head_from_sort g s (truth b) h))
-a_number g s (token t x) o h = false_true (passed_by_heads g s (tokens t) is_integers (numbers_all (heads_of g s) o) (head_from_sort g s (token t x) h))
-a_number g s (constructed c us) o h = false_true (passed_by_heads g s (constructor_of c) is_integers (numbers_all (heads_of g s) o) (head_from_sort g s (constructed c us) h))
-
-pub a_truth : (g : KoreSignature) (s : KoreSort) (u : Value) → has_only_truths g s ≡ true → HasSort g s u → (b : Bool) × (u ≡ truth b)
-a_truth g s (truth b) o h = (b, refl)
-a_truth g s (whole n) o h = false_true (passed_by_heads g s integers is_booleans (truths_all (heads_of g s) o) (head_from_sort g s (whole n) h))
-a_truth g s (token t x) o h = false_true (passed_by_heads g s (tokens t) is_booleans (truths_all (heads_of g s) o) (head_from_sort g s (token t x) h))
-a_truth g s (constructed c us) o h = false_true (passed_by_heads g s (constructor_of c) is_booleans (truths_all (heads_of g s) o) (head_from_sort g s (constructed c us) h))
-
 -- ---- sides
 
 plus_zero : (n : ℤ) → n +ℤ pos 0 ≡ n
@@ -93,7 +55,7 @@ whole_of : (g : KoreSignature) (v : Valuation) (x : SortedName) (c : ℤ) (m : W
 whole_of g v x c m h e =
     let r : WholePart = record { variable = Some x.name; constant = c } in
     let p = some_if (has_only_numbers g x.sort) r m e in
-    let n = a_number g x.sort (v x.name) p.0 h in
+    let n = only_numbers g x.sort (v x.name) p.0 h in
     (n.0, n.1, ap (λ k. whole_value v k) (sym p.1) ∙ ap (λ u. number_of u +ℤ c) n.1)
 
 pub part_is : (g : KoreSignature) (v : Valuation) (t : SymbolicTerm) (m : WholePart) → GivesSorts g v (term_variables t) → whole_part g t ≡ Some m → term_instance g v t ≡ whole (whole_value v m)
@@ -232,7 +194,7 @@ parts_given g v (x ∷ xs) ys h = let on = parts_given g v xs ys h.1 in ((h.0, o
 truth_says : (g : KoreSignature) (v : Valuation) (d : Bool) (t : SymbolicTerm) (k : Form) → GivesSorts g v (term_variables t) → truth_form g d t ≡ Some k → Tells g v d (term_instance g v t) k
 truth_says g v d (unknown x) k h e =
     let p = some_if (has_only_truths g x.sort) (is_truth x.name d) k e in
-    let b = a_truth g x.sort (v x.name) p.0 h.0 in
+    let b = only_truths g x.sort (v x.name) p.0 h.0 in
     record { value = b.0; is = b.1; says = subst (λ j. (b.0 ≡ d) ↔ Says g v j) p.1 (λ q. b.1 ∙ ap truth q, λ q. truth_inside (sym b.1 ∙ q)) }
 truth_says g v d (headed f (next_term t (next_term u no_terms))) k h e = let parts = parts_given g v (term_variables t) (term_variables u) h in call_says g v d f t u k (meaning_of g f) parts.0 parts.1 e
 truth_says g v d (offset x c) k h e = none_some e
@@ -267,7 +229,7 @@ at_truths g v b t u k ht hu e = none_some e
 -- ---- literals
 
 atom_says : (g : KoreSignature) (v : Valuation) (b : Bool) (a : Atom) (k : Form) → IsGivenAtom g v a → form_of g (record { holds = b; atom = a }) ≡ Some k → MatchBool b (IsAtomTrue g v a) (¬ IsAtomTrue g v a) ↔ Says g v k
-atom_says g v b (same s t u) k h e = by (is_boolean_sort g s) e
+atom_says g v b (same s t u) k h e = by (is_truth_sort g s) e
   where
     by : (c : Bool) → same_form g c b t u ≡ Some k → MatchBool b (term_instance g v t ≡ term_instance g v u) (¬ (term_instance g v t ≡ term_instance g v u)) ↔ Says g v k
     by true q = at_truths g v b t u k h.0 h.1 q

@@ -1,5 +1,5 @@
 -- What holds of each member of a list, told along a loop.
-use Rattle.std.proofs.Common.{arith, sym, subst, ◌↔◌, ◌<◌, ◌≤◌, ◌+◌, ℕ, zero, suc, List, [], ◌∷◌, ◌++◌, length, take, get_or}
+use Rattle.std.proofs.Common.{arith, ◌≡◌, sym, subst, ◌↔◌, ◌<◌, ◌≤◌, ◌+◌, ℕ, zero, suc, List, [], ◌∷◌, ◌++◌, length, map, take, get_or}
 use Rattle.std.specs.List.{AllByRecursion}
 use Rattle.std.proofs.lemmas.List.{take_more, take_all}
 
@@ -40,3 +40,14 @@ told_all P xs i old le before = subst (λ l. old ↔ AllByRecursion P l) (take_a
 pub all_map : {X : Type 0} (P Q : X → Type 0) (xs : List X) → ((x : X) → P x → Q x) → AllByRecursion P xs → AllByRecursion Q xs
 all_map P Q [] f h = tt
 all_map P Q (x ∷ xs) f h = (f x h.0, all_map P Q xs f h.1)
+
+-- of each image, where it is of each member
+pub all_of_map : {X Y : Type 0} (P : Y → Type 0) (f : X → Y) (xs : List X) → AllByRecursion P (map f xs) ↔ AllByRecursion (λ x. P (f x)) xs
+all_of_map P f [] = (λ h. tt, λ h. tt)
+all_of_map P f (x ∷ xs) = let on = all_of_map P f xs in (λ h. (h.0, on.0 h.1), λ h. (h.0, on.1 h.1))
+
+pub all_images : {X Y : Type 0} (P : Y → Type 0) (f : X → Y) (xs : List X) (i : ℕ) → length xs ≤ i → AllByRecursion (λ x. P (f x)) (take i xs) → AllByRecursion P (map f xs)
+all_images P f xs i le h = (all_of_map P f xs).1 (subst (AllByRecursion (λ x. P (f x))) (take_all i xs le) h)
+
+pub image_at : {X Y : Type 0} (P : Y → Type 0) (f : X → Y) (xs : List X) (i : ℕ) (d : X) → i < length xs → d ≡ get_or xs i d → AllByRecursion P (map f xs) → P (f d)
+image_at P f xs i d lt is h = subst (λ x. P (f x)) (sym is) (all_at (λ x. P (f x)) xs i d lt ((all_of_map P f xs).0 h))

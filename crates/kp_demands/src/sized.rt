@@ -46,4 +46,28 @@ impl Limits {
         }
         true
     }
+
+    /// Whether all demands of each way are.
+    pub fn allow_ways(self, ways: &[Vec<Demand>]) -> bool
+        ensures { (s : Sizes) → AreLimitsOf s self → IsTrue result ↔ AllByRecursion (AllByRecursion (IsSized s)) (map (λ w. w.items) ways.now) }
+    {
+        for way in ways {
+            if !self.allow_all(way) {
+                return false;
+            }
+        }
+        true
+    }
+
+    /// Whether all demands of each way of each choice are.
+    pub fn allow_choices(self, choices: &[Vec<Vec<Demand>>]) -> bool
+        ensures { (s : Sizes) → AreLimitsOf s self → IsTrue result ↔ AllByRecursion (AllByRecursion (AllByRecursion (IsSized s))) (choices_of choices.now) }
+    {
+        for ways in choices {
+            if !self.allow_ways(ways) {
+                return false;
+            }
+        }
+        true
+    }
 }

@@ -1,5 +1,5 @@
 -- Labels that are counted, one more of them, and the labels of one more axiom.
-use Rattle.std.proofs.Common.{◌≡◌, refl, sym, ap, ◌∙◌, ℕ, suc, zero, ◌+◌, ◌<◌, ◌==◌, Bool, true, false, ◌||◌, not, cond, List, [], ◌∷◌, ◌++◌, length, take, get_or, count_by, Option, Some, None, unwrap_or, arith}
+use Rattle.std.proofs.Common.{◌≡◌, refl, sym, ap, ◌∙◌, ℕ, suc, zero, ◌+◌, ◌<◌, ◌==◌, Bool, true, false, ◌||◌, not, cond, List, [], ◌∷◌, ◌++◌, length, take, get_or, count_by, Option, Some, None, unwrap_or, Result, Ok, Err, MatchResult, IfOk, arith}
 use Rattle.std.specs.Option.{is_some}
 use Rattle.std.specs.Str.{bytes_eq}
 use Rattle.std.proofs.Math.Seq.{take-suc}
@@ -8,7 +8,9 @@ use Rattle.std.proofs.lemmas.List.Elements.{filter_map-append}
 use Rattle.std.proofs.lemmas.Bool.Decides.{nat_tests}
 use Rattle.std.proofs.lemmas.Slice.Eq.{bytes_eq-Decides}
 use Rattle.kp_kore.specs.Syntax.{Text}
-use Rattle.kp_semantics.specs.Theory.{label_of, labels_of}
+use Rattle.std.specs.Prelude.{codes}
+use Rattle.std.specs.Fmt.{decimal}
+use Rattle.kp_semantics.specs.Theory.{NumberedAxiom, label_of, labels_of, rule_id}
 use Rattle.kp_modules.specs.Axioms.{axiom_view, axioms_view}
 use Rattle.kp_modules.specs.Labels.{stands_once}
 use Rattle.kp_modules.specs.Reaching.{has}
@@ -88,3 +90,18 @@ is_known n names o h = ap is_some h ∙ by (has n names) (count_by (bytes_eq n) 
     by : (b : Bool) (k : ℕ) → is_some (told b k) ≡ b
     by true k = refl
     by false k = refl
+
+-- ---- what a rule is called
+
+-- by its label, where that stands once
+pub label_names : (names : List Text) (a : NumberedAxiom) (label : Option Text) (x : Text) → label ≡ label_of a.axiom_of → label ≡ Some x → true ≡ stands_once x names → x ≡ rule_id names a
+label_names names a label x e is once = rw (sym e ∙ is) (rw (sym once) refl)
+
+-- by its number, where its label stands more often
+pub number_names : (names : List Text) (a : NumberedAxiom) (label : Option Text) (x n : Text) → label ≡ label_of a.axiom_of → label ≡ Some x → false ≡ stands_once x names → n ≡ a.key ++ codes "#" ++ decimal a.number → n ≡ rule_id names a
+number_names names a label x n e is often by_number = rw (sym e ∙ is) (rw (sym often) by_number)
+
+-- a name that is shared once more
+pub shared_name : {X E : Type 0} (r : Result X E) (P Q : X → Type 0) (R : E → Type 0) → MatchResult r P R → ((x : X) → P x → Q x) → IfOk r Q
+shared_name (Ok x) P Q R h k = k x h
+shared_name (Err e) P Q R h k = tt

@@ -15,6 +15,7 @@ use Rattle.kp_rules.specs.Bodies.{IsReadAs}
 use Rattle.kp_rules.specs.declared.rule.Rule.{Rule}
 use Rattle.kp_rules.specs.declared.rule.RuleSet.{RuleSet}
 use Rattle.kp_modules.specs.Axioms.{axiom_view, axioms_view}
+use Rattle.kp_modules.specs.Sources.{IsSourceOf}
 use Rattle.kp_modules.specs.Made.{IsMadeOf, AreMadeOf, AreRewriting, IsRunOf}
 use Rattle.kp_modules.specs.declared.axioms.RewriteAxiom.{RewriteAxiom}
 
@@ -51,11 +52,12 @@ rewriting_at (a ∷ rest) (suc i) d h k = rewriting_at rest i d h.1 (omega arith
 
 -- ---- the rule of one, and of one more
 
-pub made : (g : KoreSignature) (labels : List Text) (a : NumberedAxiom) (r : Rule) → IsReadAs g a.axiom_of r.priority r.body → string_bytes r.id ≡ rule_id labels a → IsMadeOf g labels a r
-made g labels a r h e = record {
+pub made : (g : KoreSignature) (labels : List Text) (a : NumberedAxiom) (r : Rule) → IsReadAs g a.axiom_of r.priority r.body.value → string_bytes r.id.value ≡ rule_id labels a → IsSourceOf a r.source.value → IsMadeOf g labels a r
+made g labels a r h e s = record {
   meant = record { id = rule_id labels a; priority = unwrap_or (priority_of a.axiom_of.attributes) usual_priority; body = h.meant };
   is_rule = record { id = refl; priority = refl; body = h.reads };
   is_code = record { id = e; is_body = h.is_body; is_priority = λ w is. ap (λ o. unwrap_or o usual_priority) (h.is_priority w is); is_foreign_priority = h.is_foreign_priority };
+  is_source = s;
 }
 
 zip_push : {A B : Type 0} (R : A → B → Type 0) (xs : List A) (ys : List B) (x : A) (y : B) → AllZip R xs ys → R x y → AllZip R (xs ++ x ∷ []) (ys ++ y ∷ [])
@@ -65,13 +67,14 @@ zip_push R (v ∷ xs) [] x y h k = absurd h
 zip_push R (v ∷ xs) (w ∷ ys) x y h k = (h.0, zip_push R xs ys x y h.1 k)
 
 pub none_made : (g : KoreSignature) (labels : List Text) → AreMadeOf g labels [] []
-none_made g labels = record { meant = []; are_rules = tt; are_code = tt }
+none_made g labels = record { meant = []; are_rules = tt; are_code = tt; are_sources = tt }
 
 more_made : (g : KoreSignature) (labels : List Text) (xs : List NumberedAxiom) (rs : List Rule) (a : NumberedAxiom) (r : Rule) → AreMadeOf g labels xs rs → IsMadeOf g labels a r → AreMadeOf g labels (xs ++ a ∷ []) (rs ++ r ∷ [])
 more_made g labels xs rs a r h k = record {
   meant = h.meant ++ k.meant ∷ [];
   are_rules = zip_push _ xs h.meant a k.meant h.are_rules k.is_rule;
   are_code = zip_push _ h.meant rs k.meant r h.are_code k.is_code;
+  are_sources = zip_push _ xs rs a r h.are_sources k.is_source;
 }
 
 pub axioms_more : (axioms : List RewriteAxiom) (i : ℕ) (a : RewriteAxiom) → i < length axioms → a ≡ get_or axioms i a → axioms_view (take (i + 1) axioms) ≡ axioms_view (take i axioms) ++ axiom_view a ∷ []
@@ -93,11 +96,12 @@ one_more_made g labels axioms i a rs new r h e old made is =
 pub sentences_seen : (ms : List (Bor Module)) → sentences_of ms ≡ flat_map (λ m. m.sentences) (map (λ m. module_view m.now) ms)
 sentences_seen ms = sym (flat_map-map (λ m. m.sentences) (λ m. module_view m.now) ms)
 
-pub runs : (ms : List KoreModule) (rules : RuleSet) → signature_view rules.signature ≡ signature_of (flat_map (λ m. m.sentences) ms) →
-    AreMadeOf (signature_view rules.signature) (labels_of (rewrite_axioms ms)) (rewrite_axioms ms) rules.rules.items → IsRunOf ms rules
+pub runs : (ms : List KoreModule) (rules : RuleSet) → signature_view rules.signature.value ≡ signature_of (flat_map (λ m. m.sentences) ms) →
+    AreMadeOf (signature_view rules.signature.value) (labels_of (rewrite_axioms ms)) (rewrite_axioms ms) rules.rules.items → IsRunOf ms rules
 runs ms rules e h = record {
-  theory = record { signature = signature_view rules.signature; rules = h.meant };
+  theory = record { signature = signature_view rules.signature.value; rules = h.meant };
   signature = e;
   meant = h.are_rules;
   runs = record { signature = refl; each = h.are_code };
+  made = record { signature = refl; made = h };
 }

@@ -4,5 +4,6 @@ pub mod Labels
 pub mod Made
 pub mod Names
 pub mod Reaching
+pub mod Sources
 pub mod Tables
 pub mod Walks

@@ -1,16 +1,19 @@
 // The identifiers of rules.
 ghost use Rattle.std.specs.Prelude.{◌≡◌, ◌++◌, ◌∷◌, [], List, IfOk, OnOk, map, string_bytes, codes};
 ghost use Rattle.std.specs.Fmt.{decimal};
+ghost use Rattle.std.specs.Option.{option_map};
 ghost use Rattle.kp_kore.specs.Syntax.{Text};
-ghost use Rattle.kp_semantics.specs.Theory.{labels_of as labels_among, rule_id as stated_id};
+ghost use Rattle.kp_semantics.specs.Theory.{NumberedAxiom, labels_of as labels_among, label_of as label_among, rule_id as stated_id};
 ghost use Rattle.kp_modules.specs.Axioms.{axiom_view, axioms_view};
 ghost use Rattle.kp_modules.specs.Labels.{Counts, stands_once};
+ghost use Rattle.kp_modules.specs.Sources.{IsSourceOf};
 
 use crate::axioms::RewriteAxiom;
 use indexmap::IndexMap;
 use kp_kore::Name;
-use kp_rules::label_of;
+use kp_rules::{RuleSource, label_of};
 use std::alloc::{AllocError, Global};
+use std::sync::Arc;
 
 /// For each label whether one rule alone has it.
 pub type Labels = IndexMap<Name, bool>;
@@ -49,23 +52,46 @@ fn add_label(alloc: Global, labels: &mut Labels, label: &str) -> Result<(), Allo
     Ok(())
 }
 
-/// The label where no other rule has it, else `MODULE#NUMBER`.
-pub fn rule_id(
+/// Where an axiom's rule stands, and what it may be called.
+pub fn source_of(alloc: Global, rewriting: &RewriteAxiom<'_>) -> Result<RuleSource, AllocError>
+    ensures { IfOk result (IsSourceOf (axiom_view rewriting.now)) }
+{
+    let label = shared_label(alloc, rewriting)?;
+    let numbered = Arc::new(alloc, numbered(alloc, rewriting)?)?;
+    Ok(RuleSource {
+        module: rewriting.module.clone()?,
+        number: rewriting.number,
+        label,
+        numbered,
+    })
+}
+
+/// The axiom's label, where it has one.
+fn shared_label(
     alloc: Global,
-    labels: &Labels,
     rewriting: &RewriteAxiom<'_>,
-) -> Result<String, AllocError>
-    ensures { (names : List Text) → Counts names labels.now → IfOk result (λ id. string_bytes id ≡ stated_id names (axiom_view rewriting.now)) }
+) -> Result<Option<Arc<String>>, AllocError>
+    ensures { IfOk result (λ label. option_map (λ t. string_bytes t.value) label ≡ label_among (axiom_view rewriting.now).axiom_of) }
 {
     match label_of(rewriting.axiom) {
+        Some(label) => Ok(Some(Arc::new(alloc, String::from_str(alloc, label)?)?)),
+        None => Ok(None),
+    }
+}
+
+/// The label where no other rule has it, else `MODULE#NUMBER`.
+pub fn rule_id(labels: &Labels, source: &RuleSource) -> Result<Arc<String>, AllocError>
+    ensures { (names : List Text) (a : NumberedAxiom) → Counts names labels.now → IsSourceOf a source.now → IfOk result (λ id. string_bytes id.value ≡ stated_id names a) }
+{
+    match &source.label {
         Some(label) => {
             if is_alone(labels, label) {
-                String::from_str(alloc, label)
+                label.clone()
             } else {
-                numbered(alloc, rewriting)
+                source.numbered.clone()
             }
         }
-        None => numbered(alloc, rewriting),
+        None => source.numbered.clone(),
     }
 }
 

@@ -5,7 +5,9 @@ ghost use Rattle.kp_kore.specs.View.{module_view, view};
 ghost use Rattle.kp_signature.specs.View.{signature_view};
 ghost use Rattle.kp_semantics.specs.Rules.{is_rewriting};
 ghost use Rattle.kp_semantics.specs.Theory.{rewrite_axioms as axioms_among, labels_of as labels_among};
-ghost use Rattle.kp_rules.specs.Bodies.{IsFaulty};
+ghost use Rattle.kp_kore.specs.Signature.{KoreSignature};
+ghost use Rattle.kp_rules.specs.Bodies.{IsFaulty, IsReadAs};
+ghost use Rattle.kp_modules.specs.declared.fault.LoadError.TheVariants.{Memory};
 ghost use Rattle.kp_rules.specs.Index.{IsIndexOf};
 ghost use Rattle.kp_modules.specs.Axioms.{axiom_view, axioms_view};
 ghost use Rattle.kp_modules.specs.Faults.{AreSound, TellsAxiom, TellsFaulty};
@@ -14,11 +16,12 @@ ghost use Rattle.kp_modules.specs.Made.{IsMadeOf, AreMadeOf, AreRewriting};
 
 use crate::axioms::{RewriteAxiom, rewrite_axioms};
 use crate::fault::{LoadError, ModuleFault};
-use crate::labels::{Labels, labels_of, rule_id};
+use crate::labels::{Labels, labels_of, rule_id, source_of};
 use kp_kore::Module;
-use kp_rules::{Rule, RuleError, SortIndex, read_rule};
+use kp_rules::{Rule, RuleBody, RuleError, SortIndex, read_rule};
 use kp_signature::Signature;
 use std::alloc::Global;
+use std::sync::Arc;
 
 /// The rules of these modules in order, or M6 of the first axiom that has it.
 pub fn rules_of(
@@ -70,14 +73,30 @@ fn rule_of(
     ensures ok { (names : List Text) → Counts names labels.now → is_rewriting (axiom_view rewriting.now).axiom_of.pattern ≡ true → IfOk result (λ r. IsMadeOf (signature_view signature.now) names (axiom_view rewriting.now) r) }
 {
     match read_rule(alloc, signature, index, rewriting.axiom) {
-        Ok((priority, body)) => Ok(Rule {
-            id: rule_id(alloc, labels, rewriting)?,
-            priority,
-            body,
-        }),
+        Ok((priority, body)) => rule_from(alloc, labels, rewriting, priority, body),
         Err(RuleError::Memory) => Err(LoadError::Memory),
         Err(RuleError::Fault) => Err(LoadError::Fault(ModuleFault::RuleFault {
             axiom: rewriting.number,
         })),
     }
+}
+
+/// The rule of an axiom that is read as this body.
+fn rule_from(
+    alloc: Global,
+    labels: &Labels,
+    rewriting: &RewriteAxiom<'_>,
+    priority: u32,
+    body: RuleBody,
+) -> Result<Rule, LoadError>
+    ensures fault { IfErr result (λ e. e ≡ Memory) }
+    ensures made { (g : KoreSignature) (names : List Text) → Counts names labels.now → IsReadAs g (axiom_view rewriting.now).axiom_of priority body → IfOk result (IsMadeOf g names (axiom_view rewriting.now)) }
+{
+    let source = source_of(alloc, rewriting)?;
+    Ok(Rule {
+        id: rule_id(labels, &source)?,
+        priority,
+        body: Arc::new(alloc, body)?,
+        source: Arc::new(alloc, source)?,
+    })
 }

@@ -6,7 +6,8 @@ ghost use Rattle.kp_kore.specs.View.{module_view, definition_view};
 ghost use Rattle.kp_signature.specs.View.{sentences_of};
 ghost use Rattle.kp_semantics.specs.Theory.{Theory, IsTheoryOf, modules_reached, rewrite_axioms as axioms_among};
 ghost use Rattle.kp_modules.specs.Faults.{AreSound, HasNoFault, TellsFaulty, TellsFirst};
-ghost use Rattle.kp_modules.specs.Made.{IsRunOf};
+ghost use Rattle.std.specs.List.{flat_map};
+ghost use Rattle.kp_modules.specs.Made.{IsRunOf, IsSetOf};
 ghost use Rattle.kp_modules.specs.Names.{Lists, names_of as names_among};
 ghost use Rattle.kp_modules.specs.Reaching.{has};
 ghost use Rattle.kp_modules.specs.Tables.{rule_set_of, main_of, does_reach, RunsTable};
@@ -20,6 +21,7 @@ use kp_kore::{Definition, Module, Name};
 use kp_rules::RuleSet;
 use kp_signature::Signature;
 use std::alloc::{AllocError, Global};
+use std::sync::Arc;
 
 /// The rule set of a definition's main module, with the names of the modules that it reaches.
 #[derive(Drop)]
@@ -57,6 +59,7 @@ impl Table {
 /// Its rule set is the theory that the definition means for its main module, rule by rule.
 pub fn load(alloc: Global, definition: &Definition, main: &str) -> Result<Table, LoadError>
     ensures loaded { IfOk result (λ table. (t : Theory) × IsTheoryOf (definition_view definition.now) main.now t × RunsTable t table) }
+    ensures made { IfOk result (λ table. IsSetOf (signature_of (flat_map (λ m. m.sentences) (modules_reached (definition_view definition.now) main.now))) (axioms_among (modules_reached (definition_view definition.now) main.now)) (rule_set_of table)) }
     ensures main { IfOk result (λ table. main_of table ≡ main.now) }
     ensures reaches { IfOk result (λ table. (n : Text) → does_reach table n ≡ has n (names_among (modules_reached (definition_view definition.now) main.now))) }
     ensures none { OnOk result (HasNoFault (definition_view definition.now) main.now) }
@@ -80,6 +83,7 @@ fn rule_set(alloc: Global, modules: &[&Module]) -> Result<RuleSet, LoadError>
 {
     let signature = Signature::new(alloc, modules)?;
     let rules = rules_of(alloc, &signature, modules)?;
+    let signature = Arc::new(alloc, signature)?;
     Ok(RuleSet { signature, rules })
 }
 

@@ -76,6 +76,11 @@ code_shown (told.Unverified e) = unverified (verify.fault_view e)
     unverified None = refl
     unverified (Some f) = refl
 code_shown (told.ForeignSymbol n) = refl
+code_shown told.OtherSide = refl
+code_shown (told.FreshName n) = refl
+code_shown told.NoRule = refl
+code_shown (told.UnknownLabel l) = refl
+code_shown (told.Circle l) = refl
 
 -- a fault that is told is the one that is seen
 pub told_is : (f : ClaimFault) (P : claims.Fault → Type 0) → claims.Tells f P → P (claim_fault_of (claims.told_fault f))

@@ -1,7 +1,6 @@
 pub mod Causes
 pub mod ClaimCauses
 pub mod LocalExchanges
-pub mod LocalReplies
 pub mod ProvableClaims
 pub mod Proving
 pub mod Served

@@ -3,23 +3,30 @@ use Rattle.std.proofs.Common.{◌≡◌, ◌<◌, ◌≤◌, ◌^◌, ◌++◌, 
 use Rattle.serde_json.specs.Data.{Data, object, Members}
 use Rattle.kp_kore.specs.Syntax.{Text, KoreSort, KorePattern, top, bottom}
 use Rattle.kp_kore.specs.Parts.{is_term}
-use Rattle.kp_semantics.specs.Implied.{IsCondition, witnessed, vacuous, IsRightImplied}
-use Rattle.kp_semantics.specs.Replies.{IsRightExecuted}
+use Rattle.kp_semantics.specs.Executions as theory
+use Rattle.kp_semantics.specs.Executions.{Executed, IsRightExecuted}
+use Rattle.kp_semantics.specs.Implied.{Implied, not_valid, valid, IsCondition, witnessed, vacuous, IsRightImplied}
 use Rattle.kp_semantics.specs.Rules.{top_binders}
 use Rattle.kp_semantics.specs.Theory.{Theory}
 use Rattle.kp_states.specs.Spelled.{no_term}
 use Rattle.kp_states.proofs.SpelledForms.{spelling_term}
 use Rattle.kp_rpc.specs.Frame.{IsFrame}
-use Rattle.kp_rpc.specs.Implications.{implied_by}
 use Rattle.kp_rpc.specs.Questions.{IsReadBack}
-use Rattle.kp_rpc.specs.Replied.{IsReadId}
-use Rattle.kp_rpc.specs.Reply.{ExecuteResult, ImpliesResult, not_valid, valid, IsStatePattern, RequestError, error_reply, result_reply, reply_bytes}
+use Rattle.kp_rpc.specs.Request.{IsReadId}
+use Rattle.kp_rpc.specs.Reply.{RequestError, error_reply, result_reply, reply_bytes}
 use Rattle.kp_rpc.specs.Request.{RequestId, IsRequest, ExecuteRequest, bound_of, most_steps}
 use Rattle.kp_rpc.proofs.IdsRead.{id_read, refused_read}
 use Rattle.kp_rpc.proofs.TermsBack.{term_back, top_back, bottom_back}
+use Rattle.kp_results.specs.Results as parts
+use Rattle.kp_results.specs.Results.{StateParts, NextParts, Ending, ExecutedParts, IsPatternOf, IsReasonOf, IsResultOf}
+use Rattle.kp_replies.specs.Read.{execute, implies, executed, implied, failed}
+use Rattle.kp_replies.specs.Replies.{IsReplyOf, IsBare, IsImpliedReadBack}
+use Rattle.kp_replies.specs.Right.{asked_options}
+use Rattle.kp_replies.specs.Written.{executed_tree, implied_tree}
+use Rattle.kp_replies.proofs.Alone.{run_line_alone, run_line_no_implication, implication_line_alone, implication_line_no_run}
+use Rattle.kp_replies.proofs.ErrorLines.{error_line}
 use Rattle.kp_client.specs.Links.{Exchange, ToldTheory, IsRightRun, IsRightExchange}
 use Rattle.kp_server.proofs.Implied.{binds_nothing}
-use Rattle.kp_program.proofs.LocalReplies.{error_tells_no_run, error_tells_no_implication, run_told, run_tells_no_implication, IsResultReadBack, implication_told, implication_tells_no_run}
 use Rattle.kp_server.specs.Right.{IsLine, IsRefusal, IsFaulted, IsAnswered, IsImpliesFaulted, IsImpliesAnswered}
 use Rattle.kp_program.specs.Proofs.{told_theory, IsRepliedBy}
 use Rattle.kp_server.specs.Setting.{Setting}
@@ -27,7 +34,20 @@ use Rattle.kp_server.specs.Untold.{IsImpliesUntold, no_consequent}
 
 -- ---- errors
 
--- the line of an error makes a right exchange for every theory
+-- the line of an error tells no result
+error_tells_no_run : (id : RequestId) (e : RequestError) (line : List ℕ) (x : ExecutedParts) → IsReadId id → line ≡ reply_bytes (error_reply id e) → IsReplyOf execute line (executed x) → ⊥
+error_tells_no_run id e line x lawful is h =
+    let told = error_line execute id e (executed x) lawful (subst (λ (l : List ℕ). IsReplyOf execute l (executed x)) is h) in
+    let same : executed x ≡ failed told.0 = told.2 in
+    absurd (cc same)
+
+error_tells_no_implication : (id : RequestId) (e : RequestError) (line : List ℕ) (x : Implied) → IsReadId id → line ≡ reply_bytes (error_reply id e) → IsReplyOf implies line (implied x) → ⊥
+error_tells_no_implication id e line x lawful is h =
+    let told = error_line implies id e (implied x) lawful (subst (λ (l : List ℕ). IsReplyOf implies l (implied x)) is h) in
+    let same : implied x ≡ failed told.0 = told.2 in
+    absurd (cc same)
+
+-- so it makes a right exchange for every theory
 with_error : (t : ToldTheory) (frame line : List ℕ) (id : RequestId) (e : RequestError) → IsReadId id → line ≡ reply_bytes (error_reply id e) → IsRightExchange t (record { frame = frame; reply = line })
 with_error t frame line id e lawful is = record {
   executes = λ x h. absurd (error_tells_no_run id e line x lawful is h);
@@ -64,36 +84,74 @@ fits depth bound h k = omega arith
 
 -- without a predicate a state has one pattern
 one_pattern : (term : KorePattern) (predicate : Option KorePattern) (p q : KorePattern) → predicate ≡ None
-    → IsStatePattern (record { term = term; predicate = predicate }) p → IsStatePattern (record { term = term; predicate = predicate }) q → p ≡ q
+    → IsPatternOf (record { term = term; predicate = predicate }) p → IsPatternOf (record { term = term; predicate = predicate }) q → p ≡ q
 one_pattern term None p q none h k = h ∙ sym k
 one_pattern term (Some r) p q none h k = absurd (cc none)
 
-right_run : (t : Theory) (request : ExecuteRequest) (x : ExecuteResult) (p : KorePattern) → x.state.predicate ≡ None → IsStatePattern x.state p
-    → IsRightExecuted t (request.options.cut_points ++ request.options.terminals) (bound_of request.options) request.state (record { depth = x.depth; reason = x.reason; state = p })
-    → IsRightRun t request x
-right_run t request x p none is right q other =
-    subst (λ (k : KorePattern). IsRightExecuted t (request.options.cut_points ++ request.options.terminals) (bound_of request.options) request.state (record { depth = x.depth; reason = x.reason; state = k }))
-    (one_pattern x.state.term x.state.predicate p q none is other) right
+-- without next states an ending has one reason
+one_reason : (e : Ending) (nexts : List NextParts) (r r' : theory.Reason) → nexts ≡ [] → IsReasonOf e nexts r → IsReasonOf e nexts r' → r ≡ r'
+one_reason parts.vacuous nexts r r' none h k = h.1 ∙ sym k.1
+one_reason parts.depth_bound nexts r r' none h k = h.1 ∙ sym k.1
+one_reason parts.stuck nexts r r' none h k = h.1 ∙ sym k.1
+one_reason parts.branching [] r r' none ([], all, h) ([], also, k) = h ∙ sym k
+one_reason parts.branching [] r r' none ([], all, h) (m ∷ ms, also, k) = absurd also
+one_reason parts.branching [] r r' none (m ∷ ms, all, h) k = absurd all
+one_reason parts.branching (n ∷ ns) r r' none h k = absurd (cc none)
+one_reason (parts.cut_point id) [] r r' none h k = absurd h.1
+one_reason (parts.cut_point id) (n ∷ ns) r r' none h k = absurd (cc none)
+one_reason (parts.terminal id) nexts r r' none h k = h.1 ∙ sym k.1
+one_reason (parts.aborted cause) nexts r r' none h k = h.1 ∙ sym k.1
+
+abbrev meaning : ℕ → theory.Reason → KorePattern → Executed
+meaning d r p = record { depth = d; reason = r; state = p }
+
+same_meaning : (d e : ℕ) (r w : theory.Reason) (p q : KorePattern) → d ≡ e → r ≡ w → p ≡ q → meaning d r p ≡ meaning e w q
+same_meaning d e r w p q a b c = ap (λ (n : ℕ). meaning n r p) a ∙ (ap (λ (k : theory.Reason). meaning e k p) b ∙ ap (meaning e w) c)
+
+one_meaning : (x : ExecutedParts) (m k : Executed) → IsBare x → IsResultOf x m → IsResultOf x k → m ≡ k
+one_meaning x m k bare h l =
+    same_meaning m.depth k.depth m.reason k.reason m.state k.state (h.depth ∙ sym l.depth) (one_reason x.ending x.nexts m.reason k.reason bare.nexts h.reason l.reason)
+    (one_pattern x.state.term x.state.predicate m.state k.state bare.predicate h.state l.state)
+
+right_run : (t : Theory) (request : ExecuteRequest) (x : ExecutedParts) (meant : Executed) → IsBare x → IsResultOf x meant
+    → IsRightExecuted t (asked_options request.options) request.state meant → IsRightRun t request x
+right_run t request x meant bare means right other also =
+    subst (λ (k : Executed). IsRightExecuted t (asked_options request.options) request.state k) (one_meaning x meant other bare means also) right
+
+-- the line of such a run tells that run alone, and no result of implies
+run_told : (id : RequestId) (x y : ExecutedParts) (tree : Data) (line : List ℕ) → IsReadId id → x.depth < 2 ^ 64 → IsBare x → IsReadBack x.state.term
+    → executed_tree x ≡ Some tree → line ≡ reply_bytes (result_reply id tree) → IsReplyOf execute line (executed y) → y ≡ x
+run_told id x y tree line lawful short bare back written is h =
+    let same : executed y ≡ executed x = run_line_alone id x tree (executed y) lawful short bare back written (subst (λ (l : List ℕ). IsReplyOf execute l (executed y)) is h) in
+    cc same
+
+run_tells_no_implication : (id : RequestId) (x : ExecutedParts) (y : Implied) (tree : Data) (line : List ℕ) → IsReadId id → x.depth < 2 ^ 64 → IsBare x
+    → executed_tree x ≡ Some tree → line ≡ reply_bytes (result_reply id tree) → IsReplyOf implies line (implied y) → ⊥
+run_tells_no_implication id x y tree line lawful short bare written is h =
+    run_line_no_implication id x tree (implied y) lawful short bare written (subst (λ (l : List ℕ). IsReplyOf implies l (implied y)) is h)
 
 answered : (s : Setting) (frame line : List ℕ) (d reply : Data) → IsFrame frame d → IsAnswered s d reply → line ≡ reply_bytes reply → IsRightExchange (told_theory s) (record { frame = frame; reply = line })
 answered s frame line d reply is_frame r is =
     let options = r.request.options in
     let x = r.right.result in
-    let lawful = id_of_request frame d r.members r.request.id _ is_frame r.tree r.is_request.is_request in
-    let short = fits x.depth (bound_of options) r.right.right.within_bound (bounded options.max_depth options.module_name options.cut_points options.terminals) in
+    let id = r.request.id in
+    let tree = r.right.tree in
+    let lawful = id_of_request frame d r.members id _ is_frame r.tree r.is_request.is_request in
+    let within : r.right.meant.depth ≤ bound_of options = r.right.right.within_bound in
+    let short = fits x.depth (bound_of options) (subst (λ (n : ℕ). n ≤ bound_of options) r.right.means.depth within) (bounded options.max_depth options.module_name options.cut_points options.terminals) in
     let term : is_term x.state.term ≡ true = ap is_term r.normal.spelled ∙ spelling_term s.theory.signature r.normal.later.sort r.normal.later.value in
     let back = term_back x.state.term term in
-    let made = at_reply line reply (result_reply r.request.id r.right.tree) is r.right.reply_is in
-    let right = right_run s.theory r.request x r.right.state r.bare r.right.state_is r.right.right in
+    let made = at_reply line reply (result_reply id tree) is r.right.reply_is in
+    let right = right_run s.theory r.request x r.right.meant r.bare r.right.means r.right.right in
     record {
       executes = λ y h. record {
         members = r.members;
         request = r.request;
         is_frame = subst (λ (e : Data). IsFrame frame e) r.tree is_frame;
         is_request = r.is_request;
-        right = λ asked. subst (λ (z : ExecuteResult). IsRightRun s.theory r.request z) (sym (run_told r.request.id x y r.right.tree line lawful short r.bare back r.right.written made h)) right;
+        right = λ asked. subst (λ (z : ExecutedParts). IsRightRun s.theory r.request z) (sym (run_told id x y tree line lawful short r.bare back r.right.written made h)) right;
       };
-      implies_so = λ y h. absurd (run_tells_no_implication r.request.id x y r.right.tree line lawful short r.right.written made h);
+      implies_so = λ y h. absurd (run_tells_no_implication id x y tree line lawful short r.bare r.right.written made h);
     }
 
 -- ---- implications
@@ -109,15 +167,27 @@ binds_none s name a c sort other told = (binds_nothing c (is_true (is_term c) (�
 read_back_at : (p q : KorePattern) → p ≡ q → IsReadBack q → IsReadBack p
 read_back_at p q same h = subst IsReadBack (sym same) h
 
-condition_read_back : (s : Setting) (a c p q : KorePattern) → top_binders c ≡ [] → IsCondition s.theory.signature a c p q → IsResultReadBack (valid p q)
+condition_read_back : (s : Setting) (a c p q : KorePattern) → top_binders c ≡ [] → IsCondition s.theory.signature a c p q → IsImpliedReadBack (valid p q)
 condition_read_back s a c p q none (witnessed k sorted has is witness substitution) =
     (read_back_at p (top k) is (top_back k), read_back_at q (top k) (substitution none) (top_back k))
 condition_read_back s a c p q none (vacuous k sorted has is substitution) =
     (read_back_at p (bottom k) is (bottom_back k), read_back_at q (top k) substitution (top_back k))
 
-result_read_back : (s : Setting) (a c : KorePattern) (x : ImpliesResult) → top_binders c ≡ [] → IsRightImplied s.theory.signature a c (implied_by x) → IsResultReadBack x
+result_read_back : (s : Setting) (a c : KorePattern) (x : Implied) → top_binders c ≡ [] → IsRightImplied s.theory.signature a c x → IsImpliedReadBack x
 result_read_back s a c not_valid none right = tt
 result_read_back s a c (valid p q) none right = condition_read_back s a c p q none right.1
+
+-- the line of an implication tells it alone, and no result of execute
+implication_told : (id : RequestId) (x y : Implied) (tree : Data) (line : List ℕ) → IsReadId id → IsImpliedReadBack x
+    → implied_tree x ≡ Some tree → line ≡ reply_bytes (result_reply id tree) → IsReplyOf implies line (implied y) → y ≡ x
+implication_told id x y tree line lawful back written is h =
+    let same : implied y ≡ implied x = implication_line_alone id x tree (implied y) lawful back written (subst (λ (l : List ℕ). IsReplyOf implies l (implied y)) is h) in
+    cc same
+
+implication_tells_no_run : (id : RequestId) (x : Implied) (y : ExecutedParts) (tree : Data) (line : List ℕ) → IsReadId id
+    → implied_tree x ≡ Some tree → line ≡ reply_bytes (result_reply id tree) → IsReplyOf execute line (executed y) → ⊥
+implication_tells_no_run id x y tree line lawful written is h =
+    implication_line_no_run id x tree (executed y) lawful written (subst (λ (l : List ℕ). IsReplyOf execute l (executed y)) is h)
 
 implies_answered : (s : Setting) (frame line : List ℕ) (d reply : Data) → IsFrame frame d → IsImpliesAnswered s d reply → line ≡ reply_bytes reply → IsRightExchange (told_theory s) (record { frame = frame; reply = line })
 implies_answered s frame line d reply is_frame r is =
@@ -134,7 +204,7 @@ implies_answered s frame line d reply is_frame r is =
         request = r.request;
         is_frame = subst (λ (e : Data). IsFrame frame e) r.tree is_frame;
         is_request = r.is_request;
-        right = λ asked. subst (λ (z : ImpliesResult). IsRightImplied s.theory.signature a c (implied_by z)) (sym (implication_told r.request.id x y r.right.tree line lawful back r.right.written made h)) r.right.right;
+        right = λ asked. subst (λ (z : Implied). IsRightImplied s.theory.signature a c z) (sym (implication_told r.request.id x y r.right.tree line lawful back r.right.written made h)) r.right.right;
       };
     }
 

@@ -2,8 +2,10 @@ use kp_claims::ClaimItem;
 use kp_client::{Link, Outcome, ProveFault, ProveOptions, ScriptLink, prove, prove_claim};
 use kp_graph::{NodeId, Status, Why};
 use kp_kore::{Pattern, Sort};
+use kp_replies::{executed_text, implied_text};
 use kp_report::{Line, report_text};
-use kp_rpc::{Id, Implied, Reason, implied_text, result_text};
+use kp_results::{Executed, Implied, Reason, State};
+use kp_rpc::Id;
 use kp_semantics::Claim;
 use std::alloc::Global;
 use std::test::Fail;
@@ -44,9 +46,17 @@ fn uncovered(alloc: Global) -> Result<Vec<u8>, Fail> {
     Ok(implied_text(alloc, &Id::Unsigned(1), &Implied::NotValid)?.ok_or("no tree")?)
 }
 
-fn ran(alloc: Global, depth: u64, reason: &Reason, name: &str) -> Result<Vec<u8>, Fail> {
-    let term = state(alloc, name)?;
-    Ok(result_text(alloc, &Id::Unsigned(2), depth, reason, &term)?.ok_or("no tree")?)
+fn ran(alloc: Global, depth: u64, reason: Reason, name: &str) -> Result<Vec<u8>, Fail> {
+    let executed = Executed {
+        depth,
+        state: State {
+            term: state(alloc, name)?,
+            predicate: None,
+        },
+        reason,
+        next_states: Vec::new(alloc),
+    };
+    Ok(executed_text(alloc, &Id::Unsigned(2), &executed)?.ok_or("no tree")?)
 }
 
 #[test]
@@ -54,9 +64,9 @@ fn two_edges_and_a_cover_pass(rt: HostRuntime) -> Result<(), Fail> {
     let alloc = rt.alloc();
     let mut script = Vec::new(alloc);
     script.push(uncovered(alloc)?)?;
-    script.push(ran(alloc, 2, &Reason::DepthBound, "middle")?)?;
+    script.push(ran(alloc, 2, Reason::DepthBound, "middle")?)?;
     script.push(uncovered(alloc)?)?;
-    script.push(ran(alloc, 1, &Reason::Stuck, "done")?)?;
+    script.push(ran(alloc, 1, Reason::Stuck, "done")?)?;
     script.push(covered(alloc)?)?;
     let mut link = ScriptLink::new(alloc, script);
     let options = ProveOptions { max_depth: 2 };
@@ -107,6 +117,19 @@ fn the_claim_at_a_place_is_proved(rt: HostRuntime) -> Result<(), Fail> {
     assert!(rt; matches!(outcome, Outcome::Passed));
     let node = NodeId { number: 1 };
     assert!(rt; tree.has(node) && tree.state(node).equal(&state(alloc, "second")?));
+    Ok(())
+}
+
+#[test]
+fn a_reason_that_the_prover_cannot_use_ends_the_proof(rt: HostRuntime) -> Result<(), Fail> {
+    let alloc = rt.alloc();
+    let mut script = Vec::new(alloc);
+    script.push(uncovered(alloc)?)?;
+    script.push(ran(alloc, 3, Reason::Vacuous, "middle")?)?;
+    let mut link = ScriptLink::new(alloc, script);
+    let (outcome, tree) = prove_claim(alloc, &mut link, &claim(alloc)?, &ProveOptions::default())?;
+    assert!(rt; matches!(outcome, Outcome::Refused { code: -32700 }));
+    assert_eq!(rt; tree.len(), 1);
     Ok(())
 }
 

@@ -1,7 +1,8 @@
 use kp_kore::{Pattern, Sort};
+use kp_replies::executed_text;
+use kp_results::{Executed, Reason, State};
 use kp_rpc::{
-    Id, Parsed, PatternFault, Reason, StateFault, fault_text, refusal_text, request_of,
-    result_text, state_of,
+    Id, Parsed, PatternFault, StateFault, fault_text, refusal_text, request_of, state_of,
 };
 use std::alloc::Global;
 use std::test::Fail;
@@ -74,6 +75,20 @@ fn faults_by_their_bytes(rt: HostRuntime) -> Result<(), Fail> {
     Ok(())
 }
 
+/// The line with the result of a run that ended in this term.
+fn ran(alloc: Global, id: Id, depth: u64, reason: Reason, term: Pattern) -> Result<Vec<u8>, Fail> {
+    let executed = Executed {
+        depth,
+        state: State {
+            term,
+            predicate: None,
+        },
+        reason,
+        next_states: Vec::new(alloc),
+    };
+    Ok(executed_text(alloc, &id, &executed)?.ok_or("no tree")?)
+}
+
 #[test]
 fn results_by_their_bytes(rt: HostRuntime) -> Result<(), Fail> {
     let alloc = rt.alloc();
@@ -82,7 +97,7 @@ fn results_by_their_bytes(rt: HostRuntime) -> Result<(), Fail> {
         sorts: Vec::new(alloc),
         arguments: Vec::new(alloc),
     };
-    let text = result_text(alloc, &Id::Unsigned(1), 3, &Reason::Stuck, &done)?.ok_or("no tree")?;
+    let text = ran(alloc, Id::Unsigned(1), 3, Reason::Stuck, done)?;
     assert_eq!(rt;
         text.as_slice(),
         b"{\"id\":1,\"jsonrpc\":\"2.0\",\"result\":{\"depth\":3,\"reason\":\"stuck\",\"state\":{\"term\":{\"format\":\"KORE\",\"term\":{\"args\":[],\"name\":\"Lbldone\",\"sorts\":[],\"tag\":\"App\"},\"version\":1}}}}\n".as_slice()
@@ -92,9 +107,7 @@ fn results_by_their_bytes(rt: HostRuntime) -> Result<(), Fail> {
         name: String::from_str(alloc, "S")?,
     };
     let open = Pattern::Variable { name, sort };
-    let text = result_text(alloc, &Id::Signed(-1), 10_000, &Reason::DepthBound, &open)?.ok_or(
-        "no tree",
-    )?;
+    let text = ran(alloc, Id::Signed(-1), 10_000, Reason::DepthBound, open)?;
     assert_eq!(rt;
         text.as_slice(),
         b"{\"id\":-1,\"jsonrpc\":\"2.0\",\"result\":{\"depth\":10000,\"reason\":\"depth-bound\",\"state\":{\"term\":{\"format\":\"KORE\",\"term\":{\"name\":\"X\",\"sort\":{\"name\":\"S\",\"tag\":\"SortVar\"},\"tag\":\"EVar\"},\"version\":1}}}}\n".as_slice()

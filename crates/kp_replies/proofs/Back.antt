@@ -1,22 +1,21 @@
 -- What is written of a result is read as that result.
 use Rattle.std.proofs.Common.{◌≡◌, ℕ, List, [], ◌∷◌, true, Option, Some, None, option_map, option_and_then, refl, sym, ap, ◌∙◌}
-use Rattle.std.specs.Prelude.{codes, pos}
+use Rattle.std.specs.Prelude.{ℤ, codes, pos}
 use Rattle.std.specs.List.{AllByRecursion}
+use Rattle.serde_json.specs.Find.{as_i64}
 use Rattle.serde_json.specs.Data.{Data, array, object, Items, no_items, item, Members, no_members, put}
 use Rattle.kp_kore.specs.Syntax.{Text, KorePattern}
 use Rattle.kp_semantics.specs.Causes.{foreign}
+use Rattle.kp_semantics.specs.Implied.{Implied, not_valid, valid}
 use Rattle.kp_results.specs.Results.{StateParts, NextParts, Ending, vacuous, depth_bound, stuck, branching, cut_point, terminal, aborted, ExecutedParts}
 use Rattle.kp_rpc.specs.Request.{RequestId}
-use Rattle.kp_rpc.specs.Reply.{ImpliesResult, not_valid, valid, not_valid_object, valid_object, implied_tree, result_reply}
-use Rattle.kp_rpc.specs.Replied.{IsSpelled, IsSpelledState, IsSpelledImplied}
-use Rattle.kp_rpc.specs.RepliesRead.{read_implied}
+use Rattle.kp_rpc.specs.Reply.{RequestError, parse_error, invalid_request, method_not_found, invalid_params, no_module, no_pattern, not_verified, error_parts, error_reply, result_reply}
 use Rattle.kp_rpc.specs.Questions.{with_text}
-use Rattle.kp_rpc.proofs.Answered.{written}
-use Rattle.kp_rpc.proofs.Told.{read_in}
-use Rattle.kp_replies.specs.Written.{state_tree, next_tree, first_item, next_trees, with_nexts, executed_members, executed_tree, simplified_tree, added_tree}
+use Rattle.kp_replies.specs.Written.{state_tree, next_tree, first_item, next_trees, with_nexts, executed_members, executed_tree, not_valid_object, valid_object, implied_tree, simplified_tree, added_tree}
 use Rattle.kp_replies.specs.Failures.{Failure, bad_sides, undecided, bad_module, duplicate, failure_code, failure_data, failure_error, failed_reply, failure_reply}
-use Rattle.kp_replies.specs.Read.{Method, execute, simplify, add_module, executed, simplified, added, failed, is_module_id, read_state, read_next, first_next, read_nexts, read_executed, read_reply, implies, implied}
-use Rattle.kp_replies.specs.Replies.{IsNamed, IsWritableNext, IsWritableEnding, IsWritable}
+use Rattle.kp_replies.specs.Read.{Method, execute, simplify, add_module, executed, simplified, added, failed, is_module_id, read_state, read_next, first_next, read_nexts, read_executed, read_implied, read_reply, implies, implied}
+use Rattle.kp_replies.proofs.PatternsRead.{read_in, written}
+use Rattle.kp_replies.specs.Replies.{IsSpelled, IsSpelledState, IsSpelledImplied, IsNamed, IsWritableNext, IsWritableEnding, IsWritable}
 
 same : {A : Type 0} (x y : A) → Some x ≡ Some y → x ≡ y
 same x y e = cc e
@@ -143,7 +142,7 @@ executed_read_back id x tree w e = ap (option_map executed) (executed_back x tre
 
 -- ---- implies
 
-implied_made : (x : ImpliesResult) (tree : Data) → IsSpelledImplied x → implied_tree x ≡ Some tree → read_implied tree ≡ Some x
+implied_made : (x : Implied) (tree : Data) → IsSpelledImplied x → implied_tree x ≡ Some tree → read_implied tree ≡ Some x
 implied_made not_valid tree h e = ap read_implied (sym (same not_valid_object tree e))
 implied_made (valid p q) tree (h, k) e =
     let a = written p h in
@@ -152,7 +151,7 @@ implied_made (valid p q) tree (h, k) e =
     let read : read_implied (valid_object a.tree b.tree) ≡ Some (valid p q) = rw (read_in a.tree p a.spells, read_in b.tree q b.spells) refl in
     ap read_implied (sym (same (valid_object a.tree b.tree) tree (sym made ∙ e))) ∙ read
 
-pub implied_read_back : (id : RequestId) (x : ImpliesResult) (tree : Data) → IsSpelledImplied x → implied_tree x ≡ Some tree → read_reply implies (result_reply id tree) ≡ Some (implied x)
+pub implied_read_back : (id : RequestId) (x : Implied) (tree : Data) → IsSpelledImplied x → implied_tree x ≡ Some tree → read_reply implies (result_reply id tree) ≡ Some (implied x)
 implied_read_back id x tree h e = ap (option_map implied) (implied_made x tree h e)
 
 -- ---- simplify, add-module and failures
@@ -181,3 +180,26 @@ pub failure_read_back : (method : Method) (id : RequestId) (f : Failure) (tree :
 failure_read_back method id f tree e =
     let d = some_data (λ x. failed_reply id (failure_error f x)) (failure_data f) tree e in
     ap (read_reply method) (sym d.1) ∙ code_back method id f d.0
+
+-- ---- errors
+
+error_code : (method : Method) (id : RequestId) (e : RequestError) → read_reply method (error_reply id e) ≡ option_map failed (as_i64 (error_parts e).code)
+error_code method id parse_error = refl
+error_code method id invalid_request = refl
+error_code method id method_not_found = refl
+error_code method id invalid_params = refl
+error_code method id (no_module name) = refl
+error_code method id (no_pattern f) = refl
+error_code method id (not_verified f) = refl
+
+pub error_read_back : (method : Method) (id : RequestId) (e : RequestError) (code : ℤ) → as_i64 (error_parts e).code ≡ Some code → read_reply method (error_reply id e) ≡ Some (failed code)
+error_read_back method id e code is = error_code method id e ∙ ap (option_map failed) is
+
+pub error_has_code : (e : RequestError) → (code : ℤ) × (as_i64 (error_parts e).code ≡ Some code)
+error_has_code parse_error = (_, refl)
+error_has_code invalid_request = (_, refl)
+error_has_code method_not_found = (_, refl)
+error_has_code invalid_params = (_, refl)
+error_has_code (no_module name) = (_, refl)
+error_has_code (no_pattern f) = (_, refl)
+error_has_code (not_verified f) = (_, refl)

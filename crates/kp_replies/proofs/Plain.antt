@@ -9,12 +9,13 @@ use Rattle.serde_json.specs.Written.{has_float, items_have_float, members_have_f
 use Rattle.kp_kore.specs.Syntax.{Text, KorePattern}
 use Rattle.kp_json.specs.Written.{wrapped_pattern}
 use Rattle.kp_semantics.specs.Causes.{foreign}
+use Rattle.kp_semantics.specs.Implied.{Implied, not_valid, valid}
 use Rattle.kp_results.specs.Results.{StateParts, NextParts, Ending, vacuous, depth_bound, stuck, branching, cut_point, terminal, aborted, ExecutedParts, Limit, weighed, wide_call, Undecided, predicate, limit}
 use Rattle.kp_rpc.specs.Request.{RequestId}
 use Rattle.kp_rpc.specs.Reply.{result_reply, reply_bytes}
 use Rattle.kp_rpc.specs.Questions.{with_text}
-use Rattle.kp_rpc.proofs.Floats.{IsPlain, wrapped_is_plain, plain_is}
-use Rattle.kp_replies.specs.Written.{with_pattern, with_optional, with_state, state_tree, next_tree, first_item, next_trees, with_ending, with_nexts, executed_members, executed_tree, simplified_tree, added_tree}
+use Rattle.kp_rpc.proofs.Floats.{IsPlain, two_plain, wrapped_is_plain, plain_is}
+use Rattle.kp_replies.specs.Written.{with_pattern, with_optional, with_state, state_tree, next_tree, first_item, next_trees, with_ending, with_nexts, executed_members, executed_tree, valid_object, implied_tree, simplified_tree, added_tree}
 use Rattle.kp_replies.specs.Failures.{not_in_a_term, not_one_term, two_meanings, bad_text, unknown_import, bad_axiom, bad_sentence, full_book, Failure, bad_sides, undecided, bad_module, duplicate, limit_tree, with_limit, undecided_data, failure_data, failure_error}
 
 -- ---- members
@@ -132,6 +133,16 @@ exact x d id text plain e h = ap Some (h (plain_is x d plain e)) ∙ ap (option_
 pub executed_exact : (x : ExecutedParts) (d : Data) (id : RequestId) (text : List ℕ) → Some d ≡ executed_tree x → (has_float d ≡ false → text ≡ reply_bytes (result_reply id d))
     → Some text ≡ option_map (λ t. reply_bytes (result_reply id t)) (executed_tree x)
 executed_exact x d id text e h = exact (executed_tree x) d id text (executed_plain x) e h
+
+-- ---- implies
+
+implied_plain : (x : Implied) → IsPlain (implied_tree x)
+implied_plain not_valid = refl
+implied_plain (valid p q) = two_plain valid_object (wrapped_pattern p) (wrapped_pattern q) (λ d e h k. rw (h, k) refl) (wrapped_is_plain p) (wrapped_is_plain q)
+
+pub implied_exact : (x : Implied) (d : Data) (id : RequestId) (text : List ℕ) → Some d ≡ implied_tree x → (has_float d ≡ false → text ≡ reply_bytes (result_reply id d))
+    → Some text ≡ option_map (λ t. reply_bytes (result_reply id t)) (implied_tree x)
+implied_exact x d id text e h = exact (implied_tree x) d id text (implied_plain x) e h
 
 -- ---- simplify and add-module
 

@@ -7,18 +7,19 @@ use Rattle.serde_json.specs.Written.{compact_text}
 use Rattle.kp_kore.specs.Syntax.{Text, KorePattern}
 use Rattle.kp_json.specs.Written.{wrapped_pattern}
 use Rattle.kp_semantics.specs.Causes.{foreign}
+use Rattle.kp_semantics.specs.Implied.{Implied, not_valid, valid}
 use Rattle.kp_results.specs.Results.{NextParts, Ending, vacuous, depth_bound, stuck, branching, cut_point, terminal, aborted, ExecutedParts, Limit, weighed, wide_call, predicate, limit}
 use Rattle.kp_rpc.specs.Request.{RequestId}
-use Rattle.kp_rpc.specs.Reply.{ImpliesResult, implied_tree, result_reply, reply_bytes}
-use Rattle.kp_rpc.specs.Replied.{IsReadId, IsSpelled, IsSpelledImplied}
+use Rattle.kp_rpc.specs.Reply.{result_reply, reply_bytes}
+use Rattle.kp_rpc.specs.Request.{IsReadId}
 use Rattle.kp_rpc.specs.Questions.{with_text}
 use Rattle.kp_rpc.proofs.CompactRead.{compact_reads}
-use Rattle.kp_rpc.proofs.ReadBack.{Back, ItemsBack, IsBack, number_back, id_back, reply_back, wrapped_back, implied_back, plain_back, read_compact}
-use Rattle.kp_rpc.proofs.Told.{same_front}
-use Rattle.kp_replies.specs.Written.{state_tree, next_tree, first_item, next_trees, with_nexts, executed_members, executed_tree, simplified_tree, added_tree}
+use Rattle.kp_rpc.proofs.ReadBack.{Back, ItemsBack, IsBack, two_back, number_back, id_back, reply_back, wrapped_back, plain_back, read_compact}
+use Rattle.kp_replies.specs.Written.{state_tree, next_tree, first_item, next_trees, with_nexts, executed_members, executed_tree, valid_object, implied_tree, simplified_tree, added_tree}
 use Rattle.kp_replies.specs.Failures.{not_in_a_term, not_one_term, two_meanings, bad_text, unknown_import, bad_axiom, bad_sentence, full_book, Failure, bad_sides, undecided, bad_module, duplicate, limit_tree, failure_data, failure_code, failure_error, failed_reply, failure_reply}
 use Rattle.kp_replies.specs.Read.{Method, execute, implies, simplify, add_module, ServerReply, executed, implied, simplified, added, failed, is_module_id, read_reply}
-use Rattle.kp_replies.specs.Replies.{IsReplyOf, IsWritable, Fits, FailureFits}
+use Rattle.kp_replies.specs.Replies.{IsReplyOf, IsSpelled, IsSpelledImplied, IsWritable, Fits, FailureFits}
+use Rattle.kp_replies.proofs.Lines.{same_front}
 use Rattle.kp_replies.proofs.Back.{executed_read_back, implied_read_back, simplified_read_back, added_read_back, failure_read_back}
 
 -- ---- states
@@ -102,20 +103,32 @@ executed_back x fits = from_state x (state_tree x.state) fits (state_back x.stat
 
 -- ---- lines
 
+-- where the text of a tree is read as that tree, its line tells what the tree tells
+pub line_tells : (method : Method) (d : Data) (r : ServerReply) → read (compact_text d) ≡ Some d → IsReplyOf method (reply_bytes d) r → read_reply method d ≡ Some r
+line_tells method d r back (text, is, (e, frame, tells)) =
+    let one : compact_text d ≡ text = same_front (compact_text d) text is in
+    let both : Some e ≡ Some d = sym frame.reads ∙ ap read (sym one) ∙ back in
+    let same : e ≡ d = cc both in
+    subst (λ t. read_reply method t ≡ Some r) same tells
+
 -- a line whose tree is what JSON makes of its outline tells what its tree tells
-line_read : (method : Method) (d : Data) (r : ServerReply) → Back d → IsReplyOf method (reply_bytes d) r → read_reply method d ≡ Some r
+pub line_read : (method : Method) (d : Data) (r : ServerReply) → Back d → IsReplyOf method (reply_bytes d) r → read_reply method d ≡ Some r
 line_read method d r back (text, is, (e, frame, tells)) =
     let one : compact_text d ≡ text = same_front (compact_text d) text is in
     subst (λ t. read_reply method t ≡ Some r) (compact_reads d e back (ap read one ∙ frame.reads)) tells
 
-one_reply : (method : Method) (d : Data) (r s : ServerReply) → read_reply method d ≡ Some s → read_reply method d ≡ Some r → r ≡ s
+pub one_reply : (method : Method) (d : Data) (r s : ServerReply) → read_reply method d ≡ Some s → read_reply method d ≡ Some r → r ≡ s
 one_reply method d r s h k = let both : Some s ≡ Some r = sym h ∙ k in cc both
+
+-- the line of a result of execute
+pub executed_line_read : (method : Method) (id : RequestId) (x : ExecutedParts) (tree : Data) (r : ServerReply) → IsReadId id → x.depth < 2 ^ 64 → executed_tree x ≡ Some tree
+    → IsReplyOf method (reply_bytes (result_reply id tree)) r → read_reply method (result_reply id tree) ≡ Some r
+executed_line_read method id x tree r lawful fits e h = line_read method (result_reply id tree) r (reply_back id tree lawful (plain_back (executed_tree x) tree (executed_back x fits) e)) h
 
 pub executed_line : (id : RequestId) (x : ExecutedParts) (tree : Data) (r : ServerReply) → IsReadId id → x.depth < 2 ^ 64 → IsWritable x → executed_tree x ≡ Some tree
     → IsReplyOf execute (reply_bytes (result_reply id tree)) r → r ≡ executed x
 executed_line id x tree r lawful fits w e h =
-    let back : Back (result_reply id tree) = reply_back id tree lawful (plain_back (executed_tree x) tree (executed_back x fits) e) in
-    one_reply execute (result_reply id tree) r (executed x) (executed_read_back id x tree w e) (line_read execute (result_reply id tree) r back h)
+    one_reply execute (result_reply id tree) r (executed x) (executed_read_back id x tree w e) (executed_line_read execute id x tree r lawful fits e h)
 
 pub executed_read : (id : RequestId) (x : ExecutedParts) (tree : Data) → IsReadId id → x.depth < 2 ^ 64 → executed_tree x ≡ Some tree → depth (result_reply id tree) ≤ max_depth
     → read (compact_text (result_reply id tree)) ≡ Some (result_reply id tree)
@@ -123,11 +136,23 @@ executed_read id x tree lawful fits e shallow = read_compact (result_reply id tr
 
 -- ---- implies
 
-pub implied_line : (id : RequestId) (x : ImpliesResult) (tree : Data) (r : ServerReply) → IsReadId id → IsSpelledImplied x → implied_tree x ≡ Some tree
+implied_back : (x : Implied) → IsBack (implied_tree x)
+implied_back not_valid = record { numbers = (tt, tt); is = refl }
+implied_back (valid p q) = two_back valid_object (wrapped_pattern p) (wrapped_pattern q) (λ d e h k. record { numbers = ((h.numbers, (k.numbers, tt)), (tt, tt)); is = rw (h.is, k.is) refl }) (wrapped_back p) (wrapped_back q)
+
+pub implied_read : (id : RequestId) (x : Implied) (tree : Data) → IsReadId id → implied_tree x ≡ Some tree → depth (result_reply id tree) ≤ max_depth
+    → read (compact_text (result_reply id tree)) ≡ Some (result_reply id tree)
+implied_read id x tree lawful e shallow = read_compact (result_reply id tree) (reply_back id tree lawful (plain_back (implied_tree x) tree (implied_back x) e)) shallow
+
+-- the line of a result of implies
+pub implied_line_read : (method : Method) (id : RequestId) (x : Implied) (tree : Data) (r : ServerReply) → IsReadId id → implied_tree x ≡ Some tree
+    → IsReplyOf method (reply_bytes (result_reply id tree)) r → read_reply method (result_reply id tree) ≡ Some r
+implied_line_read method id x tree r lawful e h = line_read method (result_reply id tree) r (reply_back id tree lawful (plain_back (implied_tree x) tree (implied_back x) e)) h
+
+pub implied_line : (id : RequestId) (x : Implied) (tree : Data) (r : ServerReply) → IsReadId id → IsSpelledImplied x → implied_tree x ≡ Some tree
     → IsReplyOf implies (reply_bytes (result_reply id tree)) r → r ≡ implied x
 implied_line id x tree r lawful w e h =
-    let back : Back (result_reply id tree) = reply_back id tree lawful (plain_back (implied_tree x) tree (implied_back x) e) in
-    one_reply implies (result_reply id tree) r (implied x) (implied_read_back id x tree w e) (line_read implies (result_reply id tree) r back h)
+    one_reply implies (result_reply id tree) r (implied x) (implied_read_back id x tree w e) (implied_line_read implies id x tree r lawful e h)
 
 -- ---- simplify and add-module
 

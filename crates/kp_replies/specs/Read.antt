@@ -1,17 +1,17 @@
 -- What is read of the tree of a reply, or None where it is no reply to the method.
 -- Source: JSON-RPC 2.0 (response objects); the K Haskell backend's JSON-RPC documentation (execute, implies, simplify,
 -- add-module).
-use Rattle.std.specs.Prelude.{ℕ, ℤ, Bool, false, ◌&&◌, ◌==◌, List, [], ◌∷◌, length, nat_lt, nat_le, Option, Some, None, option_map, option_and_then, if◌then◌else◌, codes}
+use Rattle.std.specs.Prelude.{ℕ, ℤ, Bool, true, false, ◌&&◌, ◌==◌, List, [], ◌∷◌, length, nat_lt, nat_le, Option, Some, None, option_map, option_and_then, if◌then◌else◌, codes}
 use Rattle.std.specs.List.{list_all}
 use Rattle.std.specs.Str.{bytes_eq}
 use Rattle.serde_json.specs.Data.{Data, Items, no_items, item}
-use Rattle.serde_json.specs.Find.{get, as_array, as_i64, as_number, as_str}
+use Rattle.serde_json.specs.Find.{get, as_array, as_bool, as_i64, as_number, as_str, as_u64}
 use Rattle.kp_kore.specs.Syntax.{Text, KorePattern}
+use Rattle.kp_json.specs.Faults.{Reading, read, fault, wrapped_reading}
 use Rattle.kp_semantics.specs.Causes.{foreign}
 use Rattle.kp_semantics.specs.ClaimRules.{is_lower_hexadecimal}
+use Rattle.kp_semantics.specs.Implied.{Implied, not_valid, valid}
 use Rattle.kp_results.specs.Results.{StateParts, NextParts, Ending, vacuous, depth_bound, stuck, branching, cut_point, terminal, aborted, ExecutedParts}
-use Rattle.kp_rpc.specs.Reply.{ImpliesResult}
-use Rattle.kp_rpc.specs.RepliesRead.{read_wrapped, read_optional, text_in, read_depth, read_implied, is_two}
 
 -- the method that was asked
 pub data Method : Type 0 where
@@ -20,10 +20,28 @@ pub data Method : Type 0 where
 -- what a reply tells: a method's result, or an error's code
 pub data ServerReply : Type 0 where
   executed : ExecutedParts → ServerReply
-  implied : ImpliesResult → ServerReply
+  implied : Implied → ServerReply
   simplified : KorePattern → ServerReply
   added : Text → ServerReply
   failed : ℤ → ServerReply
+
+-- ---- patterns and texts
+
+-- the pattern, where one was read
+abbrev pub pattern_in : Reading KorePattern → Option KorePattern
+pattern_in (read p) = Some p
+pattern_in (fault f) = None
+
+abbrev pub read_wrapped : Option Data → Option KorePattern
+read_wrapped None = None
+read_wrapped (Some d) = pattern_in (wrapped_reading d)
+
+abbrev pub read_optional : Option Data → Option (Option KorePattern)
+read_optional None = Some None
+read_optional (Some d) = option_map Some (pattern_in (wrapped_reading d))
+
+abbrev pub text_in : Option Data → Option Text
+text_in = option_and_then as_str
 
 -- ---- ids
 
@@ -79,6 +97,9 @@ read_next_states d = option_and_then read_nexts (option_and_then as_array (get (
 
 -- ---- execute
 
+abbrev pub read_depth : Option Data → Option ℕ
+read_depth x = option_and_then as_u64 (option_and_then as_number x)
+
 abbrev pub ending_named : Data → Text → Option Ending
 ending_named d word =
     if bytes_eq word (codes "stuck") then Some stuck else
@@ -110,7 +131,26 @@ executed_from depth state ending nexts =
 abbrev pub read_executed : Data → Option ExecutedParts
 read_executed d = executed_from (read_depth (get (codes "depth") d)) (option_and_then read_state (get (codes "state") d)) (read_ending d) (nexts_of d)
 
+-- ---- implies
+
+abbrev pub condition_from : Option KorePattern → Option KorePattern → Option Implied
+condition_from predicate substitution = option_and_then (λ p. option_map (λ s. valid p s) substitution) predicate
+
+abbrev pub read_condition : Data → Option Implied
+read_condition d = option_and_then (λ c. condition_from (read_wrapped (get (codes "predicate") c)) (read_wrapped (get (codes "substitution") c))) (get (codes "condition") d)
+
+abbrev pub read_valid : Data → Bool → Option Implied
+read_valid d true = read_condition d
+read_valid d false = Some not_valid
+
+abbrev pub read_implied : Data → Option Implied
+read_implied d = option_and_then (read_valid d) (option_and_then as_bool (get (codes "valid") d))
+
 -- ---- replies
+
+abbrev pub is_two : Option Text → Bool
+is_two None = false
+is_two (Some version) = bytes_eq version (codes "2.0")
 
 -- the code of an error, a whole number of signed 64 bits
 abbrev pub read_code : Data → Option ServerReply

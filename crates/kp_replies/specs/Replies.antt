@@ -3,13 +3,15 @@
 use Rattle.std.specs.Prelude.{◌≡◌, ◌<◌, ◌^◌, ℕ, List, [], ◌∷◌, ◌++◌, Option, Some, None, true}
 use Rattle.std.specs.List.{AllByRecursion}
 use Rattle.serde_json.specs.Data.{Data}
-use Rattle.kp_kore.specs.Syntax.{Text}
+use Rattle.kp_kore.specs.Syntax.{Text, KorePattern}
+use Rattle.kp_json.specs.Trees.{SpellsWrapped}
 use Rattle.kp_semantics.specs.Causes.{foreign}
+use Rattle.kp_semantics.specs.Implied.{Implied, not_valid, valid}
 use Rattle.kp_results.specs.Results.{NextParts, Ending, vacuous, depth_bound, stuck, branching, cut_point, terminal, aborted, ExecutedParts, Limit, weighed, wide_call, predicate, limit}
 use Rattle.kp_rpc.specs.Frame.{IsFrame}
-use Rattle.kp_rpc.specs.Replied.{IsSpelled, IsSpelledState}
+use Rattle.kp_rpc.specs.Questions.{IsReadBack}
 use Rattle.kp_replies.specs.Failures.{Failure, undecided, bad_module, duplicate, bad_text, bad_axiom, bad_sentence}
-use Rattle.kp_replies.specs.Read.{Method, ServerReply, is_rule_id, read_reply}
+use Rattle.kp_replies.specs.Read.{Method, execute, implies, simplify, add_module, ServerReply, executed, implied, simplified, added, failed, is_rule_id, read_reply}
 
 -- the text is a frame of a reply to the method that tells this
 abbrev pub IsFrameReply : Method → List ℕ → ServerReply → Type 0
@@ -19,7 +21,41 @@ IsFrameReply method text reply = (d : Data) × IsFrame text d × (read_reply met
 abbrev pub IsReplyOf : Method → List ℕ → ServerReply → Type 0
 IsReplyOf method line reply = (text : List ℕ) × (line ≡ text ++ 10 ∷ []) × IsFrameReply method text reply
 
+-- a method's result, or an error's code
+abbrev pub IsOfMethod : Method → ServerReply → Type 0
+IsOfMethod execute (executed x) = Unit {0}
+IsOfMethod implies (implied x) = Unit {0}
+IsOfMethod simplify (simplified p) = Unit {0}
+IsOfMethod add_module (added id) = Unit {0}
+IsOfMethod _ (failed code) = Unit {0}
+IsOfMethod _ _ = ⊥
+
 -- ---- what is read back
+
+-- some tree spells the pattern
+abbrev pub IsSpelled : KorePattern → Type 0
+IsSpelled p = (d : Data) × SpellsWrapped d p
+
+abbrev pub IsSpelledState : KorePattern → Option KorePattern → Type 0
+IsSpelledState term None = IsSpelled term
+IsSpelledState term (Some p) = IsSpelled term × IsSpelled p
+
+abbrev pub IsSpelledImplied : Implied → Type 0
+IsSpelledImplied not_valid = Unit {0}
+IsSpelledImplied (valid p q) = IsSpelled p × IsSpelled q
+
+-- next states stand with branching and, one alone, with a cut point
+abbrev pub StandWith : Ending → List NextParts → Type 0
+StandWith branching ns = Unit {0}
+StandWith (cut_point id) ns = (n : NextParts) × (ns ≡ n ∷ [])
+StandWith _ ns = ns ≡ []
+
+-- an ending whose rule's id, where it has one, is that of a rule
+abbrev pub IsNamedEnding : Ending → Type 0
+IsNamedEnding (cut_point id) = is_rule_id id ≡ true
+IsNamedEnding (terminal id) = is_rule_id id ≡ true
+IsNamedEnding (aborted (foreign id)) = is_rule_id id ≡ true
+IsNamedEnding _ = Unit {0}
 
 -- the patterns are spelled by trees, and the ids are those of rules
 abbrev pub IsNamed : Option Text → Type 0
@@ -44,6 +80,16 @@ IsWritableEnding (aborted (foreign id)) ns = (is_rule_id id ≡ true) × (ns ≡
 pub record IsWritable (x : ExecutedParts) : Type 0 where
   pub state : IsSpelledState x.state.term x.state.predicate
   pub ending : IsWritableEnding x.ending x.nexts
+
+-- a result of execute without next states, whose state has no predicate
+pub record IsBare (x : ExecutedParts) : Type 0 where
+  pub predicate : x.state.predicate ≡ None
+  pub nexts : x.nexts ≡ []
+
+-- the trees that are written of the result's patterns spell no others
+abbrev pub IsImpliedReadBack : Implied → Type 0
+IsImpliedReadBack not_valid = Unit {0}
+IsImpliedReadBack (valid p q) = IsReadBack p × IsReadBack q
 
 -- the numbers are of 64 bits
 abbrev pub Fits : Limit → Type 0

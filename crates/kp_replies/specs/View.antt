@@ -1,8 +1,7 @@
 -- The data of replies that the Rust types stand for.
 use Rattle.std.specs.Prelude.{string_bytes}
 use Rattle.kp_kore.specs.View.{view}
-use Rattle.kp_rpc.specs.View.{implied_view}
-use Rattle.kp_results.specs.View.{executed_view, undecided_view}
+use Rattle.kp_results.specs.View.{executed_view, implied_view, undecided_view}
 use Rattle.kp_replies.specs.Failures as failures
 use Rattle.kp_replies.specs.Read as read
 use Rattle.kp_replies.specs.declared.failure.AdditionFault.{AdditionFault}

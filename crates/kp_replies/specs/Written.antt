@@ -1,12 +1,13 @@
 -- Results as JSON trees. What Kore JSON has no tag for has no tree.
 -- Source: the K Haskell backend's JSON-RPC documentation (execute, implies, simplify, add-module).
-use Rattle.std.specs.Prelude.{ℕ, List, [], ◌∷◌, Option, Some, None, codes}
+use Rattle.std.specs.Prelude.{ℕ, true, false, List, [], ◌∷◌, Option, Some, None, codes}
 use Rattle.std.specs.Option.{option_map, option_and_then}
-use Rattle.serde_json.specs.Data.{Data, unsigned, number, string, array, object, Items, no_items, item, Members, no_members, put}
+use Rattle.serde_json.specs.Data.{Data, unsigned, boolean, number, string, array, object, Items, no_items, item, Members, no_members, put}
 use Rattle.kp_kore.specs.Syntax.{Text, KorePattern}
 use Rattle.kp_json.specs.Members.{object_of}
-use Rattle.kp_json.specs.Written.{wrapped_pattern}
+use Rattle.kp_json.specs.Written.{two_parts, wrapped_pattern}
 use Rattle.kp_semantics.specs.Causes.{foreign}
+use Rattle.kp_semantics.specs.Implied.{Implied, not_valid, valid}
 use Rattle.kp_results.specs.Results.{StateParts, NextParts, Ending, vacuous, depth_bound, stuck, branching, cut_point, terminal, aborted, ExecutedParts}
 use Rattle.kp_rpc.specs.Questions.{with_text}
 
@@ -65,6 +66,20 @@ executed_members depth ending state = put (codes "depth") (number (unsigned dept
 
 abbrev pub executed_tree : ExecutedParts → Option Data
 executed_tree x = option_and_then (λ s. option_map object (with_nexts x.ending x.nexts (executed_members x.depth x.ending s))) (state_tree x.state)
+
+-- ---- implies
+
+-- {"valid":false}
+abbrev pub not_valid_object : Data
+not_valid_object = object_of ((codes "valid", boolean false) ∷ [])
+
+-- {"condition":{"predicate":K,"substitution":K},"valid":true}
+abbrev pub valid_object : Data → Data → Data
+valid_object predicate substitution = object_of ((codes "condition", object_of ((codes "predicate", predicate) ∷ (codes "substitution", substitution) ∷ [])) ∷ (codes "valid", boolean true) ∷ [])
+
+abbrev pub implied_tree : Implied → Option Data
+implied_tree not_valid = Some not_valid_object
+implied_tree (valid predicate substitution) = two_parts valid_object (wrapped_pattern predicate) (wrapped_pattern substitution)
 
 -- ---- simplify and add-module
 

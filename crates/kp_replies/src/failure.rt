@@ -4,7 +4,7 @@ ghost use Rattle.serde_json.specs.View.{view, members_view};
 ghost use Rattle.serde_json.specs.Written.{has_float};
 ghost use Rattle.kp_kore.specs.View.{view as pattern_view};
 ghost use Rattle.kp_json.specs.Members.{object_of};
-ghost use Rattle.kp_rpc.specs.Reply.{kind_only, kind_and_name, reply_bytes};
+ghost use Rattle.kp_rpc.specs.Reply.{reply_bytes};
 ghost use Rattle.kp_rpc.specs.View.{id_view};
 ghost use Rattle.kp_results.specs.Results.{weighed, wide_call, predicate as undecided_predicate};
 ghost use Rattle.kp_results.specs.View.{weight_view, limit_view, undecided_view};
@@ -14,7 +14,7 @@ ghost use Rattle.kp_replies.specs.View.{sides_view, addition_view, failure_view}
 use crate::members::{empty_object, object_value, with_pattern_at};
 use kp_kore::Pattern;
 use kp_results::{Limit, Undecided, Weight};
-use kp_rpc::{Id, Object, id_value, line_of, with_member_at};
+use kp_rpc::{Id, Object, id_value, kind_value, line_of, named_value, with_member_at};
 use serde_json::{Value, json};
 use std::alloc::{AllocError, Global};
 
@@ -55,20 +55,6 @@ pub enum Failure {
     BadModule(AdditionFault),
     /// Code 9: the entry binds the name to another text; 0 is the definition.
     Duplicate { entry: u64, name: String },
-}
-
-/// The data of a fault that has a kind alone.
-fn kind_value(alloc: Global, kind: &str) -> Result<Value, AllocError>
-    ensures { IfOk result (λ v. view v ≡ kind_only kind.now) }
-{
-    json!(in alloc; {"kind": kind})
-}
-
-/// The data of a fault that has a kind and a name.
-fn named_value(alloc: Global, kind: &str, name: &str) -> Result<Value, AllocError>
-    ensures { IfOk result (λ v. view v ≡ kind_and_name kind.now name.now) }
-{
-    json!(in alloc; {"kind": kind, "name": name})
 }
 
 /// The data of a fault of an implication's sides.

@@ -3,11 +3,14 @@
 // line is specs/Read.antt; laws.rt says that what was written is read back.
 #![tactic(auto)]
 
+pub mod examples;
 mod executed;
 mod failure;
+mod implied;
 pub mod laws;
 mod members;
 mod named;
+mod patterns;
 mod read_states;
 mod states;
 mod told;
@@ -16,4 +19,4 @@ mod written;
 pub use failure::{AdditionFault, Failure, SidesFault, failure_text};
 pub use named::{is_module_id, is_rule_id};
 pub use told::{Method, ServerReply, reply_of};
-pub use written::{added_text, executed_text, simplified_text};
+pub use written::{added_text, executed_text, implied_text, simplified_text};

@@ -5,8 +5,8 @@ ghost use Rattle.kp_results.specs.View.{state_view, next_view, nexts_view};
 ghost use Rattle.kp_replies.specs.Read.{read_state, read_next, read_nexts, read_next_states};
 
 use crate::named::optional_rule_at;
+use crate::patterns::{predicate_at, wrapped_at};
 use kp_results::{NextState, State};
-use kp_rpc::{predicate_at, wrapped_at};
 use serde_json::Value;
 use std::alloc::{AllocError, Global};
 

@@ -1,4 +1,4 @@
-ghost use Rattle.std.specs.Prelude.{◌≡◌, ◌∷◌, ◌++◌, [], ℕ, List, Some, IfOk, IfSome, IfNone, option_map, option_and_then, codes};
+ghost use Rattle.std.specs.Prelude.{◌≡◌, ◌≢◌, ◌∷◌, ◌++◌, [], ℕ, List, Some, IfOk, IfSome, IfNone, option_map, option_and_then, codes};
 ghost use Rattle.serde_json.specs.Find.{get};
 ghost use Rattle.serde_json.specs.View.{view};
 ghost use Rattle.kp_semantics.specs.Causes.{foreign};
@@ -8,13 +8,13 @@ ghost use Rattle.kp_replies.specs.Read.{read_rule, one_alone, ending_named, read
 ghost use Rattle.kp_replies.specs.Replies.{IsFrameReply, IsReplyOf};
 ghost use Rattle.kp_replies.specs.View.{method_view, reply_view};
 
+use crate::implied::implied_of;
 use crate::named::{module_at, rule_at};
+use crate::patterns::wrapped_at;
 use crate::read_states::{nexts_at, state_at};
 use kp_kore::Pattern;
-use kp_results::{Cause, Executed, NextState, Reason};
-use kp_rpc::{
-    FrameError, Implied, frame_of, implied_of, is_version_two, line_text, member_text, wrapped_at,
-};
+use kp_results::{Cause, Executed, Implied, NextState, Reason};
+use kp_rpc::{FrameError, frame_of, is_version_two, member_text};
 use serde_json::Value;
 use std::alloc::{AllocError, Global};
 
@@ -246,6 +246,17 @@ fn frame_reply(
         Ok(value) => tree_reply(alloc, method, &value),
         Err(FrameError::NoFrame) => Ok(None),
         Err(FrameError::Memory) => Err(AllocError),
+    }
+}
+
+/// The text of one line.
+fn line_text(line: &[u8]) -> Option<&[u8]>
+    ensures some { IfSome result (λ text. line.now ≡ text.now ++ 10 ∷ []) }
+    ensures none { IfNone result ((text : List ℕ) → line.now ≢ text ++ 10 ∷ []) }
+{
+    match line {
+        [text @ .., last] => if *last == b'\n' { Some(text) } else { None },
+        [] => None,
     }
 }
 

@@ -2,8 +2,9 @@
 use Rattle.std.proofs.Common.{◌≡◌, refl, sym, ◌∙◌, ap, subst, ℕ, suc, ◌+◌, ◌<◌, List, [], ◌∷◌, ◌++◌, length, map, drop, get_or, append_assoc, drop-cons, string_bytes, arith}
 use Rattle.std.proofs.Math.Seq.{drop-length}
 use Rattle.std.specs.Prelude.{codes, ℤ}
-use Rattle.kp_rpc.specs.Reply.{ExecuteResult, ImpliesResult}
-use Rattle.kp_rpc.specs.Replied.{execute, executed, implied, failed, ServerReply, IsReplyOf}
+use Rattle.kp_results.specs.Results.{ExecutedParts}
+use Rattle.kp_replies.specs.Read.{execute, executed, failed, ServerReply}
+use Rattle.kp_replies.specs.Replies.{IsReplyOf}
 use Rattle.kp_report.specs.Report.{IsLine, IsReport, no_lines, one_line, IsReplyWhy, by_run, by_error, by_nothing, run_why}
 use Rattle.kp_client.specs.View.{outcome_view}
 use Rattle.kp_report.specs.View.{line_view}
@@ -32,7 +33,7 @@ all_written lines text h = subst (IsReport (map line_view lines)) (append_none t
 
 -- ---- why a node is held
 
-pub why_by_run : (line why : List ℕ) (x : ExecuteResult) → IsReplyOf execute line (executed x) → why ≡ run_why x.reason → IsReplyWhy line why
+pub why_by_run : (line why : List ℕ) (x : ExecutedParts) → IsReplyOf execute line (executed x) → why ≡ run_why x.ending → IsReplyWhy line why
 why_by_run line why x told is = subst (IsReplyWhy line) (sym is) (by_run x told)
 
 pub why_by_error : (line why : List ℕ) (code : ℤ) → IsReplyOf execute line (failed code) → why ≡ codes "undecided" → IsReplyWhy line why
@@ -40,7 +41,3 @@ why_by_error line why code told is = subst (IsReplyWhy line) (sym is) (by_error 
 
 pub why_by_nothing : (line why : List ℕ) → ((r : ServerReply) → ¬ IsReplyOf execute line r) → why ≡ codes "undecided" → IsReplyWhy line why
 why_by_nothing line why none is = subst (IsReplyWhy line) (sym is) (by_nothing none)
-
--- the reply to an execute request tells no implication
-pub no_implication : (line : List ℕ) (x : ImpliesResult) → IsReplyOf execute line (implied x) → ⊥
-no_implication line x told = told.2.2.2

@@ -7,9 +7,11 @@ use Rattle.std.specs.List.{AllByRecursion, list_all}
 use Rattle.kp_semantics.specs.Steps.{AnyByRecursion}
 use Rattle.kp_kore.specs.Syntax.{Text}
 use Rattle.kp_graph.specs.Tree.{HeldBy, reply, rounds, nodes}
-use Rattle.kp_semantics.specs.Replies.{Reason, stuck, depth_bound, aborted_by_rule}
-use Rattle.kp_rpc.specs.Replied.{IsReadReason, is_visible}
-use Rattle.kp_rpc.proofs.RuleIds.{told_ids}
+use Rattle.kp_semantics.specs.Causes.{foreign}
+use Rattle.kp_results.specs.Results.{Ending, vacuous, depth_bound, stuck, branching, cut_point, terminal, aborted}
+use Rattle.kp_replies.specs.Read.{is_visible}
+use Rattle.kp_replies.specs.Replies.{IsNamedEnding}
+use Rattle.kp_replies.proofs.Methods.{told_ids}
 use Rattle.kp_client.specs.Rounds.{ProofOutcome, passed, failed_at, pending_at, refused_with}
 use Rattle.kp_report.specs.Report.{ReportLine, IsLine, IsWhy, IsReplyWhy, by_run, by_error, by_nothing, run_why, IsReport, no_lines, one_line, is_one_line, HasLine, first_line, later_line}
 
@@ -166,13 +168,17 @@ each_visible (c ∷ cs) h =
     let parts = both_parts (is_visible c) (list_all is_visible cs) h in
     and_from (not (c == 10)) (is_one_line cs) (visible c parts.0) (each_visible cs parts.1)
 
-told_reason : (r : Reason) → IsReadReason r → is_one_line (run_why r) ≡ true
-told_reason stuck h = refl
+told_reason : (e : Ending) → IsNamedEnding e → is_one_line (run_why e) ≡ true
+told_reason vacuous h = refl
 told_reason depth_bound h = refl
-told_reason (aborted_by_rule id) h = each_visible id (both_parts (nat_lt 0 (length id)) (list_all is_visible id) h).1
+told_reason stuck h = refl
+told_reason branching h = refl
+told_reason (cut_point id) h = refl
+told_reason (terminal id) h = refl
+told_reason (aborted (foreign id)) h = each_visible id (both_parts (nat_lt 0 (length id)) (list_all is_visible id) h).1
 
 reply_in_one_line : (line : List ℕ) (why : Text) → IsReplyWhy line why → is_one_line why ≡ true
-reply_in_one_line line _ (by_run x told) = told_reason x.reason (told_ids line x told)
+reply_in_one_line line _ (by_run x told) = told_reason x.ending (told_ids line x told)
 reply_in_one_line line _ (by_error code told) = refl
 reply_in_one_line line _ (by_nothing none) = refl
 

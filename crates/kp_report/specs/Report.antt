@@ -4,21 +4,26 @@ use Rattle.std.specs.Prelude.{◌≡◌, ℕ, ℤ, Bool, true, not, ◌==◌, Li
 use Rattle.std.specs.List.{list_all}
 use Rattle.std.specs.Fmt.{decimal, signed_decimal}
 use Rattle.kp_kore.specs.Syntax.{Text}
-use Rattle.kp_semantics.specs.Replies as replies
+use Rattle.kp_semantics.specs.Causes.{foreign}
 use Rattle.kp_graph.specs.Tree.{HeldBy, reply, rounds, nodes}
-use Rattle.kp_rpc.specs.Reply.{ExecuteResult}
-use Rattle.kp_rpc.specs.Replied.{execute, executed, failed, ServerReply, IsReplyOf}
+use Rattle.kp_results.specs.Results.{Ending, vacuous, depth_bound, stuck, branching, cut_point, terminal, aborted, ExecutedParts}
+use Rattle.kp_replies.specs.Read.{execute, executed, failed, ServerReply}
+use Rattle.kp_replies.specs.Replies.{IsReplyOf}
 use Rattle.kp_client.specs.Rounds.{ProofOutcome, passed, failed_at, pending_at, refused_with}
 
 -- why the run of a node's steps is no further: a foreign rule aborts it, or it is at its bound
-abbrev pub run_why : replies.Reason → Text
-run_why (replies.aborted_by_rule id) = codes "foreign " ++ id
-run_why replies.depth_bound = codes "bound"
-run_why replies.stuck = codes "undecided"
+abbrev pub run_why : Ending → Text
+run_why (aborted (foreign id)) = codes "foreign " ++ id
+run_why depth_bound = codes "bound"
+run_why stuck = codes "undecided"
+run_why vacuous = codes "undecided"
+run_why branching = codes "undecided"
+run_why (cut_point id) = codes "undecided"
+run_why (terminal id) = codes "undecided"
 
 -- by the run that a reply tells; an error, and what is no reply, leave undecided whether the node is covered
 pub data IsReplyWhy (line : List ℕ) : Text → Type 0 where
-  by_run : (x : ExecuteResult) → IsReplyOf execute line (executed x) → IsReplyWhy line (run_why x.reason)
+  by_run : (x : ExecutedParts) → IsReplyOf execute line (executed x) → IsReplyWhy line (run_why x.ending)
   by_error : (code : ℤ) → IsReplyOf execute line (failed code) → IsReplyWhy line (codes "undecided")
   by_nothing : ((r : ServerReply) → ¬ IsReplyOf execute line r) → IsReplyWhy line (codes "undecided")
 

@@ -1,8 +1,10 @@
 ghost use Rattle.std.specs.Prelude.{◌≡◌, ◌++◌, ℕ, List, map, IfOk, codes, string_bytes};
 ghost use Rattle.std.specs.Fmt.{decimal, signed_decimal};
 ghost use Rattle.kp_graph.specs.View.{why_view};
-ghost use Rattle.kp_rpc.specs.Replied.{execute, IsReplyOf};
-ghost use Rattle.kp_rpc.specs.View.{reason_view, reply_view};
+ghost use Rattle.kp_results.specs.View.{reason_view};
+ghost use Rattle.kp_replies.specs.Read.{execute};
+ghost use Rattle.kp_replies.specs.Replies.{IsReplyOf};
+ghost use Rattle.kp_replies.specs.View.{reply_view};
 ghost use Rattle.kp_report.specs.Report.{IsLine, IsReplyWhy, IsReport, IsWhy, run_why as run_why_text};
 ghost use Rattle.kp_client.specs.Rounds.{failed_at, pending_at, refused_with};
 ghost use Rattle.kp_client.specs.View.{outcome_view};
@@ -11,7 +13,8 @@ ghost use Rattle.kp_report.specs.View.{line_view};
 use kp_client::Outcome;
 use kp_graph::Why;
 use kp_kore::Name;
-use kp_rpc::{Method, Reason, ServerReply, reply_of};
+use kp_replies::{Method, ServerReply, reply_of};
+use kp_results::{Cause, Reason};
 use std::alloc::{AllocError, Global};
 
 /// A claim's label, and how its proof ended.
@@ -26,9 +29,15 @@ fn run_why(alloc: Global, reason: &Reason) -> Result<String, AllocError>
     ensures { IfOk result (λ t. string_bytes t ≡ run_why_text (reason_view reason.now)) }
 {
     match reason {
-        Reason::AbortedByRule { id } => format!(in alloc; "foreign {id}"),
+        Reason::Aborted {
+            cause: Cause::ForeignRule { id },
+        } => format!(in alloc; "foreign {id}"),
         Reason::DepthBound => String::from_str(alloc, "bound"),
-        Reason::Stuck => String::from_str(alloc, "undecided"),
+        Reason::Stuck => undecided(alloc),
+        Reason::Vacuous => undecided(alloc),
+        Reason::Branching => undecided(alloc),
+        Reason::CutPoint { rule: _ } => undecided(alloc),
+        Reason::Terminal { rule: _ } => undecided(alloc),
     }
 }
 
@@ -46,7 +55,9 @@ fn told_why(alloc: Global, reply: ServerReply) -> Result<String, AllocError>
     match reply {
         ServerReply::Executed(run) => run_why(alloc, &run.reason),
         ServerReply::Failed { code: _ } => undecided(alloc),
-        ServerReply::Implied(_) => String::from_str(alloc, "undecided"),
+        ServerReply::Implied(_) => undecided(alloc),
+        ServerReply::Simplified(_) => undecided(alloc),
+        ServerReply::Added(_) => undecided(alloc),
     }
 }
 

@@ -3,6 +3,7 @@ use Rattle.std.specs.Prelude.{List, map, option_map, string_bytes}
 use Rattle.kp_kore.specs.View.{view}
 use Rattle.kp_semantics.specs.Causes.{Cause, foreign}
 use Rattle.kp_semantics.specs.Executions.{Options}
+use Rattle.kp_semantics.specs.Implied as theory
 use Rattle.kp_results.specs.Results as parts
 use Rattle.kp_results.specs.Results.{StateParts, NextParts, Ending, ExecutedParts}
 use Rattle.kp_results.specs.declared.executed.Options.{Options as RustOptions}
@@ -13,6 +14,8 @@ use Rattle.kp_results.specs.declared.executed.Cause.TheVariants as cause
 use Rattle.kp_results.specs.declared.executed.Reason.{Reason}
 use Rattle.kp_results.specs.declared.executed.Reason.TheVariants as reason
 use Rattle.kp_results.specs.declared.executed.Executed.{Executed}
+use Rattle.kp_results.specs.declared.implied.Implied.{Implied}
+use Rattle.kp_results.specs.declared.implied.Implied.TheVariants as implied
 use Rattle.kp_results.specs.declared.undecided.Weight.{Weight}
 use Rattle.kp_results.specs.declared.undecided.Weight.TheVariants as weight
 use Rattle.kp_results.specs.declared.undecided.Limit.{Limit}
@@ -46,6 +49,10 @@ reason_view (reason.Aborted cause) = parts.aborted (cause_view cause)
 
 abbrev pub executed_view : Executed → ExecutedParts
 executed_view e = record { depth = e.depth; ending = reason_view e.reason; state = state_view e.state; nexts = nexts_view e.next_states.items }
+
+abbrev pub implied_view : Implied → theory.Implied
+implied_view implied.NotValid = theory.not_valid
+implied_view (implied.Valid predicate substitution) = theory.valid (view predicate) (view substitution)
 
 abbrev pub weight_view : Weight → parts.Weight
 weight_view weight.Bits = parts.bits

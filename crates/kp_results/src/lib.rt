@@ -3,7 +3,9 @@
 #![tactic(auto)]
 
 mod executed;
+mod implied;
 mod undecided;
 
 pub use executed::{Cause, Executed, NextState, Options, Reason, State};
+pub use implied::Implied;
 pub use undecided::{Limit, Undecided, Weight};

@@ -1,12 +1,9 @@
--- The trees that are written for sorts, patterns, results and errors have no float, so their text is exact.
-use Rattle.std.proofs.Common.{◌≡◌, ℕ, List, false, Option, Some, None, option_map, refl, sym, ap, ◌∙◌}
+-- The trees that are written for sorts and patterns have no float, so their text is exact.
+use Rattle.std.proofs.Common.{◌≡◌, false, Option, Some, None, option_map, refl, sym, ap, ◌∙◌}
 use Rattle.serde_json.specs.Data.{Data, Items}
 use Rattle.serde_json.specs.Written.{has_float, items_have_float}
 use Rattle.kp_kore.specs.Syntax.{KoreSort, sort_of, sort_variable, KoreSorts, no_sorts, next_sort, KorePattern, KorePatterns, variable, application, literal, top, bottom, negation, conjunction, disjunction, implication, equivalence, rewriting, exists, forall, ceil, floor, equals, membership, no_patterns, next_pattern}
 use Rattle.kp_json.specs.Written.{sort_tree, sort_trees, one_part, one_list, first_and_rest, two_parts, pattern_tree, pattern_trees, wrapped, wrapped_pattern}
-use Rattle.kp_semantics.specs.Replies.{Reason}
-use Rattle.kp_rpc.specs.Request.{RequestId}
-use Rattle.kp_rpc.specs.Reply.{ImpliesResult, not_valid, valid, valid_object, implied_tree, term_state, result_object, result_tree, result_reply, reply_bytes}
 
 mutual
   sort_plain : (s : KoreSort) → has_float (sort_tree s) ≡ false
@@ -76,26 +73,9 @@ wrapper_plain (Some t) d h e = let same : wrapped t ≡ d = cc e in ap has_float
 wrapped_plain : (p : KorePattern) (d : Data) → wrapped_pattern p ≡ Some d → has_float d ≡ false
 wrapped_plain p d e = wrapper_plain (pattern_tree p) d (pattern_plain p) e
 
--- a text that is exact for a tree without a float is exact for a pattern's
-pub result_written : (p : KorePattern) (d : Data) (id : RequestId) (depth : ℕ) (reason : Reason) (text : List ℕ) → Some d ≡ wrapped_pattern p
-    → (has_float d ≡ false → text ≡ reply_bytes (result_reply id (result_object depth reason (term_state d))))
-    → Some text ≡ option_map (λ t. reply_bytes (result_reply id t)) (result_tree (record { depth = depth; reason = reason; state = record { term = p; predicate = None } }))
-result_written p d id depth reason text e h =
-    ap Some (h (wrapped_plain p d (sym e))) ∙ ap (λ x. option_map (λ t. reply_bytes (result_reply id t)) (option_map (result_object depth reason) (option_map term_state x))) e
-
--- ---- the result of implies
-
 pub wrapped_is_plain : (p : KorePattern) → IsPlain (wrapped_pattern p)
 wrapped_is_plain p = one_plain wrapped (pattern_tree p) (λ d h. rw h refl) (pattern_plain p)
-
-implied_plain : (r : ImpliesResult) → IsPlain (implied_tree r)
-implied_plain not_valid = refl
-implied_plain (valid p q) = two_plain valid_object (wrapped_pattern p) (wrapped_pattern q) (λ d e h k. rw (h, k) refl) (wrapped_is_plain p) (wrapped_is_plain q)
 
 pub plain_is : (x : Option Data) (d : Data) → IsPlain x → Some d ≡ x → has_float d ≡ false
 plain_is None d h e = absurd (cc e)
 plain_is (Some t) d h e = let same : t ≡ d = cc e in ap has_float (sym same) ∙ h
-
-pub implied_written : (r : ImpliesResult) (d : Data) (id : RequestId) (text : List ℕ) → Some d ≡ implied_tree r
-    → (has_float d ≡ false → text ≡ reply_bytes (result_reply id d)) → Some text ≡ option_map (λ t. reply_bytes (result_reply id t)) (implied_tree r)
-implied_written r d id text e h = ap Some (h (plain_is (implied_tree r) d (implied_plain r) e)) ∙ ap (option_map (λ t. reply_bytes (result_reply id t))) e

@@ -12,9 +12,8 @@ use Rattle.serde_json.specs.Find.{get_member}
 use Rattle.serde_json.specs.Read.{is_integer, float_of, number_from, number_of, of_json, of_items, of_members, read, max_depth}
 use Rattle.kp_kore.specs.Syntax.{Text}
 use Rattle.kp_rpc.specs.Frame.{IsFrame}
-use Rattle.kp_rpc.specs.Request.{RequestId, id_null, IsIdTree, HasId, EchoesId}
+use Rattle.kp_rpc.specs.Request.{IsReadId, RequestId, id_null, IsIdTree, HasId, EchoesId}
 use Rattle.kp_rpc.specs.Reply.{RequestError, parse_error, invalid_request, method_not_found, invalid_params, no_module, no_pattern, not_verified}
-use Rattle.kp_rpc.specs.Replied.{IsReadId}
 use Rattle.kp_rpc.specs.Causes.{IsRefused}
 
 -- ---- numbers

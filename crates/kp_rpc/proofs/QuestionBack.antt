@@ -3,8 +3,7 @@ use Rattle.std.proofs.Common.{ℕ, List, [], ◌∷◌, Option, Some, None, refl
 use Rattle.serde_json.specs.Data.{Data, object, Members}
 use Rattle.kp_kore.specs.Syntax.{Text}
 use Rattle.kp_json.specs.Written.{wrapped_pattern}
-use Rattle.kp_rpc.specs.Request.{RequestId, ExecuteRequest, ImpliesRequest, execute_method, implies_method}
-use Rattle.kp_rpc.specs.Replied.{IsReadId}
+use Rattle.kp_rpc.specs.Request.{IsReadId, RequestId, ExecuteRequest, ImpliesRequest, execute_method, implies_method}
 use Rattle.kp_rpc.specs.Questions.{to_execute, to_imply, text_items, execute_params, implies_params, request_object, question_tree, IsReadNumber, IsAskable}
 use Rattle.kp_rpc.proofs.ReadBack.{Back, ItemsBack, IsBack, one_back, two_back, number_back, id_back, wrapped_back}
 

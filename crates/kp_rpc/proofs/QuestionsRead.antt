@@ -10,8 +10,7 @@ use Rattle.kp_json.specs.Members.{Has}
 use Rattle.kp_json.specs.Trees.{SpellsWrapped}
 use Rattle.kp_json.specs.Written.{two_parts, wrapped_pattern}
 use Rattle.kp_rpc.specs.Frame.{IsFrame}
-use Rattle.kp_rpc.specs.Request.{RequestId, id_text, id_number, id_null, id_tree, IsIdTree, HasId, TextAt, ExecuteOptions, HasOptions, ExecuteRequest, IsExecute, execute_method, ImpliesRequest, IsImplies, implies_method}
-use Rattle.kp_rpc.specs.Replied.{IsReadId}
+use Rattle.kp_rpc.specs.Request.{IsReadId, RequestId, id_text, id_number, id_null, id_tree, IsIdTree, HasId, TextAt, ExecuteOptions, HasOptions, ExecuteRequest, IsExecute, execute_method, ImpliesRequest, IsImplies, implies_method}
 use Rattle.kp_rpc.specs.Questions.{IsLawfulId, to_execute, to_imply, with_text, execute_params, implies_params, question_tree, IsReadBack, IsAskable}
 use Rattle.kp_rpc.proofs.Asked.{put_other, text_here, named, options_are, state_is, request_members}
 use Rattle.kp_rpc.proofs.CompactRead.{compact_reads}

@@ -1,6 +1,6 @@
--- The text that is written of a reply is read as that reply.
-use Rattle.std.proofs.Common.{◌≡◌, ℕ, suc, max, ◌^◌, ◌<◌, ◌≤◌, [], ◌∷◌, Option, Some, None, option_map, option_and_then, pos, negsuc, refl, sym, ap, ap₂, ◌∙◌, subst, arith, append-nil}
-use Rattle.std.specs.Prelude.{codes}
+-- The text that is written of a tree is read as that tree, where it nests no deeper than a frame may: of patterns, ids and
+-- replies with a result.
+use Rattle.std.proofs.Common.{◌≡◌, ℕ, suc, max, ◌^◌, ◌<◌, ◌≤◌, [], Option, Some, None, option_map, option_and_then, pos, negsuc, refl, sym, ap, ap₂, ◌∙◌, subst, arith, append-nil}
 use Rattle.json.specs.Lex.{tokens}
 use Rattle.json.specs.Json as json
 use Rattle.json.specs.Tree as tree
@@ -14,12 +14,9 @@ use Rattle.serde_json.specs.Written.{outline, items_outline, members_outline, co
 use Rattle.serde_json.proofs.Texts.{print-outline}
 use Rattle.serde_json.proofs.Numbers.{number_of-decimal, number_of-negative}
 use Rattle.kp_kore.specs.Syntax.{KoreSort, sort_of, sort_variable, KoreSorts, no_sorts, next_sort, KorePattern, KorePatterns, variable, application, literal, top, bottom, negation, conjunction, disjunction, implication, equivalence, rewriting, exists, forall, ceil, floor, equals, membership, no_patterns, next_pattern}
-use Rattle.kp_json.specs.Members.{object_of}
 use Rattle.kp_json.specs.Written.{sort_tree, sort_trees, one_part, one_list, first_and_rest, two_parts, pattern_tree, pattern_trees, wrapped, wrapped_pattern}
-use Rattle.kp_semantics.specs.Replies.{Reason, stuck, depth_bound, aborted_by_rule}
-use Rattle.kp_rpc.specs.Request.{RequestId, id_text, id_number, id_null, id_tree}
-use Rattle.kp_rpc.specs.Reply.{ExecuteResult, ImpliesResult, not_valid, valid, valid_object, term_state, state_tree, result_object, result_tree, implied_tree, result_reply}
-use Rattle.kp_rpc.specs.Replied.{IsReadId}
+use Rattle.kp_rpc.specs.Request.{RequestId, IsReadId, id_text, id_number, id_null, id_tree}
+use Rattle.kp_rpc.specs.Reply.{result_reply}
 
 -- ---- any tree
 
@@ -139,7 +136,7 @@ pub plain_back : (x : Option Data) (d : Data) → IsBack x → x ≡ Some d → 
 plain_back None d h e = absurd (cc e)
 plain_back (Some t) d h e = let same : t ≡ d = cc e in subst Back same h
 
--- ---- results
+-- ---- replies
 
 pub id_back : (id : RequestId) → IsReadId id → Back (id_tree id)
 id_back (id_text t) h = record { numbers = tt; is = refl }
@@ -151,34 +148,3 @@ id_back id_null h = record { numbers = tt; is = refl }
 
 pub reply_back : (id : RequestId) (result : Data) → IsReadId id → Back result → Back (result_reply id result)
 reply_back id result lawful h = let i = id_back id lawful in record { numbers = (i.numbers, (tt, (h.numbers, tt))); is = rw (i.is, h.is) refl }
-
-pub object_back : (steps : ℕ) (reason : Reason) (state : Data) → steps < 2 ^ 64 → Back state → Back (result_object steps reason state)
-object_back steps stuck state fits h = let n = number_back steps fits in record { numbers = (n.numbers, (tt, (h.numbers, tt))); is = rw (n.is, h.is) refl }
-object_back steps depth_bound state fits h = let n = number_back steps fits in record { numbers = (n.numbers, (tt, (h.numbers, tt))); is = rw (n.is, h.is) refl }
-object_back steps (aborted_by_rule id) state fits h = let n = number_back steps fits in record { numbers = (n.numbers, (tt, (tt, (h.numbers, tt)))); is = rw (n.is, h.is) refl }
-
-term_back : (d : Data) → Back d → Back (term_state d)
-term_back d h = record { numbers = (h.numbers, tt); is = rw h.is refl }
-
-both_back : (x y : Option Data) → IsBack x → IsBack y → IsBack (option_and_then (λ t. option_map (λ k. object_of ((codes "predicate", k) ∷ (codes "term", t) ∷ [])) x) y)
-both_back x None h k = tt
-both_back None (Some d) h k = tt
-both_back (Some p) (Some d) h k = record { numbers = (h.numbers, (k.numbers, tt)); is = rw (h.is, k.is) refl }
-
-pub state_back : (term : KorePattern) (predicate : Option KorePattern) → IsBack (state_tree (record { term = term; predicate = predicate }))
-state_back term None = one_back term_state (wrapped_pattern term) term_back (wrapped_back term)
-state_back term (Some p) = both_back (wrapped_pattern p) (wrapped_pattern term) (wrapped_back p) (wrapped_back term)
-
-pub executed_read : (id : RequestId) (x : ExecuteResult) (result : Data) → IsReadId id → x.depth < 2 ^ 64 → result_tree x ≡ Some result → depth (result_reply id result) ≤ max_depth
-    → read (compact_text (result_reply id result)) ≡ Some (result_reply id result)
-executed_read id x result lawful fits e shallow =
-    let made : IsBack (result_tree x) = one_back (result_object x.depth x.reason) (state_tree x.state) (λ d h. object_back x.depth x.reason d fits h) (state_back x.state.term x.state.predicate) in
-    read_compact (result_reply id result) (reply_back id result lawful (plain_back (result_tree x) result made e)) shallow
-
-pub implied_back : (x : ImpliesResult) → IsBack (implied_tree x)
-implied_back not_valid = record { numbers = (tt, tt); is = refl }
-implied_back (valid p q) = two_back valid_object (wrapped_pattern p) (wrapped_pattern q) (λ d e h k. record { numbers = ((h.numbers, (k.numbers, tt)), (tt, tt)); is = rw (h.is, k.is) refl }) (wrapped_back p) (wrapped_back q)
-
-pub implied_read : (id : RequestId) (x : ImpliesResult) (result : Data) → IsReadId id → implied_tree x ≡ Some result → depth (result_reply id result) ≤ max_depth
-    → read (compact_text (result_reply id result)) ≡ Some (result_reply id result)
-implied_read id x result lawful e shallow = read_compact (result_reply id result) (reply_back id result lawful (plain_back (implied_tree x) result (implied_back x) e)) shallow

@@ -12,8 +12,6 @@ use Rattle.kp_json.proofs.Complete.{one_pattern}
 use Rattle.kp_json.proofs.RoundTrip.{wrapped_written}
 use Rattle.kp_json.proofs.Sound.{pattern_sound}
 use Rattle.kp_rpc.specs.Questions.{IsReadBack}
-use Rattle.kp_rpc.specs.Replied.{IsSpelledState}
-use Rattle.kp_rpc.specs.Reply.{WrittenState, IsStatePattern}
 use Rattle.kp_rpc.proofs.PartsBack.{Only, IsOnly, AreOnly, conjunction_only}
 use Rattle.kp_rpc.proofs.TermsBack.{IsTreeOnly, object_is, read_back, each_only, none_only}
 
@@ -86,11 +84,5 @@ pair_only s p q d e h k tree made =
     λ ds. each_only fewer q no_patterns (pattern_tree q) (pattern_trees no_patterns) ds (part_only e q k) (none_only fewer) in
     both_only fewer s p q (pattern_trees (two p q)) tree (λ ds. each_only fewer p (next_pattern q no_patterns) (pattern_tree p) (pattern_trees (next_pattern q no_patterns)) ds (part_only d p h) second) made
 
--- ---- states
-
-state_pattern_back : (term : KorePattern) (predicate : Option KorePattern) (p : KorePattern) → IsSpelledState term predicate → IsStatePattern (record { term = term; predicate = predicate }) p → IsReadBack p
-state_pattern_back term None p (d, h) is = subst IsReadBack (sym is) (spelled_back d term h)
-state_pattern_back term (Some q) p ((d, h), (e, k)) (s, is) = subst IsReadBack (sym is) (read_back (conjunction s (two term q)) (pair_only s term q d e h k))
-
-pub state_read_back : (s : WrittenState) (p : KorePattern) → IsSpelledState s.term s.predicate → IsStatePattern s p → IsReadBack p
-state_read_back s p h is = state_pattern_back s.term s.predicate p h is
+pub pair_back : (s : KoreSort) (p q : KorePattern) (d e : Data) → SpellsWrapped d p → SpellsWrapped e q → IsReadBack (conjunction s (two p q))
+pair_back s p q d e h k = read_back (conjunction s (two p q)) (pair_only s p q d e h k)

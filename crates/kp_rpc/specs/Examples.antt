@@ -1,21 +1,13 @@
--- The request of the first example, execute of count(2), and its reply.
+-- The request of the first example, execute of count(2), and error replies.
 use Rattle.std.specs.Prelude.{ℕ, List, [], ◌∷◌, None, codes}
 use Rattle.serde_json.specs.Data.{Data, number, unsigned, string, array, object, no_items, item, Members}
 use Rattle.kp_kore.specs.Syntax.{sort_of, no_sorts, KorePattern, application, literal, no_patterns, next_pattern}
 use Rattle.kp_json.specs.Members.{members_of, object_of}
-use Rattle.kp_semantics.specs.Replies.{stuck, aborted_by_rule}
 use Rattle.kp_rpc.specs.Request.{id_number, ExecuteOptions, ExecuteRequest}
-use Rattle.kp_rpc.specs.Reply.{ExecuteResult}
 
--- count(2), done and odd(1)
+-- count(2)
 abbrev pub count_two : KorePattern
 count_two = application (codes "Lblcount") no_sorts (next_pattern (literal (sort_of (codes "SortInt") no_sorts) (codes "2")) no_patterns)
-
-abbrev pub done : KorePattern
-done = application (codes "Lbldone") no_sorts no_patterns
-
-abbrev pub odd_one : KorePattern
-odd_one = application (codes "Lblodd") no_sorts (next_pattern (literal (sort_of (codes "SortInt") no_sorts) (codes "1")) no_patterns)
 
 -- the trees of count(2)'s sort and of count(2)
 abbrev pub int_tree : Data
@@ -39,20 +31,7 @@ no_options = record { max_depth = None; module_name = None; cut_points = []; ter
 abbrev pub count_two_request : ExecuteRequest
 count_two_request = record { id = id_number (unsigned 1); state = count_two; options = no_options }
 
-abbrev pub done_result : ExecuteResult
-done_result = record { depth = 3; reason = stuck; state = record { term = done; predicate = None } }
-
--- odd(1) is where the foreign rule might apply at once
-abbrev pub odd_result : ExecuteResult
-odd_result = record { depth = 0; reason = aborted_by_rule (codes "TOYS.odd"); state = record { term = odd_one; predicate = None } }
-
--- the bytes of the replies, but for their line feed
-abbrev pub done_reply_text : List ℕ
-done_reply_text = codes "{\"id\":1,\"jsonrpc\":\"2.0\",\"result\":{\"depth\":3,\"reason\":\"stuck\",\"state\":{\"term\":{\"format\":\"KORE\",\"term\":{\"args\":[],\"name\":\"Lbldone\",\"sorts\":[],\"tag\":\"App\"},\"version\":1}}}}"
-
-abbrev pub odd_reply_text : List ℕ
-odd_reply_text = codes "{\"id\":1,\"jsonrpc\":\"2.0\",\"result\":{\"depth\":0,\"foreign-rule\":\"TOYS.odd\",\"reason\":\"aborted\",\"state\":{\"term\":{\"format\":\"KORE\",\"term\":{\"args\":[{\"sort\":{\"args\":[],\"name\":\"SortInt\",\"tag\":\"SortApp\"},\"tag\":\"DV\",\"value\":\"1\"}],\"name\":\"Lblodd\",\"sorts\":[],\"tag\":\"App\"},\"version\":1}}}}"
-
+-- the bytes of error replies, but for their line feed
 abbrev pub parse_error_text : List ℕ
 parse_error_text = codes "{\"error\":{\"code\":-32700,\"message\":\"Parse error\"},\"id\":null,\"jsonrpc\":\"2.0\"}"
 

@@ -2,12 +2,9 @@ pub mod Causes
 pub mod Examples
 pub mod Frame
 pub mod Headings
-pub mod Implications
 pub mod Outcomes
 pub mod Questions
 pub mod Readings
-pub mod Replied
-pub mod RepliesRead
 pub mod Reply
 pub mod Request
 pub mod View

@@ -7,8 +7,7 @@ use Rattle.kp_kore.specs.Syntax.{Text, KorePattern}
 use Rattle.kp_json.specs.Members.{object_of}
 use Rattle.kp_json.specs.Written.{two_parts, wrapped_pattern}
 use Rattle.kp_json.specs.Trees.{SpellsWrapped}
-use Rattle.kp_rpc.specs.Request.{RequestId, id_tree, IsIdTree, ExecuteOptions, ExecuteRequest, execute_method, ImpliesRequest, implies_method}
-use Rattle.kp_rpc.specs.Replied.{IsReadId}
+use Rattle.kp_rpc.specs.Request.{RequestId, IsReadId, id_tree, IsIdTree, ExecuteOptions, ExecuteRequest, execute_method, ImpliesRequest, implies_method}
 
 pub data Question : Type 0 where
   to_execute : ExecuteRequest → Question

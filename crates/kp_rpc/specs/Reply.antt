@@ -1,73 +1,13 @@
--- Replies as JSON trees, and their bytes.
+-- Replies as JSON trees, and their bytes: errors, and what a result stands in.
 -- Source: JSON-RPC 2.0 (response objects, error codes); the K Haskell backend's JSON-RPC documentation (execute
 -- and implies, their codes and data).
-use Rattle.std.specs.Prelude.{◌≡◌, ℕ, negsuc, true, false, List, [], ◌∷◌, ◌++◌, Option, Some, None, codes}
-use Rattle.std.specs.Option.{option_map, option_and_then}
-use Rattle.serde_json.specs.Data.{Data, Num, unsigned, negative, boolean, number, string}
+use Rattle.std.specs.Prelude.{ℕ, negsuc, List, [], ◌∷◌, ◌++◌, Option, Some, None, codes}
+use Rattle.serde_json.specs.Data.{Data, Num, unsigned, negative, number, string}
 use Rattle.serde_json.specs.Written.{compact_text}
-use Rattle.kp_kore.specs.Syntax.{Text, KoreSort, KorePattern, conjunction, no_patterns, next_pattern}
+use Rattle.kp_kore.specs.Syntax.{Text}
 use Rattle.kp_json.specs.Members.{object_of}
 use Rattle.kp_json.specs.Faults.{TreeFault, unknown_tag, missing_member, wrong_kind, wrong_format, nested_too_deep}
-use Rattle.kp_json.specs.Written.{two_parts, wrapped_pattern}
-use Rattle.kp_semantics.specs.Replies.{Reason, stuck, depth_bound, aborted_by_rule, IsRightExecuted}
-use Rattle.kp_semantics.specs.Theory.{Theory}
-use Rattle.kp_rpc.specs.Request.{RequestId, id_tree, ExecuteRequest, bound_of}
-
--- ---- results of execute
-
-abbrev pub reason_text : Reason → Text
-reason_text stuck = codes "stuck"
-reason_text depth_bound = codes "depth-bound"
-reason_text (aborted_by_rule id) = codes "aborted"
-
--- a state: its term, and its predicate where there is one
-pub record WrittenState : Type 0 where
-  pub term : KorePattern
-  pub predicate : Option KorePattern
-
--- {"term":K}
-abbrev pub term_state : Data → Data
-term_state term = object_of ((codes "term", term) ∷ [])
-
--- {"term":K} and {"predicate":K,"term":K}
-abbrev pub state_tree : WrittenState → Option Data
-state_tree s = with_predicate s.predicate (wrapped_pattern s.term)
-  where
-    with_predicate : Option KorePattern → Option Data → Option Data
-    with_predicate None term = option_map term_state term
-    with_predicate (Some p) term = option_and_then (λ t. option_map (λ k. object_of ((codes "predicate", k) ∷ (codes "term", t) ∷ [])) (wrapped_pattern p)) term
-
-pub record ExecuteResult : Type 0 where
-  pub depth : ℕ
-  pub reason : Reason
-  pub state : WrittenState
-
--- {"depth":d,"reason":r,"state":S}, and of an aborted run {"depth":d,"foreign-rule":id,"reason":"aborted","state":S}
-abbrev pub result_object : ℕ → Reason → Data → Data
-result_object depth (aborted_by_rule id) state = object_of ((codes "depth", number (unsigned depth)) ∷ (codes "foreign-rule", string id) ∷ (codes "reason", string (codes "aborted")) ∷ (codes "state", state) ∷ [])
-result_object depth reason state = object_of ((codes "depth", number (unsigned depth)) ∷ (codes "reason", string (reason_text reason)) ∷ (codes "state", state) ∷ [])
-
-abbrev pub result_tree : ExecuteResult → Option Data
-result_tree r = option_map (result_object r.depth r.reason) (state_tree r.state)
-
--- ---- results of implies
-
--- whether the antecedent implies the consequent, and the predicate and the substitution under which it does
-pub data ImpliesResult : Type 0 where
-  not_valid : ImpliesResult
-  valid : KorePattern → KorePattern → ImpliesResult
-
--- {"valid":false}
-abbrev pub not_valid_object : Data
-not_valid_object = object_of ((codes "valid", boolean false) ∷ [])
-
--- {"condition":{"predicate":K,"substitution":K},"valid":true}
-abbrev pub valid_object : Data → Data → Data
-valid_object predicate substitution = object_of ((codes "condition", object_of ((codes "predicate", predicate) ∷ (codes "substitution", substitution) ∷ [])) ∷ (codes "valid", boolean true) ∷ [])
-
-abbrev pub implied_tree : ImpliesResult → Option Data
-implied_tree not_valid = Some not_valid_object
-implied_tree (valid predicate substitution) = two_parts valid_object (wrapped_pattern predicate) (wrapped_pattern substitution)
+use Rattle.kp_rpc.specs.Request.{RequestId, id_tree}
 
 -- ---- errors
 
@@ -152,23 +92,3 @@ error_reply id e = object_of ((codes "error", error_tree e) ∷ (codes "id", id_
 -- the compact text with sorted keys, and one line feed
 abbrev pub reply_bytes : Data → List ℕ
 reply_bytes d = compact_text d ++ 10 ∷ []
-
--- ---- right results
-
--- the pattern of a state: its term, or the conjunction of term and predicate
-abbrev pub IsStatePattern : WrittenState → KorePattern → Type 0
-IsStatePattern s p = of_predicate s.predicate
-  where
-    of_predicate : Option KorePattern → Type 0
-    of_predicate None = p ≡ s.term
-    of_predicate (Some q) = (sort : KoreSort) × (p ≡ conjunction sort (next_pattern s.term (next_pattern q no_patterns)))
-
--- the tree is a reply with a result that is right for the theory and the request
-pub record IsRightReply (t : Theory) (request : ExecuteRequest) (reply : Data) : Type 0 where
-  pub result : ExecuteResult
-  pub tree : Data
-  pub written : result_tree result ≡ Some tree
-  pub reply_is : reply ≡ result_reply request.id tree
-  pub state : KorePattern
-  pub state_is : IsStatePattern result.state state
-  pub right : IsRightExecuted t (request.options.cut_points ++ request.options.terminals) (bound_of request.options) request.state (record { depth = result.depth; reason = result.reason; state = state })

@@ -1,7 +1,7 @@
 -- Requests as JSON trees.
 -- Source: JSON-RPC 2.0 (request objects); the K Haskell backend's JSON-RPC documentation (execute, implies).
-use Rattle.std.specs.Prelude.{◌≡◌, ◌⊎◌, ℕ, min, List, [], ◌∷◌, Option, Some, None, codes}
-use Rattle.serde_json.specs.Data.{Data, Num, unsigned, negative, null, number, string, array, object, Items, no_items, item, Members}
+use Rattle.std.specs.Prelude.{◌≡◌, ◌<◌, ◌^◌, ◌⊎◌, ℕ, pos, negsuc, min, List, [], ◌∷◌, Option, Some, None, codes}
+use Rattle.serde_json.specs.Data.{Data, Num, unsigned, negative, float, null, number, string, array, object, Items, no_items, item, Members}
 use Rattle.kp_kore.specs.Syntax.{Text, KorePattern}
 use Rattle.kp_json.specs.Members.{Has, HasText, Lacks}
 use Rattle.kp_json.specs.Trees.{SpellsWrapped}
@@ -27,6 +27,15 @@ IsIdTree (number (negative z)) id = id ≡ id_number (negative z)
 IsIdTree null id = id ≡ id_null
 IsIdTree _ id = ⊥
 
+-- an id that a reader of JSON can have read: its number is one of 64 bits
+abbrev pub IsReadId : RequestId → Type 0
+IsReadId (id_text t) = Unit {0}
+IsReadId (id_number (unsigned n)) = n < 2 ^ 64
+IsReadId (id_number (negative (pos n))) = ⊥
+IsReadId (id_number (negative (negsuc n))) = n < 2 ^ 63
+IsReadId (id_number (float x)) = ⊥
+IsReadId id_null = Unit {0}
+
 abbrev pub HasId : Members → RequestId → Type 0
 HasId o id = (d : Data) × Has o (codes "id") d × IsIdTree d id
 
@@ -44,16 +53,16 @@ pub record IsRequest (o : Members) (id : RequestId) (method : Text) : Type 0 whe
 -- ---- params of execute
 
 -- a member that is absent or null
-abbrev pub IsAbsent : Members → Text → Type 0
-IsAbsent o key = Lacks o key ⊎ Has o key null
+abbrev pub IsUnset : Members → Text → Type 0
+IsUnset o key = Lacks o key ⊎ Has o key null
 
 -- an optional whole number, text, list of texts
 abbrev pub NumberAt : Members → Text → Option ℕ → Type 0
-NumberAt o key None = IsAbsent o key
+NumberAt o key None = IsUnset o key
 NumberAt o key (Some n) = Has o key (number (unsigned n))
 
 abbrev pub TextAt : Members → Text → Option Text → Type 0
-TextAt o key None = IsAbsent o key
+TextAt o key None = IsUnset o key
 TextAt o key (Some t) = HasText o key t
 
 -- the texts of an array of texts
@@ -63,7 +72,7 @@ AreTexts (item (string t) ds) (u ∷ ts) = (u ≡ t) × AreTexts ds ts
 AreTexts (item _ ds) ts = ⊥
 
 abbrev pub TextsAt : Members → Text → List Text → Type 0
-TextsAt o key ts = (IsAbsent o key × (ts ≡ [])) ⊎ ((ds : Items) × Has o key (array ds) × AreTexts ds ts)
+TextsAt o key ts = (IsUnset o key × (ts ≡ [])) ⊎ ((ds : Items) × Has o key (array ds) × AreTexts ds ts)
 
 -- the members of execute's params, but for the state's kind
 pub record ExecuteOptions : Type 0 where

@@ -7,26 +7,15 @@ use Rattle.kp_kore.specs.Syntax.{Text}
 use Rattle.kp_kore.specs.View.{view}
 use Rattle.kp_rpc.specs.Request.{RequestId, id_text, id_number, id_null, ExecuteOptions}
 use Rattle.kp_json.specs.View.{fault_view}
-use Rattle.kp_semantics.specs.Replies as replies
-use Rattle.kp_rpc.specs.Reply.{ExecuteResult, ImpliesResult, not_valid, valid, RequestError, parse_error, invalid_request, method_not_found, invalid_params, no_module, no_pattern, not_verified, VerifyFault, unknown_sort, unknown_symbol, other_number, sorts_differ, wide_number, deep_term, no_literal, foreign_symbol, other_shape}
+use Rattle.kp_rpc.specs.Reply.{RequestError, parse_error, invalid_request, method_not_found, invalid_params, no_module, no_pattern, not_verified, VerifyFault, unknown_sort, unknown_symbol, other_number, sorts_differ, wide_number, deep_term, no_literal, foreign_symbol, other_shape}
 use Rattle.kp_rpc.specs.declared.fault.PatternFault.{PatternFault}
 use Rattle.kp_rpc.specs.declared.fault.PatternFault.TheVariants as pattern
 use Rattle.kp_rpc.specs.declared.fault.StateFault.{StateFault}
 use Rattle.kp_rpc.specs.declared.fault.StateFault.TheVariants as state
 use Rattle.kp_rpc.specs.declared.id.Id.{Id}
 use Rattle.kp_rpc.specs.declared.id.Id.TheVariants as id
-use Rattle.kp_rpc.specs.declared.implied.Implied.{Implied}
-use Rattle.kp_rpc.specs.declared.implied.Implied.TheVariants as implied
 use Rattle.kp_rpc.specs.declared.params.Options.{Options}
-use Rattle.kp_rpc.specs.declared.executed.Reason.{Reason}
-use Rattle.kp_rpc.specs.declared.executed.Reason.TheVariants as reason
 use Rattle.kp_rpc.specs.Questions as questions
-use Rattle.kp_rpc.specs.Replied as replied
-use Rattle.kp_rpc.specs.declared.replied.Method.{Method}
-use Rattle.kp_rpc.specs.declared.replied.Method.TheVariants as method
-use Rattle.kp_rpc.specs.declared.replied.Run.{Run}
-use Rattle.kp_rpc.specs.declared.replied.ServerReply.{ServerReply}
-use Rattle.kp_rpc.specs.declared.replied.ServerReply.TheVariants as reply
 use Rattle.kp_rpc.specs.declared.question.Question.{Question}
 use Rattle.kp_rpc.specs.declared.question.Question.TheVariants as question
 use Rattle.kp_rpc.specs.declared.request.Refusal.{Refusal}
@@ -71,27 +60,6 @@ state_fault_view (state.Json f) = no_pattern (fault_view f)
 state_fault_view (state.Verify f) = not_verified (pattern_fault_view f)
 state_fault_view (state.NoModule name) = no_module (string_bytes name)
 
-abbrev pub reason_view : Reason → replies.Reason
-reason_view reason.Stuck = replies.stuck
-reason_view reason.DepthBound = replies.depth_bound
-reason_view (reason.AbortedByRule id) = replies.aborted_by_rule (string_bytes id)
-
-abbrev pub implied_view : Implied → ImpliesResult
-implied_view implied.NotValid = not_valid
-implied_view (implied.Valid predicate substitution) = valid (view predicate) (view substitution)
-
 abbrev pub question_view : Question → questions.Question
 question_view (question.Execute i state options) = questions.to_execute (record { id = id_view i; state = view state; options = options_view options })
 question_view (question.Implies i antecedent consequent name) = questions.to_imply (record { id = id_view i; antecedent = view antecedent; consequent = view consequent; module_name = name_view name })
-
-abbrev pub run_view : Run → ExecuteResult
-run_view r = record { depth = r.depth; reason = reason_view r.reason; state = record { term = view r.term; predicate = option_map view r.predicate } }
-
-abbrev pub method_view : Method → replied.Method
-method_view method.Execute = replied.execute
-method_view method.Implies = replied.implies
-
-abbrev pub reply_view : ServerReply → replied.ServerReply
-reply_view (reply.Executed r) = replied.executed (run_view r)
-reply_view (reply.Implied r) = replied.implied (implied_view r)
-reply_view (reply.Failed code) = replied.failed code

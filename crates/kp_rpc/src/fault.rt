@@ -47,14 +47,14 @@ pub enum StateFault {
 }
 
 /// The data of a fault that has a kind alone.
-fn kind_value(alloc: Global, kind: &str) -> Result<Value, AllocError>
+pub fn kind_value(alloc: Global, kind: &str) -> Result<Value, AllocError>
     ensures { IfOk result (λ v. view v ≡ kind_only kind.now) }
 {
     json!(in alloc; {"kind": kind})
 }
 
 /// The data of a fault that has a kind and a name.
-fn named_value(alloc: Global, kind: &str, name: &str) -> Result<Value, AllocError>
+pub fn named_value(alloc: Global, kind: &str, name: &str) -> Result<Value, AllocError>
     ensures { IfOk result (λ v. view v ≡ kind_and_name kind.now name.now) }
 {
     json!(in alloc; {"kind": kind, "name": name})

@@ -1,5 +1,5 @@
 -- Where a rule fires, from its match, its tests and its condition.
-use Rattle.std.proofs.Common.{◌≡◌, refl, sym, subst, ◌∙◌, ℕ, ◌+◌, ◌<◌, Bool, true, false, not, ◌||◌, ◌↔◌, List, [], ◌∷◌, length, get_or, drop, string_bytes}
+use Rattle.std.proofs.Common.{◌≡◌, refl, sym, subst, ◌∙◌, ℕ, ◌+◌, ◌<◌, Bool, true, false, not, ◌↔◌, List, [], ◌∷◌, length, get_or, drop, string_bytes}
 use Rattle.std.specs.Prelude.{⊤, Option, Some, None, Ok, Err, Vec, MatchOption}
 use Rattle.std.specs.declared.alloc.Global.{Global}
 use Rattle.std.specs.List.{AllByRecursion}

@@ -120,12 +120,12 @@ pub record IsFaulty (g : KoreSignature) (a : Statement) : Type 0 where
 
 -- the code's rule is the theory's; a foreign rule's priority is kept up to the greatest that a rule may have
 pub record IsCodeOf (g : KoreSignature) (m : model.RewriteRule) (r : Rule) : Type 0 where
-  pub id : string_bytes r.id ≡ m.id
-  pub is_body : IsBodyOf g m.body r.body
-  pub is_priority : (w : code.Rewrite) → r.body ≡ Rewrite w → m.priority ≡ r.priority
-  pub is_foreign_priority : (k : Skeleton) → r.body ≡ Foreign k → min m.priority model.most_priority ≡ r.priority
+  pub id : string_bytes r.id.value ≡ m.id
+  pub is_body : IsBodyOf g m.body r.body.value
+  pub is_priority : (w : code.Rewrite) → r.body.value ≡ Rewrite w → m.priority ≡ r.priority
+  pub is_foreign_priority : (k : Skeleton) → r.body.value ≡ Foreign k → min m.priority model.most_priority ≡ r.priority
 
 -- the code's rule set is the theory, rule by rule
 pub record RunsAs (t : Theory) (rules : RuleSet) : Type 0 where
-  pub signature : signature_view rules.signature ≡ t.signature
+  pub signature : signature_view rules.signature.value ≡ t.signature
   pub each : AllZip (IsCodeOf t.signature) t.rules rules.rules.items

@@ -1,14 +1,29 @@
 use crate::skeleton::Skeleton;
 use kp_ground::{Condition, Left, Term};
-use kp_kore::{Pattern, Sort, SortedVariable};
+use kp_kore::{Name, Pattern, Sort, SortedVariable};
 use kp_signature::Signature;
+use std::sync::Arc;
 
-/// A rule of a rule set. A smaller priority number goes first.
+/// A rule of a rule set. A smaller priority number goes first. Rule sets share all but the priority.
 #[derive(Drop)]
 pub struct Rule {
-    pub id: String,
+    pub id: Arc<String>,
     pub priority: u32,
-    pub body: RuleBody,
+    pub body: Arc<RuleBody>,
+    pub source: Arc<RuleSource>,
+}
+
+/// Where a rule stands, and what it may be called.
+#[derive(Drop)]
+pub struct RuleSource {
+    /// The name of its module, or the id of a module that was added.
+    pub module: Name,
+    /// Its number among the module's axioms, from 1.
+    pub number: usize,
+    /// Its label, where its axiom has one.
+    pub label: Option<Arc<String>>,
+    /// `MODULE#NUMBER`.
+    pub numbered: Arc<String>,
 }
 
 /// What a rewrite axiom says, where all of it has a meaning; else what its left side may stand for.
@@ -53,6 +68,6 @@ pub struct SortTest {
 /// The rules of a definition in the order of its modules, and its signature.
 #[derive(Drop)]
 pub struct RuleSet {
-    pub signature: Signature,
+    pub signature: Arc<Signature>,
     pub rules: Vec<Rule>,
 }

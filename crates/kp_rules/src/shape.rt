@@ -68,7 +68,7 @@ fn add_all_conjuncts<'a>(
 }
 
 /// The members of a conjunction, in any nesting.
-fn conjuncts<'a>(alloc: Global, pattern: &'a Pattern) -> Result<Vec<&'a Pattern>, AllocError>
+pub fn conjuncts<'a>(alloc: Global, pattern: &'a Pattern) -> Result<Vec<&'a Pattern>, AllocError>
     ensures { IfOk result (λ ps. seen ps.items ≡ conjuncts_of (view pattern.now)) }
 {
     let mut found = Vec::new(alloc);
@@ -77,7 +77,10 @@ fn conjuncts<'a>(alloc: Global, pattern: &'a Pattern) -> Result<Vec<&'a Pattern>
 }
 
 /// The terms among the patterns.
-fn terms_among<'a>(alloc: Global, patterns: &[&'a Pattern]) -> Result<Vec<&'a Pattern>, AllocError>
+pub fn terms_among<'a>(
+    alloc: Global,
+    patterns: &[&'a Pattern],
+) -> Result<Vec<&'a Pattern>, AllocError>
     ensures { IfOk result (λ ps. seen ps.items ≡ filter term_test (seen patterns.now)) }
 {
     let mut found = Vec::new(alloc);
@@ -115,7 +118,7 @@ fn are_predicates(patterns: &[&Pattern]) -> bool
 }
 
 /// The one member of a list.
-fn only<'a>(terms: &[&'a Pattern]) -> Option<&'a Pattern>
+pub fn only<'a>(terms: &[&'a Pattern]) -> Option<&'a Pattern>
     ensures { option_map (λ p. view p.now) result ≡ only_one (seen terms.now) }
 {
     if terms.len() == 1 {

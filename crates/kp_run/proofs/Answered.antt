@@ -41,17 +41,17 @@ wide_back g u (model.foreign_rule l) (Foreign k) s is h = absurd h
 wide_back g u (model.rewrite w) (Foreign k) s is h = absurd is
 wide_back g u (model.foreign_rule l) (Rewrite r) s is h = absurd is
 
-none_wide : (t : Theory) (rules : RuleSet) (u : Value) → RunsAs t rules → IsSorted t.signature u → AllByRecursion (λ r. ¬ BodyIsWide (signature_view rules.signature) u r.body) rules.rules.items →
+none_wide : (t : Theory) (rules : RuleSet) (u : Value) → RunsAs t rules → IsSorted t.signature u → AllByRecursion (λ r. ¬ BodyIsWide (signature_view rules.signature.value) u r.body.value) rules.rules.items →
     AnyByRecursion (λ m. HasWideCondition t.signature u m.body) t.rules → ⊥
 none_wide t rules u runs s narrow some =
     let g = t.signature in
-    none_in (λ r. ¬ BodyIsWide g u r.body) (λ r. BodyIsWide g u r.body) (λ r isnt is. isnt is) rules.rules.items
-    (subst (λ g. AllByRecursion (λ r. ¬ BodyIsWide g u r.body) rules.rules.items) runs.signature narrow)
-    (zip_any_back (IsCodeOf g) (λ r. BodyIsWide g u r.body) (λ m. HasWideCondition g u m.body) (λ m r is h. wide_back g u m.body r.body s is.is_body h) t.rules rules.rules.items runs.each some)
+    none_in (λ r. ¬ BodyIsWide g u r.body.value) (λ r. BodyIsWide g u r.body.value) (λ r isnt is. isnt is) rules.rules.items
+    (subst (λ g. AllByRecursion (λ r. ¬ BodyIsWide g u r.body.value) rules.rules.items) runs.signature narrow)
+    (zip_any_back (IsCodeOf g) (λ r. BodyIsWide g u r.body.value) (λ m. HasWideCondition g u m.body) (λ m r is h. wide_back g u m.body r.body.value s is.is_body h) t.rules rules.rules.items runs.each some)
 
 -- where none fires
 pub stuck_without : (t : Theory) (rules : RuleSet) (s : State) → RunsAs t rules → IsSorted t.signature (value_view s.value) →
-    AllByRecursion (λ r. ¬ BodyIsWide (signature_view rules.signature) (value_view s.value) r.body) rules.rules.items → IsStuck t (value_view s.value) → IsNotStepped t (written_of s) → ⊥
+    AllByRecursion (λ r. ¬ BodyIsWide (signature_view rules.signature.value) (value_view s.value) r.body.value) rules.rules.items → IsStuck t (value_view s.value) → IsNotStepped t (written_of s) → ⊥
 stuck_without t rules s runs sorted narrow stuck (wide_condition some) = none_wide t rules (value_view s.value) runs sorted narrow some
 stuck_without t rules s runs sorted narrow stuck (several two) =
     no_two (λ m. ¬ Fires t.signature m.body (value_view s.value)) (λ m. HasTurn t m (value_view s.value)) (λ m isnt h. isnt h.fires) t.rules stuck.0 two
@@ -124,7 +124,7 @@ pub record IsStepOf (g : KoreSignature) (s next : State) (f : Firing) : Type 0 w
   pub written : IsWrittenAt g (sort_view f.rewrite.now.right_sort) (sort_view s.sort) (sort_view next.sort)
 
 there_without : (t : Theory) (rules : RuleSet) (s next : State) (f : Firing) → RunsAs t rules → IsSorted t.signature (value_view s.value) →
-    AllByRecursion (λ r. ¬ BodyIsWide (signature_view rules.signature) (value_view s.value) r.body) rules.rules.items → IsOneOf t (value_view s.value) f →
+    AllByRecursion (λ r. ¬ BodyIsWide (signature_view rules.signature.value) (value_view s.value) r.body.value) rules.rules.items → IsOneOf t (value_view s.value) f →
     IsStepOf t.signature s next f → IsNotStepped t (written_of s) → ⊥
 there_without t rules s next f runs sorted narrow one step (wide_condition some) = none_wide t rules (value_view s.value) runs sorted narrow some
 there_without t rules s next f runs sorted narrow one step (several two) =
@@ -150,7 +150,7 @@ there_without t rules s next f runs sorted narrow one step (deep some) =
     (λ m later d. no_step_after t u f m d.next sorted one later d.steps) some
 
 pub goes_without : (t : Theory) (rules : RuleSet) (s next : State) (f : Firing) → RunsAs t rules → IsSorted t.signature (value_view s.value) →
-    AllByRecursion (λ r. ¬ BodyIsWide (signature_view rules.signature) (value_view s.value) r.body) rules.rules.items → IsOneOf t (value_view s.value) f →
-    IsStepOf (signature_view rules.signature) s next f → IsNotStepped t (written_of s) → ⊥
+    AllByRecursion (λ r. ¬ BodyIsWide (signature_view rules.signature.value) (value_view s.value) r.body.value) rules.rules.items → IsOneOf t (value_view s.value) f →
+    IsStepOf (signature_view rules.signature.value) s next f → IsNotStepped t (written_of s) → ⊥
 goes_without t rules s next f runs sorted narrow one step =
     there_without t rules s next f runs sorted narrow one (subst (λ g. IsStepOf g s next f) runs.signature step)

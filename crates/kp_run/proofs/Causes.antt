@@ -45,23 +45,23 @@ wide_meant g u (model.rewrite w) (Foreign k) s is h = absurd is
 wide_meant g u (model.foreign_rule l) (Rewrite r) s is h = absurd is
 
 pub wide_stops : (t : Theory) (rules : RuleSet) (s : State) → RunsAs t rules → IsSorted t.signature (value_view s.value) →
-    AnyByRecursion (λ r. BodyIsWide (signature_view rules.signature) (value_view s.value) r.body) rules.rules.items → IsNotStepped t (written_of s)
+    AnyByRecursion (λ r. BodyIsWide (signature_view rules.signature.value) (value_view s.value) r.body.value) rules.rules.items → IsNotStepped t (written_of s)
 wide_stops t rules s runs sorted h =
     let g = t.signature in
     let u = value_view s.value in
-    wide_condition (zip_any (IsCodeOf g) (λ r. BodyIsWide g u r.body) (λ m. HasWideCondition g u m.body)
-    (λ m r is k. wide_meant g u m.body r.body sorted is.is_body k) t.rules rules.rules.items runs.each
-    (subst (λ g. AnyByRecursion (λ r. BodyIsWide g u r.body) rules.rules.items) runs.signature h))
+    wide_condition (zip_any (IsCodeOf g) (λ r. BodyIsWide g u r.body.value) (λ m. HasWideCondition g u m.body)
+    (λ m r is k. wide_meant g u m.body r.body.value sorted is.is_body k) t.rules rules.rules.items runs.each
+    (subst (λ g. AnyByRecursion (λ r. BodyIsWide g u r.body.value) rules.rules.items) runs.signature h))
 
 -- two rules
 none_smaller : (t : Theory) (rules : RuleSet) (u : Value) (n : ℕ) → RunsAs t rules → IsSorted t.signature u →
-    AllByRecursion (λ r. BodyFires t.signature u r.body → n ≤ r.priority) rules.rules.items → NoneBefore t n u
+    AllByRecursion (λ r. BodyFires t.signature u r.body.value → n ≤ r.priority) rules.rules.items → NoneBefore t n u
 none_smaller t rules u n runs s none =
     let g = t.signature in
-    zip_all (IsCodeOf g) (λ r. BodyFires g u r.body → n ≤ r.priority) (λ m. m.priority < n → ¬ Fires g m.body u)
+    zip_all (IsCodeOf g) (λ r. BodyFires g u r.body.value → n ≤ r.priority) (λ m. m.priority < n → ¬ Fires g m.body u)
     (λ m r is no lt f.
-    let b : BodyFires g u r.body = (same_firing g m.body r.body u s is.is_body).1 f in
-    let e = only_rewrites_fire g u r.body b in
+    let b : BodyFires g u r.body.value = (same_firing g m.body r.body.value u s is.is_body).1 f in
+    let e = only_rewrites_fire g u r.body.value b in
     let same : m.priority ≡ r.priority = is.is_priority e.0 e.1 in
     let le : n ≤ r.priority = no b in
     absurd (omega arith)) t.rules rules.rules.items runs.each none
@@ -69,12 +69,12 @@ none_smaller t rules u n runs s none =
 turn_at : (t : Theory) (u : Value) (n : ℕ) (m : model.RewriteRule) (r : Rule) → IsSorted t.signature u → NoneBefore t n u → IsCodeOf t.signature m r → FiresAt t.signature u n r → HasTurn t m u
 turn_at t u n m r s none is h =
     let g = t.signature in
-    let e = only_rewrites_fire g u r.body h.0 in
+    let e = only_rewrites_fire g u r.body.value h.0 in
     let same : m.priority ≡ n = is.is_priority e.0 e.1 ∙ h.1 in
-    record { fires = (same_firing g m.body r.body u s is.is_body).0 h.0; none_before = subst (λ k. NoneBefore t k u) (sym same) none }
+    record { fires = (same_firing g m.body r.body.value u s is.is_body).0 h.0; none_before = subst (λ k. NoneBefore t k u) (sym same) none }
 
 pub several_stop : (t : Theory) (rules : RuleSet) (s : State) (n : ℕ) → RunsAs t rules → IsSorted t.signature (value_view s.value) →
-    IsTurn (signature_view rules.signature) (value_view s.value) rules.rules.items (Several n) → IsNotStepped t (written_of s)
+    IsTurn (signature_view rules.signature.value) (value_view s.value) rules.rules.items (Several n) → IsNotStepped t (written_of s)
 several_stop t rules s n runs sorted turn =
     let g = t.signature in
     let u = value_view s.value in
@@ -139,20 +139,20 @@ not_followed_there t s f sorted known one (turns.deep d) =
 
 -- one rule fires before all others, as the code found
 pub one_here : (t : Theory) (rules : RuleSet) (u : Value) (f : Firing) → RunsAs t rules → IsSorted t.signature u →
-    OneAmong (IsFiring (signature_view rules.signature) u f) (GoesAfter (signature_view rules.signature) u f.priority) rules.rules.items → IsOneOf t u f
+    OneAmong (IsFiring (signature_view rules.signature.value) u f) (GoesAfter (signature_view rules.signature.value) u f.priority) rules.rules.items → IsOneOf t u f
 one_here t rules u f runs sorted one =
     one_of t rules u f runs sorted (subst (λ g. OneAmong (IsFiring g u f) (GoesAfter g u f.priority) rules.rules.items) runs.signature one)
 
 pub not_followed_stops : (t : Theory) (rules : RuleSet) (s : State) (f : Firing) → RunsAs t rules → IsSorted t.signature (value_view s.value) → ¬ IsUnknown t (value_view s.value) →
-    OneAmong (IsFiring (signature_view rules.signature) (value_view s.value) f) (GoesAfter (signature_view rules.signature) (value_view s.value) f.priority) rules.rules.items →
-    NotFollowed (signature_view rules.signature) f (sort_view s.sort) → IsNotStepped t (written_of s)
+    OneAmong (IsFiring (signature_view rules.signature.value) (value_view s.value) f) (GoesAfter (signature_view rules.signature.value) (value_view s.value) f.priority) rules.rules.items →
+    NotFollowed (signature_view rules.signature.value) f (sort_view s.sort) → IsNotStepped t (written_of s)
 not_followed_stops t rules s f runs sorted known one h =
     not_followed_there t s f sorted known (one_here t rules (value_view s.value) f runs sorted one)
     (subst (λ g. NotFollowed g f (sort_view s.sort)) runs.signature h)
 
 pub next_written : (t : Theory) (rules : RuleSet) (s next : State) (f : Firing) → RunsAs t rules → IsSorted t.signature (value_view s.value) →
-    OneAmong (IsFiring (signature_view rules.signature) (value_view s.value) f) (GoesAfter (signature_view rules.signature) (value_view s.value) f.priority) rules.rules.items →
-    IsWrittenAt (signature_view rules.signature) (sort_view f.rewrite.now.right_sort) (sort_view s.sort) (sort_view next.sort) →
+    OneAmong (IsFiring (signature_view rules.signature.value) (value_view s.value) f) (GoesAfter (signature_view rules.signature.value) (value_view s.value) f.priority) rules.rules.items →
+    IsWrittenAt (signature_view rules.signature.value) (sort_view f.rewrite.now.right_sort) (sort_view s.sort) (sort_view next.sort) →
     AnyByRecursion (λ m. HasTurn t m (value_view s.value) × IsWrittenBy t.signature m.body (sort_view s.sort) (sort_view next.sort)) t.rules
 next_written t rules s next f runs sorted one written =
     let g = t.signature in

@@ -36,4 +36,4 @@ open_right f u Unbound m plain h _ =
 
 -- the rule of a firing is one of the rules
 pub open_among : (g : KoreSignature) (u : Value) (f : Firing) (rules : List Rule) → OneAmong (IsFiring g u f) (GoesAfter g u f.priority) rules → IsOpen (Rewrite f.rewrite.now) → SomeOpen rules
-open_among g u f rules one h = one_any (IsFiring g u f) (GoesAfter g u f.priority) (λ r. IsOpen r.body) (λ r k. subst IsOpen (sym k.body) h) rules one
+open_among g u f rules one h = one_any (IsFiring g u f) (GoesAfter g u f.priority) (λ r. IsOpen r.body.value) (λ r k. subst IsOpen (sym k.body) h) rules one

@@ -9,7 +9,10 @@ use Rattle.kp_semantics.specs.Instance.{Valuation, GivesSorts, is_named}
 use Rattle.kp_semantics.specs.Rules.{RewriteRule}
 use Rattle.kp_semantics.specs.Theory.{Theory}
 use Rattle.kp_semantics.specs.Steps.{Fires, Steps, StepsBy, StepsIn, IsFinal, HasTurn, IsUnknown, IsUnknownBy, AnyByRecursion}
-use Rattle.kp_semantics.specs.Replies.{After, IsAfter, HasInstance, MeetsSkeleton, IsRightReason, is_listed, variables_beyond, IsFreshName, IsAbsent}
+use Rattle.kp_semantics.specs.Executions.{Options, listed_in, IsRightExecuted}
+use Rattle.kp_semantics.specs.Ground.{executed_of}
+use Rattle.kp_semantics.proofs.GroundReplies.{ground_is_right}
+use Rattle.kp_semantics.specs.Replies.{IsComputed, After, IsAfter, HasInstance, MeetsSkeleton, IsRightReason, is_listed, variables_beyond, IsFreshName, IsAbsent}
 use Rattle.kp_ground.specs.View.{value_view}
 use Rattle.kp_run.specs.declared.run.Executed.{Executed}
 use Rattle.kp_run.specs.declared.run.Stop.{Stop}
@@ -128,3 +131,26 @@ run_has_reason t s' c bound e run only none = by_stop e.stop refl
               t.rules k.1.1,
         )
     by_stop DepthBound is = (run.at_bound is, λ _. has_instance t s' (value_view e.state.value) only none)
+
+-- ---- the reply
+
+within_bound : (t : Theory) (c : Value) (bound : ℕ) (e : Executed) → IsRunOf t c bound e → e.depth ≤ bound
+within_bound t c bound e run = by_stop e.stop refl
+  where
+    by_stop : (s : Stop) → e.stop ≡ s → e.depth ≤ bound
+    by_stop Stuck is = let k = (run.stuck is).0 in omega arith
+    by_stop DepthBound is = let k = run.at_bound is in omega arith
+    by_stop (ForeignRule id) is = let k = (run.foreign id is).0 in omega arith
+
+-- between two states without variables, of which these are the only instances, where no rule is listed
+pub run_is_told : (t : Theory) (o : Options) (s s' : KorePattern) (c : Value) (e : Executed) → IsRunOf t c o.bound e → listed_in o ≡ [] →
+    IsOnlyInstance t s c → IsOnlyInstance t s' (value_view e.state.value) → free_variables s ≡ [] → free_variables s' ≡ [] → IsComputed t.signature s' →
+    IsRightExecuted t o s (executed_of (record { depth = e.depth; reason = reason_of e.stop; state = s' }))
+run_is_told t o s s' c e run unlisted only only' none none' computed =
+    ground_is_right t o s (record { depth = e.depth; reason = reason_of e.stop; state = s' }) none (record {
+      within_bound = within_bound t c o.bound e run;
+      after = subst (λ ids. After t ids s s' e.depth) (sym unlisted) (run_is_after t s s' c o.bound e run only only' none none');
+      reached = run_is_reached t s c o.bound e run only none;
+      computed = computed;
+      reason = run_has_reason t s' c o.bound e run only' none';
+    })

@@ -72,52 +72,52 @@ fires_first g (model.foreign_rule l) u next f = absurd f
 
 -- the first foreign rule of the code's is that of the theory
 first_there : (t : Theory) (rules : RuleSet) (u : Value) (f : Rule) → RunsAs t rules → IsSorted t.signature u →
-    IsFirstForeign t.signature u f rules.rules.items → IsFirstUnknown t u (string_bytes f.id)
+    IsFirstForeign t.signature u f rules.rules.items → IsFirstUnknown t u (string_bytes f.id.value)
 first_there t rules u f runs s first =
     let g = t.signature in (
       f.priority,
       zip_between (IsCodeOf g)
-          (λ r. (r ≡ f) × MightRewrite g u r.body) (λ r. MightRewrite g u r.body → f.priority < r.priority) (λ r. MightRewrite g u r.body → f.priority ≤ r.priority)
-          (IsUnknownAs g u (string_bytes f.id) f.priority) (λ m. IsUnknownBy g m.body u → f.priority < kept_priority m) (λ m. IsUnknownBy g m.body u → f.priority ≤ kept_priority m)
-          (λ m r is h. let k = only_foreign_might g u r.body h.1 in record {
-            named = sym is.id ∙ ap (λ x. string_bytes x.id) h.0;
+          (λ r. (r ≡ f) × MightRewrite g u r.body.value) (λ r. MightRewrite g u r.body.value → f.priority < r.priority) (λ r. MightRewrite g u r.body.value → f.priority ≤ r.priority)
+          (IsUnknownAs g u (string_bytes f.id.value) f.priority) (λ m. IsUnknownBy g m.body u → f.priority < kept_priority m) (λ m. IsUnknownBy g m.body u → f.priority ≤ kept_priority m)
+          (λ m r is h. let k = only_foreign_might g u r.body.value h.1 in record {
+            named = sym is.id ∙ ap (λ x. string_bytes x.id.value) h.0;
             numbered = is.is_foreign_priority k.0 k.1 ∙ ap (λ x. x.priority) h.0;
-            unknown = (same_unknown g m.body r.body u s is.is_body).0 h.1;
+            unknown = (same_unknown g m.body r.body.value u s is.is_body).0 h.1;
           })
-          (λ m r is h k. let might : MightRewrite g u r.body = (same_unknown g m.body r.body u s is.is_body).1 k in
-          let e = only_foreign_might g u r.body might in
+          (λ m r is h k. let might : MightRewrite g u r.body.value = (same_unknown g m.body r.body.value u s is.is_body).1 k in
+          let e = only_foreign_might g u r.body.value might in
           subst (λ n. f.priority < n) (sym (is.is_foreign_priority e.0 e.1)) (h might))
-          (λ m r is h k. let might : MightRewrite g u r.body = (same_unknown g m.body r.body u s is.is_body).1 k in
-          let e = only_foreign_might g u r.body might in
+          (λ m r is h k. let might : MightRewrite g u r.body.value = (same_unknown g m.body r.body.value u s is.is_body).1 k in
+          let e = only_foreign_might g u r.body.value might in
           subst (λ n. f.priority ≤ n) (sym (is.is_foreign_priority e.0 e.1)) (h might))
           t.rules rules.rules.items runs.each first,
     )
 
 first_here : (t : Theory) (rules : RuleSet) (u : Value) (f : Rule) → RunsAs t rules → IsSorted t.signature u →
-    IsFirstForeign (signature_view rules.signature) u f rules.rules.items → IsFirstUnknown t u (string_bytes f.id)
+    IsFirstForeign (signature_view rules.signature.value) u f rules.rules.items → IsFirstUnknown t u (string_bytes f.id.value)
 first_here t rules u f runs s first = first_there t rules u f runs s (subst (λ g. IsFirstForeign g u f rules.rules.items) runs.signature first)
 
 -- where no foreign rule of the code's might rewrite the value, it isn't unknown
 known_here : (t : Theory) (rules : RuleSet) (u : Value) → RunsAs t rules → IsSorted t.signature u →
-    NoneMight (signature_view rules.signature) u rules.rules.items → ¬ IsUnknown t u
+    NoneMight (signature_view rules.signature.value) u rules.rules.items → ¬ IsUnknown t u
 known_here t rules u runs s none = λ unknown.
     let g = t.signature in
-    none_in (λ r. ¬ MightRewrite g u r.body) (λ r. MightRewrite g u r.body) (λ r n h. n h) rules.rules.items
+    none_in (λ r. ¬ MightRewrite g u r.body.value) (λ r. MightRewrite g u r.body.value) (λ r n h. n h) rules.rules.items
     (subst (λ g. NoneMight g u rules.rules.items) runs.signature none)
-    (zip_any_back (IsCodeOf g) (λ r. MightRewrite g u r.body) (λ m. IsUnknownBy g m.body u) (λ m r is k. (same_unknown g m.body r.body u s is.is_body).1 k) t.rules rules.rules.items runs.each unknown)
+    (zip_any_back (IsCodeOf g) (λ r. MightRewrite g u r.body.value) (λ m. IsUnknownBy g m.body u) (λ m r is k. (same_unknown g m.body r.body.value u s is.is_body).1 k) t.rules rules.rules.items runs.each unknown)
 
 -- as the code finds it
 pub told_here : (t : Theory) (rules : RuleSet) (u : Value) (o : Option (Bor Rule)) → RunsAs t rules → IsSorted t.signature u →
-    (IsSorted (signature_view rules.signature) u → MatchOption o (NoneMight (signature_view rules.signature) u rules.rules.items) (λ f. IsFirstForeign (signature_view rules.signature) u f.now rules.rules.items)) →
-    MatchOption o (¬ IsUnknown t u) (λ f. IsFirstUnknown t u (string_bytes f.now.id))
+    (IsSorted (signature_view rules.signature.value) u → MatchOption o (NoneMight (signature_view rules.signature.value) u rules.rules.items) (λ f. IsFirstForeign (signature_view rules.signature.value) u f.now rules.rules.items)) →
+    MatchOption o (¬ IsUnknown t u) (λ f. IsFirstUnknown t u (string_bytes f.now.id.value))
 told_here t rules u None runs s told = known_here t rules u runs s (told (subst (λ g. IsSorted g u) (sym runs.signature) s))
 told_here t rules u (Some f) runs s told = first_here t rules u f.now runs s (told (subst (λ g. IsSorted g u) (sym runs.signature) s))
 
 none_fires_here : (t : Theory) (rules : RuleSet) (u : Value) → RunsAs t rules → IsSorted t.signature u →
-    AllByRecursion (λ r. ¬ BodyFires t.signature u r.body) rules.rules.items → NoneFires t u
+    AllByRecursion (λ r. ¬ BodyFires t.signature u r.body.value) rules.rules.items → NoneFires t u
 none_fires_here t rules u runs s none =
     let g = t.signature in
-    zip_all (IsCodeOf g) (λ r. ¬ BodyFires g u r.body) (λ m. ¬ Fires g m.body u) (λ m r is no f. no ((same_firing g m.body r.body u s is.is_body).1 f)) t.rules rules.rules.items runs.each none
+    zip_all (IsCodeOf g) (λ r. ¬ BodyFires g u r.body.value) (λ m. ¬ Fires g m.body u) (λ m r is no f. no ((same_firing g m.body r.body.value u s is.is_body).1 f)) t.rules rules.rules.items runs.each none
 
 -- the rule of the theory whose firing it is
 pub record FiresWith (g : KoreSignature) (u : Value) (f : Firing) (m : model.RewriteRule) : Type 0 where
@@ -139,8 +139,8 @@ fires_with g u f m r is h = record {
 
 pub fires_after : (g : KoreSignature) (u : Value) (n : ℕ) (m : model.RewriteRule) (r : Rule) → IsSorted g u → IsCodeOf g m r → GoesAfter g u n r → FiresAfter g u n m
 fires_after g u n m r s is h = λ f.
-    let b : BodyFires g u r.body = (same_firing g m.body r.body u s is.is_body).1 f in
-    let e = only_rewrites_fire g u r.body b in
+    let b : BodyFires g u r.body.value = (same_firing g m.body r.body.value u s is.is_body).1 f in
+    let e = only_rewrites_fire g u r.body.value b in
     subst (λ k. n < k) (sym (is.is_priority e.0 e.1)) (h b)
 
 abbrev pub IsOneOf : Theory → Value → Firing → Type 0
@@ -261,12 +261,12 @@ goes_there t rules u f next runs s known one after =
 -- ---- in the words of the code's signature
 
 pub stuck_here : (t : Theory) (rules : RuleSet) (u : Value) → RunsAs t rules → IsSorted t.signature u → ¬ IsUnknown t u →
-    AllByRecursion (λ r. ¬ BodyFires (signature_view rules.signature) u r.body) rules.rules.items → IsStuck t u
+    AllByRecursion (λ r. ¬ BodyFires (signature_view rules.signature.value) u r.body.value) rules.rules.items → IsStuck t u
 stuck_here t rules u runs s known none =
-    (none_fires_here t rules u runs s (subst (λ g. AllByRecursion (λ r. ¬ BodyFires g u r.body) rules.rules.items) runs.signature none), known)
+    (none_fires_here t rules u runs s (subst (λ g. AllByRecursion (λ r. ¬ BodyFires g u r.body.value) rules.rules.items) runs.signature none), known)
 
 pub goes_here : (t : Theory) (rules : RuleSet) (u : Value) (f : Firing) (next : State) → RunsAs t rules → IsSorted t.signature u → ¬ IsUnknown t u →
-    OneAmong (IsFiring (signature_view rules.signature) u f) (GoesAfter (signature_view rules.signature) u f.priority) rules.rules.items → IsAfterFiring (signature_view rules.signature) f next →
+    OneAmong (IsFiring (signature_view rules.signature.value) u f) (GoesAfter (signature_view rules.signature.value) u f.priority) rules.rules.items → IsAfterFiring (signature_view rules.signature.value) f next →
     GoesOnlyTo t u (value_view next.value) × IsAt t next
 goes_here t rules u f next runs s known one after =
     goes_there t rules u f next runs s known

@@ -16,7 +16,7 @@ use Rattle.kp_run.proofs.Among.{all_along, all_and_last, one_all, one_any, one_a
 
 -- no rule so far has a smaller number
 abbrev pub NoneSmaller : KoreSignature → Value → ℕ → List Rule → Type 0
-NoneSmaller g u n rules = AllByRecursion (λ r. BodyFires g u r.body → n ≤ r.priority) rules
+NoneSmaller g u n rules = AllByRecursion (λ r. BodyFires g u r.body.value → n ≤ r.priority) rules
 
 abbrev pub IsOne : KoreSignature → Value → Firing → List Rule → Type 0
 IsOne g u f rules = OneAmong (IsFiring g u f) (GoesAfter g u f.priority) rules
@@ -33,8 +33,8 @@ second_leads g u f n rules r one h lt =
 
 pub are_several : (g : KoreSignature) (u : Value) (f n : Firing) (rules : List Rule) (r : Rule) → IsOne g u f rules → IsFiring g u n r → f.priority ≤ n.priority → NoneSmaller g u f.priority (rules ++ r ∷ [])
 are_several g u f n rules r one h le =
-    all_and_last (λ q. BodyFires g u q.body → f.priority ≤ q.priority) rules r
-    (one_all (IsFiring g u f) (GoesAfter g u f.priority) (λ q. BodyFires g u q.body → f.priority ≤ q.priority)
+    all_and_last (λ q. BodyFires g u q.body.value → f.priority ≤ q.priority) rules r
+    (one_all (IsFiring g u f) (GoesAfter g u f.priority) (λ q. BodyFires g u q.body.value → f.priority ≤ q.priority)
     (λ q k _. let same : q.priority ≡ f.priority = k.priority in omega arith)
     (λ q k b. let after : f.priority < q.priority = k b in omega arith) rules one)
     (λ _. subst (λ m. f.priority ≤ m) (sym h.priority) le)
@@ -42,17 +42,17 @@ are_several g u f n rules r one h le =
 pub leads_several : (g : KoreSignature) (u : Value) (n : ℕ) (f : Firing) (rules : List Rule) (r : Rule) → NoneSmaller g u n rules → IsFiring g u f r → f.priority < n → IsOne g u f (rules ++ r ∷ [])
 leads_several g u n f rules r none h lt =
     last_is_the_one (IsFiring g u f) (GoesAfter g u f.priority) rules r
-    (all_along (λ q. BodyFires g u q.body → n ≤ q.priority) (GoesAfter g u f.priority) (λ q k b. let after : n ≤ q.priority = k b in omega arith) rules none)
+    (all_along (λ q. BodyFires g u q.body.value → n ≤ q.priority) (GoesAfter g u f.priority) (λ q k b. let after : n ≤ q.priority = k b in omega arith) rules none)
     h
 
 pub stay_several : (g : KoreSignature) (u : Value) (n : ℕ) (f : Firing) (rules : List Rule) (r : Rule) → NoneSmaller g u n rules → IsFiring g u f r → n ≤ f.priority → NoneSmaller g u n (rules ++ r ∷ [])
 stay_several g u n f rules r none h le =
-    all_and_last (λ q. BodyFires g u q.body → n ≤ q.priority) rules r none (λ _. subst (λ m. n ≤ m) (sym h.priority) le)
+    all_and_last (λ q. BodyFires g u q.body.value → n ≤ q.priority) rules r none (λ _. subst (λ m. n ≤ m) (sym h.priority) le)
 
-pub first_fires : (g : KoreSignature) (u : Value) (f : Firing) (rules : List Rule) (r : Rule) → AllByRecursion (λ q. ¬ BodyFires g u q.body) rules → IsFiring g u f r → IsOne g u f (rules ++ r ∷ [])
+pub first_fires : (g : KoreSignature) (u : Value) (f : Firing) (rules : List Rule) (r : Rule) → AllByRecursion (λ q. ¬ BodyFires g u q.body.value) rules → IsFiring g u f r → IsOne g u f (rules ++ r ∷ [])
 first_fires g u f rules r none h =
     last_is_the_one (IsFiring g u f) (GoesAfter g u f.priority) rules r
-    (all_along (λ q. ¬ BodyFires g u q.body) (GoesAfter g u f.priority) (λ q k b. absurd (k b)) rules none)
+    (all_along (λ q. ¬ BodyFires g u q.body.value) (GoesAfter g u f.priority) (λ q k b. absurd (k b)) rules none)
     h
 
 -- a firing's rule fires, at its number
@@ -69,10 +69,10 @@ pub still_two : (g : KoreSignature) (u : Value) (n : ℕ) (rules : List Rule) (r
 still_two g u n rules r two = two_and_more (FiresAt g u n) rules (r ∷ []) two
 
 -- a rule that doesn't fire leaves the turn as it was
-pub turn_stays : (g : KoreSignature) (u : Value) (turn : Turn) (rules : List Rule) (r : Rule) → IsTurn g u rules turn → ¬ BodyFires g u r.body → IsTurn g u (rules ++ r ∷ []) turn
-turn_stays g u Nobody rules r is isnt = all_and_last (λ q. ¬ BodyFires g u q.body) rules r is isnt
+pub turn_stays : (g : KoreSignature) (u : Value) (turn : Turn) (rules : List Rule) (r : Rule) → IsTurn g u rules turn → ¬ BodyFires g u r.body.value → IsTurn g u (rules ++ r ∷ []) turn
+turn_stays g u Nobody rules r is isnt = all_and_last (λ q. ¬ BodyFires g u q.body.value) rules r is isnt
 turn_stays g u (One f) rules r is isnt = one_and_last (IsFiring g u f) (GoesAfter g u f.priority) rules r is (λ b. absurd (isnt b))
-turn_stays g u (Several n) rules r is isnt = (all_and_last (λ q. BodyFires g u q.body → n ≤ q.priority) rules r is.0 (λ b. absurd (isnt b)), still_two g u n rules r is.1)
+turn_stays g u (Several n) rules r is isnt = (all_and_last (λ q. BodyFires g u q.body.value → n ≤ q.priority) rules r is.0 (λ b. absurd (isnt b)), still_two g u n rules r is.1)
 
 -- ---- one item further in the loops
 
@@ -88,11 +88,11 @@ turn_on_more g u rules items i r turn e lt is h =
 -- ---- foreign rules
 
 -- one more rule that might rewrite the value
-pub told_next : (g : KoreSignature) (u : Value) (first r : Rule) (rules : List Rule) → IsFirstForeign g u first rules → MightRewrite g u r.body → r.priority < first.priority → IsFirstForeign g u r (rules ++ r ∷ [])
+pub told_next : (g : KoreSignature) (u : Value) (first r : Rule) (rules : List Rule) → IsFirstForeign g u first rules → MightRewrite g u r.body.value → r.priority < first.priority → IsFirstForeign g u r (rules ++ r ∷ [])
 told_next g u first r rules is might lt =
-    last_between (λ q. (q ≡ r) × MightRewrite g u q.body) (λ q. MightRewrite g u q.body → r.priority < q.priority) (λ q. MightRewrite g u q.body → r.priority ≤ q.priority) rules r
-    (between_all (λ q. (q ≡ first) × MightRewrite g u q.body) (λ q. MightRewrite g u q.body → first.priority < q.priority) (λ q. MightRewrite g u q.body → first.priority ≤ q.priority)
-    (λ q. MightRewrite g u q.body → r.priority < q.priority)
+    last_between (λ q. (q ≡ r) × MightRewrite g u q.body.value) (λ q. MightRewrite g u q.body.value → r.priority < q.priority) (λ q. MightRewrite g u q.body.value → r.priority ≤ q.priority) rules r
+    (between_all (λ q. (q ≡ first) × MightRewrite g u q.body.value) (λ q. MightRewrite g u q.body.value → first.priority < q.priority) (λ q. MightRewrite g u q.body.value → first.priority ≤ q.priority)
+    (λ q. MightRewrite g u q.body.value → r.priority < q.priority)
     (λ q h _. subst (λ x. r.priority < x.priority) (sym h.0) lt)
     (λ q h m. let later : first.priority < q.priority = h m in omega arith)
     (λ q h m. let later : first.priority ≤ q.priority = h m in omega arith) rules is)
@@ -100,12 +100,12 @@ told_next g u first r rules is might lt =
 
 pub told_stays : (g : KoreSignature) (u : Value) (first r : Rule) (rules : List Rule) → IsFirstForeign g u first rules → first.priority ≤ r.priority → IsFirstForeign g u first (rules ++ r ∷ [])
 told_stays g u first r rules is le =
-    between_and_last (λ q. (q ≡ first) × MightRewrite g u q.body) (λ q. MightRewrite g u q.body → first.priority < q.priority) (λ q. MightRewrite g u q.body → first.priority ≤ q.priority) rules r is (λ _. le)
+    between_and_last (λ q. (q ≡ first) × MightRewrite g u q.body.value) (λ q. MightRewrite g u q.body.value → first.priority < q.priority) (λ q. MightRewrite g u q.body.value → first.priority ≤ q.priority) rules r is (λ _. le)
 
-pub told_alone : (g : KoreSignature) (u : Value) (r : Rule) (rules : List Rule) → NoneMight g u rules → MightRewrite g u r.body → IsFirstForeign g u r (rules ++ r ∷ [])
+pub told_alone : (g : KoreSignature) (u : Value) (r : Rule) (rules : List Rule) → NoneMight g u rules → MightRewrite g u r.body.value → IsFirstForeign g u r (rules ++ r ∷ [])
 told_alone g u r rules none might =
-    last_between (λ q. (q ≡ r) × MightRewrite g u q.body) (λ q. MightRewrite g u q.body → r.priority < q.priority) (λ q. MightRewrite g u q.body → r.priority ≤ q.priority) rules r
-    (all_along (λ q. ¬ MightRewrite g u q.body) (λ q. MightRewrite g u q.body → r.priority < q.priority) (λ q isnt m. absurd (isnt m)) rules none)
+    last_between (λ q. (q ≡ r) × MightRewrite g u q.body.value) (λ q. MightRewrite g u q.body.value → r.priority < q.priority) (λ q. MightRewrite g u q.body.value → r.priority ≤ q.priority) rules r
+    (all_along (λ q. ¬ MightRewrite g u q.body.value) (λ q. MightRewrite g u q.body.value → r.priority < q.priority) (λ q isnt m. absurd (isnt m)) rules none)
     (refl, might)
 
 -- the first so far
@@ -113,10 +113,10 @@ abbrev pub IsTold : KoreSignature → Value → List Rule → Option (Bor Rule) 
 IsTold g u rules first = MatchOption first (NoneMight g u rules) (λ f. IsFirstForeign g u f.now rules)
 
 -- one more that might not
-pub told_past : (g : KoreSignature) (u : Value) (first : Option (Bor Rule)) (r : Rule) (rules : List Rule) → IsTold g u rules first → ¬ MightRewrite g u r.body → IsTold g u (rules ++ r ∷ []) first
-told_past g u None r rules none isnt = all_and_last (λ q. ¬ MightRewrite g u q.body) rules r none isnt
+pub told_past : (g : KoreSignature) (u : Value) (first : Option (Bor Rule)) (r : Rule) (rules : List Rule) → IsTold g u rules first → ¬ MightRewrite g u r.body.value → IsTold g u (rules ++ r ∷ []) first
+told_past g u None r rules none isnt = all_and_last (λ q. ¬ MightRewrite g u q.body.value) rules r none isnt
 told_past g u (Some f) r rules is isnt =
-    between_and_last (λ q. (q ≡ f.now) × MightRewrite g u q.body) (λ q. MightRewrite g u q.body → f.now.priority < q.priority) (λ q. MightRewrite g u q.body → f.now.priority ≤ q.priority) rules r is (λ m. absurd (isnt m))
+    between_and_last (λ q. (q ≡ f.now) × MightRewrite g u q.body.value) (λ q. MightRewrite g u q.body.value → f.now.priority < q.priority) (λ q. MightRewrite g u q.body.value → f.now.priority ≤ q.priority) rules r is (λ m. absurd (isnt m))
 
 pub told_more : (g : KoreSignature) (u : Value) (rules items : List Rule) (i : ℕ) (r : Rule) (first : Option (Bor Rule)) → items ≡ rules → i < length items → r ≡ get_or items i r →
     IsTold g u (take i rules ++ r ∷ []) first → IsTold g u (take (i + 1) rules) first
@@ -153,9 +153,9 @@ is_beyond d n b isnt told = by_order (at_most_or_beyond d n)
     by_order (inr lt) = lt
 
 pub narrow_more : (g : KoreSignature) (u : Value) (rules items : List Rule) (i : ℕ) (r : Rule) → items ≡ rules → i < length items → r ≡ get_or items i r →
-    AllByRecursion (λ q. ¬ BodyIsWide g u q.body) (take i rules) → ¬ BodyIsWide g u r.body → AllByRecursion (λ q. ¬ BodyIsWide g u q.body) (take (i + 1) rules)
+    AllByRecursion (λ q. ¬ BodyIsWide g u q.body.value) (take i rules) → ¬ BodyIsWide g u r.body.value → AllByRecursion (λ q. ¬ BodyIsWide g u q.body.value) (take (i + 1) rules)
 narrow_more g u rules items i r e lt is h isnt =
     let inside : i < length rules = subst (λ rs. i < length rs) e lt in
     let it : r ≡ get_or rules i r = subst (λ rs. r ≡ get_or rs i r) e is in
-    subst (λ rs. AllByRecursion (λ q. ¬ BodyIsWide g u q.body) rs) (sym (take_more rules i r inside ∙ ap (λ q. take i rules ++ q ∷ []) (sym it)))
-    (all_and_last (λ q. ¬ BodyIsWide g u q.body) (take i rules) r h isnt)
+    subst (λ rs. AllByRecursion (λ q. ¬ BodyIsWide g u q.body.value) rs) (sym (take_more rules i r inside ∙ ap (λ q. take i rules ++ q ∷ []) (sym it)))
+    (all_and_last (λ q. ¬ BodyIsWide g u q.body.value) (take i rules) r h isnt)

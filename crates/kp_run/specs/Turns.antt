@@ -39,22 +39,22 @@ MightRewrite g u (Foreign k) = IsAdmitted g k u
 
 -- no rule of the list might
 abbrev pub NoneMight : KoreSignature → Value → List Rule → Type 0
-NoneMight g u rules = AllByRecursion (λ r. ¬ MightRewrite g u r.body) rules
+NoneMight g u rules = AllByRecursion (λ r. ¬ MightRewrite g u r.body.value) rules
 
 -- of the foreign rules that might, this is the first of least priority number
 abbrev pub IsFirstForeign : KoreSignature → Value → Rule → List Rule → Type 0
 IsFirstForeign g u first rules = OneBetween
-    (λ r. (r ≡ first) × MightRewrite g u r.body)
-    (λ r. MightRewrite g u r.body → first.priority < r.priority)
-    (λ r. MightRewrite g u r.body → first.priority ≤ r.priority) rules
+    (λ r. (r ≡ first) × MightRewrite g u r.body.value)
+    (λ r. MightRewrite g u r.body.value → first.priority < r.priority)
+    (λ r. MightRewrite g u r.body.value → first.priority ≤ r.priority) rules
 
 -- the rule doesn't fire, or its priority number is greater
 abbrev pub GoesAfter : KoreSignature → Value → ℕ → Rule → Type 0
-GoesAfter g u n r = BodyFires g u r.body → n < r.priority
+GoesAfter g u n r = BodyFires g u r.body.value → n < r.priority
 
 -- the rule fires, under exactly the valuations that the bindings allow, and there are some
 pub record IsFiring (g : KoreSignature) (u : Value) (f : Firing) (r : Rule) : Type 0 where
-  pub body : r.body ≡ Rewrite f.rewrite.now
+  pub body : r.body.value ≡ Rewrite f.rewrite.now
   pub priority : r.priority ≡ f.priority
   pub solved : (v : Valuation) → Solves v f.bindings.items ↔ FiresAs g f.rewrite.now u v
   pub solvable : (v : Valuation) × Solves v f.bindings.items
@@ -66,14 +66,14 @@ OneAmong P Q (x ∷ xs) = (P x × AllByRecursion Q xs) ⊎ (Q x × OneAmong P Q 
 
 -- the rule fires, and this is its priority number
 abbrev pub FiresAt : KoreSignature → Value → ℕ → Rule → Type 0
-FiresAt g u n r = BodyFires g u r.body × (r.priority ≡ n)
+FiresAt g u n r = BodyFires g u r.body.value × (r.priority ≡ n)
 
 -- the rules come to this turn: none fires; one fires and all others go after it; or two fire and none has a smaller
 -- number
 abbrev pub IsTurn : KoreSignature → Value → List Rule → Turn → Type 0
-IsTurn g u rules Nobody = AllByRecursion (λ r. ¬ BodyFires g u r.body) rules
+IsTurn g u rules Nobody = AllByRecursion (λ r. ¬ BodyFires g u r.body.value) rules
 IsTurn g u rules (One f) = OneAmong (IsFiring g u f) (GoesAfter g u f.priority) rules
-IsTurn g u rules (Several n) = AllByRecursion (λ r. BodyFires g u r.body → n ≤ r.priority) rules × TwoAmong (FiresAt g u n) rules
+IsTurn g u rules (Several n) = AllByRecursion (λ r. BodyFires g u r.body.value → n ≤ r.priority) rules × TwoAmong (FiresAt g u n) rules
 
 -- the state after a firing: its value is the right term's under the bindings, and it has the sort that it is written
 -- at where it has the right term's
@@ -115,4 +115,4 @@ IsOpen (Foreign k) = ⊥
 
 -- some rule is open
 abbrev pub SomeOpen : List Rule → Type 0
-SomeOpen rules = AnyByRecursion (λ r. IsOpen r.body) rules
+SomeOpen rules = AnyByRecursion (λ r. IsOpen r.body.value) rules

@@ -77,7 +77,7 @@ fn might_rewrite(
 
 /// Of a foreign rule and those before it, the one that is told: of the smallest priority number the first.
 fn told_of<'a>(first: Option<&'a Rule>, rule: &'a Rule) -> &'a Rule
-    ensures { (g : KoreSignature) (u : model.Value) (rules : List Rule) → MatchOption first.entry (NoneMight g u rules) (λ f. IsFirstForeign g u f.now rules) → MightRewrite g u rule.now.body → IsFirstForeign g u result.now (rules ++ rule.now ∷ []) }
+    ensures { (g : KoreSignature) (u : model.Value) (rules : List Rule) → MatchOption first.entry (NoneMight g u rules) (λ f. IsFirstForeign g u f.now rules) → MightRewrite g u rule.now.body.value → IsFirstForeign g u result.now (rules ++ rule.now ∷ []) }
 {
     match first {
         Some(first) => {
@@ -93,7 +93,7 @@ fn told_of<'a>(first: Option<&'a Rule>, rule: &'a Rule) -> &'a Rule
 
 /// The foreign rule that is told, when one more rule is asked.
 fn told_after<'a>(first: Option<&'a Rule>, rule: &'a Rule, might: bool) -> Option<&'a Rule>
-    ensures { (g : KoreSignature) (u : model.Value) (rules : List Rule) → MatchOption first.entry (NoneMight g u rules) (λ f. IsFirstForeign g u f.now rules) → IsTrue might ↔ MightRewrite g u rule.now.body → MatchOption result (NoneMight g u (rules ++ rule.now ∷ [])) (λ f. IsFirstForeign g u f.now (rules ++ rule.now ∷ [])) }
+    ensures { (g : KoreSignature) (u : model.Value) (rules : List Rule) → MatchOption first.entry (NoneMight g u rules) (λ f. IsFirstForeign g u f.now rules) → IsTrue might ↔ MightRewrite g u rule.now.body.value → MatchOption result (NoneMight g u (rules ++ rule.now ∷ [])) (λ f. IsFirstForeign g u f.now (rules ++ rule.now ∷ [])) }
 {
     if might {
         return Some(told_of(first, rule));
@@ -107,7 +107,7 @@ pub fn foreign_on<'a>(
     rules: &'a RuleSet,
     value: &Value,
 ) -> Result<Option<&'a Rule>, AllocError>
-    ensures { IsSorted (signature_view rules.now.signature) (value_view value.now) → IfOk result (λ o. MatchOption o (NoneMight (signature_view rules.now.signature) (value_view value.now) rules.now.rules.items) (λ f. IsFirstForeign (signature_view rules.now.signature) (value_view value.now) f.now rules.now.rules.items)) }
+    ensures { IsSorted (signature_view rules.now.signature.value) (value_view value.now) → IfOk result (λ o. MatchOption o (NoneMight (signature_view rules.now.signature.value) (value_view value.now) rules.now.rules.items) (λ f. IsFirstForeign (signature_view rules.now.signature.value) (value_view value.now) f.now rules.now.rules.items)) }
 {
     let mut first = None;
     for rule in &rules.rules {
@@ -132,7 +132,7 @@ fn sooner<'a>(first: Firing<'a>, second: Firing<'a>) -> Turn<'a>
 
 /// Who has the turn when one more rule fires beside several of this priority number.
 fn beside_several<'a>(priority: u32, firing: Firing<'a>) -> Turn<'a>
-    ensures { (g : KoreSignature) (u : model.Value) (rules : List Rule) (r : Rule) → AllByRecursion (λ r. BodyFires g u r.body → priority ≤ r.priority) rules → TwoAmong (FiresAt g u priority) rules → IsFiring g u firing.entry r → IsTurn g u (rules ++ r ∷ []) result }
+    ensures { (g : KoreSignature) (u : model.Value) (rules : List Rule) (r : Rule) → AllByRecursion (λ r. BodyFires g u r.body.value → priority ≤ r.priority) rules → TwoAmong (FiresAt g u priority) rules → IsFiring g u firing.entry r → IsTurn g u (rules ++ r ∷ []) result }
 {
     if firing.priority < priority {
         return Turn::One(firing);
@@ -158,12 +158,12 @@ fn firing_of<'a>(
     rule: &'a Rule,
     value: &Value,
 ) -> Result<Option<Firing<'a>>, RunError>
-    ensures firing { IfOk result (λ o. MatchOption o (¬ BodyFires (signature_view signature.now) (value_view value.now) rule.now.body) (λ f. IsFiring (signature_view signature.now) (value_view value.now) f rule.now)) }
-    ensures wide { IfErr result (λ e. e ≡ NotAnswered → BodyIsWide (signature_view signature.now) (value_view value.now) rule.now.body) }
-    ensures narrow { IfOk result (λ _. ¬ BodyIsWide (signature_view signature.now) (value_view value.now) rule.now.body) }
-    ensures unbound { IfErr result (λ e. e ≡ Unbound → IsOpen rule.now.body) }
+    ensures firing { IfOk result (λ o. MatchOption o (¬ BodyFires (signature_view signature.now) (value_view value.now) rule.now.body.value) (λ f. IsFiring (signature_view signature.now) (value_view value.now) f rule.now)) }
+    ensures wide { IfErr result (λ e. e ≡ NotAnswered → BodyIsWide (signature_view signature.now) (value_view value.now) rule.now.body.value) }
+    ensures narrow { IfOk result (λ _. ¬ BodyIsWide (signature_view signature.now) (value_view value.now) rule.now.body.value) }
+    ensures unbound { IfErr result (λ e. e ≡ Unbound → IsOpen rule.now.body.value) }
 {
-    match &rule.body {
+    match &*rule.body {
         RuleBody::Foreign(_) => Ok(None),
         RuleBody::Rewrite(rewrite) => match rewrite.fires(alloc, signature, value)? {
             Some(bindings) => Ok(Some(Firing {
@@ -178,7 +178,7 @@ fn firing_of<'a>(
 
 /// Who has the turn when one more rule is asked.
 fn turn_after<'a>(turn: Turn<'a>, firing: Option<Firing<'a>>) -> Turn<'a>
-    ensures { (g : KoreSignature) (u : model.Value) (rules : List Rule) (r : Rule) → IsTurn g u rules turn.entry → MatchOption firing.entry (¬ BodyFires g u r.body) (λ f. IsFiring g u f r) → IsTurn g u (rules ++ r ∷ []) result }
+    ensures { (g : KoreSignature) (u : model.Value) (rules : List Rule) (r : Rule) → IsTurn g u rules turn.entry → MatchOption firing.entry (¬ BodyFires g u r.body.value) (λ f. IsFiring g u f r) → IsTurn g u (rules ++ r ∷ []) result }
 {
     match firing {
         Some(firing) => joined(turn, firing),
@@ -188,9 +188,9 @@ fn turn_after<'a>(turn: Turn<'a>, firing: Option<Firing<'a>>) -> Turn<'a>
 
 /// The rules that have their turn on a value.
 fn turn_on<'a>(alloc: Global, rules: &'a RuleSet, value: &Value) -> Result<Turn<'a>, RunError>
-    ensures turn { IfOk result (λ turn. IsTurn (signature_view rules.now.signature) (value_view value.now) rules.now.rules.items turn) }
-    ensures wide { IfErr result (λ e. e ≡ NotAnswered → AnyByRecursion (λ r. BodyIsWide (signature_view rules.now.signature) (value_view value.now) r.body) rules.now.rules.items) }
-    ensures narrow { IfOk result (λ _. AllByRecursion (λ r. ¬ BodyIsWide (signature_view rules.now.signature) (value_view value.now) r.body) rules.now.rules.items) }
+    ensures turn { IfOk result (λ turn. IsTurn (signature_view rules.now.signature.value) (value_view value.now) rules.now.rules.items turn) }
+    ensures wide { IfErr result (λ e. e ≡ NotAnswered → AnyByRecursion (λ r. BodyIsWide (signature_view rules.now.signature.value) (value_view value.now) r.body.value) rules.now.rules.items) }
+    ensures narrow { IfOk result (λ _. AllByRecursion (λ r. ¬ BodyIsWide (signature_view rules.now.signature.value) (value_view value.now) r.body.value) rules.now.rules.items) }
     ensures unbound { IfErr result (λ e. e ≡ Unbound → SomeOpen rules.now.rules.items) }
 {
     let mut turn = Turn::Nobody;
@@ -239,17 +239,17 @@ pub fn next_of(
     state: &State,
     is_counted: bool,
 ) -> Result<Next, RunError>
-    requires counted { IsTrue is_counted → IsShallow (signature_view rules.now.signature) state.now }
+    requires counted { IsTrue is_counted → IsShallow (signature_view rules.now.signature.value) state.now }
     ensures next { (t : Theory) → RunsAs t rules.now → IsSorted t.signature (value_view state.now.value) → IfOk result (IsNext t (value_view state.now.value)) }
     ensures written { (t : Theory) → RunsAs t rules.now → IsSorted t.signature (value_view state.now.value) → IfOk result (IsWrittenNext t (written_of state.now)) }
     ensures answered { (t : Theory) → RunsAs t rules.now → IsSorted t.signature (value_view state.now.value) → IfOk result (λ _. ¬ StopsUntold t (written_of state.now) 1) }
     ensures not_answered { (t : Theory) → RunsAs t rules.now → IsSorted t.signature (value_view state.now.value) → IfErr result (λ e. e ≡ NotAnswered → StopsUntold t (written_of state.now) 1) }
     ensures unbound { IfErr result (λ e. e ≡ Unbound → SomeOpen rules.now.rules.items) }
-    ensures counted { IfOk result (IsShallowNext (signature_view rules.now.signature)) }
+    ensures counted { IfOk result (IsShallowNext (signature_view rules.now.signature.value)) }
 {
     match foreign_on(alloc, rules, &state.value)? {
         Some(rule) => Ok(Next::ForeignRule {
-            id: rule.id.clone()?,
+            id: String::from_str(alloc, rule.id.as_str())?,
         }),
         None => known_next(alloc, rules, state, is_counted),
     }
@@ -262,13 +262,13 @@ fn known_next(
     state: &State,
     is_counted: bool,
 ) -> Result<Next, RunError>
-    requires counted { IsTrue is_counted → IsShallow (signature_view rules.now.signature) state.now }
+    requires counted { IsTrue is_counted → IsShallow (signature_view rules.now.signature.value) state.now }
     ensures next { (t : Theory) → RunsAs t rules.now → IsSorted t.signature (value_view state.now.value) → ¬ IsUnknown t (value_view state.now.value) → IfOk result (IsNext t (value_view state.now.value)) }
     ensures written { (t : Theory) → RunsAs t rules.now → IsSorted t.signature (value_view state.now.value) → ¬ IsUnknown t (value_view state.now.value) → IfOk result (IsWrittenNext t (written_of state.now)) }
     ensures answered { (t : Theory) → RunsAs t rules.now → IsSorted t.signature (value_view state.now.value) → ¬ IsUnknown t (value_view state.now.value) → IfOk result (λ _. ¬ IsNotStepped t (written_of state.now)) }
     ensures not_answered { (t : Theory) → RunsAs t rules.now → IsSorted t.signature (value_view state.now.value) → ¬ IsUnknown t (value_view state.now.value) → IfErr result (λ e. e ≡ NotAnswered → IsNotStepped t (written_of state.now)) }
     ensures unbound { IfErr result (λ e. e ≡ Unbound → SomeOpen rules.now.rules.items) }
-    ensures counted { IfOk result (IsShallowNext (signature_view rules.now.signature)) }
+    ensures counted { IfOk result (IsShallowNext (signature_view rules.now.signature.value)) }
 {
     match turn_on(alloc, rules, &state.value)? {
         Turn::Nobody => Ok(Next::Stuck),

@@ -13,7 +13,9 @@ use Rattle.kp_json.specs.Trees.{SpellsWrapped}
 use Rattle.kp_semantics.specs.Value.{Value, HasSort, truth}
 use Rattle.kp_semantics.specs.Instance.{Valuation, instance}
 use Rattle.kp_semantics.specs.Foreign.{none_within}
-use Rattle.kp_semantics.specs.Replies.{IsRightExecuted, Reason}
+use Rattle.kp_semantics.specs.Replies as three
+use Rattle.kp_semantics.specs.Ground.{executed_of, reason_of as reason_among_seven}
+use Rattle.kp_semantics.proofs.GroundReplies.{ground_is_right}
 use Rattle.kp_semantics.specs.Rules.{RewriteRule}
 use Rattle.kp_semantics.specs.Steps.{IsUnknownBy}
 use Rattle.kp_semantics.specs.Theory.{Theory}
@@ -22,7 +24,10 @@ use Rattle.kp_rpc.specs.Frame.{IsFrame}
 use Rattle.kp_rpc.specs.Causes.{IsRefused}
 use Rattle.kp_rpc.specs.Request.{RequestId, ExecuteOptions, ExecuteRequest, HasParams, bound_of}
 use Rattle.kp_rpc.specs.Readings.{read_object, if_object, read_state}
-use Rattle.kp_rpc.specs.Reply.{RequestError, VerifyFault, not_verified, other_shape, error_reply, result_reply, result_tree, reply_bytes}
+use Rattle.kp_rpc.specs.Reply.{RequestError, VerifyFault, not_verified, other_shape, error_reply, result_reply, reply_bytes}
+use Rattle.kp_results.specs.Results.{ExecutedParts, IsReasonOf, IsResultOf}
+use Rattle.kp_replies.specs.Written.{executed_tree}
+use Rattle.kp_replies.specs.Right.{asked_options}
 use Rattle.kp_rpc.specs.View.{id_view, options_view, pattern_fault_view, state_fault_view}
 use Rattle.kp_rpc.specs.declared.fault.StateFault.{StateFault}
 use Rattle.kp_rpc.specs.declared.fault.StateFault.TheVariants as fault
@@ -38,7 +43,7 @@ use Rattle.kp_run.specs.declared.run.Stop.{Stop}
 use Rattle.kp_run.specs.declared.run.Stop.TheVariants.{Stuck, DepthBound, ForeignRule}
 use Rattle.kp_server.proofs.Runs.{run_is_right}
 use Rattle.kp_server.specs.Normal.{IsLater, EndsAt, TellsFirst, HasNoSpelling}
-use Rattle.kp_server.specs.Ends.{IsExecuteRead, IsStateAt, IsStatePattern, IsStateOf, IsEndOf, IsEndLine, IsFailureOf, IsListing, IsPlain, IsWrongTree, IsWrongPattern, IsLineTo, options_of, result_of, unanswered_bytes}
+use Rattle.kp_server.specs.Ends.{IsExecuteRead, IsStateAt, IsStatePattern, IsStateOf, IsEndOf, IsEndLine, IsFailureOf, IsListing, IsPlain, IsWrongTree, IsWrongPattern, IsLineTo, options_of, ending_of, result_of, unanswered_bytes}
 use Rattle.kp_server.specs.Right.{IsLine, IsPatternFault, IsStateError, IsFaulted, IsAnswered}
 use Rattle.kp_server.specs.Setting.{IsElsewhere, IsModuleReached, Setting}
 use Rattle.kp_server.specs.Untold.{IsLeftOut, IsUntold, elsewhere, stops_at_rules, no_state, no_run}
@@ -105,10 +110,10 @@ ends_at t c bound end run = by_stop end.stop refl
     by_stop (ForeignRule id) is = let k = run.foreign id is in
         inr (k.0, inl (between_any _ _ _ (λ (r : RewriteRule). IsUnknownBy t.signature r.body (value_view end.state.value)) (λ r u. u.unknown) t.rules k.1.1))
 
-tells_first : (t : Theory) (c : Value) (bound : ℕ) (end : Executed) → IsRunOf t c bound end → TellsFirst t (reason_of end.stop) (value_view end.state.value)
+tells_first : (t : Theory) (c : Value) (bound : ℕ) (end : Executed) → IsRunOf t c bound end → TellsFirst t (ending_of end.stop) (value_view end.state.value)
 tells_first t c bound end run = by_stop end.stop refl
   where
-    by_stop : (stop : Stop) → end.stop ≡ stop → TellsFirst t (reason_of stop) (value_view end.state.value)
+    by_stop : (stop : Stop) → end.stop ≡ stop → TellsFirst t (ending_of stop) (value_view end.state.value)
     by_stop Stuck is = tt
     by_stop DepthBound is = tt
     by_stop (ForeignRule id) is = (run.foreign id is).1
@@ -144,9 +149,18 @@ is_told s e end h (no_run c means stops) =
     let at_value = subst (λ (u : Value). StopsUntold s.theory (record { value = u; sort = st.sort }) (bound_of (options_of e))) (same_value s.theory.signature st.pattern c (value_view h.start.value) means ground.meant) stops in
     h.told (subst (λ (k : KoreSort). StopsUntold s.theory (record { value = value_view h.start.value; sort = k }) (bound_of (options_of e))) (sym st.is_state.sort_is) at_value)
 
+-- the end of a run as a reply of three reasons, and its result as one of seven
+abbrev ended : Executed → KorePattern → three.Executed
+ended end p = record { depth = end.depth; reason = reason_of end.stop; state = p }
+
+reason_meant : (stop : Stop) → IsReasonOf (ending_of stop) [] (reason_among_seven (reason_of stop))
+reason_meant Stuck = (refl, refl)
+reason_meant DepthBound = (refl, refl)
+reason_meant (ForeignRule id) = (refl, refl)
+
 pub answered : (s : Setting) (e : Execute) → IsExecuteRead e → (end : Executed) → IsEndOf s e end → (p : KorePattern) → IsSpellingOf s.theory.signature (value_view end.state.value) p
     → p ≡ spelling s.theory.signature (sort_view end.state.sort) (value_view end.state.value)
-    → (tree : Data) → result_tree (result_of end p) ≡ Some tree → IsAnswered s (data_view e.request) (result_reply (id_view e.id) tree)
+    → (tree : Data) → executed_tree (result_of end p) ≡ Some tree → IsAnswered s (data_view e.request) (result_reply (id_view e.id) tree)
 answered s e r end h p sp normal tree w =
     let st = h.is_start in
     let ground = st.is_state.ground st.verifies in
@@ -168,22 +182,23 @@ answered s e r end h p sp normal tree w =
         tree = tree;
         written = w;
         reply_is = refl;
-        state = p;
-        state_is = refl;
-        right = subst (λ (ids : List Text). IsRightExecuted s.theory ids (bound_of (options_of e)) st.pattern (record { depth = end.depth; reason = reason_of end.stop; state = p }))
+        meant = executed_of (ended end p);
+        means = record { depth = refl; reason = reason_meant end.stop; state = refl };
+        right = ground_is_right s.theory (asked_options (options_of e)) st.pattern (ended end p) ground.closed
+            (subst (λ (ids : List Text). three.IsRightExecuted s.theory ids (bound_of (options_of e)) st.pattern (ended end p))
             (sym (both_empty (options_of e).cut_points (options_of e).terminals h.plain.cut_points h.plain.terminals))
-            (run_is_right s.theory st.pattern p (value_view h.start.value) (bound_of (options_of e)) end h.run ground.term ground.closed ground.meant sp);
+            (run_is_right s.theory st.pattern p (value_view h.start.value) (bound_of (options_of e)) end h.run ground.term ground.closed ground.meant sp));
       };
       normal = record { later = written_of end.state; is_later = later_at s e end h; spelled = normal };
       first = tells_first s.theory (value_view h.start.value) (bound_of (options_of e)) end h.run;
-      bare = refl;
+      bare = record { predicate = refl; nexts = refl };
     }
 
 -- the line with the end of a run
 pub end_is_right : (s : Setting) (e : Execute) → IsExecuteRead e → (end : Executed) → IsEndOf s e end → (p : KorePattern) → IsSpellingOf s.theory.signature (value_view end.state.value) p
     → p ≡ spelling s.theory.signature (sort_view end.state.sort) (value_view end.state.value)
-    → (line : Vec ℕ Global) → IsEndLine e end p line → IsLineTo s e line.items
-end_is_right s e r end h p sp normal line x = (result_reply (id_view e.id) x.0, inr (answered s e r end h p sp normal x.0 x.1), x.2)
+    → (x : ExecutedParts) → x ≡ result_of end p → (line : Vec ℕ Global) → IsEndLine e x line → IsLineTo s e line.items
+end_is_right s e r end h p sp normal x is line l = (result_reply (id_view e.id) l.0, inr (answered s e r end h p sp normal l.0 (ap executed_tree (sym is) ∙ l.1)), l.2)
 
 -- ---- failures
 
@@ -273,12 +288,9 @@ has_tree_of o line id (Some tree) is e =
     let some : Some line.items ≡ Some (reply_bytes (result_reply id tree)) = sym (ap (option_map (λ (b : Vec ℕ Global). b.items)) is) ∙ e in
     (tree, refl, cc some)
 
-pub end_line_is : (e : Execute) (end : Executed) (p : KorePattern) (line : Vec ℕ Global) (o : Option (Vec ℕ Global)) (reason : Reason) → reason ≡ reason_of end.stop → o ≡ Some line →
-    option_map (λ (b : Vec ℕ Global). b.items) o ≡ option_map (λ (x : Data). reply_bytes (result_reply (id_view e.id) x)) (result_tree (record { depth = end.depth; reason = reason; state = record { term = p; predicate = None } }))
-    → IsEndLine e end p line
-end_line_is e end p line o reason why is told =
-    has_tree_of o line (id_view e.id) (result_tree (result_of end p)) is
-    (subst (λ (r : Reason). option_map (λ (b : Vec ℕ Global). b.items) o ≡ option_map (λ (x : Data). reply_bytes (result_reply (id_view e.id) x)) (result_tree (record { depth = end.depth; reason = r; state = record { term = p; predicate = None } }))) why told)
+pub end_line_is : (e : Execute) (x : ExecutedParts) (line : Vec ℕ Global) (o : Option (Vec ℕ Global)) → o ≡ Some line →
+    option_map (λ (b : Vec ℕ Global). b.items) o ≡ option_map (λ (t : Data). reply_bytes (result_reply (id_view e.id) t)) (executed_tree x) → IsEndLine e x line
+end_line_is e x line o is told = has_tree_of o line (id_view e.id) (executed_tree x) is told
 
 pub refused_line : (s : Setting) (bytes : List ℕ) (id : RequestId) (error : RequestError) → IsRefused bytes id error → (line : List ℕ) → line ≡ reply_bytes (error_reply id error) → IsLine s bytes line
 refused_line s bytes id error because line l = (error_reply id error, inl (record { id = id; error = error; because = because; reply_is = refl }), l)

@@ -14,7 +14,7 @@ use Rattle.kp_semantics.specs.Value.{Value, truth}
 use Rattle.kp_semantics.specs.Instance.{Valuation, GivesSorts, IsInstance}
 use Rattle.kp_semantics.specs.Rules.{top_binders, under_binders}
 use Rattle.kp_semantics.specs.AtHand.{GivesAll, HasSome}
-use Rattle.kp_semantics.specs.Implied.{DoesImply, HasCounterexample, IsOfSort, IsWitness, witnessed, IsRightImplied}
+use Rattle.kp_semantics.specs.Implied.{Implied, DoesImply, HasCounterexample, IsOfSort, IsWitness, witnessed, IsRightImplied}
 use Rattle.kp_semantics.specs.Implied as sides
 use Rattle.kp_semantics.proofs.InstanceLemmas.{one_instance}
 use Rattle.kp_json.specs.Trees.{SpellsWrapped}
@@ -24,9 +24,9 @@ use Rattle.kp_signature.specs.Verify.{VerifiesAs}
 use Rattle.kp_states.specs.Spelled.{IsGroundState}
 use Rattle.kp_states.specs.declared.state.State.{State}
 use Rattle.kp_rpc.specs.Frame.{IsFrame}
-use Rattle.kp_rpc.specs.Implications.{implied_by}
 use Rattle.kp_rpc.specs.Readings.{read_object, if_object, read_side}
-use Rattle.kp_rpc.specs.Reply.{ImpliesResult, RequestError, not_verified, other_shape, error_reply, implied_tree, reply_bytes, result_reply}
+use Rattle.kp_rpc.specs.Reply.{RequestError, not_verified, other_shape, error_reply, reply_bytes, result_reply}
+use Rattle.kp_replies.specs.Written.{implied_tree}
 use Rattle.kp_rpc.specs.Request.{RequestId, HasSides, ImpliesRequest}
 use Rattle.kp_rpc.specs.View.{id_view, name_view, state_fault_view}
 use Rattle.kp_rpc.specs.declared.fault.StateFault.{StateFault}
@@ -194,7 +194,7 @@ ground_of : (g : KoreSignature) (p : KorePattern) (sort : KoreSort) (a : State) 
 ground_of g p sort a verifies at = at.ground verifies
 
 right_result : (g : KoreSignature) (p q : KorePattern) (a c : State) (o : Option KoreSort) → IsOfSort g (sort_view a.sort) p → IsGroundState g p (sort_view a.sort) (value_view a.value) → IsGroundState g q (sort_view c.sort) (value_view c.value)
-    → AreCompared a c o → IsRightImplied g p q (implied_by (result_at o))
+    → AreCompared a c o → IsRightImplied g p q (result_at o)
 right_result g p q a c None sorted x y k = not_valid_is_right g p q (sort_view a.sort) (sort_view c.sort) (value_view a.value) (value_view c.value) x y k.compared
 right_result g p q a c (Some at) sorted x y k =
     let there : IsGroundState g q (sort_view a.sort) (value_view c.value) = subst (λ (t : KoreSort). IsGroundState g q t (value_view c.value)) (sym k.same_sort) y in
@@ -343,16 +343,16 @@ result_tree_of : (o : Option KoreSort) → (tree : Data) × (implied_tree (resul
 result_tree_of None = (_, refl)
 result_tree_of (Some sort) = (_, refl)
 
-pub result_line_is : (e : Implies) (o : Option KoreSort) (r : ImpliesResult) (x : Option (Vec ℕ Global)) (line : Vec ℕ Global) → r ≡ result_at o → x ≡ Some line
+pub result_line_is : (e : Implies) (o : Option KoreSort) (r : Implied) (x : Option (Vec ℕ Global)) (line : Vec ℕ Global) → r ≡ result_at o → x ≡ Some line
     → option_map (λ (b : Vec ℕ Global). b.items) x ≡ option_map (λ (t : Data). reply_bytes (result_reply (id_view e.id) t)) (implied_tree r) → IsResultLine e o line.items
 result_line_is e o r x line same is told =
-    has_tree_of x line (id_view e.id) (implied_tree (result_at o)) is (told ∙ ap (λ (y : ImpliesResult). option_map (λ (t : Data). reply_bytes (result_reply (id_view e.id) t)) (implied_tree y)) same)
+    has_tree_of x line (id_view e.id) (implied_tree (result_at o)) is (told ∙ ap (λ (y : Implied). option_map (λ (t : Data). reply_bytes (result_reply (id_view e.id) t)) (implied_tree y)) same)
 
-pub has_line : (id : RequestId) (o : Option KoreSort) (r : ImpliesResult) (x : Option (Vec ℕ Global)) → r ≡ result_at o
+pub has_line : (id : RequestId) (o : Option KoreSort) (r : Implied) (x : Option (Vec ℕ Global)) → r ≡ result_at o
     → option_map (λ (b : Vec ℕ Global). b.items) x ≡ option_map (λ (t : Data). reply_bytes (result_reply id t)) (implied_tree r) → x ≡ None → ⊥
 has_line id o r x same told none =
     let t = result_tree_of o in
     let line : option_map (λ (b : Vec ℕ Global). b.items) x ≡ Some (reply_bytes (result_reply id t.0)) =
-    told ∙ (ap (λ (y : ImpliesResult). option_map (λ (d : Data). reply_bytes (result_reply id d)) (implied_tree y)) same ∙ ap (option_map (λ (d : Data). reply_bytes (result_reply id d))) t.1) in
+    told ∙ (ap (λ (y : Implied). option_map (λ (d : Data). reply_bytes (result_reply id d)) (implied_tree y)) same ∙ ap (option_map (λ (d : Data). reply_bytes (result_reply id d))) t.1) in
     let both : None ≡ Some (reply_bytes (result_reply id t.0)) = sym (ap (option_map (λ (b : Vec ℕ Global). b.items)) none) ∙ line in
     absurd (cc both)

@@ -1,5 +1,5 @@
--- A spelled term has a tree of Kore JSON, and a result with it a line.
-use Rattle.std.proofs.Common.{◌≡◌, ℕ, Bool, true, false, not, ◌&&◌, List, [], ◌∷◌, ◌++◌, Option, Some, None, Vec, refl, sym, ap, subst, ◌∙◌}
+-- A spelled term has a tree of Kore JSON, and so has the result of a run that ended in it.
+use Rattle.std.proofs.Common.{◌≡◌, ℕ, Bool, true, false, not, ◌&&◌, List, [], ◌∷◌, ◌++◌, Option, Some, None, Vec, refl, sym, ap, ◌∙◌}
 use Rattle.std.specs.List.{list_all}
 use Rattle.std.specs.Option.{option_map}
 use Rattle.std.specs.declared.alloc.Global.{Global}
@@ -8,10 +8,15 @@ use Rattle.kp_kore.specs.Syntax.{KorePattern, KorePatterns, no_patterns, next_pa
 use Rattle.kp_kore.specs.Parts.{subpatterns, all_subpatterns}
 use Rattle.kp_json.specs.Written.{first_and_rest, pattern_tree, pattern_trees, wrapped}
 use Rattle.kp_semantics.specs.Foreign.{none_within}
-use Rattle.kp_semantics.specs.Replies.{Reason}
 use Rattle.kp_states.specs.Spelled.{is_other_form}
 use Rattle.kp_rpc.specs.Request.{RequestId}
-use Rattle.kp_rpc.specs.Reply.{reply_bytes, result_object, result_reply, result_tree, term_state}
+use Rattle.kp_rpc.specs.Reply.{reply_bytes, result_reply}
+use Rattle.kp_run.specs.declared.run.Executed.{Executed}
+use Rattle.kp_run.specs.declared.run.Stop.{Stop}
+use Rattle.kp_run.specs.declared.run.Stop.TheVariants.{Stuck, DepthBound, ForeignRule}
+use Rattle.kp_results.specs.Results.{ExecutedParts}
+use Rattle.kp_replies.specs.Written.{executed_tree}
+use Rattle.kp_server.specs.Ends.{ending_of, result_of}
 
 both : (a b : Bool) → (a && b) ≡ true → (a ≡ true) × (b ≡ true)
 both true b e = (refl, e)
@@ -65,12 +70,22 @@ mutual
       let ds = trees_of ps two.1 in
       (_, first_of (pattern_tree p) (pattern_trees ps) d.0 ds.0 d.1 ds.1)
 
--- the reply to a result of applications and literals has a line
-pub has_line : (depth : ℕ) (reason : Reason) (p : KorePattern) (id : RequestId) (o : Option (Vec ℕ Global)) → none_within is_other_form p ≡ true
-    → option_map (λ (b : Vec ℕ Global). b.items) o ≡ option_map (λ (t : Data). reply_bytes (result_reply id t)) (result_tree (record { depth = depth; reason = reason; state = record { term = p; predicate = None } }))
-    → o ≡ None → ⊥
-has_line depth reason p id o h told none =
+-- the result of a run that ended in applications and literals has a tree
+ended_tree : (n : ℕ) (stop : Stop) (p : KorePattern) (d : Data) → pattern_tree p ≡ Some d → executed_tree (record { depth = n; ending = ending_of stop; state = record { term = p; predicate = None }; nexts = [] }) ≡ None → ⊥
+ended_tree n Stuck p d is none = absurd (cc (sym (rw is refl) ∙ none))
+ended_tree n DepthBound p d is none = absurd (cc (sym (rw is refl) ∙ none))
+ended_tree n (ForeignRule id) p d is none = absurd (cc (sym (rw is refl) ∙ none))
+
+pub result_has_tree : (end : Executed) (p : KorePattern) (x : ExecutedParts) → x ≡ result_of end p → none_within is_other_form p ≡ true → executed_tree x ≡ None → ⊥
+result_has_tree end p x is h none =
     let t = tree_of p h in
-    let line = subst (λ (x : Option Data). option_map (λ (b : Vec ℕ Global). b.items) o ≡ option_map (λ (t : Data). reply_bytes (result_reply id t)) (option_map (result_object depth reason) (option_map term_state (option_map wrapped x)))) t.1 told in
-    let both : None ≡ Some (reply_bytes (result_reply id (result_object depth reason (term_state (wrapped t.0))))) = sym (ap (option_map (λ (b : Vec ℕ Global). b.items)) none) ∙ line in
-    absurd (cc both)
+    ended_tree end.depth end.stop p t.0 t.1 (ap executed_tree (sym is) ∙ none)
+
+-- a result that has a tree has a line
+pub has_line : (x : ExecutedParts) (id : RequestId) (o : Option (Vec ℕ Global)) → (executed_tree x ≡ None → ⊥)
+    → option_map (λ (b : Vec ℕ Global). b.items) o ≡ option_map (λ (t : Data). reply_bytes (result_reply id t)) (executed_tree x) → o ≡ None → ⊥
+has_line x id o some told none = some (none_of (executed_tree x) (sym told ∙ ap (option_map (λ (b : Vec ℕ Global). b.items)) none))
+  where
+    none_of : (t : Option Data) → option_map (λ (d : Data). reply_bytes (result_reply id d)) t ≡ None → t ≡ None
+    none_of None e = refl
+    none_of (Some d) e = absurd (cc e)

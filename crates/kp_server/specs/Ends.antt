@@ -9,16 +9,21 @@ use Rattle.kp_states.specs.Spelled.{IsOtherShape, first_foreign, IsGroundState}
 use Rattle.kp_run.specs.Causes.{IsStateIn, StopsUntold}
 use Rattle.kp_rpc.specs.Request.{ExecuteOptions, bound_of}
 use Rattle.kp_rpc.specs.Causes.{IsExecuteTree}
-use Rattle.kp_rpc.specs.Reply.{other_shape, not_verified, error_reply, reply_bytes, ExecuteResult, result_reply, result_tree}
+use Rattle.kp_rpc.specs.Reply.{other_shape, not_verified, error_reply, reply_bytes, result_reply}
+use Rattle.kp_results.specs.Results.{Ending, stuck, depth_bound, aborted, ExecutedParts}
+use Rattle.kp_replies.specs.Written.{executed_tree}
 use Rattle.std.specs.declared.alloc.Global.{Global}
 use Rattle.serde_json.specs.View.{view as data_view}
 use Rattle.kp_kore.specs.View.{sort_view}
 use Rattle.kp_signature.specs.Faults.{fault_view}
 use Rattle.kp_signature.specs.declared.error.VerifyError.{VerifyError}
+use Rattle.kp_semantics.specs.Causes.{foreign}
 use Rattle.kp_ground.specs.View.{value_view}
-use Rattle.kp_run.specs.Runs.{IsRunOf, reason_of, written_of}
+use Rattle.kp_run.specs.Runs.{IsRunOf, written_of}
 use Rattle.kp_states.specs.declared.state.State.{State}
 use Rattle.kp_run.specs.declared.run.Executed.{Executed}
+use Rattle.kp_run.specs.declared.run.Stop.{Stop}
+use Rattle.kp_run.specs.declared.run.Stop.TheVariants.{Stuck, DepthBound, ForeignRule}
 use Rattle.kp_rpc.specs.Readings.{read_state}
 use Rattle.kp_rpc.specs.View.{id_view, options_view, pattern_fault_view, state_fault_view}
 use Rattle.kp_rpc.specs.declared.fault.StateFault.TheVariants as fault
@@ -117,10 +122,16 @@ IsLineTo s e line = (reply : Data) × IsReplyToExecute s (data_view e.request) r
 abbrev pub unanswered_bytes : Execute → List ℕ
 unanswered_bytes e = reply_bytes (error_reply (id_view e.id) (not_verified other_shape))
 
+-- why a run ended
+abbrev pub ending_of : Stop → Ending
+ending_of Stuck = stuck
+ending_of DepthBound = depth_bound
+ending_of (ForeignRule id) = aborted (foreign (string_bytes id))
+
 -- the result of a run that ended so, with its state spelled so
-abbrev pub result_of : Executed → KorePattern → ExecuteResult
-result_of end p = record { depth = end.depth; reason = reason_of end.stop; state = record { term = p; predicate = None } }
+abbrev pub result_of : Executed → KorePattern → ExecutedParts
+result_of end p = record { depth = end.depth; ending = ending_of end.stop; state = record { term = p; predicate = None }; nexts = [] }
 
 -- the line has the result
-abbrev pub IsEndLine : Execute → Executed → KorePattern → Vec ℕ Global → Type 0
-IsEndLine e end p line = (tree : Data) × (result_tree (result_of end p) ≡ Some tree) × (line.items ≡ reply_bytes (result_reply (id_view e.id) tree))
+abbrev pub IsEndLine : Execute → ExecutedParts → Vec ℕ Global → Type 0
+IsEndLine e x line = (tree : Data) × (executed_tree x ≡ Some tree) × (line.items ≡ reply_bytes (result_reply (id_view e.id) tree))

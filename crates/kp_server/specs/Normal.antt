@@ -7,11 +7,12 @@ use Rattle.kp_kore.specs.Signature.{injection, meaning_of}
 use Rattle.kp_semantics.specs.Value.{Value}
 use Rattle.kp_semantics.specs.Instance.{Valuation, instance}
 use Rattle.kp_semantics.specs.Foreign.{none_within}
-use Rattle.kp_semantics.specs.Replies.{Reason, aborted_by_rule}
+use Rattle.kp_semantics.specs.Causes.{foreign}
 use Rattle.kp_semantics.specs.Steps.{IsFinal}
 use Rattle.kp_semantics.specs.Theory.{Theory}
 use Rattle.kp_run.specs.Causes.{Written, IsStateIn}
 use Rattle.kp_run.specs.Runs.{IsFirstUnknown}
+use Rattle.kp_results.specs.Results.{Ending, aborted}
 use Rattle.kp_states.specs.Spelled.{spelling, has_two_sorts, injection_name}
 
 -- so many steps on from what the pattern of this sort means
@@ -27,8 +28,8 @@ pub record IsNormal (t : Theory) (p : KorePattern) (sort : KoreSort) (steps : �
   pub spelled : written ≡ spelling t.signature later.sort later.value
 
 -- of the foreign rules that might rewrite the configuration, the one that is told is the first by priority, then in order
-abbrev pub TellsFirst : Theory → Reason → Value → Type 0
-TellsFirst t (aborted_by_rule id) c = IsFirstUnknown t c id
+abbrev pub TellsFirst : Theory → Ending → Value → Type 0
+TellsFirst t (aborted (foreign id)) c = IsFirstUnknown t c id
 TellsFirst t _ c = ⊤
 
 -- a run of at most so many steps ends so many steps on: at its bound, or below it in a final configuration

@@ -17,8 +17,9 @@ use Rattle.kp_states.specs.Spelled.{first_foreign}
 use Rattle.kp_rpc.specs.Frame.{IsFrame, IsWhite, most_frame}
 use Rattle.kp_rpc.specs.Request.{RequestId, ExecuteOptions, ExecuteRequest, IsExecute, ImpliesRequest, IsImplies}
 use Rattle.kp_rpc.specs.Causes.{IsRefused, IsExecuteTree, IsImpliesTree}
-use Rattle.kp_rpc.specs.Implications.{IsRightImpliesReply}
-use Rattle.kp_rpc.specs.Reply.{VerifyFault, unknown_sort, unknown_symbol, other_number, sorts_differ, wide_number, deep_term, no_literal, foreign_symbol, other_shape, RequestError, no_module, no_pattern, not_verified, error_reply, reply_bytes, IsRightReply}
+use Rattle.kp_rpc.specs.Reply.{VerifyFault, unknown_sort, unknown_symbol, other_number, sorts_differ, wide_number, deep_term, no_literal, foreign_symbol, other_shape, RequestError, no_module, no_pattern, not_verified, error_reply, reply_bytes}
+use Rattle.kp_replies.specs.Replies.{IsBare}
+use Rattle.kp_replies.specs.Right.{IsRightReply, IsRightImpliesReply}
 use Rattle.kp_server.specs.Normal.{IsNormal, TellsFirst}
 use Rattle.kp_server.specs.Setting.{IsModuleReached, Setting}
 use Rattle.kp_server.specs.Untold.{IsUntold, IsLeftOut, IsImpliesUntold}
@@ -33,8 +34,8 @@ pub record IsTold (s : Setting) (request : ExecuteRequest) : Type 0 where
   pub told : ¬ IsUntold s request.options request.state sort
 
 -- the tree is a request of execute that names no module out of reach and whose run is told, and the reply has the right
--- result of its run over the theory, in the normal spelling and without a predicate, and tells the foreign rule that goes
--- first
+-- result of its run over the theory, in the normal spelling, without a predicate and next states, and tells the foreign
+-- rule that goes first
 pub record IsAnswered (s : Setting) (d reply : Data) : Type 0 where
   pub members : Members
   pub tree : d ≡ object members
@@ -44,8 +45,8 @@ pub record IsAnswered (s : Setting) (d reply : Data) : Type 0 where
   pub is_told : IsTold s request
   pub right : IsRightReply s.theory request reply
   pub normal : IsNormal s.theory request.state is_told.sort right.result.depth right.result.state.term
-  pub first : TellsFirst s.theory right.result.reason normal.later.value
-  pub bare : right.result.state.predicate ≡ None
+  pub first : TellsFirst s.theory right.result.ending normal.later.value
+  pub bare : IsBare right.result
 
 -- ---- replies with an error
 

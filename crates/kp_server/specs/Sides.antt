@@ -5,6 +5,7 @@ use Rattle.serde_json.specs.View.{view as data_view}
 use Rattle.kp_kore.specs.Syntax.{Text, KoreSort, KorePattern, top}
 use Rattle.kp_kore.specs.Signature.{KoreSignature}
 use Rattle.kp_kore.specs.View.{sort_view}
+use Rattle.kp_semantics.specs.Implied.{Implied, not_valid, valid}
 use Rattle.kp_semantics.specs.Value.{Value}
 use Rattle.kp_ground.specs.View.{value_view}
 use Rattle.kp_modules.specs.Reaching.{has}
@@ -12,7 +13,8 @@ use Rattle.kp_states.specs.Spelled.{IsOtherShape, first_foreign}
 use Rattle.kp_states.specs.declared.state.State.{State}
 use Rattle.kp_rpc.specs.Causes.{IsImpliesTree}
 use Rattle.kp_rpc.specs.Readings.{read_side}
-use Rattle.kp_rpc.specs.Reply.{ImpliesResult, not_valid, valid, implied_tree, RequestError, no_module, not_verified, other_shape, reply_bytes, result_reply}
+use Rattle.kp_rpc.specs.Reply.{RequestError, no_module, not_verified, other_shape, reply_bytes, result_reply}
+use Rattle.kp_replies.specs.Written.{implied_tree}
 use Rattle.kp_rpc.specs.View.{id_view, name_view, state_fault_view}
 use Rattle.kp_rpc.specs.declared.request.Implies.{Implies}
 use Rattle.kp_server.specs.Ends.{IsStateAt}
@@ -120,7 +122,7 @@ abbrev pub IsImpliesLine : Setting → Implies → List ℕ → Type 0
 IsImpliesLine s e line = (reply : Data) × IsReplyToImplies s (data_view e.request) reply × (line ≡ reply_bytes reply)
 
 -- the result: valid at a sort, or not
-abbrev pub result_at : Option KoreSort → ImpliesResult
+abbrev pub result_at : Option KoreSort → Implied
 result_at None = not_valid
 result_at (Some sort) = valid (top sort) (top sort)
 

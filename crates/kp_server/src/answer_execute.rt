@@ -1,12 +1,10 @@
-ghost use Rattle.std.specs.Prelude.{◌≡◌, IfErr, IfOk, IsTrue};
+ghost use Rattle.std.specs.Prelude.{◌≡◌, ◌≢◌, IfErr, IfOk, None};
 ghost use Rattle.kp_kore.specs.View.{view};
-ghost use Rattle.kp_rpc.specs.View.{reason_view};
+ghost use Rattle.kp_replies.specs.Written.{executed_tree};
+ghost use Rattle.kp_results.specs.View.{executed_view, reason_view};
 ghost use Rattle.kp_rules.specs.Bodies.{RunsAs};
-ghost use Rattle.kp_run.specs.Runs.{reason_of as stop_reason};
-ghost use Rattle.kp_semantics.specs.Foreign.{none_within};
 ghost use Rattle.kp_semantics.specs.Theory.{Theory};
-ghost use Rattle.kp_states.specs.Spelled.{is_other_form};
-ghost use Rattle.kp_server.specs.Ends.{IsEndLine, IsEndOf, IsFailureOf, IsLineTo, IsExecuteRead, IsStateOf, IsStatePattern, options_of};
+ghost use Rattle.kp_server.specs.Ends.{ending_of, IsEndLine, IsEndOf, IsFailureOf, IsLineTo, IsExecuteRead, IsStateOf, IsStatePattern, options_of, result_of as end_result};
 ghost use Rattle.kp_server.specs.Setting.{IsSettingOf, IsModuleReached, Setting};
 
 use crate::asked::{check_module, rules_of};
@@ -15,9 +13,9 @@ use crate::untold::{asks_for_more, ground_state, not_answered, unanswered_line};
 use kp_json::{JsonError, pattern_of};
 use kp_kore::Pattern;
 use kp_modules::Table;
-use kp_rpc::{
-    Execute, Reason, StateFault, bound_of, fault_text, result_text, state_of as state_tree_of,
-};
+use kp_replies::executed_text;
+use kp_results::{Cause, Executed as Written, Reason, State as WrittenState};
+use kp_rpc::{Execute, StateFault, bound_of, fault_text, state_of as state_tree_of};
 use kp_rules::RuleSet;
 use kp_run::{Executed, RunError, Stop, execute};
 use kp_signature::verify;
@@ -51,7 +49,10 @@ fn answer_end(
     ensures { (s : Setting) → RunsAs s.theory rules.now → IsEndOf s request.now end.now → IfOk result (λ line. IsLineTo s request.now line.items) }
 {
     match spelled(alloc, &rules.signature, &end.state.value, &end.state.sort) {
-        Ok(term) => end_line(alloc, request, end, &term),
+        Ok(term) => {
+            let written = result_of(alloc, end, term)?;
+            end_line(alloc, request, &written)
+        }
         Err(SpellingError::NoInjection) => unanswered_line(alloc, request),
         Err(SpellingError::Memory) => Err(AllocError),
     }
@@ -59,27 +60,39 @@ fn answer_end(
 
 /// The reason of a reply.
 fn reason_of(stop: &Stop) -> Result<Reason, AllocError>
-    ensures { IfOk result (λ reason. reason_view reason ≡ stop_reason stop.now) }
+    ensures { IfOk result (λ reason. reason_view reason ≡ ending_of stop.now) }
 {
     match stop {
         Stop::Stuck => Ok(Reason::Stuck),
         Stop::DepthBound => Ok(Reason::DepthBound),
-        Stop::ForeignRule { id } => Ok(Reason::AbortedByRule { id: id.clone()? }),
+        Stop::ForeignRule { id } => Ok(Reason::Aborted {
+            cause: Cause::ForeignRule { id: id.clone()? },
+        }),
     }
 }
 
-/// The reply with a term of applications and literals.
-fn end_line(
-    alloc: Global,
-    request: &Execute,
-    end: &Executed,
-    term: &Pattern,
-) -> Result<Vec<u8>, AllocError>
-    requires { IsTrue (none_within is_other_form (view term.now)) }
-    ensures { IfOk result (IsEndLine request.now end.now (view term.now)) }
+/// The result of a run whose last state is spelled so.
+fn result_of(alloc: Global, end: &Executed, term: Pattern) -> Result<Written, AllocError>
+    ensures { IfOk result (λ x. executed_view x ≡ end_result end.now (view term)) }
 {
     let reason = reason_of(&end.stop)?;
-    match result_text(alloc, &request.id, end.depth, &reason, term)? {
+    Ok(Written {
+        depth: end.depth,
+        state: WrittenState {
+            term,
+            predicate: None,
+        },
+        reason,
+        next_states: Vec::new(alloc),
+    })
+}
+
+/// The reply with a result that has a tree of Kore JSON.
+fn end_line(alloc: Global, request: &Execute, written: &Written) -> Result<Vec<u8>, AllocError>
+    requires { executed_tree (executed_view written.now) ≢ None }
+    ensures { IfOk result (IsEndLine request.now (executed_view written.now)) }
+{
+    match executed_text(alloc, &request.id, written)? {
         Some(line) => Ok(line),
         None => unreachable!(),
     }

@@ -4,7 +4,7 @@ ghost use Rattle.serde_json.specs.View.{view as data_view};
 ghost use Rattle.kp_kore.specs.Syntax.{top};
 ghost use Rattle.kp_kore.specs.View.{view, sort_view};
 ghost use Rattle.kp_json.specs.Trees.{SpellsWrapped};
-ghost use Rattle.kp_rpc.specs.View.{implied_view};
+ghost use Rattle.kp_results.specs.View.{implied_view};
 ghost use Rattle.kp_signature.specs.View.{signature_view};
 ghost use Rattle.kp_server.specs.Setting.{IsSettingOf, Setting};
 ghost use Rattle.kp_server.specs.Sides.{IsImpliedOf, IsImpliesFailure, IsImpliesLine, IsImpliesRead, IsResultLine, IsSideAt, IsSideFailure, IsTreeFailure, antecedent_tree, consequent_tree, result_at};
@@ -15,9 +15,9 @@ use crate::untold::{compared_sides, not_answered, side_state};
 use kp_json::{JsonError, pattern_of};
 use kp_kore::{Pattern, Sort};
 use kp_modules::Table;
-use kp_rpc::{
-    Implied, Implies, StateFault, antecedent_of, consequent_of, fault_text, implied_text,
-};
+use kp_replies::implied_text;
+use kp_results::Implied;
+use kp_rpc::{Implies, StateFault, antecedent_of, consequent_of, fault_text};
 use kp_signature::{Signature, verify};
 use kp_states::State;
 use serde_json::Value;

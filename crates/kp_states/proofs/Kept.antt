@@ -1,11 +1,10 @@
 -- How deep the value of a right term is, where the left term shows it.
-use Rattle.std.proofs.Common.{◌≡◌, refl, sym, ap, subst, ◌∙◌, ℕ, ℤ, ◌+◌, ◌<◌, ◌≤◌, min, Bool, true, false, ◌↔◌, List, [], ◌∷◌, length, map, get_or, arith}
-use Rattle.std.specs.Prelude.{IsTrue}
+use Rattle.std.proofs.Common.{◌≡◌, refl, ap, subst, ℕ, ℤ, ◌+◌, ◌<◌, ◌≤◌, min, Bool, false, List, [], ◌∷◌, length, map, get_or, arith}
 use Rattle.kp_kore.specs.Syntax.{KoreSort, KorePattern, literal}
 use Rattle.kp_kore.specs.Attributes.{sorts_equal}
 use Rattle.kp_kore.specs.Hooks.{Hook, whole_arithmetic, whole_comparison, truth_connective, truth_negation, values_equal, values_different}
 use Rattle.kp_kore.specs.Parts.{term_depth, most_term_depth}
-use Rattle.kp_kore.specs.View.{sort_view, sorts_view}
+use Rattle.kp_kore.specs.View.{sorts_view}
 use Rattle.kp_kore.specs.Signature.{KoreSignature}
 use Rattle.kp_kore.specs.declared.sort.Sort.{Sort}
 use Rattle.kp_semantics.specs.Value as model
@@ -20,7 +19,7 @@ use Rattle.kp_ground.specs.View.{values_of}
 use Rattle.kp_ground.specs.declared.left.Left.{Left}
 use Rattle.kp_ground.specs.declared.term.Term.{Term}
 use Rattle.kp_states.specs.Spelled.{spelling, spellings, home_of, placed, injected}
-use Rattle.kp_states.proofs.Depths.{first_depth, all_depth, one_depth, member_within, next_within, all_within}
+use Rattle.kp_states.proofs.Depths.{first_depth, one_depth, member_within, next_within, all_within}
 use Rattle.kp_states.proofs.SpelledForms.{chosen}
 
 -- ---- lists of left terms

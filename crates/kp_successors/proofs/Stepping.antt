@@ -30,7 +30,7 @@ use Rattle.kp_successors.proofs.Refused.{caused_by}
 -- ---- the rules over the signature that the code has
 
 abbrev Here : RuleSet → KoreSignature
-Here rules = signature_view rules.signature
+Here rules = signature_view rules.signature.value
 
 pub least_there : (t : Theory) (rules : RuleSet) (u : Value) (o : Option ℕ) → RunsAs t rules → IsLeast (Here rules) u rules.rules.items o → IsLeast t.signature u rules.rules.items o
 least_there t rules u o runs h = subst (λ g. IsLeast g u rules.rules.items o) runs.signature h
@@ -45,7 +45,7 @@ pub none_are : (t : Theory) (rules : RuleSet) (u : Value) → RunsAs t rules →
 none_are t rules u runs s least = no_successors t rules u runs s (least_there t rules u None runs least)
 
 abbrev NoWideCondition : KoreSignature → Value → RuleSet → Type 0
-NoWideCondition g u rules = AllByRecursion (λ r. ¬ BodyIsWide g u r.body) rules.rules.items
+NoWideCondition g u rules = AllByRecursion (λ r. ¬ BodyIsWide g u r.body.value) rules.rules.items
 
 conditions_there : (t : Theory) (rules : RuleSet) (u : Value) → RunsAs t rules → IsSorted t.signature u → NoWideCondition (Here rules) u rules → ¬ AnyByRecursion (λ m. HasWideCondition t.signature u m.body) t.rules
 conditions_there t rules u runs s h = conditions_narrow t rules u runs s (subst (λ g. NoWideCondition g u rules) runs.signature h)
@@ -62,29 +62,29 @@ none_narrow t rules u runs s least conditions (inl some) = conditions_there t ru
 none_narrow t rules u runs s least conditions (inr some) = no_turns t rules u runs s (least_there t rules u None runs least) some
 
 -- some rule is
-condition_there : (t : Theory) (rules : RuleSet) (u : Value) → RunsAs t rules → IsSorted t.signature u → AnyByRecursion (λ r. BodyIsWide (Here rules) u r.body) rules.rules.items → HasWideRule t u
-condition_there t rules u runs s some = inl (condition_wide t rules u runs s (subst (λ g. AnyByRecursion (λ r. BodyIsWide g u r.body) rules.rules.items) runs.signature some))
+condition_there : (t : Theory) (rules : RuleSet) (u : Value) → RunsAs t rules → IsSorted t.signature u → AnyByRecursion (λ r. BodyIsWide (Here rules) u r.body.value) rules.rules.items → HasWideRule t u
+condition_there t rules u runs s some = inl (condition_wide t rules u runs s (subst (λ g. AnyByRecursion (λ r. BodyIsWide g u r.body.value) rules.rules.items) runs.signature some))
 
-pub least_refused : (t : Theory) (rules : RuleSet) (u : Value) (e : GroundError) → RunsAs t rules → IsSorted t.signature u → IsCausedBy (Here rules) (AnyByRecursion (λ r. BodyIsWide (Here rules) u r.body) rules.rules.items) e → IsCausedBy t.signature (HasWideRule t u) e
+pub least_refused : (t : Theory) (rules : RuleSet) (u : Value) (e : GroundError) → RunsAs t rules → IsSorted t.signature u → IsCausedBy (Here rules) (AnyByRecursion (λ r. BodyIsWide (Here rules) u r.body.value) rules.rules.items) e → IsCausedBy t.signature (HasWideRule t u) e
 least_refused t rules u e runs s h =
     subst (λ g. IsCausedBy g (HasWideRule t u) e) runs.signature
-    (caused_by (Here rules) (AnyByRecursion (λ r. BodyIsWide (Here rules) u r.body) rules.rules.items) (HasWideRule t u) e (condition_there t rules u runs s) h)
+    (caused_by (Here rules) (AnyByRecursion (λ r. BodyIsWide (Here rules) u r.body.value) rules.rules.items) (HasWideRule t u) e (condition_there t rules u runs s) h)
 
 either_wide : (t : Theory) (rules : RuleSet) (u : Value) (n : ℕ) → RunsAs t rules → IsSorted t.signature u → IsLeast (Here rules) u rules.rules.items (Some n) →
-    AnyByRecursion (λ r. BodyIsWide (Here rules) u r.body) rules.rules.items ⊎ AnyByRecursion (IsWideAt (Here rules) u n) rules.rules.items → HasWideRule t u
+    AnyByRecursion (λ r. BodyIsWide (Here rules) u r.body.value) rules.rules.items ⊎ AnyByRecursion (IsWideAt (Here rules) u n) rules.rules.items → HasWideRule t u
 either_wide t rules u n runs s least (inl some) = condition_there t rules u runs s some
 either_wide t rules u n runs s least (inr some) =
     inr (right_wide t rules u n runs s (least_there t rules u (Some n) runs least) (subst (λ g. AnyByRecursion (IsWideAt g u n) rules.rules.items) runs.signature some))
 
 abbrev IsWideRuleHere : RuleSet → Value → ℕ → Type 0
-IsWideRuleHere rules u n = AnyByRecursion (λ r. BodyIsWide (Here rules) u r.body ⊎ IsWideAt (Here rules) u n r) rules.rules.items
+IsWideRuleHere rules u n = AnyByRecursion (λ r. BodyIsWide (Here rules) u r.body.value ⊎ IsWideAt (Here rules) u n r) rules.rules.items
 
 pub nexts_refused : (t : Theory) (rules : RuleSet) (u : Value) (n : ℕ) (e : GroundError) → RunsAs t rules → IsSorted t.signature u → IsLeast (Here rules) u rules.rules.items (Some n) → IsCausedBy (Here rules) (IsWideRuleHere rules u n) e →
     IsCausedBy t.signature (HasWideRule t u) e
 nexts_refused t rules u n e runs s least h =
     subst (λ g. IsCausedBy g (HasWideRule t u) e) runs.signature
     (caused_by (Here rules) (IsWideRuleHere rules u n) (HasWideRule t u) e
-    (λ some. either_wide t rules u n runs s least (split_any (λ r. BodyIsWide (Here rules) u r.body) (IsWideAt (Here rules) u n) rules.rules.items some)) h)
+    (λ some. either_wide t rules u n runs s least (split_any (λ r. BodyIsWide (Here rules) u r.body.value) (IsWideAt (Here rules) u n) rules.rules.items some)) h)
 
 -- ---- the pattern's value
 

@@ -55,4 +55,4 @@ LeavesOpen g (Foreign k) = ⊥
 
 -- some rule of the rule set has such a variable
 abbrev pub SomeLeavesOpen : RuleSet → Type 0
-SomeLeavesOpen rules = AnyByRecursion (λ r. LeavesOpen (signature_view rules.signature) r.body) rules.rules.items
+SomeLeavesOpen rules = AnyByRecursion (λ r. LeavesOpen (signature_view rules.signature.value) r.body.value) rules.rules.items

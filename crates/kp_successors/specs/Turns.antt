@@ -28,7 +28,7 @@ Follows g u (Foreign k) p = ⊥
 
 -- and this is its priority number
 abbrev pub IsWideAt : KoreSignature → Value → ℕ → Rule → Type 0
-IsWideAt g u n r = (r.priority ≡ n) × RightIsWide g u r.body
+IsWideAt g u n r = (r.priority ≡ n) × RightIsWide g u r.body.value
 
 -- the pattern, if there is one
 abbrev pub next_list : Option Pattern → List KorePattern
@@ -37,11 +37,11 @@ next_list (Some p) = view p ∷ []
 
 -- no rule fires, or this is the least priority number of those that do
 abbrev pub IsLeast : KoreSignature → Value → List Rule → Option ℕ → Type 0
-IsLeast g u rules None = AllByRecursion (λ r. ¬ BodyFires g u r.body) rules
-IsLeast g u rules (Some n) = AllByRecursion (λ r. BodyFires g u r.body → n ≤ r.priority) rules × AnyByRecursion (FiresAt g u n) rules
+IsLeast g u rules None = AllByRecursion (λ r. ¬ BodyFires g u r.body.value) rules
+IsLeast g u rules (Some n) = AllByRecursion (λ r. BodyFires g u r.body.value → n ≤ r.priority) rules × AnyByRecursion (FiresAt g u n) rules
 
 -- one pattern for each rule that fires and has this priority number
 abbrev pub AreNexts : KoreSignature → Value → ℕ → List Rule → List KorePattern → Type 0
 AreNexts g u n [] ps = ps ≡ []
 AreNexts g u n (r ∷ rs) ps =
-    ((¬ FiresAt g u n r) × AreNexts g u n rs ps) ⊎ (FiresAt g u n r × FirstThen (Follows g u r.body) (AreNexts g u n rs) ps)
+    ((¬ FiresAt g u n r) × AreNexts g u n rs ps) ⊎ (FiresAt g u n r × FirstThen (Follows g u r.body.value) (AreNexts g u n rs) ps)

@@ -26,12 +26,12 @@ fn fires(
     rule: &Rule,
     value: &Value,
 ) -> Result<bool, GroundError>
-    ensures fires { IfOk result (λ b. IsTrue b ↔ BodyFires (signature_view signature.now) (value_view value.now) rule.now.body) }
-    ensures narrow { OnOk result (¬ BodyIsWide (signature_view signature.now) (value_view value.now) rule.now.body) }
-    ensures refused { IfErr result (IsCausedBy (signature_view signature.now) (BodyIsWide (signature_view signature.now) (value_view value.now) rule.now.body)) }
-    ensures unbound { IfErr result (λ e. e ≡ Unbound → LeavesOpen (signature_view signature.now) rule.now.body) }
+    ensures fires { IfOk result (λ b. IsTrue b ↔ BodyFires (signature_view signature.now) (value_view value.now) rule.now.body.value) }
+    ensures narrow { OnOk result (¬ BodyIsWide (signature_view signature.now) (value_view value.now) rule.now.body.value) }
+    ensures refused { IfErr result (IsCausedBy (signature_view signature.now) (BodyIsWide (signature_view signature.now) (value_view value.now) rule.now.body.value)) }
+    ensures unbound { IfErr result (λ e. e ≡ Unbound → LeavesOpen (signature_view signature.now) rule.now.body.value) }
 {
-    match &rule.body {
+    match &*rule.body {
         RuleBody::Foreign(_) => Ok(false),
         RuleBody::Rewrite(rewrite) => Ok(rewrite.fires(alloc, signature, value)?.is_some()),
     }
@@ -39,7 +39,7 @@ fn fires(
 
 /// The least priority number when one more rule is asked.
 fn least_after(least: Option<u32>, priority: u32, fires: bool) -> Option<u32>
-    ensures { (g : KoreSignature) (u : model.Value) (rules : List Rule) (r : Rule) → IsLeast g u rules least → r.priority ≡ priority → IsTrue fires ↔ BodyFires g u r.body → IsLeast g u (rules ++ r ∷ []) result }
+    ensures { (g : KoreSignature) (u : model.Value) (rules : List Rule) (r : Rule) → IsLeast g u rules least → r.priority ≡ priority → IsTrue fires ↔ BodyFires g u r.body.value → IsLeast g u (rules ++ r ∷ []) result }
 {
     if !fires {
         return least;
@@ -62,9 +62,9 @@ pub fn least_priority(
     rules: &RuleSet,
     value: &Value,
 ) -> Result<Option<u32>, GroundError>
-    ensures least { IfOk result (λ o. IsLeast (signature_view rules.now.signature) (value_view value.now) rules.now.rules.items o) }
-    ensures narrow { OnOk result (AllByRecursion (λ r. ¬ BodyIsWide (signature_view rules.now.signature) (value_view value.now) r.body) rules.now.rules.items) }
-    ensures refused { IfErr result (IsCausedBy (signature_view rules.now.signature) (AnyByRecursion (λ r. BodyIsWide (signature_view rules.now.signature) (value_view value.now) r.body) rules.now.rules.items)) }
+    ensures least { IfOk result (λ o. IsLeast (signature_view rules.now.signature.value) (value_view value.now) rules.now.rules.items o) }
+    ensures narrow { OnOk result (AllByRecursion (λ r. ¬ BodyIsWide (signature_view rules.now.signature.value) (value_view value.now) r.body.value) rules.now.rules.items) }
+    ensures refused { IfErr result (IsCausedBy (signature_view rules.now.signature.value) (AnyByRecursion (λ r. BodyIsWide (signature_view rules.now.signature.value) (value_view value.now) r.body.value) rules.now.rules.items)) }
     ensures unbound { IfErr result (λ e. e ≡ Unbound → SomeLeavesOpen rules.now) }
 {
     let mut least = None;

@@ -115,15 +115,15 @@ fn next_at(
     priority: u32,
 ) -> Result<Option<Pattern>, GroundError>
     ensures next { IfOk result (λ o. MatchOption o (¬ FiresAt (signature_view signature.now) (value_view value.now) priority rule.now)
-        (λ p. FiresAt (signature_view signature.now) (value_view value.now) priority rule.now × Follows (signature_view signature.now) (value_view value.now) rule.now.body (view p))) }
+        (λ p. FiresAt (signature_view signature.now) (value_view value.now) priority rule.now × Follows (signature_view signature.now) (value_view value.now) rule.now.body.value (view p))) }
     ensures narrow { OnOk result (¬ IsWideAt (signature_view signature.now) (value_view value.now) priority rule.now) }
-    ensures refused { IfErr result (IsCausedBy (signature_view signature.now) (BodyIsWide (signature_view signature.now) (value_view value.now) rule.now.body ⊎ IsWideAt (signature_view signature.now) (value_view value.now) priority rule.now)) }
-    ensures unbound { IfErr result (λ e. e ≡ Unbound → LeavesOpen (signature_view signature.now) rule.now.body) }
+    ensures refused { IfErr result (IsCausedBy (signature_view signature.now) (BodyIsWide (signature_view signature.now) (value_view value.now) rule.now.body.value ⊎ IsWideAt (signature_view signature.now) (value_view value.now) priority rule.now)) }
+    ensures unbound { IfErr result (λ e. e ≡ Unbound → LeavesOpen (signature_view signature.now) rule.now.body.value) }
 {
     if rule.priority != priority {
         return Ok(None);
     }
-    match &rule.body {
+    match &*rule.body {
         RuleBody::Foreign(_) => Ok(None),
         RuleBody::Rewrite(rewrite) => next_on(alloc, signature, rewrite, value),
     }
@@ -136,9 +136,9 @@ pub fn nexts_at(
     value: &Value,
     priority: u32,
 ) -> Result<Vec<Pattern>, GroundError>
-    ensures nexts { IfOk result (λ ps. AreNexts (signature_view rules.now.signature) (value_view value.now) priority rules.now.rules.items (map view ps.items)) }
-    ensures narrow { OnOk result (AllByRecursion (λ r. ¬ IsWideAt (signature_view rules.now.signature) (value_view value.now) priority r) rules.now.rules.items) }
-    ensures refused { IfErr result (IsCausedBy (signature_view rules.now.signature) (AnyByRecursion (λ r. BodyIsWide (signature_view rules.now.signature) (value_view value.now) r.body ⊎ IsWideAt (signature_view rules.now.signature) (value_view value.now) priority r) rules.now.rules.items)) }
+    ensures nexts { IfOk result (λ ps. AreNexts (signature_view rules.now.signature.value) (value_view value.now) priority rules.now.rules.items (map view ps.items)) }
+    ensures narrow { OnOk result (AllByRecursion (λ r. ¬ IsWideAt (signature_view rules.now.signature.value) (value_view value.now) priority r) rules.now.rules.items) }
+    ensures refused { IfErr result (IsCausedBy (signature_view rules.now.signature.value) (AnyByRecursion (λ r. BodyIsWide (signature_view rules.now.signature.value) (value_view value.now) r.body.value ⊎ IsWideAt (signature_view rules.now.signature.value) (value_view value.now) priority r) rules.now.rules.items)) }
     ensures unbound { IfErr result (λ e. e ≡ Unbound → SomeLeavesOpen rules.now) }
 {
     let mut found = Vec::new(alloc);

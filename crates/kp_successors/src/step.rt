@@ -45,17 +45,17 @@ pub fn ground_step(
     let value = value_of(alloc, &rules.signature, pattern)?;
     let nexts = nexts_of(alloc, rules, &value)?;
     match foreign_on(alloc, rules, &value)? {
-        Some(rule) => Err(foreign(rule)?),
+        Some(rule) => Err(foreign(alloc, rule)?),
         None => Ok(nexts),
     }
 }
 
 /// G2 by the rule.
-fn foreign(rule: &Rule) -> Result<GroundError, AllocError>
-    ensures { IfOk result (IsForeignBy (string_bytes rule.now.id)) }
+fn foreign(alloc: Global, rule: &Rule) -> Result<GroundError, AllocError>
+    ensures { IfOk result (IsForeignBy (string_bytes rule.now.id.value)) }
 {
     Ok(GroundError::Foreign {
-        id: rule.id.clone()?,
+        id: String::from_str(alloc, rule.id.as_str())?,
     })
 }
 

@@ -2,19 +2,18 @@
 use Rattle.std.proofs.Common.{◌≡◌, refl, sym, ◌∙◌, ap, subst, Bool, true, false, not, ◌&&◌, List, [], ◌∷◌, map, Option, Some, None}
 use Rattle.std.specs.Prelude.{if◌then◌else◌, ⊤}
 use Rattle.std.specs.Bool.{beq}
-use Rattle.std.specs.Option.{option_map}
-use Rattle.std.specs.List.{AllByRecursion, Contains, find}
+use Rattle.std.specs.List.{AllByRecursion, Contains}
 use Rattle.std.specs.Str.{bytes_eq}
-use Rattle.std.specs.Prelude.{codes}
 use Rattle.std.proofs.lemmas.Slice.Eq.{bytes_eq-Decides}
-use Rattle.kp_kore.specs.Syntax.{Text, KoreSort, sort_variable, KoreSorts, no_sorts, next_sort, SortDeclaration}
+use Rattle.kp_kore.specs.Syntax.{Text, KoreSort, sort_variable, KoreSorts, no_sorts, next_sort}
 use Rattle.kp_kore.specs.Attributes.{sorts_equal}
 use Rattle.kp_kore.specs.Hooks.{Connective, both, either, implies, same as same_truth, other, Hook, whole_arithmetic, whole_comparison, truth_connective, truth_negation, values_equal, values_different, equal}
 use Rattle.kp_kore.specs.Parts.{SortedName}
-use Rattle.kp_kore.specs.Signature.{KoreSignature, SymbolMeaning, injection, construction, interpretation, foreign, meaning_of, boolean_sort, is_boolean_sort, is_the, declared_sort, has_hook, are_one, are_two, fits_hook, itself}
+use Rattle.kp_kore.specs.Signature.{KoreSignature, SymbolMeaning, injection, construction, interpretation, foreign, meaning_of, boolean_sort, is_boolean_sort, has_only_truths, is_the, is_truth_sort, are_one, are_two, fits_hook, itself}
 use Rattle.kp_semantics.specs.Value.{Value, whole, truth, token, constructed, Values, no_values, next_value, HasSort, HaveSorts, ArgumentSorts}
 use Rattle.kp_semantics.proofs.InstanceLemmas.{first_true, second_true}
 use Rattle.kp_semantics.proofs.SameLemmas.{sorts_equal-Decides}
+use Rattle.kp_sorts.proofs.SortLemmas.{is_that_sort, boolean_is_plain}
 use Rattle.kp_states.specs.Spelled.{places_of, NumbersFit, AllNumbersFit}
 use Rattle.kp_symbolic.specs.Terms.{SymbolicTerm, unknown, offset, known, headed, SymbolicTerms, no_terms, next_term, term_variables, all_term_variables}
 use Rattle.kp_symbolic.specs.Formulas.{Formula, fact, all_of, one_of, Formulas, no_formulas, next_formula, crossed, joined, formula_clauses, joined_clauses, crossed_clauses}
@@ -25,7 +24,6 @@ use Rattle.kp_symbolic.specs.Folding.{sum_of}
 use Rattle.kp_symbolic.specs.Heads.{is_construction}
 use Rattle.kp_symbolic.specs.Opening.{fixed, all_if, pair, truth_sort, is_true, equality_fact, compared_at_once, fixed_or, is_never, unconstructed, is_kept_truth, Seen, seen, Seens, none_seen, next_seen, asked, opened_agreement, opened_truths, opened_sides, sorts_of_members, opened_seen, opened_members, common_sort, opened_call, constructor_if, seen_value, seen_values, seen_term, seen_terms, opened_same}
 use Rattle.kp_symbolic.proofs.Distribution.{all_both, all_first, all_second, joined_both, kept_are}
-use Rattle.kp_symbolic.proofs.Folded.{is_the_sort}
 use Rattle.kp_symbolic.proofs.WellSorted.{plain_symbol, places_are}
 use Rattle.kp_symbolic.proofs.SortedFolding.{symbol_fits}
 
@@ -108,6 +106,9 @@ equality_good g hand b s t u i j = ((i.0, j.0), all_both (λ x. Contains hand x)
 truth_sort_is : (g : KoreSignature) (s : KoreSort) → boolean_sort g ≡ Some s → truth_sort g ≡ s
 truth_sort_is g s e = rw e refl
 
+truth_sort_meant : (g : KoreSignature) (s : KoreSort) → is_truth_sort g s ≡ true → boolean_sort g ≡ Some s
+truth_sort_meant g s e = is_that_sort (boolean_sort g) s (first_true (is_boolean_sort g s) (has_only_truths g s) e)
+
 true_good : (g : KoreSignature) (hand : List SortedName) (b : Bool) (s : KoreSort) (t : SymbolicTerm) → boolean_sort g ≡ Some s → GoodTerm g hand s t → AllFacts (Good g hand) (is_true g b t)
 true_good g hand b s t e i = subst (λ a. AllFacts (Good g hand) (equality_fact b a t (known (truth true)))) (sym (truth_sort_is g s e)) (equality_good g hand b s t (known (truth true)) i (((s, e, itself s), tt), tt))
 
@@ -146,10 +147,10 @@ by_form P b false true truths sides i j = i refl
 by_form P b false false truths sides i j = j
 
 mutual
-  seen_good : (g : KoreSignature) (hand : List SortedName) (alone b : Bool) (s x y : KoreSort) (kept : Formula Literal) (m n : Seen) → IsGoodSeen g hand x m → IsGoodSeen g hand y n → (is_boolean_sort g s ≡ true → (x ≡ s) × (y ≡ s)) → AllFacts (Good g hand) kept → AllFacts (Good g hand) (opened_seen g alone b s kept m n)
+  seen_good : (g : KoreSignature) (hand : List SortedName) (alone b : Bool) (s x y : KoreSort) (kept : Formula Literal) (m n : Seen) → IsGoodSeen g hand x m → IsGoodSeen g hand y n → (is_truth_sort g s ≡ true → (x ≡ s) × (y ≡ s)) → AllFacts (Good g hand) kept → AllFacts (Good g hand) (opened_seen g alone b s kept m n)
   seen_good g hand alone b s x y kept (seen t p c ms) (seen u q d ns) i j o k =
-      by_form (Good g hand) b (terms_same t u) (is_boolean_sort g s) (opened_truths g alone b kept (seen t p c ms) (seen u q d ns)) (opened_sides g b kept t u c d (opened_members g (alone && b) b (sorts_of_members g c) ms ns))
-      (λ e. truths_good g hand alone b s kept (seen t p c ms) (seen u q d ns) (is_the_sort (boolean_sort g) s e) (subst (λ z. IsGoodSeen g hand z (seen t p c ms)) (o e).0 i) (subst (λ z. IsGoodSeen g hand z (seen u q d ns)) (o e).1 j) k)
+      by_form (Good g hand) b (terms_same t u) (is_truth_sort g s) (opened_truths g alone b kept (seen t p c ms) (seen u q d ns)) (opened_sides g b kept t u c d (opened_members g (alone && b) b (sorts_of_members g c) ms ns))
+      (λ e. truths_good g hand alone b s kept (seen t p c ms) (seen u q d ns) (truth_sort_meant g s e) (subst (λ z. IsGoodSeen g hand z (seen t p c ms)) (o e).0 i) (subst (λ z. IsGoodSeen g hand z (seen u q d ns)) (o e).1 j) k)
       (sides_good g (Good g hand) b kept t u c d (opened_members g (alone && b) b (sorts_of_members g c) ms ns)
       (λ l e f. members_good g hand (alone && b) b (sorts_of_members g c) ms ns i.2 (subst (λ z. AreGoodSeen g hand (sorts_of_members g z) ns) (f ∙ sym e) j.2)) k)
 
@@ -164,16 +165,19 @@ mutual
 
 -- ---- calls
 
-no_variable : (o : Option SortDeclaration) → is_the (option_map declared_sort o) (sort_variable []) ≡ true → ⊥
-no_variable (Some d) e = cc
-no_variable None e = cc
+no_variable : (o : Option KoreSort) → ((s : KoreSort) → o ≡ Some s → sorts_equal s (sort_variable []) ≡ false) → is_the o (sort_variable []) ≡ true → ⊥
+no_variable (Some s) f e = false_true (sym (f s refl) ∙ e)
+  where
+    false_true : false ≡ true → ⊥
+    false_true h = cc
+no_variable None f e = cc
 
-common_good : (g : KoreSignature) (a b : KoreSort) → is_boolean_sort g (common_sort (next_sort a (next_sort b no_sorts))) ≡ true → (a ≡ common_sort (next_sort a (next_sort b no_sorts))) × (b ≡ common_sort (next_sort a (next_sort b no_sorts)))
+common_good : (g : KoreSignature) (a b : KoreSort) → is_truth_sort g (common_sort (next_sort a (next_sort b no_sorts))) ≡ true → (a ≡ common_sort (next_sort a (next_sort b no_sorts))) × (b ≡ common_sort (next_sort a (next_sort b no_sorts)))
 common_good g a b e = by (sorts_equal a b) (sorts_equal-Decides a b).0 e
   where
-    by : (c : Bool) → (c ≡ true → a ≡ b) → is_boolean_sort g (if c then a else sort_variable []) ≡ true → (a ≡ (if c then a else sort_variable [])) × (b ≡ (if c then a else sort_variable []))
+    by : (c : Bool) → (c ≡ true → a ≡ b) → is_truth_sort g (if c then a else sort_variable []) ≡ true → (a ≡ (if c then a else sort_variable [])) × (b ≡ (if c then a else sort_variable []))
     by true i h = (refl, sym (i refl))
-    by false i h = absurd (no_variable (find (has_hook (codes "BOOL.Bool")) g.sorts) h)
+    by false i h = absurd (no_variable (boolean_sort g) (boolean_is_plain g) (first_true (is_boolean_sort g (sort_variable [])) (has_only_truths g (sort_variable [])) h))
 
 connected_good : (g : KoreSignature) (hand : List SortedName) (k : Connective) (ss : KoreSorts) (m n : Seen) (alone b : Bool) (s : KoreSort) (kept : Formula Literal) → boolean_sort g ≡ Some s → IsGoodSeen g hand s m → IsGoodSeen g hand s n → AllFacts (Good g hand) (opened_call g ss (interpretation (truth_connective k)) (next_seen m (next_seen n none_seen)) alone b kept)
 connected_good g hand both ss m n alone b s kept e i j = if_good (Good g hand) b (pair (asked g (alone && b) b m) (asked g (alone && b) b n)) (asked_good g hand (alone && b) b s m e i, (asked_good g hand (alone && b) b s n e j, tt))
@@ -198,12 +202,12 @@ abbrev CallGood : KoreSignature → List SortedName → Hook → Seens → Bool 
 CallGood g hand h ms alone b kept ss = AreGoodSeen g hand ss ms → AllFacts (Good g hand) (opened_call g ss (interpretation h) ms alone b kept)
 
 call_good : (g : KoreSignature) (hand : List SortedName) (h : Hook) (ss : KoreSorts) (s : KoreSort) (ms : Seens) (alone b : Bool) (kept : Formula Literal) → fits_hook g h ss s ≡ true → AllFacts (Good g hand) kept → CallGood g hand h ms alone b kept ss
-call_good g hand truth_negation ss s (next_seen m none_seen) alone b kept e k = one_of_sorts (is_boolean_sort g) (CallGood g hand truth_negation (next_seen m none_seen) alone b kept) ss (first_true (are_one (is_boolean_sort g) ss) (is_boolean_sort g s) e)
-    (λ x i a. asked_good g hand alone (not b) x m (is_the_sort (boolean_sort g) x i) a.0)
+call_good g hand truth_negation ss s (next_seen m none_seen) alone b kept e k = one_of_sorts (is_truth_sort g) (CallGood g hand truth_negation (next_seen m none_seen) alone b kept) ss (first_true (are_one (is_truth_sort g) ss) (is_truth_sort g s) e)
+    (λ x i a. asked_good g hand alone (not b) x m (truth_sort_meant g x i) a.0)
 call_good g hand truth_negation ss s none_seen alone b kept e k = λ a. k
 call_good g hand truth_negation ss s (next_seen m (next_seen n ms)) alone b kept e k = λ a. k
-call_good g hand (truth_connective c) ss s (next_seen m (next_seen n none_seen)) alone b kept e k = two_of (is_boolean_sort g) (CallGood g hand (truth_connective c) (next_seen m (next_seen n none_seen)) alone b kept) ss (first_true (are_two (is_boolean_sort g) ss) (is_boolean_sort g s) e)
-    (λ x y i j a. connected_good g hand c (next_sort x (next_sort y no_sorts)) m n alone b x kept (is_the_sort (boolean_sort g) x i) a.0 (subst (λ z. IsGoodSeen g hand z n) (one_sort (boolean_sort g) y x (is_the_sort (boolean_sort g) y j) (is_the_sort (boolean_sort g) x i)) a.1.0))
+call_good g hand (truth_connective c) ss s (next_seen m (next_seen n none_seen)) alone b kept e k = two_of (is_truth_sort g) (CallGood g hand (truth_connective c) (next_seen m (next_seen n none_seen)) alone b kept) ss (first_true (are_two (is_truth_sort g) ss) (is_truth_sort g s) e)
+    (λ x y i j a. connected_good g hand c (next_sort x (next_sort y no_sorts)) m n alone b x kept (truth_sort_meant g x i) a.0 (subst (λ z. IsGoodSeen g hand z n) (one_sort (boolean_sort g) y x (truth_sort_meant g y j) (truth_sort_meant g x i)) a.1.0))
   where
     one_sort : (o : Option KoreSort) (y x : KoreSort) → o ≡ Some y → o ≡ Some x → y ≡ x
     one_sort o y x p q = cc
@@ -214,12 +218,12 @@ call_good g hand (whole_comparison o) ss s (next_seen (seen t p c ms) (next_seen
 call_good g hand (whole_comparison o) ss s none_seen alone b kept e k = λ a. k
 call_good g hand (whole_comparison o) ss s (next_seen (seen t p c ns) none_seen) alone b kept e k = λ a. k
 call_good g hand (whole_comparison o) ss s (next_seen (seen t p c ks) (next_seen (seen u q d ns) (next_seen i ms))) alone b kept e k = λ a. k
-call_good g hand values_equal ss s (next_seen m (next_seen n none_seen)) alone b kept e k = two_of (λ x. true) (CallGood g hand values_equal (next_seen m (next_seen n none_seen)) alone b kept) ss (first_true (are_two (λ x. true) ss) (is_boolean_sort g s) e)
+call_good g hand values_equal ss s (next_seen m (next_seen n none_seen)) alone b kept e k = two_of (λ x. true) (CallGood g hand values_equal (next_seen m (next_seen n none_seen)) alone b kept) ss (first_true (are_two (λ x. true) ss) (is_truth_sort g s) e)
     (λ x y i j a. seen_good g hand alone b (common_sort (next_sort x (next_sort y no_sorts))) x y kept m n a.0 a.1.0 (common_good g x y) k)
 call_good g hand values_equal ss s none_seen alone b kept e k = λ a. k
 call_good g hand values_equal ss s (next_seen m none_seen) alone b kept e k = λ a. k
 call_good g hand values_equal ss s (next_seen m (next_seen n (next_seen o ms))) alone b kept e k = λ a. k
-call_good g hand values_different ss s (next_seen m (next_seen n none_seen)) alone b kept e k = two_of (λ x. true) (CallGood g hand values_different (next_seen m (next_seen n none_seen)) alone b kept) ss (first_true (are_two (λ x. true) ss) (is_boolean_sort g s) e)
+call_good g hand values_different ss s (next_seen m (next_seen n none_seen)) alone b kept e k = two_of (λ x. true) (CallGood g hand values_different (next_seen m (next_seen n none_seen)) alone b kept) ss (first_true (are_two (λ x. true) ss) (is_truth_sort g s) e)
     (λ x y i j a. seen_good g hand alone (not b) (common_sort (next_sort x (next_sort y no_sorts))) x y kept m n a.0 a.1.0 (common_good g x y) k)
 call_good g hand values_different ss s none_seen alone b kept e k = λ a. k
 call_good g hand values_different ss s (next_seen m none_seen) alone b kept e k = λ a. k

@@ -10,15 +10,15 @@ use Rattle.kp_kore.specs.Syntax.{Text, KoreSort, KoreSorts, no_sorts, next_sort,
 use Rattle.kp_kore.specs.Attributes.{sorts_equal}
 use Rattle.kp_kore.specs.Hooks.{Hook, addition, whole_arithmetic, whole_comparison, truth_connective, truth_negation, values_equal, values_different}
 use Rattle.kp_kore.specs.Parts.{SortedName, free_variables, without_name}
-use Rattle.kp_kore.specs.Signature.{KoreSignature, SymbolMeaning, injection, construction, interpretation, foreign, meaning_of, Head, integers, booleans, constructor_of, IsHeadOf, is_integer_sort, is_boolean_sort, are_two, are_one, integer_sort, boolean_sort, fits_hook}
+use Rattle.kp_kore.specs.Signature.{KoreSignature, SymbolMeaning, injection, construction, interpretation, foreign, meaning_of, Head, integers, booleans, constructor_of, IsHeadOf, is_number_sort, is_truth_sort, are_two, are_one, fits_hook}
 use Rattle.kp_semantics.specs.Value.{Value, whole, truth, token, constructed, Values, no_values, next_value, head_of, HasSort, HaveSorts, ArgumentSorts}
 use Rattle.kp_semantics.specs.Forms.{two}
 use Rattle.kp_semantics.specs.Interpretation.{interpreted}
 use Rattle.kp_semantics.specs.Instance.{Valuation, GivesSorts, assigned, is_named, instance, instances, applied, IsTrueUnder}
-use Rattle.kp_semantics.specs.Sorted.{IsRegular}
 use Rattle.kp_semantics.proofs.InstanceLemmas.{first_true, second_true}
 use Rattle.kp_semantics.proofs.SameLemmas.{sorts_equal-Decides}
 use Rattle.kp_semantics.proofs.TruthLemmas.{stable_truth}
+use Rattle.kp_sorts.proofs.NumberLemmas.{number_value, truth_value}
 use Rattle.kp_states.specs.Spelled.{places_of}
 use Rattle.kp_symbolic.specs.Terms.{SymbolicTerm, unknown, offset, known, headed, term_instance, term_instances, term_variables}
 use Rattle.kp_symbolic.specs.Formulas.{Formula}
@@ -26,7 +26,6 @@ use Rattle.kp_symbolic.specs.States.{HeadTest, one_head, head_of_sort, PassesHea
 use Rattle.kp_symbolic.specs.WellFormed.{stands_in_terms, IsWellSorted}
 use Rattle.kp_symbolic.specs.Heads.{passes_head, head_answer}
 use Rattle.kp_symbolic.specs.Opening.{HeadQuestion, are_variables, question_if, asked_constructor, asked_under_inj, asked_of, head_question, head_of_call, opened_test, fixed}
-use Rattle.kp_symbolic.proofs.Folded.{is_the_sort}
 use Rattle.kp_symbolic.proofs.SeenLemmas.{Says}
 use Rattle.kp_symbolic.proofs.SideLemmas.{decided_says}
 use Rattle.kp_symbolic.proofs.HeadLemmas.{passes-Decides, head_answer_is, head_from_sort}
@@ -325,19 +324,19 @@ known_head g v b test h u e = decided_says g v b (passes_head g test h) (¬ ¬ P
     false_true : false ≡ true → ⊥
     false_true h = cc
 
-number_head : (g : KoreSignature) (s : KoreSort) (u : Value) → IsRegular g → is_integer_sort g s ≡ true → HasSort g s u → head_of u ≡ integers
-number_head g s u r i h = ap head_of (r.numbers s u (is_the_sort (integer_sort g) s i) h).1
+number_head : (g : KoreSignature) (s : KoreSort) (u : Value) → is_number_sort g s ≡ true → HasSort g s u → head_of u ≡ integers
+number_head g s u i h = ap head_of (number_value g s u i h).1
 
-truth_head : (g : KoreSignature) (s : KoreSort) (u : Value) → IsRegular g → is_boolean_sort g s ≡ true → HasSort g s u → head_of u ≡ booleans
-truth_head g s u r i h = ap head_of (r.truths s u (is_the_sort (boolean_sort g) s i) h).1
+truth_head : (g : KoreSignature) (s : KoreSort) (u : Value) → is_truth_sort g s ≡ true → HasSort g s u → head_of u ≡ booleans
+truth_head g s u i h = ap head_of (truth_value g s u i h).1
 
-call_head : (g : KoreSignature) (h : Hook) (ss : KoreSorts) (s : KoreSort) (u : Value) → IsRegular g → fits_hook g h ss s ≡ true → HasSort g s u → head_of u ≡ head_of_call h
-call_head g (whole_arithmetic a) ss s u r e h = number_head g s u r (second_true (are_two (is_integer_sort g) ss) (is_integer_sort g s) e) h
-call_head g (whole_comparison c) ss s u r e h = truth_head g s u r (second_true (are_two (is_integer_sort g) ss) (is_boolean_sort g s) e) h
-call_head g (truth_connective c) ss s u r e h = truth_head g s u r (second_true (are_two (is_boolean_sort g) ss) (is_boolean_sort g s) e) h
-call_head g truth_negation ss s u r e h = truth_head g s u r (second_true (are_one (is_boolean_sort g) ss) (is_boolean_sort g s) e) h
-call_head g values_equal ss s u r e h = truth_head g s u r (second_true (are_two (λ t. true) ss) (is_boolean_sort g s) e) h
-call_head g values_different ss s u r e h = truth_head g s u r (second_true (are_two (λ t. true) ss) (is_boolean_sort g s) e) h
+call_head : (g : KoreSignature) (h : Hook) (ss : KoreSorts) (s : KoreSort) (u : Value) → fits_hook g h ss s ≡ true → HasSort g s u → head_of u ≡ head_of_call h
+call_head g (whole_arithmetic a) ss s u e h = number_head g s u (second_true (are_two (is_number_sort g) ss) (is_number_sort g s) e) h
+call_head g (whole_comparison c) ss s u e h = truth_head g s u (second_true (are_two (is_number_sort g) ss) (is_truth_sort g s) e) h
+call_head g (truth_connective c) ss s u e h = truth_head g s u (second_true (are_two (is_truth_sort g) ss) (is_truth_sort g s) e) h
+call_head g truth_negation ss s u e h = truth_head g s u (second_true (are_one (is_truth_sort g) ss) (is_truth_sort g s) e) h
+call_head g values_equal ss s u e h = truth_head g s u (second_true (are_two (λ t. true) ss) (is_truth_sort g s) e) h
+call_head g values_different ss s u e h = truth_head g s u (second_true (are_two (λ t. true) ss) (is_truth_sort g s) e) h
 
 abbrev opened_by : KoreSignature → Bool → HeadTest → Formula Literal → Text → SymbolMeaning → Formula Literal
 opened_by g b test kept f construction = fixed (beq (passes_head g test (constructor_of f)) b)
@@ -345,14 +344,14 @@ opened_by g b test kept f (interpretation h) = fixed (beq (passes_head g test (h
 opened_by g b test kept f injection = kept
 opened_by g b test kept f foreign = kept
 
-headed_test : (g : KoreSignature) (v : Valuation) (b : Bool) (test : HeadTest) (kept : Formula Literal) (f : Text) (us : Values) (k : IsPlainSymbol g f) (m : SymbolMeaning) → meaning_of g f ≡ m → stands_in_terms m ≡ true → IsRegular g → HaveSorts g (places_of g f) us → Says g v b (opened_by g b test kept f m) (¬ ¬ PassesHead g test (head_of (applied m f us)))
-headed_test g v b test kept f us k construction m i r w = known_head g v b test (constructor_of f) (constructed f us) refl
-headed_test g v b test kept f us k (interpretation h) m i r w = known_head g v b test (head_of_call h) (interpreted h us) (call_head g h k.declaration.arguments k.declaration.result (interpreted h us) r (symbol_fits g f k h m) (applied_has_sort g f us k (interpretation h) m refl r w))
-headed_test g v b test kept f us k injection m i r w = absurd (cc)
-headed_test g v b test kept f us k foreign m i r w = absurd (cc)
+headed_test : (g : KoreSignature) (v : Valuation) (b : Bool) (test : HeadTest) (kept : Formula Literal) (f : Text) (us : Values) (k : IsPlainSymbol g f) (m : SymbolMeaning) → meaning_of g f ≡ m → stands_in_terms m ≡ true → HaveSorts g (places_of g f) us → Says g v b (opened_by g b test kept f m) (¬ ¬ PassesHead g test (head_of (applied m f us)))
+headed_test g v b test kept f us k construction m i w = known_head g v b test (constructor_of f) (constructed f us) refl
+headed_test g v b test kept f us k (interpretation h) m i w = known_head g v b test (head_of_call h) (interpreted h us) (call_head g h k.declaration.arguments k.declaration.result (interpreted h us) (symbol_fits g f k h m) (applied_has_sort g f us k (interpretation h) m refl w))
+headed_test g v b test kept f us k injection m i w = absurd (cc)
+headed_test g v b test kept f us k foreign m i w = absurd (cc)
 
-pub test_says : (g : KoreSignature) (v : Valuation) (b : Bool) (test : HeadTest) (kept : Formula Literal) (s : KoreSort) (t : SymbolicTerm) → IsRegular g → IsWellSorted g s t → GivesSorts g v (term_variables t) → Says g v b (opened_test g b test kept t) (¬ ¬ PassesHead g test (head_of (term_instance g v t)))
-test_says g v b test kept s (unknown x) r w h = head_literal g v b x test (head_answer g x.sort test) (λ c e. head_answer_is g x.sort test (v x.name) c h.0 e)
-test_says g v b test kept s (offset x c) r w h = known_head g v b test integers (interpreted (whole_arithmetic addition) (two (v x.name) (whole c))) (ap (λ u. head_of (interpreted (whole_arithmetic addition) (two u (whole c)))) (r.numbers x.sort (v x.name) w.0 h.0).1)
-test_says g v b test kept s (known u) r w h = known_head g v b test (head_of u) u refl
-test_says g v b test kept s (headed f ts) r w h = headed_test g v b test kept f (term_instances g v ts) (plain_symbol g f w.0) (meaning_of g f) refl w.0 r (terms_sorted g v (places_of g f) ts r w.2 h)
+pub test_says : (g : KoreSignature) (v : Valuation) (b : Bool) (test : HeadTest) (kept : Formula Literal) (s : KoreSort) (t : SymbolicTerm) → IsWellSorted g s t → GivesSorts g v (term_variables t) → Says g v b (opened_test g b test kept t) (¬ ¬ PassesHead g test (head_of (term_instance g v t)))
+test_says g v b test kept s (unknown x) w h = head_literal g v b x test (head_answer g x.sort test) (λ c e. head_answer_is g x.sort test (v x.name) c h.0 e)
+test_says g v b test kept s (offset x c) w h = known_head g v b test integers (interpreted (whole_arithmetic addition) (two (v x.name) (whole c))) (ap (λ u. head_of (interpreted (whole_arithmetic addition) (two u (whole c)))) (number_value g x.sort (v x.name) w.0 h.0).1)
+test_says g v b test kept s (known u) w h = known_head g v b test (head_of u) u refl
+test_says g v b test kept s (headed f ts) w h = headed_test g v b test kept f (term_instances g v ts) (plain_symbol g f w.0) (meaning_of g f) refl w.0 (terms_sorted g v (places_of g f) ts w.2 h)

@@ -11,7 +11,6 @@ use Rattle.kp_kore.specs.Signature.{KoreSignature}
 use Rattle.kp_semantics.specs.Value.{HasSort, head_of}
 use Rattle.kp_semantics.specs.Instance.{Valuation, GivesSorts, AgreesOn, is_named, instance, is_conjoined_pair, IsTrueUnder, conjuncts}
 use Rattle.kp_semantics.specs.Foreign.{has_foreign_head}
-use Rattle.kp_semantics.specs.Sorted.{IsRegular}
 use Rattle.kp_semantics.proofs.InstanceLemmas.{first_true, second_true}
 use Rattle.kp_semantics.proofs.TruthLemmas.{same_truth, stable_truth}
 use Rattle.kp_semantics.proofs.Conjuncts.{truth_of, of_truth}
@@ -84,21 +83,21 @@ quoted_says g rs v b p = let e = quotation_is g rs v p in says_the_same g v b (l
 
 -- ---- equalities
 
-pub sides_say : (g : KoreSignature) (rs : List Replaced) (v : Valuation) (alone b : Bool) (a : KoreSort) (p q : KorePattern) → IsRegular g → IsSide g rs v a p → IsSide g rs v a q → Says g v b (opened_same g alone b a (folded g rs p) (folded g rs q)) (instance g (under_replaced g rs v) p ≡ instance g (under_replaced g rs v) q)
-sides_say g rs v alone b a p q r i j =
+pub sides_say : (g : KoreSignature) (rs : List Replaced) (v : Valuation) (alone b : Bool) (a : KoreSort) (p q : KorePattern) → IsSide g rs v a p → IsSide g rs v a q → Says g v b (opened_same g alone b a (folded g rs p) (folded g rs q)) (instance g (under_replaced g rs v) p ≡ instance g (under_replaced g rs v) q)
+sides_say g rs v alone b a p q i j =
     let t = folded g rs p in
     let u = folded g rs q in
     subst (λ x. Says g v b (opened_same g alone b a t u) (x ≡ instance g (under_replaced g rs v) q)) i.is
     (subst (λ y. Says g v b (opened_same g alone b a t u) (term_instance g v t ≡ y)) j.is
-    (opened_same_says g v alone b a t u r i.given j.given (term_given g v a t r i.sorted i.given) (term_given g v a u r j.sorted j.given) (term_sorted g v a t r i.sorted i.given) (term_sorted g v a u r j.sorted j.given)))
+    (opened_same_says g v alone b a t u i.given j.given (term_given g v a t i.sorted i.given) (term_given g v a u j.sorted j.given) (term_sorted g v a t i.sorted i.given) (term_sorted g v a u j.sorted j.given)))
 
 abbrev Sorted : KoreSignature → List Replaced → Valuation → SortedName → Type 0
 Sorted g rs v x = GivesSorts g v (variables_for x (replacement_for rs x.name))
 
-both_say : (g : KoreSignature) (rs : List Replaced) (v : Valuation) (alone b : Bool) (a : KoreSort) (p q : KorePattern) → IsRegular g → StandBoth g rs a p q → is_term p && is_term q ≡ true → AllByRecursion (Sorted g rs v) (free_variables p ++ free_variables q) → Says g v b (opened_same g alone b a (folded g rs p) (folded g rs q)) (instance g (under_replaced g rs v) p ≡ instance g (under_replaced g rs v) q)
-both_say g rs v alone b a p q r h t i = sides_say g rs v alone b a p q r
-    (side_of g rs v a p h.first r h.first_wanted (first_true (is_term p) (is_term q) t) (all_first (Sorted g rs v) (free_variables p) (free_variables q) i))
-    (side_of g rs v a q h.second r h.second_wanted (second_true (is_term p) (is_term q) t) (all_second (Sorted g rs v) (free_variables p) (free_variables q) i))
+both_say : (g : KoreSignature) (rs : List Replaced) (v : Valuation) (alone b : Bool) (a : KoreSort) (p q : KorePattern) → StandBoth g rs a p q → is_term p && is_term q ≡ true → AllByRecursion (Sorted g rs v) (free_variables p ++ free_variables q) → Says g v b (opened_same g alone b a (folded g rs p) (folded g rs q)) (instance g (under_replaced g rs v) p ≡ instance g (under_replaced g rs v) q)
+both_say g rs v alone b a p q h t i = sides_say g rs v alone b a p q
+    (side_of g rs v a p h.first h.first_wanted (first_true (is_term p) (is_term q) t) (all_first (Sorted g rs v) (free_variables p) (free_variables q) i))
+    (side_of g rs v a q h.second h.second_wanted (second_true (is_term p) (is_term q) t) (all_second (Sorted g rs v) (free_variables p) (free_variables q) i))
 
 -- ---- \ceil
 
@@ -144,19 +143,19 @@ term_says g v b false f T e i = absurd (cc)
 ceil_term : (g : KoreSignature) (rs : List Replaced) (v : Valuation) (alone b : Bool) (a s : KoreSort) (p : KorePattern) → is_term p ≡ true → Says g v b (opened_ceil g rs alone b a p) (IsTrueUnder g (under_replaced g rs v) (ceil a s p))
 ceil_term g rs v alone b a s p e = term_says g v b (is_term p) (opened_ceil g rs alone b a p) _ e (fixed_ceil g rs alone b a p e)
 
-ceil_pair : (g : KoreSignature) (rs : List Replaced) (v : Valuation) (alone b : Bool) (a s : KoreSort) (p : KorePattern) → IsRegular g → IsRead g rs v (ceil a s p) → is_conjoined_pair p ≡ true → Says g v b (opened_ceil g rs alone b a p) (IsTrueUnder g (under_replaced g rs v) (ceil a s p))
-ceil_pair g rs v alone b a s (conjunction t (next_pattern p (next_pattern q no_patterns))) r h e =
+ceil_pair : (g : KoreSignature) (rs : List Replaced) (v : Valuation) (alone b : Bool) (a s : KoreSort) (p : KorePattern) → IsRead g rs v (ceil a s p) → is_conjoined_pair p ≡ true → Says g v b (opened_ceil g rs alone b a p) (IsTrueUnder g (under_replaced g rs v) (ceil a s p))
+ceil_pair g rs v alone b a s (conjunction t (next_pattern p (next_pattern q no_patterns))) h e =
     pair_says g v b (is_term p && is_term q) (opened_same g alone b a (folded g rs p) (folded g rs q)) (instance g (under_replaced g rs v) p ≡ instance g (under_replaced g rs v) q) _ e
-    (both_say g rs v alone b a p q r (pair_stands g rs a s t p q h.stands) e
+    (both_say g rs v alone b a p q (pair_stands g rs a s t p q h.stands) e
     (all_both (Sorted g rs v) (free_variables p) (free_variables q) (all_first (Sorted g rs v) (free_variables p) (all_free_variables (next_pattern q no_patterns)) h.given) (all_first (Sorted g rs v) (free_variables q) [] (all_second (Sorted g rs v) (free_variables p) (all_free_variables (next_pattern q no_patterns)) h.given))))
-ceil_pair g rs v alone b a s _ r h e = absurd (cc)
+ceil_pair g rs v alone b a s _ h e = absurd (cc)
 
-ceil_says : (g : KoreSignature) (rs : List Replaced) (v : Valuation) (alone b : Bool) (a s : KoreSort) (p : KorePattern) → IsRegular g → IsRead g rs v (ceil a s p) → is_term p || is_conjoined_pair p ≡ true → Says g v b (opened_ceil g rs alone b a p) (IsTrueUnder g (under_replaced g rs v) (ceil a s p))
-ceil_says g rs v alone b a s p r h e = by (is_term p) refl e
+ceil_says : (g : KoreSignature) (rs : List Replaced) (v : Valuation) (alone b : Bool) (a s : KoreSort) (p : KorePattern) → IsRead g rs v (ceil a s p) → is_term p || is_conjoined_pair p ≡ true → Says g v b (opened_ceil g rs alone b a p) (IsTrueUnder g (under_replaced g rs v) (ceil a s p))
+ceil_says g rs v alone b a s p h e = by (is_term p) refl e
   where
     by : (c : Bool) → is_term p ≡ c → c || is_conjoined_pair p ≡ true → Says g v b (opened_ceil g rs alone b a p) (IsTrueUnder g (under_replaced g rs v) (ceil a s p))
     by true i k = ceil_term g rs v alone b a s p i
-    by false i k = ceil_pair g rs v alone b a s p r h k
+    by false i k = ceil_pair g rs v alone b a s p h k
 
 -- ---- tests of heads
 
@@ -164,8 +163,8 @@ ceil_says g rs v alone b a s p r h e = by (is_term p) refl e
 abbrev IsPlaced : KoreSignature → List Replaced → Valuation → SortedName → Type 0
 IsPlaced g rs v x = IsWellSorted g x.sort (term_for x (replacement_for rs x.name)) × Sorted g rs v x
 
-placed_value : (g : KoreSignature) (rs : List Replaced) (v : Valuation) → IsRegular g → (x : SortedName) → IsPlaced g rs v x → HasSort g x.sort (under_replaced g rs v x.name)
-placed_value g rs v r x h = subst (HasSort g x.sort) (for_instance g rs v x.name x.sort (replacement_for rs x.name) refl) (term_sorted g v x.sort (term_for x (replacement_for rs x.name)) r h.0 (for_variables (λ y. HasSort g y.sort (v y.name)) x (replacement_for rs x.name) h.1))
+placed_value : (g : KoreSignature) (rs : List Replaced) (v : Valuation) → (x : SortedName) → IsPlaced g rs v x → HasSort g x.sort (under_replaced g rs v x.name)
+placed_value g rs v x h = subst (HasSort g x.sort) (for_instance g rs v x.name x.sort (replacement_for rs x.name) refl) (term_sorted g v x.sort (term_for x (replacement_for rs x.name)) h.0 (for_variables (λ y. HasSort g y.sort (v y.name)) x (replacement_for rs x.name) h.1))
 
 all_placed : (g : KoreSignature) (rs : List Replaced) (v : Valuation) (xs : List SortedName) → AllByRecursion (λ x. IsWellSorted g x.sort (term_for x (replacement_for rs x.name))) xs → AllByRecursion (Sorted g rs v) xs → AllByRecursion (IsPlaced g rs v) xs
 all_placed g rs v [] a b = tt
@@ -175,29 +174,29 @@ abbrev asked_formula : KoreSignature → List Replaced → Bool → KorePattern 
 asked_formula g rs b p (Some q) = opened_test g b q.test (literal_fact b (quotation rs p)) (folded g rs q.subject)
 asked_formula g rs b p None = literal_fact b (quotation rs p)
 
-question_opened : (g : KoreSignature) (rs : List Replaced) (v : Valuation) (b : Bool) (p : KorePattern) (o : Option HeadQuestion) → IsRegular g → IsRead g rs v p → head_question g [] p ≡ o → Says g v b (asked_formula g rs b p o) (IsTrueUnder g (under_replaced g rs v) p)
-question_opened g rs v b p None r h e = quoted_says g rs v b p
-question_opened g rs v b p (Some q) r h e =
+question_opened : (g : KoreSignature) (rs : List Replaced) (v : Valuation) (b : Bool) (p : KorePattern) (o : Option HeadQuestion) → IsRead g rs v p → head_question g [] p ≡ o → Says g v b (asked_formula g rs b p o) (IsTrueUnder g (under_replaced g rs v) p)
+question_opened g rs v b p None h e = quoted_says g rs v b p
+question_opened g rs v b p (Some q) h e =
     let w = under_replaced g rs v in
-    let a = question_says g w (IsPlaced g rs v) p q (placed_value g rs v r) e (all_placed g rs v (free_variables p) h.stands.placed h.given) in
+    let a = question_says g w (IsPlaced g rs v) p q (placed_value g rs v) e (all_placed g rs v (free_variables p) h.stands.placed h.given) in
     let x = a.asked in
     let t = term_for x (replacement_for rs x.name) in
     let f = opened_test g b q.test (literal_fact b (quotation rs p)) (folded g rs q.subject) in
-    let i : Says g v b (opened_test g b q.test (literal_fact b (quotation rs p)) t) (¬ ¬ PassesHead g q.test (head_of (term_instance g v t))) = test_says g v b q.test (literal_fact b (quotation rs p)) x.sort t r a.holds.0 (for_variables (λ y. HasSort g y.sort (v y.name)) x (replacement_for rs x.name) a.holds.1) in
+    let i : Says g v b (opened_test g b q.test (literal_fact b (quotation rs p)) t) (¬ ¬ PassesHead g q.test (head_of (term_instance g v t))) = test_says g v b q.test (literal_fact b (quotation rs p)) x.sort t a.holds.0 (for_variables (λ y. HasSort g y.sort (v y.name)) x (replacement_for rs x.name) a.holds.1) in
     let j : Says g v b f (¬ ¬ PassesHead g q.test (head_of (w x.name))) = subst (λ z. Says g v b (opened_test g b q.test (literal_fact b (quotation rs p)) (folded g rs z)) (¬ ¬ PassesHead g q.test (head_of (w x.name)))) (sym a.subject) (subst (λ u. Says g v b (opened_test g b q.test (literal_fact b (quotation rs p)) t) (¬ ¬ PassesHead g q.test (head_of u))) (for_instance g rs v x.name x.sort (replacement_for rs x.name) refl) i) in
     says_the_same g v b f (¬ ¬ PassesHead g q.test (head_of (w x.name))) (IsTrueUnder g w p) (a.says.1, a.says.0) j
 
 -- ---- the leaf
 
-pub leaf_says : (g : KoreSignature) (rs : List Replaced) (v : Valuation) → IsRegular g → (alone b : Bool) (p : KorePattern) → is_left p ≡ true → IsRead g rs v p → Says g v b (opened_leaf g rs alone b p) (IsTrueUnder g (under_replaced g rs v) p)
-leaf_says g rs v r alone b (equals a s p q) l h = both_say g rs v alone b a p q r (equals_stand g rs a s p q h.stands) h.predicate h.given
-leaf_says g rs v r alone b (membership a s p q) l h = both_say g rs v alone b a p q r (membership_stands g rs a s p q h.stands) h.predicate h.given
-leaf_says g rs v r alone b (ceil a s p) l h = ceil_says g rs v alone b a s p r h l
-leaf_says g rs v r alone b (exists s x t p) l h = question_opened g rs v b (exists s x t p) (head_question g [] (exists s x t p)) r h refl
-leaf_says g rs v r alone b p l h = quoted_says g rs v b p
+pub leaf_says : (g : KoreSignature) (rs : List Replaced) (v : Valuation) → (alone b : Bool) (p : KorePattern) → is_left p ≡ true → IsRead g rs v p → Says g v b (opened_leaf g rs alone b p) (IsTrueUnder g (under_replaced g rs v) p)
+leaf_says g rs v alone b (equals a s p q) l h = both_say g rs v alone b a p q (equals_stand g rs a s p q h.stands) h.predicate h.given
+leaf_says g rs v alone b (membership a s p q) l h = both_say g rs v alone b a p q (membership_stands g rs a s p q h.stands) h.predicate h.given
+leaf_says g rs v alone b (ceil a s p) l h = ceil_says g rs v alone b a s p h l
+leaf_says g rs v alone b (exists s x t p) l h = question_opened g rs v b (exists s x t p) (head_question g [] (exists s x t p)) h refl
+leaf_says g rs v alone b p l h = quoted_says g rs v b p
 
-pub predicate_says : (g : KoreSignature) (rs : List Replaced) (v : Valuation) (b : Bool) (p : KorePattern) → IsRegular g → IsRead g rs v p → Says g v b (opened_predicate g rs b p) (IsTrueUnder g (under_replaced g rs v) p)
-predicate_says g rs v b p r h = opened_says g (under_replaced g rs v) (IsLiteralTrue g v) (IsRead g rs v) (AreRead g rs v) (opened_leaf g rs) (read_closed g rs v) (leaf_says g rs v r) true b p h
+pub predicate_says : (g : KoreSignature) (rs : List Replaced) (v : Valuation) (b : Bool) (p : KorePattern) → IsRead g rs v p → Says g v b (opened_predicate g rs b p) (IsTrueUnder g (under_replaced g rs v) p)
+predicate_says g rs v b p h = opened_says g (under_replaced g rs v) (IsLiteralTrue g v) (IsRead g rs v) (AreRead g rs v) (opened_leaf g rs) (read_closed g rs v) (leaf_says g rs v) true b p h
 
 -- ---- clauses
 
@@ -221,20 +220,20 @@ formula_says g v f = clauses_say literals_same (IsLiteralTrue g v) literals_are 
 pub then_says : {A B C : Type 0} → A ↔ B → B ↔ C → A ↔ C
 then_says i j = ((λ a. j.0 (i.0 a)), (λ c. i.1 (j.1 c)))
 
-pub conjunct_says : (g : KoreSignature) (rs : List Replaced) (v : Valuation) (n : ℕ) (p : KorePattern) → IsRegular g → IsRead g rs v p → AreTrue g v (clauses_of_conjunct g rs n p) ↔ IsTrueUnder g (under_replaced g rs v) p
-conjunct_says g rs v n p r h =
+pub conjunct_says : (g : KoreSignature) (rs : List Replaced) (v : Valuation) (n : ℕ) (p : KorePattern) → IsRead g rs v p → AreTrue g v (clauses_of_conjunct g rs n p) ↔ IsTrueUnder g (under_replaced g rs v) p
+conjunct_says g rs v n p h =
     let A = IsTrueUnder g (under_replaced g rs v) p in
     by_size g v (is_too_large n (opened_predicate g rs true p)) ((quoted_literal rs true p ∷ []) ∷ []) (distributed (opened_predicate g rs true p)) A
     (then_says (one_literal g v (quoted_literal rs true p)) (quoted_literal_says g rs v true p))
-    (then_says (formula_says g v (opened_predicate g rs true p)) (predicate_says g rs v true p r h))
+    (then_says (formula_says g v (opened_predicate g rs true p)) (predicate_says g rs v true p h))
 
-pub conjuncts_say : (g : KoreSignature) (rs : List Replaced) (v : Valuation) (n : ℕ) (ps : List KorePattern) → IsRegular g → AllByRecursion (IsRead g rs v) ps → AreTrue g v (clauses_of_conjuncts g rs n ps) ↔ AllByRecursion (IsTrueUnder g (under_replaced g rs v)) ps
-conjuncts_say g rs v n [] r h = ((λ a. a), (λ a. a))
-conjuncts_say g rs v n (p ∷ ps) r h =
+pub conjuncts_say : (g : KoreSignature) (rs : List Replaced) (v : Valuation) (n : ℕ) (ps : List KorePattern) → AllByRecursion (IsRead g rs v) ps → AreTrue g v (clauses_of_conjuncts g rs n ps) ↔ AllByRecursion (IsTrueUnder g (under_replaced g rs v)) ps
+conjuncts_say g rs v n [] h = ((λ a. a), (λ a. a))
+conjuncts_say g rs v n (p ∷ ps) h =
     let cs = clauses_of_conjunct g rs n p in
     let m = n + literals_of_conjunct g rs n p in
-    let i = conjunct_says g rs v n p r h.0 in
-    let j = conjuncts_say g rs v m ps r h.1 in (
+    let i = conjunct_says g rs v n p h.0 in
+    let j = conjuncts_say g rs v m ps h.1 in (
       (λ a. (i.0 (all_first (IsClauseTrue g v) cs (clauses_of_conjuncts g rs m ps) a), j.0 (all_second (IsClauseTrue g v) cs (clauses_of_conjuncts g rs m ps) a))),
       (λ a. all_both (IsClauseTrue g v) cs (clauses_of_conjuncts g rs m ps) (i.1 a.0) (j.1 a.1)),
     )
@@ -242,8 +241,8 @@ conjuncts_say g rs v n (p ∷ ps) r h =
 pub once_says : (g : KoreSignature) (v : Valuation) (cs : List (List Literal)) → AreTrue g v (without_repeats cs) ↔ AreTrue g v cs
 once_says g v cs = kept_once_says literals_same (IsClauseTrue g v) literals_are cs
 
-pub clauses_of_says : (g : KoreSignature) (rs : List Replaced) (v : Valuation) (p : KorePattern) → IsRegular g → IsRead g rs v p → AreTrue g v (clauses_of g rs p) ↔ IsTrueUnder g (under_replaced g rs v) p
-clauses_of_says g rs v p r h =
+pub clauses_of_says : (g : KoreSignature) (rs : List Replaced) (v : Valuation) (p : KorePattern) → IsRead g rs v p → AreTrue g v (clauses_of g rs p) ↔ IsTrueUnder g (under_replaced g rs v) p
+clauses_of_says g rs v p h =
     let k = read_closed g rs v in
     let a = conjuncts_read (IsRead g rs v) (AreRead g rs v) p (λ s ps i. k.conjoined s ps i) (λ q qs i. (k.first q qs i, k.others q qs i)) h in
-    then_says (once_says g v (clauses_of_conjuncts g rs 0 (conjuncts p))) (then_says (conjuncts_say g rs v 0 (conjuncts p) r a) (truth_of g (under_replaced g rs v) p, of_truth g (under_replaced g rs v) p))
+    then_says (once_says g v (clauses_of_conjuncts g rs 0 (conjuncts p))) (then_says (conjuncts_say g rs v 0 (conjuncts p) a) (truth_of g (under_replaced g rs v) p, of_truth g (under_replaced g rs v) p))

@@ -8,7 +8,7 @@ use Rattle.std.proofs.Math.IntN.{+ℤ_comm, +ℤ_idr, neg_ℤ-neg_ℤ}
 use Rattle.kp_kore.specs.Syntax.{Text, KorePattern, KorePatterns, variable, application, no_patterns, next_pattern}
 use Rattle.kp_kore.specs.Hooks.{addition, subtraction, Hook, whole_arithmetic}
 use Rattle.kp_kore.specs.Parts.{SortedName}
-use Rattle.kp_kore.specs.Signature.{KoreSignature, SymbolMeaning, injection, construction, interpretation, foreign, meaning_of, is_integer_sort}
+use Rattle.kp_kore.specs.Signature.{KoreSignature, SymbolMeaning, injection, construction, interpretation, foreign, meaning_of, is_number_sort}
 use Rattle.kp_semantics.specs.Value.{Value, whole, Values}
 use Rattle.kp_semantics.specs.Interpretation.{interpreted}
 use Rattle.kp_kore.specs.Limits.{fits_number}
@@ -24,17 +24,17 @@ nothing_before : (n : ℤ) → pos 0 +ℤ n ≡ n
 nothing_before n = +ℤ_comm (pos 0) n ∙ +ℤ_idr n
 
 -- the sum of a whole-number variable and a constant that isn't 0 and can be written
-sum_is_offset : (g : KoreSignature) (x : SortedName) (n k : ℤ) (call : SymbolicTerm) → is_integer_sort g x.sort ≡ true → int_eq n (pos 0) ≡ false → can_be_added g n ≡ true → k ≡ n → summed g (sum_of g (unknown x)) k call ≡ offset x n
+sum_is_offset : (g : KoreSignature) (x : SortedName) (n k : ℤ) (call : SymbolicTerm) → is_number_sort g x.sort ≡ true → int_eq n (pos 0) ≡ false → can_be_added g n ≡ true → k ≡ n → summed g (sum_of g (unknown x)) k call ≡ offset x n
 sum_is_offset g x n k call i z a e =
     rw i (subst (λ m. (if int_eq m (pos 0) then unknown x else if can_be_added g m then offset x m else call) ≡ offset x n) (sym (ap (λ m. pos 0 +ℤ m) e ∙ nothing_before n)) (rw (z, a) refl))
 
-under_addition : (g : KoreSignature) (x : SortedName) (n : ℤ) (o : Option Text) (otherwise : SymbolicTerm) → is_integer_sort g x.sort ≡ true → int_eq n (pos 0) ≡ false → can_be_added g n ≡ true → ((f : Text) → o ≡ Some f → meaning_of g f ≡ interpretation (whole_arithmetic addition)) → is_some o ≡ true → under_symbol g o (unknown x) n otherwise ≡ offset x n
+under_addition : (g : KoreSignature) (x : SortedName) (n : ℤ) (o : Option Text) (otherwise : SymbolicTerm) → is_number_sort g x.sort ≡ true → int_eq n (pos 0) ≡ false → can_be_added g n ≡ true → ((f : Text) → o ≡ Some f → meaning_of g f ≡ interpretation (whole_arithmetic addition)) → is_some o ≡ true → under_symbol g o (unknown x) n otherwise ≡ offset x n
 under_addition g x n (Some f) otherwise i z a m e =
     let ts = next_term (unknown x) (next_term (known (whole n)) no_terms) in
     ap (λ k. made g k f ts) (m f refl) ∙ sum_is_offset g x n n (headed f ts) i z a refl
 under_addition g x n None otherwise i z a m e = absurd (cc)
 
-under_subtraction : (g : KoreSignature) (x : SortedName) (n : ℤ) (o : Option Text) (otherwise : SymbolicTerm) → is_integer_sort g x.sort ≡ true → int_eq n (pos 0) ≡ false → can_be_added g n ≡ true → ((f : Text) → o ≡ Some f → meaning_of g f ≡ interpretation (whole_arithmetic subtraction)) → is_some o ≡ true → under_symbol g o (unknown x) (neg_ℤ n) otherwise ≡ offset x n
+under_subtraction : (g : KoreSignature) (x : SortedName) (n : ℤ) (o : Option Text) (otherwise : SymbolicTerm) → is_number_sort g x.sort ≡ true → int_eq n (pos 0) ≡ false → can_be_added g n ≡ true → ((f : Text) → o ≡ Some f → meaning_of g f ≡ interpretation (whole_arithmetic subtraction)) → is_some o ≡ true → under_symbol g o (unknown x) (neg_ℤ n) otherwise ≡ offset x n
 under_subtraction g x n (Some f) otherwise i z a m e =
     let ts = next_term (unknown x) (next_term (known (whole (neg_ℤ n))) no_terms) in
     ap (λ k. made g k f ts) (m f refl) ∙ sum_is_offset g x n (neg_ℤ (neg_ℤ n)) (headed f ts) i z a (neg_ℤ-neg_ℤ n)
@@ -44,13 +44,13 @@ first_of : (b c : Bool) → b && c ≡ true → b ≡ true
 first_of true c e = refl
 first_of false c e = absurd (cc)
 
-by_sign : (g : KoreSignature) (x : SortedName) (n : ℤ) (b : Bool) (otherwise : SymbolicTerm) → is_integer_sort g x.sort ≡ true → int_eq n (pos 0) ≡ false → can_be_added g n ≡ true
+by_sign : (g : KoreSignature) (x : SortedName) (n : ℤ) (b : Bool) (otherwise : SymbolicTerm) → is_number_sort g x.sort ≡ true → int_eq n (pos 0) ≡ false → can_be_added g n ≡ true
     → (if b then is_some (least_symbol g addition) && fits_number n else is_some (least_symbol g subtraction) && fits_number (neg_ℤ n)) ≡ true
     → (if b then under_symbol g (least_symbol g addition) (unknown x) n otherwise else under_symbol g (least_symbol g subtraction) (unknown x) (neg_ℤ n) otherwise) ≡ offset x n
 by_sign g x n true otherwise i z a e = under_addition g x n (least_symbol g addition) otherwise i z a (least_is g addition g.symbols) (first_of (is_some (least_symbol g addition)) (fits_number n) e)
 by_sign g x n false otherwise i z a e = under_subtraction g x n (least_symbol g subtraction) otherwise i z a (least_is g subtraction g.symbols) (first_of (is_some (least_symbol g subtraction)) (fits_number (neg_ℤ n)) e)
 
-offset_folded : (g : KoreSignature) (x : SortedName) (n : ℤ) → is_integer_sort g x.sort ≡ true → int_eq n (pos 0) ≡ false → can_be_added g n ≡ true → IsFolded g (offset x n)
+offset_folded : (g : KoreSignature) (x : SortedName) (n : ℤ) → is_number_sort g x.sort ≡ true → int_eq n (pos 0) ≡ false → can_be_added g n ≡ true → IsFolded g (offset x n)
 offset_folded g x n i z a = by_sign g x n (int_lt (pos 0) n) (offset x n) i z a a
 
 -- ---- an application is the call itself, or in normal form
@@ -58,22 +58,22 @@ offset_folded g x n i z a = by_sign g x n (int_lt (pos 0) n) (offset x n) i z a 
 abbrev IsCallOrFolded : KoreSignature → SymbolicTerm → SymbolicTerm → Type 0
 IsCallOrFolded g call t = (t ≡ call) ⊎ IsFolded g t
 
-at_constant : (g : KoreSignature) (x : SortedName) (n : ℤ) (call : SymbolicTerm) (b d : Bool) → is_integer_sort g x.sort ≡ true → int_eq n (pos 0) ≡ b → can_be_added g n ≡ d → IsCallOrFolded g call (if b then unknown x else if d then offset x n else call)
+at_constant : (g : KoreSignature) (x : SortedName) (n : ℤ) (call : SymbolicTerm) (b d : Bool) → is_number_sort g x.sort ≡ true → int_eq n (pos 0) ≡ b → can_be_added g n ≡ d → IsCallOrFolded g call (if b then unknown x else if d then offset x n else call)
 at_constant g x n call true d i z a = inr refl
 at_constant g x n call false true i z a = inr (offset_folded g x n i z a)
 at_constant g x n call false false i z a = inl refl
 
-sum_shape : (g : KoreSignature) (o : Option Sum) (c : ℤ) (call : SymbolicTerm) → ((m : Sum) → o ≡ Some m → is_integer_sort g m.variable.sort ≡ true) → IsCallOrFolded g call (summed g o c call)
+sum_shape : (g : KoreSignature) (o : Option Sum) (c : ℤ) (call : SymbolicTerm) → ((m : Sum) → o ≡ Some m → is_number_sort g m.variable.sort ≡ true) → IsCallOrFolded g call (summed g o c call)
 sum_shape g (Some m) c call i = at_constant g m.variable (m.constant +ℤ c) call (int_eq (m.constant +ℤ c) (pos 0)) (can_be_added g (m.constant +ℤ c)) (i m refl) refl refl
 sum_shape g None c call i = inl refl
 
-integer_at : (g : KoreSignature) (x : SortedName) (c : ℤ) (m : Sum) (b : Bool) → is_integer_sort g x.sort ≡ b → (if b then Some (record { variable = x; constant = c }) else None) ≡ Some m → is_integer_sort g m.variable.sort ≡ true
-integer_at g x c m true i e = let y : x ≡ m.variable = cc in subst (λ z. is_integer_sort g z.sort ≡ true) y i
+integer_at : (g : KoreSignature) (x : SortedName) (c : ℤ) (m : Sum) (b : Bool) → is_number_sort g x.sort ≡ b → (if b then Some (record { variable = x; constant = c }) else None) ≡ Some m → is_number_sort g m.variable.sort ≡ true
+integer_at g x c m true i e = let y : x ≡ m.variable = cc in subst (λ z. is_number_sort g z.sort ≡ true) y i
 integer_at g x c m false i e = absurd (cc)
 
-integer_sum : (g : KoreSignature) (t : SymbolicTerm) (m : Sum) → sum_of g t ≡ Some m → is_integer_sort g m.variable.sort ≡ true
-integer_sum g (unknown x) m e = integer_at g x (pos 0) m (is_integer_sort g x.sort) refl e
-integer_sum g (offset x c) m e = integer_at g x c m (is_integer_sort g x.sort) refl e
+integer_sum : (g : KoreSignature) (t : SymbolicTerm) (m : Sum) → sum_of g t ≡ Some m → is_number_sort g m.variable.sort ≡ true
+integer_sum g (unknown x) m e = integer_at g x (pos 0) m (is_number_sort g x.sort) refl e
+integer_sum g (offset x c) m e = integer_at g x c m (is_number_sort g x.sort) refl e
 integer_sum g (known u) m e = absurd (cc)
 integer_sum g (headed f ts) m e = absurd (cc)
 

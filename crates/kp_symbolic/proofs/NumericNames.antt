@@ -1,5 +1,5 @@
 -- The numeric variables of a state's bounds are among its whole-number variables at hand.
-use Rattle.std.proofs.Common.{◌≡◌, refl, sym, ◌∙◌, ap, subst, arith, inl, inr, ℕ, suc, ◌+◌, ◌≤◌, ℤ, pos, Bool, true, false, not, cond, ◌||◌, List, [], ◌∷◌, ◌++◌, map, length, Option, Some, None}
+use Rattle.std.proofs.Common.{◌≡◌, refl, sym, ◌∙◌, ap, subst, arith, inl, inr, ℕ, zero, suc, ◌+◌, ◌<◌, ◌≤◌, ℤ, pos, Bool, true, false, not, cond, ◌||◌, List, [], ◌∷◌, ◌++◌, map, length, slice_index_or, Option, Some, None}
 use Rattle.std.specs.Prelude.{if◌then◌else◌, ⊤}
 use Rattle.std.specs.Bool.{beq}
 use Rattle.std.specs.List.{list_any, filter, flat_map, filter_map, AllByRecursion, Contains}
@@ -8,17 +8,17 @@ use Rattle.std.proofs.lemmas.Slice.Eq.{bytes_eq-Decides}
 use Rattle.kp_kore.specs.Syntax.{Text}
 use Rattle.kp_kore.specs.Hooks.{Comparison, equal, different, less, at_most, greater, at_least, whole_comparison, values_equal, values_different}
 use Rattle.kp_kore.specs.Parts.{SortedName}
-use Rattle.kp_kore.specs.Signature.{KoreSignature, SymbolMeaning, interpretation, meaning_of, is_boolean_sort}
+use Rattle.kp_kore.specs.Signature.{KoreSignature, SymbolMeaning, interpretation, meaning_of, is_truth_sort, has_only_numbers, has_only_truths}
+use Rattle.kp_semantics.specs.Steps.{AnyByRecursion}
 use Rattle.kp_semantics.specs.Value.{whole, truth, token, constructed, no_values}
 use Rattle.kp_symbolic.specs.Terms.{SymbolicTerm, unknown, offset, known, headed, no_terms, next_term, term_variables, all_term_variables}
 use Rattle.kp_symbolic.specs.States.{Atom, same, has_head, quoted, atom_variables, clause_variables, Literal, SymbolicState}
 use Rattle.kp_symbolic.specs.WellFormed.{AreAtHand}
 use Rattle.kp_symbolic.specs.Solving.{Equation, equation_of}
-use Rattle.kp_symbolic.specs.Plain.{has_only_numbers, has_only_truths, WholePart, whole_part, TokenPart, token_part, Form, compares, is_truth, equates, asks, gives, comparing, equating, first_form, equality_form, call_form, truth_form, same_form, form_of, head_form, constant_form, solved_form, stands_alone, own_form, ReadLiteral, read_clause, read_from, read_clauses}
+use Rattle.kp_symbolic.specs.Plain.{WholePart, whole_part, TokenPart, token_part, Form, compares, is_truth, equates, asks, gives, comparing, equating, first_form, equality_form, call_form, truth_form, same_form, form_of, head_form, constant_form, solved_form, stands_alone, own_form, ReadLiteral, read_clause, read_from, read_clauses}
 use Rattle.kp_symbolic.specs.Weights.{DifferenceBound, bounds_of, forms_in, all_bounds, each_once, name_in, numeric_names}
 use Rattle.kp_symbolic.specs.Shown.{whole_variables, numeric_count}
 use Rattle.kp_symbolic.proofs.Distribution.{all_both, all_first, all_second}
-use Rattle.kp_symbolic.proofs.HeadLemmas.{Among, contained}
 
 -- ---- a list without repeats, each among others, isn't longer than they
 
@@ -140,6 +140,15 @@ counted g hand = map (λ x. x.name) (filter (λ x. has_only_numbers g x.sort) ha
 abbrev IsCounted : KoreSignature → List SortedName → Text → Type 0
 IsCounted g hand = Holds (counted g hand)
 
+-- it is one of the list
+abbrev Among : {X : Type 0} → X → List X → Type 0
+Among x xs = AnyByRecursion (λ y. y ≡ x) xs
+
+contained : {X : Type 0} (xs : List X) (x : X) (k : ℕ) → k < length xs → slice_index_or xs k x ≡ x → Among x xs
+contained [] x k l e = absurd (omega (arith, l))
+contained (y ∷ xs) x zero l e = inl e
+contained (y ∷ xs) x (suc k) l e = inr (contained xs x k (omega (arith, l)) e)
+
 counted_among : (g : KoreSignature) (hand : List SortedName) (x : SortedName) → has_only_numbers g x.sort ≡ true → Among x hand → IsCounted g hand x.name
 counted_among g [] x n a = absurd a
 counted_among g (y ∷ hand) x n (inl e) = first (has_only_numbers g y.sort) (subst (λ z. has_only_numbers g z.sort ≡ true) (sym e) n)
@@ -237,12 +246,12 @@ same_counted g hand true b t u a = tt
 same_counted g hand false b t u a = equality_counted g hand b t u a
 
 abbrev form_of_atom : KoreSignature → Bool → Atom → Option Form
-form_of_atom g b (same s t u) = same_form g (is_boolean_sort g s) b t u
+form_of_atom g b (same s t u) = same_form g (is_truth_sort g s) b t u
 form_of_atom g b (has_head x test) = None
 form_of_atom g b (quoted p rs) = None
 
 atom_counted : (g : KoreSignature) (hand : List SortedName) (b : Bool) (a : Atom) → AreAtHand (atom_variables a) hand → MaybeCounted g hand (form_of_atom g b a)
-atom_counted g hand b (same s t u) a = let At = λ (x : SortedName). Contains hand x in same_counted g hand (is_boolean_sort g s) b t u (all_first At (term_variables t) (term_variables u) a, all_second At (term_variables t) (term_variables u) a)
+atom_counted g hand b (same s t u) a = let At = λ (x : SortedName). Contains hand x in same_counted g hand (is_truth_sort g s) b t u (all_first At (term_variables t) (term_variables u) a, all_second At (term_variables t) (term_variables u) a)
 atom_counted g hand b (has_head x test) a = tt
 atom_counted g hand b (quoted p rs) a = tt
 

@@ -8,7 +8,6 @@ use Rattle.kp_kore.specs.Sorting.{sort_of_term}
 use Rattle.kp_semantics.specs.Value.{Value}
 use Rattle.kp_semantics.specs.Instance.{Valuation, GivesSorts, IsTrueUnder, is_predicate, conjuncts, conjoined_terms, conjoined_predicates, IsInstanceOfOne, IsInstance, instance}
 use Rattle.kp_semantics.specs.Foreign.{none_within, has_foreign_head}
-use Rattle.kp_semantics.specs.Sorted.{IsRegular}
 use Rattle.kp_semantics.proofs.ClaimRuleLemmas.{met_of, conjunction_of}
 use Rattle.kp_signature.specs.Places.{Place, own_sort}
 use Rattle.kp_signature.specs.Verify.{first_fault}
@@ -94,25 +93,25 @@ by_terms g p s (t ∷ u ∷ ts) e q = absurd (none_is_some q)
 pub opened_as : (g : KoreSignature) (p : KorePattern) (s : SymbolicState) → opened_state g p ≡ Some s → IsOpenedAs g p s
 opened_as g p s q = by_terms g p s (conjoined_terms p) refl q
 
-pub opened_instances : (g : KoreSignature) (c : Place) (p : KorePattern) (s : SymbolicState) (v : Valuation) (u : Value) → IsRegular g → first_fault g c p ≡ None → none_within (has_foreign_head g) p ≡ true → AllByRecursion (λ q. is_predicate q ≡ true) (conjoined_predicates p) → opened_state g p ≡ Some s → GivesSorts g v (free_variables p)
+pub opened_instances : (g : KoreSignature) (c : Place) (p : KorePattern) (s : SymbolicState) (v : Valuation) (u : Value) → first_fault g c p ≡ None → none_within (has_foreign_head g) p ≡ true → AllByRecursion (λ q. is_predicate q ≡ true) (conjoined_predicates p) → opened_state g p ≡ Some s → GivesSorts g v (free_variables p)
     → IsInstance g v p u ↔ IsStateInstance g v s u
-opened_instances g c p s v u r e k b q h =
+opened_instances g c p s v u e k b q h =
     let o = opened_as g p s q in
     let all = members g v p (record { place = c; faultless = e; meant = k; placed = placed_as_they_are g (free_variables p) }, given_as_they_are g v (free_variables p) h) in
     let one = (subst (AllByRecursion (λ x. IsMember g v x × (is_term x ≡ true))) o.is_one (all_filtered (IsMember g v) is_term (conjuncts p) all)).0 in
-    let term : term_instance g v s.term ≡ instance g v o.one = ap (term_instance g v) o.term ∙ folded_is g [] v o.one r one.0.1 in
+    let term : term_instance g v s.term ≡ instance g v o.one = ap (term_instance g v) o.term ∙ folded_is g [] v o.one one.0.1 in
     let reads = both_read g v (conjoined_predicates p) (all_filtered (IsMember g v) (λ x. not (is_term x)) (conjuncts p) all) b in
-    let clauses : AreTrue g v s.clauses ↔ AllByRecursion (IsTrueUnder g v) (conjoined_predicates p) = subst (λ cs. AreTrue g v cs ↔ AllByRecursion (IsTrueUnder g v) (conjoined_predicates p)) (sym o.clauses) (then_says (once_says g v (clauses_of_conjuncts g [] 0 (conjoined_predicates p))) (conjuncts_say g [] v 0 (conjoined_predicates p) r reads)) in (
+    let clauses : AreTrue g v s.clauses ↔ AllByRecursion (IsTrueUnder g v) (conjoined_predicates p) = subst (λ cs. AreTrue g v cs ↔ AllByRecursion (IsTrueUnder g v) (conjoined_predicates p)) (sym o.clauses) (then_says (once_says g v (clauses_of_conjuncts g [] 0 (conjoined_predicates p))) (conjuncts_say g [] v 0 (conjoined_predicates p) reads)) in (
       (λ i. let d = conjunction_of g v p o.one u o.is_one i in record { term = subst (λ ts. IsInstanceOfOne g v ts u) o.is_one d.term ∙ sym term; clauses = clauses.1 d.predicates }),
       (λ i. met_of g v p o.one u o.is_one (record { term = subst (λ ts. IsInstanceOfOne g v ts u) (sym o.is_one) (i.term ∙ term); predicates = clauses.0 i.clauses })),
     )
 
-pub opened_term_sorted : (g : KoreSignature) (c : Place) (p : KorePattern) (s : SymbolicState) (v : Valuation) → IsRegular g → first_fault g c p ≡ None → none_within (has_foreign_head g) p ≡ true → opened_state g p ≡ Some s → GivesSorts g v (free_variables p) → IsWellSorted g s.sort s.term
-opened_term_sorted g c p s v r e k q h =
+pub opened_term_sorted : (g : KoreSignature) (c : Place) (p : KorePattern) (s : SymbolicState) (v : Valuation) → first_fault g c p ≡ None → none_within (has_foreign_head g) p ≡ true → opened_state g p ≡ Some s → GivesSorts g v (free_variables p) → IsWellSorted g s.sort s.term
+opened_term_sorted g c p s v e k q h =
     let o = opened_as g p s q in
     let all = members g v p (record { place = c; faultless = e; meant = k; placed = placed_as_they_are g (free_variables p) }, given_as_they_are g v (free_variables p) h) in
     let one = (subst (AllByRecursion (λ x. IsMember g v x × (is_term x ≡ true))) o.is_one (all_filtered (IsMember g v) is_term (conjuncts p) all)).0 in
-    subst (IsWellSorted g s.sort) (sym o.term) (folded_sorted g [] one.0.0.place o.one s.sort r one.0.0.faultless (own_of_term g o.one one.1 ∙ o.sort) one.1 one.0.0.meant one.0.0.placed)
+    subst (IsWellSorted g s.sort) (sym o.term) (folded_sorted g [] one.0.0.place o.one s.sort one.0.0.faultless (own_of_term g o.one one.1 ∙ o.sort) one.1 one.0.0.meant one.0.0.placed)
   where
     own_of_term : (g : KoreSignature) (t : KorePattern) → is_term t ≡ true → own_sort g t ≡ sort_of_term g t
     own_of_term g (variable x s) i = refl

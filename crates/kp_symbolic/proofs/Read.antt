@@ -8,7 +8,6 @@ use Rattle.kp_kore.specs.Signature.{KoreSignature}
 use Rattle.kp_semantics.specs.Value.{HasSort}
 use Rattle.kp_semantics.specs.Instance.{Valuation, GivesSorts, is_predicate, are_predicates, is_conjoined_pair, conjuncts, all_conjuncts, instance}
 use Rattle.kp_semantics.specs.Foreign.{none_within, has_foreign_head}
-use Rattle.kp_semantics.specs.Sorted.{IsRegular}
 use Rattle.kp_semantics.proofs.InstanceLemmas.{first_true, second_true}
 use Rattle.kp_signature.specs.Places.{Place, part_at, after}
 use Rattle.kp_signature.specs.Verify.{first_fault, members_fault}
@@ -156,11 +155,11 @@ pub record IsSide (g : KoreSignature) (rs : List Replaced) (v : Valuation) (a : 
   pub given : GivesSorts g v (term_variables (folded g rs p))
   pub is : term_instance g v (folded g rs p) ≡ instance g (under_replaced g rs v) p
 
-pub side_of : (g : KoreSignature) (rs : List Replaced) (v : Valuation) (a : KoreSort) (p : KorePattern) (h : Stands g rs p) → IsRegular g → h.place.wanted ≡ Some a → is_term p ≡ true → AreGiven g rs v (free_variables p) → IsSide g rs v a p
-side_of g rs v a p h r w t i = record {
-  sorted = folded_sorted g rs h.place p a r h.faultless (term_has_wanted_sort g h.place p a t h.faultless w) t h.meant h.placed;
+pub side_of : (g : KoreSignature) (rs : List Replaced) (v : Valuation) (a : KoreSort) (p : KorePattern) (h : Stands g rs p) → h.place.wanted ≡ Some a → is_term p ≡ true → AreGiven g rs v (free_variables p) → IsSide g rs v a p
+side_of g rs v a p h w t i = record {
+  sorted = folded_sorted g rs h.place p a h.faultless (term_has_wanted_sort g h.place p a t h.faultless w) t h.meant h.placed;
   given = folded_variables g rs (λ x. HasSort g x.sort (v x.name)) p i;
-  is = folded_is g rs v p r i;
+  is = folded_is g rs v p i;
 }
 
 -- ---- conjuncts

@@ -9,7 +9,6 @@ use Rattle.kp_kore.specs.Parts.{SortedName, free_variables}
 use Rattle.kp_kore.specs.Signature.{KoreSignature}
 use Rattle.kp_semantics.specs.Value.{Value, HasSort, head_of}
 use Rattle.kp_semantics.specs.Instance.{Valuation, GivesSorts, AgreesOn, is_named, IsTrueUnder}
-use Rattle.kp_semantics.specs.Sorted.{IsRegular}
 use Rattle.kp_semantics.proofs.TruthLemmas.{same_truth}
 use Rattle.kp_symbolic.specs.Terms.{SymbolicTerm, term_instance, term_variables, Replaced, replacement_for, under_replaced}
 use Rattle.kp_symbolic.specs.Formulas.{NoneHold}
@@ -45,20 +44,20 @@ record IsSolvedTerm (g : KoreSignature) (v : Valuation) (e : Equation) (s : Kore
   given : GivesSorts g v (term_variables (replaced g (replacement e) t))
   is : term_instance g v (replaced g (replacement e) t) ≡ term_instance g v t
 
-solved_term : (g : KoreSignature) (v : Valuation) (e : Equation) (s : KoreSort) (t : SymbolicTerm) → IsRegular g → IsMet g v e → IsWellSorted g s t → AllByRecursion (Placed g e) (term_variables t) → AllByRecursion (Sorted g e v) (term_variables t) → IsSolvedTerm g v e s t
-solved_term g v e s t r m w p h = record {
-  sorted = replaced_sorted g (replacement e) s t r w p;
+solved_term : (g : KoreSignature) (v : Valuation) (e : Equation) (s : KoreSort) (t : SymbolicTerm) → IsMet g v e → IsWellSorted g s t → AllByRecursion (Placed g e) (term_variables t) → AllByRecursion (Sorted g e v) (term_variables t) → IsSolvedTerm g v e s t
+solved_term g v e s t m w p h = record {
+  sorted = replaced_sorted g (replacement e) s t w p;
   given = replaced_variables g (replacement e) (λ y. HasSort g y.sort (v y.name)) t (sorted_written g s t w) h;
-  is = solved_term_is g v e.variable.name e.term t r (sorted_written g s t w) h m;
+  is = solved_term_is g v e.variable.name e.term t (sorted_written g s t w) h m;
 }
 
-same_solved : (g : KoreSignature) (v : Valuation) (e : Equation) (alone b : Bool) (s : KoreSort) (t u : SymbolicTerm) → IsRegular g → IsSolvedTerm g v e s t → IsSolvedTerm g v e s u → Says g v b (opened_same g alone b s (replaced g (replacement e) t) (replaced g (replacement e) u)) (term_instance g v t ≡ term_instance g v u)
-same_solved g v e alone b s t u r i j =
+same_solved : (g : KoreSignature) (v : Valuation) (e : Equation) (alone b : Bool) (s : KoreSort) (t u : SymbolicTerm) → IsSolvedTerm g v e s t → IsSolvedTerm g v e s u → Says g v b (opened_same g alone b s (replaced g (replacement e) t) (replaced g (replacement e) u)) (term_instance g v t ≡ term_instance g v u)
+same_solved g v e alone b s t u i j =
     let x = replaced g (replacement e) t in
     let y = replaced g (replacement e) u in
     subst (λ z. Says g v b (opened_same g alone b s x y) (z ≡ term_instance g v u)) i.is
     (subst (λ z. Says g v b (opened_same g alone b s x y) (term_instance g v x ≡ z)) j.is
-    (opened_same_says g v alone b s x y r i.given j.given (term_given g v s x r i.sorted i.given) (term_given g v s y r j.sorted j.given) (term_sorted g v s x r i.sorted i.given) (term_sorted g v s y r j.sorted j.given)))
+    (opened_same_says g v alone b s x y i.given j.given (term_given g v s x i.sorted i.given) (term_given g v s y j.sorted j.given) (term_sorted g v s x i.sorted i.given) (term_sorted g v s y j.sorted j.given)))
 
 -- ---- quoted predicates
 
@@ -81,18 +80,18 @@ tail_is g v e false y m = refl
 abbrev IsReadyFor : KoreSignature → Equation → Valuation → List Replaced → SortedName → Type 0
 IsReadyFor g e v rs x = IsWellSorted g x.sort (term_for x (replacement_for rs x.name)) × AllByRecursion (Sorted g e v) (variables_for x (replacement_for rs x.name))
 
-one_agrees : (g : KoreSignature) (v : Valuation) (e : Equation) (b : Bool) (rs : List Replaced) (x : SortedName) → IsRegular g → IsMet g v e → IsReadyFor g e v rs x
+one_agrees : (g : KoreSignature) (v : Valuation) (e : Equation) (b : Bool) (rs : List Replaced) (x : SortedName) → IsMet g v e → IsReadyFor g e v rs x
     → under_replaced g (map (λ r. record { name = r.name; term = replaced g (replacement e) r.term }) rs ++ (if b then replacement e else [])) v x.name ≡ under_replaced g rs v x.name
-one_agrees g v e b rs x r m h = after_is g v e rs (if b then replacement e else []) x.name
-    (λ t q. solved_term_is g v e.variable.name e.term t r
+one_agrees g v e b rs x m h = after_is g v e rs (if b then replacement e else []) x.name
+    (λ t q. solved_term_is g v e.variable.name e.term t
     (sorted_written g x.sort t (subst (λ o. IsWellSorted g x.sort (term_for x o)) q h.0))
     (subst (λ o. AllByRecursion (Sorted g e v) (variables_for x o)) q h.1) m)
     (tail_is g v e b x.name m)
 
-all_agree : (g : KoreSignature) (v : Valuation) (e : Equation) (b : Bool) (rs : List Replaced) (xs : List SortedName) → IsRegular g → IsMet g v e → AllByRecursion (IsReadyFor g e v rs) xs
+all_agree : (g : KoreSignature) (v : Valuation) (e : Equation) (b : Bool) (rs : List Replaced) (xs : List SortedName) → IsMet g v e → AllByRecursion (IsReadyFor g e v rs) xs
     → AgreesOn xs (under_replaced g rs v) (under_replaced g (map (λ r. record { name = r.name; term = replaced g (replacement e) r.term }) rs ++ (if b then replacement e else [])) v)
-all_agree g v e b rs [] r m h = tt
-all_agree g v e b rs (x ∷ xs) r m h = (one_agrees g v e b rs x r m h.0, all_agree g v e b rs xs r m h.1)
+all_agree g v e b rs [] m h = tt
+all_agree g v e b rs (x ∷ xs) m h = (one_agrees g v e b rs x m h.0, all_agree g v e b rs xs m h.1)
 
 all_ready : (g : KoreSignature) (v : Valuation) (e : Equation) (rs : List Replaced) (xs : List SortedName) → AllByRecursion (λ x. IsWellSorted g x.sort (term_for x (replacement_for rs x.name))) xs → AllByRecursion (Sorted g e v) (flat_map (λ x. variables_for x (replacement_for rs x.name)) xs) → AllByRecursion (IsReadyFor g e v rs) xs
 all_ready g v e rs [] w h = tt
@@ -106,33 +105,33 @@ by_truth g v false p rs qs a = let k = same_truth g p (under_replaced g rs v) (u
 
 -- ---- atoms
 
-pub atom_solved : (g : KoreSignature) (v : Valuation) (sort : KoreSort) (e : Equation) (alone b : Bool) (a : Atom) → IsRegular g → IsMet g v e → IsReadyAtom g v sort e a → Says g v b (opened_with g e alone b a) (IsAtomTrue g v a)
-atom_solved g v sort e alone b (same s t u) r m h = same_solved g v e alone b s t u r
-    (solved_term g v e s t r m h.sorted.0 (all_first (Placed g e) (term_variables t) (term_variables u) h.placed) (all_first (Sorted g e v) (term_variables t) (term_variables u) h.given))
-    (solved_term g v e s u r m h.sorted.1 (all_second (Placed g e) (term_variables t) (term_variables u) h.placed) (all_second (Sorted g e v) (term_variables t) (term_variables u) h.given))
-atom_solved g v sort e alone b (has_head x test) r m h =
+pub atom_solved : (g : KoreSignature) (v : Valuation) (sort : KoreSort) (e : Equation) (alone b : Bool) (a : Atom) → IsMet g v e → IsReadyAtom g v sort e a → Says g v b (opened_with g e alone b a) (IsAtomTrue g v a)
+atom_solved g v sort e alone b (same s t u) m h = same_solved g v e alone b s t u
+    (solved_term g v e s t m h.sorted.0 (all_first (Placed g e) (term_variables t) (term_variables u) h.placed) (all_first (Sorted g e v) (term_variables t) (term_variables u) h.given))
+    (solved_term g v e s u m h.sorted.1 (all_second (Placed g e) (term_variables t) (term_variables u) h.placed) (all_second (Sorted g e v) (term_variables t) (term_variables u) h.given))
+atom_solved g v sort e alone b (has_head x test) m h =
     let t = term_for x (replacement_for (replacement e) x.name) in
     let f = opened_test g b test (literal_fact b (has_head x test)) t in
     subst (λ u. Says g v b f (¬ ¬ PassesHead g test (head_of u))) (for_instance g (replacement e) v x.name x.sort (replacement_for (replacement e) x.name) refl ∙ one_replaced g v e.variable.name e.term m x.name)
-    (test_says g v b test (literal_fact b (has_head x test)) x.sort t r h.placed.0 (for_variables (λ y. HasSort g y.sort (v y.name)) x (replacement_for (replacement e) x.name) h.given.0))
-atom_solved g v sort e alone b (quoted p rs) r m h =
-    by_truth g v b p rs (replaced_after g e p rs) (all_agree g v e (is_named e.variable.name (free_variables p) && not (is_some (replacement_for rs e.variable.name))) rs (free_variables p) r m (all_ready g v e rs (free_variables p) h.sorted h.given))
+    (test_says g v b test (literal_fact b (has_head x test)) x.sort t h.placed.0 (for_variables (λ y. HasSort g y.sort (v y.name)) x (replacement_for (replacement e) x.name) h.given.0))
+atom_solved g v sort e alone b (quoted p rs) m h =
+    by_truth g v b p rs (replaced_after g e p rs) (all_agree g v e (is_named e.variable.name (free_variables p) && not (is_some (replacement_for rs e.variable.name))) rs (free_variables p) m (all_ready g v e rs (free_variables p) h.sorted h.given))
 
 -- ---- clauses
 
 abbrev AreReady : KoreSignature → Valuation → KoreSort → Equation → List Literal → Type 0
 AreReady g v sort e = AllByRecursion (λ l. IsReadyAtom g v sort e l.atom)
 
-none_solved : (g : KoreSignature) (v : Valuation) (sort : KoreSort) (e : Equation) (alone : Bool) (c : List Literal) → IsRegular g → IsMet g v e → AreReady g v sort e c → NoneHold (IsLiteralTrue g v) (all_opened_with g e alone c) ↔ AllByRecursion (λ l. ¬ IsLiteralTrue g v l) c
-none_solved g v sort e alone [] r m h = ((λ a. a), (λ a. a))
-none_solved g v sort e alone (l ∷ c) r m h =
-    let i = atom_solved g v sort e alone l.holds l.atom r m h.0 in
-    let j = none_solved g v sort e alone c r m h.1 in
+none_solved : (g : KoreSignature) (v : Valuation) (sort : KoreSort) (e : Equation) (alone : Bool) (c : List Literal) → IsMet g v e → AreReady g v sort e c → NoneHold (IsLiteralTrue g v) (all_opened_with g e alone c) ↔ AllByRecursion (λ l. ¬ IsLiteralTrue g v l) c
+none_solved g v sort e alone [] m h = ((λ a. a), (λ a. a))
+none_solved g v sort e alone (l ∷ c) m h =
+    let i = atom_solved g v sort e alone l.holds l.atom m h.0 in
+    let j = none_solved g v sort e alone c m h.1 in
     ((λ a. ((λ t. a.0 (i.1 t)), j.0 a.1)), (λ a. ((λ t. a.0 (i.0 t)), j.1 a.1)))
 
-opened_clause_says : (g : KoreSignature) (v : Valuation) (sort : KoreSort) (e : Equation) (c : List Literal) → IsRegular g → IsMet g v e → AreReady g v sort e c → AreTrue g v (distributed (opened_clause g e c)) ↔ IsClauseTrue g v c
-opened_clause_says g v sort e c r m h =
-    let i = none_solved g v sort e (is_single c) c r m h in
+opened_clause_says : (g : KoreSignature) (v : Valuation) (sort : KoreSort) (e : Equation) (c : List Literal) → IsMet g v e → AreReady g v sort e c → AreTrue g v (distributed (opened_clause g e c)) ↔ IsClauseTrue g v c
+opened_clause_says g v sort e c m h =
+    let i = none_solved g v sort e (is_single c) c m h in
     then_says (formula_says g v (opened_clause g e c)) ((λ n f. n (i.1 f)), (λ n f. n (i.0 f)))
 
 everywhere : (g : KoreSignature) (v : Valuation) (e : Equation) (xs : List SortedName) → IsMet g v e → AgreesOn xs v (under_replaced g (replacement e) v)
@@ -153,11 +152,11 @@ by_case g v true d xs bs cs A i j k = i
 by_case g v false true xs bs cs A i j k = j
 by_case g v false false xs bs cs A i j k = k
 
-clause_solved : (g : KoreSignature) (v : Valuation) (sort : KoreSort) (e : Equation) (n : ℕ) (c : List Literal) → IsRegular g → IsMet g v e → AreReady g v sort e c → AreTrue g v (solved_clause g sort e n c) ↔ IsClauseTrue g v c
-clause_solved g v sort e n c r m h = by_case g v (not (is_named e.variable.name (clause_variables c))) (is_too_large n (opened_clause g e c)) (c ∷ []) ((record { holds = true; atom = quoted (written_clause g sort c) (replacement e) } ∷ []) ∷ []) (distributed (opened_clause g e c)) (IsClauseTrue g v c)
+clause_solved : (g : KoreSignature) (v : Valuation) (sort : KoreSort) (e : Equation) (n : ℕ) (c : List Literal) → IsMet g v e → AreReady g v sort e c → AreTrue g v (solved_clause g sort e n c) ↔ IsClauseTrue g v c
+clause_solved g v sort e n c m h = by_case g v (not (is_named e.variable.name (clause_variables c))) (is_too_large n (opened_clause g e c)) (c ∷ []) ((record { holds = true; atom = quoted (written_clause g sort c) (replacement e) } ∷ []) ∷ []) (distributed (opened_clause g e c)) (IsClauseTrue g v c)
     ((λ a. a.0), (λ a. (a, tt)))
     (quoted_clause_says g v sort e c m h)
-    (opened_clause_says g v sort e c r m h)
+    (opened_clause_says g v sort e c m h)
 
 two_lists : (g : KoreSignature) (v : Valuation) (xs bs : List (List Literal)) (A B : Type 0) → AreTrue g v xs ↔ A → AreTrue g v bs ↔ B → AreTrue g v (xs ++ bs) ↔ (A × B)
 two_lists g v xs bs A B i j = (
@@ -165,15 +164,15 @@ two_lists g v xs bs A B i j = (
   (λ h. all_both (IsClauseTrue g v) xs bs (i.1 h.0) (j.1 h.1)),
 )
 
-clauses_solved : (g : KoreSignature) (v : Valuation) (sort : KoreSort) (e : Equation) (n : ℕ) (o : Option ℕ) (cs : List (List Literal)) → IsRegular g → IsMet g v e → AllByRecursion (AreReady g v sort e) cs → AreTrue g v (solved_clauses g sort e n o cs) ↔ AreTrue g v cs
-clauses_solved g v sort e n o [] r m h = ((λ a. a), (λ a. a))
-clauses_solved g v sort e n (Some zero) (c ∷ cs) r m h = let j = clauses_solved g v sort e (n + length c) None cs r m h.1 in ((λ a. (a.0, j.0 a.1)), (λ a. (a.0, j.1 a.1)))
-clauses_solved g v sort e n (Some (suc i)) (c ∷ cs) r m h =
+clauses_solved : (g : KoreSignature) (v : Valuation) (sort : KoreSort) (e : Equation) (n : ℕ) (o : Option ℕ) (cs : List (List Literal)) → IsMet g v e → AllByRecursion (AreReady g v sort e) cs → AreTrue g v (solved_clauses g sort e n o cs) ↔ AreTrue g v cs
+clauses_solved g v sort e n o [] m h = ((λ a. a), (λ a. a))
+clauses_solved g v sort e n (Some zero) (c ∷ cs) m h = let j = clauses_solved g v sort e (n + length c) None cs m h.1 in ((λ a. (a.0, j.0 a.1)), (λ a. (a.0, j.1 a.1)))
+clauses_solved g v sort e n (Some (suc i)) (c ∷ cs) m h =
     let k = n + literals_in (solved_clause g sort e n c) in
-    two_lists g v (solved_clause g sort e n c) (solved_clauses g sort e k (Some i) cs) (IsClauseTrue g v c) (AreTrue g v cs) (clause_solved g v sort e n c r m h.0) (clauses_solved g v sort e k (Some i) cs r m h.1)
-clauses_solved g v sort e n None (c ∷ cs) r m h =
+    two_lists g v (solved_clause g sort e n c) (solved_clauses g sort e k (Some i) cs) (IsClauseTrue g v c) (AreTrue g v cs) (clause_solved g v sort e n c m h.0) (clauses_solved g v sort e k (Some i) cs m h.1)
+clauses_solved g v sort e n None (c ∷ cs) m h =
     let k = n + literals_in (solved_clause g sort e n c) in
-    two_lists g v (solved_clause g sort e n c) (solved_clauses g sort e k None cs) (IsClauseTrue g v c) (AreTrue g v cs) (clause_solved g v sort e n c r m h.0) (clauses_solved g v sort e k None cs r m h.1)
+    two_lists g v (solved_clause g sort e n c) (solved_clauses g sort e k None cs) (IsClauseTrue g v c) (AreTrue g v cs) (clause_solved g v sort e n c m h.0) (clauses_solved g v sort e k None cs m h.1)
 
 -- ---- the equation's own clause
 
@@ -238,23 +237,23 @@ first_ready g v sort e c l h q = (subst (AreReady g v sort e) q h).0
 
 -- ---- states
 
-pub solved_clauses_say : (g : KoreSignature) (v : Valuation) (s : SymbolicState) (o : Solvable) → IsRegular g → first_solvable g s ≡ Some o → AllByRecursion (AllByRecursion (λ l. IsReadyAtom g v s.sort o.equation l.atom)) s.clauses
+pub solved_clauses_say : (g : KoreSignature) (v : Valuation) (s : SymbolicState) (o : Solvable) → first_solvable g s ≡ Some o → AllByRecursion (AllByRecursion (λ l. IsReadyAtom g v s.sort o.equation l.atom)) s.clauses
     → ((AreTrue g v s.clauses → IsMet g v o.equation × AreTrue g v (solved_at g o s).clauses) × (AreTrue g v (solved_at g o s).clauses → IsMet g v o.equation × AreTrue g v s.clauses))
-solved_clauses_say g v s o r q h =
+solved_clauses_say g v s o q h =
     let e = o.equation in
     let ds = solved_clauses g s.sort e 0 (Some o.place) s.clauses in
     let f = found_in g s o q in
     let c = ready_at (AreReady g v s.sort e) o.place s.clauses f.clause h f.stands in
-    let met : IsClauseTrue g v f.clause → IsMet g v e = λ t. met_clause g v f.clause e r (λ l i. let k = first_ready g v s.sort e f.clause l c i in (k.sorted, k.gives)) t f.gives in (
-      (λ a. let m = met (true_at g v o.place s.clauses f.clause a f.stands) in (m, (once_says g v ds).1 ((clauses_solved g v s.sort e 0 (Some o.place) s.clauses r m h).1 a))),
-      (λ a. let b = (once_says g v ds).0 a in let m = met (kept_at g v s.sort e 0 o.place s.clauses f.clause b f.stands) in (m, (clauses_solved g v s.sort e 0 (Some o.place) s.clauses r m h).0 b)),
+    let met : IsClauseTrue g v f.clause → IsMet g v e = λ t. met_clause g v f.clause e (λ l i. let k = first_ready g v s.sort e f.clause l c i in (k.sorted, k.gives)) t f.gives in (
+      (λ a. let m = met (true_at g v o.place s.clauses f.clause a f.stands) in (m, (once_says g v ds).1 ((clauses_solved g v s.sort e 0 (Some o.place) s.clauses m h).1 a))),
+      (λ a. let b = (once_says g v ds).0 a in let m = met (kept_at g v s.sort e 0 o.place s.clauses f.clause b f.stands) in (m, (clauses_solved g v s.sort e 0 (Some o.place) s.clauses m h).0 b)),
     )
 
-pub solved_instance : (g : KoreSignature) (v : Valuation) (s : SymbolicState) (o : Solvable) (u : Value) → IsRegular g → first_solvable g s ≡ Some o → AllByRecursion (AllByRecursion (λ l. IsReadyAtom g v s.sort o.equation l.atom)) s.clauses → IsWellSorted g s.sort s.term → AreGiven g (replacement o.equation) v (term_variables s.term)
+pub solved_instance : (g : KoreSignature) (v : Valuation) (s : SymbolicState) (o : Solvable) (u : Value) → first_solvable g s ≡ Some o → AllByRecursion (AllByRecursion (λ l. IsReadyAtom g v s.sort o.equation l.atom)) s.clauses → IsWellSorted g s.sort s.term → AreGiven g (replacement o.equation) v (term_variables s.term)
     → IsStateInstance g v s u ↔ IsStateInstance g v (solved_at g o s) u
-solved_instance g v s o u r q h w a =
-    let k = solved_clauses_say g v s o r q h in
-    let is : IsMet g v o.equation → term_instance g v (replaced g (replacement o.equation) s.term) ≡ term_instance g v s.term = λ m. solved_term_is g v o.equation.variable.name o.equation.term s.term r (sorted_written g s.sort s.term w) a m in (
+solved_instance g v s o u q h w a =
+    let k = solved_clauses_say g v s o q h in
+    let is : IsMet g v o.equation → term_instance g v (replaced g (replacement o.equation) s.term) ≡ term_instance g v s.term = λ m. solved_term_is g v o.equation.variable.name o.equation.term s.term (sorted_written g s.sort s.term w) a m in (
       (λ i. let j = k.0 i.clauses in record { term = i.term ∙ sym (is j.0); clauses = j.1 }),
       (λ i. let j = k.1 i.clauses in record { term = i.term ∙ is j.0; clauses = j.1 }),
     )

@@ -16,7 +16,6 @@ use Rattle.kp_semantics.specs.Forms.{two}
 use Rattle.kp_semantics.specs.Interpretation.{interpreted}
 use Rattle.kp_semantics.specs.Instance.{Valuation, instance, instances, applied, literal_value, IsTrueUnder, NoneTrueUnder, AllTrueUnder}
 use Rattle.kp_kore.specs.Limits.{fits_number}
-use Rattle.kp_semantics.specs.Sorted.{IsRegular}
 use Rattle.kp_semantics.proofs.InstanceLemmas.{first_true, second_true}
 use Rattle.kp_semantics.proofs.SameLemmas.{sorts_equal-Decides}
 use Rattle.kp_states.specs.Spelled.{placed, places_of, spelling, injected, injection_name, has_two_sorts}
@@ -28,6 +27,7 @@ use Rattle.kp_symbolic.specs.States.{Atom, same, has_head, quoted, IsAtomTrue, L
 use Rattle.kp_symbolic.specs.Writing.{written_call, written_sum, written_term, written_terms, written_atom, IsSaid, written_signed, written_literal, is_solved_by, is_second_solved, turned_if, written_literals, written_clause, written_clauses}
 use Rattle.kp_symbolic.proofs.Stable.{stable_literal}
 use Rattle.kp_symbolic.proofs.Replacing.{least_is, taken_away}
+use Rattle.kp_symbolic.proofs.WellSorted.{number_sort_is}
 use Rattle.kp_symbolic.proofs.SortedFolding.{fits_signed}
 
 -- ---- inj is what it should be, or stands nowhere
@@ -50,48 +50,48 @@ placed_is g v u own s p false (inr e) h = absurd (cc)
 one_sort : (s : KoreSort) (n : ℤ) (o : Option KoreSort) → o ≡ Some s → placed (unwrap_or o s) s (literal (unwrap_or o s) (signed_decimal n)) ≡ literal s (signed_decimal n)
 one_sort s n o e = subst (λ x. placed (unwrap_or x s) s (literal (unwrap_or x s) (signed_decimal n)) ≡ literal s (signed_decimal n)) (sym e) (rw ((sorts_equal-Decides s s).1 refl) refl)
 
-number_is : (g : KoreSignature) (v : Valuation) (s : KoreSort) (n : ℤ) → IsRegular g → integer_sort g ≡ Some s → FitsSigned w128 n → literal_value g s (signed_decimal n) ≡ whole n
-number_is g v s n r i f =
+number_is : (g : KoreSignature) (v : Valuation) (s : KoreSort) (n : ℤ) → integer_sort g ≡ Some s → FitsSigned w128 n → literal_value g s (signed_decimal n) ≡ whole n
+number_is g v s n i f =
     let e : spelling g s (whole n) ≡ literal s (signed_decimal n) = one_sort s n (integer_sort g) i in
-    subst (λ p. instance g v p ≡ whole n) e (said g v s (whole n) r (s, i, itself s) f (subst (λ p. InjectsWell g (subpatterns p)) (sym e) (inr refl))).meant
+    subst (λ p. instance g v p ≡ whole n) e (said g v s (whole n) (s, i, itself s) f (subst (λ p. InjectsWell g (subpatterns p)) (sym e) (inr refl))).meant
 
-call_is : (g : KoreSignature) (v : Valuation) (a : Arithmetic) (o : Option Text) (x : SortedName) (n : ℤ) → IsRegular g → integer_sort g ≡ Some x.sort → ((f : Text) → o ≡ Some f → meaning_of g f ≡ interpretation (whole_arithmetic a)) → is_some o && fits_number n ≡ true → instance g v (written_call o x n) ≡ interpreted (whole_arithmetic a) (two (v x.name) (whole n))
-call_is g v a (Some f) x n r i m e =
+call_is : (g : KoreSignature) (v : Valuation) (a : Arithmetic) (o : Option Text) (x : SortedName) (n : ℤ) → integer_sort g ≡ Some x.sort → ((f : Text) → o ≡ Some f → meaning_of g f ≡ interpretation (whole_arithmetic a)) → is_some o && fits_number n ≡ true → instance g v (written_call o x n) ≡ interpreted (whole_arithmetic a) (two (v x.name) (whole n))
+call_is g v a (Some f) x n i m e =
     ap (λ k. applied k f (two (v x.name) (literal_value g x.sort (signed_decimal n)))) (m f refl)
-    ∙ ap (λ u. interpreted (whole_arithmetic a) (two (v x.name) u)) (number_is g v x.sort n r i (fits_signed n (second_true true (fits_number n) e)))
-call_is g v a None x n r i m e = absurd (cc)
+    ∙ ap (λ u. interpreted (whole_arithmetic a) (two (v x.name) u)) (number_is g v x.sort n i (fits_signed n (second_true true (fits_number n) e)))
+call_is g v a None x n i m e = absurd (cc)
 
-sum_is_written : (g : KoreSignature) (v : Valuation) (x : SortedName) (c : ℤ) (b : Bool) → IsRegular g → integer_sort g ≡ Some x.sort → (if b then is_some (least_symbol g addition) && fits_number c else is_some (least_symbol g subtraction) && fits_number (neg_ℤ c)) ≡ true
+sum_is_written : (g : KoreSignature) (v : Valuation) (x : SortedName) (c : ℤ) (b : Bool) → integer_sort g ≡ Some x.sort → (if b then is_some (least_symbol g addition) && fits_number c else is_some (least_symbol g subtraction) && fits_number (neg_ℤ c)) ≡ true
     → instance g v (if b then written_call (least_symbol g addition) x c else written_call (least_symbol g subtraction) x (neg_ℤ c)) ≡ interpreted (whole_arithmetic addition) (two (v x.name) (whole c))
-sum_is_written g v x c true r i e = call_is g v addition (least_symbol g addition) x c r i (least_is g addition g.symbols) e
-sum_is_written g v x c false r i e = call_is g v subtraction (least_symbol g subtraction) x (neg_ℤ c) r i (least_is g subtraction g.symbols) e ∙ taken_away (v x.name) c
+sum_is_written g v x c true i e = call_is g v addition (least_symbol g addition) x c i (least_is g addition g.symbols) e
+sum_is_written g v x c false i e = call_is g v subtraction (least_symbol g subtraction) x (neg_ℤ c) i (least_is g subtraction g.symbols) e ∙ taken_away (v x.name) c
 
 -- ---- terms
 
 mutual
-  pub written_is : (g : KoreSignature) (v : Valuation) (s : KoreSort) (t : SymbolicTerm) → IsRegular g → IsWellSorted g s t → InjectsWell g (subpatterns (written_term g s t)) → instance g v (written_term g s t) ≡ term_instance g v t
-  written_is g v s (unknown x) r w i = placed_is g v (v x.name) x.sort s (variable x.name x.sort) (sorts_equal x.sort s) i (λ j. refl)
-  written_is g v s (offset x c) r w i = placed_is g v (term_instance g v (offset x c)) x.sort s (written_sum g x c) (sorts_equal x.sort s) i (λ j. sum_is_written g v x c (int_lt (pos 0) c) r w.0 w.1)
-  written_is g v s (known u) r w i = (said g v s u r w.0 w.1 i).meant
-  written_is g v s (headed f ts) r w i =
+  pub written_is : (g : KoreSignature) (v : Valuation) (s : KoreSort) (t : SymbolicTerm) → IsWellSorted g s t → InjectsWell g (subpatterns (written_term g s t)) → instance g v (written_term g s t) ≡ term_instance g v t
+  written_is g v s (unknown x) w i = placed_is g v (v x.name) x.sort s (variable x.name x.sort) (sorts_equal x.sort s) i (λ j. refl)
+  written_is g v s (offset x c) w i = placed_is g v (term_instance g v (offset x c)) x.sort s (written_sum g x c) (sorts_equal x.sort s) i (λ j. sum_is_written g v x c (int_lt (pos 0) c) (number_sort_is g x.sort w.0) w.1)
+  written_is g v s (known u) w i = (said g v s u w.0 w.1 i).meant
+  written_is g v s (headed f ts) w i =
       let p = application f no_sorts (written_terms g (places_of g f) ts) in
       placed_is g v (term_instance g v (headed f ts)) (unwrap_or (result_sort g f no_sorts) s) s p (sorts_equal (unwrap_or (result_sort g f no_sorts) s) s) i
-      (λ j. ap (applied (meaning_of g f) f) (all_written_are g v (places_of g f) ts r w.2 (injects_right g (p ∷ []) (all_subpatterns (written_terms g (places_of g f) ts)) j)))
+      (λ j. ap (applied (meaning_of g f) f) (all_written_are g v (places_of g f) ts w.2 (injects_right g (p ∷ []) (all_subpatterns (written_terms g (places_of g f) ts)) j)))
 
-  pub all_written_are : (g : KoreSignature) (v : Valuation) (ss : KoreSorts) (ts : SymbolicTerms) → IsRegular g → AreWellSorted g ss ts → InjectsWell g (all_subpatterns (written_terms g ss ts)) → instances g v (written_terms g ss ts) ≡ term_instances g v ts
-  all_written_are g v no_sorts no_terms r w i = refl
-  all_written_are g v (next_sort s ss) (next_term t ts) r w i = ap₂ next_value
-      (written_is g v s t r w.0 (injects_left g (subpatterns (written_term g s t)) (all_subpatterns (written_terms g ss ts)) i))
-      (all_written_are g v ss ts r w.1 (injects_right g (subpatterns (written_term g s t)) (all_subpatterns (written_terms g ss ts)) i))
-  all_written_are g v no_sorts (next_term t ts) r w i = absurd w
-  all_written_are g v (next_sort s ss) no_terms r w i = absurd w
+  pub all_written_are : (g : KoreSignature) (v : Valuation) (ss : KoreSorts) (ts : SymbolicTerms) → AreWellSorted g ss ts → InjectsWell g (all_subpatterns (written_terms g ss ts)) → instances g v (written_terms g ss ts) ≡ term_instances g v ts
+  all_written_are g v no_sorts no_terms w i = refl
+  all_written_are g v (next_sort s ss) (next_term t ts) w i = ap₂ next_value
+      (written_is g v s t w.0 (injects_left g (subpatterns (written_term g s t)) (all_subpatterns (written_terms g ss ts)) i))
+      (all_written_are g v ss ts w.1 (injects_right g (subpatterns (written_term g s t)) (all_subpatterns (written_terms g ss ts)) i))
+  all_written_are g v no_sorts (next_term t ts) w i = absurd w
+  all_written_are g v (next_sort s ss) no_terms w i = absurd w
 
 -- ---- literals and clauses
 
-pub equality_is_said : (g : KoreSignature) (v : Valuation) (sort s : KoreSort) (t u : SymbolicTerm) → IsRegular g → IsWellSorted g s t → IsWellSorted g s u → InjectsWell g (subpatterns (written_term g s t)) → InjectsWell g (subpatterns (written_term g s u)) → IsSaid g v sort (same s t u)
-equality_is_said g v sort s t u r w z i j =
-    let p = written_is g v s t r w i in
-    let q = written_is g v s u r z j in
+pub equality_is_said : (g : KoreSignature) (v : Valuation) (sort s : KoreSort) (t u : SymbolicTerm) → IsWellSorted g s t → IsWellSorted g s u → InjectsWell g (subpatterns (written_term g s t)) → InjectsWell g (subpatterns (written_term g s u)) → IsSaid g v sort (same s t u)
+equality_is_said g v sort s t u w z i j =
+    let p = written_is g v s t w i in
+    let q = written_is g v s u z j in
     ((λ e. sym p ∙ e ∙ q), (λ e. p ∙ e ∙ sym q))
 
 signed_said : (g : KoreSignature) (v : Valuation) (sort : KoreSort) (b : Bool) (a : Atom) → IsSaid g v sort a → IsTrueUnder g v (written_signed sort b (written_atom g sort a)) ↔ MatchBool b (IsAtomTrue g v a) (¬ IsAtomTrue g v a)

@@ -7,7 +7,7 @@ use Rattle.kp_kore.specs.Syntax.{KoreSort, KorePattern, conjunction}
 use Rattle.kp_kore.specs.Attributes.{sorts_equal}
 use Rattle.kp_kore.specs.Hooks.{equal, different, whole_comparison, values_equal, values_different}
 use Rattle.kp_kore.specs.Parts.{SortedName, free_variables}
-use Rattle.kp_kore.specs.Signature.{KoreSignature, SymbolMeaning, interpretation, meaning_of, is_below}
+use Rattle.kp_kore.specs.Signature.{KoreSignature, SymbolMeaning, interpretation, meaning_of}
 use Rattle.kp_kore.specs.Sorting.{sort_of_term}
 use Rattle.kp_semantics.specs.Value.{truth}
 use Rattle.kp_semantics.specs.Instance.{Valuation, GivesSorts, is_named, conjoined_terms, conjoined_predicates}

@@ -4,9 +4,8 @@ use Rattle.std.specs.Prelude.{◌≡◌, Bool, true, false, List, [], Option, So
 use Rattle.std.specs.List.{AllByRecursion, Contains}
 use Rattle.kp_kore.specs.Syntax.{KoreSort, KoreSorts, no_sorts, next_sort}
 use Rattle.kp_kore.specs.Parts.{SortedName, free_variables}
-use Rattle.kp_kore.specs.Signature.{KoreSignature, SymbolMeaning, construction, interpretation, meaning_of, is_number_sort, IsBelow}
+use Rattle.kp_kore.specs.Signature.{KoreSignature, SymbolMeaning, construction, interpretation, meaning_of, is_number_sort, IsBelow, is_below}
 use Rattle.kp_kore.specs.Sorting.{result_sort}
-use Rattle.kp_signature.specs.Places.{is_below}
 use Rattle.kp_semantics.specs.Value.{HasSort, HaveSorts}
 use Rattle.kp_semantics.specs.Instance.{Valuation, GivesSorts}
 use Rattle.kp_states.specs.Spelled.{own_sort, places_of, NumbersFit}

@@ -46,15 +46,15 @@ pub fn opening_keeps_truth()
 /// A verified predicate without foreign symbols is opened to what it says, and its clauses are true exactly where it is, with
 /// well-sorted terms in the place of its variables and values of their sorts for the variables of these.
 pub fn opened_predicates_say_what_they_said()
-    ensures opened { (g : KoreSignature) (rs : List Replaced) (v : Valuation) (c : Place) (p : KorePattern) → IsRegular g →
+    ensures opened { (g : KoreSignature) (rs : List Replaced) (v : Valuation) (c : Place) (p : KorePattern) →
         first_fault g c p ≡ None → none_within (has_foreign_head g) p ≡ true → is_predicate p ≡ true →
         AreWellPlaced g rs (free_variables p) → AreGiven g rs v (free_variables p) →
         (b : Bool) → Holds (IsLiteralTrue g v) (opened_predicate g rs b p) ↔ signed b (IsTrueUnder g (under_replaced g rs v) p) }
-    ensures clauses { (g : KoreSignature) (rs : List Replaced) (v : Valuation) (c : Place) (p : KorePattern) → IsRegular g →
+    ensures clauses { (g : KoreSignature) (rs : List Replaced) (v : Valuation) (c : Place) (p : KorePattern) →
         first_fault g c p ≡ None → none_within (has_foreign_head g) p ≡ true → is_predicate p ≡ true →
         AreWellPlaced g rs (free_variables p) → AreGiven g rs v (free_variables p) →
         AreTrue g v (clauses_of g rs p) ↔ IsTrueUnder g (under_replaced g rs v) p }
-    ensures as_it_stands { (g : KoreSignature) (v : Valuation) (c : Place) (p : KorePattern) → IsRegular g →
+    ensures as_it_stands { (g : KoreSignature) (v : Valuation) (c : Place) (p : KorePattern) →
         first_fault g c p ≡ None → none_within (has_foreign_head g) p ≡ true → is_predicate p ≡ true → GivesSorts g v (free_variables p) →
         AreTrue g v (clauses_of g [] p) ↔ IsTrueUnder g v p }
 {}
@@ -62,11 +62,11 @@ pub fn opened_predicates_say_what_they_said()
 /// A verified term is folded to a well-sorted one; with well-sorted terms in the place of its variables a well-sorted term is
 /// one; its instance has the sort.
 pub fn terms_are_well_sorted()
-    ensures folded { (g : KoreSignature) (rs : List Replaced) (c : Place) (p : KorePattern) (s : KoreSort) → IsRegular g → first_fault g c p ≡ None → own_sort g p ≡ Some s →
+    ensures folded { (g : KoreSignature) (rs : List Replaced) (c : Place) (p : KorePattern) (s : KoreSort) → first_fault g c p ≡ None → own_sort g p ≡ Some s →
         is_term p ≡ true → none_within (has_foreign_head g) p ≡ true → AreWellPlaced g rs (free_variables p) → IsWellSorted g s (folded g rs p) }
-    ensures replaced { (g : KoreSignature) (rs : List Replaced) (s : KoreSort) (t : SymbolicTerm) → IsRegular g → IsWellSorted g s t →
+    ensures replaced { (g : KoreSignature) (rs : List Replaced) (s : KoreSort) (t : SymbolicTerm) → IsWellSorted g s t →
         AreWellPlaced g rs (term_variables t) → IsWellSorted g s (replaced g rs t) }
-    ensures instances { (g : KoreSignature) (v : Valuation) (s : KoreSort) (t : SymbolicTerm) → IsRegular g → IsWellSorted g s t →
+    ensures instances { (g : KoreSignature) (v : Valuation) (s : KoreSort) (t : SymbolicTerm) → IsWellSorted g s t →
         GivesSorts g v (term_variables t) → HasSort g s (term_instance g v t) }
 {}
 
@@ -77,13 +77,13 @@ pub fn folding_gives_normal_forms()
 
 /// The term that is written for a well-sorted one has its instance, where inj is what it should be or isn't written.
 pub fn written_terms_have_the_instance()
-    ensures { (g : KoreSignature) (v : Valuation) (s : KoreSort) (t : SymbolicTerm) → IsRegular g → IsWellSorted g s t →
+    ensures { (g : KoreSignature) (v : Valuation) (s : KoreSort) (t : SymbolicTerm) → IsWellSorted g s t →
         InjectsWhereItStands g (written_term g s t) → instance g v (written_term g s t) ≡ term_instance g v t }
 {}
 
 /// The predicates that are written for clauses say what they say, where each atom's does; that of an equality does.
 pub fn written_clauses_say_what_they_said()
-    ensures equalities { (g : KoreSignature) (v : Valuation) (sort s : KoreSort) (t u : SymbolicTerm) → IsRegular g → IsWellSorted g s t → IsWellSorted g s u →
+    ensures equalities { (g : KoreSignature) (v : Valuation) (sort s : KoreSort) (t u : SymbolicTerm) → IsWellSorted g s t → IsWellSorted g s u →
         InjectsWhereItStands g (written_term g s t) → InjectsWhereItStands g (written_term g s u) →
         IsSaid g v sort (same s t u) }
     ensures clause { (g : KoreSignature) (v : Valuation) (sort : KoreSort) (c : List Literal) →
@@ -97,21 +97,21 @@ pub fn written_clauses_say_what_they_said()
 /// A verified pattern of one term and predicates has the instances of the state that it is opened as, whatever its variables
 /// stand for; the state's term is well-sorted.
 pub fn opened_states_have_the_instances()
-    ensures instances { (g : KoreSignature) (c : Place) (p : KorePattern) (s : SymbolicState) (v : Valuation) (u : Value) → IsRegular g →
+    ensures instances { (g : KoreSignature) (c : Place) (p : KorePattern) (s : SymbolicState) (v : Valuation) (u : Value) →
         first_fault g c p ≡ None → none_within (has_foreign_head g) p ≡ true → AllByRecursion (λ q. is_predicate q ≡ true) (conjoined_predicates p) →
         opened_state g p ≡ Some s → GivesSorts g v (free_variables p) → IsInstance g v p u ↔ IsStateInstance g v s u }
-    ensures term { (g : KoreSignature) (c : Place) (p : KorePattern) (s : SymbolicState) (v : Valuation) → IsRegular g →
+    ensures term { (g : KoreSignature) (c : Place) (p : KorePattern) (s : SymbolicState) (v : Valuation) →
         first_fault g c p ≡ None → none_within (has_foreign_head g) p ≡ true → opened_state g p ≡ Some s → GivesSorts g v (free_variables p) → IsWellSorted g s.sort s.term }
 {}
 
 /// A state in which an equation was solved has the instances that it had, where the term's and the clauses' variables have
 /// values of their sorts, and all is well-sorted; its clauses are true where they were, and there the equation holds.
 pub fn solving_keeps_instances()
-    ensures clauses { (g : KoreSignature) (v : Valuation) (s : SymbolicState) (o : Solvable) → IsRegular g → first_solvable g s ≡ Some o →
+    ensures clauses { (g : KoreSignature) (v : Valuation) (s : SymbolicState) (o : Solvable) → first_solvable g s ≡ Some o →
         AllByRecursion (AllByRecursion (λ l. IsReadyAtom g v s.sort o.equation l.atom)) s.clauses →
         (AreTrue g v s.clauses → (v o.equation.variable.name ≡ term_instance g v o.equation.term) × AreTrue g v (solved_at g o s).clauses)
         × (AreTrue g v (solved_at g o s).clauses → (v o.equation.variable.name ≡ term_instance g v o.equation.term) × AreTrue g v s.clauses) }
-    ensures instances { (g : KoreSignature) (v : Valuation) (s : SymbolicState) (o : Solvable) (u : Value) → IsRegular g → first_solvable g s ≡ Some o →
+    ensures instances { (g : KoreSignature) (v : Valuation) (s : SymbolicState) (o : Solvable) (u : Value) → first_solvable g s ≡ Some o →
         AllByRecursion (AllByRecursion (λ l. IsReadyAtom g v s.sort o.equation l.atom)) s.clauses →
         IsWellSorted g s.sort s.term → AreGiven g (replacement o.equation) v (term_variables s.term) →
         IsStateInstance g v s u ↔ IsStateInstance g v (solved_at g o s) u }

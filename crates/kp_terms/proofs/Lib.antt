@@ -1,1 +1,4 @@
+pub mod EachTerm
 pub mod Lists
+pub mod MadeLemmas
+pub mod SumLemmas

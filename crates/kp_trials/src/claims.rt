@@ -77,7 +77,10 @@ fn a_symbol_whose_hook_is_not_read_is_foreign(rt: HostRuntime) -> Result<(), Fai
         alloc,
         r#"claim{} \implies{SortInt{}}(Lblinfinity{}(), weakAlwaysFinally{SortInt{}}(Lblmul{}(\dv{SortInt{}}("170141183460469231731687303715884105727"), \dv{SortInt{}}("2")))) [label{}("a")]"#,
     )?;
-    assert_eq!(rt; told_over(alloc, FOREIGN_HOOK, wide.as_str())?.as_str(), "C9");
+    assert_eq!(rt;
+        told_over(alloc, FOREIGN_HOOK, wide.as_str())?.as_str(),
+        "C9"
+    );
     Ok(())
 }
 

@@ -1,5 +1,5 @@
 use Rattle.std.proofs.Common.{refl, sym, subst, pos, negsuc, ◌≢◌}
-use Rattle.kp_rpc.specs.Replied.{implies}
+use Rattle.kp_replies.specs.Read.{implies}
 use Rattle.kp_client.specs.Answers.{IsHeard, IsCoverAnswer}
 use Rattle.kp_client.specs.Links.{Exchange}
 use Rattle.kp_client.specs.Rounds.{cover_question, undecided_code, Refuses, by_no_reply, by_no_text}

@@ -2,7 +2,7 @@ use Rattle.std.proofs.Common.{sym, ap, subst, [], ◌∷◌, ◌≢◌}
 use Rattle.std.proofs.lemmas.Int.{to_z-of_z}
 use mir.Syntax.{w64}
 use mir.Val.{of_z}
-use Rattle.kp_rpc.specs.Replied.{implies}
+use Rattle.kp_replies.specs.Read.{implies}
 use Rattle.kp_client.specs.Rounds.{cover_question, undecided_code, Refuses, by_error}
 use Rattle.kp_client.proofs.cover.failed_cover.Goals as goal
 

@@ -2,9 +2,11 @@ use Rattle.std.proofs.Common.{◌≡◌, sym, ap, ◌∙◌, subst, ℕ, List, O
 use Rattle.std.specs.Option.{IfNone}
 use Rattle.serde_json.specs.Written.{compact_text}
 use Rattle.kp_rpc.specs.Questions.{question_tree}
-use Rattle.kp_rpc.specs.Replied.{ServerReply, IsReplyOf}
-use Rattle.kp_rpc.specs.View.{method_view, question_view}
-use Rattle.kp_rpc.specs.declared.replied.ServerReply.{ServerReply as RustReply}
+use Rattle.kp_replies.specs.Read.{ServerReply}
+use Rattle.kp_replies.specs.Replies.{IsReplyOf}
+use Rattle.kp_replies.specs.View.{method_view}
+use Rattle.kp_replies.specs.declared.told.ServerReply.{ServerReply as RustReply}
+use Rattle.kp_rpc.specs.View.{question_view}
 use Rattle.kp_client.proofs.Hearing.{nothing}
 use Rattle.kp_client.proofs.hear.hear.Goals as goal
 

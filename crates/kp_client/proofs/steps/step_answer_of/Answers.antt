@@ -2,8 +2,8 @@ use Rattle.std.proofs.Common.{◌≡◌, refl, sym, subst, pos, negsuc, ℕ, Lis
 use Rattle.std.proofs.lemmas.Result.{IfOk-weaker}
 use Rattle.kp_kore.specs.Syntax.{KorePattern}
 use Rattle.kp_rpc.specs.Request.{RequestId}
-use Rattle.kp_rpc.specs.Replied.{execute}
-use Rattle.kp_rpc.specs.View.{reply_view}
+use Rattle.kp_replies.specs.Read.{execute}
+use Rattle.kp_replies.specs.View.{reply_view}
 use Rattle.kp_client.specs.Answers.{IsHeard, IsStepAnswer}
 use Rattle.kp_client.specs.Links.{Exchange}
 use Rattle.kp_client.specs.Rounds.{IsGivenId, step_question, Tells, Refuses, by_no_reply, by_no_text}

@@ -1,9 +1,10 @@
-use Rattle.std.proofs.Common.{ap, subst, ◌∙◌, map}
+use Rattle.std.proofs.Common.{◌≡◌, sym, ap, subst, ◌∙◌, map}
 use Rattle.kp_kore.specs.Signature.{signature_of}
 use Rattle.kp_kore.specs.View.{module_view}
-use Rattle.kp_semantics.specs.Theory.{rewrite_axioms}
-use Rattle.kp_signature.specs.View.{sentences_of}
+use Rattle.kp_semantics.specs.Theory.{rewrite_axioms, labels_of}
+use Rattle.kp_signature.specs.View.{signature_view, sentences_of}
 use Rattle.kp_modules.specs.Faults.{AreSound, TellsFaulty}
+use Rattle.kp_modules.specs.Made.{AreMadeOf}
 use Rattle.kp_modules.proofs.Chains.{exit}
 use Rattle.kp_modules.proofs.Ruled.{runs, sentences_seen}
 use Rattle.kp_modules.proofs.table.rule_set.Goals as goal
@@ -16,11 +17,12 @@ returns-in_err-rules-clause-err c =
 
 pub returns-clause-ok : goal.returns-clause-ok
 returns-clause-ok c =
-    let ms = c.args.modules.now in
-    runs (map (λ m. module_view m.now) ms)
-    (record { signature = c.in_ok-signature.signature; rules = c.in_ok-rules.rules })
-    (c.in_ok-signature.ensures ∙ ap signature_of (sentences_seen ms))
-    c.in_ok-rules.ensures.ok
+    let ms = map (λ m. module_view m.now) c.args.modules.now in
+    let shared : signature_view c.in_ok-signature-2.signature.value ≡ signature_view c.in_ok-signature.signature = ap signature_view c.in_ok-signature-2.ensures.ok in
+    runs ms
+    (record { signature = c.in_ok-signature-2.signature; rules = c.in_ok-rules.rules })
+    (shared ∙ c.in_ok-signature.ensures ∙ ap signature_of (sentences_seen c.args.modules.now))
+    (subst (λ g. AreMadeOf g (labels_of (rewrite_axioms ms)) (rewrite_axioms ms) c.in_ok-rules.rules.items) (sym shared) c.in_ok-rules.ensures.ok)
 
 pub returns-clause-sound : goal.returns-clause-sound
 returns-clause-sound c = subst (λ g. AreSound g (rewrite_axioms (map (λ m. module_view m.now) c.args.modules.now))) c.in_ok-signature.ensures c.in_ok-rules.ensures.sound

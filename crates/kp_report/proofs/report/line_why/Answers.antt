@@ -2,9 +2,10 @@ use Rattle.std.proofs.Common.{◌≡◌, subst, string_bytes, Option}
 use Rattle.std.specs.Prelude.{codes}
 use Rattle.std.specs.Option.{IfSome, IfNone}
 use Rattle.std.proofs.lemmas.Result.{IfOk-weaker}
-use Rattle.kp_rpc.specs.Replied.{execute, ServerReply, IsReplyOf}
-use Rattle.kp_rpc.specs.View.{reply_view}
-use Rattle.kp_rpc.specs.declared.replied.ServerReply.{ServerReply as RustReply}
+use Rattle.kp_replies.specs.Read.{execute, ServerReply}
+use Rattle.kp_replies.specs.Replies.{IsReplyOf}
+use Rattle.kp_replies.specs.View.{reply_view}
+use Rattle.kp_replies.specs.declared.told.ServerReply.{ServerReply as RustReply}
 use Rattle.kp_report.specs.Report.{IsReplyWhy}
 use Rattle.kp_report.proofs.Lines.{why_by_nothing}
 use Rattle.kp_report.proofs.report.line_why.Goals as goal

@@ -108,4 +108,4 @@ pub skeleton_of-skeletons_of-requires : goal.skeleton_of-skeletons_of-requires
 skeleton_of-skeletons_of-requires t c = (search (rules, the_lemmas), c.requires.index)
 
 pub skeleton_of-skeleton_of_first-requires : goal.skeleton_of-skeleton_of_first-requires
-skeleton_of-skeleton_of_first-requires t c = (search (rules, the_lemmas, c.deref-then-branch.ensures.value, c.deref-then-branch.ensures.len, c.in-Application.is), c.requires.index)
+skeleton_of-skeleton_of_first-requires t c = (search (arith, the_lemmas, c.decreases, c.deref-then-branch.ensures.value, c.in-Application.is), c.requires.index)

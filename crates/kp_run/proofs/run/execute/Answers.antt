@@ -1,4 +1,4 @@
-use Rattle.std.proofs.Common.{rules, ◌≡◌, subst, true, inl, inr}
+use Rattle.std.proofs.Common.{◌≡◌, subst, inl, inr}
 use Rattle.std.proofs.lemmas.Result.{err_from_is_err_and}
 use Rattle.std.specs.Prelude.{string_bytes}
 use Rattle.kp_kore.specs.View.{sort_view}
@@ -32,7 +32,7 @@ loop-depth-preserved c = record {
       let sorted : IsSorted t.signature (value_view c.loop-depth.state.value) = (sort_view c.loop-depth.state.sort, (c.loop-depth.invariant.goes t runs at).1) in
       told_more t c.loop-depth.depth (written_of c.args.state) (written_of c.loop-depth.state) (c.loop-depth.invariant.told t runs at) (c.loop-depth.invariant.only t runs at)
       (told_at t (written_of c.loop-depth.state) (c.in_ok-next.ensures.answered t runs sorted));
-  counted = λ _. subst (IsShallowNext (signature_view c.args.rules.now.signature)) c.in-Stepped.is c.in_ok-next.ensures.counted;
+  counted = λ _. subst (IsShallowNext (signature_view c.args.rules.now.signature.value)) c.in-Stepped.is c.in_ok-next.ensures.counted;
 }
 
 pub returns-in_err-next-clause-not_answered : goal.returns-in_err-next-clause-not_answered

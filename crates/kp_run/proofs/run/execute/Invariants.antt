@@ -15,5 +15,5 @@ invariant-loop-depth l = record {
   states : (t : Theory) → RunsAs t l.rules → IsAt t l.fn.state → IsStateIn t l.depth (written_of l.fn.state) (written_of l.state);
   only : (t : Theory) → RunsAs t l.rules → IsAt t l.fn.state → IsOnlyIn t l.depth (written_of l.fn.state) (written_of l.state);
   told : (t : Theory) → RunsAs t l.rules → IsAt t l.fn.state → ¬ StopsUntold t (written_of l.fn.state) l.depth;
-  counted : IsTrue l.is_counted → IsShallow (signature_view l.rules.signature) l.state;
+  counted : IsTrue l.is_counted → IsShallow (signature_view l.rules.signature.value) l.state;
 }

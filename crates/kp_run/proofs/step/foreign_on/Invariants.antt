@@ -7,5 +7,5 @@ use Rattle.kp_run.proofs.step.foreign_on.Given as goal
 
 abbrev pub invariant-loop-rule : goal.invariant-loop-rule
 invariant-loop-rule l =
-    IsSorted (signature_view l.rules.signature) (value_view l.value) →
-    IsTold (signature_view l.rules.signature) (value_view l.value) (take l.rule-index l.rules.rules.items) l.first
+    IsSorted (signature_view l.rules.signature.value) (value_view l.value) →
+    IsTold (signature_view l.rules.signature.value) (value_view l.value) (take l.rule-index l.rules.rules.items) l.first

@@ -1,8 +1,10 @@
 use Rattle.std.proofs.Common.{subst}
 use Rattle.std.proofs.lemmas.Result.{err_from_is_err_and}
+use Rattle.kp_kore.specs.View.{sort_view}
 use Rattle.kp_signature.specs.View.{signature_view}
 use Rattle.kp_ground.specs.View.{value_view}
-use Rattle.kp_run.specs.Turns.{IsTurn}
+use Rattle.kp_run.specs.Causes.{IsWrittenAt}
+use Rattle.kp_run.specs.Turns.{IsTurn, IsAfterFiring, IsFollowed, NotFollowed}
 use Rattle.kp_run.proofs.Answered.{stuck_without, goes_without}
 use Rattle.kp_run.proofs.Causes.{wide_stops, several_stop, not_followed_stops, next_written, one_here}
 use Rattle.kp_run.proofs.Open.{open_among}
@@ -13,13 +15,13 @@ use Rattle.kp_run.proofs.step.known_next.Goals as goal
 pub returns-in-Nobody-clause-next : goal.returns-in-Nobody-clause-next
 returns-in-Nobody-clause-next c = λ t runs s known.
     stuck_here t c.args.rules.now (value_view c.args.state.now.value) runs s known
-    (subst (IsTurn (signature_view c.args.rules.now.signature) (value_view c.args.state.now.value) c.args.rules.now.rules.items) c.in-Nobody.is c.in_ok-turn_on.ensures.turn)
+    (subst (IsTurn (signature_view c.args.rules.now.signature.value) (value_view c.args.state.now.value) c.args.rules.now.rules.items) c.in-Nobody.is c.in_ok-turn_on.ensures.turn)
 
 pub returns-in-Nobody-clause-answered : goal.returns-in-Nobody-clause-answered
 returns-in-Nobody-clause-answered c = λ t runs s known.
     stuck_without t c.args.rules.now c.args.state.now runs s c.in_ok-turn_on.ensures.narrow
     (stuck_here t c.args.rules.now (value_view c.args.state.now.value) runs s known
-    (subst (IsTurn (signature_view c.args.rules.now.signature) (value_view c.args.state.now.value) c.args.rules.now.rules.items) c.in-Nobody.is c.in_ok-turn_on.ensures.turn))
+    (subst (IsTurn (signature_view c.args.rules.now.signature.value) (value_view c.args.state.now.value) c.args.rules.now.rules.items) c.in-Nobody.is c.in_ok-turn_on.ensures.turn))
 
 pub returns-in_err-turn_on-clause-not_answered : goal.returns-in_err-turn_on-clause-not_answered
 returns-in_err-turn_on-clause-not_answered c = λ t runs s known.
@@ -29,49 +31,49 @@ returns-in_err-turn_on-clause-not_answered c = λ t runs s known.
 pub returns-in-Several-clause-not_answered : goal.returns-in-Several-clause-not_answered
 returns-in-Several-clause-not_answered c = λ t runs s known _.
     several_stop t c.args.rules.now c.args.state.now c.in-Several.field-0 runs s
-    (subst (IsTurn (signature_view c.args.rules.now.signature) (value_view c.args.state.now.value) c.args.rules.now.rules.items) c.in-Several.is c.in_ok-turn_on.ensures.turn)
+    (subst (IsTurn (signature_view c.args.rules.now.signature.value) (value_view c.args.state.now.value) c.args.rules.now.rules.items) c.in-Several.is c.in_ok-turn_on.ensures.turn)
 
 pub returns-in_err-after-in-One-clause-not_answered : goal.returns-in_err-after-in-One-clause-not_answered
 returns-in_err-after-in-One-clause-not_answered c = λ t runs s known.
     let p = err_from_is_err_and c.from_residual-in_err-after-in-One.result c.from_residual-in_err-after-in-One.ensures.1 in
     rw (p.1, p.2) (λ is. not_followed_stops t c.args.rules.now c.args.state.now c.in-One.firing runs s known
-    (subst (IsTurn (signature_view c.args.rules.now.signature) (value_view c.args.state.now.value) c.args.rules.now.rules.items) c.in-One.is c.in_ok-turn_on.ensures.turn)
-    (c.in_err-after-in-One.ensures.not_followed is))
+    (subst (IsTurn (signature_view c.args.rules.now.signature.value) (value_view c.args.state.now.value) c.args.rules.now.rules.items) c.in-One.is c.in_ok-turn_on.ensures.turn)
+    (subst (λ s. NotFollowed (signature_view s) c.in-One.firing (sort_view c.args.state.now.sort)) c.deref.ensures (c.in_err-after-in-One.ensures.not_followed is)))
 
 pub returns-in_ok-after-in-One-clause-next : goal.returns-in_ok-after-in-One-clause-next
 returns-in_ok-after-in-One-clause-next c = λ t runs s known.
     goes_here t c.args.rules.now (value_view c.args.state.now.value) c.in-One.firing c.in_ok-after-in-One.field-0 runs s known
-    (subst (IsTurn (signature_view c.args.rules.now.signature) (value_view c.args.state.now.value) c.args.rules.now.rules.items) c.in-One.is c.in_ok-turn_on.ensures.turn)
-    c.in_ok-after-in-One.ensures.after
+    (subst (IsTurn (signature_view c.args.rules.now.signature.value) (value_view c.args.state.now.value) c.args.rules.now.rules.items) c.in-One.is c.in_ok-turn_on.ensures.turn)
+    (subst (λ s. IsAfterFiring (signature_view s) c.in-One.firing c.in_ok-after-in-One.field-0) c.deref.ensures c.in_ok-after-in-One.ensures.after)
 
 pub returns-in_ok-after-in-One-clause-written : goal.returns-in_ok-after-in-One-clause-written
 returns-in_ok-after-in-One-clause-written c = λ t runs s known.
-    let turn = subst (IsTurn (signature_view c.args.rules.now.signature) (value_view c.args.state.now.value) c.args.rules.now.rules.items) c.in-One.is c.in_ok-turn_on.ensures.turn in
-    let goes = (goes_here t c.args.rules.now (value_view c.args.state.now.value) c.in-One.firing c.in_ok-after-in-One.field-0 runs s known turn c.in_ok-after-in-One.ensures.after).0 in
+    let turn = subst (IsTurn (signature_view c.args.rules.now.signature.value) (value_view c.args.state.now.value) c.args.rules.now.rules.items) c.in-One.is c.in_ok-turn_on.ensures.turn in
+    let goes = (goes_here t c.args.rules.now (value_view c.args.state.now.value) c.in-One.firing c.in_ok-after-in-One.field-0 runs s known turn (subst (λ s. IsAfterFiring (signature_view s) c.in-One.firing c.in_ok-after-in-One.field-0) c.deref.ensures c.in_ok-after-in-One.ensures.after)).0 in
     record {
       only = goes.1;
       steps = goes.0;
-      written = next_written t c.args.rules.now c.args.state.now c.in_ok-after-in-One.field-0 c.in-One.firing runs s turn c.in_ok-after-in-One.ensures.written;
+      written = next_written t c.args.rules.now c.args.state.now c.in_ok-after-in-One.field-0 c.in-One.firing runs s turn (subst (λ s. IsWrittenAt (signature_view s) (sort_view c.in-One.firing.rewrite.now.right_sort) (sort_view c.args.state.now.sort) (sort_view c.in_ok-after-in-One.field-0.sort)) c.deref.ensures c.in_ok-after-in-One.ensures.written);
     }
 
 pub returns-in_ok-after-in-One-clause-answered : goal.returns-in_ok-after-in-One-clause-answered
 returns-in_ok-after-in-One-clause-answered c = λ t runs s known.
     goes_without t c.args.rules.now c.args.state.now c.in_ok-after-in-One.field-0 c.in-One.firing runs s c.in_ok-turn_on.ensures.narrow
     (one_here t c.args.rules.now (value_view c.args.state.now.value) c.in-One.firing runs s
-    (subst (IsTurn (signature_view c.args.rules.now.signature) (value_view c.args.state.now.value) c.args.rules.now.rules.items) c.in-One.is c.in_ok-turn_on.ensures.turn))
+    (subst (IsTurn (signature_view c.args.rules.now.signature.value) (value_view c.args.state.now.value) c.args.rules.now.rules.items) c.in-One.is c.in_ok-turn_on.ensures.turn))
     (record {
-      after = c.in_ok-after-in-One.ensures.after;
-      followed = c.in_ok-after-in-One.ensures.followed;
-      written = c.in_ok-after-in-One.ensures.written;
+      after = subst (λ s. IsAfterFiring (signature_view s) c.in-One.firing c.in_ok-after-in-One.field-0) c.deref.ensures c.in_ok-after-in-One.ensures.after;
+      followed = subst (λ s. IsFollowed (signature_view s) c.in-One.firing c.in_ok-after-in-One.field-0) c.deref.ensures c.in_ok-after-in-One.ensures.followed;
+      written = subst (λ s. IsWrittenAt (signature_view s) (sort_view c.in-One.firing.rewrite.now.right_sort) (sort_view c.args.state.now.sort) (sort_view c.in_ok-after-in-One.field-0.sort)) c.deref.ensures c.in_ok-after-in-One.ensures.written;
     })
 
 pub after-requires-clause-matched : goal.after-requires-clause-matched
 after-requires-clause-matched c =
-    match_of (signature_view c.args.rules.now.signature) (value_view c.args.state.now.value) c.in-One.firing c.in-One.firing.priority c.args.rules.now.rules.items
-    (subst (IsTurn (signature_view c.args.rules.now.signature) (value_view c.args.state.now.value) c.args.rules.now.rules.items) c.in-One.is c.in_ok-turn_on.ensures.turn)
+    match_of (signature_view c.args.rules.now.signature.value) (value_view c.args.state.now.value) c.in-One.firing c.in-One.firing.priority c.args.rules.now.rules.items
+    (subst (IsTurn (signature_view c.args.rules.now.signature.value) (value_view c.args.state.now.value) c.args.rules.now.rules.items) c.in-One.is c.in_ok-turn_on.ensures.turn)
 
 pub returns-in_ok-after-in-One-clause-counted : goal.returns-in_ok-after-in-One-clause-counted
-returns-in_ok-after-in-One-clause-counted c = c.in_ok-after-in-One.ensures.followed.within
+returns-in_ok-after-in-One-clause-counted c = (subst (λ s. IsFollowed (signature_view s) c.in-One.firing c.in_ok-after-in-One.field-0) c.deref.ensures c.in_ok-after-in-One.ensures.followed).within
 
 pub returns-in_err-turn_on-clause-unbound : goal.returns-in_err-turn_on-clause-unbound
 returns-in_err-turn_on-clause-unbound c =
@@ -81,6 +83,6 @@ returns-in_err-turn_on-clause-unbound c =
 pub returns-in_err-after-in-One-clause-unbound : goal.returns-in_err-after-in-One-clause-unbound
 returns-in_err-after-in-One-clause-unbound c =
     let p = err_from_is_err_and c.from_residual-in_err-after-in-One.result c.from_residual-in_err-after-in-One.ensures.1 in
-    rw (p.1, p.2) (λ is. open_among (signature_view c.args.rules.now.signature) (value_view c.args.state.now.value) c.in-One.firing c.args.rules.now.rules.items
-    (subst (IsTurn (signature_view c.args.rules.now.signature) (value_view c.args.state.now.value) c.args.rules.now.rules.items) c.in-One.is c.in_ok-turn_on.ensures.turn)
+    rw (p.1, p.2) (λ is. open_among (signature_view c.args.rules.now.signature.value) (value_view c.args.state.now.value) c.in-One.firing c.args.rules.now.rules.items
+    (subst (IsTurn (signature_view c.args.rules.now.signature.value) (value_view c.args.state.now.value) c.args.rules.now.rules.items) c.in-One.is c.in_ok-turn_on.ensures.turn)
     (c.in_err-after-in-One.ensures.unbound is))

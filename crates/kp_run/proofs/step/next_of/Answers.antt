@@ -9,40 +9,40 @@ use Rattle.kp_run.proofs.States.{one_told, one_not_answered}
 use Rattle.kp_run.proofs.Theories.{told_here}
 use Rattle.kp_run.proofs.step.next_of.Goals as goal
 
-pub returns-in_ok-clone-in-Some-clause-next : goal.returns-in_ok-clone-in-Some-clause-next
-returns-in_ok-clone-in-Some-clause-next c = λ t runs s.
+pub returns-in_ok-from_str-in-Some-clause-next : goal.returns-in_ok-from_str-in-Some-clause-next
+returns-in_ok-from_str-in-Some-clause-next c = λ t runs s.
     let u = value_view c.args.state.now.value in
     let told = told_here t c.args.rules.now u c.in_ok-rule.field-0 runs s c.in_ok-rule.ensures in
-    let first : IsFirstUnknown t u (string_bytes c.in-Some.rule.now.id) = subst (λ o. MatchOption o (¬ IsUnknown t u) (λ f. IsFirstUnknown t u (string_bytes f.now.id))) c.in-Some.is told in
-    let same : string_bytes c.in-Some.rule.now.id ≡ string_bytes c.in_ok-clone-in-Some.field-0 = search rules in
+    let first : IsFirstUnknown t u (string_bytes c.in-Some.rule.now.id.value) = subst (λ o. MatchOption o (¬ IsUnknown t u) (λ f. IsFirstUnknown t u (string_bytes f.now.id.value))) c.in-Some.is told in
+    let same : string_bytes c.in-Some.rule.now.id.value ≡ string_bytes c.in_ok-from_str-in-Some.field-0 = search rules in
     subst (IsFirstUnknown t u) same first
 
-pub returns-in_ok-clone-in-Some-clause-answered : goal.returns-in_ok-clone-in-Some-clause-answered
-returns-in_ok-clone-in-Some-clause-answered c = λ t runs s.
+pub returns-in_ok-from_str-in-Some-clause-answered : goal.returns-in_ok-from_str-in-Some-clause-answered
+returns-in_ok-from_str-in-Some-clause-answered c = λ t runs s.
     let u = value_view c.args.state.now.value in
     let told = told_here t c.args.rules.now u c.in_ok-rule.field-0 runs s c.in_ok-rule.ensures in
-    let first : IsFirstUnknown t u (string_bytes c.in-Some.rule.now.id) = subst (λ o. MatchOption o (¬ IsUnknown t u) (λ f. IsFirstUnknown t u (string_bytes f.now.id))) c.in-Some.is told in
-    one_told t (written_of c.args.state.now) (λ known. absurd (known (first_is_unknown t u (string_bytes c.in-Some.rule.now.id) first)))
+    let first : IsFirstUnknown t u (string_bytes c.in-Some.rule.now.id.value) = subst (λ o. MatchOption o (¬ IsUnknown t u) (λ f. IsFirstUnknown t u (string_bytes f.now.id.value))) c.in-Some.is told in
+    one_told t (written_of c.args.state.now) (λ known. absurd (known (first_is_unknown t u (string_bytes c.in-Some.rule.now.id.value) first)))
 
 pub returns-in-None-clause-next : goal.returns-in-None-clause-next
 returns-in-None-clause-next c = λ t runs s.
     let u = value_view c.args.state.now.value in
     let told = told_here t c.args.rules.now u c.in_ok-rule.field-0 runs s c.in_ok-rule.ensures in
-    let known : ¬ IsUnknown t u = subst (λ o. MatchOption o (¬ IsUnknown t u) (λ f. IsFirstUnknown t u (string_bytes f.now.id))) c.in-None.is told in
+    let known : ¬ IsUnknown t u = subst (λ o. MatchOption o (¬ IsUnknown t u) (λ f. IsFirstUnknown t u (string_bytes f.now.id.value))) c.in-None.is told in
     c.known_next.ensures.next t runs s known
 
 pub returns-in-None-clause-written : goal.returns-in-None-clause-written
 returns-in-None-clause-written c = λ t runs s.
     let u = value_view c.args.state.now.value in
     let told = told_here t c.args.rules.now u c.in_ok-rule.field-0 runs s c.in_ok-rule.ensures in
-    let known : ¬ IsUnknown t u = subst (λ o. MatchOption o (¬ IsUnknown t u) (λ f. IsFirstUnknown t u (string_bytes f.now.id))) c.in-None.is told in
+    let known : ¬ IsUnknown t u = subst (λ o. MatchOption o (¬ IsUnknown t u) (λ f. IsFirstUnknown t u (string_bytes f.now.id.value))) c.in-None.is told in
     c.known_next.ensures.written t runs s known
 
 pub returns-in-None-clause-answered : goal.returns-in-None-clause-answered
 returns-in-None-clause-answered c = λ t runs s.
     let u = value_view c.args.state.now.value in
     let told = told_here t c.args.rules.now u c.in_ok-rule.field-0 runs s c.in_ok-rule.ensures in
-    let known : ¬ IsUnknown t u = subst (λ o. MatchOption o (¬ IsUnknown t u) (λ f. IsFirstUnknown t u (string_bytes f.now.id))) c.in-None.is told in
+    let known : ¬ IsUnknown t u = subst (λ o. MatchOption o (¬ IsUnknown t u) (λ f. IsFirstUnknown t u (string_bytes f.now.id.value))) c.in-None.is told in
     IfOk-weaker c.known_next.result _ _
     (λ n stepped. one_told t (written_of c.args.state.now) (λ _. stepped))
     (c.known_next.ensures.answered t runs s known)
@@ -51,5 +51,5 @@ pub returns-in-None-clause-not_answered : goal.returns-in-None-clause-not_answer
 returns-in-None-clause-not_answered c = λ t runs s.
     let u = value_view c.args.state.now.value in
     let told = told_here t c.args.rules.now u c.in_ok-rule.field-0 runs s c.in_ok-rule.ensures in
-    let known : ¬ IsUnknown t u = subst (λ o. MatchOption o (¬ IsUnknown t u) (λ f. IsFirstUnknown t u (string_bytes f.now.id))) c.in-None.is told in
+    let known : ¬ IsUnknown t u = subst (λ o. MatchOption o (¬ IsUnknown t u) (λ f. IsFirstUnknown t u (string_bytes f.now.id.value))) c.in-None.is told in
     one_not_answered t (written_of c.args.state.now) c.known_next.result known (c.known_next.ensures.not_answered t runs s known)

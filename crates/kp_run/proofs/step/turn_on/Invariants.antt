@@ -7,6 +7,6 @@ use Rattle.kp_run.proofs.step.turn_on.Given as goal
 
 abbrev pub invariant-loop-rule : goal.invariant-loop-rule
 invariant-loop-rule l = record {
-  turn : IsTurn (signature_view l.rules.signature) (value_view l.value) (take l.rule-index l.rules.rules.items) l.turn;
-  narrow : AllByRecursion (λ r. ¬ BodyIsWide (signature_view l.rules.signature) (value_view l.value) r.body) (take l.rule-index l.rules.rules.items);
+  turn : IsTurn (signature_view l.rules.signature.value) (value_view l.value) (take l.rule-index l.rules.rules.items) l.turn;
+  narrow : AllByRecursion (λ r. ¬ BodyIsWide (signature_view l.rules.signature.value) (value_view l.value) r.body.value) (take l.rule-index l.rules.rules.items);
 }

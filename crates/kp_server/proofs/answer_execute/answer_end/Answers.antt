@@ -6,15 +6,20 @@ use Rattle.kp_ground.specs.View.{value_view}
 use Rattle.kp_signature.specs.View.{signature_view}
 use Rattle.kp_semantics.specs.Foreign.{none_within}
 use Rattle.kp_states.specs.Spelled.{spelling, has_two_sorts, injection_name}
+use Rattle.kp_results.specs.View.{executed_view}
 use Rattle.kp_server.proofs.Ended.{end_is_right, spelled_at, unanswered}
+use Rattle.kp_server.proofs.Trees.{result_has_tree}
 use Rattle.kp_server.proofs.answer_execute.answer_end.Goals as goal
 
 pub returns-in-Ok : goal.returns-in-Ok
 returns-in-Ok c = λ s runs h.
     let end = c.args.end.now in
-    let spelled = spelled_at (signature_view c.args.rules.now.signature) s.theory.signature runs.signature (sort_view end.state.sort) (value_view end.state.value) (view c.in-Ok.term) c.in-Ok.ensures.meant h.run.sorted in
+    let spelled = spelled_at (signature_view c.args.rules.now.signature.value) s.theory.signature runs.signature (sort_view end.state.sort) (value_view end.state.value) (view c.in-Ok.term) c.in-Ok.ensures.meant h.run.sorted in
     let normal = subst (λ (g : KoreSignature). view c.in-Ok.term ≡ spelling g (sort_view end.state.sort) (value_view end.state.value)) runs.signature c.in-Ok.ensures.normal in
-    IfOk-weaker c.end_line.result _ _ (λ line l. end_is_right s c.args.request.now c.requires end h (view c.in-Ok.term) spelled normal line l) c.end_line.ensures
+    IfOk-weaker c.end_line.result _ _ (λ line l. end_is_right s c.args.request.now c.requires end h (view c.in-Ok.term) spelled normal (executed_view c.in_ok-written-in-Ok.written) c.in_ok-written-in-Ok.ensures line l) c.end_line.ensures
+
+pub end_line-requires : goal.end_line-requires
+end_line-requires c = result_has_tree c.args.end.now (view c.in-Ok.term) (executed_view c.in_ok-written-in-Ok.written) c.in_ok-written-in-Ok.ensures c.in-Ok.ensures.written
 
 pub returns-in-Err-NoInjection : goal.returns-in-Err-NoInjection
 returns-in-Err-NoInjection c = λ s runs h.

@@ -9,19 +9,19 @@ use Rattle.kp_server.proofs.answer_execute.state_at.Goals as goal
 
 pub returns-in-Err-clause-failed : goal.returns-in-Err-clause-failed
 returns-in-Err-clause-failed c = λ s runs reached.
-    let g = signature_view c.args.rules.now.signature in
+    let g = signature_view c.args.rules.now.signature.value in
     let p = view c.in_ok-pattern.pattern in
     failure_of g s runs.signature c.args.request.now p c.verify_failure.result reached c.in_ok-pattern.ensures.found (wrong_weaker g (IsLeftOut s (options_of c.args.request.now)) p c.verify_failure.result (c.verify_failure.ensures g p c.in-Err.ensures.fault))
 
 pub returns-clause-found : goal.returns-clause-found
 returns-clause-found c = λ t runs.
-    let g = signature_view c.args.rules.now.signature in
+    let g = signature_view c.args.rules.now.signature.value in
     let e = c.args.request.now in
     IfOk-weaker c.ground_state.result _ _ (λ a at. state_is g t.signature runs.signature e (view c.in_ok-pattern.pattern) (sort_view c.in-Ok.sort) a c.in_ok-pattern.ensures.found c.in-Ok.ensures.sort at) c.ground_state.ensures.found
 
 pub returns-clause-failed : goal.returns-clause-failed
 returns-clause-failed c = λ s runs reached.
-    let g = signature_view c.args.rules.now.signature in
+    let g = signature_view c.args.rules.now.signature.value in
     let p = view c.in_ok-pattern.pattern in
     let options = options_of c.args.request.now in
     IfErr-weaker c.ground_state.result _ _ (λ f k. failure_of g s runs.signature c.args.request.now p f reached c.in_ok-pattern.ensures.found k)

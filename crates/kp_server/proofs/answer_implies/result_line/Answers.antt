@@ -1,6 +1,7 @@
 use Rattle.std.specs.Option.{option_map}
 use Rattle.kp_kore.specs.View.{sort_view}
-use Rattle.kp_rpc.specs.View.{id_view, implied_view}
+use Rattle.kp_results.specs.View.{implied_view}
+use Rattle.kp_rpc.specs.View.{id_view}
 use Rattle.kp_server.proofs.Implied.{has_line, result_line_is}
 use Rattle.kp_server.proofs.answer_implies.result_line.Goals as goal
 

@@ -1,4 +1,4 @@
-use Rattle.std.proofs.Common.{◌↔◌, IsTrue, sym, subst}
+use Rattle.std.proofs.Common.{◌↔◌, IsTrue, sym, ◌∙◌, subst}
 use Rattle.kp_signature.specs.View.{signature_view}
 use Rattle.kp_semantics.specs.Instance.{Valuation}
 use Rattle.kp_ground.specs.View.{value_view}
@@ -13,4 +13,4 @@ returns-in_ok-fires-in-Rewrite-clause-fires c =
     let u = value_view c.args.value.now in
     let r = c.in-Rewrite.rewrite in
     let all = fires_as g r u c.in_ok-fires-in-Rewrite.field-0 c.in_ok-fires-in-Rewrite.ensures.firing c.in_ok-fires-in-Rewrite.ensures.solvable in
-    subst (λ b. IsTrue c.is_some.result ↔ BodyFires g u b) (sym c.in-Rewrite.is) (subst (λ x. IsTrue x ↔ ((v : Valuation) × FiresAs g r u v)) (sym c.is_some.ensures) all)
+    subst (λ b. IsTrue c.is_some.result ↔ BodyFires g u b) (sym c.in-Rewrite.is ∙ c.deref.ensures) (subst (λ x. IsTrue x ↔ ((v : Valuation) × FiresAs g r u v)) (sym c.is_some.ensures) all)

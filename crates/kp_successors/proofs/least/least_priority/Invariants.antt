@@ -8,5 +8,5 @@ use Rattle.kp_successors.proofs.least.least_priority.Given as goal
 
 abbrev pub invariant-loop-rule : goal.invariant-loop-rule
 invariant-loop-rule l =
-    IsLeast (signature_view l.rules.signature) (value_view l.value) (take l.rule-index l.rules.rules.items) l.least
-    × AllByRecursion (λ r. ¬ BodyIsWide (signature_view l.rules.signature) (value_view l.value) r.body) (take l.rule-index l.rules.rules.items)
+    IsLeast (signature_view l.rules.signature.value) (value_view l.value) (take l.rule-index l.rules.rules.items) l.least
+    × AllByRecursion (λ r. ¬ BodyIsWide (signature_view l.rules.signature.value) (value_view l.value) r.body.value) (take l.rule-index l.rules.rules.items)

@@ -1,8 +1,10 @@
-use Rattle.std.proofs.Common.{rules, sym, subst, map, string_bytes}
+use Rattle.std.proofs.Common.{◌≡◌, sym, subst, false, map, string_bytes}
 use Rattle.std.specs.Prelude.{MatchOption}
 use Rattle.std.proofs.lemmas.Result.{err_from_is_err_and}
 use Rattle.kp_kore.specs.View.{view}
 use Rattle.kp_ground.specs.View.{value_view}
+use Rattle.kp_semantics.specs.Instance.{Valuation, instance}
+use Rattle.kp_semantics.specs.Numbers.{computes_wide}
 use Rattle.kp_semantics.specs.Steps.{IsUnknown}
 use Rattle.kp_run.specs.Runs.{IsFirstUnknown}
 use Rattle.kp_run.proofs.Theories.{told_here}
@@ -15,12 +17,13 @@ use Rattle.kp_successors.proofs.step.ground_step.Goals as goal
 pub returns-in_err-value-clause-refused : goal.returns-in_err-value-clause-refused
 returns-in_err-value-clause-refused c = λ t s u runs state.
     let p = err_from_is_err_and c.from_residual.result c.from_residual.ensures.1 in
-    rw (p.1, p.2) (refused_value t c.args.rules.now (view c.args.pattern.now) s u c.in_err-value.field-0.0 runs state c.in_err-value.ensures.refused)
+    rw (p.1, p.2) (refused_value t c.args.rules.now (view c.args.pattern.now) s u c.in_err-value.field-0.0 runs state
+    (subst (λ s. IsUnvalued (signature_view s) (view c.args.pattern.now) c.in_err-value.field-0.0) c.deref.ensures c.in_err-value.ensures.refused))
 
 pub returns-in_err-nexts-clause-refused : goal.returns-in_err-nexts-clause-refused
 returns-in_err-nexts-clause-refused c = λ t s u runs state.
     let w = value_view c.in_ok-value.value in
-    let same = same_value t c.args.rules.now (view c.args.pattern.now) s u w runs state c.in_ok-value.ensures.meant in
+    let same = same_value t c.args.rules.now (view c.args.pattern.now) s u w runs state (subst (λ s. (v : Valuation) → instance (signature_view s) v (view c.args.pattern.now) ≡ w) c.deref.ensures c.in_ok-value.ensures.meant) in
     let sorted = has_sort t (view c.args.pattern.now) s u w state same in
     let p = err_from_is_err_and c.from_residual-in_err-nexts.result c.from_residual-in_err-nexts.ensures.1 in
     rw (p.1, p.2) (refused_rule t (view c.args.pattern.now) u w c.in_err-nexts.field-0.0 same (c.in_err-nexts.ensures.refused t runs sorted))
@@ -38,42 +41,46 @@ returns-in_err-foreign-in-Some-clause-refused c = λ t s u runs state.
 pub returns-in-Some-clause-refused : goal.returns-in-Some-clause-refused
 returns-in-Some-clause-refused c = λ t s u runs state.
     let w = value_view c.in_ok-value.value in
-    let same = same_value t c.args.rules.now (view c.args.pattern.now) s u w runs state c.in_ok-value.ensures.meant in
+    let same = same_value t c.args.rules.now (view c.args.pattern.now) s u w runs state (subst (λ s. (v : Valuation) → instance (signature_view s) v (view c.args.pattern.now) ≡ w) c.deref.ensures c.in_ok-value.ensures.meant) in
     let sorted = has_sort t (view c.args.pattern.now) s u w state same in
     let told = told_here t c.args.rules.now w c.in_ok-rule.field-0 runs sorted c.in_ok-rule.ensures in
-    let first : IsFirstUnknown t w (string_bytes c.in-Some.rule.now.id) = subst (λ o. MatchOption o (¬ IsUnknown t w) (λ f. IsFirstUnknown t w (string_bytes f.now.id))) c.in-Some.is told in
-    let narrow = not_too_wide t c.args.rules.now (view c.args.pattern.now) u w runs same c.in_ok-value.ensures.narrow (c.in_ok-nexts.ensures.narrow t runs sorted) in
-    refused_foreign t (view c.args.pattern.now) u w (string_bytes c.in-Some.rule.now.id) c.in_ok-foreign-in-Some.field-0 same narrow first c.in_ok-foreign-in-Some.ensures
+    let first : IsFirstUnknown t w (string_bytes c.in-Some.rule.now.id.value) = subst (λ o. MatchOption o (¬ IsUnknown t w) (λ f. IsFirstUnknown t w (string_bytes f.now.id.value))) c.in-Some.is told in
+    let narrow = not_too_wide t c.args.rules.now (view c.args.pattern.now) u w runs same
+    (subst (λ s. (v : Valuation) → computes_wide (signature_view s) v (view c.args.pattern.now) ≡ false) c.deref.ensures c.in_ok-value.ensures.narrow)
+    (c.in_ok-nexts.ensures.narrow t runs sorted) in
+    refused_foreign t (view c.args.pattern.now) u w (string_bytes c.in-Some.rule.now.id.value) c.in_ok-foreign-in-Some.field-0 same narrow first c.in_ok-foreign-in-Some.ensures
 
 pub returns-clause-successors : goal.returns-clause-successors
 returns-clause-successors c = λ t s u runs state.
     let w = value_view c.in_ok-value.value in
-    let same = same_value t c.args.rules.now (view c.args.pattern.now) s u w runs state c.in_ok-value.ensures.meant in
+    let same = same_value t c.args.rules.now (view c.args.pattern.now) s u w runs state (subst (λ s. (v : Valuation) → instance (signature_view s) v (view c.args.pattern.now) ≡ w) c.deref.ensures c.in_ok-value.ensures.meant) in
     let sorted = has_sort t (view c.args.pattern.now) s u w state same in
     let told = told_here t c.args.rules.now w c.in_ok-rule.field-0 runs sorted c.in_ok-rule.ensures in
-    let known : ¬ IsUnknown t w = subst (λ o. MatchOption o (¬ IsUnknown t w) (λ f. IsFirstUnknown t w (string_bytes f.now.id))) c.in-None.is told in
+    let known : ¬ IsUnknown t w = subst (λ o. MatchOption o (¬ IsUnknown t w) (λ f. IsFirstUnknown t w (string_bytes f.now.id.value))) c.in-None.is told in
     subst (λ x. AreSuccessors t x t.rules (map view c.in_ok-nexts.nexts.items)) (sym same) (c.in_ok-nexts.ensures.successors t runs sorted known)
 
 pub returns-clause-known : goal.returns-clause-known
 returns-clause-known c = λ t s u runs state.
     let w = value_view c.in_ok-value.value in
-    let same = same_value t c.args.rules.now (view c.args.pattern.now) s u w runs state c.in_ok-value.ensures.meant in
+    let same = same_value t c.args.rules.now (view c.args.pattern.now) s u w runs state (subst (λ s. (v : Valuation) → instance (signature_view s) v (view c.args.pattern.now) ≡ w) c.deref.ensures c.in_ok-value.ensures.meant) in
     let sorted = has_sort t (view c.args.pattern.now) s u w state same in
     let told = told_here t c.args.rules.now w c.in_ok-rule.field-0 runs sorted c.in_ok-rule.ensures in
-    let known : ¬ IsUnknown t w = subst (λ o. MatchOption o (¬ IsUnknown t w) (λ f. IsFirstUnknown t w (string_bytes f.now.id))) c.in-None.is told in
+    let known : ¬ IsUnknown t w = subst (λ o. MatchOption o (¬ IsUnknown t w) (λ f. IsFirstUnknown t w (string_bytes f.now.id.value))) c.in-None.is told in
     subst (λ x. ¬ IsUnknown t x) (sym same) known
 
 pub returns-clause-narrow : goal.returns-clause-narrow
 returns-clause-narrow c = λ t s u runs state.
     let w = value_view c.in_ok-value.value in
-    let same = same_value t c.args.rules.now (view c.args.pattern.now) s u w runs state c.in_ok-value.ensures.meant in
+    let same = same_value t c.args.rules.now (view c.args.pattern.now) s u w runs state (subst (λ s. (v : Valuation) → instance (signature_view s) v (view c.args.pattern.now) ≡ w) c.deref.ensures c.in_ok-value.ensures.meant) in
     let sorted = has_sort t (view c.args.pattern.now) s u w state same in
-    not_too_wide t c.args.rules.now (view c.args.pattern.now) u w runs same c.in_ok-value.ensures.narrow (c.in_ok-nexts.ensures.narrow t runs sorted)
+    not_too_wide t c.args.rules.now (view c.args.pattern.now) u w runs same
+    (subst (λ s. (v : Valuation) → computes_wide (signature_view s) v (view c.args.pattern.now) ≡ false) c.deref.ensures c.in_ok-value.ensures.narrow)
+    (c.in_ok-nexts.ensures.narrow t runs sorted)
 
 pub returns-in_err-value-clause-unbound : goal.returns-in_err-value-clause-unbound
 returns-in_err-value-clause-unbound c =
     let p = err_from_is_err_and c.from_residual.result c.from_residual.ensures.1 in
-    rw (p.1, p.2) (λ is. absurd (subst (IsUnvalued (signature_view c.args.rules.now.signature) (view c.args.pattern.now)) is c.in_err-value.ensures.refused))
+    rw (p.1, p.2) (λ is. absurd (subst (IsUnvalued (signature_view c.deref.result.now) (view c.args.pattern.now)) is c.in_err-value.ensures.refused))
 
 pub returns-in_err-nexts-clause-unbound : goal.returns-in_err-nexts-clause-unbound
 returns-in_err-nexts-clause-unbound c =
@@ -81,4 +88,4 @@ returns-in_err-nexts-clause-unbound c =
     rw (p.1, p.2) c.in_err-nexts.ensures.unbound
 
 pub returns-in-Some-clause-unbound : goal.returns-in-Some-clause-unbound
-returns-in-Some-clause-unbound c = λ is. absurd (subst (IsForeignBy (string_bytes c.in-Some.rule.now.id)) is c.in_ok-foreign-in-Some.ensures)
+returns-in-Some-clause-unbound c = λ is. absurd (subst (IsForeignBy (string_bytes c.in-Some.rule.now.id.value)) is c.in_ok-foreign-in-Some.ensures)

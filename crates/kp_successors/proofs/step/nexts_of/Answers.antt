@@ -16,31 +16,31 @@ returns-in_err-priority-clause-refused c = λ t runs s.
 pub returns-in-Some-clause-successors : goal.returns-in-Some-clause-successors
 returns-in-Some-clause-successors c = λ t runs s.
     let u = value_view c.args.value.now in
-    let least = subst (IsLeast (signature_view c.args.rules.now.signature) u c.args.rules.now.rules.items) c.in-Some.is c.in_ok-priority.ensures.least in
+    let least = subst (IsLeast (signature_view c.args.rules.now.signature.value) u c.args.rules.now.rules.items) c.in-Some.is c.in_ok-priority.ensures.least in
     IfOk-weaker c.nexts_at.result _ _ (λ ps next known. nexts_are t c.args.rules.now u c.in-Some.priority _ runs s least next known) c.nexts_at.ensures.nexts
 
 pub returns-in-Some-clause-narrow : goal.returns-in-Some-clause-narrow
 returns-in-Some-clause-narrow c = λ t runs s.
     let u = value_view c.args.value.now in
-    let least = subst (IsLeast (signature_view c.args.rules.now.signature) u c.args.rules.now.rules.items) c.in-Some.is c.in_ok-priority.ensures.least in
+    let least = subst (IsLeast (signature_view c.args.rules.now.signature.value) u c.args.rules.now.rules.items) c.in-Some.is c.in_ok-priority.ensures.least in
     on_ok_weaker c.nexts_at.result (λ rights. nexts_narrow t c.args.rules.now u c.in-Some.priority runs s least c.in_ok-priority.ensures.narrow rights) c.nexts_at.ensures.narrow
 
 pub returns-in-Some-clause-refused : goal.returns-in-Some-clause-refused
 returns-in-Some-clause-refused c = λ t runs s.
     let u = value_view c.args.value.now in
-    let least = subst (IsLeast (signature_view c.args.rules.now.signature) u c.args.rules.now.rules.items) c.in-Some.is c.in_ok-priority.ensures.least in
+    let least = subst (IsLeast (signature_view c.args.rules.now.signature.value) u c.args.rules.now.rules.items) c.in-Some.is c.in_ok-priority.ensures.least in
     IfErr-weaker c.nexts_at.result _ _ (λ e h. nexts_refused t c.args.rules.now u c.in-Some.priority e runs s least h) c.nexts_at.ensures.refused
 
 pub returns-in-None-clause-successors : goal.returns-in-None-clause-successors
 returns-in-None-clause-successors c = λ t runs s known.
     let u = value_view c.args.value.now in
     subst (λ ps. AreSuccessors t u t.rules (map view ps)) (sym c.new.ensures.items)
-    (none_are t c.args.rules.now u runs s (subst (IsLeast (signature_view c.args.rules.now.signature) u c.args.rules.now.rules.items) c.in-None.is c.in_ok-priority.ensures.least))
+    (none_are t c.args.rules.now u runs s (subst (IsLeast (signature_view c.args.rules.now.signature.value) u c.args.rules.now.rules.items) c.in-None.is c.in_ok-priority.ensures.least))
 
 pub returns-in-None-clause-narrow : goal.returns-in-None-clause-narrow
 returns-in-None-clause-narrow c = λ t runs s.
     let u = value_view c.args.value.now in
-    none_narrow t c.args.rules.now u runs s (subst (IsLeast (signature_view c.args.rules.now.signature) u c.args.rules.now.rules.items) c.in-None.is c.in_ok-priority.ensures.least) c.in_ok-priority.ensures.narrow
+    none_narrow t c.args.rules.now u runs s (subst (IsLeast (signature_view c.args.rules.now.signature.value) u c.args.rules.now.rules.items) c.in-None.is c.in_ok-priority.ensures.least) c.in_ok-priority.ensures.narrow
 
 pub returns-in_err-priority-clause-unbound : goal.returns-in_err-priority-clause-unbound
 returns-in_err-priority-clause-unbound c =

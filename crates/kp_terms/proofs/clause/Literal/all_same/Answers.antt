@@ -1,4 +1,4 @@
-use Rattle.std.proofs.Common.{◌≡◌, map, arith}
+use Rattle.std.proofs.Common.{◌≡◌, arith}
 use Rattle.kp_kore.proofs.Views.{same_length, same_at, no_is_right}
 use Rattle.kp_terms.specs.View.{literal_view}
 use Rattle.kp_terms.proofs.clause.Literal.all_same.Goals as goal

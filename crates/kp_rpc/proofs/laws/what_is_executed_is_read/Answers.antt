@@ -1,5 +1,0 @@
-use Rattle.kp_rpc.proofs.ReadBack.{executed_read}
-use Rattle.kp_rpc.proofs.laws.what_is_executed_is_read.Goals as goal
-
-pub returns : goal.returns
-returns c = executed_read
