@@ -5,7 +5,7 @@ use Rattle.std.specs.Prelude.{◌≡◌, ℕ, Bool, true, not, ◌&&◌, ◌==�
 use Rattle.std.specs.List.{flat_map, list_any, list_all}
 use Rattle.std.specs.Option.{option_map, is_some}
 use Rattle.std.specs.Str.{bytes_eq}
-use Rattle.kp_kore.specs.Syntax.{Text, KorePattern, KorePatterns, exists, forall, Statement}
+use Rattle.kp_kore.specs.Syntax.{Text, KorePattern, KorePatterns, exists, forall, Statement, KoreSentence, import_sentence, sort_sentence, symbol_sentence, alias_sentence, axiom_sentence, claim_sentence}
 use Rattle.kp_kore.specs.Attributes.{has_mark, text_of}
 use Rattle.kp_kore.specs.Parts.{subpatterns, free_variables}
 use Rattle.kp_semantics.specs.Instance.{is_named, conjoined_terms}
@@ -83,3 +83,12 @@ pub record IsStatedAs (s : Statement) (c : StatedClaim) : Type 0 where
   pub sides : sides_of s.pattern ≡ Some (record { sort = c.claim.sort; left = c.claim.claim.left; right = c.claim.claim.right })
   pub circular : c.circular ≡ has_mark (codes "circularity") s.attributes
   pub depends : dependencies_of s.attributes ≡ Some c.depends
+
+-- the same of a sentence; sentences of other kinds make none
+abbrev pub IsStatedBy : KoreSentence → StatedClaim → Type 0
+IsStatedBy (claim_sentence s) c = IsStatedAs s c
+IsStatedBy (import_sentence n as_) c = ⊥
+IsStatedBy (sort_sentence d) c = ⊥
+IsStatedBy (symbol_sentence d) c = ⊥
+IsStatedBy (alias_sentence d) c = ⊥
+IsStatedBy (axiom_sentence s) c = ⊥

@@ -9,7 +9,8 @@ use Rattle.std.specs.Str.{bytes_eq}
 use Rattle.kp_kore.specs.Attributes.{has_mark}
 use Rattle.kp_kore.specs.Parts.{variable_names}
 use Rattle.kp_kore.specs.Signature.{KoreSignature}
-use Rattle.kp_kore.specs.Syntax.{Text, Statement, KoreSentence, import_sentence, sort_sentence, symbol_sentence, alias_sentence, axiom_sentence, claim_sentence}
+use Rattle.kp_kore.specs.Syntax.{Text, Statement, KoreSentence, import_sentence, sort_sentence, symbol_sentence, alias_sentence, axiom_sentence, claim_sentence, KoreModule}
+use Rattle.kp_text.specs.Spelling.{IsFaultOf}
 use Rattle.kp_semantics.specs.Rules.{constrained_term, under_binders}
 use Rattle.kp_semantics.specs.ClaimModules.{CanBeRule}
 use Rattle.kp_signature.specs.Names.{first_place}
@@ -17,33 +18,12 @@ use Rattle.kp_signature.specs.Places.{earlier, the_top}
 use Rattle.kp_signature.specs.Verify.{VerifyFault, first_fault}
 use Rattle.kp_states.specs.Spelled.{first_foreign}
 use Rattle.kp_layers.specs.Layers.{DependsOn}
-use Rattle.kp_claims.specs.Claims.{ClaimSides, is_one_path, label_of}
-use Rattle.kp_claims.specs.Faults.{bare_claim, label_at, labels_of}
+use Rattle.kp_claims.specs.Claims.{counted, ClaimSides, is_one_path, label_of}
+use Rattle.kp_claims.specs.Faults.{Fault, one_path, other_shape, unverified, foreign_symbol, other_side, fresh_name, no_rule, unknown_label, circle, label_fault, bare_claim, label_at, labels_of, Tells}
+use Rattle.kp_claims.specs.Files.{IsFileText, SpellsFile}
+use Rattle.kp_claims.specs.declared.fault.ClaimError.{ClaimError}
+use Rattle.kp_claims.specs.declared.fault.ClaimError.TheVariants as error
 use Rattle.kp_claim_files.specs.Claims.{dependencies_of, clear_sides}
-
-pub data Fault : Type 0 where
-  -- C1: the claim speaks of one path
-  one_path : Fault
-  -- C2: a claim of another shape, or a sort, a symbol or a rewrite axiom in the file
-  other_shape : Fault
-  -- C6: no label
-  no_label : Fault
-  -- C7: the label of an earlier claim
-  repeated_label : Text → Fault
-  -- C9: a side doesn't verify
-  unverified : VerifyFault → Fault
-  -- C9: a foreign symbol stands in a side
-  foreign_symbol : Text → Fault
-  -- C9: a side isn't one term and predicates
-  other_side : Fault
-  -- C3: a variable has a name that new variables may have
-  fresh_name : Text → Fault
-  -- C8: the claim is used as a rule, and can't be one
-  no_rule : Fault
-  -- C4: it depends on a label that no claim of the file has
-  unknown_label : Text → Fault
-  -- C5: the claim of this label depends on itself
-  circle : Text → Fault
 
 -- ---- the first fault of a claim, but for its use as a rule
 
@@ -53,11 +33,6 @@ shape_fault s =
     if is_one_path s.pattern then Some one_path
     else if is_some (clear_sides s) then None
     else Some other_shape
-
--- C6, then C7 after claims with these labels
-abbrev pub label_fault : List Text → Option Text → Option Fault
-label_fault labels None = Some no_label
-label_fault labels (Some l) = if list_any (bytes_eq l) labels then Some (repeated_label l) else None
 
 -- each side is one term and predicates, the right one maybe under \exists
 abbrev pub has_terms : ClaimSides → Bool
@@ -171,6 +146,11 @@ pub record IsFirstFault (g : KoreSignature) (ss : List KoreSentence) (f : Fault)
 abbrev pub needs_of : List KoreSentence → List (List ℕ)
 needs_of ss = map (λ s. filter_map (λ l. first_place l (labels_of ss)) (dependencies_at s)) ss
 
+-- no sentence has a fault, and no claim depends on itself, at once or over others
+pub record IsFaultlessFile (g : KoreSignature) (ss : List KoreSentence) : Type 0 where
+  pub faultless : AreFaultless g (file_labels ss) [] ss
+  pub apart : (i : ℕ) → ¬ DependsOn (needs_of ss) i i
+
 -- C5 of a claim that depends on itself, at once or over others, where no sentence has another fault
 pub record IsCircle (g : KoreSignature) (ss : List KoreSentence) (f : Fault) : Type 0 where
   pub faultless : AreFaultless g (file_labels ss) [] ss
@@ -181,3 +161,9 @@ pub record IsCircle (g : KoreSignature) (ss : List KoreSentence) (f : Fault) : T
 -- the fault of the file's sentences
 abbrev pub IsFaultOfFile : KoreSignature → List KoreSentence → Fault → Type 0
 IsFaultOfFile g ss f = IsFirstFault g ss f ⊎ IsCircle g ss f
+
+-- want of memory says nothing; a text fault is that of the bytes, any other that of the sentences that they spell
+abbrev pub IsErrorOf : KoreSignature → List ℕ → ClaimError → Type 0
+IsErrorOf g bytes error.Memory = ⊤
+IsErrorOf g bytes (error.Text f) = IsFaultOf IsFileText bytes f
+IsErrorOf g bytes (error.Fault e) = (ms : List KoreModule) × SpellsFile bytes ms × Tells e (IsFaultOfFile g (counted ms))

@@ -2,3 +2,4 @@ pub mod Claims
 pub mod Faults
 pub mod Items
 pub mod Modules
+pub mod Read

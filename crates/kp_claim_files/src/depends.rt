@@ -1,9 +1,12 @@
 // What a claim depends on.
-ghost use Rattle.std.specs.Prelude.{◌≡◌, ◌<◌, ◌∷◌, [], IfOk, IfSome, MatchOption, length};
-ghost use Rattle.kp_kore.specs.View.{names_view};
-ghost use Rattle.kp_claim_files.specs.Claims.{comma_parts as parts_of};
+ghost use Rattle.std.specs.Prelude.{◌≡◌, ◌<◌, ◌∷◌, [], IfOk, IfSome, MatchOption, length, unwrap_or};
+ghost use Rattle.std.specs.Option.{is_some};
+ghost use Rattle.kp_kore.specs.View.{names_view, patterns_view};
+ghost use Rattle.kp_claim_files.specs.Claims.{comma_parts as parts_of, dependencies_of as stated_dependencies};
 
-use kp_kore::Name;
+use kp_claims::outline::has_attribute;
+use kp_kore::{Name, Pattern};
+use kp_signature::attributes::text_of;
 use std::alloc::{AllocError, Global};
 
 /// What stands between the commas of a text.
@@ -26,4 +29,24 @@ fn cut(text: &str) -> Option<(&str, &str)>
     ensures shorter { IfSome result (λ p. length p.1.now < length text.now) }
 {
     text.split_once(',')
+}
+
+/// Whether `depends`, where it stands among the attributes, has a text.
+pub fn has_dependencies(attributes: &[Pattern]) -> bool
+    ensures { result ≡ is_some (stated_dependencies (patterns_view attributes.now)) }
+{
+    !has_attribute(attributes, "depends") || text_of(attributes, "depends").is_some()
+}
+
+/// The labels in `depends`; none where it has no text.
+pub fn dependencies_of(alloc: Global, attributes: &[Pattern]) -> Result<Vec<Name>, AllocError>
+    ensures { IfOk result (λ labels. names_view labels.items ≡ unwrap_or (stated_dependencies (patterns_view attributes.now)) []) }
+{
+    if !has_attribute(attributes, "depends") {
+        return Ok(Vec::new(alloc));
+    }
+    match text_of(attributes, "depends") {
+        Some(text) => comma_parts(alloc, text),
+        None => Ok(Vec::new(alloc)),
+    }
 }

@@ -27,11 +27,11 @@ tells_map P Q into error.Memory t = tt
 tells_map P Q into (error.Text f) t = absurd t
 tells_map P Q into (error.Fault f) t = record { fault = t.fault; told = t.told; holds = into t.fault t.holds }
 
-none_first : {A : Type 0} (a b : Option A) → a ≡ None → earlier a b ≡ b
+pub none_first : {A : Type 0} (a b : Option A) → a ≡ None → earlier a b ≡ b
 none_first None b h = refl
 none_first (Some x) b h = absurd (cc)
 
-some_first : {A : Type 0} (a b : Option A) (x : A) → a ≡ Some x → earlier a b ≡ Some x
+pub some_first : {A : Type 0} (a b : Option A) (x : A) → a ≡ Some x → earlier a b ≡ Some x
 some_first None b x h = absurd (cc)
 some_first (Some y) b x h = h
 

@@ -38,7 +38,7 @@ pub labels_more : (ss : List KoreSentence) (s : KoreSentence) → labels_of (ss 
 labels_more [] s = append-nil (label_at s)
 labels_more (x ∷ xs) s = ap (λ l. label_at x ++ l) (labels_more xs s) ∙ sym (append_assoc (label_at x) (labels_of xs) (label_at s))
 
-faultless_after : (g : KoreSignature) (before : List Text) (ss : List KoreSentence) (s : KoreSentence) → AreFaultless g before ss → IsFaultless g (before ++ labels_of ss) s → AreFaultless g before (ss ++ s ∷ [])
+pub faultless_after : (g : KoreSignature) (before : List Text) (ss : List KoreSentence) (s : KoreSentence) → AreFaultless g before ss → IsFaultless g (before ++ labels_of ss) s → AreFaultless g before (ss ++ s ∷ [])
 faultless_after g before [] s h f = (subst (λ l. IsFaultless g l s) (append-nil before) f, tt)
 faultless_after g before (x ∷ xs) s h f = (h.0, faultless_after g (before ++ label_at x) xs s h.1 (subst (λ l. IsFaultless g l s) (sym (append_assoc before (label_at x) (labels_of xs))) f))
 

@@ -1,5 +1,5 @@
 -- What right replies say of a node's state.
-use Rattle.std.proofs.Common.{◌≡◌, refl, sym, ap, subst, ◌∙◌, ℕ, ◌^◌, ◌<◌, ◌≤◌, true, Option, Some, None, List, [], ◌∷◌}
+use Rattle.std.proofs.Common.{◌≡◌, refl, sym, subst, ℕ, ◌^◌, ◌<◌, ◌≤◌, true, Option, Some, None, List, [], ◌∷◌}
 use Rattle.kp_kore.specs.Syntax.{KorePattern, sort_variable, conjunction, next_pattern, no_patterns}
 use Rattle.kp_kore.specs.Parts.{SortedName, free_variables}
 use Rattle.kp_semantics.specs.Instance.{Valuation, GivesSorts, AgreesOn}

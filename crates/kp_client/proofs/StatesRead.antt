@@ -1,5 +1,5 @@
 -- Each state of a proof's tree is read back, where the claim's left side is.
-use Rattle.std.proofs.Common.{◌≡◌, ℕ, ◌+◌, Bool, false, Option, Some, None, List, length}
+use Rattle.std.proofs.Common.{◌≡◌, ℕ, ◌+◌, Bool, false, Some, List, length}
 use Rattle.std.specs.List.{AllByRecursion}
 use Rattle.kp_kore.specs.Syntax.{KorePattern}
 use Rattle.kp_semantics.specs.Claims.{ReachabilityClaim}

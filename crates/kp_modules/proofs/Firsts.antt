@@ -27,7 +27,7 @@ pub one_more_sound : (g : KoreSignature) (axioms : List RewriteAxiom) (i : ℕ) 
     AreSound g (axioms_view (take (i + 1) axioms))
 one_more_sound g axioms i a h e old own = subst (AreSound g) (sym (axioms_more axioms i a h e)) (all_append (λ x. ¬ IsFaulty g x.axiom_of) (axioms_view (take i axioms)) (axiom_view a ∷ []) old (own, tt))
 
-parted : (axioms : List RewriteAxiom) (i : ℕ) (d : RewriteAxiom) → i < length axioms → axioms_view axioms ≡ axioms_view (take i axioms) ++ axiom_view (get_or axioms i d) ∷ axioms_view (drop (suc i) axioms)
+pub parted : (axioms : List RewriteAxiom) (i : ℕ) (d : RewriteAxiom) → i < length axioms → axioms_view axioms ≡ axioms_view (take i axioms) ++ axiom_view (get_or axioms i d) ∷ axioms_view (drop (suc i) axioms)
 parted [] i d h = absurd (no i h)
   where
     no : (k : ℕ) → k < 0 → ⊥

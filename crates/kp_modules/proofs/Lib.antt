@@ -2,10 +2,13 @@ pub mod Acyclic
 pub mod Chains
 pub mod Collect
 pub mod Declared
+pub mod Firsts
+pub mod Gathering
 pub mod Labelled
 pub mod Leaving
-pub mod Firsts
 pub mod Noting
+pub mod Numbering
+pub mod Opened
 pub mod Places
 pub mod Ruled
 pub mod Seen
@@ -13,5 +16,7 @@ pub mod Sentences
 pub mod Settled
 pub mod Starting
 pub mod Stepping
+pub mod Taken
 pub mod Twice
+pub mod Unsound
 pub mod Walking

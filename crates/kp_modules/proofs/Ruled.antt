@@ -25,7 +25,7 @@ both_rewriting : (xs ys : List NumberedAxiom) → AreRewriting xs → AreRewriti
 both_rewriting [] ys h k = k
 both_rewriting (x ∷ xs) ys h k = (h.0, both_rewriting xs ys h.1 k)
 
-from_rewriting : (key : Text) (n : ℕ) (ss : List KoreSentence) → AreRewriting (rewrite_axioms_from key n ss)
+pub from_rewriting : (key : Text) (n : ℕ) (ss : List KoreSentence) → AreRewriting (rewrite_axioms_from key n ss)
 from_rewriting key n [] = tt
 from_rewriting key n (import_sentence x a ∷ ss) = from_rewriting key n ss
 from_rewriting key n (sort_sentence d ∷ ss) = from_rewriting key n ss

@@ -1,8 +1,10 @@
 pub mod Axioms
+pub mod Extending
 pub mod Faults
 pub mod Labels
 pub mod Made
 pub mod Names
+pub mod Openings
 pub mod Reaching
 pub mod Sources
 pub mod Tables

@@ -10,7 +10,7 @@ use Rattle.kp_modules.specs.declared.table.Table.{Table}
 
 -- what `rule_set` answers
 abbrev pub rule_set_of : Table → RuleSet
-rule_set_of t = t.rule_set
+rule_set_of t = t.rule_set.value
 
 -- what `main` answers
 abbrev pub main_of : Table → Text

@@ -30,6 +30,19 @@ pub fn rewrite_axioms<'a>(
     Ok(found)
 }
 
+/// The rewrite axioms among these sentences, with this name for their module's.
+pub fn axioms_in<'a>(
+    alloc: Global,
+    key: &'a Name,
+    sentences: &'a [Sentence],
+) -> Result<Vec<RewriteAxiom<'a>>, AllocError>
+    ensures { IfOk result (λ found. axioms_view found.items ≡ rewrite_axioms_from (string_bytes key.now) 1 (map sentence_view sentences.now)) }
+{
+    let mut found = Vec::new(alloc);
+    add_axioms(&mut found, key, sentences)?;
+    Ok(found)
+}
+
 /// Adds the rewrite axioms of a module, counted from 1.
 fn add_axioms<'a>(
     found: &mut Vec<RewriteAxiom<'a>>,

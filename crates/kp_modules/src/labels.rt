@@ -44,7 +44,7 @@ fn note_label(
 }
 
 /// Counts a label once more.
-fn add_label(alloc: Global, labels: &mut Labels, label: &str) -> Result<(), AllocError>
+pub fn add_label(alloc: Global, labels: &mut Labels, label: &str) -> Result<(), AllocError>
     ensures { (names : List Text) → Counts names labels.old → OnOk result (Counts (names ++ label.now ∷ []) labels.new) }
 {
     let is_new = !labels.contains_key(label);

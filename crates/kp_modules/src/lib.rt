@@ -3,8 +3,11 @@
 
 mod axioms;
 mod duplicates;
+pub mod extend_error;
+mod extension;
 pub mod fault;
 mod imports;
+mod joined;
 mod labels;
 mod names;
 pub mod order;
@@ -14,6 +17,8 @@ pub mod table;
 mod unknown;
 mod walk;
 
+pub use extend_error::ExtendError;
+pub use extension::extend;
 pub use fault::{LoadError, ModuleFault};
 pub use order::reached;
 pub use table::{Table, load};

@@ -9,7 +9,7 @@ use kp_kore::Name;
 use std::alloc::{AllocError, Global};
 
 /// The names that were met so far.
-type Met = IndexMap<Name, ()>;
+pub type Met = IndexMap<Name, ()>;
 
 /// The first name that stands a second time, where there is one.
 pub fn repeated_name(alloc: Global, names: &[&Name]) -> Result<Option<Name>, AllocError>
@@ -36,7 +36,7 @@ fn first_repeated<'a>(alloc: Global, names: &[&'a Name]) -> Result<Option<&'a Na
 }
 
 /// Notes a name; tells whether it is new.
-fn meet(met: &mut Met, name: &Name) -> Result<bool, AllocError>
+pub fn meet(met: &mut Met, name: &Name) -> Result<bool, AllocError>
     ensures { (names : List Text) → Lists names met.old → IfOk result (λ new. (new ≡ not (has (string_bytes name.now) names)) × Lists (names ++ string_bytes name.now ∷ []) met.new) }
 {
     if met.contains_key(name.as_str()) {

@@ -9,6 +9,7 @@ ghost use Rattle.kp_modules.specs.Faults.{AreSound, HasNoFault, TellsFaulty, Tel
 ghost use Rattle.std.specs.List.{flat_map};
 ghost use Rattle.kp_modules.specs.Made.{IsRunOf, IsSetOf};
 ghost use Rattle.kp_modules.specs.Names.{Lists, names_of as names_among};
+ghost use Rattle.kp_modules.specs.Openings.{IsTableOf, opening_of};
 ghost use Rattle.kp_modules.specs.Reaching.{has};
 ghost use Rattle.kp_modules.specs.Tables.{rule_set_of, main_of, does_reach, RunsTable};
 
@@ -28,7 +29,7 @@ use std::sync::Arc;
 pub struct Table {
     main: Name,
     names: IndexMap<Name, ()>,
-    rule_set: RuleSet,
+    rule_set: Arc<RuleSet>,
 }
 
 impl Table {
@@ -37,6 +38,13 @@ impl Table {
         ensures { result.now ≡ rule_set_of self.now }
     {
         &self.rule_set
+    }
+
+    /// The same, to be kept beside the table.
+    pub fn shared(&self) -> Result<Arc<RuleSet>, AllocError>
+        ensures { IfOk result (λ rules. rules.value ≡ rule_set_of self.now) }
+    {
+        self.rule_set.clone()
     }
 
     /// The name of the main module.
@@ -60,6 +68,7 @@ impl Table {
 pub fn load(alloc: Global, definition: &Definition, main: &str) -> Result<Table, LoadError>
     ensures loaded { IfOk result (λ table. (t : Theory) × IsTheoryOf (definition_view definition.now) main.now t × RunsTable t table) }
     ensures made { IfOk result (λ table. IsSetOf (signature_of (flat_map (λ m. m.sentences) (modules_reached (definition_view definition.now) main.now))) (axioms_among (modules_reached (definition_view definition.now) main.now)) (rule_set_of table)) }
+    ensures opening { IfOk result (IsTableOf (opening_of (definition_view definition.now) main.now)) }
     ensures main { IfOk result (λ table. main_of table ≡ main.now) }
     ensures reaches { IfOk result (λ table. (n : Text) → does_reach table n ≡ has n (names_among (modules_reached (definition_view definition.now) main.now))) }
     ensures none { OnOk result (HasNoFault (definition_view definition.now) main.now) }
@@ -71,7 +80,7 @@ pub fn load(alloc: Global, definition: &Definition, main: &str) -> Result<Table,
     Ok(Table {
         main: String::from_str(alloc, main)?,
         names: names_of(alloc, &modules)?,
-        rule_set: rule_set(alloc, &modules)?,
+        rule_set: Arc::new(alloc, rule_set(alloc, &modules)?)?,
     })
 }
 

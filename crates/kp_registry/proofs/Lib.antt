@@ -1,1 +1,6 @@
+pub mod Ascii
+pub mod Binders
+pub mod Entering
 pub mod LegalLemmas
+pub mod Rising
+pub mod Welcomed

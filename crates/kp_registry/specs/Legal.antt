@@ -26,6 +26,17 @@ pub record Fits (o : Opening) (before : List Registration) (r : Registration) : 
   pub not_opening : (name : Text) → binds name r ≡ true → rules_in o.modules name ≡ None
   pub one_text : (name : Text) → binds name r ≡ true → AllByRecursion (λ q. binds name q ≡ true → q.text ≡ r.text) before
 
+-- The entry extends the book: its text spells a module whose imports mean these rule sets there, its rule set is made of
+-- them and of the module's own axioms, and its id is its text's.
+pub record IsExtension (o : Opening) (book : List Registration) (r : Registration) : Type 0 where
+  pub spelled : KoreModule
+  pub spells : SpellsModule r.text spelled
+  pub is_id : r.id ≡ id_of r.text
+  pub own_name : (r.also ≡ None) ⊎ (r.also ≡ Some spelled.name)
+  pub imports : List (List NumberedAxiom)
+  pub bound : AllZip (λ name axioms. meaning_in o book name ≡ Some axioms) (imports_in spelled.sentences) imports
+  pub axioms : r.axioms ≡ extended imports r.id spelled
+
 -- each entry fits behind those before it
 abbrev pub AreLegalFrom : Opening → List Registration → List Registration → Type 0
 AreLegalFrom o before [] = ⊤

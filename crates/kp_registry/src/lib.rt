@@ -2,7 +2,12 @@
 // a name means in a book is kp_book's.
 #![tactic(auto)]
 
+pub mod book;
+mod entries;
 mod id;
 pub mod laws;
+pub mod seen;
 
+pub use book::{RegisterFault, Registry, prepare};
 pub use id::{Id, id_of};
+pub use seen::{Entry, Pass, Ready};

@@ -25,7 +25,7 @@ use Rattle.kp_rpc.specs.Causes.{IsRefused}
 use Rattle.kp_rpc.specs.Request.{RequestId, ExecuteOptions, ExecuteRequest, HasParams, bound_of}
 use Rattle.kp_rpc.specs.Readings.{read_object, if_object, read_state}
 use Rattle.kp_rpc.specs.Reply.{RequestError, VerifyFault, not_verified, other_shape, error_reply, result_reply, reply_bytes}
-use Rattle.kp_results.specs.Results.{ExecutedParts, IsReasonOf, IsResultOf}
+use Rattle.kp_results.specs.Results.{ExecutedParts, IsReasonOf}
 use Rattle.kp_replies.specs.Written.{executed_tree}
 use Rattle.kp_replies.specs.Right.{asked_options}
 use Rattle.kp_rpc.specs.View.{id_view, options_view, pattern_fault_view, state_fault_view}

@@ -6,7 +6,7 @@ use Rattle.std.specs.declared.alloc.Global.{Global}
 use Rattle.serde_json.specs.Data.{Data, Items, item}
 use Rattle.kp_kore.specs.Syntax.{KorePattern, KorePatterns, no_patterns, next_pattern, variable, set_variable, application, string_literal, literal, top, bottom, negation, next, conjunction, disjunction, implication, equivalence, rewriting, exists, forall, ceil, floor, equals, membership, mu, nu}
 use Rattle.kp_kore.specs.Parts.{subpatterns, all_subpatterns}
-use Rattle.kp_json.specs.Written.{first_and_rest, pattern_tree, pattern_trees, wrapped}
+use Rattle.kp_json.specs.Written.{first_and_rest, pattern_tree, pattern_trees}
 use Rattle.kp_semantics.specs.Foreign.{none_within}
 use Rattle.kp_states.specs.Spelled.{is_other_form}
 use Rattle.kp_rpc.specs.Request.{RequestId}
@@ -72,9 +72,9 @@ mutual
 
 -- the result of a run that ended in applications and literals has a tree
 ended_tree : (n : ℕ) (stop : Stop) (p : KorePattern) (d : Data) → pattern_tree p ≡ Some d → executed_tree (record { depth = n; ending = ending_of stop; state = record { term = p; predicate = None }; nexts = [] }) ≡ None → ⊥
-ended_tree n Stuck p d is none = absurd (cc (sym (rw is refl) ∙ none))
-ended_tree n DepthBound p d is none = absurd (cc (sym (rw is refl) ∙ none))
-ended_tree n (ForeignRule id) p d is none = absurd (cc (sym (rw is refl) ∙ none))
+ended_tree n Stuck p d is none = absurd (cc (rw is at none))
+ended_tree n DepthBound p d is none = absurd (cc (rw is at none))
+ended_tree n (ForeignRule id) p d is none = absurd (cc (rw is at none))
 
 pub result_has_tree : (end : Executed) (p : KorePattern) (x : ExecutedParts) → x ≡ result_of end p → none_within is_other_form p ≡ true → executed_tree x ≡ None → ⊥
 result_has_tree end p x is h none =

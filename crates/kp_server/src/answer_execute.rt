@@ -18,7 +18,7 @@ use kp_results::{Cause, Executed as Written, Reason, State as WrittenState};
 use kp_rpc::{Execute, StateFault, bound_of, fault_text, state_of as state_tree_of};
 use kp_rules::RuleSet;
 use kp_run::{Executed, RunError, Stop, execute};
-use kp_signature::verify;
+use kp_signature::{Signature, verify};
 use kp_states::{SpellingError, State, spelled};
 use std::alloc::{AllocError, Global};
 
@@ -124,11 +124,12 @@ fn state_at(alloc: Global, rules: &RuleSet, request: &Execute) -> Result<State, 
     ensures failed { (s : Setting) → RunsAs s.theory rules.now → IsModuleReached s.names (options_of request.now).module_name → IfErr result (IsFailureOf s request.now) }
 {
     let pattern = pattern_at(alloc, request)?;
-    let sort = match verify(alloc, &rules.signature, &pattern) {
+    let signature: &Signature = &rules.signature;
+    let sort = match verify(alloc, signature, &pattern) {
         Ok(sort) => sort,
         Err(error) => return Err(verify_failure(alloc, error)),
     };
-    ground_state(alloc, &rules.signature, &pattern, sort)
+    ground_state(alloc, signature, &pattern, sort)
 }
 
 /// The pattern of the request's state.

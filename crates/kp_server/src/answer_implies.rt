@@ -109,8 +109,9 @@ fn implied(alloc: Global, table: &Table, request: &Implies) -> Result<Option<Sor
     check_module(table, &request.module_name)?;
     let left = side_pattern(alloc, sides.antecedent)?;
     let right = side_pattern(alloc, sides.consequent)?;
-    let antecedent = side_at(alloc, &rules.signature, &left)?;
-    let consequent = side_at(alloc, &rules.signature, &right)?;
+    let signature: &Signature = &rules.signature;
+    let antecedent = side_at(alloc, signature, &left)?;
+    let consequent = side_at(alloc, signature, &right)?;
     if is_elsewhere(table, &request.module_name) {
         return Err(Failure::Fault(not_answered()));
     }

@@ -1,8 +1,7 @@
-use Rattle.std.proofs.Common.{rules, arith, ◌≡◌, refl, sym, subst, ◌+◌, ◌≤◌, IsTrue}
+use Rattle.std.proofs.Common.{rules, arith, refl, subst}
 use Rattle.std.specs.List.{AllByRecursion}
 use Rattle.kp_demands.specs.Demands.{Sizes, IsSized}
 use Rattle.kp_demands.specs.Tabled.{AreLimitsOf}
-use Rattle.kp_demands.specs.declared.sized.Limits.{Limits}
 use Rattle.kp_condition_trials.proofs.demands.ask_choices.Goals as goal
 
 abbrev sizes : Sizes

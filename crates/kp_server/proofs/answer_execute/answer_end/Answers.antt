@@ -1,4 +1,4 @@
-use Rattle.std.proofs.Common.{◌≡◌, false, subst}
+use Rattle.std.proofs.Common.{◌≡◌, ap, ◌∙◌, false, subst}
 use Rattle.std.proofs.lemmas.Result.{IfOk-weaker}
 use Rattle.kp_kore.specs.Signature.{KoreSignature, injection, meaning_of}
 use Rattle.kp_kore.specs.View.{view, sort_view}
@@ -11,11 +11,11 @@ use Rattle.kp_server.proofs.Ended.{end_is_right, spelled_at, unanswered}
 use Rattle.kp_server.proofs.Trees.{result_has_tree}
 use Rattle.kp_server.proofs.answer_execute.answer_end.Goals as goal
 
-pub returns-in-Ok : goal.returns-in-Ok
-returns-in-Ok c = λ s runs h.
+pub returns-in_ok-written-in-Ok : goal.returns-in_ok-written-in-Ok
+returns-in_ok-written-in-Ok c = λ s runs h.
     let end = c.args.end.now in
-    let spelled = spelled_at (signature_view c.args.rules.now.signature.value) s.theory.signature runs.signature (sort_view end.state.sort) (value_view end.state.value) (view c.in-Ok.term) c.in-Ok.ensures.meant h.run.sorted in
-    let normal = subst (λ (g : KoreSignature). view c.in-Ok.term ≡ spelling g (sort_view end.state.sort) (value_view end.state.value)) runs.signature c.in-Ok.ensures.normal in
+    let spelled = spelled_at (signature_view c.deref.result.now) s.theory.signature (ap signature_view c.deref.ensures ∙ runs.signature) (sort_view end.state.sort) (value_view end.state.value) (view c.in-Ok.term) c.in-Ok.ensures.meant h.run.sorted in
+    let normal = subst (λ (g : KoreSignature). view c.in-Ok.term ≡ spelling g (sort_view end.state.sort) (value_view end.state.value)) (ap signature_view c.deref.ensures ∙ runs.signature) c.in-Ok.ensures.normal in
     IfOk-weaker c.end_line.result _ _ (λ line l. end_is_right s c.args.request.now c.requires end h (view c.in-Ok.term) spelled normal (executed_view c.in_ok-written-in-Ok.written) c.in_ok-written-in-Ok.ensures line l) c.end_line.ensures
 
 pub end_line-requires : goal.end_line-requires
@@ -23,7 +23,7 @@ end_line-requires c = result_has_tree c.args.end.now (view c.in-Ok.term) (execut
 
 pub returns-in-Err-NoInjection : goal.returns-in-Err-NoInjection
 returns-in-Err-NoInjection c = λ s runs h.
-    let none = subst (λ (g : KoreSignature). ¬ (meaning_of g injection_name ≡ injection)) runs.signature (c.in-Err-NoInjection.ensures.no_injection c.in-Err-NoInjection.field-0-is) in
+    let none = subst (λ (g : KoreSignature). ¬ (meaning_of g injection_name ≡ injection)) (ap signature_view c.deref.ensures ∙ runs.signature) (c.in-Err-NoInjection.ensures.no_injection c.in-Err-NoInjection.field-0-is) in
     let end = c.args.end.now in
-    let injects = subst (λ (g : KoreSignature). none_within has_two_sorts (spelling g (sort_view end.state.sort) (value_view end.state.value)) ≡ false) runs.signature (c.in-Err-NoInjection.ensures.injects c.in-Err-NoInjection.field-0-is) in
+    let injects = subst (λ (g : KoreSignature). none_within has_two_sorts (spelling g (sort_view end.state.sort) (value_view end.state.value)) ≡ false) (ap signature_view c.deref.ensures ∙ runs.signature) (c.in-Err-NoInjection.ensures.injects c.in-Err-NoInjection.field-0-is) in
     IfOk-weaker c.unanswered_line.result _ _ (λ line l. unanswered s c.args.request.now c.requires end h none injects line.items l) c.unanswered_line.ensures

@@ -1,0 +1,49 @@
+-- What the code notes of a file, and the claims that it makes of statements.
+use Rattle.std.specs.Prelude.{◌≡◌, Bool, true, false, List, map, Option, Some, None, string_bytes, String}
+use Rattle.std.specs.Option.{is_some}
+use Rattle.std.specs.Borrow.{Bor}
+use Rattle.std.specs.declared.alloc.Global.{Global}
+use Rattle.indexmap.specs.IndexMap.{IndexMap, get_by_text}
+use Rattle.kp_kore.specs.Syntax.{Text, Statement}
+use Rattle.kp_kore.specs.Signature.{KoreSignature}
+use Rattle.kp_kore.specs.View.{view, sort_view}
+use Rattle.kp_signature.specs.Names.{Indexes}
+use Rattle.kp_signature.specs.Places.{the_top}
+use Rattle.kp_signature.specs.Verify.{first_fault}
+use Rattle.kp_claims.specs.Claims.{ClaimSides}
+use Rattle.kp_claims.specs.Faults.{bare_claim}
+use Rattle.kp_claims.specs.Labels.{Lists}
+use Rattle.kp_claim_files.specs.Claims.{clear_sides, IsStatedAs}
+use Rattle.kp_claim_files.specs.Faults.{FileLabels}
+use Rattle.kp_claim_files.specs.Items.{item_view}
+use Rattle.kp_claim_files.specs.declared.item.ClaimItem.{ClaimItem}
+use Rattle.kp_claim_files.specs.declared.labels.FileLabels as code
+use Rattle.kp_rules.specs.declared.rule.RuleBody.{RuleBody}
+use Rattle.kp_rules.specs.declared.rule.RuleBody.TheVariants.{Rewrite, Foreign}
+
+-- lent names
+abbrev pub names_seen : List (Bor (String Global)) → List Text
+names_seen = map (λ n. string_bytes n.now)
+
+-- the map has this name
+abbrev pub has_name : {V S : Type 0} → IndexMap (String Global) V S → Text → Bool
+has_name names n = is_some (get_by_text names n)
+
+-- the code has noted the labels of a file
+pub record Notes (file : FileLabels) (noted : code.FileLabels) : Type 0 where
+  pub places : Indexes file.labels noted.places
+  pub used : Lists file.used noted.used
+
+abbrev pub sides_at : ClaimItem → ClaimSides
+sides_at i = record { sort = sort_view i.sort; left = view i.claim.left; right = view i.claim.right }
+
+-- the claim that a statement makes; its shape, its names and what it says over the signature are without fault
+pub record IsClear (g : KoreSignature) (s : Statement) (i : ClaimItem) : Type 0 where
+  pub stated : IsStatedAs s (item_view i)
+  pub clear : clear_sides s ≡ Some (sides_at i)
+  pub verified : first_fault g the_top (bare_claim (sides_at i)) ≡ None
+
+-- the rule isn't foreign
+abbrev pub reads_rule : RuleBody → Bool
+reads_rule (Rewrite w) = true
+reads_rule (Foreign k) = false

@@ -1,0 +1,175 @@
+// The claims of a file.
+ghost use Rattle.std.specs.Prelude.{◌≡◌, ◌++◌, [], List, Some, None, IfOk, IfErr, OnOk, string_bytes, unwrap_or, codes};
+ghost use Rattle.std.specs.List.{AllZip};
+ghost use Rattle.kp_kore.specs.Attributes.{has_mark as mark_among};
+ghost use Rattle.kp_kore.specs.Syntax.{Text, KoreModule, claim_sentence};
+ghost use Rattle.kp_kore.specs.View.{view, sort_view, axiom_sentence_view, sentence_view};
+ghost use Rattle.kp_signature.specs.View.{signature_view};
+ghost use Rattle.kp_rules.specs.Index.{IsIndexOf};
+ghost use Rattle.kp_claims.specs.Claims.{counted};
+ghost use Rattle.kp_claims.specs.Faults.{label_at, TellsOf};
+ghost use Rattle.kp_claims.specs.Files.{SpellsFile};
+ghost use Rattle.kp_claims.specs.Labels.{Lists};
+ghost use Rattle.kp_claims.specs.Sentences.{seen};
+ghost use Rattle.kp_claims.specs.Sides.{sides_view};
+ghost use Rattle.kp_claim_files.specs.Claims.{dependencies_of as stated_dependencies, IsStatedBy, IsStatedAs};
+ghost use Rattle.kp_claim_files.specs.Faults.{FileLabels as Stated, early_fault, file_labels as stated_file, AreFaultless, IsFaultAt, IsFaultless, IsFaultOfClaim, IsFaultlessClaim, IsFaultlessFile, IsFirstFault, IsFaultOfFile, IsErrorOf};
+ghost use Rattle.kp_claim_files.specs.Items.{item_view, items_view};
+ghost use Rattle.kp_claim_files.specs.Read.{Notes, IsClear, sides_at};
+
+use crate::circle::check_circles;
+use crate::depends::dependencies_of;
+use crate::item::ClaimItem;
+use crate::labels::{FileLabels, file_labels};
+use crate::outline::outline;
+use crate::sides::check_sides;
+use crate::used::check_use;
+use indexmap::IndexMap;
+use kp_claims::file::modules_in;
+use kp_claims::label::{Labels, take_label};
+use kp_claims::outline::Sides;
+use kp_claims::sentences::counted_sentences;
+use kp_claims::{ClaimError, ClaimFault};
+use kp_kore::{AxiomSentence, Name, Sentence};
+use kp_rules::SortIndex;
+use kp_semantics::Claim;
+use kp_signature::Signature;
+use kp_signature::attributes::has_mark;
+use std::alloc::{AllocError, Global};
+
+/// The claims of a file over a signature, in order; else the file's fault: that of its text, or the first fault of the
+/// first sentence that has one, or a claim that depends on itself.
+pub fn read_claims(
+    alloc: Global,
+    bytes: &[u8],
+    signature: &Signature,
+) -> Result<Vec<ClaimItem>, ClaimError>
+    ensures read { IfOk result (λ items. (ms : List KoreModule) × SpellsFile bytes.now ms × IsFaultlessFile (signature_view signature.now) (counted ms) × AllZip IsStatedBy (counted ms) (items_view items.items)) }
+    ensures fault { IfErr result (IsErrorOf (signature_view signature.now) bytes.now) }
+{
+    let modules = modules_in(alloc, bytes)?;
+    let sentences = counted_sentences(alloc, &modules)?;
+    Ok(claims_of(alloc, signature, &sentences)?)
+}
+
+/// The claims of these sentences, or their fault.
+fn claims_of(
+    alloc: Global,
+    signature: &Signature,
+    sentences: &[&Sentence],
+) -> Result<Vec<ClaimItem>, ClaimError>
+    ensures faultless { OnOk result (IsFaultlessFile (signature_view signature.now) (seen sentences.now)) }
+    ensures claims { IfOk result (λ items. AllZip IsStatedBy (seen sentences.now) (items_view items.items)) }
+    ensures err { IfErr result (TellsOf (IsFaultOfFile (signature_view signature.now) (seen sentences.now))) }
+{
+    let file = file_labels(alloc, sentences)?;
+    let items = claims_among(alloc, signature, &file, sentences)?;
+    check_circles(alloc, &file.places, &items)?;
+    Ok(items)
+}
+
+/// The claims of these sentences of a file, or the fault of the first one that has one.
+fn claims_among(
+    alloc: Global,
+    signature: &Signature,
+    file: &FileLabels,
+    sentences: &[&Sentence],
+) -> Result<Vec<ClaimItem>, ClaimError>
+    ensures faultless { Notes (stated_file (seen sentences.now)) file.now → OnOk result (AreFaultless (signature_view signature.now) (stated_file (seen sentences.now)) [] (seen sentences.now)) }
+    ensures claims { IfOk result (λ items. AllZip IsStatedBy (seen sentences.now) (items_view items.items)) }
+    ensures err { Notes (stated_file (seen sentences.now)) file.now → IfErr result (TellsOf (IsFirstFault (signature_view signature.now) (seen sentences.now))) }
+{
+    let index = SortIndex::new(alloc, signature)?;
+    let mut labels = IndexMap::new(alloc);
+    let mut items = Vec::new(alloc);
+    for i in 0..sentences.len() {
+        let item = claim_of_sentence(alloc, signature, &index, file, &mut labels, sentences[i])?;
+        items.push(item)?;
+    }
+    Ok(items)
+}
+
+/// The claim of a sentence, or its fault.
+fn claim_of_sentence(
+    alloc: Global,
+    signature: &Signature,
+    index: &SortIndex,
+    file: &FileLabels,
+    labels: &mut Labels,
+    sentence: &Sentence,
+) -> Result<ClaimItem, ClaimError>
+    requires index { IsIndexOf (signature_view signature.now) index.now }
+    ensures claim { IfOk result (λ item. IsStatedBy (sentence_view sentence.now) (item_view item)) }
+    ensures faultless { (f : Stated) (before : List Text) → Notes f file.now → Lists before labels.old → OnOk result (IsFaultless (signature_view signature.now) f before (sentence_view sentence.now)) }
+    ensures labels { (before : List Text) → Lists before labels.old → OnOk result (Lists (before ++ label_at (sentence_view sentence.now)) labels.new) }
+    ensures err { (f : Stated) (before : List Text) → Notes f file.now → Lists before labels.old → IfErr result (TellsOf (IsFaultAt (signature_view signature.now) f before (sentence_view sentence.now))) }
+{
+    match sentence {
+        Sentence::Claim(statement) => claim_of(alloc, signature, index, file, labels, statement),
+        Sentence::Import { .. }
+        | Sentence::Sort(_)
+        | Sentence::Symbol(_)
+        | Sentence::Alias(_)
+        | Sentence::Axiom(_) => Err(ClaimError::Fault(ClaimFault::OtherShape)),
+    }
+}
+
+/// The claim that a statement makes, or its fault.
+fn claim_of(
+    alloc: Global,
+    signature: &Signature,
+    index: &SortIndex,
+    file: &FileLabels,
+    labels: &mut Labels,
+    statement: &AxiomSentence,
+) -> Result<ClaimItem, ClaimError>
+    requires index { IsIndexOf (signature_view signature.now) index.now }
+    ensures claim { IfOk result (λ item. IsStatedAs (axiom_sentence_view statement.now) (item_view item)) }
+    ensures faultless { (f : Stated) (before : List Text) → Notes f file.now → Lists before labels.old → OnOk result (IsFaultlessClaim (signature_view signature.now) f before (axiom_sentence_view statement.now)) }
+    ensures labels { (before : List Text) → Lists before labels.old → OnOk result (Lists (before ++ label_at (claim_sentence (axiom_sentence_view statement.now))) labels.new) }
+    ensures err { (f : Stated) (before : List Text) → Notes f file.now → Lists before labels.old → IfErr result (TellsOf (IsFaultOfClaim (signature_view signature.now) f before (axiom_sentence_view statement.now))) }
+{
+    let item = stated_claim(alloc, signature, labels, statement)?;
+    check_use(alloc, signature, index, file, &item)?;
+    Ok(item)
+}
+
+/// The claim that a statement makes, or the first fault that it has by itself and after the labels before it.
+fn stated_claim(
+    alloc: Global,
+    signature: &Signature,
+    labels: &mut Labels,
+    statement: &AxiomSentence,
+) -> Result<ClaimItem, ClaimError>
+    ensures clear { IfOk result (IsClear (signature_view signature.now) (axiom_sentence_view statement.now)) }
+    ensures none { (before : List Text) → Lists before labels.old → OnOk result (early_fault (signature_view signature.now) before (axiom_sentence_view statement.now) ≡ None) }
+    ensures labels { (before : List Text) → Lists before labels.old → OnOk result (Lists (before ++ label_at (claim_sentence (axiom_sentence_view statement.now))) labels.new) }
+    ensures err { (before : List Text) → Lists before labels.old → IfErr result (TellsOf (λ f. early_fault (signature_view signature.now) before (axiom_sentence_view statement.now) ≡ Some f)) }
+{
+    let sides = outline(alloc, statement)?;
+    let label = take_label(labels, &statement.attributes)?;
+    check_sides(alloc, signature, sides)?;
+    Ok(item_of(alloc, statement, label, sides)?)
+}
+
+/// The claim of this label between these sides.
+fn item_of(
+    alloc: Global,
+    statement: &AxiomSentence,
+    label: Name,
+    sides: Sides<'_>,
+) -> Result<ClaimItem, AllocError>
+    ensures item { IfOk result (λ i. item_view i ≡ record { label = string_bytes label; pattern = view statement.now.pattern; claim = record { sort = (sides_view sides.entry).sort; claim = record { left = (sides_view sides.entry).left; right = (sides_view sides.entry).right } }; circular = mark_among (codes "circularity") (axiom_sentence_view statement.now).attributes; depends = unwrap_or (stated_dependencies (axiom_sentence_view statement.now).attributes) [] }) }
+{
+    Ok(ClaimItem {
+        label,
+        sort: sides.sort.copy(alloc)?,
+        pattern: statement.pattern.copy(alloc)?,
+        claim: Claim {
+            left: sides.left.copy(alloc)?,
+            right: sides.right.copy(alloc)?,
+        },
+        circular: has_mark(&statement.attributes, "circularity"),
+        depends: dependencies_of(alloc, &statement.attributes)?,
+    })
+}

@@ -1,0 +1,4 @@
+pub mod ClaimsBack
+pub mod FormsBack
+pub mod OfText
+pub mod TextsBack

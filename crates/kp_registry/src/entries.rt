@@ -1,0 +1,117 @@
+// The names and the entries of a pass.
+ghost use Rattle.std.specs.Prelude.{◌≡◌, ◌<◌, ◌≤◌, IfOk, IfErr, suc, length, map, take, drop, get_or, Some, string_bytes};
+ghost use Rattle.std.specs.Vec.{vec_capacity};
+ghost use Rattle.kp_kore.specs.Syntax.{Text};
+ghost use Rattle.kp_registry.specs.Passes.{AreAbove, AreBelow, IsRising, name_of, place_named, told_then};
+ghost use Rattle.kp_registry.specs.declared.seen.Bound.{Bound};
+
+use crate::seen::{Bound, Entry, Pass};
+use kp_kore::Name;
+use kp_rules::RuleSet;
+use std::alloc::{AllocError, Global};
+use std::cmp::Ordering;
+use std::sync::Arc;
+
+/// The most entries of a book.
+pub const MOST_ENTRIES: usize = 4096;
+
+/// The most names of a book: an id and an own name of each entry.
+const MOST_NAMES: usize = 8192;
+
+impl Pass {
+    ghost use Rattle.std.specs.Prelude.{◌≡◌, ◌<◌, ◌++◌, ◌∷◌, [], IfOk, length, option_map, string_bytes, get_or};
+    ghost use Rattle.std.specs.Str.{bytes_eq};
+    ghost use Rattle.kp_registry.specs.Passes.{IsPass, first_binding};
+    ghost use Rattle.kp_registry.specs.declared.seen.Entry.{Entry};
+
+    /// Nothing was seen, and there is room for all that a book may have.
+    pub fn empty(alloc: Global) -> Result<Pass, AllocError>
+        ensures pass { IfOk result IsPass }
+        ensures none { IfOk result (λ p. p.entries.items ≡ []) }
+    {
+        Ok(Pass {
+            entries: Vec::with_capacity(alloc, MOST_ENTRIES)?,
+            names: Vec::with_capacity(alloc, MOST_NAMES)?,
+        })
+    }
+
+    /// The place of the first entry that binds the name.
+    pub fn place(&self, name: &str) -> Option<usize>
+        requires pass { IsPass self.now }
+        ensures { result ≡ first_binding self.now.entries.items name.now }
+    {
+        match search(&self.names, name) {
+            Ok(at) => Some(self.names[at].place),
+            Err(_) => None,
+        }
+    }
+
+    /// The rule set of the entry at this place.
+    pub fn rules_at(&self, place: usize) -> Result<Arc<RuleSet>, AllocError>
+        requires within { place < length self.now.entries.items }
+        ensures { (e : Entry) → IfOk result (λ rules. rules.value ≡ (get_or self.now.entries.items place e).rules.value) }
+    {
+        self.entries[place].rules.clone()
+    }
+
+    /// Whether the entry at this place has this text.
+    pub fn has_text(&self, place: usize, text: &[u8]) -> bool
+        requires within { place < length self.now.entries.items }
+        ensures { (e : Entry) → result ≡ bytes_eq (get_or self.now.entries.items place e).text.items text.now }
+    {
+        self.entries[place].text.as_slice() == text
+    }
+
+    /// Enters a module behind those that are there.
+    pub fn enter(&mut self, entry: Entry, id_name: Name, own_name: Option<Name>)
+        requires pass { IsPass self.old }
+        requires room { length self.old.entries.items < 4096 }
+        requires id { string_bytes id_name ≡ entry.id }
+        requires own { option_map string_bytes own_name ≡ option_map string_bytes entry.also }
+        ensures pass { IsPass self.new }
+        ensures entered { self.new.entries.items ≡ self.old.entries.items ++ entry ∷ [] }
+    {
+        let place = self.entries.len();
+        self.entries.push_reserved(entry);
+        bind(&mut self.names, id_name, place);
+        if let Some(name) = own_name {
+            bind(&mut self.names, name, place);
+        }
+    }
+}
+
+/// Where the name stands among these, or where it would go.
+fn search(names: &[Bound], name: &str) -> Result<usize, usize>
+    requires rising { IsRising (map name_of names.now) }
+    ensures found { IfOk result (λ i. (i < length names.now) × ((d : Bound) → place_named names.now name.now ≡ Some (get_or names.now i d).place)) }
+    ensures absent { IfErr result (λ i. (i ≤ length names.now) × (AreBelow name.now (take i (map name_of names.now)) × AreAbove name.now (drop i (map name_of names.now)))) }
+{
+    let mut from = 0;
+    let mut to = names.len();
+    while from < to {
+        let middle = from + (to - from) / 2;
+        match names[middle].name.as_str().cmp(name) {
+            Ordering::Less => from = middle + 1,
+            Ordering::Equal => return Ok(middle),
+            Ordering::Greater => to = middle,
+        }
+    }
+    Err(from)
+}
+
+/// Binds a name to a place, unless it is bound; no memory is taken where there is room.
+fn bind(names: &mut Vec<Bound>, name: Name, place: usize)
+    requires rising { IsRising (map name_of names.old.items) }
+    requires room { length names.old.items < vec_capacity names.old }
+    ensures rising { IsRising (map name_of names.new.items) }
+    ensures few { length names.new.items ≤ suc (length names.old.items) }
+    ensures room { vec_capacity names.new ≡ vec_capacity names.old }
+    ensures told { (n : Text) → place_named names.new.items n ≡ told_then (place_named names.old.items n) (string_bytes name) place n }
+{
+    if let Err(at) = search(names, name.as_str()) {
+        match names.insert(at, Bound { name, place }) {
+            Ok(()) => {}
+            Err(_) => unreachable!(),
+        }
+    }
+}

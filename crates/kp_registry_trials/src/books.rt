@@ -1,0 +1,145 @@
+ghost use Rattle.std.specs.Prelude.{IfOk};
+ghost use Rattle.kp_registry.specs.Passes.{IsPass, IsReady};
+
+use crate::extensions::toys;
+use kp_modules::{Table, extend};
+use kp_registry::{Pass, Ready, RegisterFault, Registry, prepare};
+use kp_rules::RuleSet;
+use kp_text::read_module;
+use std::alloc::Global;
+use std::sync::Arc;
+use std::test::Fail;
+
+/// A module with a rule.
+const NEXT: &str =
+    "module NEXT axiom{} \\rewrites{SortS{}}(LblTwo{}(), LblOne{}()) [] endmodule []";
+
+/// The id of that module.
+const NEXT_ID: &str = "m728b6759c673735e493062e115c41fa7cdc7c758891238229e67340596bebc4b";
+
+/// Another text of that module.
+const SPACED: &str =
+    "module NEXT  axiom{} \\rewrites{SortS{}}(LblTwo{}(), LblOne{}()) [] endmodule []";
+
+/// An entry for the module of this text over main.
+fn ready(alloc: Global, table: &Table, text: &str, also_name: bool) -> Result<Ready, Fail>
+    ensures { IfOk result IsReady }
+{
+    let module = read_module(alloc, text.as_bytes()).map_err(|_| "no module")?;
+    let rules = extend(alloc, table, &[table.shared()?], "m1", &module).map_err(|_| "not added")?;
+    let rules = Arc::new(alloc, rules)?;
+    let bytes = Vec::from_slice(alloc, text.as_bytes())?;
+    Ok(prepare(alloc, bytes, &module, rules, also_name)?)
+}
+
+/// A book over main, and a pass on it.
+fn begun(alloc: Global) -> Result<(Registry, Pass), Fail>
+    ensures { IfOk result (λ out. IsPass out.1) }
+{
+    Ok(Registry::begin(alloc, toys(alloc)?, 1)?)
+}
+
+/// What is told where the module of this text is entered.
+fn enter(
+    alloc: Global,
+    registry: &Registry,
+    pass: &mut Pass,
+    text: &str,
+    also_name: bool,
+) -> Result<Option<RegisterFault>, Fail>
+    requires pass { IsPass pass.old }
+    ensures pass { IsPass pass.new }
+{
+    let ready = ready(alloc, registry.table(), text, also_name)?;
+    match registry.register(pass, ready) {
+        Ok(_id) => Ok(None),
+        Err((fault, _ready)) => Ok(Some(fault)),
+    }
+}
+
+/// How many rules the name means; none where it means nothing, or is that of a module other than main.
+fn rules_named(registry: &Registry, pass: &mut Pass, name: &str) -> Result<usize, Fail>
+    requires pass { IsPass pass.old }
+    ensures pass { IsPass pass.new }
+{
+    if registry.table().main() != name && registry.table().reaches(name) {
+        return Ok(0);
+    }
+    match registry.look(pass, name)? {
+        Some(rules) => Ok(count(&rules)),
+        None => Ok(0),
+    }
+}
+
+/// The number of rules.
+fn count(rules: &RuleSet) -> usize {
+    rules.rules.len()
+}
+
+/// The numbers of rules of main, of the id of `NEXT` and of its own name.
+fn named(registry: &Registry, pass: &mut Pass) -> Result<(usize, usize, usize), Fail>
+    requires pass { IsPass pass.old }
+    ensures pass { IsPass pass.new }
+{
+    let main = rules_named(registry, pass, "TOYS")?;
+    let id = rules_named(registry, pass, NEXT_ID)?;
+    let own = rules_named(registry, pass, "NEXT")?;
+    Ok((main, id, own))
+}
+
+/// The numbers of rules of these names before and behind an entry of `NEXT`.
+fn around(
+    alloc: Global,
+    also_name: bool,
+) -> Result<((usize, usize, usize), (usize, usize, usize)), Fail> {
+    let (registry, mut pass) = begun(alloc)?;
+    let before = named(&registry, &mut pass)?;
+    let _told = enter(alloc, &registry, &mut pass, NEXT, also_name)?;
+    let behind = named(&registry, &mut pass)?;
+    Ok((before, behind))
+}
+
+#[test]
+fn a_module_is_found_by_its_names(rt: HostRuntime) -> Result<(), Fail> {
+    assert!(rt; around(rt.alloc(), true)? == ((1, 0, 0), (1, 2, 2)));
+    assert!(rt; around(rt.alloc(), false)? == ((1, 0, 0), (1, 2, 0)));
+    Ok(())
+}
+
+/// What is told of the second text, entered behind the first.
+fn second(
+    alloc: Global,
+    text: &str,
+    first_name: bool,
+    also_name: bool,
+) -> Result<Option<RegisterFault>, Fail> {
+    let (registry, mut pass) = begun(alloc)?;
+    let _told = enter(alloc, &registry, &mut pass, NEXT, first_name)?;
+    enter(alloc, &registry, &mut pass, text, also_name)
+}
+
+/// An own name that is bound to another text by this entry.
+fn own(entry: usize) -> Option<RegisterFault> {
+    Some(RegisterFault::Duplicate {
+        entry,
+        of_id: false,
+    })
+}
+
+#[test]
+fn a_name_is_bound_to_one_text(rt: HostRuntime) -> Result<(), Fail> {
+    assert!(rt; second(rt.alloc(), NEXT, true, true)? == None);
+    assert!(rt; second(rt.alloc(), NEXT, false, true)? == None);
+    assert!(rt; second(rt.alloc(), SPACED, true, true)? == own(1));
+    assert!(rt; second(rt.alloc(), SPACED, false, true)? == None);
+    assert!(rt; second(rt.alloc(), SPACED, true, false)? == None);
+    Ok(())
+}
+
+#[test]
+fn a_name_of_the_definition_is_not_bound(rt: HostRuntime) -> Result<(), Fail> {
+    let text = "module TOYS endmodule []";
+    assert!(rt; second(rt.alloc(), text, true, true)? == own(0));
+    assert!(rt; second(rt.alloc(), text, true, false)? == None);
+    Ok(())
+}

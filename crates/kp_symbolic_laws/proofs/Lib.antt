@@ -1,0 +1,12 @@
+pub mod Course
+pub mod Easy
+pub mod Found
+pub mod HeadTests
+pub mod Keeping
+pub mod NewNames
+pub mod OpenedGood
+pub mod ReadState
+pub mod Right
+pub mod Step
+pub mod WrittenClauses
+pub mod WrittenVariables

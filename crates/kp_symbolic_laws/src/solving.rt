@@ -1,0 +1,45 @@
+// Laws of the whole of solving, from a state to the one in which no equation can be solved.
+ghost use Rattle.std.specs.Prelude.{◌≡◌, ◌↔◌, true, Some, None, List};
+ghost use Rattle.std.specs.List.{AllByRecursion};
+ghost use Rattle.kp_kore.specs.Syntax.{KorePattern};
+ghost use Rattle.kp_kore.specs.Parts.{free_variables};
+ghost use Rattle.kp_kore.specs.Signature.{KoreSignature};
+ghost use Rattle.kp_semantics.specs.Value.{Value};
+ghost use Rattle.kp_semantics.specs.Instance.{Valuation, GivesSorts, is_predicate, conjoined_predicates};
+ghost use Rattle.kp_semantics.specs.Foreign.{none_within, has_foreign_head};
+ghost use Rattle.kp_signature.specs.Places.{Place};
+ghost use Rattle.kp_signature.specs.Verify.{first_fault};
+ghost use Rattle.kp_symbolic.specs.States.{Literal, SymbolicState, IsStateInstance, HasInstancesOf};
+ghost use Rattle.kp_symbolic.specs.Solving.{Solvable, first_solvable, solved_at, Solving, opened_state, IsReadAs};
+ghost use Rattle.kp_symbolic_laws.specs.Runs.{IsSortedState, IsKeptWhole, IsWrittenOfThese, IsWrittenRight, OfEachKept};
+
+/// Where an equation is solved, a state with the sorts of its places keeps them, and its instances; what stays one literal
+/// for its size is written of the variables at hand, and right.
+pub fn a_step_keeps_sorts_and_instances()
+    ensures sorts { (g : KoreSignature) (s : SymbolicState) (o : Solvable) → IsSortedState g s → first_solvable g s ≡ Some o →
+        ((c : List Literal) → IsKeptWhole g s o c → IsWrittenOfThese g s c) → IsSortedState g (solved_at g o s) }
+    ensures instances { (g : KoreSignature) (v : Valuation) (s : SymbolicState) (o : Solvable) (u : Value) → IsSortedState g s → GivesSorts g v s.variables →
+        first_solvable g s ≡ Some o → ((c : List Literal) → IsKeptWhole g s o c → IsWrittenRight g v s c) →
+        IsStateInstance g v s u ↔ IsStateInstance g v (solved_at g o s) u }
+{}
+
+/// A state that is solved from another has the sorts of its places where that has, and the same instances, whatever the
+/// variables at hand stand for; what stays one literal for its size is written of the variables at hand, and right.
+pub fn solving_keeps_sorts_and_instances()
+    ensures sorts { (g : KoreSignature) (s t : SymbolicState) → IsSortedState g s → OfEachKept g (IsWrittenOfThese g) s → Solving g s t → IsSortedState g t }
+    ensures instances { (g : KoreSignature) (v : Valuation) (s t : SymbolicState) (u : Value) → IsSortedState g s → GivesSorts g v s.variables →
+        OfEachKept g (IsWrittenOfThese g) s → OfEachKept g (IsWrittenRight g v) s → Solving g s t →
+        IsStateInstance g v s u ↔ IsStateInstance g v t u }
+{}
+
+/// A verified pattern of one term and predicates is opened as, and read as, a state with the sorts of its places; that which
+/// it is read as has its instances. What stays one literal for its size is written of the variables at hand, and right.
+pub fn a_pattern_has_the_instances_of_what_it_is_read_as()
+    ensures opened { (g : KoreSignature) (c : Place) (p : KorePattern) (s : SymbolicState) → first_fault g c p ≡ None → none_within (has_foreign_head g) p ≡ true →
+        AllByRecursion (λ q. is_predicate q ≡ true) (conjoined_predicates p) → opened_state g p ≡ Some s → IsSortedState g s }
+    ensures read { (g : KoreSignature) (c : Place) (p : KorePattern) (s : SymbolicState) → first_fault g c p ≡ None → none_within (has_foreign_head g) p ≡ true →
+        AllByRecursion (λ q. is_predicate q ≡ true) (conjoined_predicates p) → (r : IsReadAs g p s) → OfEachKept g (IsWrittenOfThese g) r.opened → IsSortedState g s }
+    ensures instances { (g : KoreSignature) (c : Place) (p : KorePattern) (s : SymbolicState) → first_fault g c p ≡ None → none_within (has_foreign_head g) p ≡ true →
+        AllByRecursion (λ q. is_predicate q ≡ true) (conjoined_predicates p) → (r : IsReadAs g p s) → OfEachKept g (IsWrittenOfThese g) r.opened →
+        ((v : Valuation) → GivesSorts g v (free_variables p) → OfEachKept g (IsWrittenRight g v) r.opened) → HasInstancesOf g p s }
+{}

@@ -1,0 +1,49 @@
+// Laws of what is written for symbolic states: new names, tests of heads.
+ghost use Rattle.std.specs.Prelude.{◌≡◌, ◌+◌, ◌<◌, ◌^◌, true, false, Some, List, [], ◌∷◌, length};
+ghost use Rattle.std.specs.List.{AllByRecursion, list_any};
+ghost use Rattle.std.specs.Str.{bytes_eq};
+ghost use Rattle.kp_kore.specs.Syntax.{Text, KoreSort, KoreSorts, variable};
+ghost use Rattle.kp_kore.specs.Attributes.{sorts_equal};
+ghost use Rattle.kp_kore.specs.Parts.{SortedName, sort_list};
+ghost use Rattle.kp_kore.specs.Signature.{KoreSignature, injection, construction, meaning_of};
+ghost use Rattle.kp_semantics.specs.Value.{HasSort};
+ghost use Rattle.kp_semantics.specs.Instance.{Valuation, GivesSorts, is_named};
+ghost use Rattle.kp_states.specs.Spelled.{places_of, injection_name};
+ghost use Rattle.kp_symbolic.specs.States.{one_head, head_of_sort, has_head, Literal, SymbolicState};
+ghost use Rattle.kp_symbolic_laws.specs.Runs.{IsSortedLiteral, IsOpenedWhole, IsWrittenOfThese, IsWrittenRight};
+ghost use Rattle.kp_symbolic.specs.Opening.{head_question, are_variables};
+ghost use Rattle.kp_symbolic.specs.Writing.{least_fresh, new_variables, variables_of, written_test, IsSaid};
+
+/// The least new name isn't among those in use; new variables aren't either, and are each of another name.
+pub fn new_names_are_not_in_use()
+    ensures least { (used : List Text) → length used < 2 ^ 64 → list_any (bytes_eq (least_fresh used)) used ≡ false }
+    ensures variables { (used : List Text) (ss : KoreSorts) (y : Text) → length used + length (sort_list ss) < 2 ^ 64 → list_any (bytes_eq y) used ≡ true → is_named y (new_variables used ss) ≡ false }
+    ensures apart { (used : List Text) (ss : KoreSorts) → length used + length (sort_list ss) < 2 ^ 64 → are_variables (new_variables used ss) ss (variables_of (new_variables used ss)) ≡ true }
+{}
+
+/// What is written for a test of a variable's head is read as that test, where inj is what it should be.
+pub fn written_tests_are_read_back()
+    ensures constructor { (g : KoreSignature) (sort : KoreSort) (x : SortedName) (c : Text) → meaning_of g injection_name ≡ injection → meaning_of g c ≡ construction →
+        1 + length (sort_list (places_of g c)) < 2 ^ 64 →
+        head_question g [] (written_test g sort x (one_head c)) ≡ Some (record { subject = variable x.name x.sort; test = one_head c }) }
+    ensures sort { (g : KoreSignature) (sort s : KoreSort) (x : SortedName) → meaning_of g injection_name ≡ injection → sorts_equal s x.sort ≡ false →
+        head_question g [] (written_test g sort x (head_of_sort s)) ≡ Some (record { subject = variable x.name x.sort; test = head_of_sort s }) }
+{}
+
+/// What is written for a test of a variable's head says what the test says, where the variable has a value of its sort and
+/// inj is what it should be.
+pub fn written_tests_say_what_they_said()
+    ensures constructor { (g : KoreSignature) (v : Valuation) (sort : KoreSort) (x : SortedName) (c : Text) → HasSort g x.sort (v x.name) →
+        meaning_of g injection_name ≡ injection → meaning_of g c ≡ construction → 1 + length (sort_list (places_of g c)) < 2 ^ 64 → IsSaid g v sort (has_head x (one_head c)) }
+    ensures sort { (g : KoreSignature) (v : Valuation) (sort s : KoreSort) (x : SortedName) → HasSort g x.sort (v x.name) →
+        meaning_of g injection_name ≡ injection → IsSaid g v sort (has_head x (head_of_sort s)) }
+{}
+
+/// What is written for a clause of equalities and tests of heads has no variables but the clause's, and says what the clause
+/// says, where inj is what it should be.
+pub fn written_clauses_of_tests_say_what_they_said()
+    ensures variables { (g : KoreSignature) (s : SymbolicState) (c : List Literal) → AllByRecursion (IsSortedLiteral g s.variables) c →
+        AllByRecursion (λ l. IsOpenedWhole g l.atom) c → IsWrittenOfThese g s c }
+    ensures says { (g : KoreSignature) (v : Valuation) (s : SymbolicState) (c : List Literal) → meaning_of g injection_name ≡ injection → GivesSorts g v s.variables →
+        AllByRecursion (IsSortedLiteral g s.variables) c → AllByRecursion (λ l. IsOpenedWhole g l.atom) c → IsWrittenRight g v s c }
+{}
