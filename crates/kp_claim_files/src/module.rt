@@ -74,6 +74,7 @@ fn add_axioms(
     Ok(())
 }
 
+/// The claim at a place, of claims that have one there.
 fn claim_at(claims: &[ClaimItem], place: usize) -> &ClaimItem
     requires { place < length claims.now }
     ensures { slice_get claims.now place ≡ Some result.now }
@@ -81,6 +82,7 @@ fn claim_at(claims: &[ClaimItem], place: usize) -> &ClaimItem
     &claims[place]
 }
 
+/// Adds a claim's axiom.
 fn add_axiom(
     alloc: Global,
     sentences: &mut Vec<Sentence>,
@@ -126,6 +128,7 @@ fn mark_of(alloc: Global, name: &str, text: &str) -> Result<Pattern, AllocError>
     Ok(applied(symbol, Vec::new(alloc), arguments))
 }
 
+/// An application.
 fn applied(symbol: Name, sorts: Vec<Sort>, arguments: Vec<Pattern>) -> Pattern
     ensures { view result ≡ application (string_bytes symbol) (sorts_view sorts.items) (patterns_view arguments.items) }
 {

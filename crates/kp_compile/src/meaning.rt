@@ -25,6 +25,7 @@ pub enum Meaning {
     Foreign,
 }
 
+/// Whether these are two sorts of whole numbers.
 fn are_two_numbers(signature: &Signature, sorts: &[Sort]) -> bool
     ensures { result ≡ are_two (is_number_sort (signature_view signature.now)) (sorts_view sorts.now) }
 {
@@ -34,6 +35,7 @@ fn are_two_numbers(signature: &Signature, sorts: &[Sort]) -> bool
     }
 }
 
+/// Whether these are two sorts of truth values.
 fn are_two_truths(signature: &Signature, sorts: &[Sort]) -> bool
     ensures { result ≡ are_two (is_truth_sort (signature_view signature.now)) (sorts_view sorts.now) }
 {
@@ -43,6 +45,7 @@ fn are_two_truths(signature: &Signature, sorts: &[Sort]) -> bool
     }
 }
 
+/// Whether this is one sort of truth values.
 fn is_one_truth(signature: &Signature, sorts: &[Sort]) -> bool
     ensures { result ≡ are_one (is_truth_sort (signature_view signature.now)) (sorts_view sorts.now) }
 {

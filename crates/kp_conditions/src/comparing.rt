@@ -38,6 +38,7 @@ fn below(first: Part, second: Part, is_strict: bool) -> Demand
     }
 }
 
+/// A way of one demand.
 fn one(alloc: Global, demand: Demand) -> Result<Vec<Demand>, AllocError>
     ensures { IfOk result (λ way. way.items ≡ demand ∷ []) }
 {
@@ -46,6 +47,7 @@ fn one(alloc: Global, demand: Demand) -> Result<Vec<Demand>, AllocError>
     Ok(way)
 }
 
+/// A way of two demands.
 fn two(alloc: Global, demand: Demand, other: Demand) -> Result<Vec<Demand>, AllocError>
     ensures { IfOk result (λ way. way.items ≡ demand ∷ other ∷ []) }
 {
@@ -54,6 +56,7 @@ fn two(alloc: Global, demand: Demand, other: Demand) -> Result<Vec<Demand>, Allo
     Ok(way)
 }
 
+/// One way.
 fn only(alloc: Global, way: Vec<Demand>) -> Result<Vec<Vec<Demand>>, AllocError>
     ensures { IfOk result (λ ways. ways.items ≡ way ∷ []) }
 {
@@ -62,18 +65,21 @@ fn only(alloc: Global, way: Vec<Demand>) -> Result<Vec<Vec<Demand>>, AllocError>
     Ok(ways)
 }
 
+/// One way of one demand.
 fn alone(alloc: Global, demand: Demand) -> Result<Vec<Vec<Demand>>, AllocError>
     ensures { IfOk result (λ ways. map (λ w. w.items) ways.items ≡ (demand ∷ []) ∷ []) }
 {
     only(alloc, one(alloc, demand)?)
 }
 
+/// One way of two demands.
 fn both(alloc: Global, demand: Demand, other: Demand) -> Result<Vec<Vec<Demand>>, AllocError>
     ensures { IfOk result (λ ways. map (λ w. w.items) ways.items ≡ (demand ∷ other ∷ []) ∷ []) }
 {
     only(alloc, two(alloc, demand, other)?)
 }
 
+/// Two ways of one demand each.
 fn either(alloc: Global, demand: Demand, other: Demand) -> Result<Vec<Vec<Demand>>, AllocError>
     ensures { IfOk result (λ ways. map (λ w. w.items) ways.items ≡ (demand ∷ []) ∷ (other ∷ []) ∷ []) }
 {

@@ -49,6 +49,7 @@ fn unite(roots: &mut [usize], fixed: usize, low: usize, high: usize) -> bool
     true
 }
 
+/// The root of a class's tree that the class at this place lies in.
 fn root_of(roots: &[usize], x: usize) -> usize
     requires { x < length roots.now }
     ensures { result ≡ root_in roots.now x }

@@ -18,6 +18,7 @@ pub struct Tables {
     pub fixed: usize,
 }
 
+/// A table in which no truth value is known.
 fn no_truths(alloc: Global, count: usize) -> Result<Vec<Option<bool>>, AllocError>
     ensures { IfOk result (λ v. length v.items ≡ count) }
 {
@@ -28,6 +29,7 @@ fn no_truths(alloc: Global, count: usize) -> Result<Vec<Option<bool>>, AllocErro
     Ok(truths)
 }
 
+/// A table in which each token is a class of its own.
 fn no_classes(alloc: Global, count: usize) -> Result<Vec<usize>, AllocError>
     ensures { IfOk result (λ v. length v.items ≡ count) }
 {

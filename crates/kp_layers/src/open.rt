@@ -76,6 +76,7 @@ pub fn highest(layers: &[usize], claims: &[usize]) -> usize
     most
 }
 
+/// The larger of two.
 fn larger(a: usize, b: usize) -> usize
     ensures { result ≡ max a b }
 {

@@ -38,6 +38,7 @@ pub fn sum_of<'a>(signature: &Signature, term: &'a Term) -> Option<Sum<'a>>
     }
 }
 
+/// The sum that a variable and a constant are, where the variable's sort is that of whole numbers.
 fn sum_if<'a>(signature: &Signature, variable: &'a Arc<Variable>, constant: i128) -> Option<Sum<'a>>
     ensures { option_map sum_view result ≡ sum_read (signature_view signature.now) (offset (variable_view variable.now.value) constant) }
 {
@@ -79,6 +80,7 @@ fn number_of(value: &Value) -> Option<i128>
     }
 }
 
+/// A variable alone as a term.
 fn make_unknown(variable: &Arc<Variable>) -> Result<Term, AllocError>
     ensures { IfOk result (λ t. term_view t ≡ unknown (variable_view variable.now.value)) }
 {
@@ -87,6 +89,7 @@ fn make_unknown(variable: &Arc<Variable>) -> Result<Term, AllocError>
     })
 }
 
+/// A variable and a constant as a term.
 fn make_offset(variable: &Arc<Variable>, constant: i128) -> Result<Term, AllocError>
     ensures { IfOk result (λ t. term_view t ≡ offset (variable_view variable.now.value) constant) }
 {
