@@ -3,11 +3,9 @@ pub mod Chains
 pub mod Collect
 pub mod Declared
 pub mod Firsts
-pub mod Gathering
 pub mod Labelled
 pub mod Leaving
 pub mod Noting
-pub mod Numbering
 pub mod Opened
 pub mod Places
 pub mod Ruled
@@ -16,7 +14,5 @@ pub mod Sentences
 pub mod Settled
 pub mod Starting
 pub mod Stepping
-pub mod Taken
 pub mod Twice
-pub mod Unsound
 pub mod Walking

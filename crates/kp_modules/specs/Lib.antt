@@ -1,5 +1,4 @@
 pub mod Axioms
-pub mod Extending
 pub mod Faults
 pub mod Labels
 pub mod Made

@@ -2,7 +2,8 @@ ghost use Rattle.std.specs.Prelude.{IfOk};
 ghost use Rattle.kp_registry.specs.Passes.{IsPass, IsReady};
 
 use crate::extensions::toys;
-use kp_modules::{Table, extend};
+use kp_extensions::extend;
+use kp_modules::Table;
 use kp_registry::{Pass, Ready, RegisterFault, Registry, prepare};
 use kp_rules::RuleSet;
 use kp_text::read_module;

@@ -1,4 +1,5 @@
-use kp_modules::{ExtendError, Table, extend, load};
+use kp_extensions::{ExtendError, extend};
+use kp_modules::{Table, load};
 use kp_rules::RuleSet;
 use kp_text::{read_definition, read_module};
 use std::alloc::Global;

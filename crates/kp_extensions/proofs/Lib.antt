@@ -1,0 +1,4 @@
+pub mod Gathering
+pub mod Numbering
+pub mod Taken
+pub mod Unsound
