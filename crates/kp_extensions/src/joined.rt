@@ -30,10 +30,21 @@ pub fn joined(
 {
     let mut found = rules_once(alloc, sets)?;
     add_own(&mut found, own)?;
-    let labels = labels_in(alloc, &found)?;
+    called(alloc, signature, &found)
+}
+
+/// The rule set over this signature of these rules, each called by the labels of all of them.
+pub fn called(
+    alloc: Global,
+    signature: &Arc<Signature>,
+    rules: &[&Rule],
+) -> Result<RuleSet, AllocError>
+    ensures { (axioms : List NumberedAxiom) → AreTakenFrom (signature_view signature.now.value) axioms rules.now → IfOk result (IsSetOf (signature_view signature.now.value) axioms) }
+{
+    let labels = labels_in(alloc, rules)?;
     Ok(RuleSet {
         signature: signature.clone()?,
-        rules: all_named(alloc, &labels, &found)?,
+        rules: all_named(alloc, &labels, rules)?,
     })
 }
 
@@ -84,7 +95,7 @@ fn counted(number: usize) -> usize
 }
 
 /// Adds these rules.
-fn add_own<'a>(found: &mut Vec<&'a Rule>, own: &'a [Rule]) -> Result<(), AllocError>
+pub fn add_own<'a>(found: &mut Vec<&'a Rule>, own: &'a [Rule]) -> Result<(), AllocError>
     ensures { (g : KoreSignature) (before axioms : List NumberedAxiom) → AreTakenFrom g before found.old.items → AllZip (IsTakenFrom g) axioms own.now → OnOk result (AreTakenFrom g (before ++ axioms) found.new.items) }
 {
     for i in 0..own.len() {

@@ -3,10 +3,12 @@ pub mod Chains
 pub mod Collect
 pub mod Declared
 pub mod Firsts
+pub mod Kept
 pub mod Labelled
 pub mod Leaving
 pub mod Noting
 pub mod Opened
+pub mod Outlined
 pub mod Places
 pub mod Ruled
 pub mod Seen

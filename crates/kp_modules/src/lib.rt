@@ -8,6 +8,8 @@ mod imports;
 pub mod labels;
 mod names;
 pub mod order;
+mod outlines;
+mod own_walk;
 pub mod repeated;
 mod rules;
 pub mod table;
