@@ -17,7 +17,7 @@ pub fn toys(alloc: Global) -> Result<Table, Fail> {
 }
 
 /// The ids of the rules, each ended by a space.
-fn ids(alloc: Global, rules: &RuleSet) -> Result<String, Fail> {
+pub fn ids(alloc: Global, rules: &RuleSet) -> Result<String, Fail> {
     let mut text = String::new(alloc);
     for rule in &rules.rules {
         text.push_str(rule.id.as_str())?;
