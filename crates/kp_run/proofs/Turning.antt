@@ -1,6 +1,6 @@
 -- One more rule that fires, or doesn't.
 use Rattle.std.proofs.Common.{◌≡◌, refl, sym, subst, ℕ, zero, suc, ◌<◌, ◌≤◌, List, [], ◌∷◌, ◌++◌, take, length, get_or, ◌+◌, ◌∙◌, ap, Bool, true, false, ◌↔◌, Option, Some, None, Bor, inl, inr, arith}
-use Rattle.std.specs.Prelude.{◌⊎◌, IsTrue, MatchOption}
+use Rattle.std.specs.Prelude.{◌⊎◌, IsTrue}
 use Rattle.std.specs.List.{AllByRecursion}
 use Rattle.std.proofs.lemmas.List.{take_more}
 use Rattle.kp_kore.specs.Signature.{KoreSignature}
