@@ -14,11 +14,10 @@ ghost use Rattle.kp_rules.specs.Reading.{is_part_read, is_condition_part};
 ghost use Rattle.kp_rules.specs.Shapes.{seen};
 
 use crate::depth::is_within;
-use crate::form::is_term;
 use crate::inject::is_split;
 use crate::skeleton::MOST_DEPTH;
 use crate::sort_index::SortIndex;
-use kp_compile::{Meaning, meaning_of};
+use kp_compile::{Meaning, is_term, meaning_of};
 use kp_kore::{Name, Pattern};
 use kp_signature::Signature;
 use kp_signature::rules::is_numeral;
