@@ -1,3 +1,4 @@
+pub mod CounterCauses
 pub mod Course
 pub mod Easy
 pub mod Found
@@ -7,6 +8,7 @@ pub mod NewNames
 pub mod OpenedGood
 pub mod ReadState
 pub mod Right
+pub mod SquareCauses
 pub mod Step
 pub mod WrittenClauses
 pub mod WrittenVariables
