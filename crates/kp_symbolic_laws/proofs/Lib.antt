@@ -1,3 +1,4 @@
+pub mod Binders
 pub mod CounterCauses
 pub mod Course
 pub mod Easy
@@ -11,4 +12,5 @@ pub mod Right
 pub mod SquareCauses
 pub mod Step
 pub mod WrittenClauses
+pub mod WrittenUnder
 pub mod WrittenVariables

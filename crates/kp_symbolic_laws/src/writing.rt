@@ -1,16 +1,21 @@
 // Laws of what is written for symbolic states: new names, tests of heads.
-ghost use Rattle.std.specs.Prelude.{◌≡◌, ◌+◌, ◌<◌, ◌^◌, true, false, Some, List, [], ◌∷◌, length};
+ghost use Rattle.std.specs.Prelude.{◌≡◌, ◌+◌, ◌<◌, ◌^◌, true, false, Some, None, List, [], ◌∷◌, length};
 ghost use Rattle.std.specs.List.{AllByRecursion, list_any};
 ghost use Rattle.std.specs.Str.{bytes_eq};
-ghost use Rattle.kp_kore.specs.Syntax.{Text, KoreSort, KoreSorts, variable};
+ghost use Rattle.kp_kore.specs.Syntax.{Text, KoreSort, KoreSorts, KorePattern, variable};
 ghost use Rattle.kp_kore.specs.Attributes.{sorts_equal};
-ghost use Rattle.kp_kore.specs.Parts.{SortedName, sort_list};
+ghost use Rattle.kp_kore.specs.Parts.{SortedName, sort_list, free_variables};
 ghost use Rattle.kp_kore.specs.Signature.{KoreSignature, injection, construction, meaning_of};
 ghost use Rattle.kp_semantics.specs.Value.{HasSort};
-ghost use Rattle.kp_semantics.specs.Instance.{Valuation, GivesSorts, is_named};
+ghost use Rattle.kp_semantics.specs.Instance.{Valuation, GivesSorts, is_named, is_predicate};
 ghost use Rattle.kp_states.specs.Spelled.{places_of, injection_name};
-ghost use Rattle.kp_symbolic.specs.States.{one_head, head_of_sort, has_head, Literal, SymbolicState};
-ghost use Rattle.kp_symbolic_laws.specs.Runs.{IsSortedLiteral, IsOpenedWhole, IsWrittenOfThese, IsWrittenRight};
+ghost use Rattle.kp_semantics.specs.Foreign.{none_within, has_foreign_head};
+ghost use Rattle.kp_signature.specs.Places.{Place};
+ghost use Rattle.kp_signature.specs.Verify.{first_fault};
+ghost use Rattle.kp_symbolic.specs.Terms.{Replaced};
+ghost use Rattle.kp_symbolic.specs.WellFormed.{AreWellPlaced};
+ghost use Rattle.kp_symbolic.specs.States.{one_head, head_of_sort, has_head, quoted, AreGiven, Literal, SymbolicState};
+ghost use Rattle.kp_symbolic_laws.specs.Runs.{HasRoom, IsSortedLiteral, IsOpenedWhole, IsWrittenOfThese, IsWrittenRight};
 ghost use Rattle.kp_symbolic.specs.Opening.{head_question, are_variables};
 ghost use Rattle.kp_symbolic.specs.Writing.{least_fresh, new_variables, variables_of, written_test, IsSaid};
 
@@ -46,4 +51,12 @@ pub fn written_clauses_of_tests_say_what_they_said()
         AllByRecursion (λ l. IsOpenedWhole g l.atom) c → IsWrittenOfThese g s c }
     ensures says { (g : KoreSignature) (v : Valuation) (s : SymbolicState) (c : List Literal) → meaning_of g injection_name ≡ injection → GivesSorts g v s.variables →
         AllByRecursion (IsSortedLiteral g s.variables) c → AllByRecursion (λ l. IsOpenedWhole g l.atom) c → IsWrittenRight g v s c }
+{}
+
+/// What is written for a predicate that isn't opened, with terms in the place of its variables, says what the predicate says
+/// where these stand for the terms' instances; inj is what it should be, and there is room for new names.
+pub fn written_quotations_say_what_they_said()
+    ensures { (g : KoreSignature) (rs : List Replaced) (v : Valuation) (c : Place) (sort : KoreSort) (p : KorePattern) → meaning_of g injection_name ≡ injection →
+        first_fault g c p ≡ None → none_within (has_foreign_head g) p ≡ true → is_predicate p ≡ true →
+        AreWellPlaced g rs (free_variables p) → AreGiven g rs v (free_variables p) → HasRoom rs p → IsSaid g v sort (quoted p rs) }
 {}
