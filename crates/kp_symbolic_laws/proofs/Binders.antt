@@ -1,16 +1,13 @@
 -- What is written under a binder: its name binds no variable that comes in, and its variable stands for the same value.
-use Rattle.std.proofs.Common.{◌≡◌, refl, sym, ◌∙◌, ap, ap₂, subst, ◌<◌, ◌^◌, Bool, true, false, not, ◌||◌, List, [], ◌∷◌, ◌++◌, map, length, Option, Some, None}
+use Rattle.std.proofs.Common.{◌≡◌, refl, sym, ◌∙◌, ap, ap₂, subst, Bool, true, false, not, ◌||◌, List, [], ◌∷◌, ◌++◌, map, Option, Some, None}
 use Rattle.std.specs.Prelude.{if◌then◌else◌, cond}
 use Rattle.std.specs.List.{AllByRecursion, list_any, flat_map}
 use Rattle.std.specs.Str.{bytes_eq}
 use Rattle.std.proofs.lemmas.Slice.Eq.{bytes_eq-Decides}
 use Rattle.kp_kore.specs.Syntax.{Text, KoreSort, KorePattern}
-use Rattle.kp_kore.specs.Hooks.{addition, whole_arithmetic}
-use Rattle.kp_kore.specs.Parts.{SortedName, free_variables, without_name, variable_names}
+use Rattle.kp_kore.specs.Parts.{SortedName, without_name, variable_names}
 use Rattle.kp_kore.specs.Signature.{KoreSignature, meaning_of, IsBelow, itself}
-use Rattle.kp_semantics.specs.Value.{Value, whole, next_value, HasSort}
-use Rattle.kp_semantics.specs.Forms.{two}
-use Rattle.kp_semantics.specs.Interpretation.{interpreted}
+use Rattle.kp_semantics.specs.Value.{Value, next_value, HasSort}
 use Rattle.kp_semantics.specs.Instance.{Valuation, GivesSorts, AgreesOn, assigned, applied}
 use Rattle.kp_signature.specs.Places.{sort_in_scope}
 use Rattle.kp_sorts.proofs.VariableSorts.{HasItsSort}

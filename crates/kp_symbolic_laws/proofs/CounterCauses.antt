@@ -1,19 +1,18 @@
 -- Implications between counters: what stands beside the antecedent, and what is shown.
-use Rattle.std.proofs.Common.{◌≡◌, refl, inl, inr, ℕ, zero, suc, ◌+◌, ◌*◌, ◌^◌, ◌<◌, ◌≤◌, true, false, List, [], ◌∷◌, arith}
-use Rattle.std.specs.Prelude.{pos, negsuc, codes, ⊤}
+use Rattle.std.proofs.Common.{◌≡◌, refl, inl, inr, ℕ, zero, suc, ◌+◌, ◌*◌, ◌≤◌, true, false, [], ◌∷◌, arith}
+use Rattle.std.specs.Prelude.{pos, codes}
 use Rattle.std.proofs.lemmas.Bool.{ltb-true}
 use Rattle.std.proofs.lemmas.Nat.{pow_pos}
 use Rattle.std.proofs.lemmas.List.Elements.{Contains-get_or}
 use Rattle.kp_semantics.specs.Value.{whole, constructed, no_values, next_value}
 use Rattle.kp_toys.specs.ToysTheory.{toys_signature}
-use Rattle.kp_symbolic.specs.Terms.{unknown, offset}
-use Rattle.kp_symbolic.specs.States.{Literal}
+use Rattle.kp_symbolic.specs.Terms.{unknown}
 use Rattle.kp_symbolic.specs.Solving.{finished}
-use Rattle.kp_symbolic.specs.Sources.{TermsMeet, IsMatch, all_parts}
+use Rattle.kp_symbolic.specs.Sources.{TermsMeet, all_parts}
 use Rattle.kp_symbolic.specs.Weights.{Weight, bits, literals, product, IsBitLength}
 use Rattle.kp_symbolic.specs.Shown.{unknown_clauses, IsSmall}
 use Rattle.kp_symbolic.specs.Endings.{IsAntecedent, IsConsequent, IsShownOfImplication, IsEasyImplication, consequent_shapes}
-use Rattle.kp_symbolic.specs.Examples.{x_name, y_name, x, above, alone}
+use Rattle.kp_symbolic.specs.Examples.{x_name, y_name, alone}
 use Rattle.kp_symbolic.specs.Weighing.{square_predicate, squared_below}
 use Rattle.kp_symbolic.proofs.ShownExamples.{none_contained, zero_is_a_number}
 use Rattle.kp_symbolic_laws.specs.Causes.{some_counter, some_odd_counter, counter_of_x, counter_less_one, counter_beside, x_state, less_state, y_put, square_not_below}

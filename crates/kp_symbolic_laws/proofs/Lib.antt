@@ -7,10 +7,12 @@ pub mod HeadTests
 pub mod Keeping
 pub mod NewNames
 pub mod OpenedGood
+pub mod OwnBounds
 pub mod ReadState
 pub mod Right
 pub mod SquareCauses
 pub mod Step
-pub mod WrittenClauses
+pub mod WrittenForms
+pub mod WrittenStates
 pub mod WrittenUnder
 pub mod WrittenVariables

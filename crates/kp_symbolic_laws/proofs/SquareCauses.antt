@@ -1,14 +1,13 @@
 -- Which rules of the example definition meet sq(X), and what is shown of it.
-use Rattle.std.proofs.Common.{◌≡◌, refl, sym, ◌∙◌, subst, ◌⊎◌, inl, inr, ℕ, ◌<◌, Bool, true, false, List, [], ◌∷◌, Option, Some, None, arith}
+use Rattle.std.proofs.Common.{◌≡◌, refl, sym, ◌∙◌, subst, ◌⊎◌, inl, inr, ℕ, ◌<◌, true, false, [], ◌∷◌, arith}
 use Rattle.std.specs.Prelude.{pos, codes, ⊤}
-use Rattle.std.specs.List.{AllByRecursion}
 use Rattle.std.specs.Str.{bytes_eq}
 use Rattle.std.proofs.lemmas.Bool.{ltb-true}
 use Rattle.std.proofs.lemmas.List.Elements.{Contains-get_or}
 use Rattle.std.proofs.lemmas.Slice.Eq.{bytes_eq-Decides}
 use Rattle.kp_kore.specs.Syntax.{Text, no_sorts}
 use Rattle.kp_kore.specs.Parts.{subpatterns}
-use Rattle.kp_kore.specs.Signature.{SymbolMeaning, construction, meaning_of}
+use Rattle.kp_kore.specs.Signature.{construction, meaning_of}
 use Rattle.kp_kore.specs.Sorting.{result_sort}
 use Rattle.kp_semantics.specs.Value.{Value, whole, truth, token, constructed, Values, no_values, next_value}
 use Rattle.kp_semantics.specs.Rules.{RewriteRule}
@@ -21,7 +20,7 @@ use Rattle.kp_symbolic.specs.Solving.{finished}
 use Rattle.kp_symbolic.specs.Sources.{AllMayMean, TermsMeet, all_parts}
 use Rattle.kp_symbolic.specs.Shown.{unknown_clauses, weight_passed}
 use Rattle.kp_symbolic.specs.Weights.{product}
-use Rattle.kp_symbolic.specs.Endings.{MeetsRule, AreShapes, no_more, meets, passes, shape_of, IsShownOfRun, IsRightEnded}
+use Rattle.kp_symbolic.specs.Endings.{AreShapes, no_more, meets, passes, shape_of, IsShownOfRun, IsRightEnded}
 use Rattle.kp_symbolic.specs.Examples.{x_name, x, above}
 use Rattle.kp_symbolic.specs.Weighing.{square_predicate, sq_beside, sq_put}
 use Rattle.kp_symbolic.proofs.ShownExamples.{none_contained, zero_is_a_number}

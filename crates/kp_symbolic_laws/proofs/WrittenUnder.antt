@@ -1,8 +1,7 @@
 -- What is written for a quoted predicate says what the predicate says where its variables stand for the terms' instances.
-use Rattle.std.proofs.Common.{◌≡◌, refl, sym, ◌∙◌, ap, ap₂, subst, inl, Bool, true, false, ◌&&◌, ◌||◌, List, [], ◌∷◌, ◌++◌, Option, Some, None, ◌↔◌}
-use Rattle.std.specs.Prelude.{if◌then◌else◌, unwrap_or, MatchBool, ⊤, ℤ, neg_ℤ, int_lt, pos}
+use Rattle.std.proofs.Common.{◌≡◌, refl, sym, ◌∙◌, ap, ap₂, subst, inl, Bool, true, false, ◌&&◌, ◌||◌, List, [], ◌++◌, Option, Some, None, ◌↔◌}
+use Rattle.std.specs.Prelude.{if◌then◌else◌, unwrap_or, MatchBool, ℤ, neg_ℤ, int_lt, pos}
 use Rattle.std.specs.List.{AllByRecursion}
-use Rattle.std.specs.Str.{bytes_eq}
 use Rattle.kp_kore.specs.Syntax.{Text, KoreSort, sort_variable, KoreSorts, no_sorts, next_sort, KorePattern, KorePatterns, variable, application, literal, top, bottom, negation, conjunction, disjunction, implication, equivalence, exists, forall, ceil, floor, equals, membership, no_patterns, next_pattern}
 use Rattle.kp_kore.specs.Attributes.{sorts_equal}
 use Rattle.kp_kore.specs.Hooks.{addition, subtraction}
@@ -10,11 +9,11 @@ use Rattle.kp_kore.specs.Parts.{SortedName, is_term, are_terms, free_variables, 
 use Rattle.kp_kore.specs.Signature.{KoreSignature, injection, meaning_of}
 use Rattle.kp_kore.specs.Sorting.{result_sort}
 use Rattle.kp_semantics.specs.Value.{Value, HasSort}
-use Rattle.kp_semantics.specs.Instance.{Valuation, GivesSorts, assigned, instance, IsTrueUnder, AllTrueUnder, NoneTrueUnder, PairSame, is_predicate, are_predicates, is_conjoined_pair}
+use Rattle.kp_semantics.specs.Instance.{Valuation, GivesSorts, assigned, instance, IsTrueUnder, AllTrueUnder, NoneTrueUnder, PairSame, is_predicate, is_conjoined_pair}
 use Rattle.kp_semantics.specs.Foreign.{has_foreign_head}
 use Rattle.kp_semantics.proofs.InstanceLemmas.{first_true, second_true}
 use Rattle.kp_semantics.proofs.TruthLemmas.{same_truth}
-use Rattle.kp_signature.specs.Places.{part_at, after, under_binder, own_sort}
+use Rattle.kp_signature.specs.Places.{part_at, after, under_binder}
 use Rattle.kp_signature.specs.Verify.{fault_at, first_fault}
 use Rattle.kp_sorts.proofs.FaultLemmas.{nothing_earlier, nothing_later, term_has_wanted_sort}
 use Rattle.kp_sorts.proofs.SortedInstances.{none_in_first, none_in_others}
@@ -29,12 +28,12 @@ use Rattle.kp_symbolic.proofs.Distribution.{all_first, all_second}
 use Rattle.kp_symbolic.proofs.Read.{Stands, StandBoth, equals_stand, membership_stands, IsRead, AreRead, read_closed, IsSide, side_of}
 use Rattle.kp_symbolic.proofs.Written.{written_is}
 use Rattle.kp_claim_files.proofs.OneSort.{agrees}
-use Rattle.kp_symbolic_laws.specs.Runs.{HasRoom, AllHaveRoom, IsRoomAt}
+use Rattle.kp_symbolic_laws.specs.Runs.{HasRoom, AllHaveRoom}
 use Rattle.kp_symbolic_laws.proofs.Binders.{IsUnder, bound_apart, bound_sort, all_under, under_placed, under_given, under_agrees}
 
 -- ---- what is written for a term is a term
 
-placed_term : (own s : KoreSort) (p : KorePattern) → is_term p ≡ true → is_term (placed own s p) ≡ true
+pub placed_term : (own s : KoreSort) (p : KorePattern) → is_term p ≡ true → is_term (placed own s p) ≡ true
 placed_term own s p e = by (sorts_equal own s)
   where
     by : (b : Bool) → is_term (if b then p else injected own s p) ≡ true
@@ -53,7 +52,7 @@ sum_term g x c = by (int_lt (pos 0) c)
     by false = call_term (least_symbol g subtraction) x (neg_ℤ c)
 
 mutual
-  written_is_term : (g : KoreSignature) (s : KoreSort) (t : SymbolicTerm) → is_term (written_term g s t) ≡ true
+  pub written_is_term : (g : KoreSignature) (s : KoreSort) (t : SymbolicTerm) → is_term (written_term g s t) ≡ true
   written_is_term g s (unknown x) = placed_term x.sort s (variable x.name x.sort) refl
   written_is_term g s (offset x c) = placed_term x.sort s (written_sum g x c) (sum_term g x c)
   written_is_term g s (known u) = spelling_term g s u
@@ -67,10 +66,10 @@ mutual
 -- ---- and a term is written for nothing else
 
 -- a term, a predicate, or two conjoined terms
-abbrev IsRightForm : KorePattern → Type 0
+abbrev pub IsRightForm : KorePattern → Type 0
 IsRightForm p = is_term p || is_predicate p || is_conjoined_pair p ≡ true
 
-term_form : (p : KorePattern) → is_term p ≡ true → IsRightForm p
+pub term_form : (p : KorePattern) → is_term p ≡ true → IsRightForm p
 term_form p e = rw e refl
 
 either_true : (a b c : Bool) → b ≡ true → a || b || c ≡ true
@@ -78,14 +77,14 @@ either_true true b c e = refl
 either_true false true c e = refl
 either_true false false c e = absurd (cc)
 
-predicate_form : (p : KorePattern) → is_predicate p ≡ true → IsRightForm p
+pub predicate_form : (p : KorePattern) → is_predicate p ≡ true → IsRightForm p
 predicate_form p e = either_true (is_term p) (is_predicate p) (is_conjoined_pair p) e
 
 only_first : (a : Bool) → a || false || false ≡ true → a ≡ true
 only_first true e = refl
 only_first false e = absurd (cc)
 
-term_kept : (g : KoreSignature) (rs : List Replaced) (p : KorePattern) → IsRightForm p → is_term (written_under g rs p) ≡ is_term p
+pub term_kept : (g : KoreSignature) (rs : List Replaced) (p : KorePattern) → IsRightForm p → is_term (written_under g rs p) ≡ is_term p
 term_kept g rs (variable x s) h = written_is_term g s (folded g rs (variable x s))
 term_kept g rs (literal s t) h = written_is_term g s (folded g rs (literal s t))
 term_kept g rs (application f ss ps) h = written_is_term g (unwrap_or (result_sort g f ss) (sort_variable [])) (folded g rs (application f ss ps)) ∙ sym (only_first (are_terms ps) h)
@@ -106,7 +105,7 @@ two_forms p q e = by (is_predicate p && (is_predicate q && true)) (is_term p && 
     by false true i j h = (term_form p (first_true (is_term p) (is_term q) j), term_form q (second_true (is_term p) (is_term q) j))
     by false false i j h = absurd (cc)
 
-pair_kept : (g : KoreSignature) (rs : List Replaced) (p : KorePattern) → IsRightForm p → is_conjoined_pair (written_under g rs p) ≡ is_conjoined_pair p
+pub pair_kept : (g : KoreSignature) (rs : List Replaced) (p : KorePattern) → IsRightForm p → is_conjoined_pair (written_under g rs p) ≡ is_conjoined_pair p
 pair_kept g rs (variable x s) h = no_pair (written_under g rs (variable x s)) (term_kept g rs (variable x s) h)
 pair_kept g rs (literal s t) h = no_pair (written_under g rs (literal s t)) (term_kept g rs (literal s t) h)
 pair_kept g rs (application f ss ps) h = no_pair (written_under g rs (application f ss ps)) (term_kept g rs (application f ss ps) h ∙ only_first (are_terms ps) h)
@@ -174,7 +173,7 @@ ceil_written g rs v a s p i r k =
     by_test (is_term (written_under g rs p)) (is_term p) _ _ _ _ (term_kept g rs p r.predicate) (λ e. ((λ h. h), (λ h. h)))
     (λ e. by_test (is_conjoined_pair (written_under g rs p)) (is_conjoined_pair p) _ _ _ _ (pair_kept g rs p r.predicate) (λ f. pair_written g rs v a s p i r f) (λ f. k e f))
 
-two_of_three : (a b c : Bool) → a || b ≡ true → a || b || c ≡ true
+pub two_of_three : (a b c : Bool) → a || b ≡ true → a || b || c ≡ true
 two_of_three true b c e = refl
 two_of_three false true c e = refl
 two_of_three false false c e = absurd (cc)

@@ -1,18 +1,16 @@
 -- A run and implications over the example definition that are left undecided, or must not be, and what is shown of them.
-use Rattle.std.specs.Prelude.{ℕ, Bool, true, false, negsuc, List, [], ◌∷◌, ◌++◌, codes, None}
+use Rattle.std.specs.Prelude.{negsuc, List, [], ◌∷◌, codes, None}
 use Rattle.kp_kore.specs.Syntax.{KorePattern, negation, conjunction, exists}
-use Rattle.kp_kore.specs.Parts.{SortedName}
 use Rattle.kp_semantics.specs.Executions.{Options}
 use Rattle.kp_toys.specs.Toys.{sort_s, sort_int, patterns, call, integer}
-use Rattle.kp_toys.specs.ToysTheory.{count_of, done, sq_rule}
+use Rattle.kp_toys.specs.ToysTheory.{count_of, sq_rule}
 use Rattle.kp_symbolic.specs.Terms.{SymbolicTerm, unknown, offset, headed, Replaced}
 use Rattle.kp_symbolic.specs.States.{Literal, SymbolicState}
 use Rattle.kp_symbolic.specs.Sources.{SymbolicRule}
 use Rattle.kp_symbolic.specs.Endings.{RuleUse, Ended, aborted}
-use Rattle.kp_symbolic.specs.Shown.{RuleShape, Undecided, unknown_clauses, Situation}
-use Rattle.kp_symbolic.specs.Clauses.{clauses_of_conjuncts}
-use Rattle.kp_symbolic.specs.Examples.{x_name, y_name, x, y, test, square, alone, one_term, less_one}
-use Rattle.kp_symbolic.specs.Weighing.{square_predicate, squared_below, square_below, sq_beside, sq_put}
+use Rattle.kp_symbolic.specs.Shown.{Undecided, Situation}
+use Rattle.kp_symbolic.specs.Examples.{x_name, y_name, x, y, test, one_term, less_one}
+use Rattle.kp_symbolic.specs.Weighing.{square_predicate, sq_beside}
 use Rattle.kp_symbolic.specs.Rows.{state_with, counter}
 
 -- ---- sq(X), whose rule asks whether X * X < 0

@@ -1,12 +1,15 @@
 -- What holds of the states on the way from a pattern to the state that it is read as.
 -- Source: equations of variables by substitution, as unification has them; the K framework's Kore language (sorts).
-use Rattle.std.specs.Prelude.{◌≡◌, ◌↔◌, ◌+◌, ◌<◌, ◌^◌, true, List, [], ◌∷◌, ◌++◌, length, Some, ⊤}
+use Rattle.std.specs.Prelude.{◌≡◌, ◌↔◌, ◌+◌, ◌<◌, ◌^◌, true, List, [], ◌∷◌, ◌++◌, length, Some, None, ⊤}
 use Rattle.std.specs.List.{AllByRecursion, Contains}
 use Rattle.kp_kore.specs.Syntax.{Text, KoreSort, KorePattern, KorePatterns, negation, conjunction, disjunction, implication, equivalence, exists, forall, ceil, floor, no_patterns, next_pattern}
 use Rattle.kp_kore.specs.Parts.{SortedName, sort_list, free_variables, variable_names}
 use Rattle.kp_kore.specs.Signature.{KoreSignature, construction, meaning_of}
 use Rattle.kp_semantics.specs.Steps.{AnyByRecursion}
-use Rattle.kp_semantics.specs.Instance.{Valuation, IsTrueUnder}
+use Rattle.kp_semantics.specs.Instance.{Valuation, IsTrueUnder, is_predicate}
+use Rattle.kp_semantics.specs.Foreign.{none_within, has_foreign_head}
+use Rattle.kp_signature.specs.Places.{Place}
+use Rattle.kp_signature.specs.Verify.{first_fault}
 use Rattle.kp_states.specs.Spelled.{places_of}
 use Rattle.kp_symbolic.specs.Terms.{term_variables, Replaced}
 use Rattle.kp_symbolic.specs.States.{one_head, head_of_sort, Atom, same, has_head, quoted, atom_variables, Literal, IsClauseTrue, SymbolicState}
@@ -87,3 +90,20 @@ abbrev mutual
   pub AllHaveRoom : List Replaced → KorePatterns → Type 0
   AllHaveRoom rs no_patterns = ⊤
   AllHaveRoom rs (next_pattern p ps) = HasRoom rs p × AllHaveRoom rs ps
+
+-- ---- literals that are written right
+
+-- a verified predicate without foreign symbols, with room for new names under the terms in its variables' places
+pub record IsWrittenQuotation (g : KoreSignature) (p : KorePattern) (rs : List Replaced) : Type 0 where
+  pub place : Place
+  pub faultless : first_fault g place p ≡ None
+  pub meant : none_within (has_foreign_head g) p ≡ true
+  pub predicate : is_predicate p ≡ true
+  pub room : HasRoom rs p
+
+-- an equality, a test of a head, or such a predicate; the constructor that is asked for has few arguments
+abbrev pub IsWrittenAtom : KoreSignature → Atom → Type 0
+IsWrittenAtom g (same s t u) = ⊤
+IsWrittenAtom g (has_head x (one_head c)) = (meaning_of g c ≡ construction) × (1 + length (sort_list (places_of g c)) < 2 ^ 64)
+IsWrittenAtom g (has_head x (head_of_sort s)) = ⊤
+IsWrittenAtom g (quoted p rs) = IsWrittenQuotation g p rs

@@ -5,4 +5,5 @@
 pub mod causes;
 pub mod deciding;
 pub mod solving;
+pub mod weights;
 pub mod writing;
