@@ -12,6 +12,7 @@ pub mod ReadState
 pub mod Right
 pub mod SquareCauses
 pub mod Step
+pub mod WrittenCourse
 pub mod WrittenForms
 pub mod WrittenStates
 pub mod WrittenUnder

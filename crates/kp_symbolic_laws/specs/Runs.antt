@@ -107,3 +107,6 @@ IsWrittenAtom g (same s t u) = ⊤
 IsWrittenAtom g (has_head x (one_head c)) = (meaning_of g c ≡ construction) × (1 + length (sort_list (places_of g c)) < 2 ^ 64)
 IsWrittenAtom g (has_head x (head_of_sort s)) = ⊤
 IsWrittenAtom g (quoted p rs) = IsWrittenQuotation g p rs
+
+abbrev pub AreWrittenAtoms : KoreSignature → SymbolicState → List Literal → Type 0
+AreWrittenAtoms g s c = AllByRecursion (λ l. IsWrittenAtom g l.atom) c
