@@ -60,13 +60,6 @@ IsWrittenRight g v s c = IsTrueUnder g v (written_clause g s.sort c) ↔ IsClaus
 abbrev pub OfEachKept : KoreSignature → (SymbolicState → List Literal → Type 0) → SymbolicState → Type 0
 OfEachKept g P s = (x : SymbolicState) (o : Solvable) (c : List Literal) → ComesBy g s x → first_solvable g x ≡ Some o → IsKeptWhole g x o c → P x c
 
--- an equality, or a test of a head: no predicate that isn't opened; the constructor that is asked for has few arguments
-abbrev pub IsOpenedWhole : KoreSignature → Atom → Type 0
-IsOpenedWhole g (same s t u) = ⊤
-IsOpenedWhole g (has_head x (one_head c)) = (meaning_of g c ≡ construction) × (1 + length (sort_list (places_of g c)) < 2 ^ 64)
-IsOpenedWhole g (has_head x (head_of_sort s)) = ⊤
-IsOpenedWhole g (quoted p rs) = ⊥
-
 -- ---- room for new names
 
 -- where x is bound in p, fewer than 2 ^ 64 names come in or stand there

@@ -45,10 +45,10 @@ pub fn a_pattern_has_the_instances_of_what_it_is_read_as()
         ((v : Valuation) → GivesSorts g v (free_variables p) → OfEachKept g (IsWrittenRight g v) r.opened) → HasInstancesOf g p s }
 {}
 
-/// A verified pattern has the instances of the state that it is read as, where inj is what it should be and each clause that
-/// stays one literal has only literals that are written right, and is written of the variables at hand.
+/// A verified pattern is read as a state with the sorts of its places and with its instances, where inj is what it should be
+/// and each clause that stays one literal has only literals that are written right.
 pub fn a_pattern_whose_large_clauses_are_written_right_has_its_instances()
     ensures { (g : KoreSignature) (c : Place) (p : KorePattern) (s : SymbolicState) → meaning_of g injection_name ≡ injection → first_fault g c p ≡ None →
         none_within (has_foreign_head g) p ≡ true → AllByRecursion (λ q. is_predicate q ≡ true) (conjoined_predicates p) →
-        (r : IsReadAs g p s) → OfEachKept g (IsWrittenOfThese g) r.opened → OfEachKept g (AreWrittenAtoms g) r.opened → HasInstancesOf g p s }
+        (r : IsReadAs g p s) → OfEachKept g (AreWrittenAtoms g) r.opened → IsSortedState g s × HasInstancesOf g p s }
 {}

@@ -15,7 +15,7 @@ ghost use Rattle.kp_signature.specs.Verify.{first_fault};
 ghost use Rattle.kp_symbolic.specs.Terms.{Replaced};
 ghost use Rattle.kp_symbolic.specs.WellFormed.{AreWellPlaced};
 ghost use Rattle.kp_symbolic.specs.States.{one_head, head_of_sort, has_head, quoted, AreGiven, Literal, AreTrue, SymbolicState, IsStateInstance};
-ghost use Rattle.kp_symbolic_laws.specs.Runs.{HasRoom, IsSortedLiteral, IsSortedState, IsOpenedWhole, IsWrittenAtom, IsWrittenOfThese, IsWrittenRight};
+ghost use Rattle.kp_symbolic_laws.specs.Runs.{HasRoom, IsSortedLiteral, IsSortedState, IsWrittenAtom, IsWrittenOfThese, IsWrittenRight};
 ghost use Rattle.kp_symbolic.specs.Opening.{head_question, are_variables};
 ghost use Rattle.kp_symbolic.specs.Writing.{least_fresh, new_variables, variables_of, written_test, IsSaid, written_clauses, written_state};
 
@@ -44,10 +44,11 @@ pub fn written_tests_say_what_they_said()
         meaning_of g injection_name ≡ injection → IsSaid g v sort (has_head x (head_of_sort s)) }
 {}
 
-/// What is written for a clause of equalities and tests of heads has no variables but the clause's.
-pub fn written_clauses_of_tests_have_their_variables()
+/// What is written for a clause of equalities, tests of heads, and verified predicates that aren't opened has no variables but
+/// the clause's.
+pub fn written_clauses_have_their_variables()
     ensures { (g : KoreSignature) (s : SymbolicState) (c : List Literal) → AllByRecursion (IsSortedLiteral g s.variables) c →
-        AllByRecursion (λ l. IsOpenedWhole g l.atom) c → IsWrittenOfThese g s c }
+        AllByRecursion (λ l. IsWrittenAtom g l.atom) c → IsWrittenOfThese g s c }
 {}
 
 /// What is written for a predicate that isn't opened, with terms in the place of its variables, says what the predicate says
