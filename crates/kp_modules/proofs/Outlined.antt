@@ -12,7 +12,7 @@ use Rattle.kp_semantics.specs.Theory.{each_once, imports_in, module_named, modul
 use Rattle.kp_signature.specs.Names.{first_place}
 use Rattle.kp_modules.specs.Faults.{Fault, unknown_import, import_cycle, duplicate_sort, duplicate_symbol, duplicate_module, rule_fault, no_main_module, Leads, stays, goes, IsImportFault}
 use Rattle.kp_modules.specs.Keeping.{outline, StandsAt}
-use Rattle.kp_modules.specs.Names.{names_of, module_names}
+use Rattle.kp_modules.specs.Names.{names_of}
 use Rattle.kp_modules.specs.Reaching.{has, imports_of, AllIn, IsClosed}
 use Rattle.kp_modules.specs.Walks.{IsLaidOut, IsOver}
 use Rattle.kp_modules.proofs.Acyclic.{found_named, in_all, leads_in}

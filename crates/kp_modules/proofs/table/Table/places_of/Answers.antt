@@ -1,6 +1,5 @@
-use Rattle.std.proofs.Common.{◌≡◌, sym, ap, subst, ◌∙◌, Some, None, MatchOption, IfOk}
+use Rattle.std.proofs.Common.{◌≡◌, sym, ◌∙◌, Some}
 use Rattle.kp_signature.specs.Names.{first_place}
-use Rattle.kp_kore.specs.View.{module_view}
 use Rattle.kp_modules.specs.Names.{module_names}
 use Rattle.kp_modules.proofs.Kept.{not_reached, walked}
 use Rattle.kp_modules.proofs.table.Table.places_of.Goals as goal
@@ -15,7 +14,7 @@ returns-in-Some c d main keeps =
     walked d main c.args.name.now c.args.self.now rows c.in-Some.place.now c.order_from.result keeps c.as_slice-modules.ensures.value at
     (c.order_from.ensures c.args.name.now c.in_ok-places.ensures.index at)
 
-pub returns-in-None : goal.returns-in-None
-returns-in-None c d main keeps =
+pub returns : goal.returns
+returns c d main keeps =
     let rows = c.as_slice-modules.result.now in
     not_reached d main c.args.name.now c.args.self.now rows keeps c.as_slice-modules.ensures.value (sym (c.in-None.ensures.value ∙ c.in_ok-places.ensures.index c.args.name.now))
