@@ -1,13 +1,12 @@
 -- The rules of modules at places, and what a name of the opening means.
 use Rattle.std.proofs.Common.{◌≡◌, refl, sym, ap, subst, ◌∙◌, ℕ, suc, Bool, true, false, cond, List, [], ◌∷◌, ◌++◌, length, map, take, drop, slice_get, Option, Some, None}
-use Rattle.std.specs.List.{AllZip, flat_map}
+use Rattle.std.specs.List.{AllZip}
 use Rattle.std.proofs.lemmas.Grind.{flat_map-append}
 use Rattle.std.proofs.lemmas.List.{append-nil}
 use Rattle.std.proofs.lemmas.Slice.Zip.{AllZip-long}
-use Rattle.kp_kore.specs.Syntax.{Text, KoreModule, KoreDefinition}
+use Rattle.kp_kore.specs.Syntax.{Text, KoreModule}
 use Rattle.kp_kore.specs.Signature.{KoreSignature}
 use Rattle.kp_semantics.specs.Theory.{NumberedAxiom, modules_reached, rewrite_axioms}
-use Rattle.kp_rules.specs.declared.rule.Rule.{Rule}
 use Rattle.kp_rules.specs.declared.rule.RuleSet.{RuleSet}
 use Rattle.kp_book.specs.Books.{Opening, rules_in}
 use Rattle.kp_modules.specs.Keeping.{own_axioms, own_rules}
@@ -17,7 +16,6 @@ use Rattle.kp_modules.specs.Openings.{IsTableOf}
 use Rattle.kp_modules.specs.Reaching.{has}
 use Rattle.kp_modules.specs.Tables.{rule_set_of}
 use Rattle.kp_modules.specs.declared.table.Table.{Table}
-use Rattle.kp_modules.proofs.Collect.{false_true}
 use Rattle.kp_modules.proofs.Kept.{axioms_parted}
 use Rattle.kp_modules.proofs.Opened.{bound_where}
 use Rattle.kp_modules.proofs.Walking.{some_same}

@@ -41,10 +41,7 @@ fn set_at(alloc: Global, table: &Table, places: &[usize]) -> Result<Arc<RuleSet>
         map (slice_get (modules_reached d main)) places.now ≡ map Some ms → IfOk result (λ rules. IsSetOf g (rewrite_axioms ms) rules.value) }
 {
     let found = rules_at(alloc, table, places)?;
-    Ok(Arc::new(
-        alloc,
-        called(alloc, &table.rule_set().signature, &found)?,
-    )?)
+    Ok(Arc::new(alloc, called(alloc, &table.rule_set().signature, &found)?)?)
 }
 
 /// The rules of the modules at these places.
@@ -64,11 +61,7 @@ fn rules_at<'a>(
 }
 
 /// Adds the rules of the module at this place.
-fn add_at<'a>(
-    found: &mut Vec<&'a Rule>,
-    table: &'a Table,
-    place: usize,
-) -> Result<(), AllocError>
+fn add_at<'a>(found: &mut Vec<&'a Rule>, table: &'a Table, place: usize) -> Result<(), AllocError>
     ensures { (g : KoreSignature) (d : KoreDefinition) (main : Text) (m : KoreModule) (before : List NumberedAxiom) → KeepsReached d main table.now → IsSetOf g (rewrite_axioms (modules_reached d main)) (rule_set_of table.now) →
         slice_get (modules_reached d main) place ≡ Some m → AreTakenFrom g before found.old.items → OnOk result (AreTakenFrom g (before ++ own_axioms m) found.new.items) }
 {

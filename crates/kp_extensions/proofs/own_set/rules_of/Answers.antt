@@ -1,4 +1,4 @@
-use Rattle.std.proofs.Common.{◌≡◌, sym, subst, Some, map, slice_get, true, false, Option, MatchOption, Vec, ℕ, Global}
+use Rattle.std.proofs.Common.{◌≡◌, sym, subst, true, false, Option, MatchOption, Vec, ℕ, Global}
 use Rattle.kp_semantics.specs.Theory.{modules_reached, rewrite_axioms}
 use Rattle.kp_modules.specs.Keeping.{StandsAt}
 use Rattle.kp_modules.specs.Names.{names_of}
@@ -12,7 +12,7 @@ returns-in_ok-set_at-in-Some c o is =
     let name = c.args.name.now in
     let d = is.definition in
     let P : Option (Vec ℕ Global) → Type 0 = λ r. MatchOption r (has name (names_of (modules_reached d o.main)) ≡ false) (λ places. (has name (names_of (modules_reached d o.main)) ≡ true) × StandsAt d o.main name places.items) in
-    let told = subst P c.in-Some.is (c.in_ok-places_of.ensures d o.main is.keeps) in
+    let told = subst P c.in-Some.is (c.in_ok-places.ensures d o.main is.keeps) in
     let stand : StandsAt d o.main name c.deref.result.now = subst (StandsAt d o.main name) (sym c.deref.ensures.value) told.1 in (
       rewrite_axioms (modules_reached d name),
       bound_as o table is name true told.0,
@@ -24,4 +24,4 @@ returns-in-None c o is =
     let name = c.args.name.now in
     let d = is.definition in
     let P : Option (Vec ℕ Global) → Type 0 = λ r. MatchOption r (has name (names_of (modules_reached d o.main)) ≡ false) (λ places. (has name (names_of (modules_reached d o.main)) ≡ true) × StandsAt d o.main name places.items) in
-    bound_as o c.args.table.now is name false (subst P c.in-None.is (c.in_ok-places_of.ensures d o.main is.keeps))
+    bound_as o c.args.table.now is name false (subst P c.in-None.is (c.in_ok-places.ensures d o.main is.keeps))
