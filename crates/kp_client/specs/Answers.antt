@@ -11,7 +11,7 @@ use Rattle.kp_replies.specs.Read.{Method, execute, implies, ServerReply, execute
 use Rattle.kp_replies.specs.Replies.{IsReplyOf}
 use Rattle.kp_replies.specs.View.{reply_view}
 use Rattle.kp_client.specs.Links.{Exchange, LinkState, Makes, IsTextOf}
-use Rattle.kp_client.specs.Rounds.{cover_question, step_question, Tells, Refuses, undecided_code, is_followed, Stepping, Round, RoundEnd, Rounds, Proves, ProofOutcome, passed, pending_at, IsNoneHeld, IsFirstHeld}
+use Rattle.kp_client.specs.Rounds.{cover_question, step_question, Tells, Refuses, undecided_code, is_followed, Stepping, Round, RoundEnd, Rounds, Proves, MayAsk, RoundBegins, ProofOutcome, passed, pending_at, IsNoneHeld, IsFirstHeld}
 use Rattle.kp_client.specs.declared.hear.Heard.{Heard}
 use Rattle.kp_client.specs.declared.hear.Heard.TheVariants as heard
 use Rattle.kp_client.specs.declared.cover.CoverAnswer.{CoverAnswer}
@@ -82,3 +82,28 @@ pub record IsProved (before after : LinkState) (claim : ReachabilityClaim) (dept
 pub data IsEnding (tree : List ProofNode) : ProofOutcome → Type 0 where
   none_held : IsNoneHeld tree → IsEnding tree passed
   first_held : (n : ℕ) (why : HeldBy) → IsFirstHeld tree n why → IsEnding tree (pending_at n why)
+
+-- ---- where a call fails
+
+-- exchanges are made of which this holds
+pub record Made (before after : LinkState) (P : List Exchange → Type 0) : Type 0 where
+  pub exchanges : List Exchange
+  pub makes : Makes before after exchanges
+  pub fact : P exchanges
+
+-- the question's text may have been sent
+pub data MaySend (q : Question) : List Exchange → Type 0 where
+  unsent : MaySend q []
+  sent : (e : Exchange) → IsTextOf q e.frame → MaySend q (e ∷ [])
+
+-- the second half of a round of node n has begun
+pub record BeginsSteps (before after : LinkState) (depth : ℕ) (tree : List ProofNode) (n : ℕ) : Type 0 where
+  pub node : ProofNode
+  pub at : node_at tree n ≡ Some node
+  pub made : Made before after (MayAsk (step_question depth node.state))
+
+-- a round of node n has begun
+pub record BeginsRound (before after : LinkState) (claim : ReachabilityClaim) (depth : ℕ) (tree : List ProofNode) (n : ℕ) : Type 0 where
+  pub node : ProofNode
+  pub at : node_at tree n ≡ Some node
+  pub made : Made before after (RoundBegins claim depth node.state)

@@ -1,4 +1,4 @@
-ghost use Rattle.std.specs.Prelude.{◌≡◌, ◌≢◌, ◌∷◌, [], true, false, IfOk, IsErrOf, List, Some, ℕ};
+ghost use Rattle.std.specs.Prelude.{◌≡◌, ◌≢◌, ◌∷◌, [], true, false, IfOk, OnErr, IsErrOf, List, Some, ℕ};
 ghost use Rattle.kp_io.specs.Outside.{Rose};
 ghost use Rattle.kp_kore.specs.Syntax.{KorePattern, conjunction};
 ghost use Rattle.kp_kore.specs.View.{view, sort_view, patterns_view};
@@ -9,9 +9,9 @@ ghost use Rattle.kp_replies.specs.View.{reply_view};
 ghost use Rattle.serde_json.specs.Data.{unsigned};
 ghost use Rattle.kp_rpc.specs.Request.{RequestId, id_number};
 ghost use Rattle.kp_rpc.specs.View.{question_view};
-ghost use Rattle.kp_client.specs.Answers.{IsHeard, IsStepAnswer};
+ghost use Rattle.kp_client.specs.Answers.{IsHeard, IsStepAnswer, Made};
 ghost use Rattle.kp_client.specs.Links.{Exchange, Makes};
-ghost use Rattle.kp_client.specs.Rounds.{IsGivenId, is_followed as goes_by, step_question, Tells};
+ghost use Rattle.kp_client.specs.Rounds.{IsGivenId, MayAsk, is_followed as goes_by, step_question, Tells};
 ghost use Rattle.kp_client.specs.declared.outcome.ProveFault.TheVariants.{LinkFault};
 
 use crate::cover::{NO_PATTERN, PARSE_ERROR};
@@ -191,6 +191,7 @@ pub fn ask_steps<L: Link>(
     state: &Pattern,
 ) -> Result<StepAnswer, ProveFault>
     ensures answer { IfOk result (λ a. (es : List Exchange) × Makes (L.told link.old) (L.told link.new) es × IsStepAnswer depth (view state.now) es a) }
+    ensures broken { OnErr result (Made (L.told link.old) (L.told link.new) (MayAsk (step_question depth (view state.now)))) }
     ensures link_fault { IsErrOf result LinkFault → Rose (L.told link.old).faults (L.told link.new).faults }
 {
     let question = step_question_of(alloc, id, depth, state)?;
