@@ -9,10 +9,10 @@ use Rattle.kp_claims.specs.Faults.{Fault, label_at, labels_of, circle, TellsOf}
 use Rattle.kp_claims.specs.declared.fault.ClaimError.{ClaimError}
 use Rattle.kp_claims.proofs.Claimed.{tells_map}
 use Rattle.kp_layers.specs.Layers.{AreLayers}
-use Rattle.kp_claim_files.specs.Claims.{StatedClaim, IsStatedBy, dependencies_of}
-use Rattle.kp_claim_files.specs.Items.{items_view}
-use Rattle.kp_claim_files.specs.declared.item.ClaimItem.{ClaimItem}
-use Rattle.kp_claim_files.specs.Faults.{dependencies_at, needs_of, file_labels, AreFaultless, IsCircle}
+use Rattle.kp_claim_sentences.specs.Claims.{StatedClaim, IsStatedBy, dependencies_of}
+use Rattle.kp_claim_sentences.specs.Items.{items_view}
+use Rattle.kp_claim_sentences.specs.declared.item.ClaimItem.{ClaimItem}
+use Rattle.kp_claim_sentences.specs.Faults.{dependencies_at, needs_of, file_labels, AreFaultless, IsCircle}
 
 pub places_same : {X Y : Type 0} (f g : X → Option Y) (xs : List X) → ((x : X) → f x ≡ g x) → filter_map f xs ≡ filter_map g xs
 places_same f g [] h = refl

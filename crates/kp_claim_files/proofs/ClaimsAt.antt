@@ -2,9 +2,9 @@
 use Rattle.std.proofs.Common.{◌≡◌, refl, ap, ◌∙◌, ℕ, ◌+◌, ◌<◌, List, ◌∷◌, length, get_or, drop, Some}
 use Rattle.std.specs.Prelude.{slice_get}
 use Rattle.std.proofs.lemmas.List.{drop_more}
-use Rattle.kp_claim_files.specs.Items.{sorted_view}
+use Rattle.kp_claim_sentences.specs.Items.{sorted_view}
 use Rattle.kp_claim_files.specs.Modules.{claims_at}
-use Rattle.kp_claim_files.specs.declared.item.ClaimItem.{ClaimItem}
+use Rattle.kp_claim_sentences.specs.declared.item.ClaimItem.{ClaimItem}
 
 one_claim : (items : List ClaimItem) (p : ℕ) (ps : List ℕ) (item : ClaimItem) → slice_get items p ≡ Some item → claims_at items (p ∷ ps) ≡ sorted_view item ∷ claims_at items ps
 one_claim items p ps item e = rw e refl

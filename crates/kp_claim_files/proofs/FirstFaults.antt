@@ -16,11 +16,11 @@ use Rattle.kp_claims.specs.Files.{SpellsFile}
 use Rattle.kp_claims.specs.declared.fault.ClaimError.{ClaimError}
 use Rattle.kp_claims.specs.declared.fault.ClaimError.TheVariants as error
 use Rattle.kp_claims.proofs.Claimed.{tells_map, none_first, some_first}
-use Rattle.kp_claim_files.specs.Claims.{dependencies_of, has_clear_names, has_chosen_in_term, if_clear, clear_sides, StatedClaim, IsStatedAs}
-use Rattle.kp_claim_files.specs.Items.{item_view}
+use Rattle.kp_claim_sentences.specs.Claims.{dependencies_of, has_clear_names, has_chosen_in_term, if_clear, clear_sides, StatedClaim, IsStatedAs}
+use Rattle.kp_claim_sentences.specs.Items.{item_view}
 use Rattle.kp_claim_files.specs.Read.{IsClear, sides_at}
-use Rattle.kp_claim_files.specs.declared.item.ClaimItem.{ClaimItem}
-use Rattle.kp_claim_files.specs.Faults.{FileLabels, shape_fault, sides_fault, early_fault, file_labels, IsRuleFault, IsUsable, unknown_fault, IsFaultOfClaim, IsFaultAt, IsFaultless, AreFaultless, IsFirstFault, IsFaultOfFile, IsErrorOf}
+use Rattle.kp_claim_sentences.specs.declared.item.ClaimItem.{ClaimItem}
+use Rattle.kp_claim_sentences.specs.Faults.{FileLabels, shape_fault, sides_fault, early_fault, file_labels, IsRuleFault, IsUsable, unknown_fault, IsFaultOfClaim, IsFaultAt, IsFaultless, AreFaultless, IsFirstFault, IsFaultOfFile, IsErrorOf}
 
 -- ---- a claim
 

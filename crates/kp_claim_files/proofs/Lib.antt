@@ -1,9 +1,5 @@
 pub mod Circles
 pub mod ClaimsAt
-pub mod Commas
 pub mod FirstFaults
-pub mod Noting
-pub mod OneSort
 pub mod RuleUse
-pub mod Shapes
 pub mod Spelled

@@ -17,13 +17,13 @@ use Rattle.kp_rules.specs.declared.rule.RuleBody.{RuleBody}
 use Rattle.kp_rules.specs.declared.rule.RuleBody.TheVariants.{Rewrite, Foreign}
 use Rattle.kp_claims.specs.Claims.{label_of}
 use Rattle.kp_claims.specs.Faults.{Fault, no_rule, bare_claim, unknown_label}
-use Rattle.kp_claim_files.specs.Claims.{dependencies_of, clear_sides, IsStatedAs}
-use Rattle.kp_claim_files.specs.Faults.{FileLabels, is_used, CanBeUsed, IsRuleFault, IsUsable, unknown_fault}
-use Rattle.kp_claim_files.specs.Items.{item_view, sorted_view}
+use Rattle.kp_claim_sentences.specs.Claims.{dependencies_of, clear_sides, IsStatedAs}
+use Rattle.kp_claim_sentences.specs.Faults.{FileLabels, is_used, CanBeUsed, IsRuleFault, IsUsable, unknown_fault}
+use Rattle.kp_claim_sentences.specs.Items.{item_view, sorted_view}
 use Rattle.kp_claim_files.specs.Read.{reads_rule, sides_at, IsClear}
-use Rattle.kp_claim_files.specs.declared.item.ClaimItem.{ClaimItem}
-use Rattle.kp_claim_files.proofs.Noting.{equal_both_ways}
-use Rattle.kp_claim_files.proofs.OneSort.{left_has_one_sort}
+use Rattle.kp_claim_sentences.specs.declared.item.ClaimItem.{ClaimItem}
+use Rattle.kp_claim_sentences.proofs.Noting.{equal_both_ways}
+use Rattle.kp_claim_sentences.proofs.OneSort.{left_has_one_sort}
 
 -- ---- rules
 

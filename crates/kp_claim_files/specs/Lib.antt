@@ -1,5 +1,2 @@
-pub mod Claims
-pub mod Faults
-pub mod Items
 pub mod Modules
 pub mod Read

@@ -6,8 +6,8 @@ use Rattle.kp_kore.specs.Syntax.{Statement, claim_sentence, KoreModule}
 use Rattle.kp_text.specs.Spelling.{SpellsModule}
 use Rattle.kp_claims.specs.Claims.{sides_of}
 use Rattle.kp_semantics.specs.ClaimModules.{SortedClaim}
-use Rattle.kp_claim_files.specs.Items.{sorted_view}
-use Rattle.kp_claim_files.specs.declared.item.ClaimItem.{ClaimItem}
+use Rattle.kp_claim_sentences.specs.Items.{sorted_view}
+use Rattle.kp_claim_sentences.specs.declared.item.ClaimItem.{ClaimItem}
 
 -- the claims at these places, in order
 abbrev pub claims_at : List ClaimItem → List ℕ → List SortedClaim

@@ -13,21 +13,13 @@ use Rattle.kp_signature.specs.Verify.{first_fault}
 use Rattle.kp_claims.specs.Claims.{ClaimSides}
 use Rattle.kp_claims.specs.Faults.{bare_claim}
 use Rattle.kp_claims.specs.Labels.{Lists}
-use Rattle.kp_claim_files.specs.Claims.{clear_sides, IsStatedAs}
-use Rattle.kp_claim_files.specs.Faults.{FileLabels}
-use Rattle.kp_claim_files.specs.Items.{item_view}
-use Rattle.kp_claim_files.specs.declared.item.ClaimItem.{ClaimItem}
+use Rattle.kp_claim_sentences.specs.Claims.{clear_sides, IsStatedAs}
+use Rattle.kp_claim_sentences.specs.Faults.{FileLabels}
+use Rattle.kp_claim_sentences.specs.Items.{item_view}
+use Rattle.kp_claim_sentences.specs.declared.item.ClaimItem.{ClaimItem}
 use Rattle.kp_claim_files.specs.declared.labels.FileLabels as code
 use Rattle.kp_rules.specs.declared.rule.RuleBody.{RuleBody}
 use Rattle.kp_rules.specs.declared.rule.RuleBody.TheVariants.{Rewrite, Foreign}
-
--- lent names
-abbrev pub names_seen : List (Bor (String Global)) → List Text
-names_seen = map (λ n. string_bytes n.now)
-
--- the map has this name
-abbrev pub has_name : {V S : Type 0} → IndexMap (String Global) V S → Text → Bool
-has_name names n = is_some (get_by_text names n)
 
 -- the code has noted the labels of a file
 pub record Notes (file : FileLabels) (noted : code.FileLabels) : Type 0 where

@@ -9,12 +9,12 @@ ghost use Rattle.kp_layers.specs.Layers.{DependsOn};
 ghost use Rattle.kp_layers.specs.Walks.{numbers_of};
 ghost use Rattle.kp_signature.specs.Names.{Indexes};
 ghost use Rattle.kp_claims.specs.Faults.{circle, labels_of, TellsOf};
-ghost use Rattle.kp_claim_files.specs.Claims.{IsStatedBy};
-ghost use Rattle.kp_claim_files.specs.Faults.{AreFaultless, file_labels, IsCircle, needs_of as stated_needs};
-ghost use Rattle.kp_claim_files.specs.Items.{items_view};
+ghost use Rattle.kp_claim_sentences.specs.Claims.{IsStatedBy};
+ghost use Rattle.kp_claim_sentences.specs.Faults.{AreFaultless, file_labels, IsCircle, needs_of as stated_needs};
+ghost use Rattle.kp_claim_sentences.specs.Items.{items_view};
 
-use crate::item::ClaimItem;
 use crate::labels::LabelPlaces;
+use kp_claim_sentences::ClaimItem;
 use kp_claims::{ClaimError, ClaimFault};
 use kp_kore::Name;
 use kp_layers::{Layering, layers_of};

@@ -8,11 +8,12 @@ ghost use Rattle.kp_signature.specs.Names.{Indexes};
 ghost use Rattle.kp_claims.specs.Faults.{label_at as stated_label, labels_of as stated_labels};
 ghost use Rattle.kp_claims.specs.Labels.{Lists};
 ghost use Rattle.kp_claims.specs.Sentences.{seen};
-ghost use Rattle.kp_claim_files.specs.Faults.{dependencies_at, file_labels as stated_file};
-ghost use Rattle.kp_claim_files.specs.Read.{names_seen, Notes};
+ghost use Rattle.kp_claim_sentences.specs.Faults.{dependencies_at, file_labels as stated_file};
+ghost use Rattle.kp_claim_sentences.specs.Noted.{names_seen};
+ghost use Rattle.kp_claim_files.specs.Read.{Notes};
 
-use crate::depends::dependencies_of;
 use indexmap::IndexMap;
+use kp_claim_sentences::dependencies_of;
 use kp_claims::label::{Labels, label_of, note};
 use kp_kore::{Name, Sentence};
 use std::alloc::{AllocError, Global};

@@ -6,10 +6,10 @@ ghost use Rattle.kp_kore.specs.View.{view, sorts_view, patterns_view, axiom_sent
 ghost use Rattle.kp_semantics.specs.ClaimModules.{claim_axiom as stated_axiom, claims_module as stated_module};
 ghost use Rattle.kp_semantics.specs.Forms.{marked_by};
 ghost use Rattle.kp_print.specs.Printed.{module_text as printed_text};
-ghost use Rattle.kp_claim_files.specs.Items.{sorted_view};
+ghost use Rattle.kp_claim_sentences.specs.Items.{sorted_view};
 ghost use Rattle.kp_claim_files.specs.Modules.{claims_at};
 
-use crate::item::ClaimItem;
+use kp_claim_sentences::ClaimItem;
 use kp_kore::{AxiomSentence, Module, Name, Pattern, Sentence, Sort};
 use kp_print::print_module;
 use std::alloc::{AllocError, Global};

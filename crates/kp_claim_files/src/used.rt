@@ -13,13 +13,14 @@ ghost use Rattle.kp_signature.specs.View.{signature_view};
 ghost use Rattle.kp_rules.specs.Index.{IsIndexOf};
 ghost use Rattle.kp_claims.specs.Faults.{bare_claim, no_rule, unknown_label, TellsOf};
 ghost use Rattle.kp_claims.specs.Labels.{Lists};
-ghost use Rattle.kp_claim_files.specs.Faults.{FileLabels as Stated, IsRuleFault, IsUsable, unknown_fault};
-ghost use Rattle.kp_claim_files.specs.Items.{sorted_view};
-ghost use Rattle.kp_claim_files.specs.Read.{Notes, IsClear, has_name, reads_rule, sides_at};
+ghost use Rattle.kp_claim_sentences.specs.Faults.{FileLabels as Stated, IsRuleFault, IsUsable, unknown_fault};
+ghost use Rattle.kp_claim_sentences.specs.Items.{sorted_view};
+ghost use Rattle.kp_claim_sentences.specs.Noted.{has_name};
+ghost use Rattle.kp_claim_files.specs.Read.{Notes, IsClear, reads_rule, sides_at};
 
-use crate::item::ClaimItem;
 use crate::labels::{FileLabels, LabelPlaces};
 use crate::module::claim_axiom;
+use kp_claim_sentences::ClaimItem;
 use kp_claims::label::is_noted;
 use kp_claims::{ClaimError, ClaimFault};
 use kp_kore::Name;

@@ -10,7 +10,7 @@ use Rattle.kp_text.specs.Grammar.{WrittenSentence, written_import, written_sort,
 use Rattle.kp_semantics.specs.Rules.{under_binders}
 use Rattle.kp_claims.specs.Claims.{ClaimSides, counts, counted, sides_of, reached_on_all}
 use Rattle.kp_claims.specs.Files.{SpellsFile}
-use Rattle.kp_claim_files.specs.Claims.{StatedClaim, IsStatedBy}
+use Rattle.kp_claim_sentences.specs.Claims.{StatedClaim, IsStatedBy}
 use Rattle.kp_claim_questions.specs.Sides.{HasSidesReadBack}
 use Rattle.kp_claim_questions.proofs.OfText.{IsOfText, meant}
 use Rattle.kp_claim_questions.proofs.TextsBack.{of_text_back}

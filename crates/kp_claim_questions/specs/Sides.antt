@@ -2,7 +2,7 @@
 -- Source: the K framework's Kore JSON, version 1; claims of the K framework (\exists on the right).
 use Rattle.kp_semantics.specs.Rules.{under_binders}
 use Rattle.kp_rpc.specs.Questions.{IsReadBack}
-use Rattle.kp_claim_files.specs.Claims.{StatedClaim}
+use Rattle.kp_claim_sentences.specs.Claims.{StatedClaim}
 
 -- what is written of each side, and of the right one without its \exists, spells nothing else
 pub record HasSidesReadBack (c : StatedClaim) : Type 0 where

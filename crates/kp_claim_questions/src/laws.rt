@@ -6,7 +6,7 @@ ghost use Rattle.kp_text.specs.Spelling.{SpellsPattern};
 ghost use Rattle.kp_rpc.specs.Questions.{IsReadBack};
 ghost use Rattle.kp_claims.specs.Claims.{counted};
 ghost use Rattle.kp_claims.specs.Files.{SpellsFile};
-ghost use Rattle.kp_claim_files.specs.Claims.{StatedClaim, IsStatedBy};
+ghost use Rattle.kp_claim_sentences.specs.Claims.{StatedClaim, IsStatedBy};
 ghost use Rattle.kp_claim_questions.specs.Sides.{HasSidesReadBack};
 
 /// The tree that is written of a pattern that a Kore text spells spells no other pattern.

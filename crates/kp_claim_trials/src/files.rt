@@ -1,4 +1,5 @@
-use kp_claim_files::{ClaimItem, read_claims};
+use kp_claim_files::read_claims;
+use kp_claim_sentences::ClaimItem;
 use kp_claims::ClaimError;
 use kp_kore::{Definition, Module};
 use kp_signature::Signature;

@@ -1,4 +1,5 @@
-use kp_claim_files::{ClaimItem, comma_parts, module_text};
+use kp_claim_files::module_text;
+use kp_claim_sentences::{ClaimItem, comma_parts};
 use kp_kore::{Pattern, Sort};
 use kp_semantics::Claim;
 use kp_text::read_pattern;

@@ -3,8 +3,6 @@ pub mod Literals
 pub mod LiveHeads
 pub mod Loops
 pub mod Making
-pub mod Numbered
-pub mod Numbers
 pub mod Rows
 pub mod Uses
 pub mod Values

@@ -5,7 +5,7 @@ use Rattle.kp_kore.specs.Syntax.{KoreSort}
 use Rattle.kp_kore.specs.Signature.{KoreSignature, has_literals}
 use Rattle.kp_kore.specs.View.{sort_view}
 use Rattle.kp_kore.specs.declared.sort.Sort.{Sort}
-use Rattle.kp_signature.specs.Order.{IsNumber, Extended}
+use Rattle.kp_signature.specs.Edges.{IsNumber, Extended}
 use Rattle.kp_signature.proofs.EdgeLemmas.{still_there, there_or_added}
 use Rattle.kp_signature.proofs.OrderLemmas.{one_sort}
 use Rattle.kp_heads.specs.Made.{AreLiteralNumbers}

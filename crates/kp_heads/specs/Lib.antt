@@ -1,5 +1,4 @@
 pub mod Heads
 pub mod Steps
-pub mod Numbering
 pub mod Rows
 pub mod Made

@@ -4,7 +4,6 @@
 
 mod constructor;
 mod made;
-mod numbering;
 mod row;
 mod spread;
 mod table;

@@ -5,13 +5,13 @@ ghost use Rattle.kp_kore.specs.View.{sort_view, symbol_sentence_view};
 ghost use Rattle.kp_signature.specs.Table.{subsort_view};
 ghost use Rattle.kp_signature.specs.View.{signature_view};
 ghost use Rattle.kp_heads.specs.Steps.{Step, constructor_step, pair_step, steps_of, symbol_steps};
-ghost use Rattle.kp_heads.specs.Numbering.{IsNumbering, sorts_in};
+ghost use Rattle.kp_signature.specs.Numbering.{IsNumbering, sorts_in};
 ghost use Rattle.kp_heads.specs.Made.{HasNumbers, IsMade};
 
 use crate::constructor::constructor_named;
-use crate::numbering::Numbering;
 use crate::row::Row;
 use kp_kore::{Sort, SymbolSentence};
+use kp_signature::numbering::Numbering;
 use kp_signature::{Signature, Subsort};
 use std::alloc::{AllocError, Global};
 

@@ -4,19 +4,19 @@ ghost use Rattle.std.specs.List.{Contains};
 ghost use Rattle.kp_kore.specs.Syntax.{KoreSort};
 ghost use Rattle.kp_kore.specs.Signature.{KoreSignature, constructor_of, has_literals};
 ghost use Rattle.kp_kore.specs.View.{sort_view};
-ghost use Rattle.kp_signature.specs.Order.{Extended};
+ghost use Rattle.kp_signature.specs.Edges.{Extended};
 ghost use Rattle.kp_signature.specs.View.{signature_view};
 ghost use Rattle.kp_heads.specs.Heads.{HasValue, IsLive};
 ghost use Rattle.kp_heads.specs.Made.{AreLiteralNumbers, IsHeadTableOf};
 
 use crate::constructor::constructor_named;
 use crate::made::Made;
-use crate::numbering::Numbering;
 use crate::spread::{Numbers, spread};
 use crate::users::users_of;
 use indexmap::IndexSet;
 use kp_kore::Sort;
 use kp_signature::Signature;
+use kp_signature::numbering::Numbering;
 use std::alloc::{AllocError, Global};
 
 /// The sorts that subsort pairs and constructors name, and the numbers of those that have a value.

@@ -2,8 +2,8 @@
 ghost use Rattle.std.specs.Prelude.{◌≡◌, ◌∷◌, [], IfOk, OnOk, length};
 ghost use Rattle.kp_heads.specs.Rows.{AreUsers, HasUses, NeedBelow};
 
-use crate::numbering::add_edge;
 use crate::row::Row;
+use kp_signature::edges::add_edge;
 use std::alloc::{AllocError, Global};
 
 /// As many sorts that no row needs.

@@ -3,7 +3,7 @@ use kp_compile::compile_term;
 use kp_ground::Value;
 use kp_kore::{Pattern, Sort};
 use kp_rules::skeleton::skeleton_of_left;
-use kp_rules::{RuleBody, SortIndex, label_of, read_rule};
+use kp_rules::{RuleBody, RuleError, SortIndex, label_of, read_rule};
 use kp_signature::Signature;
 use std::alloc::Global;
 use std::test::Fail;
@@ -34,6 +34,24 @@ const FOREIGN: &str = r#"module FOREIGN
     \and{E{}}(\equals{Bool{}, E{}}(lt{}(X:Int{}, \dv{Int{}}("5")), \dv{Bool{}}("true")), pair{}(X:Int{}, X:Int{})),
     pair{}(X:Int{}, odd{}(X:Int{}, X:Int{}))
   ) []
+endmodule []
+"#;
+
+/// The same to a name that nothing declares.
+const UNDECLARED: &str = r#"module UNDECLARED
+  axiom{} \rewrites{E{}}(
+    \and{E{}}(\equals{Bool{}, E{}}(lt{}(X:Int{}, \dv{Int{}}("5")), \dv{Bool{}}("true")), pair{}(X:Int{}, X:Int{})),
+    pair{}(X:Int{}, ood{}(X:Int{}, X:Int{}))
+  ) []
+endmodule []
+"#;
+
+/// The same, foreign for another reason.
+const BOTH: &str = r#"module BOTH
+  axiom{} \rewrites{E{}}(
+    \and{E{}}(\equals{Bool{}, E{}}(lt{}(X:Int{}, \dv{Int{}}("5")), \dv{Bool{}}("true")), pair{}(X:Int{}, X:Int{})),
+    pair{}(X:Int{}, ood{}(X:Int{}, X:Int{}))
+  ) [priority{}("soon")]
 endmodule []
 "#;
 
@@ -98,6 +116,30 @@ fn priority_over(alloc: Global, signature: &Signature, text: &str) -> Result<Opt
 fn read_priority(alloc: Global, text: &str) -> Result<Option<u32>, Fail> {
     let signature = signature(alloc, SMALL)?;
     priority_over(alloc, &signature, text)
+}
+
+/// Whether a rule's text is refused.
+fn is_faulty_over(alloc: Global, signature: &Signature, text: &str) -> Result<bool, Fail> {
+    let index = SortIndex::new(alloc, signature)?;
+    let axiom = axiom(alloc, text)?;
+    match read_rule(alloc, signature, &index, &axiom) {
+        Ok(_) => Ok(false),
+        Err(RuleError::Fault) => Ok(true),
+        Err(RuleError::Memory) => Err(Fail::from("memory")),
+    }
+}
+
+fn is_faulty(alloc: Global, text: &str) -> Result<bool, Fail> {
+    let signature = signature(alloc, SMALL)?;
+    is_faulty_over(alloc, &signature, text)
+}
+
+#[test]
+fn a_rule_that_applies_an_undeclared_name_is_refused(rt: HostRuntime) -> Result<(), Fail> {
+    assert_eq!(rt; is_faulty(rt.alloc(), UNDECLARED)?, true);
+    assert_eq!(rt; is_faulty(rt.alloc(), FOREIGN)?, false);
+    assert_eq!(rt; is_faulty(rt.alloc(), BOTH)?, false);
+    Ok(())
 }
 
 #[test]

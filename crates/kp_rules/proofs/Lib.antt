@@ -1,5 +1,6 @@
+pub mod AloneLemmas
 pub mod Constrained
-pub mod EdgeLemmas
+pub mod Declared
 pub mod Fired
 pub mod Firing
 pub mod Forms
@@ -7,8 +8,8 @@ pub mod HeadSorts
 pub mod IndexLemmas
 pub mod InjectLemmas
 pub mod LeftTerms
+pub mod MarkLemmas
 pub mod NameSets
-pub mod NewIndex
 pub mod NewVariables
 pub mod Numbers
 pub mod PlainRules

@@ -4,7 +4,7 @@ use Rattle.std.specs.Prelude.{IsTrue, min, unwrap_or, Result, Ok, Err, OnOk}
 use Rattle.std.specs.Bool.{Decides}
 use Rattle.std.specs.List.{AllByRecursion}
 use Rattle.kp_kore.specs.Syntax.{KoreSort, KorePattern, Statement, rewriting}
-use Rattle.kp_kore.specs.Parts.{free_variables}
+use Rattle.kp_kore.specs.Parts.{free_variables, subpatterns}
 use Rattle.kp_kore.specs.Signature.{KoreSignature}
 use Rattle.kp_kore.specs.Sorting.{sort_of_term}
 use Rattle.kp_kore.specs.View.{view}
@@ -12,7 +12,7 @@ use Rattle.kp_kore.specs.declared.pattern.Pattern.{Pattern}
 use Rattle.kp_semantics.specs.Value.{HasSort}
 use Rattle.kp_semantics.specs.Instance.{Valuation, instance, GivesSorts, is_named, IsTrueUnder}
 use Rattle.kp_semantics.specs.Rules as model
-use Rattle.kp_semantics.specs.Foreign.{IsRead, Reads, none_within, has_foreign_head, is_read_priority}
+use Rattle.kp_semantics.specs.Foreign.{IsRead, Reads, none_within, has_foreign_head, applies_undeclared, is_read_priority}
 use Rattle.kp_signature.specs.Places.{Place, the_top}
 use Rattle.kp_signature.specs.Verify.{first_fault}
 use Rattle.kp_compile.specs.Verified.{misapplies_injection}
@@ -26,6 +26,7 @@ use Rattle.kp_rules.specs.declared.rule.RuleBody.TheVariants.{Rewrite}
 use Rattle.kp_rules.specs.declared.rule.Rewrite as code
 use Rattle.kp_rules.specs.declared.shape.Shape.{Shape}
 use Rattle.kp_rules.proofs.ReadParts.{is_read, statement_read, side_read}
+use Rattle.kp_rules.proofs.Declared.{none_foreign}
 use Rattle.kp_rules.proofs.Constrained.{is_constrained}
 use Rattle.kp_rules.proofs.LeftTerms.{left_is, constrained_is_term, left_passes}
 use Rattle.kp_rules.proofs.PlainRules.{plain, is_plain}
@@ -70,11 +71,11 @@ rewrite_is g s r m w constrained h verified new e right sorted = record {
 }
 
 verified_left : (g : KoreSignature) (a : Statement) (s : KoreSort) (l r : KorePattern) (m : model.Rewrite) → a.pattern ≡ rewriting s l r → model.rewrite_of (rewriting s l r) ≡ Some m →
-    IsRead g a.parameters a.attributes a.pattern m → (c : Place) × (first_fault g c m.left ≡ None) → IsVerifiedLeft g m.left
-verified_left g a s l r m e shape h place =
+    IsRead g a.parameters a.attributes a.pattern m → none_within (applies_undeclared g) a.pattern ≡ true → (c : Place) × (first_fault g c m.left ≡ None) → IsVerifiedLeft g m.left
+verified_left g a s l r m e shape h declared place =
     let is : model.constrained_term l ≡ Some m.left = left_is s l r m shape in (
       constrained_is_term l m.left is,
-      left_passes (λ q. not (has_foreign_head g q)) s l r m.left is (subst (λ p. IsTrue (none_within (has_foreign_head g) p)) e h.no_foreign_symbol),
+      left_passes (λ q. not (has_foreign_head g q)) s l r m.left is (subst (λ p. IsTrue (none_within (has_foreign_head g) p)) e (none_foreign g (subpatterns a.pattern) h.no_foreign_symbol declared)),
       h.left_uninterpreted,
       place,
     )
@@ -82,16 +83,16 @@ verified_left g a s l r m e shape h place =
 pub rewrite_body : (g : KoreSignature) (a : Statement) (s : KoreSort) (l r : KorePattern) (m : model.Rewrite) (w : code.Rewrite) → a.pattern ≡ rewriting s l r →
     (first_fault g the_top (rewriting s l r) ≡ None → model.rewrite_of (rewriting s l r) ≡ Some m → (c : Place) × (first_fault g c m.left ≡ None)) →
     (first_fault g the_top (rewriting s l r) ≡ None → model.rewrite_of (rewriting s l r) ≡ Some m → IsTrue (none_within (has_foreign_head g) (rewriting s l r)) → (v : Valuation) → GivesSorts g v (free_variables m.left) → m.new_variables ≡ [] → HasSort g s (instance g v m.right)) →
-    IsStatementRead g a → model.rewrite_of (rewriting s l r) ≡ Some m → is_side_read g m.left m.condition ≡ true → first_fault g the_top a.pattern ≡ None → none_within (misapplies_injection g) a.pattern ≡ true →
+    IsStatementRead g a → model.rewrite_of (rewriting s l r) ≡ Some m → is_side_read g m.left m.condition ≡ true → first_fault g the_top a.pattern ≡ None → none_within (misapplies_injection g) a.pattern ≡ true → none_within (applies_undeclared g) a.pattern ≡ true →
     m.new_variables ≡ model.new_variables_of m.left r → IsMadeOf g s m w → w.chooses ≡ not (is_plain_by (λ y. is_named y (free_variables m.left)) r m.ensured) → IsReadBody g a (Rewrite w)
-rewrite_body g a s l r m w e place sorted statement shape side fault injections new made chooses =
+rewrite_body g a s l r m w e place sorted statement shape side fault injections declared new made chooses =
     let read : IsRead g a.parameters a.attributes a.pattern m = is_read g a m statement (ap model.rewrite_of e ∙ shape) side in
     let none : first_fault g the_top (rewriting s l r) ≡ None = subst (λ p. first_fault g the_top p ≡ None) e fault in
-    let own : IsTrue (none_within (has_foreign_head g) (rewriting s l r)) = subst (λ p. IsTrue (none_within (has_foreign_head g) p)) e read.no_foreign_symbol in
+    let own : IsTrue (none_within (has_foreign_head g) (rewriting s l r)) = subst (λ p. IsTrue (none_within (has_foreign_head g) p)) e (none_foreign g (subpatterns a.pattern) read.no_foreign_symbol declared) in
     record {
       meant = model.rewrite m;
       reads = read;
-      is_body = rewrite_is g s r m w (is_constrained s l r m shape) made (verified_left g a s l r m e shape read (place none shape)) new chooses (right_has_sort g a s l r m e read fault injections) (sorted none shape own);
+      is_body = rewrite_is g s r m w (is_constrained s l r m shape) made (verified_left g a s l r m e shape read declared (place none shape)) new chooses (right_has_sort g a s l r m e read fault injections declared) (sorted none shape own);
     }
 
 -- ---- faults
@@ -100,11 +101,14 @@ pub faulty : (g : KoreSignature) (a : Statement) (m : model.Rewrite) → IsState
 faulty g a m statement shape side fault = record { rule = m; read = is_read g a m statement shape side; has = fault }
 
 pub sound_where_read : (g : KoreSignature) (a : Statement) (s : KoreSort) (l r : KorePattern) (m : model.Rewrite) → a.pattern ≡ rewriting s l r → IsStatementRead g a → model.rewrite_of (rewriting s l r) ≡ Some m →
-    is_side_read g m.left m.condition ≡ true → first_fault g the_top a.pattern ≡ None → none_within (misapplies_injection g) a.pattern ≡ true → IsSound g m
-sound_where_read g a s l r m e statement shape side fault injections = sound g a s l r m e (is_read g a m statement (ap model.rewrite_of e ∙ shape) side) fault injections
+    is_side_read g m.left m.condition ≡ true → first_fault g the_top a.pattern ≡ None → none_within (misapplies_injection g) a.pattern ≡ true → none_within (applies_undeclared g) a.pattern ≡ true → IsSound g m
+sound_where_read g a s l r m e statement shape side fault injections declared = sound g a s l r m e (is_read g a m statement (ap model.rewrite_of e ∙ shape) side) fault injections declared
 
-pub no_fault : (g : KoreSignature) (a : Statement) → first_fault g the_top a.pattern ≡ None → none_within (misapplies_injection g) a.pattern ≡ true → ¬ IsFaulty g a
-no_fault g a none injections h = elim h.has [ inl f ↦ absurd (cc (sym none ∙ f.1)) | inr e ↦ absurd (cc (sym injections ∙ e)) ]
+pub no_fault : (g : KoreSignature) (a : Statement) → first_fault g the_top a.pattern ≡ None → none_within (misapplies_injection g) a.pattern ≡ true → none_within (applies_undeclared g) a.pattern ≡ true → ¬ IsFaulty g a
+no_fault g a none injections declared h = elim h.has [
+  | inl f ↦ absurd (cc (sym none ∙ f.1))
+  | inr more ↦ elim more [ inl e ↦ absurd (cc (sym injections ∙ e)) | inr e ↦ absurd (cc (sym declared ∙ e)) ]
+]
 
 pub not_faulty : (g : KoreSignature) (a : Statement) → ((m : model.Rewrite) → ¬ IsRead g a.parameters a.attributes a.pattern m) → ¬ IsFaulty g a
 not_faulty g a none h = none h.rule h.read

@@ -8,7 +8,7 @@ use Rattle.kp_kore.specs.Signature.{KoreSignature}
 use Rattle.kp_semantics.specs.Instance.{is_named}
 use Rattle.kp_semantics.specs.Rules.{Rewrite, rewrite_of}
 use Rattle.kp_kore.specs.Limits.{most_depth}
-use Rattle.kp_semantics.specs.Foreign.{IsRead, none_within, has_foreign_head, has_interpreted_head, is_set_variable, is_wide_literal, is_quantifier, is_floor_of_term, repeats_literals_only}
+use Rattle.kp_semantics.specs.Foreign.{IsRead, none_within, applies_foreign, has_interpreted_head, is_set_variable, is_wide_literal, is_quantifier, is_floor_of_term, repeats_literals_only}
 use Rattle.kp_rules.specs.Reading.{is_part_read, is_condition_part, is_predicate_read, is_left_read, is_side_read, IsStatementRead}
 
 pub both_true : (a b : Bool) → a && b ≡ true → (a ≡ true) × (b ≡ true)
@@ -40,7 +40,7 @@ all_twice f (p ∷ ps) = ap (λ b. b && list_all (λ q. not (not (f q))) ps) (tw
 -- ---- each part
 
 abbrev no_foreign : KoreSignature → KorePattern → Bool
-no_foreign g p = not (has_foreign_head g p)
+no_foreign g p = not (applies_foreign g p)
 
 abbrev no_wide : KoreSignature → KorePattern → Bool
 no_wide g p = not (is_wide_literal g p)

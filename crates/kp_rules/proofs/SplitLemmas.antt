@@ -2,9 +2,10 @@
 use Rattle.std.proofs.Common.{◌≡◌, sym, subst, ℕ, ◌+◌, ◌<◌, ◌≤◌, ◌⊎◌, ◌↔◌, inl, inr, Bool, true, List, [], ◌∷◌, ◌++◌, length, take, get_or, Contains, arith}
 use Rattle.std.proofs.lemmas.List.{take_more, take_all}
 use Rattle.std.proofs.lemmas.List.Elements.{Contains-append_left, Contains-push, Contains-push_cases, Contains-get_or}
-use Rattle.kp_rules.specs.Index.{stays, goes, IsReachedFrom, edges_of, Under, Over, AreOpposite, OwnsHeads, NumberMeet, NumbersSplit, SetMeet, IsSettled, Covers, AreNotOver, Extended}
+use Rattle.kp_signature.specs.Edges.{stays, goes, IsReachedFrom, Extended}
+use Rattle.kp_rules.specs.Index.{IsAlone, Under, Over, AreOpposite, OwnsHeads, NumberMeet, NumbersSplit, SetMeet, IsSettled, Covers, AreNotOver, down, up}
 use Rattle.kp_rules.specs.declared.sort_index.SortIndex.{SortIndex}
-use Rattle.kp_rules.proofs.EdgeLemmas.{nothing_there, further, onwards, there_or_added}
+use Rattle.kp_signature.proofs.EdgeLemmas.{nothing_there, further, onwards, there_or_added}
 
 -- ---- loops
 
@@ -62,11 +63,11 @@ module _ (x : SortIndex) (i : ℕ) (below heads down common : List ℕ)
   covered m = ((downs m.number).1 m.under, (m.among, λ o h. let k = (commons o).0 h in m.all o k.0 ((downs o).0 k.1)))
 
 -- what lies below one that isn't over all isn't over all
-pub none_is_over : (x : SortIndex) (i : ℕ) (others down failed after added : List ℕ) → ((j : ℕ) → Contains down j ↔ Under x i j) → added ≡ down → ¬ ((o : ℕ) → Contains others o → Contains down o) →
+pub none_is_over : (x : SortIndex) (i : ℕ) (others lower failed after added : List ℕ) → ((j : ℕ) → Contains lower j ↔ Under x i j) → added ≡ lower → ¬ ((o : ℕ) → Contains others o → Contains lower o) →
     AreNotOver x others failed → Extended failed added after → AreNotOver x others after
-none_is_over x i others down failed after added downs e not none more j h = elim (there_or_added failed added after j more h) [
+none_is_over x i others lower failed after added downs e not none more j h = elim (there_or_added failed added after j more h) [
   | inl old ↦ none j old
-  | inr new ↦ λ all. not (λ o k. (downs o).1 (onwards (edges_of x.below.items) i j o ((downs j).0 (subst (λ l. Contains l j) e new)) (all o k)))
+  | inr new ↦ λ all. not (λ o k. (downs o).1 (onwards (down x) i j o ((downs j).0 (subst (λ l. Contains l j) e new)) (all o k)))
 ]
 
 -- ---- edges that are each other's opposites
@@ -74,17 +75,17 @@ none_is_over x i others down failed after added downs e not none more j h = elim
 module _ (x : SortIndex) (opposite : AreOpposite x) where
   pub under_over : (i j : ℕ) → Under x i j → Over x j i
   under_over i _ (stays _) = stays i
-  under_over i j (goes _ k _ l rest) = further (edges_of x.above.items) j k i (under_over k j rest) ((opposite i k).0 l)
+  under_over i j (goes _ k _ l rest) = further (up x) j k i (under_over k j rest) ((opposite i k).0 l)
 
   pub over_under : (i j : ℕ) → Over x i j → Under x j i
   over_under i _ (stays _) = stays i
-  over_under i j (goes _ k _ l rest) = further (edges_of x.below.items) j k i (over_under k j rest) ((opposite k i).1 l)
+  over_under i j (goes _ k _ l rest) = further (down x) j k i (over_under k j rest) ((opposite k i).1 l)
 
 -- ---- what splits
 
 module _ (x : SortIndex) (opposite : AreOpposite x) (t u : ℕ) (below above under heads sharing : List ℕ)
     (belows : (j : ℕ) → Contains below j ↔ Under x t j) (aboves : (j : ℕ) → Contains above j ↔ Over x t j) (unders : (j : ℕ) → Contains under j ↔ Under x u j)
-    (headed : (j : ℕ) → Contains heads j ↔ (Contains below j × OwnsHeads x j)) (shares : (j : ℕ) → Contains sharing j ↔ IsReachedFrom (edges_of x.above.items) heads j) where
+    (headed : (j : ℕ) → Contains heads j ↔ (Contains below j × OwnsHeads x j)) (shares : (j : ℕ) → Contains sharing j ↔ IsReachedFrom (up x) heads j) where
   meet_below : (i : ℕ) → Under x t i → NumberMeet x t i
   meet_below i h = record { number = i; first = h; second = stays i; all = λ o s. s.second }
 
@@ -124,3 +125,10 @@ none_failed x others failed none i h = absurd (no h.0 (subst (λ n. h.0 < n) non
   where
     no : (k : ℕ) → k < 0 → ⊥
     no k h = omega arith
+
+-- one that shares lower sorts with comparable ones alone
+pub alone_splits : (x : SortIndex) (t u : ℕ) → IsAlone x.order.now.graph t → NumbersSplit x t u
+alone_splits x t u alone i h o s = elim (alone o i s.first s.second) [
+  | inl b ↦ record { number = i; first = b; second = stays i; all = λ k r. r.second }
+  | inr a ↦ record { number = t; first = stays t; second = a; all = λ k r. r.first }
+]

@@ -10,7 +10,7 @@ use Rattle.kp_kore.specs.Signature.{KoreSignature}
 use Rattle.kp_kore.specs.Sorting.{sort_of_term}
 use Rattle.kp_semantics.specs.Instance.{is_predicate, conjuncts, conjoined_terms, conjoined_predicates}
 use Rattle.kp_semantics.specs.Rules.{Rewrite, rewrite_of, constrained_term, only_one, top_binders, under_binders, have_distinct_names, joined}
-use Rattle.kp_semantics.specs.Foreign.{none_within, has_foreign_head, is_quantifier, is_floor_of_term, IsRead}
+use Rattle.kp_semantics.specs.Foreign.{none_within, has_foreign_head, applies_undeclared, is_quantifier, is_floor_of_term, IsRead}
 use Rattle.kp_semantics.proofs.InstanceLemmas.{first_true, second_true}
 use Rattle.kp_signature.specs.Places.{Place, own_sort, the_top, part_at, after, under_binder}
 use Rattle.kp_signature.specs.Verify.{first_fault, fault_at}
@@ -21,6 +21,7 @@ use Rattle.kp_sorts.proofs.VerifiedMembers.{StandsVerified, conjuncts_stand, non
 use Rattle.kp_sorts.proofs.RuleSides.{sides_of, holds_of_term}
 use Rattle.kp_compile.specs.Verified.{misapplies_injection, IsVerified, IsVerifiedTerm, IsVerifiedPredicate}
 use Rattle.kp_rules.specs.Reading.{IsSound}
+use Rattle.kp_rules.proofs.Declared.{none_foreign}
 
 -- ---- the conjuncts of a side
 
@@ -124,11 +125,11 @@ right_sound g s l r e n =
     (none_under (has_foreign_head g) r (none_on_the_right (has_foreign_head g) s l r n.0), none_under (misapplies_injection g) r (none_on_the_right (misapplies_injection g) s l r n.1))
 
 pub sound : (g : KoreSignature) (a : Statement) (s : KoreSort) (l r : KorePattern) (m : Rewrite) → a.pattern ≡ rewriting s l r → IsRead g a.parameters a.attributes a.pattern m →
-    first_fault g the_top a.pattern ≡ None → none_within (misapplies_injection g) a.pattern ≡ true → IsSound g m
-sound g a s l r m e read fault injections =
+    first_fault g the_top a.pattern ≡ None → none_within (misapplies_injection g) a.pattern ≡ true → none_within (applies_undeclared g) a.pattern ≡ true → IsSound g m
+sound g a s l r m e read fault injections declared =
     let shape : rewrite_of (rewriting s l r) ≡ Some m = subst (λ p. rewrite_of p ≡ Some m) e read.shape in
     let none : first_fault g the_top (rewriting s l r) ≡ None = subst (λ p. first_fault g the_top p ≡ None) e fault in
-    let neither : HasNeither g (rewriting s l r) = subst (HasNeither g) e (read.no_foreign_symbol, injections) in
+    let neither : HasNeither g (rewriting s l r) = subst (HasNeither g) e (none_foreign g (subpatterns a.pattern) read.no_foreign_symbol declared, injections) in
     let sides = sides_of s l r m shape in
     let condition = condition_is s l r m shape in
     let left = left_sound g s l r none neither in
@@ -146,10 +147,10 @@ own_sort_of_term g (application f ss ps) t = refl
 own_sort_of_term g _ t = absurd (cc)
 
 pub right_has_sort : (g : KoreSignature) (a : Statement) (s : KoreSort) (l r : KorePattern) (m : Rewrite) → a.pattern ≡ rewriting s l r → IsRead g a.parameters a.attributes a.pattern m →
-    first_fault g the_top a.pattern ≡ None → none_within (misapplies_injection g) a.pattern ≡ true → sort_of_term g m.right ≡ Some s
-right_has_sort g a s l r m e read fault injections =
+    first_fault g the_top a.pattern ≡ None → none_within (misapplies_injection g) a.pattern ≡ true → none_within (applies_undeclared g) a.pattern ≡ true → sort_of_term g m.right ≡ Some s
+right_has_sort g a s l r m e read fault injections declared =
     let shape : rewrite_of (rewriting s l r) ≡ Some m = subst (λ p. rewrite_of p ≡ Some m) e read.shape in
     let none : first_fault g the_top (rewriting s l r) ≡ None = subst (λ p. first_fault g the_top p ≡ None) e fault in
-    let neither : HasNeither g (rewriting s l r) = subst (HasNeither g) e (read.no_foreign_symbol, injections) in
+    let neither : HasNeither g (rewriting s l r) = subst (HasNeither g) e (none_foreign g (subpatterns a.pattern) read.no_foreign_symbol declared, injections) in
     let right = term_sound g s (under_binders r) m.right (sides_of s l r m shape).right (right_sound g s l r none neither) in
     own_sort_of_term g m.right right.0.term ∙ right.1

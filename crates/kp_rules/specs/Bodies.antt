@@ -14,7 +14,7 @@ use Rattle.kp_semantics.specs.Value.{Value, HasSort}
 use Rattle.kp_semantics.specs.Sorted.{IsSorted}
 use Rattle.kp_semantics.specs.Instance.{Valuation, instance, IsTrueUnder, GivesSorts}
 use Rattle.kp_semantics.specs.Rules as model
-use Rattle.kp_semantics.specs.Foreign.{none_within, has_foreign_head, has_interpreted_head, IsRead, Reads, IsSkeletonInstance}
+use Rattle.kp_semantics.specs.Foreign.{none_within, has_foreign_head, applies_undeclared, has_interpreted_head, IsRead, Reads, IsSkeletonInstance}
 use Rattle.kp_semantics.specs.Numbers.{computes_wide}
 use Rattle.kp_semantics.specs.Theory.{Theory}
 use Rattle.kp_ground.specs.Conditions.{condition_holds, condition_narrow as is_condition_narrow}
@@ -108,9 +108,9 @@ pub record IsReadAs (g : KoreSignature) (a : Statement) (priority : ℕ) (body :
   pub is_priority : (r : code.Rewrite) → body ≡ Rewrite r → model.priority_of a.attributes ≡ Some priority
   pub is_foreign_priority : (k : Skeleton) → body ≡ Foreign k → min (unwrap_or (model.priority_of a.attributes) model.usual_priority) model.most_priority ≡ priority
 
--- the pattern has a verify fault, or applies inj to another number of arguments than one
+-- the pattern has a verify fault, applies inj to another number of arguments than one, or applies an undeclared name
 abbrev pub HasFault : KoreSignature → KorePattern → Type 0
-HasFault g p = ((f : VerifyFault) × FailsWith g p f) ⊎ (none_within (misapplies_injection g) p ≡ false)
+HasFault g p = ((f : VerifyFault) × FailsWith g p f) ⊎ ((none_within (misapplies_injection g) p ≡ false) ⊎ (none_within (applies_undeclared g) p ≡ false))
 
 -- a rewrite axiom that is read has a fault
 pub record IsFaulty (g : KoreSignature) (a : Statement) : Type 0 where

@@ -1,51 +1,36 @@
--- How the code knows the sorts that pairs name: by numbers, with edges between numbers.
-use Rattle.std.specs.Prelude.{◌≡◌, ℕ, ◌<◌, Bool, true, false, List, [], ◌∷◌, ◌++◌, map, length, replicate, get_or, IsTrue, ◌↔◌, ◌⊎◌, Vec, Option, Some, None}
+-- How the code knows what splits: by numbers of sorts, with edges between numbers.
+use Rattle.std.specs.Prelude.{◌≡◌, ℕ, ◌<◌, Bool, true, false, List, length, get_or, IsTrue, ◌↔◌, ◌⊎◌, Vec, Option, Some, None}
 use Rattle.std.specs.Option.{option_and_then}
 use Rattle.std.specs.List.{Contains}
 use Rattle.std.specs.declared.alloc.Global.{Global}
-use Rattle.kp_kore.specs.Syntax.{Text, KoreSort, KoreSorts, sort_of, sort_variable, no_sorts, next_sort, KorePattern, variable, KorePatterns, no_patterns, next_pattern, SymbolDeclaration}
+use Rattle.kp_kore.specs.Syntax.{Text, KoreSort, KorePattern, variable, KorePatterns, no_patterns, next_pattern, SymbolDeclaration}
 use Rattle.kp_kore.specs.Signature.{KoreSignature, Head, IsSortOfHead, has_literals, SymbolMeaning, construction, symbol_declared, symbol_meaning}
-use Rattle.kp_signature.specs.Names.{Indexes}
+use Rattle.kp_signature.specs.Edges.{edges_of, Leads, Reaches, IsNumber}
+use Rattle.kp_signature.specs.Order.{IsOrderOf, sorts_of}
+use Rattle.kp_signature.specs.Order as order
+use Rattle.kp_signature.specs.declared.graph.SortGraph.{SortGraph}
 use Rattle.kp_rules.specs.declared.sort_index.SortIndex.{SortIndex}
-
--- ---- edges
-
-abbrev pub edges_of : List (Vec ℕ Global) → List (List ℕ)
-edges_of = map (λ v. v.items)
-
--- an edge from i to j
-abbrev pub Leads : List (List ℕ) → ℕ → ℕ → Type 0
-Leads edges i j = Contains (get_or edges i []) j
-
--- j is i, or is reached from i over edges
-pub data Reaches (edges : List (List ℕ)) : ℕ → ℕ → Type 0 where
-  stays : (i : ℕ) → Reaches edges i i
-  goes : (i j k : ℕ) → Leads edges i j → Reaches edges j k → Reaches edges i k
-
--- j is reached from one of these numbers
-abbrev pub IsReachedFrom : List (List ℕ) → List ℕ → ℕ → Type 0
-IsReachedFrom edges starts j = (i : ℕ) × Contains starts i × Reaches edges i j
-
--- the numbers that are added are behind those that were there
-pub record Extended (before added after : List ℕ) : Type 0 where
-  pub more : List ℕ
-  pub is : after ≡ before ++ more
-  pub among : (y : ℕ) → Contains more y → Contains added y
-  pub all : (y : ℕ) → Contains added y → Contains after y
 
 -- ---- what splits, by numbers
 
+-- the edges downwards, and upwards
+abbrev pub down : SortIndex → List (List ℕ)
+down x = edges_of x.order.now.graph.below.items
+
+abbrev pub up : SortIndex → List (List ℕ)
+up x = edges_of x.order.now.graph.above.items
+
 -- j is i or lies below it
 abbrev pub Under : SortIndex → ℕ → ℕ → Type 0
-Under x i j = Reaches (edges_of x.below.items) i j
+Under x i j = Reaches (down x) i j
 
 -- and above it
 abbrev pub Over : SortIndex → ℕ → ℕ → Type 0
-Over x i j = Reaches (edges_of x.above.items) i j
+Over x i j = Reaches (up x) i j
 
 -- the two lists of edges are each other's opposites
 abbrev pub AreOpposite : SortIndex → Type 0
-AreOpposite x = (i j : ℕ) → Leads (edges_of x.below.items) i j ↔ Leads (edges_of x.above.items) j i
+AreOpposite x = (i j : ℕ) → Leads (down x) i j ↔ Leads (up x) j i
 
 -- some head has this sort for its own
 abbrev pub OwnsHeads : SortIndex → ℕ → Type 0
@@ -86,55 +71,33 @@ Covers x i among others = Contains among i × ((o : ℕ) → Contains others o �
 abbrev pub AreNotOver : SortIndex → List ℕ → List ℕ → Type 0
 AreNotOver x others failed = (i : ℕ) → Contains failed i → ¬ ((o : ℕ) → Contains others o → Under x i o)
 
+-- ---- sorts that share lower sorts with comparable ones alone
+
+-- j lies below each sort that shares a lower sort with it, or above it
+abbrev pub IsAlone : SortGraph → ℕ → Type 0
+IsAlone x i = (o j : ℕ) → order.Under x i o → order.Under x j o → order.Under x i j ⊎ order.Under x j i
+
+-- one number behind this lies below all that are directly above this
+abbrev pub IsNarrow : SortGraph → ℕ → Type 0
+IsNarrow x i = (least : ℕ) × (i < least) × ((j : ℕ) → Leads (edges_of x.above.items) i j → order.Under x j least)
+
+-- all that lie directly below a marked number are smaller, marked, and narrow by the other marks
+abbrev pub AreStraightBy : List (Vec ℕ Global) → List Bool → List Bool → Type 0
+AreStraightBy below narrow marks = (i j : ℕ) → IsTrue (get_or marks i false) → Leads (edges_of below) i j → (j < i) × IsTrue (get_or marks j false) × IsTrue (get_or narrow j false)
+
 -- ---- an index of a signature's sorts
-
--- a text from which the sort can be told: each name behind as many ones as it is long, and a zero
-abbrev pub marked_name : Text → Text
-marked_name n = replicate (length n) 49 ++ 48 ∷ n
-
-abbrev mutual
-  pub sort_text : KoreSort → Text
-  sort_text (sort_of n ss) = 97 ∷ marked_name n ++ sorts_text ss
-  sort_text (sort_variable n) = 118 ∷ marked_name n
-
-  pub sorts_text : KoreSorts → Text
-  sorts_text no_sorts = 41 ∷ []
-  sorts_text (next_sort s ss) = 44 ∷ sort_text s ++ sorts_text ss
-
--- a sort has a number, its place among these
-abbrev pub IsNumber : List KoreSort → ℕ → KoreSort → Type 0
-IsNumber sorts i a = (i < length sorts) × (get_or sorts i a ≡ a)
 
 -- some head has the sort for its own
 abbrev pub HasOwnHeads : KoreSignature → KoreSort → Type 0
 HasOwnHeads g a = (h : Head) × IsSortOfHead g h a
 
--- the sorts of the numbers are a pair
-pub record IsPair (pairs : List (KoreSort × KoreSort)) (sorts : List KoreSort) (i j : ℕ) : Type 0 where
-  pub lower : KoreSort
-  pub upper : KoreSort
-  pub first : IsNumber sorts i lower
-  pub second : IsNumber sorts j upper
-  pub pair : Contains pairs (lower, upper)
-
--- the sorts of these pairs have numbers, and the edges are the pairs
-pub record IsNumbered (pairs : List (KoreSort × KoreSort)) (sorts : List KoreSort) (x : SortIndex) : Type 0 where
-  pub numbers : Indexes (map sort_text sorts) x.numbers
-  pub once : (i j : ℕ) (a : KoreSort) → IsNumber sorts i a → IsNumber sorts j a → i ≡ j
-  pub named : (a b : KoreSort) → Contains pairs (a, b) → Contains sorts a × Contains sorts b
-  pub below_length : length x.below.items ≡ length sorts
-  pub above_length : length x.above.items ≡ length sorts
-  pub heads_length : length x.heads.items ≡ length sorts
-  pub below : (i j : ℕ) → Leads (edges_of x.below.items) i j ↔ IsPair pairs sorts j i
-  pub above : (i j : ℕ) → Leads (edges_of x.above.items) i j ↔ IsPair pairs sorts i j
-
--- the index of a signature: the marks tell which sorts own heads
+-- the index of a signature: its order, which sorts own heads, and which are marked as alone
 pub record IsIndexOf (g : KoreSignature) (x : SortIndex) : Type 0 where
-  pub sorts : List KoreSort
-  pub by : IsNumbered g.subsorts sorts x
-  pub heads : (i : ℕ) (a : KoreSort) → IsNumber sorts i a → OwnsHeads x i ↔ HasOwnHeads g a
+  pub order : IsOrderOf g.subsorts x.order.now
+  pub heads : (i : ℕ) (a : KoreSort) → IsNumber (sorts_of x.order.now.graph) i a → OwnsHeads x i ↔ HasOwnHeads g a
+  pub alone : (i : ℕ) → IsTrue (get_or x.alone.items i false) → IsAlone x.order.now.graph i
 
--- ---- an index that is being made
+-- ---- marks that are being made
 
 -- the result sort of a constructor of this name
 abbrev pub result_where : SymbolMeaning → KoreSort → Option KoreSort
@@ -148,15 +111,10 @@ constructed_sort g name = option_and_then (λ d. result_where (symbol_meaning g 
 abbrev pub OwnsBy : KoreSignature → List SymbolDeclaration → KoreSort → Type 0
 OwnsBy g ds a = IsTrue (has_literals g a) ⊎ ((d : SymbolDeclaration) × Contains ds d × (constructed_sort g d.name ≡ Some a))
 
--- the index has these pairs, and marks by these declarations
-pub record IsIndexUpTo (g : KoreSignature) (pairs : List (KoreSort × KoreSort)) (ds : List SymbolDeclaration) (sorts : List KoreSort) (x : SortIndex) : Type 0 where
-  pub by : IsNumbered pairs sorts x
-  pub heads : (i : ℕ) (a : KoreSort) → IsNumber sorts i a → OwnsHeads x i ↔ OwnsBy g ds a
-
--- an edge is added
-pub record HasEdge (before after : List (List ℕ)) (from to : ℕ) : Type 0 where
-  pub same_length : length after ≡ length before
-  pub edges : (i j : ℕ) → Leads after i j ↔ (Leads before i j ⊎ ((i ≡ from) × (j ≡ to)))
+-- the numbers of the sorts that own heads by these declarations are marked
+pub record AreMarked (g : KoreSignature) (ds : List SymbolDeclaration) (sorts : List KoreSort) (marks : List Bool) : Type 0 where
+  pub as_many : length marks ≡ length sorts
+  pub told : (i : ℕ) (a : KoreSort) → IsNumber sorts i a → IsTrue (get_or marks i false) ↔ OwnsBy g ds a
 
 -- ---- a variable under inj
 

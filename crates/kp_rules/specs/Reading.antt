@@ -11,7 +11,7 @@ use Rattle.kp_semantics.specs.Sorted.{IsSorted}
 use Rattle.kp_semantics.specs.Instance.{Valuation, instance, is_named, GivesSorts, IsTrueUnder}
 use Rattle.kp_semantics.specs.Rules as model
 use Rattle.kp_kore.specs.Limits.{most_depth}
-use Rattle.kp_semantics.specs.Foreign.{Reads, is_wide_literal, has_foreign_head, has_interpreted_head, is_set_variable, is_quantifier, is_floor_of_term, repeats_literals_only, InjectionsSplit, is_read_priority}
+use Rattle.kp_semantics.specs.Foreign.{Reads, is_wide_literal, applies_foreign, has_interpreted_head, is_set_variable, is_quantifier, is_floor_of_term, repeats_literals_only, InjectionsSplit, is_read_priority}
 use Rattle.std.specs.Bool.{Decides}
 use Rattle.kp_semantics.specs.Numbers.{computes_wide}
 use Rattle.kp_ground.specs.Conditions.{condition_holds, condition_narrow as is_condition_narrow}
@@ -32,9 +32,9 @@ use Rattle.kp_rules.specs.declared.shape.Shape.{Shape}
 abbrev pub Names : {S : Type 0} → IndexSet (String Global) S → List SortedName → Type 0
 Names names xs = (y : Text) → contains_text names y ≡ is_named y xs
 
--- no application of a foreign symbol, no set variable, no number outside signed 128 bits, no term that is too deep
+-- no application of a declared foreign symbol, no set variable, no number outside signed 128 bits, no term that is too deep
 abbrev pub is_part_read : KoreSignature → KorePattern → Bool
-is_part_read g p = not (has_foreign_head g p) && (not (is_set_variable p) && (not (is_wide_literal g p) && nat_le (term_depth p) most_depth))
+is_part_read g p = not (applies_foreign g p) && (not (is_set_variable p) && (not (is_wide_literal g p) && nat_le (term_depth p) most_depth))
 
 -- neither a quantifier nor \floor of a term
 abbrev pub is_condition_part : KorePattern → Bool

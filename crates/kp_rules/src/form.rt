@@ -1,36 +1,11 @@
-// Terms and predicates among patterns.
+// Predicates among patterns.
 ghost use Rattle.std.specs.Prelude.{◌≡◌};
 ghost use Rattle.kp_kore.specs.Syntax.{KoreSort, conjunction};
-ghost use Rattle.kp_kore.specs.Parts.{is_term as term_test, are_terms as terms_test};
 ghost use Rattle.kp_kore.specs.View.{view, patterns_view};
 ghost use Rattle.kp_semantics.specs.Instance.{is_predicate as predicate_test, are_predicates as predicates_test, is_conjoined_pair as pair_test};
 
+use kp_compile::is_term;
 use kp_kore::Pattern;
-
-/// A term: variables, literals and applications of terms.
-#[cycle(term)]
-pub fn is_term(pattern: &Pattern) -> bool
-    ensures { result ≡ term_test (view pattern.now) }
-{
-    match pattern {
-        Pattern::Variable { .. } | Pattern::Literal { .. } => true,
-        Pattern::Application { arguments, .. } => are_terms(arguments),
-        _ => false,
-    }
-}
-
-/// Whether each of them is a term.
-#[cycle(term)]
-fn are_terms(patterns: &[Pattern]) -> bool
-    ensures { result ≡ terms_test (patterns_view patterns.now) }
-{
-    for pattern in patterns {
-        if !is_term(pattern) {
-            return false;
-        }
-    }
-    true
-}
 
 /// A predicate: `\equals` and `\in` of terms, `\ceil` and `\floor`, and what is made of predicates.
 #[cycle(predicate)]

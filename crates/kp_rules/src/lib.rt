@@ -2,15 +2,16 @@
 // stand for; where a rule fires, and which values a foreign rule may rewrite.
 #![tactic(auto)]
 
+mod alone;
 mod choice;
 mod depth;
-mod edges;
 pub mod fires;
 mod form;
 mod inject;
 mod label;
 mod may_be;
 mod names;
+mod own_heads;
 mod parts_read;
 pub mod priority;
 mod read;
@@ -18,7 +19,6 @@ pub mod rule;
 pub mod shape;
 pub mod skeleton;
 pub mod sort_index;
-mod sort_key;
 mod sort_test;
 mod splits;
 mod values;

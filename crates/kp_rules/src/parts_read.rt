@@ -4,7 +4,7 @@ ghost use Rattle.std.specs.List.{list_all, AllByRecursion};
 ghost use Rattle.kp_kore.specs.Parts.{pattern_list};
 ghost use Rattle.kp_kore.specs.View.{view, patterns_view};
 ghost use Rattle.kp_kore.specs.Limits.{writes_number, fits_number};
-ghost use Rattle.kp_semantics.specs.Foreign.{is_foreign_meaning, is_interpretation, has_foreign_head as foreign_head, has_interpreted_head as interpreted_head, is_set_variable as set_variable_test, is_quantifier as quantifier_test, is_floor_of_term as floor_test, is_wide_literal as wide_literal, InjectionsSplit};
+ghost use Rattle.kp_semantics.specs.Foreign.{is_foreign_meaning, is_interpretation, is_declared as declared, applies_foreign as foreign_applied, applies_undeclared as undeclared_applied, has_interpreted_head as interpreted_head, is_set_variable as set_variable_test, is_quantifier as quantifier_test, is_floor_of_term as floor_test, is_wide_literal as wide_literal, InjectionsSplit};
 ghost use Rattle.std.specs.Str.Parse.{signed_digits_value};
 ghost use Rattle.kp_signature.specs.View.{signature_view};
 ghost use Rattle.kp_compile.specs.Meanings.{meaning_view};
@@ -14,11 +14,10 @@ ghost use Rattle.kp_rules.specs.Reading.{is_part_read, is_condition_part};
 ghost use Rattle.kp_rules.specs.Shapes.{seen};
 
 use crate::depth::is_within;
-use crate::form::is_term;
 use crate::inject::is_split;
 use crate::skeleton::MOST_DEPTH;
 use crate::sort_index::SortIndex;
-use kp_compile::{Meaning, meaning_of};
+use kp_compile::{Meaning, is_term, meaning_of};
 use kp_kore::{Name, Pattern};
 use kp_signature::Signature;
 use kp_signature::rules::is_numeral;
@@ -45,12 +44,31 @@ fn is_interpreted(meaning: Meaning) -> bool
     }
 }
 
-/// Whether it is an application of a foreign symbol or an alias.
-fn has_foreign_head(signature: &Signature, pattern: &Pattern) -> bool
-    ensures { result ≡ foreign_head (signature_view signature.now) (view pattern.now) }
+/// Whether a symbol or an alias of this name is declared.
+fn is_declared(signature: &Signature, name: &str) -> bool
+    ensures { result ≡ declared (signature_view signature.now) name.now }
+{
+    signature.symbol(name).is_some() || signature.alias(name).is_some()
+}
+
+/// Whether it is an application of a declared foreign symbol or an alias.
+fn applies_foreign(signature: &Signature, pattern: &Pattern) -> bool
+    ensures { result ≡ foreign_applied (signature_view signature.now) (view pattern.now) }
 {
     match pattern {
-        Pattern::Application { symbol, .. } => is_foreign(meaning_of(signature, symbol)),
+        Pattern::Application { symbol, .. } => {
+            is_foreign(meaning_of(signature, symbol)) && is_declared(signature, symbol)
+        }
+        _ => false,
+    }
+}
+
+/// Whether it is an application of a name that nothing declares.
+fn applies_undeclared(signature: &Signature, pattern: &Pattern) -> bool
+    ensures { result ≡ undeclared_applied (signature_view signature.now) (view pattern.now) }
+{
+    match pattern {
+        Pattern::Application { symbol, .. } => !is_declared(signature, symbol),
         _ => false,
     }
 }
@@ -163,12 +181,12 @@ fn fits(text: &str) -> bool
     number.is_ok()
 }
 
-/// Whether the part is no application of a foreign symbol, no set variable, no number outside signed 128 bits, and no
+/// Whether the part is no application of a declared foreign symbol, no set variable, no number outside signed 128 bits, and no
 /// term that is too deep.
 fn is_read_part(signature: &Signature, part: &Pattern) -> bool
     ensures { result ≡ is_part_read (signature_view signature.now) (view part.now) }
 {
-    !has_foreign_head(signature, part)
+    !applies_foreign(signature, part)
         && !is_set_variable(part)
         && !is_wide_literal(signature, part)
         && is_within(part, MOST_DEPTH)
@@ -180,6 +198,18 @@ pub fn are_read_parts(signature: &Signature, parts: &[&Pattern]) -> bool
 {
     for part in parts {
         if !is_read_part(signature, part) {
+            return false;
+        }
+    }
+    true
+}
+
+/// Whether each name that a part applies is declared.
+pub fn are_declared(signature: &Signature, parts: &[&Pattern]) -> bool
+    ensures { result ≡ list_all (λ p. not (undeclared_applied (signature_view signature.now) p)) (seen parts.now) }
+{
+    for part in parts {
+        if applies_undeclared(signature, part) {
             return false;
         }
     }

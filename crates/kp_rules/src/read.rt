@@ -7,7 +7,7 @@ ghost use Rattle.kp_kore.specs.Parts.{free_variables};
 ghost use Rattle.kp_kore.specs.View.{view, sort_view, axiom_sentence_view};
 ghost use Rattle.kp_semantics.specs.Instance.{is_named};
 ghost use Rattle.kp_semantics.specs.Rules.{is_rewriting, constrained_term, foreign_rule, usual_priority, most_priority};
-ghost use Rattle.kp_semantics.specs.Foreign.{is_read_priority, none_within};
+ghost use Rattle.kp_semantics.specs.Foreign.{applies_undeclared, is_read_priority, none_within};
 ghost use Rattle.kp_signature.specs.Faults.{fault_view};
 ghost use Rattle.kp_signature.specs.Places.{the_top};
 ghost use Rattle.kp_signature.specs.Verify.{first_fault};
@@ -26,7 +26,7 @@ ghost use Rattle.kp_rules.specs.declared.skeleton.Skeleton.TheVariants as skelet
 use crate::choice::choice_of;
 use crate::names::{NameSet, are_named, names_of, repeats_literals_only};
 use crate::parts_read::{
-    all_split, are_condition_parts, are_read_parts, are_uninterpreted, inject_one,
+    all_split, are_condition_parts, are_declared, are_read_parts, are_uninterpreted, inject_one,
 };
 use crate::priority::{Priority, USUAL_PRIORITY, priority_of};
 use crate::rule::{Rewrite, RightSide, RuleBody};
@@ -43,7 +43,8 @@ use std::alloc::{AllocError, Global};
 #[derive(Clone, Copy, Debug)]
 pub enum RuleError {
     Memory,
-    /// M6: the axiom has a verify fault, or applies `inj` to another number of arguments than one, and isn't foreign.
+    /// M6: the axiom has a verify fault (a name that nothing declares is one), or applies `inj` to another number of
+    /// arguments than one, and isn't foreign.
     Fault,
 }
 
@@ -139,14 +140,18 @@ fn foreign_body(
     Ok(RuleBody::Foreign(skeleton))
 }
 
-/// The axiom's pattern has no verify fault, and applies `inj` to one argument alone.
+/// The axiom's pattern has no verify fault, applies `inj` to one argument alone, and no undeclared name.
 fn check(alloc: Global, signature: &Signature, pattern: &Pattern) -> Result<(), RuleError>
     ensures verified { OnOk result (first_fault (signature_view signature.now) the_top (view pattern.now) ≡ None) }
     ensures injections { OnOk result (none_within (misapplies_injection (signature_view signature.now)) (view pattern.now) ≡ true) }
+    ensures declared { OnOk result (none_within (applies_undeclared (signature_view signature.now)) (view pattern.now) ≡ true) }
     ensures fault { IfErr result (λ e. e ≡ Fault → HasFault (signature_view signature.now) (view pattern.now)) }
 {
     check_verified(alloc, signature, pattern)?;
     let parts = subpatterns(alloc, pattern)?;
+    if !are_declared(signature, &parts) {
+        return Err(RuleError::Fault);
+    }
     if inject_one(signature, &parts) {
         Ok(())
     } else {

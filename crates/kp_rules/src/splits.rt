@@ -2,18 +2,20 @@
 ghost use Rattle.std.specs.Prelude.{◌≡◌, ◌↔◌, ◌⊎◌, ℕ, IfOk, OnOk, IsTrue, MatchBool};
 ghost use Rattle.std.specs.List.{Contains};
 ghost use Rattle.kp_kore.specs.View.{sort_view};
+ghost use Rattle.kp_kore.specs.Signature.{KoreSignature};
+ghost use Rattle.kp_signature.specs.Edges.{IsReachedFrom};
 ghost use Rattle.kp_signature.specs.View.{signature_view};
 ghost use Rattle.kp_semantics.specs.Foreign.{SplitsByHeads};
-ghost use Rattle.kp_rules.specs.Index.{IsIndexOf, AreOpposite, OwnsHeads, Under, Over, IsReachedFrom, edges_of, NumbersSplit, SetMeet, IsSettled, Covers, AreNotOver};
+ghost use Rattle.kp_rules.specs.Index.{IsIndexOf, IsAlone, AreOpposite, OwnsHeads, Under, Over, up, NumbersSplit, SetMeet, IsSettled, Covers, AreNotOver};
 
-use crate::edges::{Numbers, add_all, add_if, all_reached, has, reached_from};
 use crate::sort_index::SortIndex;
 use indexmap::IndexSet;
 use kp_kore::Sort;
 use kp_signature::Signature;
+use kp_signature::edges::{Numbers, add_all, add_if, all_reached, has, reached_from};
 use std::alloc::{AllocError, Global};
 
-impl SortIndex {
+impl<'a> SortIndex<'a> {
     /// Whether `X:T` under `inj{T,U}` splits by heads: each sort below U that has heads in common with T has a sort
     /// below both with exactly these.
     pub fn splits(
@@ -26,13 +28,26 @@ impl SortIndex {
         requires { IsIndexOf (signature_view signature.now) self.now }
         ensures { IfOk result (λ b. MatchBool b (SplitsByHeads (signature_view signature.now) (sort_view lower.now) (sort_view upper.now)) (¬ SplitsByHeads (signature_view signature.now) (sort_view lower.now) (sort_view upper.now))) }
     {
-        let Some(lower) = self.number_of(alloc, lower)? else {
+        let Some(lower) = self.order.number_of(lower) else {
             return Ok(true);
         };
-        let Some(upper) = self.number_of(alloc, upper)? else {
+        let Some(upper) = self.order.number_of(upper) else {
             return Ok(true);
         };
+        if self.is_alone(lower) {
+            return Ok(true);
+        }
         self.numbers_split(alloc, lower, upper)
+    }
+
+    /// Whether the number is marked as alone.
+    fn is_alone(&self, number: usize) -> bool
+        ensures { (g : KoreSignature) → IsIndexOf g self.now → IsTrue result → IsAlone self.now.order.now.graph number }
+    {
+        if number < self.alone.len() {
+            return self.alone[number];
+        }
+        false
     }
 
     /// The same of sorts that have numbers.
@@ -52,21 +67,21 @@ impl SortIndex {
     fn down_from(&self, alloc: Global, number: usize) -> Result<Numbers, AllocError>
         ensures { IfOk result (λ found. (j : ℕ) → Contains found.keys j ↔ Under self.now number j) }
     {
-        reached_from(alloc, &self.below, number)
+        reached_from(alloc, &self.order.graph.below, number)
     }
 
     /// The sort and all sorts above it.
     fn up_from(&self, alloc: Global, number: usize) -> Result<Numbers, AllocError>
         ensures { IfOk result (λ found. (j : ℕ) → Contains found.keys j ↔ Over self.now number j) }
     {
-        reached_from(alloc, &self.above, number)
+        reached_from(alloc, &self.order.graph.above, number)
     }
 
     /// The sorts and all sorts above them.
     fn all_above(&self, alloc: Global, numbers: &Numbers) -> Result<Numbers, AllocError>
-        ensures { IfOk result (λ found. (j : ℕ) → Contains found.keys j ↔ IsReachedFrom (edges_of self.now.above.items) numbers.now.keys j) }
+        ensures { IfOk result (λ found. (j : ℕ) → Contains found.keys j ↔ IsReachedFrom (up self.now) numbers.now.keys j) }
     {
-        all_reached(alloc, &self.above, numbers)
+        all_reached(alloc, &self.order.graph.above, numbers)
     }
 
     /// Those that are the own sort of some head.

@@ -47,7 +47,7 @@ fn is_named_below(
     match name {
         Some(name) => {
             let own = plain_sort(alloc, name)?;
-            Ok(signature.is_below(alloc, &own, sort)?)
+            Ok(signature.subsort(&own, sort))
         }
         None => Ok(false),
     }
@@ -66,7 +66,7 @@ fn is_result_below(
         return Ok(false);
     }
     match signature.symbol(constructor) {
-        Some(symbol) => Ok(signature.is_below(alloc, &symbol.result_sort, sort)?),
+        Some(symbol) => Ok(signature.subsort(&symbol.result_sort, sort)),
         None => Ok(false),
     }
 }
@@ -81,7 +81,7 @@ fn is_token_below(
     ensures { IfOk result (λ b. IsTrue b ↔ IsHeadOf (signature_view signature.now) (sort_view sort.now) (tokens (sort_view own.now))) }
 {
     if signature.is_token_sort(own) {
-        Ok(signature.is_below(alloc, own, sort)?)
+        Ok(signature.subsort(own, sort))
     } else {
         Ok(false)
     }

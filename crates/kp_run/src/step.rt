@@ -214,7 +214,7 @@ fn written_sort(
     if right.equal(state) {
         return right.copy(alloc);
     }
-    if signature.is_below(alloc, right, state)? {
+    if signature.subsort(right, state) {
         return state.copy(alloc);
     }
     right.copy(alloc)

@@ -1,14 +1,14 @@
 -- Which rewrite axioms are read, and what a foreign rule's skeleton stands for.
 -- A rule is foreign where some part of it has no meaning here: then a configuration that its left term might
 -- match, whatever stands for the parts without meaning, is unknown.
-use Rattle.std.specs.Prelude.{◌≡◌, ℕ, zero, suc, Bool, true, false, not, ◌&&◌, ◌||◌, nat_le, ◌↔◌, List, [], ◌∷◌, Option, Some, None, IsTrue, MatchBool, MatchOption, ⊤, ◌⊎◌, if◌then◌else◌, codes}
+use Rattle.std.specs.Prelude.{◌≡◌, ℕ, zero, suc, Bool, true, false, not, ◌&&◌, ◌||◌, nat_le, ◌↔◌, List, [], ◌∷◌, Option, Some, None, is_some, IsTrue, MatchBool, MatchOption, ⊤, ◌⊎◌, if◌then◌else◌, codes}
 use Rattle.std.specs.List.{list_all, AllByRecursion}
 use Rattle.std.specs.Str.{bytes_eq}
 use Rattle.std.specs.Str.Parse.{signed_digits_value}
 use Rattle.kp_kore.specs.Syntax.{Text, KoreSort, sort_of, sort_variable, no_sorts, next_sort, KorePattern, KorePatterns, variable, set_variable, application, literal, exists, forall, floor, no_patterns, next_pattern}
 use Rattle.kp_kore.specs.Limits.{most_depth, fits_number, writes_number}
 use Rattle.kp_kore.specs.Parts.{SortedName, is_term, subpatterns, free_variables, term_depth}
-use Rattle.kp_kore.specs.Signature.{KoreSignature, SymbolMeaning, injection, construction, interpretation, foreign, meaning_of, has_literals, is_integer_sort, is_boolean_sort, is_token_sort, IsBelow, Head, IsHeadOf}
+use Rattle.kp_kore.specs.Signature.{KoreSignature, SymbolMeaning, injection, construction, interpretation, foreign, meaning_of, symbol_declared, alias_declared, has_literals, is_integer_sort, is_boolean_sort, is_token_sort, IsBelow, Head, IsHeadOf}
 use Rattle.kp_kore.specs.Sorting.{sort_of_term, result_sort}
 use Rattle.kp_semantics.specs.Value.{Value, constructed, Values, no_values, next_value, HasSort}
 use Rattle.kp_semantics.specs.Instance.{Valuation, is_named, literal_value}
@@ -33,6 +33,20 @@ is_interpretation _ = false
 abbrev pub has_foreign_head : KoreSignature → KorePattern → Bool
 has_foreign_head g (application f ss ps) = is_foreign_meaning (meaning_of g f)
 has_foreign_head g _ = false
+
+-- a symbol or an alias of this name is declared
+abbrev pub is_declared : KoreSignature → Text → Bool
+is_declared g f = is_some (symbol_declared g f) || is_some (alias_declared g f)
+
+-- an application of a declared symbol that is foreign, or of an alias
+abbrev pub applies_foreign : KoreSignature → KorePattern → Bool
+applies_foreign g (application f ss ps) = is_foreign_meaning (meaning_of g f) && is_declared g f
+applies_foreign g _ = false
+
+-- an application of a name that nothing declares
+abbrev pub applies_undeclared : KoreSignature → KorePattern → Bool
+applies_undeclared g (application f ss ps) = not (is_declared g f)
+applies_undeclared g _ = false
 
 abbrev pub has_interpreted_head : KoreSignature → KorePattern → Bool
 has_interpreted_head g (application f ss ps) = is_interpretation (meaning_of g f)
@@ -98,7 +112,8 @@ is_read_priority None = false
 pub record IsRead (g : KoreSignature) (parameters : List Text) (attributes : KorePatterns) (p : KorePattern) (r : Rewrite) : Type 0 where
   pub shape : rewrite_of p ≡ Some r
   pub no_parameters : parameters ≡ []
-  pub no_foreign_symbol : IsTrue (none_within (has_foreign_head g) p)
+  -- a name that nothing declares is no foreign symbol: such a rule has a fault
+  pub no_foreign_symbol : IsTrue (none_within (applies_foreign g) p)
   pub left_repeats : IsTrue (repeats_literals_only g (free_variables r.left))
   pub left_uninterpreted : IsTrue (none_within (has_interpreted_head g) r.left)
   pub condition_variables : AllByRecursion (λ c. IsTrue (list_all (λ x. is_named x.name (free_variables r.left)) (free_variables c))) r.condition

@@ -11,7 +11,7 @@ use Rattle.kp_kore.specs.Signature.{KoreSignature, has_hook, declared_sort, othe
 use Rattle.kp_kore.specs.Parts.{sort_list}
 use Rattle.kp_kore.specs.View.{names_view, sorts_view}
 use Rattle.kp_kore.specs.declared.sort.Sort.{Sort}
-use Rattle.kp_signature.specs.Alone.{holds_of, numbers_stand_alone, truths_stand_alone, has_lower, no_tokens_below, no_constructors_below, no_other_heads, none_but_own}
+use Rattle.kp_signature.specs.Alone.{holds_of, numbers_stand_alone, truths_stand_alone, no_tokens_below, no_constructors_below, no_other_heads, none_but_own}
 use Rattle.kp_signature.specs.Kinds.{holds_tokens}
 use Rattle.kp_signature.specs.Table.{name_hooked, name_other_than}
 use Rattle.kp_signature.proofs.KnownSorts.{number_of_sorts}
@@ -168,40 +168,15 @@ integers_are g o e = by_names o ∙ ap (option_map plain) e ∙ integer_named g
 pub booleans_are : (g : KoreSignature) (o : Option (String Global)) → option_map string_bytes o ≡ name_other_than (name_hooked (codes "INT.Int") g.sorts) (name_hooked (codes "BOOL.Bool") g.sorts) → option_map (λ n. sort_of (string_bytes n) no_sorts) o ≡ boolean_sort g
 booleans_are g o e = by_names o ∙ ap (option_map plain) e ∙ boolean_named g
 
--- ---- below a sort that no pair has above
-
-none_there : (ps : List (KoreSort × KoreSort)) (b s : KoreSort) (k : ℕ) (a : KoreSort) → has_lower ps s ≡ false → k < length ps → slice_index_or ps k (a, b) ≡ (a, b) → b ≡ s → ⊥
-none_there [] b s k a n l e same = absurd (omega (arith, l))
-none_there (p ∷ ps) b s zero a n l e same = first (sorts_equal p.1 s) ((sorts_equal-Decides p.1 s).1 (ap (λ q. q.1) e ∙ same)) n
-  where
-    first : (t : Bool) → t ≡ true → t || has_lower ps s ≡ false → ⊥
-    first true i h = absurd (cc)
-    first false i h = absurd (cc)
-none_there (p ∷ ps) b s (suc k) a n l e same = none_there ps b s k a (other (sorts_equal p.1 s) n) (omega (arith, l)) e same
-  where
-    other : (t : Bool) → t || has_lower ps s ≡ false → has_lower ps s ≡ false
-    other true h = absurd (cc)
-    other false h = h
-
-only_itself : (ps : List (KoreSort × KoreSort)) (a s : KoreSort) → has_lower ps s ≡ false → IsBelow ps a s → a ≡ s
-only_itself ps a _ n (itself _) = refl
-only_itself ps a s n (through _ b _ h rest) = absurd (none_there ps b s h.0 a n h.1 h.2 (only_itself ps b s n rest))
+-- ---- below
 
 by_both : (b c : Bool) → (b ≡ true → c ≡ true) → (c ≡ true → b ≡ true) → b ≡ c
 by_both true c f h = sym (f refl)
 by_both false true f h = h refl
 by_both false false f h = refl
 
-pub same_is : (s t : KoreSort) (b : Bool) → (b ≡ true → s ≡ t) → (s ≡ t → b ≡ true) → b ≡ sorts_equal s t
-same_is s t b f h = by_both b (sorts_equal s t) (λ e. (sorts_equal-Decides s t).1 (f e)) (λ e. h ((sorts_equal-Decides s t).0 e))
-
 pub below_is : (ps : List (KoreSort × KoreSort)) (a s : KoreSort) (b : Bool) → (IsTrue b ↔ IsBelow ps a s) → b ≡ is_below ps a s
 below_is ps a s b h = by_both b (is_below ps a s) (λ e. (is_below-Decides ps a s).1 (h.0 e)) (λ e. h.1 ((is_below-Decides ps a s).0 e))
-
-pub equal_is_below : (ps : List (KoreSort × KoreSort)) (a s : KoreSort) (b : Bool) → has_lower ps s ≡ false → (b ≡ true → a ≡ s) → (a ≡ s → b ≡ true) → b ≡ is_below ps a s
-equal_is_below ps a s b n f h = by_both b (is_below ps a s)
-    (λ e. (is_below-Decides ps a s).1 (subst (λ t. IsBelow ps a t) (f e) (itself a)))
-    (λ e. h (only_itself ps a s n ((is_below-Decides ps a s).0 e)))
 
 -- ---- inj with another number of arguments
 

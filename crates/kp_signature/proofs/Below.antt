@@ -7,7 +7,7 @@ use Rattle.kp_kore.specs.Signature.{IsBelow, is_below, itself, through}
 use Rattle.kp_signature.proofs.Same.{sorts_equal-Decides}
 
 -- an element of a list is the first or one of the others
-first_or_other : {A : Type 0} (p x : A) (ps : List A) (k : ℕ) → k < length (p ∷ ps) → slice_index_or (p ∷ ps) k x ≡ x → (p ≡ x) ⊎ Contains ps x
+pub first_or_other : {A : Type 0} (p x : A) (ps : List A) (k : ℕ) → k < length (p ∷ ps) → slice_index_or (p ∷ ps) k x ≡ x → (p ≡ x) ⊎ Contains ps x
 first_or_other p x ps zero l e = inl e
 first_or_other p x ps (suc k) l e = inr (k, omega arith, e)
 

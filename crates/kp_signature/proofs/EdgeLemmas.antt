@@ -6,7 +6,7 @@ use Rattle.std.proofs.lemmas.List.{append_assoc, append-nil, length-map, take-ap
 use Rattle.std.proofs.lemmas.List.Elements.{Contains-append_left, Contains-append_right, Contains-push, Contains-push_cases, Contains-append_cases}
 use Rattle.indexmap.specs.IndexSet.{insert_key}
 use Rattle.indexmap.proofs.CallerLemmas.{Contains-list_any, Contains-insert_key}
-use Rattle.kp_signature.specs.Order.{HasEdge, edges_of, Leads, Reaches, stays, goes, IsReachedFrom, Extended}
+use Rattle.kp_signature.specs.Edges.{HasEdge, edges_of, Leads, Reaches, stays, goes, IsReachedFrom, Extended}
 
 pub nothing_there : {A : Type 0} (x : A) → Contains [] x → ⊥
 nothing_there x h = nothing_below h.0 h.1
@@ -74,6 +74,10 @@ there_or_added keys added after y e h = elim (Contains-append_cases keys e.more 
 pub further : (edges : List (List ℕ)) (i j k : ℕ) → Reaches edges i j → Leads edges j k → Reaches edges i k
 further edges i _ k (stays _) l = goes i k k l (stays k)
 further edges i j k (goes _ m _ h rest) l = goes i m k h (further edges m j k rest l)
+
+pub onwards : (edges : List (List ℕ)) (i j k : ℕ) → Reaches edges i j → Reaches edges j k → Reaches edges i k
+onwards edges i _ k (stays _) h = h
+onwards edges i j k (goes _ m _ l rest) h = goes i m k l (onwards edges m j k rest h)
 
 -- the search so far: all that is there is reached from the first ones, these are there, and so are the neighbours of what is done
 pub record Closing (edges : List (List ℕ)) (starts done found : List ℕ) : Type 0 where
@@ -147,6 +151,12 @@ from_one edges empty found n none e j = (
   λ r. (n, e.all n (Contains-push [] n), r),
 )
 
+pub from_all : (edges : List (List ℕ)) (empty found numbers : List ℕ) → length empty ≡ 0 → Extended empty numbers found → (j : ℕ) → IsReachedFrom edges found j ↔ IsReachedFrom edges numbers j
+from_all edges empty found numbers none e j = (
+  λ r. (r.0, (only_added empty numbers found none e r.0).0 r.1, r.2),
+  λ r. (r.0, e.all r.0 r.1, r.2),
+)
+
 -- the test of a set tells what is in its list
 pub in_set : (keys : List ℕ) (n : ℕ) → (list_any (nat_eq n) keys ≡ true) ↔ Contains keys n
 in_set keys n = (Contains-list_any nat_eq (λ x z. (Decides-eqb x z).0) keys n, λ h. any keys n h.0 h.1 h.2)
@@ -162,6 +172,21 @@ in_set keys n = (Contains-list_any nat_eq (λ x z. (Decides-eqb x z).0) keys n, 
         by : (b : Bool) → list_any (nat_eq m) xs ≡ true → (b || list_any (nat_eq m) xs) ≡ true
         by true h = refl
         by false h = h
+
+pub not_added : (keys : List ℕ) (n : ℕ) (test : Bool) → test ≡ false → (j : ℕ) → Contains keys j ↔ (Contains keys j ⊎ ((test ≡ true) × (n ≡ j)))
+not_added keys n test e j = (λ h. inl h, λ h. elim h [ inl old ↦ old | inr new ↦ absurd (cc (e, new.0)) ])
+
+pub one_added : (keys after : List ℕ) (n : ℕ) (test : Bool) → test ≡ true → Extended keys (n ∷ []) after → (j : ℕ) → Contains after j ↔ (Contains keys j ⊎ ((test ≡ true) × (n ≡ j)))
+one_added keys after n test e x j = (
+  λ h. elim (there_or_added keys (n ∷ []) after j x h) [
+    | inl old ↦ inl old
+    | inr new ↦ elim (Contains-push_cases [] n j new) [ inl old ↦ absurd (nothing_there j old) | inr same ↦ inr (e, same) ]
+  ],
+  λ h. elim h [
+    | inl old ↦ still_there keys (n ∷ []) after j x old
+    | inr new ↦ subst (λ v. Contains after v) new.1 (x.all n (Contains-push [] n))
+  ],
+)
 
 -- ---- one more edge
 

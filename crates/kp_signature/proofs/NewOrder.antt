@@ -1,16 +1,18 @@
--- An order that is being made: sorts and pairs one by one.
-use Rattle.std.proofs.Common.{◌≡◌, refl, sym, ap, subst, ◌∙◌, ℕ, zero, suc, ◌<◌, ◌⊎◌, ◌↔◌, inl, inr, List, [], ◌∷◌, ◌++◌, map, length, get_or, Vec, Global, Contains, arith}
+-- A graph that is being made: sorts and pairs one by one.
+use Rattle.std.proofs.Common.{◌≡◌, refl, sym, ap, subst, ◌∙◌, ℕ, zero, suc, ◌<◌, ◌⊎◌, ◌↔◌, inl, inr, List, [], ◌∷◌, ◌++◌, length, get_or, Vec, Global, Contains, arith}
 use Rattle.std.proofs.lemmas.List.{map-append, length-map}
 use Rattle.std.proofs.lemmas.List.Elements.{Contains-append_left, Contains-push, Contains-push_cases}
-use Rattle.kp_kore.specs.Syntax.{Text, KoreSort}
-use Rattle.kp_signature.specs.Names.{Indexes}
-use Rattle.kp_signature.specs.Order.{sort_key, Leads, edges_of, IsNumber, IsPair, IsOrderUpTo, HasEdge}
-use Rattle.kp_signature.specs.declared.order.SortOrder.{SortOrder}
+use Rattle.kp_kore.specs.Syntax.{KoreSort}
+use Rattle.kp_signature.specs.Edges.{Leads, edges_of, IsNumber, HasEdge}
+use Rattle.kp_signature.specs.Numbering.{HasNewNumber, IsNumbering, sorts_in}
+use Rattle.kp_signature.specs.Order.{IsPair, IsGraphOf, sorts_of}
+use Rattle.kp_signature.specs.declared.graph.SortGraph.{SortGraph}
+use Rattle.kp_signature.proofs.EdgeLemmas.{nothing_there}
 
 -- ---- lists
 
 -- what stands in a list with one more
-pushed_cases : {A : Type 0} (xs : List A) (y d : A) (i : ℕ) → i < length (xs ++ y ∷ []) → ((i < length xs) × (get_or (xs ++ y ∷ []) i d ≡ get_or xs i d)) ⊎ ((i ≡ length xs) × (get_or (xs ++ y ∷ []) i d ≡ y))
+pub pushed_cases : {A : Type 0} (xs : List A) (y d : A) (i : ℕ) → i < length (xs ++ y ∷ []) → ((i < length xs) × (get_or (xs ++ y ∷ []) i d ≡ get_or xs i d)) ⊎ ((i ≡ length xs) × (get_or (xs ++ y ∷ []) i d ≡ y))
 pushed_cases [] y d zero h = inr (refl, refl)
 pushed_cases [] y d (suc i) h = absurd (no i h)
   where
@@ -23,13 +25,13 @@ pushed_cases (x ∷ xs) y d (suc i) h = elim (pushed_cases xs y d i (omega arith
 ]
 
 -- a list with one more, past its end or not, where the one is what is read past the end
-pushed_default : {A : Type 0} (xs : List A) (d : A) (i : ℕ) → get_or (xs ++ d ∷ []) i d ≡ get_or xs i d
+pub pushed_default : {A : Type 0} (xs : List A) (d : A) (i : ℕ) → get_or (xs ++ d ∷ []) i d ≡ get_or xs i d
 pushed_default [] d zero = refl
 pushed_default [] d (suc i) = refl
 pushed_default (x ∷ xs) d zero = refl
 pushed_default (x ∷ xs) d (suc i) = pushed_default xs d i
 
-pushed_before : {A : Type 0} (xs : List A) (y d : A) (i : ℕ) → i < length xs → get_or (xs ++ y ∷ []) i d ≡ get_or xs i d
+pub pushed_before : {A : Type 0} (xs : List A) (y d : A) (i : ℕ) → i < length xs → get_or (xs ++ y ∷ []) i d ≡ get_or xs i d
 pushed_before [] y d i h = absurd (no i h)
   where
     no : (i : ℕ) → i < 0 → ⊥
@@ -37,11 +39,11 @@ pushed_before [] y d i h = absurd (no i h)
 pushed_before (x ∷ xs) y d zero h = refl
 pushed_before (x ∷ xs) y d (suc i) h = pushed_before xs y d i (omega arith)
 
-pushed_last : {A : Type 0} (xs : List A) (y d : A) → get_or (xs ++ y ∷ []) (length xs) d ≡ y
+pub pushed_last : {A : Type 0} (xs : List A) (y d : A) → get_or (xs ++ y ∷ []) (length xs) d ≡ y
 pushed_last [] y d = refl
 pushed_last (x ∷ xs) y d = pushed_last xs y d
 
-pushed_length : {A : Type 0} (xs : List A) (y : A) → length (xs ++ y ∷ []) ≡ suc (length xs)
+pub pushed_length : {A : Type 0} (xs : List A) (y : A) → length (xs ++ y ∷ []) ≡ suc (length xs)
 pushed_length [] y = refl
 pushed_length (x ∷ xs) y = ap suc (pushed_length xs y)
 
@@ -50,7 +52,7 @@ pushed_length (x ∷ xs) y = ap suc (pushed_length xs y)
 number_stays : (sorts : List KoreSort) (b : KoreSort) (i : ℕ) (a : KoreSort) → IsNumber sorts i a → IsNumber (sorts ++ b ∷ []) i a
 number_stays sorts b i a n = (subst (λ m. i < m) (sym (pushed_length sorts b)) (omega (arith, n.0)), pushed_before sorts b a i n.0 ∙ n.1)
 
-number_cases : (sorts : List KoreSort) (b : KoreSort) (i : ℕ) (a : KoreSort) → IsNumber (sorts ++ b ∷ []) i a → IsNumber sorts i a ⊎ ((i ≡ length sorts) × (b ≡ a))
+pub number_cases : (sorts : List KoreSort) (b : KoreSort) (i : ℕ) (a : KoreSort) → IsNumber (sorts ++ b ∷ []) i a → IsNumber sorts i a ⊎ ((i ≡ length sorts) × (b ≡ a))
 number_cases sorts b i a n = elim (pushed_cases sorts b a i n.0) [
   | inl old ↦ inl (old.0, sym old.1 ∙ n.1)
   | inr new ↦ inr (new.0, sym new.1 ∙ n.1)
@@ -67,21 +69,8 @@ number_on [] more i a n = absurd (no i n.0)
 number_on (s ∷ ss) more zero a n = (omega arith, n.1)
 number_on (s ∷ ss) more (suc i) a n = let k = number_on ss more i a (omega (arith, n.0), n.1) in (omega (arith, k.0), k.1)
 
-there : (sorts : List KoreSort) (i : ℕ) (a : KoreSort) → IsNumber sorts i a → Contains sorts a
+pub there : (sorts : List KoreSort) (i : ℕ) (a : KoreSort) → IsNumber sorts i a → Contains sorts a
 there sorts i a n = (i, n.0, n.1)
-
-once_more : (sorts : List KoreSort) (b : KoreSort) → ¬ Contains sorts b → ((i j : ℕ) (a : KoreSort) → IsNumber sorts i a → IsNumber sorts j a → i ≡ j) →
-    (i j : ℕ) (a : KoreSort) → IsNumber (sorts ++ b ∷ []) i a → IsNumber (sorts ++ b ∷ []) j a → i ≡ j
-once_more sorts b new once i j a n m = elim (number_cases sorts b i a n) [
-  | inl p ↦ elim (number_cases sorts b j a m) [
-    | inl q ↦ once i j a p q
-    | inr q ↦ absurd (new (subst (λ v. Contains sorts v) (sym q.1) (there sorts i a p)))
-  ]
-  | inr p ↦ elim (number_cases sorts b j a m) [
-    | inl q ↦ absurd (new (subst (λ v. Contains sorts v) (sym p.1) (there sorts j a q)))
-    | inr q ↦ p.0 ∙ sym q.0
-  ]
-]
 
 -- the pairs are of the same numbers
 pairs_stay : (pairs : List (KoreSort × KoreSort)) (sorts : List KoreSort) (b : KoreSort) → ¬ Contains sorts b → ((a c : KoreSort) → Contains pairs (a, c) → Contains sorts a × Contains sorts c) →
@@ -105,19 +94,25 @@ longer : {A B : Type 0} (xs after : List A) (ys : List B) (x : A) (y : B) → le
 longer xs after ys x y h is = ap length is ∙ pushed_length xs x ∙ ap suc h ∙ sym (pushed_length ys y)
 
 -- one more sort
-pub sort_added : (pairs : List (KoreSort × KoreSort)) (sorts : List KoreSort) (b : KoreSort) (x y : SortOrder) (w : Vec ℕ Global) →
-    IsOrderUpTo pairs sorts x → ¬ Contains sorts b → Indexes (map sort_key sorts ++ sort_key b ∷ []) y.numbers → y.above.items ≡ x.above.items ++ w ∷ [] → w.items ≡ [] →
-    IsOrderUpTo pairs (sorts ++ b ∷ []) y
-sort_added pairs sorts b x y w ix new numbers above we = record {
-  numbers = subst (λ (l : List Text). Indexes l y.numbers) (sym (map-append sort_key sorts (b ∷ []))) numbers;
-  once = once_more sorts b new ix.once;
-  named = λ a c h. let k = ix.named a c h in (Contains-append_left sorts (b ∷ []) a k.0, Contains-append_left sorts (b ∷ []) c k.1);
-  above_length = longer x.above.items y.above.items sorts w b ix.above_length above;
-  above = λ i j.
-      let e = no_edges x.above.items y.above.items w we above i j in
-      let p = pairs_stay pairs sorts b new ix.named i j in
-      (λ h. p.0 ((ix.above i j).0 (e.1 h)), λ h. e.0 ((ix.above i j).1 (p.1 h)));
-}
+pub sort_added : (pairs : List (KoreSort × KoreSort)) (b : KoreSort) (x y : SortGraph) (u v : Vec ℕ Global) (n : ℕ) →
+    IsGraphOf pairs x → ¬ Contains (sorts_of x) b → HasNewNumber (sorts_of x) y.numbering b n → y.above.items ≡ x.above.items ++ u ∷ [] → u.items ≡ [] → y.below.items ≡ x.below.items ++ v ∷ [] → v.items ≡ [] →
+    IsGraphOf pairs y
+sort_added pairs b x y u v n ix new h above ue below ve =
+    let all = sym h.is in
+    record {
+      numbering = h.kept;
+      named = λ a c p. let k = ix.named a c p in (subst (λ l. Contains l a) all (Contains-append_left (sorts_of x) (b ∷ []) a k.0), subst (λ l. Contains l c) all (Contains-append_left (sorts_of x) (b ∷ []) c k.1));
+      above_length = longer x.above.items y.above.items (sorts_of x) u b ix.above_length above ∙ ap length all;
+      below_length = longer x.below.items y.below.items (sorts_of x) v b ix.below_length below ∙ ap length all;
+      above = λ i j.
+          let e = no_edges x.above.items y.above.items u ue above i j in
+          let p = pairs_stay pairs (sorts_of x) b new ix.named i j in
+          (λ l. subst (λ s. IsPair pairs s i j) all (p.0 ((ix.above i j).0 (e.1 l))), λ l. e.0 ((ix.above i j).1 (p.1 (subst (λ s. IsPair pairs s i j) h.is l))));
+      below = λ i j.
+          let e = no_edges x.below.items y.below.items v ve below i j in
+          let p = pairs_stay pairs (sorts_of x) b new ix.named j i in
+          (λ l. subst (λ s. IsPair pairs s j i) all (p.0 ((ix.below i j).0 (e.1 l))), λ l. e.0 ((ix.below i j).1 (p.1 (subst (λ s. IsPair pairs s j i) h.is l))));
+    }
 
 -- ---- one more pair
 
@@ -140,20 +135,42 @@ pairs_more pairs sorts lower upper l u once nl nu i j = (
   ],
 )
 
-pub pair_added : (pairs : List (KoreSort × KoreSort)) (sorts : List KoreSort) (lower upper : KoreSort) (l u : ℕ) (x y : SortOrder) →
-    IsOrderUpTo pairs sorts x → IsNumber sorts l lower → IsNumber sorts u upper → y.numbers ≡ x.numbers → HasEdge (edges_of x.above.items) (edges_of y.above.items) l u →
-    IsOrderUpTo (pairs ++ (lower, upper) ∷ []) sorts y
-pair_added pairs sorts lower upper l u x y ix nl nu numbers above = record {
-  numbers = subst (λ m. Indexes (map sort_key sorts) m) (sym numbers) ix.numbers;
-  once = ix.once;
-  named = λ a c h. elim (pair_cases pairs lower upper a c h) [
-    | inl old ↦ ix.named a c old
-    | inr same ↦ (subst (λ v. Contains sorts v) same.0 (there sorts l lower nl), subst (λ v. Contains sorts v) same.1 (there sorts u upper nu))
-  ];
-  above_length = sym (length-map y.above.items (λ (v : Vec ℕ Global). v.items)) ∙ above.same_length ∙ length-map x.above.items (λ (v : Vec ℕ Global). v.items) ∙ ix.above_length;
-  above = λ i j.
-      let p = pairs_more pairs sorts lower upper l u ix.once nl nu i j in (
-        λ h. p.1 (elim ((above.edges i j).0 h) [ inl old ↦ inl ((ix.above i j).0 old) | inr e ↦ inr e ]),
-        λ h. (above.edges i j).1 (elim (p.0 h) [ inl old ↦ inl ((ix.above i j).1 old) | inr e ↦ inr e ]),
-      );
+edges_as_many : (before after : List (Vec ℕ Global)) (from to : ℕ) → HasEdge (edges_of before) (edges_of after) from to → length after ≡ length before
+edges_as_many before after from to h = sym (length-map after (λ (v : Vec ℕ Global). v.items)) ∙ h.same_length ∙ length-map before (λ (v : Vec ℕ Global). v.items)
+
+pub pair_added : (pairs : List (KoreSort × KoreSort)) (lower upper : KoreSort) (l u : ℕ) (x y : SortGraph) →
+    IsGraphOf pairs x → IsNumber (sorts_of x) l lower → IsNumber (sorts_of x) u upper → y.numbering ≡ x.numbering →
+    HasEdge (edges_of x.above.items) (edges_of y.above.items) l u → HasEdge (edges_of x.below.items) (edges_of y.below.items) u l →
+    IsGraphOf (pairs ++ (lower, upper) ∷ []) y
+pair_added pairs lower upper l u x y ix nl nu same above below =
+    let sorts = ap sorts_in (sym same) in
+    record {
+      numbering = subst IsNumbering (sym same) ix.numbering;
+      named = λ a c h. elim (pair_cases pairs lower upper a c h) [
+        | inl old ↦ let k = ix.named a c old in (subst (λ s. Contains s a) sorts k.0, subst (λ s. Contains s c) sorts k.1)
+        | inr e ↦ (subst (λ s. Contains s a) sorts (subst (λ v. Contains (sorts_of x) v) e.0 (there (sorts_of x) l lower nl)), subst (λ s. Contains s c) sorts (subst (λ v. Contains (sorts_of x) v) e.1 (there (sorts_of x) u upper nu)))
+      ];
+      above_length = edges_as_many x.above.items y.above.items l u above ∙ ix.above_length ∙ ap length sorts;
+      below_length = edges_as_many x.below.items y.below.items u l below ∙ ix.below_length ∙ ap length sorts;
+      above = λ i j.
+          let p = pairs_more pairs (sorts_of x) lower upper l u ix.numbering.once nl nu i j in (
+            λ h. subst (λ s. IsPair (pairs ++ (lower, upper) ∷ []) s i j) sorts (p.1 (elim ((above.edges i j).0 h) [ inl old ↦ inl ((ix.above i j).0 old) | inr e ↦ inr e ])),
+            λ h. (above.edges i j).1 (elim (p.0 (subst (λ s. IsPair (pairs ++ (lower, upper) ∷ []) s i j) (sym sorts) h)) [ inl old ↦ inl ((ix.above i j).1 old) | inr e ↦ inr e ]),
+          );
+      below = λ i j.
+          let p = pairs_more pairs (sorts_of x) lower upper l u ix.numbering.once nl nu j i in (
+            λ h. subst (λ s. IsPair (pairs ++ (lower, upper) ∷ []) s j i) sorts (p.1 (elim ((below.edges i j).0 h) [ inl old ↦ inl ((ix.below i j).0 old) | inr e ↦ inr (e.1, e.0) ])),
+            λ h. (below.edges i j).1 (elim (p.0 (subst (λ s. IsPair (pairs ++ (lower, upper) ∷ []) s j i) (sym sorts) h)) [ inl old ↦ inl ((ix.below i j).1 old) | inr e ↦ inr (e.1, e.0) ]),
+          );
+    }
+
+-- no pairs, no sorts
+pub no_pairs : (x : SortGraph) → IsNumbering x.numbering → sorts_of x ≡ [] → x.above.items ≡ [] → x.below.items ≡ [] → IsGraphOf [] x
+no_pairs x numbering sorts above below = record {
+  numbering = numbering;
+  named = λ a b h. absurd (nothing_there (a, b) h);
+  above_length = ap length above ∙ ap length (sym sorts);
+  below_length = ap length below ∙ ap length (sym sorts);
+  above = λ i j. (λ h. absurd (nothing_there j (subst (λ (es : List (Vec ℕ Global)). Contains (get_or (edges_of es) i []) j) above h)), λ p. absurd (nothing_there (p.lower, p.upper) p.pair));
+  below = λ i j. (λ h. absurd (nothing_there j (subst (λ (es : List (Vec ℕ Global)). Contains (get_or (edges_of es) i []) j) below h)), λ p. absurd (nothing_there (p.lower, p.upper) p.pair));
 }

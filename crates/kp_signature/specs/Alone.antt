@@ -1,8 +1,7 @@
 -- Whether the sorts of whole numbers and of truth values have these values alone, head by head.
 use Rattle.std.specs.Prelude.{Bool, true, not, ◌&&◌, List, Option, Some, None, if◌then◌else◌}
-use Rattle.std.specs.List.{list_all, list_any}
+use Rattle.std.specs.List.{list_all}
 use Rattle.kp_kore.specs.Syntax.{KoreSort, SymbolDeclaration}
-use Rattle.kp_kore.specs.Attributes.{sorts_equal}
 use Rattle.kp_kore.specs.Signature.{KoreSignature, integer_sort, boolean_sort, is_token_sort, is_head, is_own_below, tokens, constructor_of, has_only_numbers, has_only_truths}
 
 -- the test of a sort, where there is one
@@ -17,10 +16,6 @@ abbrev pub truths_stand_alone : KoreSignature → Bool
 truths_stand_alone g = holds_of (has_only_truths g) (boolean_sort g)
 
 -- ---- head by head
-
--- a pair puts something directly below the sort
-abbrev pub has_lower : List (KoreSort × KoreSort) → KoreSort → Bool
-has_lower pairs s = list_any (λ p. sorts_equal p.1 s) pairs
 
 abbrev pub token_sort : KoreSignature → KoreSort → Option KoreSort
 token_sort g t = if is_token_sort g t then Some t else None

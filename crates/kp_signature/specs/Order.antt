@@ -1,62 +1,16 @@
--- How the code knows which sorts lie below which: the sorts that pairs name by numbers, with edges between numbers.
-use Rattle.std.specs.Prelude.{◌≡◌, ℕ, ◌<◌, List, [], ◌∷◌, ◌++◌, map, length, replicate, get_or, ◌↔◌, ◌⊎◌, Vec}
+-- How the code knows which sorts lie below which: the sorts that pairs name by numbers, with edges between numbers and
+-- the numbers below each as spans.
+use Rattle.std.specs.Prelude.{◌≡◌, ℕ, List, ◌++◌, length, ◌↔◌}
 use Rattle.std.specs.List.{Contains}
-use Rattle.std.specs.declared.alloc.Global.{Global}
-use Rattle.kp_kore.specs.Syntax.{Text, KoreSort, KoreSorts, sort_of, sort_variable, no_sorts, next_sort}
-use Rattle.kp_signature.specs.Names.{Indexes}
+use Rattle.kp_kore.specs.Syntax.{KoreSort}
+use Rattle.kp_signature.specs.Edges.{edges_of, Leads, Reaches, IsNumber}
+use Rattle.kp_signature.specs.Numbering.{IsNumbering, sorts_in}
+use Rattle.kp_signature.specs.Spans.{IsSpread}
+use Rattle.kp_signature.specs.declared.graph.SortGraph.{SortGraph}
 use Rattle.kp_signature.specs.declared.order.SortOrder.{SortOrder}
 
--- ---- edges
-
-abbrev pub edges_of : List (Vec ℕ Global) → List (List ℕ)
-edges_of = map (λ v. v.items)
-
--- an edge from i to j
-abbrev pub Leads : List (List ℕ) → ℕ → ℕ → Type 0
-Leads edges i j = Contains (get_or edges i []) j
-
--- j is i, or is reached from i over edges
-pub data Reaches (edges : List (List ℕ)) : ℕ → ℕ → Type 0 where
-  stays : (i : ℕ) → Reaches edges i i
-  goes : (i j k : ℕ) → Leads edges i j → Reaches edges j k → Reaches edges i k
-
--- j is reached from one of these numbers
-abbrev pub IsReachedFrom : List (List ℕ) → List ℕ → ℕ → Type 0
-IsReachedFrom edges starts j = (i : ℕ) × Contains starts i × Reaches edges i j
-
--- the numbers that are added are behind those that were there
-pub record Extended (before added after : List ℕ) : Type 0 where
-  pub more : List ℕ
-  pub is : after ≡ before ++ more
-  pub among : (y : ℕ) → Contains more y → Contains added y
-  pub all : (y : ℕ) → Contains added y → Contains after y
-
--- an edge is added
-pub record HasEdge (before after : List (List ℕ)) (from to : ℕ) : Type 0 where
-  pub same_length : length after ≡ length before
-  pub edges : (i j : ℕ) → Leads after i j ↔ (Leads before i j ⊎ ((i ≡ from) × (j ≡ to)))
-
--- ---- keys of sorts
-
--- a name behind as many ones as it is long, and a zero
-abbrev pub marked_name : Text → Text
-marked_name n = replicate (length n) 49 ++ 48 ∷ n
-
--- a text from which the sort can be told
-abbrev mutual
-  pub sort_key : KoreSort → Text
-  sort_key (sort_of n ss) = 97 ∷ marked_name n ++ sorts_key ss
-  sort_key (sort_variable n) = 118 ∷ marked_name n
-
-  pub sorts_key : KoreSorts → Text
-  sorts_key no_sorts = 41 ∷ []
-  sorts_key (next_sort s ss) = 44 ∷ sort_key s ++ sorts_key ss
-
--- ---- the order of pairs
-
--- a sort has a number, its place among these
-abbrev pub IsNumber : List KoreSort → ℕ → KoreSort → Type 0
-IsNumber sorts i a = (i < length sorts) × (get_or sorts i a ≡ a)
+abbrev pub sorts_of : SortGraph → List KoreSort
+sorts_of x = sorts_in x.numbering
 
 -- the sorts of the numbers are a pair
 pub record IsPair (pairs : List (KoreSort × KoreSort)) (sorts : List KoreSort) (i j : ℕ) : Type 0 where
@@ -66,15 +20,32 @@ pub record IsPair (pairs : List (KoreSort × KoreSort)) (sorts : List KoreSort) 
   pub second : IsNumber sorts j upper
   pub pair : Contains pairs (lower, upper)
 
--- the sorts of these pairs have numbers, and the edges are the pairs
-pub record IsOrderUpTo (pairs : List (KoreSort × KoreSort)) (sorts : List KoreSort) (x : SortOrder) : Type 0 where
-  pub numbers : Indexes (map sort_key sorts) x.numbers
-  pub once : (i j : ℕ) (a : KoreSort) → IsNumber sorts i a → IsNumber sorts j a → i ≡ j
-  pub named : (a b : KoreSort) → Contains pairs (a, b) → Contains sorts a × Contains sorts b
-  pub above_length : length x.above.items ≡ length sorts
-  pub above : (i j : ℕ) → Leads (edges_of x.above.items) i j ↔ IsPair pairs sorts i j
+-- the sorts of these pairs have numbers, and the edges are the pairs, both ways
+pub record IsGraphOf (pairs : List (KoreSort × KoreSort)) (x : SortGraph) : Type 0 where
+  pub numbering : IsNumbering x.numbering
+  pub named : (a b : KoreSort) → Contains pairs (a, b) → Contains (sorts_of x) a × Contains (sorts_of x) b
+  pub above_length : length x.above.items ≡ length (sorts_of x)
+  pub below_length : length x.below.items ≡ length (sorts_of x)
+  pub above : (i j : ℕ) → Leads (edges_of x.above.items) i j ↔ IsPair pairs (sorts_of x) i j
+  pub below : (i j : ℕ) → Leads (edges_of x.below.items) i j ↔ IsPair pairs (sorts_of x) j i
+
+-- more sorts may have numbers than before, and this one has this number
+pub record HasNew (pairs : List (KoreSort × KoreSort)) (before : List KoreSort) (x : SortGraph) (a : KoreSort) (i : ℕ) : Type 0 where
+  pub more : List KoreSort
+  pub is : sorts_of x ≡ before ++ more
+  pub number : IsNumber (sorts_of x) i a
+  pub kept : IsGraphOf pairs x
+
+-- j is i or lies below it
+abbrev pub Under : SortGraph → ℕ → ℕ → Type 0
+Under x i j = Reaches (edges_of x.below.items) i j
+
+-- and above it
+abbrev pub Over : SortGraph → ℕ → ℕ → Type 0
+Over x i j = Reaches (edges_of x.above.items) i j
 
 -- the order that the pairs make
 pub record IsOrderOf (pairs : List (KoreSort × KoreSort)) (x : SortOrder) : Type 0 where
-  pub sorts : List KoreSort
-  pub by : IsOrderUpTo pairs sorts x
+  pub graph : IsGraphOf pairs x.graph
+  pub spans_length : length x.spans.items ≡ length x.graph.below.items
+  pub spread : IsSpread (edges_of x.graph.below.items) x.spans.items

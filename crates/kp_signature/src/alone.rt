@@ -1,37 +1,16 @@
 // Whether the sorts of whole numbers and of truth values have these values alone.
-ghost use Rattle.std.specs.Prelude.{◌≡◌, IfOk, map, string_bytes};
+ghost use Rattle.std.specs.Prelude.{◌≡◌, IfOk, string_bytes};
 ghost use Rattle.std.specs.Option.{option_map};
-ghost use Rattle.kp_kore.specs.Attributes.{sorts_equal};
 ghost use Rattle.kp_kore.specs.Signature as head;
 ghost use Rattle.kp_kore.specs.Signature.{is_below, is_head, is_own_below};
 ghost use Rattle.kp_kore.specs.Syntax.{sort_of, no_sorts};
 ghost use Rattle.kp_kore.specs.View.{sort_view};
-ghost use Rattle.kp_signature.specs.Alone.{has_lower as lower_test, no_tokens_below, no_constructors_below, no_other_heads, none_but_own, numbers_stand_alone, truths_stand_alone, token_sort};
-ghost use Rattle.kp_signature.specs.Table.{subsort_view, table_view};
+ghost use Rattle.kp_signature.specs.Alone.{no_tokens_below, no_constructors_below, no_other_heads, none_but_own, numbers_stand_alone, truths_stand_alone, token_sort};
+ghost use Rattle.kp_signature.specs.Table.{table_view};
 
 use crate::declarations::Declarations;
-use crate::table::Subsort;
 use kp_kore::{Name, Sort};
 use std::alloc::{AllocError, Global};
-
-/// Whether a pair puts something directly below the sort.
-fn has_lower(pairs: &[Subsort], sort: &Sort) -> bool
-    ensures { result ≡ lower_test (map subsort_view pairs.now) (sort_view sort.now) }
-{
-    for pair in pairs {
-        if is_same(&pair.upper, sort) {
-            return true;
-        }
-    }
-    false
-}
-
-/// Whether two sorts are one.
-fn is_same(first: &Sort, second: &Sort) -> bool
-    ensures { result ≡ sorts_equal (sort_view first.now) (sort_view second.now) }
-{
-    first.equal(second)
-}
 
 /// The sort of this name without arguments.
 fn plain_sort(alloc: Global, name: &Option<Name>) -> Result<Option<Sort>, AllocError>
@@ -73,87 +52,54 @@ impl Declarations {
         let own = plain_sort(alloc, own)?;
         let other = plain_sort(alloc, other)?;
         match &own {
-            Some(own) => self.has_no_other_heads(alloc, own, other.as_ref()),
+            Some(own) => Ok(self.has_no_other_heads(own, other.as_ref())),
             None => Ok(true),
         }
     }
 
     /// Whether no head but the sort's own stands below it: not the other of the two sorts, no tokens, no constructor.
-    fn has_no_other_heads(
-        &self,
-        alloc: Global,
-        own: &Sort,
-        other: Option<&Sort>,
-    ) -> Result<bool, AllocError>
-        ensures { IfOk result (λ b. b ≡ no_other_heads (table_view self.now.table) (sort_view own.now) (option_map (λ s. sort_view s.now) other.entry)) }
+    fn has_no_other_heads(&self, own: &Sort, other: Option<&Sort>) -> bool
+        ensures { result ≡ no_other_heads (table_view self.now.table) (sort_view own.now) (option_map (λ s. sort_view s.now) other.entry) }
     {
-        let has_lower = has_lower(self.subsorts(), own);
-        if self.is_own_below(alloc, has_lower, other, own)? {
-            return Ok(false);
-        }
-        if !self.has_no_tokens(alloc, has_lower, own)? {
-            return Ok(false);
-        }
-        self.has_no_constructors(alloc, has_lower, own)
+        !self.is_own_below(other, own) && self.has_no_tokens(own) && self.has_no_constructors(own)
     }
 
     /// Whether no tokens are values of the sort, but for those of the sort itself.
-    fn has_no_tokens(&self, alloc: Global, has_lower: bool, own: &Sort) -> Result<bool, AllocError>
-        requires { has_lower ≡ lower_test (table_view self.now.table).subsorts (sort_view own.now) }
-        ensures { IfOk result (λ b. b ≡ no_tokens_below (table_view self.now.table) (sort_view own.now) (table_view self.now.table).subsorts) }
+    fn has_no_tokens(&self, own: &Sort) -> bool
+        ensures { result ≡ no_tokens_below (table_view self.now.table) (sort_view own.now) (table_view self.now.table).subsorts }
     {
         for pair in self.subsorts() {
-            if self.has_tokens_of(alloc, has_lower, &pair.lower, own)? {
-                return Ok(false);
+            if self.has_tokens_of(&pair.lower, own) {
+                return false;
             }
         }
-        Ok(true)
+        true
     }
 
     /// Whether no constructor makes values of the sort.
-    fn has_no_constructors(
-        &self,
-        alloc: Global,
-        has_lower: bool,
-        own: &Sort,
-    ) -> Result<bool, AllocError>
-        requires { has_lower ≡ lower_test (table_view self.now.table).subsorts (sort_view own.now) }
-        ensures { IfOk result (λ b. b ≡ no_constructors_below (table_view self.now.table) (sort_view own.now) (table_view self.now.table).symbols) }
+    fn has_no_constructors(&self, own: &Sort) -> bool
+        ensures { result ≡ no_constructors_below (table_view self.now.table) (sort_view own.now) (table_view self.now.table).symbols }
     {
         for symbol in self.symbols() {
-            if self.has_constructor(alloc, has_lower, &symbol.name, own)? {
-                return Ok(false);
+            if self.has_constructor(&symbol.name, own) {
+                return false;
             }
         }
-        Ok(true)
+        true
     }
 
     /// Whether the tokens of a sort are values of this one.
-    fn has_tokens_of(
-        &self,
-        alloc: Global,
-        has_lower: bool,
-        tokens: &Sort,
-        own: &Sort,
-    ) -> Result<bool, AllocError>
-        requires { has_lower ≡ lower_test (table_view self.now.table).subsorts (sort_view own.now) }
-        ensures { IfOk result (λ b. b ≡ is_head (table_view self.now.table) (sort_view own.now) (head.tokens (sort_view tokens.now))) }
+    fn has_tokens_of(&self, tokens: &Sort, own: &Sort) -> bool
+        ensures { result ≡ is_head (table_view self.now.table) (sort_view own.now) (head.tokens (sort_view tokens.now)) }
     {
-        self.is_own_below(alloc, has_lower, self.token_sort(tokens), own)
+        self.is_own_below(self.token_sort(tokens), own)
     }
 
     /// Whether the symbol of this name is a constructor that makes values of the sort.
-    fn has_constructor(
-        &self,
-        alloc: Global,
-        has_lower: bool,
-        name: &Name,
-        own: &Sort,
-    ) -> Result<bool, AllocError>
-        requires { has_lower ≡ lower_test (table_view self.now.table).subsorts (sort_view own.now) }
-        ensures { IfOk result (λ b. b ≡ is_head (table_view self.now.table) (sort_view own.now) (head.constructor_of (string_bytes name.now))) }
+    fn has_constructor(&self, name: &Name, own: &Sort) -> bool
+        ensures { result ≡ is_head (table_view self.now.table) (sort_view own.now) (head.constructor_of (string_bytes name.now)) }
     {
-        self.is_own_below(alloc, has_lower, self.sort_made(name), own)
+        self.is_own_below(self.sort_made(name), own)
     }
 
     /// The sort, where any text is a literal of it.
@@ -168,36 +114,19 @@ impl Declarations {
     }
 
     /// Whether a head's own sort, where it has one, is the sort or lies below it.
-    fn is_own_below(
-        &self,
-        alloc: Global,
-        has_lower: bool,
-        made: Option<&Sort>,
-        sort: &Sort,
-    ) -> Result<bool, AllocError>
-        requires { has_lower ≡ lower_test (table_view self.now.table).subsorts (sort_view sort.now) }
-        ensures { IfOk result (λ b. b ≡ is_own_below (table_view self.now.table) (sort_view sort.now) (option_map (λ s. sort_view s.now) made.entry)) }
+    fn is_own_below(&self, made: Option<&Sort>, sort: &Sort) -> bool
+        ensures { result ≡ is_own_below (table_view self.now.table) (sort_view sort.now) (option_map (λ s. sort_view s.now) made.entry) }
     {
         match made {
-            Some(made) => self.lies_below(alloc, has_lower, made, sort),
-            None => Ok(false),
+            Some(made) => self.lies_below(made, sort),
+            None => false,
         }
     }
 
-    /// Whether a sort is another or lies below it, where it is known whether anything does.
-    fn lies_below(
-        &self,
-        alloc: Global,
-        has_lower: bool,
-        lower: &Sort,
-        upper: &Sort,
-    ) -> Result<bool, AllocError>
-        requires { has_lower ≡ lower_test (table_view self.now.table).subsorts (sort_view upper.now) }
-        ensures { IfOk result (λ b. b ≡ is_below (table_view self.now.table).subsorts (sort_view lower.now) (sort_view upper.now)) }
+    /// Whether a sort is another or lies below it, as the test tells it.
+    fn lies_below(&self, lower: &Sort, upper: &Sort) -> bool
+        ensures { result ≡ is_below (table_view self.now.table).subsorts (sort_view lower.now) (sort_view upper.now) }
     {
-        if !has_lower {
-            return Ok(lower.equal(upper));
-        }
-        self.is_below(alloc, lower, upper)
+        self.subsort(lower, upper)
     }
 }

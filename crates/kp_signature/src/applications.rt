@@ -149,7 +149,7 @@ fn check_upwards(
     if !signature.injects(symbol) {
         return Ok(());
     }
-    if signature.is_below(alloc, lower, upper)? {
+    if signature.subsort(lower, upper) {
         return Ok(());
     }
     Err(VerifyError::SortDiffers {

@@ -152,11 +152,19 @@ impl Declarations {
         &self.table.subsorts
     }
 
-    /// Whether a sort is another or lies below it, by the pairs that the attributes `subsort{A,B}()` give.
-    pub fn is_below(&self, alloc: Global, lower: &Sort, upper: &Sort) -> Result<bool, AllocError>
-        ensures { IfOk result (λ b. IsTrue b ↔ IsBelow (table_view self.now.table).subsorts (sort_view lower.now) (sort_view upper.now)) }
+    /// The order of the sorts, by the pairs that the attributes `subsort{A,B}()` give.
+    pub fn order(&self) -> &SortOrder
+        ensures { IsOrderOf (table_view self.now.table).subsorts result.now }
     {
-        Ok(self.order.is_below(alloc, lower, upper)?)
+        &self.order
+    }
+
+    /// Whether a sort is another or lies below it, by the pairs that the attributes `subsort{A,B}()` give. Takes no
+    /// memory, and as many steps as the upper sort has spans (see `SortOrder`).
+    pub fn subsort(&self, lower: &Sort, upper: &Sort) -> bool
+        ensures { IsTrue result ↔ IsBelow (table_view self.now.table).subsorts (sort_view lower.now) (sort_view upper.now) }
+    {
+        self.order().is_below(lower, upper)
     }
 
     /// The sort of the values that the symbol of this name makes, where it is a constructor.

@@ -1,7 +1,7 @@
 // Numbers that are reached over edges.
-ghost use Rattle.std.specs.Prelude.{◌≡◌, ◌↔◌, ◌∷◌, [], ℕ, ◌<◌, IfOk, OnOk, IsTrue, get_or, length};
+ghost use Rattle.std.specs.Prelude.{◌≡◌, ◌⊎◌, ◌↔◌, ◌∷◌, [], ℕ, ◌<◌, IfOk, OnOk, IsTrue, get_or, length};
 ghost use Rattle.std.specs.List.{Contains};
-ghost use Rattle.kp_signature.specs.Order.{Extended, HasEdge, IsReachedFrom, Reaches, edges_of};
+ghost use Rattle.kp_signature.specs.Edges.{Extended, HasEdge, IsReachedFrom, Reaches, edges_of};
 
 use indexmap::IndexSet;
 use std::alloc::{AllocError, Global};
@@ -19,6 +19,20 @@ pub fn reached_from(
 {
     let mut found = IndexSet::new(alloc);
     add(&mut found, number)?;
+    close(edges, &mut found)?;
+    Ok(found)
+}
+
+/// These numbers and all that is reached from them.
+pub fn all_reached(
+    alloc: Global,
+    edges: &[Vec<usize>],
+    numbers: &Numbers,
+) -> Result<Numbers, AllocError>
+    ensures { IfOk result (λ found. (j : ℕ) → Contains found.keys j ↔ IsReachedFrom (edges_of edges.now) numbers.now.keys j) }
+{
+    let mut found = IndexSet::new(alloc);
+    add_all(&mut found, numbers.as_slice())?;
     close(edges, &mut found)?;
     Ok(found)
 }
@@ -46,8 +60,8 @@ fn add_next(edges: &[Vec<usize>], number: usize, found: &mut Numbers) -> Result<
     Ok(())
 }
 
-/// Adds the numbers.
-fn add_all(found: &mut Numbers, numbers: &[usize]) -> Result<(), AllocError>
+/// Adds each of the numbers.
+pub fn add_all(found: &mut Numbers, numbers: &[usize]) -> Result<(), AllocError>
     ensures { OnOk result (Extended found.old.keys numbers.now found.new.keys) }
 {
     for number in numbers {
@@ -57,11 +71,21 @@ fn add_all(found: &mut Numbers, numbers: &[usize]) -> Result<(), AllocError>
 }
 
 /// Adds a number.
-fn add(found: &mut Numbers, number: usize) -> Result<(), AllocError>
+pub fn add(found: &mut Numbers, number: usize) -> Result<(), AllocError>
     ensures { OnOk result (Extended found.old.keys (number ∷ []) found.new.keys) }
 {
     found.insert(number)?;
     Ok(())
+}
+
+/// Adds a number where it passes a test.
+pub fn add_if(found: &mut Numbers, number: usize, passes: bool) -> Result<(), AllocError>
+    ensures { OnOk result ((j : ℕ) → Contains found.new.keys j ↔ (Contains found.old.keys j ⊎ (IsTrue passes × (number ≡ j)))) }
+{
+    if !passes {
+        return Ok(());
+    }
+    Ok(add(found, number)?)
 }
 
 /// Whether a number is there.

@@ -1,25 +1,41 @@
-// Which sorts lie below which: the sorts that subsort pairs name, by number, with the pairs as edges upwards.
-ghost use Rattle.std.specs.Prelude.{◌≡◌, ◌↔◌, ◌++◌, ◌∷◌, [], IfOk, OnOk, IsTrue, List, None, map};
+// Which sorts lie below which.
+ghost use Rattle.std.specs.Prelude.{◌≡◌, ◌↔◌, ◌<◌, [], IfOk, IsTrue, List, ℕ, length, map};
 ghost use Rattle.kp_kore.specs.Syntax.{KoreSort};
 ghost use Rattle.kp_kore.specs.Signature.{IsBelow};
 ghost use Rattle.kp_kore.specs.View.{sort_view};
-ghost use Rattle.indexmap.specs.IndexMap.{get_by_text};
-ghost use Rattle.kp_signature.specs.Order.{IsNumber, IsOrderOf, IsOrderUpTo, sort_key as key_of};
+ghost use Rattle.kp_signature.specs.Order.{IsGraphOf, IsOrderOf, Under, sorts_of};
+ghost use Rattle.kp_signature.specs.Numbering.{TellsNumber};
 ghost use Rattle.kp_signature.specs.Table.{subsort_view};
 
-use crate::edges::{add_edge, has, reached_from};
-use crate::names::NamePlaces;
-use crate::sort_key::sort_key;
+use crate::closures::closures;
+use crate::graph::SortGraph;
+use crate::ranking::ranking;
+use crate::spans::{Span, is_within};
 use crate::table::Subsort;
-use indexmap::IndexMap;
 use kp_kore::Sort;
 use std::alloc::{AllocError, Global};
 
-/// The sorts that subsort pairs name, by their keys: of each the numbers of those that a pair puts directly above it.
+/// The sorts that subsort pairs name, by number, and of each the numbers of all sorts below it as spans. The numbers go
+/// upwards through a tree, so that one span is enough where the sorts are a tree, with pairs that follow from others or
+/// without them. Where sorts have several sorts directly above them there may be more; a question takes as many steps
+/// as the upper sort has spans.
 #[derive(Drop)]
 pub struct SortOrder {
-    pub numbers: NamePlaces,
-    pub above: Vec<Vec<usize>>,
+    pub graph: SortGraph,
+    pub spans: Vec<Vec<Span>>,
+}
+
+/// The sorts of the pairs, numbered in the order of `ranking`, with the pairs.
+fn ranked_graph(alloc: Global, pairs: &[Subsort]) -> Result<SortGraph, AllocError>
+    ensures { IfOk result (IsGraphOf (map subsort_view pairs.now)) }
+{
+    let mut found = SortGraph::empty(alloc);
+    found.add_pairs(alloc, pairs)?;
+    let places = ranking(alloc, &found.above)?;
+    let mut graph = SortGraph::empty(alloc);
+    graph.add_sorts(alloc, &found.numbering.sorts, &places)?;
+    graph.add_pairs(alloc, pairs)?;
+    Ok(graph)
 }
 
 impl SortOrder {
@@ -27,75 +43,41 @@ impl SortOrder {
     pub fn new(alloc: Global, pairs: &[Subsort]) -> Result<SortOrder, AllocError>
         ensures { IfOk result (IsOrderOf (map subsort_view pairs.now)) }
     {
-        let mut order = SortOrder::empty(alloc);
-        for pair in pairs {
-            order.add_pair(alloc, pair)?;
-        }
-        Ok(order)
-    }
-
-    /// No pairs.
-    fn empty(alloc: Global) -> SortOrder
-        ensures { IsOrderUpTo [] [] result }
-    {
-        SortOrder {
-            numbers: IndexMap::new(alloc),
-            above: Vec::new(alloc),
-        }
-    }
-
-    /// Takes in one subsort.
-    fn add_pair(&mut self, alloc: Global, pair: &Subsort) -> Result<(), AllocError>
-        ensures { (pairs : List (KoreSort × KoreSort)) (sorts : List KoreSort) → IsOrderUpTo pairs sorts self.old → OnOk result ((all : List KoreSort) × IsOrderUpTo (pairs ++ subsort_view pair.now ∷ []) all self.new) }
-    {
-        let lower = self.number_for(alloc, &pair.lower)?;
-        let upper = self.number_for(alloc, &pair.upper)?;
-        Ok(add_edge(&mut self.above, lower, upper)?)
+        let graph = ranked_graph(alloc, pairs)?;
+        let spans = closures(alloc, &graph.below)?;
+        Ok(SortOrder { graph, spans })
     }
 
     /// The number of a sort that some pair names.
-    fn number_of(&self, alloc: Global, sort: &Sort) -> Result<Option<usize>, AllocError>
-        ensures { IfOk result (λ o. o ≡ get_by_text self.now.numbers (key_of (sort_view sort.now))) }
+    pub fn number_of(&self, sort: &Sort) -> Option<usize>
+        ensures { (pairs : List (KoreSort × KoreSort)) → IsOrderOf pairs self.now → TellsNumber (sorts_of self.now.graph) (sort_view sort.now) result }
     {
-        let key = sort_key(alloc, sort)?;
-        Ok(self.numbers.get(key.as_str()).copied())
+        self.graph.numbering.number_of(sort)
     }
 
-    /// The number of a sort, a new one where it has none.
-    fn number_for(&mut self, alloc: Global, sort: &Sort) -> Result<usize, AllocError>
-        ensures { (pairs : List (KoreSort × KoreSort)) (sorts : List KoreSort) → IsOrderUpTo pairs sorts self.old → IfOk result (λ n. (more : List KoreSort) × IsNumber (sorts ++ more) n (sort_view sort.now) × IsOrderUpTo pairs (sorts ++ more) self.new) }
+    /// Whether the second number is the first or lies below it.
+    pub fn is_under(&self, upper: usize, lower: usize) -> bool
+        ensures { (pairs : List (KoreSort × KoreSort)) → IsOrderOf pairs self.now → upper < length (sorts_of self.now.graph) → IsTrue result ↔ Under self.now.graph upper lower }
     {
-        match self.number_of(alloc, sort)? {
-            Some(number) => Ok(number),
-            None => Ok(self.add_sort(alloc, sort)?),
+        if upper < self.spans.len() {
+            return is_within(&self.spans[upper], lower);
         }
-    }
-
-    /// Gives a new sort its number.
-    fn add_sort(&mut self, alloc: Global, sort: &Sort) -> Result<usize, AllocError>
-        ensures { (pairs : List (KoreSort × KoreSort)) (sorts : List KoreSort) → IsOrderUpTo pairs sorts self.old → None ≡ get_by_text self.old.numbers (key_of (sort_view sort.now)) → IfOk result (λ n. IsNumber (sorts ++ sort_view sort.now ∷ []) n (sort_view sort.now) × IsOrderUpTo pairs (sorts ++ sort_view sort.now ∷ []) self.new) }
-    {
-        let key = sort_key(alloc, sort)?;
-        let number = self.above.len();
-        self.numbers.insert(key, number)?;
-        self.above.push(Vec::new(alloc))?;
-        Ok(number)
+        false
     }
 
     /// Whether a sort is another or lies below it.
-    pub fn is_below(&self, alloc: Global, lower: &Sort, upper: &Sort) -> Result<bool, AllocError>
-        ensures { (pairs : List (KoreSort × KoreSort)) → IsOrderOf pairs self.now → IfOk result (λ b. IsTrue b ↔ IsBelow pairs (sort_view lower.now) (sort_view upper.now)) }
+    pub fn is_below(&self, lower: &Sort, upper: &Sort) -> bool
+        ensures { (pairs : List (KoreSort × KoreSort)) → IsOrderOf pairs self.now → IsTrue result ↔ IsBelow pairs (sort_view lower.now) (sort_view upper.now) }
     {
         if lower.equal(upper) {
-            return Ok(true);
+            return true;
         }
-        let Some(from) = self.number_of(alloc, lower)? else {
-            return Ok(false);
+        let Some(from) = self.number_of(lower) else {
+            return false;
         };
-        let Some(to) = self.number_of(alloc, upper)? else {
-            return Ok(false);
+        let Some(to) = self.number_of(upper) else {
+            return false;
         };
-        let found = reached_from(alloc, &self.above, from)?;
-        Ok(has(&found, to))
+        self.is_under(to, from)
     }
 }

@@ -5,6 +5,7 @@ ghost use Rattle.kp_signature.specs.Alone.{numbers_stand_alone, truths_stand_alo
 ghost use Rattle.kp_signature.specs.Table.{table_view};
 
 use crate::declarations::Declarations;
+use crate::order::SortOrder;
 use crate::table::Subsort;
 use kp_kore::{AliasSentence, Module, Name, Sort, SortSentence, SymbolSentence};
 use std::alloc::{AllocError, Global};
@@ -29,6 +30,7 @@ impl Signature {
     ghost use Rattle.kp_signature.specs.Places.{unknown_sort_in, unknown_sort_among, is_known};
     ghost use Rattle.std.specs.List.{find};
     ghost use Rattle.std.specs.Str.{bytes_eq};
+    ghost use Rattle.kp_signature.specs.Order.{IsOrderOf};
     ghost use Rattle.kp_signature.specs.Table.{subsort_view};
     ghost use Rattle.kp_signature.specs.View.{signature_view, sentences_of};
 
@@ -144,10 +146,18 @@ impl Signature {
         }
     }
 
-    /// Whether a sort is another or lies below it, by the pairs that the attributes `subsort{A,B}()` give.
-    pub fn is_below(&self, alloc: Global, lower: &Sort, upper: &Sort) -> Result<bool, AllocError>
-        ensures { IfOk result (λ b. IsTrue b ↔ IsBelow (signature_view self.now).subsorts (sort_view lower.now) (sort_view upper.now)) }
+    /// The order of the sorts, by the pairs that the attributes `subsort{A,B}()` give.
+    pub fn order(&self) -> &SortOrder
+        ensures { IsOrderOf (signature_view self.now).subsorts result.now }
     {
-        self.declarations.is_below(alloc, lower, upper)
+        self.declarations.order()
+    }
+
+    /// Whether a sort is another or lies below it, by the pairs that the attributes `subsort{A,B}()` give. Takes no
+    /// memory, and as many steps as the upper sort has spans (see `SortOrder`).
+    pub fn subsort(&self, lower: &Sort, upper: &Sort) -> bool
+        ensures { IsTrue result ↔ IsBelow (signature_view self.now).subsorts (sort_view lower.now) (sort_view upper.now) }
+    {
+        self.declarations.subsort(lower, upper)
     }
 }

@@ -7,6 +7,8 @@ mod claims;
 #[cfg(test)]
 mod definitions;
 #[cfg(test)]
+mod subsorts;
+#[cfg(test)]
 mod substituting;
 #[cfg(test)]
 mod texts;

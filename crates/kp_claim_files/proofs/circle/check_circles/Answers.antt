@@ -4,8 +4,8 @@ use Rattle.indexmap.specs.IndexMap.{get_by_text}
 use Rattle.kp_layers.specs.Layers.{DependsOn, AreLayers}
 use Rattle.kp_layers.specs.Walks.{numbers_of, IsRight}
 use Rattle.kp_layers.proofs.Layered.{no_cycle}
-use Rattle.kp_claim_files.specs.Items.{items_view}
-use Rattle.kp_claim_files.specs.Faults.{needs_of}
+use Rattle.kp_claim_sentences.specs.Items.{items_view}
+use Rattle.kp_claim_sentences.specs.Faults.{needs_of}
 use Rattle.kp_claim_files.proofs.Circles.{needs_stated, is_circle}
 use Rattle.kp_claim_files.proofs.circle.check_circles.Goals as goal
 

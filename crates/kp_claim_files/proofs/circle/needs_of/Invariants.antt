@@ -2,7 +2,7 @@ use Rattle.std.proofs.Common.{◌≡◌, ◌++◌, map, drop}
 use Rattle.std.specs.List.{filter_map}
 use Rattle.indexmap.specs.IndexMap.{get_by_text}
 use Rattle.kp_layers.specs.Walks.{numbers_of}
-use Rattle.kp_claim_files.specs.Items.{items_view}
+use Rattle.kp_claim_sentences.specs.Items.{items_view}
 use Rattle.kp_claim_files.proofs.circle.needs_of.Given as goal
 
 abbrev pub invariant-loop-item : goal.invariant-loop-item

@@ -1,7 +1,7 @@
 use Rattle.std.proofs.Common.{◌≡◌, ◌++◌, drop}
 use Rattle.kp_claims.specs.Faults.{labels_of}
 use Rattle.kp_claims.specs.Sentences.{seen}
-use Rattle.kp_claim_files.specs.Read.{names_seen}
+use Rattle.kp_claim_sentences.specs.Noted.{names_seen}
 use Rattle.kp_claim_files.proofs.labels.labels_of.Given as goal
 
 abbrev pub invariant-loop-i : goal.invariant-loop-i

@@ -1,6 +1,6 @@
 use Rattle.std.proofs.Common.{take}
 use Rattle.kp_signature.specs.Names.{Indexes}
-use Rattle.kp_claim_files.specs.Read.{names_seen}
+use Rattle.kp_claim_sentences.specs.Noted.{names_seen}
 use Rattle.kp_claim_files.proofs.labels.places_of.Given as goal
 
 abbrev pub invariant-loop-i : goal.invariant-loop-i

@@ -3,7 +3,7 @@ use Rattle.std.proofs.lemmas.List.{append_assoc}
 use Rattle.kp_kore.specs.Syntax.{axiom_sentence}
 use Rattle.kp_kore.specs.View.{sentence_view}
 use Rattle.kp_semantics.specs.ClaimModules.{claim_axiom}
-use Rattle.kp_claim_files.specs.Items.{sorted_view}
+use Rattle.kp_claim_sentences.specs.Items.{sorted_view}
 use Rattle.kp_claim_files.specs.Modules.{claims_at}
 use Rattle.kp_claim_files.proofs.ClaimsAt.{claims_on}
 use Rattle.kp_claim_files.proofs.module.add_axioms.Goals as goal

@@ -2,7 +2,7 @@ use Rattle.kp_kore.specs.View.{axiom_sentence_view}
 use Rattle.kp_signature.specs.View.{signature_view}
 use Rattle.kp_claims.specs.Faults.{TellsOf}
 use Rattle.kp_claims.proofs.OneMore.{exit}
-use Rattle.kp_claim_files.specs.Faults.{IsFaultOfClaim}
+use Rattle.kp_claim_sentences.specs.Faults.{IsFaultOfClaim}
 use Rattle.kp_claim_files.proofs.FirstFaults.{told_early, told_use}
 use Rattle.kp_claim_files.proofs.read.claim_of.Goals as goal
 

@@ -2,7 +2,7 @@ use Rattle.std.proofs.Common.{refl, sym, subst, inl, inr, IfErr, OnOk}
 use Rattle.kp_kore.specs.View.{sentence_view}
 use Rattle.kp_signature.specs.View.{signature_view}
 use Rattle.kp_claims.specs.Faults.{other_shape, TellsOf}
-use Rattle.kp_claim_files.specs.Faults.{IsFaultAt, IsFaultless}
+use Rattle.kp_claim_sentences.specs.Faults.{IsFaultAt, IsFaultless}
 use Rattle.kp_claim_files.proofs.FirstFaults.{IsMisplaced}
 use Rattle.kp_claim_files.proofs.read.claim_of_sentence.Goals as goal
 

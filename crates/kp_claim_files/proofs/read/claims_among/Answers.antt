@@ -7,9 +7,9 @@ use Rattle.kp_claims.specs.Faults.{labels_of, TellsOf}
 use Rattle.kp_claims.specs.Labels.{Lists}
 use Rattle.kp_claims.specs.Sentences.{seen}
 use Rattle.kp_claims.proofs.OneMore.{seen_more, seen_split, labels_more, zip_push, exit}
-use Rattle.kp_claim_files.specs.Claims.{IsStatedBy}
-use Rattle.kp_claim_files.specs.Faults.{AreFaultless, file_labels, IsFirstFault}
-use Rattle.kp_claim_files.specs.Items.{item_view, items_view}
+use Rattle.kp_claim_sentences.specs.Claims.{IsStatedBy}
+use Rattle.kp_claim_sentences.specs.Faults.{AreFaultless, file_labels, IsFirstFault}
+use Rattle.kp_claim_sentences.specs.Items.{item_view, items_view}
 use Rattle.kp_claim_files.proofs.FirstFaults.{one_more, told_first}
 use Rattle.kp_claim_files.proofs.read.claims_among.Goals as goal
 

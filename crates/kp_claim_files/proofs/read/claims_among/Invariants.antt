@@ -4,9 +4,9 @@ use Rattle.kp_signature.specs.View.{signature_view}
 use Rattle.kp_claims.specs.Faults.{labels_of}
 use Rattle.kp_claims.specs.Labels.{Lists}
 use Rattle.kp_claims.specs.Sentences.{seen}
-use Rattle.kp_claim_files.specs.Claims.{IsStatedBy}
-use Rattle.kp_claim_files.specs.Faults.{AreFaultless, file_labels}
-use Rattle.kp_claim_files.specs.Items.{items_view}
+use Rattle.kp_claim_sentences.specs.Claims.{IsStatedBy}
+use Rattle.kp_claim_sentences.specs.Faults.{AreFaultless, file_labels}
+use Rattle.kp_claim_sentences.specs.Items.{items_view}
 use Rattle.kp_claim_files.specs.Read.{Notes}
 use Rattle.kp_claim_files.proofs.read.claims_among.Given as goal
 

@@ -5,9 +5,9 @@ use Rattle.kp_claims.specs.Faults.{TellsOf}
 use Rattle.kp_claims.specs.Sentences.{seen}
 use Rattle.kp_claims.proofs.Claimed.{tells_map}
 use Rattle.kp_claims.proofs.OneMore.{exit}
-use Rattle.kp_claim_files.specs.Claims.{IsStatedBy}
-use Rattle.kp_claim_files.specs.Faults.{IsFirstFault, IsCircle, IsFaultOfFile}
-use Rattle.kp_claim_files.specs.Items.{items_view}
+use Rattle.kp_claim_sentences.specs.Claims.{IsStatedBy}
+use Rattle.kp_claim_sentences.specs.Faults.{IsFirstFault, IsCircle, IsFaultOfFile}
+use Rattle.kp_claim_sentences.specs.Items.{items_view}
 use Rattle.kp_claim_files.proofs.read.claims_of.Goals as goal
 
 pub returns-in_err-items-clause-err : goal.returns-in_err-items-clause-err

@@ -1,7 +1,7 @@
 use Rattle.std.proofs.Common.{ap, ◌∙◌, codes, [], string_bytes, unwrap_or}
 use Rattle.kp_kore.specs.Attributes.{has_mark}
 use Rattle.kp_kore.specs.View.{view, sort_view, patterns_view, names_view}
-use Rattle.kp_claim_files.specs.Claims.{dependencies_of}
+use Rattle.kp_claim_sentences.specs.Claims.{dependencies_of}
 use Rattle.kp_claim_files.proofs.FirstFaults.{made_same}
 use Rattle.kp_claim_files.proofs.read.item_of.Goals as goal
 

@@ -6,9 +6,9 @@ use Rattle.kp_claims.specs.Claims.{counted}
 use Rattle.kp_claims.specs.Faults.{TellsOf}
 use Rattle.kp_claims.specs.Sentences.{seen}
 use Rattle.kp_claims.proofs.OneMore.{exit}
-use Rattle.kp_claim_files.specs.Claims.{IsStatedBy}
-use Rattle.kp_claim_files.specs.Faults.{IsFaultlessFile, IsFaultOfFile, IsErrorOf}
-use Rattle.kp_claim_files.specs.Items.{items_view}
+use Rattle.kp_claim_sentences.specs.Claims.{IsStatedBy}
+use Rattle.kp_claim_sentences.specs.Faults.{IsFaultlessFile, IsFaultOfFile, IsErrorOf}
+use Rattle.kp_claim_sentences.specs.Items.{items_view}
 use Rattle.kp_claim_files.proofs.FirstFaults.{text_told, sentences_told}
 use Rattle.kp_claim_files.proofs.read.read_claims.Goals as goal
 

@@ -6,7 +6,7 @@ use Rattle.kp_claims.specs.Faults.{label_fault, TellsOf}
 use Rattle.kp_claims.specs.Labels.{Lists}
 use Rattle.kp_claims.specs.Sides.{sides_view}
 use Rattle.kp_claims.proofs.OneMore.{exit}
-use Rattle.kp_claim_files.specs.Faults.{early_fault}
+use Rattle.kp_claim_sentences.specs.Faults.{early_fault}
 use Rattle.kp_claim_files.proofs.FirstFaults.{told_label, made_clear}
 use Rattle.kp_claim_files.proofs.read.stated_claim.Goals as goal
 

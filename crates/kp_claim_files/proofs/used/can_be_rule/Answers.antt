@@ -4,7 +4,7 @@ use Rattle.kp_semantics.specs.Rules.{is_rewriting}
 use Rattle.kp_semantics.specs.ClaimModules.{claim_axiom, CanBeRule}
 use Rattle.kp_signature.specs.View.{signature_view}
 use Rattle.kp_rules.specs.Bodies.{IsReadAs, IsFaulty}
-use Rattle.kp_claim_files.specs.Items.{sorted_view}
+use Rattle.kp_claim_sentences.specs.Items.{sorted_view}
 use Rattle.kp_claim_files.specs.Read.{reads_rule}
 use Rattle.kp_claim_files.proofs.RuleUse.{can_by, faulty_can, it_rewrites}
 use Rattle.kp_claim_files.proofs.used.can_be_rule.Goals as goal

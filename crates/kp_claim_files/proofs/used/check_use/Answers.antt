@@ -10,8 +10,8 @@ use Rattle.kp_signature.proofs.ScopeLemmas.{ok_map, err_map}
 use Rattle.kp_claims.specs.Faults.{unknown_label, TellsOf}
 use Rattle.kp_claims.proofs.Claimed.{tells_map}
 use Rattle.kp_claims.proofs.OneMore.{exit}
-use Rattle.kp_claim_files.specs.Faults.{IsRuleFault, IsUsable, unknown_fault}
-use Rattle.kp_claim_files.specs.Read.{has_name}
+use Rattle.kp_claim_sentences.specs.Faults.{IsRuleFault, IsUsable, unknown_fault}
+use Rattle.kp_claim_sentences.specs.Noted.{has_name}
 use Rattle.kp_claim_files.proofs.RuleUse.{place_listed, unknown_same}
 use Rattle.kp_claim_files.proofs.used.check_use.Goals as goal
 

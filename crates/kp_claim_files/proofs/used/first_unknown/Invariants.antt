@@ -1,7 +1,7 @@
 use Rattle.std.proofs.Common.{◌≡◌, not, drop}
 use Rattle.std.specs.List.{find}
 use Rattle.kp_kore.specs.View.{names_view}
-use Rattle.kp_claim_files.specs.Read.{has_name}
+use Rattle.kp_claim_sentences.specs.Noted.{has_name}
 use Rattle.kp_claim_files.proofs.used.first_unknown.Given as goal
 
 abbrev pub invariant-loop-i : goal.invariant-loop-i

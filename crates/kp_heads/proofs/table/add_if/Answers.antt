@@ -1,5 +1,5 @@
 use Rattle.std.proofs.Common.{rules, ◌≡◌, true, MatchBool, sym, subst, ◌∷◌, []}
-use Rattle.kp_signature.specs.Order.{Extended}
+use Rattle.kp_signature.specs.Edges.{Extended}
 use Rattle.kp_signature.proofs.EdgeLemmas.{inserted}
 use Rattle.kp_heads.proofs.table.add_if.Goals as goal
 

@@ -57,7 +57,7 @@ returns-in_err-rewrite-in-Some-clause-fault c =
     let so : c.in_ok-is_read_statement.field-0 ≡ true = search rules in
     let read : IsStatementRead g a = MatchBool-at_true (IsStatementRead g a) (¬ IsStatementRead g a) so c.in_ok-is_read_statement.ensures in
     let told = shape_told g (rewriting s l r) r c.in_ok-shape.field-0 c.in-Some.shape c.in-Some.is (c.in_ok-shape.ensures s) in
-    let sound = sound_where_read g a s l r m c.requires.sides read told.0 told.1 c.in_ok-check-in-Some.ensures.verified c.in_ok-check-in-Some.ensures.injections in
+    let sound = sound_where_read g a s l r m c.requires.sides read told.0 told.1 c.in_ok-check-in-Some.ensures.verified c.in_ok-check-in-Some.ensures.injections c.in_ok-check-in-Some.ensures.declared in
     let p = err_from_is_err_and c.from_residual-in_err-rewrite-in-Some.result c.from_residual-in_err-rewrite-in-Some.ensures.1 in
     rw (p.1, p.2) (λ f. absurd (cc (sym (c.in_err-rewrite-in-Some.ensures.sound sound) ∙ f)))
 
@@ -73,11 +73,11 @@ returns-in_ok-rewrite-in-Some-clause-read c =
     let read : IsStatementRead g a = MatchBool-at_true (IsStatementRead g a) (¬ IsStatementRead g a) so c.in_ok-is_read_statement.ensures in
     let told = shape_told g (rewriting s l r) r c.in_ok-shape.field-0 c.in-Some.shape c.in-Some.is (c.in_ok-shape.ensures s) in
     rewrite_body g a s l r m c.in_ok-rewrite-in-Some.rewrite c.requires.sides (rule_left_is_verified g s l r m) (rule_right_is_sorted g s l r m)
-    read told.0 told.1 c.in_ok-check-in-Some.ensures.verified c.in_ok-check-in-Some.ensures.injections refl c.in_ok-rewrite-in-Some.ensures.made.0 c.in_ok-rewrite-in-Some.ensures.made.1
+    read told.0 told.1 c.in_ok-check-in-Some.ensures.verified c.in_ok-check-in-Some.ensures.injections c.in_ok-check-in-Some.ensures.declared refl c.in_ok-rewrite-in-Some.ensures.made.0 c.in_ok-rewrite-in-Some.ensures.made.1
 
 pub returns-in_ok-rewrite-in-Some-clause-unfaulty : goal.returns-in_ok-rewrite-in-Some-clause-unfaulty
 returns-in_ok-rewrite-in-Some-clause-unfaulty c =
-    no_fault (signature_view c.args.signature.now) (axiom_sentence_view c.args.statement.now) c.in_ok-check-in-Some.ensures.verified c.in_ok-check-in-Some.ensures.injections
+    no_fault (signature_view c.args.signature.now) (axiom_sentence_view c.args.statement.now) c.in_ok-check-in-Some.ensures.verified c.in_ok-check-in-Some.ensures.injections c.in_ok-check-in-Some.ensures.declared
 
 pub returns-in-None-clause-read : goal.returns-in-None-clause-read
 returns-in-None-clause-read c =

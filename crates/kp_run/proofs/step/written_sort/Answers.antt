@@ -6,9 +6,9 @@ use Rattle.kp_semantics.specs.Value.{HasSort}
 use Rattle.kp_run.proofs.Above.{has_sort_above}
 use Rattle.kp_run.proofs.step.written_sort.Goals as goal
 
-pub returns-then-branch-clause-sort : goal.returns-then-branch-clause-sort
-returns-then-branch-clause-sort c = λ u h.
+pub returns-then-subsort-clause-sort : goal.returns-then-subsort-clause-sort
+returns-then-subsort-clause-sort c = λ u h.
     let g = signature_view c.args.signature.now in
-    IfOk-weaker c.copy-then-branch.result _ _
-    (λ s e. subst (λ k. HasSort g k u) (sym e) (has_sort_above g (sort_view c.args.right.now) (sort_view c.args.state.now) u (c.in_ok-is_below.ensures.0 c.if-branch.true) h))
-    c.copy-then-branch.ensures
+    IfOk-weaker c.copy-then-subsort.result _ _
+    (λ s e. subst (λ k. HasSort g k u) (sym e) (has_sort_above g (sort_view c.args.right.now) (sort_view c.args.state.now) u (c.subsort.ensures.0 c.if-subsort.true) h))
+    c.copy-then-subsort.ensures

@@ -1,6 +1,6 @@
 use Rattle.std.proofs.Common.{sym, subst, [], ◌∷◌, take, get_or}
 use Rattle.std.proofs.lemmas.List.{take_more}
-use Rattle.kp_signature.specs.Order.{Extended}
+use Rattle.kp_signature.specs.Edges.{Extended}
 use Rattle.kp_signature.proofs.EdgeLemmas.{extended_on}
 use Rattle.kp_signature.proofs.edges.add_all.Goals as goal
 

@@ -1,5 +1,5 @@
 use Rattle.std.proofs.Common.{take}
-use Rattle.kp_signature.specs.Order.{Extended}
+use Rattle.kp_signature.specs.Edges.{Extended}
 use Rattle.kp_signature.proofs.edges.add_all.Given as goal
 
 abbrev pub invariant-loop-number : goal.invariant-loop-number

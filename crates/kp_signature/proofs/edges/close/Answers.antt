@@ -1,6 +1,6 @@
 use Rattle.std.proofs.Common.{rules, ℕ, ◌<◌, ◌≤◌, List, subst, [], take, get_or, length}
 use Rattle.std.proofs.lemmas.List.{take_all}
-use Rattle.kp_signature.specs.Order.{Extended, edges_of}
+use Rattle.kp_signature.specs.Edges.{Extended, edges_of}
 use Rattle.kp_signature.proofs.EdgeLemmas.{Closing, closing_start, closing_more, all_closed, first_ones, is_found, is_read}
 use Rattle.kp_signature.proofs.edges.close.Goals as goal
 

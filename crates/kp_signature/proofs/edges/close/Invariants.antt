@@ -1,5 +1,5 @@
 use Rattle.std.proofs.Common.{◌^◌, ◌-◌, take}
-use Rattle.kp_signature.specs.Order.{edges_of}
+use Rattle.kp_signature.specs.Edges.{edges_of}
 use Rattle.kp_signature.proofs.EdgeLemmas.{Closing}
 use Rattle.kp_signature.proofs.edges.close.Given as goal
 

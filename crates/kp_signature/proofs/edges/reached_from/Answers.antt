@@ -1,4 +1,4 @@
-use Rattle.kp_signature.specs.Order.{edges_of}
+use Rattle.kp_signature.specs.Edges.{edges_of}
 use Rattle.kp_signature.proofs.EdgeLemmas.{from_one}
 use Rattle.kp_signature.proofs.edges.reached_from.Goals as goal
 

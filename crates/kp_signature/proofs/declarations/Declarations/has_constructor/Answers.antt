@@ -1,5 +1,4 @@
 use Rattle.std.proofs.Common.{◌≡◌, subst}
-use Rattle.std.specs.Prelude.{IfOk}
 use Rattle.kp_kore.specs.Signature.{is_own_below, sort_made, symbol_declared}
 use Rattle.kp_kore.specs.View.{sort_view}
 use Rattle.kp_signature.specs.Table.{table_view}
@@ -8,5 +7,5 @@ use Rattle.kp_signature.proofs.declarations.Declarations.has_constructor.Goals a
 pub returns : goal.returns
 returns c =
     let g = table_view c.args.self.now.table in
-    subst (λ n. IfOk c.is_own_below.result (λ b. b ≡ is_own_below g (sort_view c.args.own.now) (sort_made (symbol_declared g n)))) c.deref.ensures
-    (subst (λ o. IfOk c.is_own_below.result (λ b. b ≡ is_own_below g (sort_view c.args.own.now) o)) c.sort_made.ensures c.is_own_below.ensures)
+    subst (λ n. c.is_own_below.result ≡ is_own_below g (sort_view c.args.own.now) (sort_made (symbol_declared g n))) c.deref.ensures
+    (subst (λ o. c.is_own_below.result ≡ is_own_below g (sort_view c.args.own.now) o) c.sort_made.ensures c.is_own_below.ensures)

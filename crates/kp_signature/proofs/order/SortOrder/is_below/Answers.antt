@@ -1,8 +1,9 @@
-use Rattle.std.proofs.Common.{◌↔◌, ℕ, List, Vec, Global, refl, sym, subst, ◌∙◌, Contains}
+use Rattle.std.proofs.Common.{refl, subst, ◌∙◌}
 use Rattle.kp_kore.specs.Signature.{itself, IsBelow}
 use Rattle.kp_kore.specs.View.{sort_view}
-use Rattle.kp_signature.specs.Order.{Reaches, edges_of, sort_key}
-use Rattle.kp_signature.proofs.OrderLemmas.{number_told, no_number, none_above, none_below, reached_is_above}
+use Rattle.kp_signature.specs.Numbering.{TellsNumber}
+use Rattle.kp_signature.specs.Order.{sorts_of}
+use Rattle.kp_signature.proofs.OrderLemmas.{none_above, none_below, under_is_below, below_is_under}
 use Rattle.kp_signature.proofs.order.SortOrder.is_below.Goals as goal
 
 pub returns-then-equal : goal.returns-then-equal
@@ -12,24 +13,26 @@ returns-then-equal c pairs ix =
 
 pub returns-in_default : goal.returns-in_default
 returns-in_default c pairs ix =
+    let x = c.args.self.now.graph in
     let a = sort_view c.args.lower.now in
-    let none = no_number ix.sorts a (sym c.in_default.is ∙ c.in_ok-from.ensures ∙ ix.by.numbers (sort_key a)) in
-    (λ h. absurd (cc), λ h. absurd (cc (c.equal.ensures.1 (none_above pairs c.args.self.now ix a (sort_view c.args.upper.now) none h), c.if-equal.false)))
+    let none = subst (TellsNumber (sorts_of x) a) c.in_default.is (c.number_of.ensures pairs ix) in
+    (λ h. absurd (cc), λ h. absurd (cc (c.equal.ensures.1 (none_above pairs x ix.graph a (sort_view c.args.upper.now) none h), c.if-equal.false)))
 
-pub returns-in_default-2 : goal.returns-in_default-2
-returns-in_default-2 c pairs ix =
+pub returns-in_default-number_of : goal.returns-in_default-number_of
+returns-in_default-number_of c pairs ix =
+    let x = c.args.self.now.graph in
     let b = sort_view c.args.upper.now in
-    let none = no_number ix.sorts b (sym c.in_default-2.is ∙ c.in_ok-to.ensures ∙ ix.by.numbers (sort_key b)) in
-    (λ h. absurd (cc), λ h. absurd (cc (c.equal.ensures.1 (none_below pairs c.args.self.now ix (sort_view c.args.lower.now) b none h), c.if-equal.false)))
+    let none = subst (TellsNumber (sorts_of x) b) c.in_default-number_of.is (c.number_of-2.ensures pairs ix) in
+    (λ h. absurd (cc), λ h. absurd (cc (c.equal.ensures.1 (none_below pairs x ix.graph (sort_view c.args.lower.now) b none h), c.if-equal.false)))
 
 pub returns : goal.returns
 returns c pairs ix =
+    let x = c.args.self.now.graph in
     let a = sort_view c.args.lower.now in
     let b = sort_view c.args.upper.now in
-    let i = c.in-Some.from in
-    let j = c.in-Some-2.to in
-    let n = number_told ix.sorts a i (sym c.in-Some.is ∙ c.in_ok-from.ensures ∙ ix.by.numbers (sort_key a)) in
-    let m = number_told ix.sorts b j (sym c.in-Some-2.is ∙ c.in_ok-to.ensures ∙ ix.by.numbers (sort_key b)) in
-    let all = subst (λ (edges : List (Vec ℕ Global)). (k : ℕ) → Contains c.in_ok-found.found.keys k ↔ Reaches (edges_of edges) i k) c.deref.ensures.value c.in_ok-found.ensures j in
-    let is = reached_is_above pairs c.args.self.now ix i j a b n m in
-    (λ h. is.0 (all.0 (c.has.ensures.0 h)), λ h. c.has.ensures.1 (all.1 (is.1 h)))
+    let i = c.in-Some-number_of.to in
+    let j = c.in-Some.from in
+    let n = subst (TellsNumber (sorts_of x) a) c.in-Some.is (c.number_of.ensures pairs ix) in
+    let m = subst (TellsNumber (sorts_of x) b) c.in-Some-number_of.is (c.number_of-2.ensures pairs ix) in
+    let test = c.is_under.ensures pairs ix m.0 in
+    (λ h. under_is_below pairs x ix.graph i j a b m n (test.0 h), λ h. test.1 (below_is_under pairs x ix.graph i j a b m n h))

@@ -1,0 +1,4 @@
+pub mod Commas
+pub mod Noting
+pub mod OneSort
+pub mod Shapes

@@ -1,9 +1,0 @@
-use Rattle.kp_kore.specs.View.{sort_view}
-use Rattle.kp_signature.specs.Table.{table_view}
-use Rattle.kp_signature.proofs.OrderLemmas.{told_below}
-use Rattle.kp_signature.proofs.declarations.Declarations.is_below.Goals as goal
-
-pub returns : goal.returns
-returns c =
-    let g = table_view c.args.self.now.table in
-    told_below g.subsorts (sort_view c.args.lower.now) (sort_view c.args.upper.now) c.in_ok-is_below.field-0 c.args.self.now.ordered (c.in_ok-is_below.ensures g.subsorts)
