@@ -1,11 +1,8 @@
 -- What the code notes of a file, and the claims that it makes of statements.
-use Rattle.std.specs.Prelude.{◌≡◌, Bool, true, false, List, map, Option, Some, None, string_bytes, String}
-use Rattle.std.specs.Option.{is_some}
-use Rattle.std.specs.Borrow.{Bor}
-use Rattle.std.specs.declared.alloc.Global.{Global}
-use Rattle.indexmap.specs.IndexMap.{IndexMap, get_by_text}
+use Rattle.std.specs.Prelude.{◌≡◌, Bool, true, false, [], Some, None, codes, unwrap_or}
 use Rattle.kp_kore.specs.Syntax.{Text, Statement}
 use Rattle.kp_kore.specs.Signature.{KoreSignature}
+use Rattle.kp_kore.specs.Attributes.{has_mark}
 use Rattle.kp_kore.specs.View.{view, sort_view}
 use Rattle.kp_signature.specs.Names.{Indexes}
 use Rattle.kp_signature.specs.Places.{the_top}
@@ -13,7 +10,7 @@ use Rattle.kp_signature.specs.Verify.{first_fault}
 use Rattle.kp_claims.specs.Claims.{ClaimSides}
 use Rattle.kp_claims.specs.Faults.{bare_claim}
 use Rattle.kp_claims.specs.Labels.{Lists}
-use Rattle.kp_claim_sentences.specs.Claims.{clear_sides, IsStatedAs}
+use Rattle.kp_claim_sentences.specs.Claims.{clear_sides, dependencies_of, IsStatedAs, StatedClaim}
 use Rattle.kp_claim_sentences.specs.Faults.{FileLabels}
 use Rattle.kp_claim_sentences.specs.Items.{item_view}
 use Rattle.kp_claim_sentences.specs.declared.item.ClaimItem.{ClaimItem}
@@ -28,6 +25,16 @@ pub record Notes (file : FileLabels) (noted : code.FileLabels) : Type 0 where
 
 abbrev pub sides_at : ClaimItem → ClaimSides
 sides_at i = record { sort = sort_view i.sort; left = view i.claim.left; right = view i.claim.right }
+
+-- the claim of a statement, with this label and these sides
+abbrev pub claim_between : Text → Statement → ClaimSides → StatedClaim
+claim_between label s x = record {
+  label = label;
+  pattern = s.pattern;
+  claim = record { sort = x.sort; claim = record { left = x.left; right = x.right } };
+  circular = has_mark (codes "circularity") s.attributes;
+  depends = unwrap_or (dependencies_of s.attributes) [];
+}
 
 -- the claim that a statement makes; its shape, its names and what it says over the signature are without fault
 pub record IsClear (g : KoreSignature) (s : Statement) (i : ClaimItem) : Type 0 where

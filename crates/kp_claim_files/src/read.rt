@@ -1,9 +1,8 @@
 // The claims of a file.
-ghost use Rattle.std.specs.Prelude.{◌≡◌, ◌++◌, [], List, Some, None, IfOk, IfErr, OnOk, string_bytes, unwrap_or, codes};
+ghost use Rattle.std.specs.Prelude.{◌≡◌, ◌++◌, [], List, Some, None, IfOk, IfErr, OnOk, string_bytes};
 ghost use Rattle.std.specs.List.{AllZip};
-ghost use Rattle.kp_kore.specs.Attributes.{has_mark as mark_among};
 ghost use Rattle.kp_kore.specs.Syntax.{Text, KoreModule, claim_sentence};
-ghost use Rattle.kp_kore.specs.View.{view, sort_view, axiom_sentence_view, sentence_view};
+ghost use Rattle.kp_kore.specs.View.{axiom_sentence_view, sentence_view};
 ghost use Rattle.kp_signature.specs.View.{signature_view};
 ghost use Rattle.kp_rules.specs.Index.{IsIndexOf};
 ghost use Rattle.kp_claims.specs.Claims.{counted};
@@ -12,10 +11,10 @@ ghost use Rattle.kp_claims.specs.Files.{SpellsFile};
 ghost use Rattle.kp_claims.specs.Labels.{Lists};
 ghost use Rattle.kp_claims.specs.Sentences.{seen};
 ghost use Rattle.kp_claims.specs.Sides.{sides_view};
-ghost use Rattle.kp_claim_sentences.specs.Claims.{dependencies_of as stated_dependencies, IsStatedBy, IsStatedAs};
+ghost use Rattle.kp_claim_sentences.specs.Claims.{IsStatedBy, IsStatedAs};
 ghost use Rattle.kp_claim_sentences.specs.Faults.{FileLabels as Stated, early_fault, file_labels as stated_file, AreFaultless, IsFaultAt, IsFaultless, IsFaultOfClaim, IsFaultlessClaim, IsFaultlessFile, IsFirstFault, IsFaultOfFile, IsErrorOf};
 ghost use Rattle.kp_claim_sentences.specs.Items.{item_view, items_view};
-ghost use Rattle.kp_claim_files.specs.Read.{Notes, IsClear, sides_at};
+ghost use Rattle.kp_claim_files.specs.Read.{Notes, IsClear, claim_between, sides_at};
 
 use crate::circle::check_circles;
 use crate::labels::{FileLabels, file_labels};
@@ -156,7 +155,7 @@ fn item_of(
     label: Name,
     sides: Sides<'_>,
 ) -> Result<ClaimItem, AllocError>
-    ensures item { IfOk result (λ i. item_view i ≡ record { label = string_bytes label; pattern = view statement.now.pattern; claim = record { sort = (sides_view sides.entry).sort; claim = record { left = (sides_view sides.entry).left; right = (sides_view sides.entry).right } }; circular = mark_among (codes "circularity") (axiom_sentence_view statement.now).attributes; depends = unwrap_or (stated_dependencies (axiom_sentence_view statement.now).attributes) [] }) }
+    ensures item { IfOk result (λ i. item_view i ≡ claim_between (string_bytes label) (axiom_sentence_view statement.now) (sides_view sides.entry)) }
 {
     Ok(ClaimItem {
         label,

@@ -83,8 +83,8 @@ straight_more below narrow marks after b numbers n before long is those test i j
           let within = marked_within marks j s.1 in
           (s.0, old_mark j within ∙ s.1, s.2)
       | inr last ↦
-          let yes : b ≡ true = sym (pushed_last marks b false) ∙ ap (λ k. get_or (marks ++ b ∷ []) k false) (sym last) ∙ sym (ap (λ (k : List Bool). get_or k i false) is) ∙ m in
-          let s = test yes j (subst (λ k. Contains k j) (sym those) (subst (λ k. Leads (edges_of below) k j) (last ∙ long) l)) in
+          let passed : b ≡ true = sym (pushed_last marks b false) ∙ ap (λ k. get_or (marks ++ b ∷ []) k false) (sym last) ∙ sym (ap (λ (k : List Bool). get_or k i false) is) ∙ m in
+          let s = test passed j (subst (λ k. Contains k j) (sym those) (subst (λ k. Leads (edges_of below) k j) (last ∙ long) l)) in
           (subst (λ k. j < k) (sym last) s.0, old_mark j s.0 ∙ s.1, s.2)
     ]
   where
@@ -106,8 +106,8 @@ pub marks_more : (P : ℕ → Type 0) (marks after : List Bool) (b : Bool) (n : 
 marks_more P marks after b n before long is test i m = elim (cases (length marks) i (subst (λ k. i < k) (ap length is ∙ pushed_length marks b) (marked_within after i m))) [
   | inl old ↦ before i (sym (ap (λ (l : List Bool). get_or l i false) is ∙ pushed_before marks b false i old) ∙ m)
   | inr last ↦
-      let yes : b ≡ true = sym (pushed_last marks b false) ∙ ap (λ k. get_or (marks ++ b ∷ []) k false) (sym last) ∙ sym (ap (λ (k : List Bool). get_or k i false) is) ∙ m in
-      subst P (sym (last ∙ long)) (test yes)
+      let passed : b ≡ true = sym (pushed_last marks b false) ∙ ap (λ k. get_or (marks ++ b ∷ []) k false) (sym last) ∙ sym (ap (λ (k : List Bool). get_or k i false) is) ∙ m in
+      subst P (sym (last ∙ long)) (test passed)
 ]
   where
     cases : (n i : ℕ) → i < suc n → (i < n) ⊎ (i ≡ n)

@@ -1,6 +1,6 @@
 -- One more rule that fires, or doesn't.
 use Rattle.std.proofs.Common.{◌≡◌, refl, sym, subst, ℕ, zero, suc, ◌<◌, ◌≤◌, List, [], ◌∷◌, ◌++◌, take, length, get_or, ◌+◌, ◌∙◌, ap, Bool, true, false, ◌↔◌, Option, Some, None, Bor, inl, inr, arith}
-use Rattle.std.specs.Prelude.{◌⊎◌, IsTrue, MatchOption}
+use Rattle.std.specs.Prelude.{◌⊎◌, IsTrue}
 use Rattle.std.specs.List.{AllByRecursion}
 use Rattle.std.proofs.lemmas.List.{take_more}
 use Rattle.kp_kore.specs.Signature.{KoreSignature}
@@ -11,7 +11,7 @@ use Rattle.kp_run.specs.declared.step.Firing.{Firing}
 use Rattle.kp_run.specs.declared.step.Turn.{Turn}
 use Rattle.kp_run.specs.declared.step.Turn.TheVariants.{Nobody, One, Several}
 use Rattle.kp_run.specs.Causes.{TwoAmong}
-use Rattle.kp_run.specs.Turns.{BodyFires, BodyIsWide, MightRewrite, NoneMight, IsFirstForeign, GoesAfter, FiresAt, IsFiring, OneAmong, IsTurn}
+use Rattle.kp_run.specs.Turns.{BodyFires, BodyIsWide, MightRewrite, NoneMight, IsFirstForeign, TellsForeign, GoesAfter, FiresAt, IsFiring, OneAmong, IsTurn}
 use Rattle.kp_run.proofs.Among.{all_along, all_and_last, one_all, one_any, one_and_last, last_is_the_one, two_and_last, two_and_more, between_all, between_and_last, last_between}
 
 -- no rule so far has a smaller number
@@ -108,22 +108,18 @@ told_alone g u r rules none might =
     (all_along (λ q. ¬ MightRewrite g u q.body.value) (λ q. MightRewrite g u q.body.value → r.priority < q.priority) (λ q isnt m. absurd (isnt m)) rules none)
     (refl, might)
 
--- the first so far
-abbrev pub IsTold : KoreSignature → Value → List Rule → Option (Bor Rule) → Type 0
-IsTold g u rules first = MatchOption first (NoneMight g u rules) (λ f. IsFirstForeign g u f.now rules)
-
 -- one more that might not
-pub told_past : (g : KoreSignature) (u : Value) (first : Option (Bor Rule)) (r : Rule) (rules : List Rule) → IsTold g u rules first → ¬ MightRewrite g u r.body.value → IsTold g u (rules ++ r ∷ []) first
+pub told_past : (g : KoreSignature) (u : Value) (first : Option (Bor Rule)) (r : Rule) (rules : List Rule) → TellsForeign g u rules first → ¬ MightRewrite g u r.body.value → TellsForeign g u (rules ++ r ∷ []) first
 told_past g u None r rules none isnt = all_and_last (λ q. ¬ MightRewrite g u q.body.value) rules r none isnt
 told_past g u (Some f) r rules is isnt =
     between_and_last (λ q. (q ≡ f.now) × MightRewrite g u q.body.value) (λ q. MightRewrite g u q.body.value → f.now.priority < q.priority) (λ q. MightRewrite g u q.body.value → f.now.priority ≤ q.priority) rules r is (λ m. absurd (isnt m))
 
 pub told_more : (g : KoreSignature) (u : Value) (rules items : List Rule) (i : ℕ) (r : Rule) (first : Option (Bor Rule)) → items ≡ rules → i < length items → r ≡ get_or items i r →
-    IsTold g u (take i rules ++ r ∷ []) first → IsTold g u (take (i + 1) rules) first
+    TellsForeign g u (take i rules ++ r ∷ []) first → TellsForeign g u (take (i + 1) rules) first
 told_more g u rules items i r first e lt is h =
     let inside : i < length rules = subst (λ rs. i < length rs) e lt in
     let it : r ≡ get_or rules i r = subst (λ rs. r ≡ get_or rs i r) e is in
-    subst (λ rs. IsTold g u rs first) (sym (take_more rules i r inside ∙ ap (λ q. take i rules ++ q ∷ []) (sym it))) h
+    subst (λ rs. TellsForeign g u rs first) (sym (take_more rules i r inside ∙ ap (λ q. take i rules ++ q ∷ []) (sym it))) h
 
 -- a rule of the list
 among : (P : Rule → Type 0) (rules : List Rule) (i : ℕ) (r : Rule) → i < length rules → r ≡ get_or rules i r → P r → AnyByRecursion P rules

@@ -1,5 +1,6 @@
 -- What the rules of a rule set that fire on a value come to.
-use Rattle.std.specs.Prelude.{◌≡◌, ◌↔◌, ◌⊎◌, ◌<◌, ◌≤◌, ℕ, true, false, List, [], ◌∷◌}
+use Rattle.std.specs.Prelude.{◌≡◌, ◌↔◌, ◌⊎◌, ◌<◌, ◌≤◌, ℕ, true, false, List, [], ◌∷◌, Option, MatchOption}
+use Rattle.std.specs.Borrow.{Bor}
 use Rattle.std.specs.List.{AllByRecursion}
 use Rattle.kp_kore.specs.Syntax.{KoreSort}
 use Rattle.kp_kore.specs.Parts.{term_depth}
@@ -47,6 +48,10 @@ IsFirstForeign g u first rules = OneBetween
     (λ r. (r ≡ first) × MightRewrite g u r.body.value)
     (λ r. MightRewrite g u r.body.value → first.priority < r.priority)
     (λ r. MightRewrite g u r.body.value → first.priority ≤ r.priority) rules
+
+-- the foreign rule that is told of these rules, where one might
+abbrev pub TellsForeign : KoreSignature → Value → List Rule → Option (Bor Rule) → Type 0
+TellsForeign g u rules first = MatchOption first (NoneMight g u rules) (λ f. IsFirstForeign g u f.now rules)
 
 -- the rule doesn't fire, or its priority number is greater
 abbrev pub GoesAfter : KoreSignature → Value → ℕ → Rule → Type 0

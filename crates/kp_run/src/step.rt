@@ -18,7 +18,7 @@ ghost use Rattle.kp_rules.specs.Bodies.{RunsAs};
 ghost use Rattle.kp_run.specs.Causes.{TwoAmong, IsWrittenAt, IsNotStepped, StopsUntold};
 ghost use Rattle.kp_run.specs.Runs.{IsNext, IsWrittenNext, written_of};
 ghost use Rattle.kp_run.specs.Shallow.{IsShallow, IsShallowNext, IsMatchOf};
-ghost use Rattle.kp_run.specs.Turns.{BodyFires, BodyIsWide, MightRewrite, NoneMight, IsFirstForeign, GoesAfter, FiresAt, IsFiring, OneAmong, IsTurn, IsAfterFiring, IsFollowed, NotFollowed, IsOpen, SomeOpen};
+ghost use Rattle.kp_run.specs.Turns.{BodyFires, BodyIsWide, MightRewrite, IsFirstForeign, TellsForeign, GoesAfter, FiresAt, IsFiring, OneAmong, IsTurn, IsAfterFiring, IsFollowed, NotFollowed, IsOpen, SomeOpen};
 ghost use Rattle.kp_rules.specs.declared.rule.RuleBody.TheVariants as body;
 ghost use Rattle.kp_run.specs.declared.error.RunError.TheVariants.{NotAnswered, Unbound};
 
@@ -77,7 +77,7 @@ fn might_rewrite(
 
 /// Of a foreign rule and those before it, the one that is told: of the smallest priority number the first.
 fn told_of<'a>(first: Option<&'a Rule>, rule: &'a Rule) -> &'a Rule
-    ensures { (g : KoreSignature) (u : model.Value) (rules : List Rule) → MatchOption first.entry (NoneMight g u rules) (λ f. IsFirstForeign g u f.now rules) → MightRewrite g u rule.now.body.value → IsFirstForeign g u result.now (rules ++ rule.now ∷ []) }
+    ensures { (g : KoreSignature) (u : model.Value) (rules : List Rule) → TellsForeign g u rules first.entry → MightRewrite g u rule.now.body.value → IsFirstForeign g u result.now (rules ++ rule.now ∷ []) }
 {
     match first {
         Some(first) => {
@@ -93,7 +93,7 @@ fn told_of<'a>(first: Option<&'a Rule>, rule: &'a Rule) -> &'a Rule
 
 /// The foreign rule that is told, when one more rule is asked.
 fn told_after<'a>(first: Option<&'a Rule>, rule: &'a Rule, might: bool) -> Option<&'a Rule>
-    ensures { (g : KoreSignature) (u : model.Value) (rules : List Rule) → MatchOption first.entry (NoneMight g u rules) (λ f. IsFirstForeign g u f.now rules) → IsTrue might ↔ MightRewrite g u rule.now.body.value → MatchOption result (NoneMight g u (rules ++ rule.now ∷ [])) (λ f. IsFirstForeign g u f.now (rules ++ rule.now ∷ [])) }
+    ensures { (g : KoreSignature) (u : model.Value) (rules : List Rule) → TellsForeign g u rules first.entry → IsTrue might ↔ MightRewrite g u rule.now.body.value → TellsForeign g u (rules ++ rule.now ∷ []) result }
 {
     if might {
         return Some(told_of(first, rule));
@@ -107,7 +107,7 @@ pub fn foreign_on<'a>(
     rules: &'a RuleSet,
     value: &Value,
 ) -> Result<Option<&'a Rule>, AllocError>
-    ensures { IsSorted (signature_view rules.now.signature.value) (value_view value.now) → IfOk result (λ o. MatchOption o (NoneMight (signature_view rules.now.signature.value) (value_view value.now) rules.now.rules.items) (λ f. IsFirstForeign (signature_view rules.now.signature.value) (value_view value.now) f.now rules.now.rules.items)) }
+    ensures { IsSorted (signature_view rules.now.signature.value) (value_view value.now) → IfOk result (TellsForeign (signature_view rules.now.signature.value) (value_view value.now) rules.now.rules.items) }
 {
     let mut first = None;
     for rule in &rules.rules {

@@ -11,9 +11,9 @@ pub loop-number-preserved : goal.loop-number-preserved
 loop-number-preserved c pairs order short =
     let ns = c.args.numbers.now in
     let k = c.loop-number.number-index in
-    let yes : c.is_under.result ≡ true = search rules in
+    let passed : c.is_under.result ≡ true = search rules in
     all_more (λ j. Under c.args.order.now.graph j c.args.lower) ns k c.loop-number-test.true (c.loop-number.invariant pairs order short)
-    ((c.is_under.ensures pairs order (short (get_or ns k 0) (Contains-get_or ns k 0 c.loop-number-test.true))).0 yes)
+    ((c.is_under.ensures pairs order (short (get_or ns k 0) (Contains-get_or ns k 0 c.loop-number-test.true))).0 passed)
 
 pub returns : goal.returns
-returns c pairs order short yes = all_done (λ j. Under c.args.order.now.graph j c.args.lower) c.args.numbers.now c.loop-number.number-index (search rules) (c.loop-number.invariant pairs order short)
+returns c pairs order short passed = all_done (λ j. Under c.args.order.now.graph j c.args.lower) c.args.numbers.now c.loop-number.number-index (search rules) (c.loop-number.invariant pairs order short)

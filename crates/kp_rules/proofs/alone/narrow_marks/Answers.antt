@@ -16,5 +16,5 @@ loop-number-preserved c =
     let read = edges_read above n c.index.result.now (search rules) c.index.ensures in (
       one_longer marks c.push.new.self.items c.is_narrow.result n c.in_ok-push.ensures.items long,
       λ pairs order. marks_more (IsNarrow c.args.order.now.graph) marks c.push.new.self.items c.is_narrow.result n (c.loop-number.invariant.1 pairs order) long c.in_ok-push.ensures.items
-          (λ yes. c.is_narrow.ensures pairs order (c.deref.ensures.value ∙ read) yes),
+          (λ passed. c.is_narrow.ensures pairs order (c.deref.ensures.value ∙ read) passed),
     )

@@ -15,7 +15,7 @@ loop-number-preserved c =
     let marks = c.loop-number.marks.items in
     let long = c.loop-number.invariant.0 in
     let read = edges_read below n c.index-below-number.result (search rules) c.index-below-number.is in (
-      one_longer marks c.push.new.self.items c.are_straight.result n c.in_ok-push.ensures.items long,
-      straight_more below narrow marks c.push.new.self.items c.are_straight.result c.deref.result.now n c.loop-number.invariant.1 long c.in_ok-push.ensures.items (c.deref.ensures.value ∙ read)
-          (λ yes. subst (λ (l : List Bool). (i : ℕ) → Contains c.deref.result.now i → (i < length l) × IsTrue (get_or l i false) × IsTrue (get_or narrow i false)) c.deref-in-loop-number.ensures.value (c.are_straight.ensures yes)),
+      one_longer marks c.push.new.self.items c.are_straight-passes.result n c.in_ok-push.ensures.items long,
+      straight_more below narrow marks c.push.new.self.items c.are_straight-passes.result c.deref.result.now n c.loop-number.invariant.1 long c.in_ok-push.ensures.items (c.deref.ensures.value ∙ read)
+          (λ passed. subst (λ (l : List Bool). (i : ℕ) → Contains c.deref.result.now i → (i < length l) × IsTrue (get_or l i false) × IsTrue (get_or narrow i false)) c.deref-in-loop-number.ensures.value (c.are_straight-passes.ensures passed)),
     )

@@ -6,7 +6,7 @@ pub returns : goal.returns
 returns c =
     let g = signature_view c.args.signature.now in
     record {
-      order = c.order.ensures;
-      heads = own_marks g c.order.result.now.graph c.in_ok-heads.heads.items (c.in_ok-heads.ensures c.order.ensures);
-      alone = c.in_ok-alone.ensures g.subsorts c.order.ensures;
+      order = c.order-order.ensures;
+      heads = own_marks g c.order-order.result.now.graph c.in_ok-heads.heads.items (c.in_ok-heads.ensures c.order-order.ensures);
+      alone = c.in_ok-alone.ensures g.subsorts c.order-order.ensures;
     }

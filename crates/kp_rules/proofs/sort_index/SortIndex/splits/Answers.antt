@@ -29,8 +29,8 @@ returns-then-is_alone c =
     let u = sort_view c.args.upper.now in
     let ti = subst (TellsNumber (sorts_of x.order.now.graph) t) c.in-Some.is (c.number_of.ensures g.subsorts c.requires.order) in
     let uj = subst (TellsNumber (sorts_of x.order.now.graph) u) c.in-Some-number_of.is (c.number_of-2.ensures g.subsorts c.requires.order) in
-    let yes : c.is_alone.result ≡ true = search rules in
-    sorts_split g x c.requires t u c.in-Some.lower c.in-Some-number_of.upper ti uj (alone_splits x c.in-Some.lower c.in-Some-number_of.upper (c.is_alone.ensures g c.requires yes))
+    let passed : c.is_alone.result ≡ true = search rules in
+    sorts_split g x c.requires t u c.in-Some.lower c.in-Some-number_of.upper ti uj (alone_splits x c.in-Some.lower c.in-Some-number_of.upper (c.is_alone.ensures g c.requires passed))
 
 pub numbers_split-requires : goal.numbers_split-requires
 numbers_split-requires c = let g = signature_view c.args.signature.now in opposite g.subsorts c.args.self.now.order.now.graph c.requires.order.graph
