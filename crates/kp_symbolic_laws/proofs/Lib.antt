@@ -1,3 +1,5 @@
+pub mod Binders
+pub mod CounterCauses
 pub mod Course
 pub mod Easy
 pub mod Found
@@ -5,8 +7,13 @@ pub mod HeadTests
 pub mod Keeping
 pub mod NewNames
 pub mod OpenedGood
+pub mod OwnBounds
 pub mod ReadState
 pub mod Right
+pub mod SquareCauses
 pub mod Step
-pub mod WrittenClauses
+pub mod WrittenCourse
+pub mod WrittenForms
+pub mod WrittenStates
+pub mod WrittenUnder
 pub mod WrittenVariables

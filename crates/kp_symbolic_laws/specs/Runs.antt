@@ -1,17 +1,20 @@
 -- What holds of the states on the way from a pattern to the state that it is read as.
 -- Source: equations of variables by substitution, as unification has them; the K framework's Kore language (sorts).
-use Rattle.std.specs.Prelude.{◌≡◌, ◌↔◌, ◌+◌, ◌<◌, ◌^◌, true, List, [], ◌∷◌, length, Some, ⊤}
+use Rattle.std.specs.Prelude.{◌≡◌, ◌↔◌, ◌+◌, ◌<◌, ◌^◌, true, List, [], ◌∷◌, ◌++◌, length, Some, None, ⊤}
 use Rattle.std.specs.List.{AllByRecursion, Contains}
-use Rattle.kp_kore.specs.Syntax.{KoreSort}
-use Rattle.kp_kore.specs.Parts.{SortedName, sort_list, free_variables}
+use Rattle.kp_kore.specs.Syntax.{Text, KoreSort, KorePattern, KorePatterns, negation, conjunction, disjunction, implication, equivalence, exists, forall, ceil, floor, no_patterns, next_pattern}
+use Rattle.kp_kore.specs.Parts.{SortedName, sort_list, free_variables, variable_names}
 use Rattle.kp_kore.specs.Signature.{KoreSignature, construction, meaning_of}
 use Rattle.kp_semantics.specs.Steps.{AnyByRecursion}
-use Rattle.kp_semantics.specs.Instance.{Valuation, IsTrueUnder}
+use Rattle.kp_semantics.specs.Instance.{Valuation, IsTrueUnder, is_predicate}
+use Rattle.kp_semantics.specs.Foreign.{none_within, has_foreign_head}
+use Rattle.kp_signature.specs.Places.{Place}
+use Rattle.kp_signature.specs.Verify.{first_fault}
 use Rattle.kp_states.specs.Spelled.{places_of}
-use Rattle.kp_symbolic.specs.Terms.{term_variables}
+use Rattle.kp_symbolic.specs.Terms.{term_variables, Replaced}
 use Rattle.kp_symbolic.specs.States.{one_head, head_of_sort, Atom, same, has_head, quoted, atom_variables, Literal, IsClauseTrue, SymbolicState}
 use Rattle.kp_symbolic.specs.WellFormed.{IsWellSorted, IsWellSortedAtom, AreAtHand}
-use Rattle.kp_symbolic.specs.Writing.{written_clause}
+use Rattle.kp_symbolic.specs.Writing.{names_coming_in, bound_name, renamed, written_clause}
 use Rattle.kp_symbolic.specs.Solving.{Equation, replacement, solved_clauses, Solvable, first_solvable, solved_at}
 
 -- a name among these variables has one sort
@@ -57,9 +60,46 @@ IsWrittenRight g v s c = IsTrueUnder g v (written_clause g s.sort c) ↔ IsClaus
 abbrev pub OfEachKept : KoreSignature → (SymbolicState → List Literal → Type 0) → SymbolicState → Type 0
 OfEachKept g P s = (x : SymbolicState) (o : Solvable) (c : List Literal) → ComesBy g s x → first_solvable g x ≡ Some o → IsKeptWhole g x o c → P x c
 
--- an equality, or a test of a head: no predicate that isn't opened; the constructor that is asked for has few arguments
-abbrev pub IsOpenedWhole : KoreSignature → Atom → Type 0
-IsOpenedWhole g (same s t u) = ⊤
-IsOpenedWhole g (has_head x (one_head c)) = (meaning_of g c ≡ construction) × (1 + length (sort_list (places_of g c)) < 2 ^ 64)
-IsOpenedWhole g (has_head x (head_of_sort s)) = ⊤
-IsOpenedWhole g (quoted p rs) = ⊥
+-- ---- room for new names
+
+-- where x is bound in p, fewer than 2 ^ 64 names come in or stand there
+abbrev pub IsRoomAt : List Replaced → Text → KorePattern → Type 0
+IsRoomAt rs x p = length (names_coming_in rs x p ++ variable_names p) < 2 ^ 64
+
+-- and so at each binder of the predicate
+abbrev mutual
+  pub HasRoom : List Replaced → KorePattern → Type 0
+  HasRoom rs (negation s p) = HasRoom rs p
+  HasRoom rs (conjunction s ps) = AllHaveRoom rs ps
+  HasRoom rs (disjunction s ps) = AllHaveRoom rs ps
+  HasRoom rs (implication s p q) = HasRoom rs p × HasRoom rs q
+  HasRoom rs (equivalence s p q) = HasRoom rs p × HasRoom rs q
+  HasRoom rs (exists s x t p) = IsRoomAt rs x p × HasRoom (renamed x (bound_name rs x p) t rs) p
+  HasRoom rs (forall s x t p) = IsRoomAt rs x p × HasRoom (renamed x (bound_name rs x p) t rs) p
+  HasRoom rs (ceil a s p) = HasRoom rs p
+  HasRoom rs (floor a s p) = HasRoom rs p
+  HasRoom rs p = ⊤
+
+  pub AllHaveRoom : List Replaced → KorePatterns → Type 0
+  AllHaveRoom rs no_patterns = ⊤
+  AllHaveRoom rs (next_pattern p ps) = HasRoom rs p × AllHaveRoom rs ps
+
+-- ---- literals that are written right
+
+-- a verified predicate without foreign symbols, with room for new names under the terms in its variables' places
+pub record IsWrittenQuotation (g : KoreSignature) (p : KorePattern) (rs : List Replaced) : Type 0 where
+  pub place : Place
+  pub faultless : first_fault g place p ≡ None
+  pub meant : none_within (has_foreign_head g) p ≡ true
+  pub predicate : is_predicate p ≡ true
+  pub room : HasRoom rs p
+
+-- an equality, a test of a head, or such a predicate; the constructor that is asked for has few arguments
+abbrev pub IsWrittenAtom : KoreSignature → Atom → Type 0
+IsWrittenAtom g (same s t u) = ⊤
+IsWrittenAtom g (has_head x (one_head c)) = (meaning_of g c ≡ construction) × (1 + length (sort_list (places_of g c)) < 2 ^ 64)
+IsWrittenAtom g (has_head x (head_of_sort s)) = ⊤
+IsWrittenAtom g (quoted p rs) = IsWrittenQuotation g p rs
+
+abbrev pub AreWrittenAtoms : KoreSignature → SymbolicState → List Literal → Type 0
+AreWrittenAtoms g s c = AllByRecursion (λ l. IsWrittenAtom g l.atom) c

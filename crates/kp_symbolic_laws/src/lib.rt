@@ -2,6 +2,8 @@
 // last. They stand above it, so that none of the crates on it waits for them.
 #![tactic(auto)]
 
+pub mod causes;
 pub mod deciding;
 pub mod solving;
+pub mod weights;
 pub mod writing;

@@ -3,7 +3,8 @@ ghost use Rattle.std.specs.Prelude.{◌≡◌, ◌↔◌, true, Some, None, List
 ghost use Rattle.std.specs.List.{AllByRecursion};
 ghost use Rattle.kp_kore.specs.Syntax.{KorePattern};
 ghost use Rattle.kp_kore.specs.Parts.{free_variables};
-ghost use Rattle.kp_kore.specs.Signature.{KoreSignature};
+ghost use Rattle.kp_kore.specs.Signature.{KoreSignature, injection, meaning_of};
+ghost use Rattle.kp_states.specs.Spelled.{injection_name};
 ghost use Rattle.kp_semantics.specs.Value.{Value};
 ghost use Rattle.kp_semantics.specs.Instance.{Valuation, GivesSorts, is_predicate, conjoined_predicates};
 ghost use Rattle.kp_semantics.specs.Foreign.{none_within, has_foreign_head};
@@ -11,7 +12,7 @@ ghost use Rattle.kp_signature.specs.Places.{Place};
 ghost use Rattle.kp_signature.specs.Verify.{first_fault};
 ghost use Rattle.kp_symbolic.specs.States.{Literal, SymbolicState, IsStateInstance, HasInstancesOf};
 ghost use Rattle.kp_symbolic.specs.Solving.{Solvable, first_solvable, solved_at, Solving, opened_state, IsReadAs};
-ghost use Rattle.kp_symbolic_laws.specs.Runs.{IsSortedState, IsKeptWhole, IsWrittenOfThese, IsWrittenRight, OfEachKept};
+ghost use Rattle.kp_symbolic_laws.specs.Runs.{IsSortedState, IsKeptWhole, IsWrittenOfThese, IsWrittenRight, OfEachKept, AreWrittenAtoms};
 
 /// Where an equation is solved, a state with the sorts of its places keeps them, and its instances; what stays one literal
 /// for its size is written of the variables at hand, and right.
@@ -42,4 +43,12 @@ pub fn a_pattern_has_the_instances_of_what_it_is_read_as()
     ensures instances { (g : KoreSignature) (c : Place) (p : KorePattern) (s : SymbolicState) → first_fault g c p ≡ None → none_within (has_foreign_head g) p ≡ true →
         AllByRecursion (λ q. is_predicate q ≡ true) (conjoined_predicates p) → (r : IsReadAs g p s) → OfEachKept g (IsWrittenOfThese g) r.opened →
         ((v : Valuation) → GivesSorts g v (free_variables p) → OfEachKept g (IsWrittenRight g v) r.opened) → HasInstancesOf g p s }
+{}
+
+/// A verified pattern is read as a state with the sorts of its places and with its instances, where inj is what it should be
+/// and each clause that stays one literal has only literals that are written right.
+pub fn a_pattern_whose_large_clauses_are_written_right_has_its_instances()
+    ensures { (g : KoreSignature) (c : Place) (p : KorePattern) (s : SymbolicState) → meaning_of g injection_name ≡ injection → first_fault g c p ≡ None →
+        none_within (has_foreign_head g) p ≡ true → AllByRecursion (λ q. is_predicate q ≡ true) (conjoined_predicates p) →
+        (r : IsReadAs g p s) → OfEachKept g (AreWrittenAtoms g) r.opened → IsSortedState g s × HasInstancesOf g p s }
 {}
