@@ -7,10 +7,9 @@ mod depends;
 mod fresh;
 mod item;
 mod names;
-mod outline;
+pub mod outline;
 mod sides;
 
 pub use depends::{comma_parts, dependencies_of};
 pub use item::ClaimItem;
-pub use outline::outline;
 pub use sides::check_sides;

@@ -6,9 +6,30 @@ use Rattle.kp_frames.specs.Held.{frames_of}
 use Rattle.std.specs.Result.{OnOk, OnErr}
 use Rattle.std.proofs.KnownBytes.{Appends-nil, Appends-trans}
 use Rattle.std.specs.Io.KnownBytes.{Appends}
-use Rattle.kp_book.specs.Books.{Registration}
-use Rattle.kp_conn.specs.Conversations.{line_of, Answered, none, next, Begun, not_begun, begun, BrokenOff}
+use Rattle.kp_book.specs.Books.{Registration, Grows}
+use Rattle.kp_conn.specs.Conversations.{Sees, line_of, Answered, none, next, Begun, not_begun, begun, BrokenOff}
 use Rattle.kp_conn.specs.Turns.{AreAnswered, BreakOff}
+
+-- ---- what is seen
+
+pub grows_none : (seen : List Registration) → Grows seen seen
+grows_none seen = ([], sym (append-nil seen))
+
+pub grows_on : (before between after : List Registration) → Grows before between → Grows between after → Grows before after
+grows_on before between after p q = (p.0 ++ q.0, q.1 ∙ ap (λ x. x ++ q.0) p.1 ∙ append_assoc before p.0 q.0)
+
+pub sees_same : (HasSeen Holds : List Registration → Type 0) (before : List Registration) → HasSeen before → Holds before → Sees HasSeen before Holds
+sees_same HasSeen Holds before seen holds = record { after = before; seen = seen; grows = grows_none before; holds = holds }
+
+pub sees_more : (HasSeen : List Registration → Type 0) (before : List Registration) (Holds More : List Registration → Type 0) → ((after : List Registration) → Holds after → More after) →
+    Sees HasSeen before Holds → Sees HasSeen before More
+sees_more HasSeen before Holds More more s = record { after = s.after; seen = s.seen; grows = s.grows; holds = more s.after s.holds }
+
+pub sees_behind : (HasSeen : List Registration → Type 0) (before between : List Registration) (Holds More : List Registration → Type 0) → Grows before between →
+    ((after : List Registration) → Holds after → More after) → Sees HasSeen between Holds → Sees HasSeen before More
+sees_behind HasSeen before between Holds More grew more s = record { after = s.after; seen = s.seen; grows = grows_on before between s.after grew s.grows; holds = more s.after s.holds }
+
+-- ---- frames
 
 module _ (Answers : List Registration → List ℕ → Option (List ℕ) → List Registration → Type 0) (Begins : List Registration → List ℕ → List Registration → Type 0) where
   pub answered_on : (before between after : List Registration) (fs gs : List (List ℕ)) (ls ks : List ℕ) →

@@ -10,11 +10,11 @@ use Rattle.kp_io.specs.declared.fault.OutsideFault.TheVariants as outside
 use Rattle.kp_frames.specs.Frames.{begins_bracketed, Cuts, white, bracketed, malformed, unended, full}
 use Rattle.kp_frames.specs.Held.{Cutting, HasCut}
 use Rattle.kp_book.specs.Books.{Registration}
-use Rattle.kp_conn.specs.Conversations.{frame_limit, most_taken, frames_read, last_line, parse_error, Answered, none, not_begun, BrokenOff, Conversation, HasEnded, IsBroken, among, at_last, IsServed, ended, truncated, too_long, spent, not_read, not_written, out_of_memory}
-use Rattle.kp_conn.specs.Turns.{IsTurn, BrokenTurn, uncut, unanswered, Talks, IsLastPut, last_put, not_put, no_memory, end_behind, IsRestTold, no_rest, rest_told}
+use Rattle.kp_conn.specs.Conversations.{Sees, frame_limit, most_taken, frames_read, last_line, parse_error, Answered, none, not_begun, BrokenOff, Conversation, HasEnded, IsBroken, among, at_last, IsServed, ended, truncated, too_long, spent, not_read, not_written, out_of_memory}
+use Rattle.kp_conn.specs.Turns.{EndsMany, HasCounted, IsTurn, BrokenTurn, uncut, unanswered, Talks, IsLastPut, last_put, not_put, no_memory, end_behind, IsRestTold, no_rest, rest_told}
 use Rattle.kp_conn.specs.declared.served.Served.{Served}
 use Rattle.kp_conn.specs.declared.served.Served.TheVariants as served
-use Rattle.kp_conn.proofs.Conversing.{answered_on, broken_behind}
+use Rattle.kp_conn.proofs.Conversing.{answered_on, broken_behind, sees_behind}
 
 pub told_broken : (end : Served) (h i : Option (List ℕ)) (fault : OutsideFault) (result : Served) →
     (n : ℕ) × Appends h i (take n (parse_error ++ 10 ∷ [])) → (fault ≡ outside.Failed → result ≡ served.WriteFault) → (fault ≡ outside.Memory → result ≡ served.Memory) → IsLastPut end h i result
@@ -42,6 +42,23 @@ frames_within limit bytes fs r f (bracketed (b ∷ p) bs gs s g i l c) = omega (
 frames_within limit bytes fs r f (malformed p bs gs s g i l c) = omega (arith, frames_within limit bs gs s g c, length-append p (10 ∷ bs))
 frames_within limit bytes fs r f (unended s u l) = omega arith
 frames_within limit bytes fs r f (full s m u l) = omega arith
+
+-- so many bytes and frames were cut
+
+pub none_counted : (c : Cutting) → HasCut c [] [] → HasCounted c 0 0
+none_counted c cut = record { bytes = []; ended = []; cut = cut; taken_are = refl; frames_are = refl }
+
+pub more_counted : (c d : Cutting) (taken frames count k : ℕ) (piece : List ℕ) → k ≤ length piece → HasCounted c taken frames → EndsMany c d (take k piece) count → HasCounted d (taken + k) (frames + count)
+more_counted c d taken frames count k piece short h e = record {
+  bytes = h.bytes ++ take k piece;
+  ended = h.ended ++ e.ended;
+  cut = e.ends h.bytes h.ended h.cut;
+  taken_are = omega (arith, h.taken_are, length-append h.bytes (take k piece), length-take-le k piece short);
+  frames_are = omega (arith, h.frames_are, e.number, length-append h.ended e.ended);
+}
+
+pub counted_within : (c : Cutting) (taken frames : ℕ) → HasCounted c taken frames → frames ≤ taken
+counted_within c taken frames h = omega (arith, h.taken_are, h.frames_are, frames_within c.limit h.bytes h.ended c.rest c.is_full h.cut)
 
 -- fewer bytes than the limit don't fill a rest
 pub room_left : (limit : ℕ) (bytes : List ℕ) (fs : List (List ℕ)) (r : List ℕ) (f : Bool) → Cuts limit bytes fs r f → length bytes < limit → f ≡ false
@@ -119,10 +136,6 @@ module _ (Answers : List Registration → List ℕ → Option (List ℕ) → Lis
       Talks Answers before l n h j after d (taken + k) (frames + count)
   talks_turn before between after l m n h i j c d taken frames count k piece short e g t consumed turn =
       subst (λ x. Talks Answers before l n h j after d (taken + x) (frames + count)) (length-take-le k piece short) (talks_on before between after l m n h i j c d taken frames count (take k piece) e g t consumed turn)
-
-  -- as many frames as were read are no more than the bytes taken
-  pub frames_counted : (before after : List Registration) (l m h i : Option (List ℕ)) (c : Cutting) (taken frames : ℕ) → Talks Answers before l m h i after c taken frames → frames ≤ taken
-  frames_counted before after l m h i c taken frames t = omega (arith, t.number, t.bytes, frames_within frame_limit t.talk.taken t.talk.frames t.talk.rest t.talk.is_full t.talk.cut)
 
   all_done : (before after : List Registration) (frames : List (List ℕ)) (lines : List ℕ) → Answered Answers before frames lines after → BrokenOff Answers Begins before frames lines after
   all_done before after frames lines p = record { done = frames; more = []; are = sym (append-nil frames); lines = lines; between = after; answered = p; begun = not_begun after []; count = length lines; front = sym (take-length lines) }
@@ -203,3 +216,11 @@ module _ (Answers : List Registration → List ℕ → Option (List ℕ) → Lis
   end_told before after l m n h i j c taken frames rest result t e is_rest nothing at_end (rest_told end some p) =
       last_told before after l n h i j (moved before after l m n t.talk nothing) (end_behind rest frames) result (λ none_left. some (is_rest ∙ sym t.rest ∙ none_left)) t.put
       (λ put. whole_end before after l n h j (moved before after l m n t.talk nothing) (begins_bracketed rest) frames (ap begins_bracketed (t.rest ∙ sym is_rest)) (λ none_left. some (is_rest ∙ sym t.rest ∙ none_left)) at_end (t.full ∙ e) t.number put) p
+
+  -- a turn behind what was seen
+  pub talks_seen : (Had Has : List Registration → Type 0) (before : List Registration) (l m n h i j : Option (List ℕ)) (c d : Cutting) (taken frames count k : ℕ) (piece : List ℕ) → k ≤ length piece →
+      c.limit ≡ frame_limit → d.limit ≡ frame_limit → Consumes m n (take k piece) → Sees Had before (λ after. Talks Answers before l m h i after c taken frames) →
+      ((between : List Registration) → Had between → Sees Has between (λ after. IsTurn Answers between c d (take k piece) i j after count)) →
+      Sees Has before (λ after. Talks Answers before l n h j after d (taken + k) (frames + count))
+  talks_seen Had Has before l m n h i j c d taken frames count k piece short e g consumed s turn = sees_behind Has before s.after _ _ s.grows
+      (λ after t. talks_turn before s.after after l m n h i j c d taken frames count k piece short e g s.holds consumed t) (turn s.after s.seen)

@@ -3,7 +3,7 @@
 use Rattle.std.specs.Prelude.{◌≡◌, ℕ, suc, Bool, true, false, List, [], ◌∷◌, ◌++◌, length, take, Option, Some, None, codes}
 use Rattle.std.specs.Io.KnownBytes.{Appends, Consumes, IsAtEnd}
 use Rattle.kp_frames.specs.Frames.{Cuts, begins_bracketed}
-use Rattle.kp_book.specs.Books.{Registration}
+use Rattle.kp_book.specs.Books.{Opening, Registration, Grows}
 use Rattle.kp_conn.specs.declared.served.Served.{Served}
 use Rattle.kp_conn.specs.declared.served.Served.TheVariants as served
 
@@ -32,6 +32,17 @@ last_line (b ∷ rest) = parse_error ++ 10 ∷ []
 abbrev pub frames_read : List (List ℕ) → List ℕ → ℕ
 frames_read frames [] = length frames
 frames_read frames (b ∷ rest) = suc (length frames)
+
+-- behind what was seen before, the registrations seen after: the pass has seen them, and this holds of them
+pub record Sees (HasSeen : List Registration → Type 0) (before : List Registration) (Holds : List Registration → Type 0) : Type 0 where
+  pub after : List Registration
+  pub seen : HasSeen after
+  pub grows : Grows before after
+  pub holds : Holds after
+
+-- whatever was seen before, over any opening, there is what is seen after, of which this holds
+abbrev pub ForEachSeen : (Opening → List Registration → Type 0) → (Opening → List Registration → Type 0) → (Opening → List Registration → List Registration → Type 0) → Type 0
+ForEachSeen HadSeen HasSeen Holds = (o : Opening) → (before : List Registration) → HadSeen o before → Sees (HasSeen o) before (Holds o before)
 
 -- the frames are answered one after another, from what is seen before to what is seen after; these lines reply
 pub data Answered (Answers : List Registration → List ℕ → Option (List ℕ) → List Registration → Type 0) : List Registration → List (List ℕ) → List ℕ → List Registration → Type 0 where

@@ -12,6 +12,20 @@ use Rattle.kp_conn.specs.Conversations.{Answered, BrokenOff, Conversation, parse
 abbrev pub Ends : Cutting → Cutting → List ℕ → List (List ℕ) → Type 0
 Ends c d piece ended = (bytes : List ℕ) → (frames : List (List ℕ)) → HasCut c bytes frames → HasCut d (bytes ++ piece) (frames ++ ended)
 
+-- behind whatever was cut the cutter ends so many frames of the piece
+pub record EndsMany (c d : Cutting) (piece : List ℕ) (count : ℕ) : Type 0 where
+  pub ended : List (List ℕ)
+  pub ends : Ends c d piece ended
+  pub number : count ≡ length ended
+
+-- what the cutter has cut: so many bytes into so many frames
+pub record HasCounted (c : Cutting) (taken frames : ℕ) : Type 0 where
+  pub bytes : List ℕ
+  pub ended : List (List ℕ)
+  pub cut : HasCut c bytes ended
+  pub taken_are : taken ≡ length bytes
+  pub frames_are : frames ≡ length ended
+
 -- these frames were answered, and their replies written
 pub record AreAnswered (Answers : List Registration → List ℕ → Option (List ℕ) → List Registration → Type 0)
     (before : List Registration) (frames : List (List ℕ)) (held held_after : Option (List ℕ)) (after : List Registration) : Type 0 where

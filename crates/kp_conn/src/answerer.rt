@@ -1,24 +1,26 @@
-ghost use Rattle.std.specs.Prelude.{◌≡◌, ℕ, List, Option, IfOk, OnErr, option_map};
-ghost use Rattle.kp_book.specs.Books.{Registration, Grows};
+ghost use Rattle.std.specs.Prelude.{ℕ, List, Option, IfOk, OnErr, option_map};
+ghost use Rattle.kp_book.specs.Books.{Opening, Registration};
+ghost use Rattle.kp_conn.specs.Conversations.{ForEachSeen};
 
 use std::alloc::{AllocError, Global};
 
-/// What answers the frames of connections. Each caller has a pass of its own, which knows what it has seen of the book.
+/// What answers the frames of connections. Each caller has a pass of its own, which has seen the book of modules up to
+/// some entry; what it has seen is told over an opening, since modules keep their rules and not their axioms.
 pub trait Answerer {
     /// What one caller has.
     type Pass;
 
-    /// The registrations that a pass has seen.
-    ghost seen: { Self.Pass → List Registration };
+    /// Over an opening of this answerer the pass has seen these registrations.
+    ghost has_seen: { Self → Self.Pass → Opening → List Registration → Type 0 };
 
     /// The pass is one of this answerer.
     ghost is_pass: { Self → Self.Pass → Type 0 };
 
     /// What a frame is answered, from what was seen before to what is seen after: a reply, or none to a notification.
-    ghost answers: { Self → List Registration → List ℕ → Option (List ℕ) → List Registration → Type 0 };
+    ghost answers: { Self → Opening → List Registration → List ℕ → Option (List ℕ) → List Registration → Type 0 };
 
     /// What a frame may have done where memory ran out before its answer.
-    ghost begins: { Self → List Registration → List ℕ → List Registration → Type 0 };
+    ghost begins: { Self → Opening → List Registration → List ℕ → List Registration → Type 0 };
 
     /// The reply to a frame, where it has one.
     fn answer(
@@ -29,7 +31,6 @@ pub trait Answerer {
     ) -> Result<Option<Vec<u8>>, AllocError>
         requires pass { is_pass self.now pass.old }
         ensures pass { is_pass self.now pass.new }
-        ensures answered { IfOk result (λ o. answers self.now (seen pass.old) frame.now (option_map (λ reply. reply.items) o) (seen pass.new)) }
-        ensures begun { OnErr result (begins self.now (seen pass.old) frame.now (seen pass.new)) }
-        ensures grows { Grows (seen pass.old) (seen pass.new) };
+        ensures answered { IfOk result (λ reply. ForEachSeen (has_seen self.now pass.old) (has_seen self.now pass.new) (λ o before. answers self.now o before frame.now (option_map (λ line. line.items) reply))) }
+        ensures begun { OnErr result (ForEachSeen (has_seen self.now pass.old) (has_seen self.now pass.new) (λ o before. begins self.now o before frame.now)) };
 }

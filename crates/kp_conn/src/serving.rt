@@ -2,7 +2,7 @@ ghost use Rattle.std.specs.Prelude.{◌≡◌, ◌≤◌, ◌<◌, ◌+◌, ◌+
 ghost use Rattle.std.specs.Io.KnownBytes.{Appends, Consumes, Keeps, IsAtEnd};
 ghost use Rattle.kp_io.specs.Outside.{CountsFault, Rose};
 ghost use Rattle.kp_frames.specs.Frames.{begins_bracketed};
-ghost use Rattle.kp_conn.specs.Conversations.{IsServed, most_taken, parse_error};
+ghost use Rattle.kp_conn.specs.Conversations.{ForEachSeen, IsServed, most_taken, parse_error};
 ghost use Rattle.kp_conn.specs.Turns.{IsLastPut, IsRestTold, end_behind};
 ghost use Rattle.kp_conn.specs.declared.served.Served.TheVariants.{ReadFault, WriteFault, Memory};
 
@@ -125,7 +125,7 @@ pub fn serve<A: Answerer, S: Source, K: Sink>(
 ) -> Served
     requires pass { A.is_pass answerer.now pass.old }
     ensures pass { A.is_pass answerer.now pass.new }
-    ensures served { IsServed (A.answers answerer.now) (A.begins answerer.now) (A.seen pass.old) (S.left source.old) (S.left source.new) (K.held sink.old) (K.held sink.new) (A.seen pass.new) result }
+    ensures served { ForEachSeen (A.has_seen answerer.now pass.old) (A.has_seen answerer.now pass.new) (λ o before after. IsServed (A.answers answerer.now o) (A.begins answerer.now o) before (S.left source.old) (S.left source.new) (K.held sink.old) (K.held sink.new) after result) }
     ensures read { CountsFault (S.fault_count source.old) (S.fault_count source.new) (result ≡ ReadFault) }
     ensures never_falls { K.fault_count sink.old ≤ K.fault_count sink.new }
     ensures rose { result ≡ WriteFault → Rose (K.fault_count sink.old) (K.fault_count sink.new) }

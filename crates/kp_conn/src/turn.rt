@@ -1,9 +1,10 @@
-ghost use Rattle.std.specs.Prelude.{◌≡◌, ◌≤◌, ◌∷◌, ◌++◌, [], ℕ, List, take, IfOk, OnOk, OnErr, IsErrOf, false};
+ghost use Rattle.std.specs.Prelude.{◌≡◌, ◌≤◌, ◌∷◌, ◌++◌, [], ℕ, take, IfOk, OnOk, OnErr, IsErrOf, false};
 ghost use Rattle.std.specs.Io.KnownBytes.{Appends};
 ghost use Rattle.kp_io.specs.Outside.{Rose};
 ghost use Rattle.kp_io.specs.declared.fault.OutsideFault.TheVariants.{Failed};
 ghost use Rattle.kp_frames.specs.Held.{frames_of};
-ghost use Rattle.kp_conn.specs.Turns.{AreAnswered, BreakOff, IsTurn, BrokenTurn};
+ghost use Rattle.kp_conn.specs.Conversations.{ForEachSeen};
+ghost use Rattle.kp_conn.specs.Turns.{AreAnswered, BreakOff, BrokenTurn, EndsMany, IsTurn};
 
 use crate::answerer::Answerer;
 use kp_frames::Cutter;
@@ -20,8 +21,8 @@ fn answer_frame<A: Answerer, K: Sink>(
 ) -> Result<(), OutsideFault>
     requires pass { A.is_pass answerer.now pass.old }
     ensures pass { A.is_pass answerer.now pass.new }
-    ensures whole { OnOk result (AreAnswered (A.answers answerer.now) (A.seen pass.old) (frame.now ∷ []) (K.held sink.old) (K.held sink.new) (A.seen pass.new)) }
-    ensures broken { OnErr result (BreakOff (A.answers answerer.now) (A.begins answerer.now) (A.seen pass.old) (frame.now ∷ []) (K.held sink.old) (K.held sink.new) (A.seen pass.new)) }
+    ensures whole { OnOk result (ForEachSeen (A.has_seen answerer.now pass.old) (A.has_seen answerer.now pass.new) (λ o before. AreAnswered (A.answers answerer.now o) before (frame.now ∷ []) (K.held sink.old) (K.held sink.new))) }
+    ensures broken { OnErr result (ForEachSeen (A.has_seen answerer.now pass.old) (A.has_seen answerer.now pass.new) (λ o before. BreakOff (A.answers answerer.now o) (A.begins answerer.now o) before (frame.now ∷ []) (K.held sink.old) (K.held sink.new))) }
     ensures never_falls { K.fault_count sink.old ≤ K.fault_count sink.new }
     ensures rose { IsErrOf result Failed → Rose (K.fault_count sink.old) (K.fault_count sink.new) }
     ensures stays { OnOk result (K.fault_count sink.new ≡ K.fault_count sink.old) }
@@ -57,8 +58,8 @@ fn answer_all<A: Answerer, K: Sink>(
 ) -> Result<(), OutsideFault>
     requires pass { A.is_pass answerer.now pass.old }
     ensures pass { A.is_pass answerer.now pass.new }
-    ensures whole { OnOk result (AreAnswered (A.answers answerer.now) (A.seen pass.old) (frames_of frames.now) (K.held sink.old) (K.held sink.new) (A.seen pass.new)) }
-    ensures broken { OnErr result (BreakOff (A.answers answerer.now) (A.begins answerer.now) (A.seen pass.old) (frames_of frames.now) (K.held sink.old) (K.held sink.new) (A.seen pass.new)) }
+    ensures whole { OnOk result (ForEachSeen (A.has_seen answerer.now pass.old) (A.has_seen answerer.now pass.new) (λ o before. AreAnswered (A.answers answerer.now o) before (frames_of frames.now) (K.held sink.old) (K.held sink.new))) }
+    ensures broken { OnErr result (ForEachSeen (A.has_seen answerer.now pass.old) (A.has_seen answerer.now pass.new) (λ o before. BreakOff (A.answers answerer.now o) (A.begins answerer.now o) before (frames_of frames.now) (K.held sink.old) (K.held sink.new))) }
     ensures never_falls { K.fault_count sink.old ≤ K.fault_count sink.new }
     ensures rose { IsErrOf result Failed → Rose (K.fault_count sink.old) (K.fault_count sink.new) }
     ensures stays { OnOk result (K.fault_count sink.new ≡ K.fault_count sink.old) }
@@ -82,9 +83,10 @@ pub fn take_turn<A: Answerer, K: Sink>(
     requires memory { cutter.old.is_out_of_memory ≡ false }
     ensures pass { A.is_pass answerer.now pass.new }
     ensures limit { cutter.new.limit ≡ cutter.old.limit }
-    ensures whole { IfOk result (IsTurn (A.answers answerer.now) (A.seen pass.old) cutter.old cutter.new piece.now (K.held sink.old) (K.held sink.new) (A.seen pass.new)) }
+    ensures many { IfOk result (EndsMany cutter.old cutter.new piece.now) }
+    ensures whole { IfOk result (λ count. ForEachSeen (A.has_seen answerer.now pass.old) (A.has_seen answerer.now pass.new) (λ o before after. IsTurn (A.answers answerer.now o) before cutter.old cutter.new piece.now (K.held sink.old) (K.held sink.new) after count)) }
     ensures memory { OnOk result (cutter.new.is_out_of_memory ≡ false) }
-    ensures broken { OnErr result (BrokenTurn (A.answers answerer.now) (A.begins answerer.now) (A.seen pass.old) cutter.old cutter.new piece.now (K.held sink.old) (K.held sink.new) (A.seen pass.new)) }
+    ensures broken { OnErr result (ForEachSeen (A.has_seen answerer.now pass.old) (A.has_seen answerer.now pass.new) (λ o before. BrokenTurn (A.answers answerer.now o) (A.begins answerer.now o) before cutter.old cutter.new piece.now (K.held sink.old) (K.held sink.new))) }
     ensures never_falls { K.fault_count sink.old ≤ K.fault_count sink.new }
     ensures rose { IsErrOf result Failed → Rose (K.fault_count sink.old) (K.fault_count sink.new) }
     ensures stays { OnOk result (K.fault_count sink.new ≡ K.fault_count sink.old) }

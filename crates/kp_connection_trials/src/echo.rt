@@ -1,4 +1,4 @@
-ghost use Rattle.std.specs.Prelude.{⊤, []};
+ghost use Rattle.std.specs.Prelude.{◌≡◌, ⊤, []};
 
 use kp_conn::Answerer;
 use std::alloc::{AllocError, Global};
@@ -10,13 +10,13 @@ pub struct Echo {}
 impl Answerer for Echo {
     type Pass = u64;
 
-    ghost seen = { λ p. [] };
+    ghost has_seen = { λ e p o seen. seen ≡ [] };
 
     ghost is_pass = { λ e p. ⊤ };
 
-    ghost answers = { λ e before frame reply after. ⊤ };
+    ghost answers = { λ e o before frame reply after. ⊤ };
 
-    ghost begins = { λ e before frame after. ⊤ };
+    ghost begins = { λ e o before frame after. ⊤ };
 
     fn answer(
         &self,

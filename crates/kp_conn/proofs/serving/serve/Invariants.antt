@@ -1,6 +1,6 @@
 use Rattle.std.proofs.Common.{◌≡◌, ◌-◌, ◌≤◌, false, length}
-use Rattle.kp_conn.specs.Conversations.{frame_limit, most_taken}
-use Rattle.kp_conn.specs.Turns.{Talks}
+use Rattle.kp_conn.specs.Conversations.{ForEachSeen, frame_limit, most_taken}
+use Rattle.kp_conn.specs.Turns.{HasCounted, Talks}
 use Rattle.kp_conn.proofs.serving.serve.Given as goal
 
 abbrev pub invariant-loop-taken : goal.invariant-loop-taken
@@ -11,7 +11,9 @@ invariant-loop-taken g l = record {
   room : l.cutter.is_full ≡ false;
   within : l.taken ≤ most_taken;
   piece : length l.piece ≡ 65536;
-  talks : Talks (g.A.Answerer.answers l.answerer) (g.A.Answerer.seen l.fn.pass) (g.S.Source.left l.fn.source) (g.S.Source.left l.source) (g.K.Sink.held l.fn.sink) (g.K.Sink.held l.sink) (g.A.Answerer.seen l.pass) l.cutter l.taken l.frames;
+  counted : HasCounted l.cutter l.taken l.frames;
+  talks : ForEachSeen (g.A.Answerer.has_seen l.answerer l.fn.pass) (g.A.Answerer.has_seen l.answerer l.pass)
+      (λ o before after. Talks (g.A.Answerer.answers l.answerer o) before (g.S.Source.left l.fn.source) (g.S.Source.left l.source) (g.K.Sink.held l.fn.sink) (g.K.Sink.held l.sink) after l.cutter l.taken l.frames);
   reads : g.S.Source.fault_count l.source ≡ g.S.Source.fault_count l.fn.source;
   writes : g.K.Sink.fault_count l.sink ≡ g.K.Sink.fault_count l.fn.sink;
 }
