@@ -8,7 +8,7 @@ use Rattle.kp_graph.specs.Tree.{ProofNode, node_at}
 use Rattle.kp_rpc.specs.Questions.{Question, question_tree}
 use Rattle.kp_rpc.specs.Request.{RequestId}
 use Rattle.kp_results.specs.Results.{ExecutedParts}
-use Rattle.kp_replies.specs.Read.{Method, ServerReply, implies, implied}
+use Rattle.kp_replies.specs.Read.{Method, ServerReply, execute, implies, implied}
 use Rattle.kp_client.specs.Links.{Exchange, LinkState, Makes}
 use Rattle.kp_client.specs.Rounds.{IsGivenId, Asks, Tells, Refuses, by_error, by_no_reply, by_reason, by_no_text, MayAsk, unasked, asked, RoundBegins, with_cover, with_steps, BreaksOff, between, in_next, cover_question, step_question, least_open, most_rounds}
 use Rattle.kp_client.specs.Answers.{IsCoverAnswer, IsStepAnswer, Made, MaySend, unsent, sent, BeginsSteps, BeginsRound, Played, IsHeard}
@@ -27,6 +27,11 @@ pub always : {A E P : Type 0} → (r : Result A E) → P → OnErr r P
 always (Ok a) p = tt
 always (Err e) p = p
 
+-- one call's failure as another's
+pub onwards : {A E P Q : Type 0} → (r : Result A E) → (P → Q) → OnErr r P → OnErr r Q
+onwards (Ok a) f h = tt
+onwards (Err e) f h = f h
+
 -- ---- one question
 
 pub nothing_sent : (a b : LinkState) (q : Question) → Makes a b [] → Made a b (MaySend q)
@@ -38,11 +43,19 @@ one_sent a b q frame line e makes =
     record { exchanges = x ∷ []; makes = makes; fact = sent x (text_is q frame e) }
 
 may_ask : (question : RequestId → Question) (i : RequestId) (es : List Exchange) → IsGivenId i → MaySend (question i) es → MayAsk question es
-may_ask question i [] lawful unsent = unasked
-may_ask question i (e ∷ []) lawful (sent e text) = asked e (record { number = i; lawful = lawful; asked = text })
+may_ask question i _ lawful unsent = unasked
+may_ask question i _ lawful (sent e text) = asked e (record { number = i; lawful = lawful; asked = text })
 
 pub sent_is_asked : (a b : LinkState) (question : RequestId → Question) (i : RequestId) → IsGivenId i → Made a b (MaySend (question i)) → Made a b (MayAsk question)
 sent_is_asked a b question i lawful m = record { exchanges = m.exchanges; makes = m.makes; fact = may_ask question i m.exchanges lawful m.fact }
+
+heard_is_sent : (m : Method) (q : Question) (es : List Exchange) (h : Heard) → IsHeard m q es h → MaySend q es
+heard_is_sent m q es (heard.Told r line) h = subst (MaySend q) (sym h.3) (sent (record { frame = h.0; reply = line.items }) h.1)
+heard_is_sent m q es heard.Nothing h = subst (MaySend q) (sym h.3) (sent h.0 h.1)
+heard_is_sent m q es heard.Unasked h = subst (MaySend q) (sym h.1) unsent
+
+pub heard_is_asked : (a b : LinkState) (question : RequestId → Question) (m : Method) (i : RequestId) (es : List Exchange) (h : Heard) → IsGivenId i → Makes a b es → IsHeard m (question i) es h → Made a b (MayAsk question)
+heard_is_asked a b question m i es h lawful makes is = record { exchanges = es; makes = makes; fact = may_ask question i es lawful (heard_is_sent m (question i) es h is) }
 
 pub none_asked : (a : LinkState) (question : RequestId → Question) → Made a a (MayAsk question)
 none_asked a question = record { exchanges = []; makes = makes_none a; fact = unasked }
@@ -62,6 +75,12 @@ cover_is_asked claim s es cover.Uncovered h = told_is_asked (cover_question clai
 cover_is_asked claim s es (cover.Undecided line) h = told_is_asked (cover_question claim s) implies h.0 _ es h.1 h.3
 cover_is_asked claim s es (cover.Refused code) h = refused_is_asked (cover_question claim s) implies es code h.0
 
+step_is_asked : (depth : ℕ) (s : KorePattern) (es : List Exchange) (a : StepAnswer) → IsStepAnswer depth s es a → MayAsk (step_question depth s) es
+step_is_asked depth s es (steps.Stepped n next) h = told_is_asked (step_question depth s) execute h.exchange _ es h.only h.tells
+step_is_asked depth s es steps.Stuck h = told_is_asked (step_question depth s) execute h.exchange _ es h.only h.tells
+step_is_asked depth s es (steps.Held line) h = told_is_asked (step_question depth s) execute h.exchange _ es h.only h.tells
+step_is_asked depth s es (steps.Refused code) h = refused_is_asked (step_question depth s) execute es code h
+
 -- ---- a round
 
 -- the next steps were asked, whatever became of the tree
@@ -69,6 +88,9 @@ pub steps_begun : (a b : LinkState) (depth : ℕ) (tree : List ProofNode) (n : �
 steps_begun a b depth tree n s e m =
     let x : IsStateAt tree n s = state_at tree n s e in
     record { node = x.node; at = x.at; made = subst (λ p. Made a b (MayAsk (step_question depth p))) (sym x.same) m }
+
+pub steps_told : (a b : LinkState) (depth : ℕ) (tree : List ProofNode) (n : ℕ) (s : KorePattern) (es : List Exchange) (answer : StepAnswer) → option_map (λ x. x.state) (node_at tree n) ≡ Some s → Makes a b es → IsStepAnswer depth s es answer → BeginsSteps a b depth tree n
+steps_told a b depth tree n s es answer e makes h = steps_begun a b depth tree n s e (record { exchanges = es; makes = makes; fact = step_is_asked depth s es answer h })
 
 pub round_begun : (a b : LinkState) (claim : ReachabilityClaim) (depth : ℕ) (tree : List ProofNode) (n : ℕ) (s : KorePattern) → option_map (λ x. x.state) (node_at tree n) ≡ Some s → Made a b (MayAsk (cover_question claim s)) → BeginsRound a b claim depth tree n
 round_begun a b claim depth tree n s e m =

@@ -1,6 +1,7 @@
 -- What the parts of a round come to, as the code keeps them.
 use Rattle.std.specs.Prelude.{◌≡◌, ◌≢◌, ◌≤◌, ℕ, true, List, [], ◌∷◌, Option, Some, None, codes}
-use Rattle.kp_kore.specs.Syntax.{KoreSort, sort_of, no_sorts, KorePattern, variable, set_variable, application, string_literal, literal, top, bottom, negation, next, conjunction, disjunction, implication, equivalence, rewriting, exists, forall, ceil, floor, equals, membership, mu, nu}
+use Rattle.kp_kore.specs.Syntax as kore
+use Rattle.kp_kore.specs.Syntax.{KoreSort, sort_of, no_sorts, KorePattern}
 use Rattle.kp_kore.specs.View.{view}
 use Rattle.kp_semantics.specs.Claims.{ReachabilityClaim}
 use Rattle.kp_semantics.specs.Implied.{not_valid, valid}
@@ -112,28 +113,28 @@ pub record BeginsRound (before after : LinkState) (claim : ReachabilityClaim) (d
 
 -- the sort that a pattern states of itself; an application states none, nor do a text, \mu and \nu
 abbrev pub stated_sort : KorePattern → Option KoreSort
-stated_sort (variable x s) = Some s
-stated_sort (set_variable x s) = Some s
-stated_sort (application f ss ps) = None
-stated_sort (string_literal t) = None
-stated_sort (literal s t) = Some s
-stated_sort (top s) = Some s
-stated_sort (bottom s) = Some s
-stated_sort (negation s p) = Some s
-stated_sort (next s p) = Some s
-stated_sort (conjunction s ps) = Some s
-stated_sort (disjunction s ps) = Some s
-stated_sort (implication s p q) = Some s
-stated_sort (equivalence s p q) = Some s
-stated_sort (rewriting s p q) = Some s
-stated_sort (exists s x t p) = Some s
-stated_sort (forall s x t p) = Some s
-stated_sort (ceil a s p) = Some s
-stated_sort (floor a s p) = Some s
-stated_sort (equals a s p q) = Some s
-stated_sort (membership a s p q) = Some s
-stated_sort (mu x s p) = None
-stated_sort (nu x s p) = None
+stated_sort (kore.variable x s) = Some s
+stated_sort (kore.set_variable x s) = Some s
+stated_sort (kore.application f ss ps) = None
+stated_sort (kore.string_literal t) = None
+stated_sort (kore.literal s t) = Some s
+stated_sort (kore.top s) = Some s
+stated_sort (kore.bottom s) = Some s
+stated_sort (kore.negation s p) = Some s
+stated_sort (kore.next s p) = Some s
+stated_sort (kore.conjunction s ps) = Some s
+stated_sort (kore.disjunction s ps) = Some s
+stated_sort (kore.implication s p q) = Some s
+stated_sort (kore.equivalence s p q) = Some s
+stated_sort (kore.rewriting s p q) = Some s
+stated_sort (kore.exists s x t p) = Some s
+stated_sort (kore.forall s x t p) = Some s
+stated_sort (kore.ceil a s p) = Some s
+stated_sort (kore.floor a s p) = Some s
+stated_sort (kore.equals a s p q) = Some s
+stated_sort (kore.membership a s p q) = Some s
+stated_sort (kore.mu x s p) = None
+stated_sort (kore.nu x s p) = None
 
 -- the sort at which a term is joined with this predicate: the predicate's own, else that of whole configurations
 abbrev pub sort_beside : KorePattern → KoreSort
