@@ -14,7 +14,7 @@ use Rattle.kp_modules.specs.Reaching.{has, imports_of, AllIn, IsClosed}
 use Rattle.kp_modules.specs.Walks.{IsAcyclic, IsOver}
 use Rattle.kp_modules.proofs.Collect.{false_true, or_cases, has_more}
 
-in_all : (names ns : List Text) (n : Text) → AllIn names ns → has n ns ≡ true → has n names ≡ true
+pub in_all : (names ns : List Text) (n : Text) → AllIn names ns → has n ns ≡ true → has n names ≡ true
 in_all names [] n all h = false_true h
 in_all names (x ∷ xs) n all h = by (λ e. in_all names xs n all.1 e) (or_cases (bytes_eq n x) (has n xs) h)
   where
@@ -22,7 +22,7 @@ in_all names (x ∷ xs) n all h = by (λ e. in_all names xs n all.1 e) (or_cases
     by further (inl e) = subst (λ m. has m names ≡ true) (sym ((bytes_eq-Decides n x).0 e)) all.0
     by further (inr e) = further e
 
-leads_in : (ms : List KoreModule) (names : List Text) → IsClosed ms names → (a b : Text) → Leads ms a b → has a names ≡ true → has b names ≡ true
+pub leads_in : (ms : List KoreModule) (names : List Text) → IsClosed ms names → (a b : Text) → Leads ms a b → has a names ≡ true → has b names ≡ true
 leads_in ms names closed a _ (stays _) h = h
 leads_in ms names closed a c (goes _ b _ l i) h = in_all names (imports_of ms b) c (closed b (leads_in ms names closed a b l h)) i
 

@@ -1,5 +1,5 @@
 -- Out of a module whose imports are done.
-use Rattle.std.proofs.Common.{◌≡◌, refl, sym, ap, subst, ◌∙◌, ℕ, zero, suc, ◌+◌, ◌<◌, Bool, true, false, ◌||◌, cond, List, [], ◌∷◌, ◌++◌, length, map, take, set, get_or, Some, ◌⊎◌, inl, inr, arith}
+use Rattle.std.proofs.Common.{◌≡◌, refl, sym, ap, subst, ◌∙◌, ℕ, zero, suc, ◌+◌, ◌<◌, ◌≤◌, Bool, true, false, ◌||◌, cond, List, [], ◌∷◌, ◌++◌, length, map, take, set, get_or, Some, ◌⊎◌, inl, inr, arith}
 use Rattle.std.specs.List.{AllByRecursion, flat_map}
 use Rattle.std.specs.Str.{bytes_eq}
 use Rattle.std.proofs.lemmas.List.{append-nil, append_assoc, map-append, length-set, get_or-set_same, get_or-set_other}
@@ -13,7 +13,7 @@ use Rattle.kp_kore.specs.declared.sentence.Module.{Module}
 use Rattle.kp_semantics.specs.Theory.{names_reached}
 use Rattle.kp_signature.specs.Names.{first_place}
 use Rattle.kp_modules.specs.Names.{module_names}
-use Rattle.kp_modules.specs.Reaching.{has, collect, imports_of, AllIn, IsClosed}
+use Rattle.kp_modules.specs.Reaching.{has, collect, imports_of, AllIn, IsClosed, IsSettled}
 use Rattle.kp_modules.specs.Walks.{is_unseen, is_done, is_open, unseen_in, import_names, sentences_at, reached_by, backwards, AreOpen, AreDistinct, HasMark, IsOnWay, IsOver, IsAcyclic}
 use Rattle.kp_modules.specs.declared.imports.Mark.{Mark}
 use Rattle.kp_modules.specs.declared.imports.Mark.TheVariants as mark
@@ -76,8 +76,13 @@ ended rows main current from done marks o ns is all =
       there = subst (λ l. has main l ≡ true) all_names (subst (λ m. has m (o.names ++ o.name ∷ []) ≡ true) top.0 (last_there o.name o.names));
       closed = subst (IsClosed (map module_view rows)) all_names (closed_more (map module_view rows) o.names o.name o.closed own);
       acyclic = subst (IsAcyclic (map module_view rows)) all_names (acyclic_more (map module_view rows) o.names o.name o.closed o.acyclic own (not_done rows main [] current from done marks o));
+      settled = subst (IsSettled (map module_view rows)) all_names (settled_more (map module_view rows) o.names o.name o.settled own);
+      room = subst (λ l. length l ≤ length rows) all_names (fits (length o.names) (unseen_in marks) (length (o.names ++ o.name ∷ [])) (length rows) (length_push o.names o.name) o.room);
     }
   where
+    fits : (n u l k : ℕ) → l ≡ suc n → n + (u + 0) < k → l ≤ k
+    fits n u l k e h = omega arith
+
     at_main : (above : List Text) → AreOpen rows main [] above o.name o.before → (o.name ≡ main) × (o.before ≡ [])
     at_main [] h = h
     at_main (x ∷ xs) h = absurd h

@@ -3,12 +3,12 @@ pub mod Chains
 pub mod Collect
 pub mod Declared
 pub mod Firsts
-pub mod Gathering
+pub mod Kept
 pub mod Labelled
 pub mod Leaving
 pub mod Noting
-pub mod Numbering
 pub mod Opened
+pub mod Outlined
 pub mod Places
 pub mod Ruled
 pub mod Seen
@@ -16,7 +16,5 @@ pub mod Sentences
 pub mod Settled
 pub mod Starting
 pub mod Stepping
-pub mod Taken
 pub mod Twice
-pub mod Unsound
 pub mod Walking

@@ -8,6 +8,7 @@ use Rattle.kp_kore.specs.Syntax.{Text, KoreModule, KoreDefinition}
 use Rattle.kp_semantics.specs.Theory.{NumberedAxiom, modules_reached, module_named, names_reached, imports_in, sentences_of, rewrite_axioms}
 use Rattle.kp_book.specs.Books.{rules_in}
 use Rattle.kp_modules.specs.Faults.{signature_reached}
+use Rattle.kp_modules.specs.Keeping.{KeepsReached}
 use Rattle.kp_modules.specs.Made.{IsSetOf}
 use Rattle.kp_modules.specs.Names.{names_of}
 use Rattle.kp_modules.specs.Openings.{IsTableOf, bound_in, opening_of}
@@ -32,18 +33,21 @@ told true axioms = refl
 told false axioms = refl
 
 pub opened : (d : KoreDefinition) (main : Text) (t : Table) → main_of t ≡ main → IsSetOf (signature_reached d main) (rewrite_axioms (modules_reached d main)) (rule_set_of t) →
-    ((n : Text) → does_reach t n ≡ has n (names_of (modules_reached d main))) → has main (names_of (modules_reached d main)) ≡ true → IsTableOf (opening_of d main) t
-opened d main t e h reaches there = record {
+    ((n : Text) → does_reach t n ≡ has n (names_of (modules_reached d main))) → has main (names_of (modules_reached d main)) ≡ true → KeepsReached d main t → IsTableOf (opening_of d main) t
+opened d main t e h reaches there keeps = record {
   main = e;
   axioms = rewrite_axioms (modules_reached d main);
   bound = bound_where d (modules_reached d main) main ∙ ap (λ b. cond b (Some (rewrite_axioms (modules_reached d main))) None) there;
   rules = h;
   reaches = λ n. reaches n ∙ sym (ap is_some (bound_where d (modules_reached d main) n) ∙ told (has n (names_of (modules_reached d main))) (rewrite_axioms (modules_reached d n)));
+  definition = d;
+  modules = refl;
+  keeps = keeps;
 }
 
 -- ---- main is reached
 
-named_so : (ms : List KoreModule) (n : Text) (m : KoreModule) → module_named ms n ≡ Some m → bytes_eq n m.name ≡ true
+pub named_so : (ms : List KoreModule) (n : Text) (m : KoreModule) → module_named ms n ≡ Some m → bytes_eq n m.name ≡ true
 named_so [] n m h = absurd (cc)
 named_so (x ∷ ms) n m h = by (bytes_eq x.name n) refl h (named_so ms n m)
   where

@@ -48,3 +48,12 @@ nothing_passed places marks before after then h e = record { names = h.names; ar
 
 pub all_taken : (ss : List Sentence) (i : ℕ) → length ss ≤ i → import_names (take i ss) ≡ import_names ss
 all_taken ss i h = ap import_names (take_all i ss h)
+
+-- one sentence more, which imports what another does
+pub import_added : (ss after : List Sentence) (t : Sentence) (s : KoreSentence) (own : List Text) → after ≡ ss ++ t ∷ [] → imports_in (sentence_view t ∷ []) ≡ own → imports_in (s ∷ []) ≡ own →
+    imports_in (map sentence_view after) ≡ imports_in (map sentence_view ss) ++ imports_in (s ∷ [])
+import_added ss after t s own e here there =
+    ap (λ l. imports_in (map sentence_view l)) e
+    ∙ ap imports_in (map-append sentence_view ss (t ∷ []))
+    ∙ imports_in-append (map sentence_view ss) (sentence_view t ∷ [])
+    ∙ ap (λ l. imports_in (map sentence_view ss) ++ l) (here ∙ sym there)

@@ -1,6 +1,6 @@
 pub mod Axioms
-pub mod Extending
 pub mod Faults
+pub mod Keeping
 pub mod Labels
 pub mod Made
 pub mod Names

@@ -1,5 +1,5 @@
 -- Where a walk over modules stands.
-use Rattle.std.specs.Prelude.{◌≡◌, ℕ, ◌+◌, ◌*◌, ◌<◌, Bool, true, false, List, [], ◌∷◌, ◌++◌, length, map, take, ⊤, Option, Some, None, count_by, slice_get, slice_index_or, String}
+use Rattle.std.specs.Prelude.{◌≡◌, ℕ, ◌+◌, ◌*◌, ◌<◌, ◌≤◌, Bool, true, false, List, [], ◌∷◌, ◌++◌, length, map, take, ⊤, Option, Some, None, count_by, slice_get, slice_index_or, String}
 use Rattle.std.specs.List.{AllByRecursion, Contains, flat_map}
 use Rattle.std.specs.Str.{bytes_eq}
 use Rattle.std.specs.declared.alloc.Global.{Global}
@@ -8,7 +8,7 @@ use Rattle.kp_kore.specs.Syntax.{Text, KoreModule}
 use Rattle.kp_kore.specs.View.{module_view, sentence_view}
 use Rattle.kp_kore.specs.declared.sentence.Module.{Module}
 use Rattle.kp_kore.specs.declared.sentence.Sentence.{Sentence}
-use Rattle.kp_semantics.specs.Theory.{imports_in, names_reached}
+use Rattle.kp_semantics.specs.Theory.{imports_in, module_named, names_reached}
 use Rattle.kp_signature.specs.Names.{Indexes, first_place}
 use Rattle.kp_modules.specs.Faults.{Leads}
 use Rattle.kp_modules.specs.Names.{module_names}
@@ -133,6 +133,14 @@ HasMark rows marks m n = (p : ℕ) (d : Mark) → first_place n (module_names ro
 abbrev pub IsAcyclic : List KoreModule → List Text → Type 0
 IsAcyclic ms names = (a next : Text) → has a names ≡ true → has next (imports_of ms a) ≡ true → Leads ms next a → ⊥
 
+-- the names are those of modules, no more than there are, their imports are among them, and no chain of imports leads back
+pub record IsLaidOut (ms : List KoreModule) (names : List Text) : Type 0 where
+  pub named : AllByRecursion (λ n. ¬ (module_named ms n ≡ None)) names
+  pub room : length names ≤ length ms
+  pub closed : IsClosed ms names
+  pub settled : IsSettled ms names
+  pub acyclic : IsAcyclic ms names
+
 -- the walk from main has left the modules of these places, in order, and stands in the open ones
 pub record IsOnWay (rows : List Module) (main : Text) (parents : List Parent) (current from : ℕ) (done : List ℕ) (marks : List Mark) : Type 0 where
   pub name : Text
@@ -159,6 +167,8 @@ pub record IsOver (rows : List Module) (main : Text) (done : List ℕ) : Type 0 
   pub there : has main (names_reached (length rows) (map module_view rows) main) ≡ true
   pub closed : IsClosed (map module_view rows) (names_reached (length rows) (map module_view rows) main)
   pub acyclic : IsAcyclic (map module_view rows) (names_reached (length rows) (map module_view rows) main)
+  pub settled : IsSettled (map module_view rows) (names_reached (length rows) (map module_view rows) main)
+  pub room : length (names_reached (length rows) (map module_view rows) main) ≤ length rows
 
 abbrev pub IsWalkOf : List Module → Text → Walk → Type 0
 IsWalkOf rows main w = IsOnWay rows main w.parents.items w.current w.from w.done.items w.marks.items

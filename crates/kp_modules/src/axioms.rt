@@ -44,7 +44,7 @@ pub fn axioms_in<'a>(
 }
 
 /// Adds the rewrite axioms of a module, counted from 1.
-fn add_axioms<'a>(
+pub fn add_axioms<'a>(
     found: &mut Vec<RewriteAxiom<'a>>,
     key: &'a Name,
     sentences: &'a [Sentence],

@@ -2,9 +2,10 @@
 ghost use Rattle.std.specs.Prelude.{◌≡◌, ◌<◌, IfOk, IfErr, OnOk, None, Some, length, map, slice_get};
 ghost use Rattle.std.specs.List.{AllByRecursion};
 ghost use Rattle.kp_kore.specs.View.{module_view, definition_view};
-ghost use Rattle.kp_semantics.specs.Theory.{modules_reached, module_named};
+ghost use Rattle.kp_semantics.specs.Theory.{modules_reached, module_named, names_reached};
 ghost use Rattle.kp_modules.specs.Faults.{Fault, TellsFirst, IsImportFault};
 ghost use Rattle.kp_modules.specs.Names.{AreOnce, names_of};
+ghost use Rattle.kp_modules.specs.Walks.{IsLaidOut};
 
 use crate::fault::{LoadError, ModuleFault};
 use crate::names::{check_names, module_places};
@@ -25,6 +26,7 @@ pub fn reached<'a>(
     ensures once { OnOk result (AreOnce (names_of (definition_view definition.now).modules)) }
     ensures main { OnOk result (module_named (definition_view definition.now).modules main.now ≡ None → ⊥) }
     ensures none { OnOk result ((f : Fault) → IsImportFault (definition_view definition.now).modules main.now f → ⊥) }
+    ensures laid { OnOk result (IsLaidOut (definition_view definition.now).modules (names_reached (length (definition_view definition.now).modules) (definition_view definition.now).modules main.now)) }
     ensures err { IfErr result (TellsFirst (definition_view definition.now) main.now) }
 {
     let modules = definition.modules.as_slice();

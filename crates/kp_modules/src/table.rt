@@ -16,6 +16,7 @@ ghost use Rattle.kp_modules.specs.Tables.{rule_set_of, main_of, does_reach, Runs
 use crate::duplicates::{check_sorts, check_symbols};
 use crate::fault::LoadError;
 use crate::order::reached;
+use crate::outlines::{RuleSpan, outlines, rule_spans};
 use crate::rules::rules_of;
 use indexmap::IndexMap;
 use kp_kore::{Definition, Module, Name};
@@ -24,12 +25,15 @@ use kp_signature::Signature;
 use std::alloc::{AllocError, Global};
 use std::sync::Arc;
 
-/// The rule set of a definition's main module, with the names of the modules that it reaches.
+/// The rule set of a definition's main module, with the names of the modules that it reaches. Of these modules it has the
+/// imports, in order, and where their rules stand among main's: the rule set of each can be made of main's.
 #[derive(Drop)]
 pub struct Table {
-    main: Name,
-    names: IndexMap<Name, ()>,
-    rule_set: Arc<RuleSet>,
+    pub(crate) main: Name,
+    pub(crate) names: IndexMap<Name, ()>,
+    pub(crate) modules: Vec<Module>,
+    pub(crate) spans: Vec<RuleSpan>,
+    pub(crate) rule_set: Arc<RuleSet>,
 }
 
 impl Table {
@@ -80,6 +84,8 @@ pub fn load(alloc: Global, definition: &Definition, main: &str) -> Result<Table,
     Ok(Table {
         main: String::from_str(alloc, main)?,
         names: names_of(alloc, &modules)?,
+        modules: outlines(alloc, &modules)?,
+        spans: rule_spans(alloc, &modules)?,
         rule_set: Arc::new(alloc, rule_set(alloc, &modules)?)?,
     })
 }

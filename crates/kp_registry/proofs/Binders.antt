@@ -1,16 +1,20 @@
 -- The first entry that binds a name, in the book and in what a pass has seen of it.
-use Rattle.std.proofs.Common.{◌≡◌, refl, sym, ap, subst, ◌∙◌, ℕ, zero, suc, ◌<◌, ◌+◌, ◌++◌, Bool, true, false, cond, ◌||◌, List, [], ◌∷◌, length, get_or, Option, Some, None, arith}
+use Rattle.std.proofs.Common.{◌≡◌, refl, sym, ap, subst, ◌∙◌, ℕ, zero, suc, ◌<◌, ◌+◌, ◌++◌, Bool, true, false, cond, ◌||◌, List, [], ◌∷◌, length, get_or, Option, Some, None, Result, Ok, Err, IfOk, Global, arith}
 use Rattle.std.specs.Option.{option_map, is_some}
 use Rattle.std.specs.List.{AllByRecursion, AllZip}
 use Rattle.std.specs.Str.{bytes_eq}
+use Rattle.std.specs.declared.alloc.AllocError.{AllocError}
+use Rattle.std.specs.declared.sync.Arc.{Arc}
 use Rattle.std.proofs.lemmas.Slice.Eq.{bytes_eq-Decides}
 use Rattle.kp_kore.specs.Syntax.{Text}
 use Rattle.kp_kore.specs.Signature.{KoreSignature}
 use Rattle.kp_semantics.specs.Theory.{NumberedAxiom}
+use Rattle.kp_rules.specs.declared.rule.RuleSet.{RuleSet}
 use Rattle.kp_book.specs.Books.{Opening, Registration, IsDuplicate, by_opening, by_entry, binds, rules_in, rules_bound, first_of}
 use Rattle.kp_modules.specs.Openings.{IsTableOf}
-use Rattle.kp_modules.specs.Tables.{does_reach, main_of}
+use Rattle.kp_modules.specs.Tables.{does_reach}
 use Rattle.kp_modules.specs.declared.table.Table.{Table}
+use Rattle.kp_extensions.specs.OwnSets.{MeansRules}
 use Rattle.kp_registry.specs.Passes.{IsEntryOf, first_binding, binds_name, is_either, MeansAt}
 use Rattle.kp_registry.specs.Refusals.{IsFree}
 use Rattle.kp_registry.specs.declared.seen.Entry.{Entry}
@@ -119,7 +123,7 @@ found_within (x ∷ es) n k e = by (λ j f. found_within es n j f) (binds_name n
 
 -- ---- what a name means
 
-bound_at : (before after : List Registration) (r : Registration) (n : Text) → AllByRecursion (λ q. binds n q ≡ false) before → binds n r ≡ true → rules_bound (before ++ r ∷ after) n ≡ Some r.axioms
+pub bound_at : (before after : List Registration) (r : Registration) (n : Text) → AllByRecursion (λ q. binds n q ≡ false) before → binds n r ≡ true → rules_bound (before ++ r ∷ after) n ≡ Some r.axioms
 bound_at [] after r n h k = ap (λ b. cond b (Some r.axioms) (rules_bound after n)) k
 bound_at (q ∷ before) after r n h k = ap (λ b. cond b (Some q.axioms) (rules_bound (before ++ r ∷ after) n)) h.0 ∙ bound_at before after r n h.1 k
 
@@ -131,13 +135,16 @@ pub not_some : {X : Type 0} (o : Option X) → is_some o ≡ false → o ≡ Non
 not_some None e = refl
 not_some (Some x) e = absurd (cc (e))
 
--- no other module is reached, and this isn't main's name
-pub not_reached : (o : Opening) (t : Table) (n : Text) → IsTableOf o t → (does_reach t n ≡ true → n ≡ main_of t) → bytes_eq (main_of t) n ≡ false → rules_in o.modules n ≡ None
-not_reached o t n table other e = not_some (rules_in o.modules n) (by (does_reach t n) refl)
-  where
-    by : (b : Bool) → does_reach t n ≡ b → is_some (rules_in o.modules n) ≡ false
-    by false h = sym (table.reaches n) ∙ h
-    by true h = absurd (not_equal (main_of t) n e (sym (other h)))
+-- a name that main doesn't reach
+pub not_reached : (o : Opening) (t : Table) (n : Text) → IsTableOf o t → does_reach t n ≡ false → rules_in o.modules n ≡ None
+not_reached o t n table e = not_some (rules_in o.modules n) (sym (table.reaches n) ∙ e)
+
+-- the rule set of a module that main reaches
+pub means_reached : (o : Opening) (t : Table) (book : List Registration) (n : Text) (r : Result (Option (Arc RuleSet Global)) AllocError) → IsTableOf o t → does_reach t n ≡ true → IfOk r (MeansRules o n) →
+    IfOk r (λ found. MeansAt o book n (option_map (λ s. s.value) found))
+means_reached o t book n (Ok (Some rules)) table e h = (h.0, ap (λ m. first_of m (rules_bound book n)) h.1, h.2)
+means_reached o t book n (Ok None) table e h = absurd (cc (sym (ap is_some h) ∙ sym (table.reaches n) ∙ e))
+means_reached o t book n (Err x) table e h = tt
 
 -- the first binder's rule set
 pub means_first : (o : Opening) (book : List Registration) (es : List Entry) (n : Text) (k : ℕ) (d : Entry) → rules_in o.modules n ≡ None → AllZip (IsEntryOf o.signature) book es → first_binding es n ≡ Some k → MeansAt o book n (Some (get_or es k d).rules.value)

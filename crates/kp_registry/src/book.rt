@@ -3,7 +3,6 @@ ghost use Rattle.std.specs.Prelude.{◌≡◌, ◌<◌, ◌≤◌, ◌++◌, ◌
 ghost use Rattle.std.specs.Str.{IsUtf8};
 ghost use Rattle.kp_book.specs.Books.{Opening, Registration, most_entries};
 ghost use Rattle.kp_modules.specs.Openings.{IsTableOf};
-ghost use Rattle.kp_modules.specs.Tables.{does_reach, main_of};
 ghost use Rattle.kp_registry.specs.Legal.{IsExtension, IsLegal, id_of as stated_id};
 ghost use Rattle.kp_registry.specs.Passes.{HasSeen, IsEntryOf, IsPass, IsReady, MeansAt, own_name_asked};
 ghost use Rattle.kp_registry.specs.Refusals.{IsRefused, IsWelcome, TellsAlsoDuplicate, TellsDuplicate, TellsFault, own_name_of};
@@ -11,6 +10,7 @@ ghost use Rattle.kp_registry.specs.Refusals.{IsRefused, IsWelcome, TellsAlsoDupl
 use crate::entries::MOST_ENTRIES;
 use crate::id::{Id, id_of};
 use crate::seen::{Entry, Pass, Ready};
+use kp_extensions::rules_of;
 use kp_kore::{Module, Name};
 use kp_modules::Table;
 use kp_rules::RuleSet;
@@ -52,17 +52,21 @@ impl Registry {
         &self.table
     }
 
-    /// The rule set that a name means: main's, or that of the first entry that binds it. The name isn't that of another
-    /// module that main reaches.
-    pub fn look(&self, pass: &mut Pass, name: &str) -> Result<Option<Arc<RuleSet>>, AllocError>
+    /// The rule set that a name means: that of the definition's module, in the order of the module's own walk, or that
+    /// of the first entry that binds it. Memory is taken for a module of the definition other than main alone.
+    pub fn look(
+        &self,
+        alloc: Global,
+        pass: &mut Pass,
+        name: &str,
+    ) -> Result<Option<Arc<RuleSet>>, AllocError>
         requires pass { IsPass pass.old }
-        requires other { does_reach self.now.table name.now ≡ true → name.now ≡ main_of self.now.table }
         ensures pass { pass.new ≡ pass.old }
         ensures found { (o : Opening) (book : List Registration) → IsTableOf o self.now.table → HasSeen o.signature book pass.old →
             IfOk result (λ found. MeansAt o book name.now (option_map (λ r. r.value) found)) }
     {
-        if self.table.main() == name {
-            return Ok(Some(self.table.shared()?));
+        if self.table.reaches(name) {
+            return rules_of(alloc, &self.table, name);
         }
         match pass.place(name) {
             Some(place) => Ok(Some(pass.rules_at(place)?)),

@@ -2,7 +2,8 @@ ghost use Rattle.std.specs.Prelude.{IfOk};
 ghost use Rattle.kp_registry.specs.Passes.{IsPass, IsReady};
 
 use crate::extensions::toys;
-use kp_modules::{Table, extend};
+use kp_extensions::extend;
+use kp_modules::Table;
 use kp_registry::{Pass, Ready, RegisterFault, Registry, prepare};
 use kp_rules::RuleSet;
 use kp_text::read_module;
@@ -57,15 +58,17 @@ fn enter(
     }
 }
 
-/// How many rules the name means; none where it means nothing, or is that of a module other than main.
-fn rules_named(registry: &Registry, pass: &mut Pass, name: &str) -> Result<usize, Fail>
+/// How many rules the name means; none where it means nothing.
+fn rules_named(
+    alloc: Global,
+    registry: &Registry,
+    pass: &mut Pass,
+    name: &str,
+) -> Result<usize, Fail>
     requires pass { IsPass pass.old }
     ensures pass { IsPass pass.new }
 {
-    if registry.table().main() != name && registry.table().reaches(name) {
-        return Ok(0);
-    }
-    match registry.look(pass, name)? {
+    match registry.look(alloc, pass, name)? {
         Some(rules) => Ok(count(&rules)),
         None => Ok(0),
     }
@@ -77,13 +80,17 @@ fn count(rules: &RuleSet) -> usize {
 }
 
 /// The numbers of rules of main, of the id of `NEXT` and of its own name.
-fn named(registry: &Registry, pass: &mut Pass) -> Result<(usize, usize, usize), Fail>
+fn named(
+    alloc: Global,
+    registry: &Registry,
+    pass: &mut Pass,
+) -> Result<(usize, usize, usize), Fail>
     requires pass { IsPass pass.old }
     ensures pass { IsPass pass.new }
 {
-    let main = rules_named(registry, pass, "TOYS")?;
-    let id = rules_named(registry, pass, NEXT_ID)?;
-    let own = rules_named(registry, pass, "NEXT")?;
+    let main = rules_named(alloc, registry, pass, "TOYS")?;
+    let id = rules_named(alloc, registry, pass, NEXT_ID)?;
+    let own = rules_named(alloc, registry, pass, "NEXT")?;
     Ok((main, id, own))
 }
 
@@ -93,9 +100,9 @@ fn around(
     also_name: bool,
 ) -> Result<((usize, usize, usize), (usize, usize, usize)), Fail> {
     let (registry, mut pass) = begun(alloc)?;
-    let before = named(&registry, &mut pass)?;
+    let before = named(alloc, &registry, &mut pass)?;
     let _told = enter(alloc, &registry, &mut pass, NEXT, also_name)?;
-    let behind = named(&registry, &mut pass)?;
+    let behind = named(alloc, &registry, &mut pass)?;
     Ok((before, behind))
 }
 
@@ -141,5 +148,45 @@ fn a_name_of_the_definition_is_not_bound(rt: HostRuntime) -> Result<(), Fail> {
     let text = "module TOYS endmodule []";
     assert!(rt; second(rt.alloc(), text, true, true)? == own(0));
     assert!(rt; second(rt.alloc(), text, true, false)? == None);
+    Ok(())
+}
+
+/// Enters so many modules of different texts, all with this rule set; how many were taken.
+fn fill(
+    alloc: Global,
+    registry: &Registry,
+    pass: &mut Pass,
+    rules: &Arc<RuleSet>,
+    count: usize,
+) -> Result<usize, Fail>
+    requires pass { IsPass pass.old }
+    ensures pass { IsPass pass.new }
+{
+    let module = read_module(alloc, NEXT.as_bytes()).map_err(|_| "no module")?;
+    let mut taken = 0;
+    for i in 0..count {
+        let text = i.to_string(alloc)?;
+        let bytes = Vec::from_slice(alloc, text.as_bytes())?;
+        let ready = prepare(alloc, bytes, &module, rules.clone()?, false)?;
+        if registry.register(pass, ready).is_ok() && taken < count {
+            taken += 1;
+        }
+    }
+    Ok(taken)
+}
+
+/// How many of so many modules are taken, and what is told of one more.
+fn beyond(alloc: Global, count: usize) -> Result<(usize, Option<RegisterFault>), Fail> {
+    let (registry, mut pass) = begun(alloc)?;
+    let rules = registry.table().shared()?;
+    let taken = fill(alloc, &registry, &mut pass, &rules, count)?;
+    let told = enter(alloc, &registry, &mut pass, NEXT, true)?;
+    Ok((taken, told))
+}
+
+#[test]
+fn a_book_has_so_many_entries(rt: HostRuntime) -> Result<(), Fail> {
+    assert!(rt; beyond(rt.alloc(), 4095)? == (4095, None));
+    assert!(rt; beyond(rt.alloc(), 4096)? == (4096, Some(RegisterFault::Many)));
     Ok(())
 }

@@ -1,4 +1,5 @@
-use kp_modules::{ExtendError, Table, extend, load};
+use kp_extensions::{ExtendError, extend};
+use kp_modules::{Table, load};
 use kp_rules::RuleSet;
 use kp_text::{read_definition, read_module};
 use std::alloc::Global;
@@ -16,7 +17,7 @@ pub fn toys(alloc: Global) -> Result<Table, Fail> {
 }
 
 /// The ids of the rules, each ended by a space.
-fn ids(alloc: Global, rules: &RuleSet) -> Result<String, Fail> {
+pub fn ids(alloc: Global, rules: &RuleSet) -> Result<String, Fail> {
     let mut text = String::new(alloc);
     for rule in &rules.rules {
         text.push_str(rule.id.as_str())?;

@@ -5,3 +5,5 @@
 mod books;
 #[cfg(test)]
 mod extensions;
+#[cfg(test)]
+mod own_walks;

@@ -4,12 +4,13 @@ use Rattle.kp_kore.specs.Syntax.{Text}
 use Rattle.kp_kore.specs.View.{module_view, definition_view}
 use Rattle.kp_signature.specs.Names.{first_place}
 use Rattle.kp_semantics.specs.Theory.{module_named, names_reached}
-use Rattle.kp_modules.specs.Walks.{IsOver}
+use Rattle.kp_modules.specs.Walks.{IsLaidOut, IsOver}
 use Rattle.kp_modules.specs.Faults.{IsImportFault, IsFirstFault, IsUnknown, TellsFirst, duplicate_module, no_main_module, unknown_import}
 use Rattle.kp_modules.specs.Names.{AreOnce, IsFirstRepeated, module_names, names_of}
 use Rattle.kp_modules.proofs.Acyclic.{found_named, no_import_fault}
 use Rattle.kp_modules.proofs.Chains.{exit, no_name}
 use Rattle.kp_modules.proofs.Firsts.{first_of_modules, first_of_main, first_of_imports, first_of_cycles}
+use Rattle.kp_modules.proofs.Outlined.{laid_out}
 use Rattle.kp_modules.proofs.Seen.{all_seen}
 use Rattle.kp_modules.proofs.Walking.{some_same}
 use Rattle.kp_modules.proofs.order.reached.Goals as goal
@@ -87,3 +88,10 @@ returns-clause-none c f h =
     let rows = c.as_slice-modules.result.now in
     let over : IsOver rows c.args.main.now c.in_ok-order.order.items = c.in_ok-order.ensures.order c.args.main.now c.in_ok-places.ensures.index (sym (c.in-Some.ensures.value ∙ c.in_ok-places.ensures.index c.args.main.now)) in
     no_import_fault rows c.args.main.now c.in_ok-order.order.items over f (subst (λ ms. IsImportFault (map module_view ms) c.args.main.now f) (sym c.as_slice-modules.ensures.value) h)
+
+pub returns-clause-laid : goal.returns-clause-laid
+returns-clause-laid c =
+    let rows = c.as_slice-modules.result.now in
+    let over : IsOver rows c.args.main.now c.in_ok-order.order.items = c.in_ok-order.ensures.order c.args.main.now c.in_ok-places.ensures.index (sym (c.in-Some.ensures.value ∙ c.in_ok-places.ensures.index c.args.main.now)) in
+    subst (λ ms. IsLaidOut (map module_view ms) (names_reached (length (map module_view ms)) (map module_view ms) c.args.main.now)) c.as_slice-modules.ensures.value
+    (laid_out rows c.args.main.now c.in_ok-order.order.items over)

@@ -1,0 +1,5 @@
+pub mod Gathering
+pub mod Numbering
+pub mod Owned
+pub mod Taken
+pub mod Unsound

@@ -1,0 +1,149 @@
+// The rules of several rule sets together, each once, called anew.
+ghost use Rattle.std.specs.Prelude.{◌≡◌, ◌++◌, ◌∷◌, [], List, ◌<◌, ◌^◌, IfOk, OnOk};
+ghost use Rattle.std.specs.List.{AllZip, flat_map};
+ghost use Rattle.kp_kore.specs.Syntax.{Text};
+ghost use Rattle.kp_kore.specs.Signature.{KoreSignature};
+ghost use Rattle.kp_signature.specs.View.{signature_view};
+ghost use Rattle.kp_semantics.specs.Theory.{NumberedAxiom, labels_of as labels_among};
+ghost use Rattle.kp_book.specs.Books.{each_axiom_once};
+ghost use Rattle.kp_extensions.specs.Extending.{IsTakenFrom, AreTakenFrom, AreSetsOf, AreGathered};
+ghost use Rattle.kp_modules.specs.Labels.{Counts};
+ghost use Rattle.kp_modules.specs.Made.{IsMadeOf, AreMadeOf, IsSetOf};
+
+use indexmap::IndexMap;
+use kp_modules::labels::{Labels, add_label, rule_id};
+use kp_modules::repeated::{Met, meet};
+use kp_rules::{Rule, RuleSet};
+use kp_signature::Signature;
+use std::alloc::{AllocError, Global};
+use std::sync::Arc;
+
+/// The rule set over this signature of the rules of these rule sets, in order and each once, and then of these.
+pub fn joined(
+    alloc: Global,
+    signature: &Arc<Signature>,
+    sets: &[Arc<RuleSet>],
+    own: &[Rule],
+) -> Result<RuleSet, AllocError>
+    ensures { (lists : List (List NumberedAxiom)) (axioms : List NumberedAxiom) → AreSetsOf (signature_view signature.now.value) lists sets.now → AllZip (IsTakenFrom (signature_view signature.now.value)) axioms own.now →
+        IfOk result (IsSetOf (signature_view signature.now.value) (each_axiom_once [] (flat_map (λ l. l) lists) ++ axioms)) }
+{
+    let mut found = rules_once(alloc, sets)?;
+    add_own(&mut found, own)?;
+    called(alloc, signature, &found)
+}
+
+/// The rule set over this signature of these rules, each called by the labels of all of them.
+pub fn called(
+    alloc: Global,
+    signature: &Arc<Signature>,
+    rules: &[&Rule],
+) -> Result<RuleSet, AllocError>
+    ensures { (axioms : List NumberedAxiom) → AreTakenFrom (signature_view signature.now.value) axioms rules.now → IfOk result (IsSetOf (signature_view signature.now.value) axioms) }
+{
+    let labels = labels_in(alloc, rules)?;
+    Ok(RuleSet {
+        signature: signature.clone()?,
+        rules: all_named(alloc, &labels, rules)?,
+    })
+}
+
+/// The rules of these rule sets, in order and each once.
+fn rules_once<'a>(alloc: Global, sets: &'a [Arc<RuleSet>]) -> Result<Vec<&'a Rule>, AllocError>
+    ensures { (g : KoreSignature) (lists : List (List NumberedAxiom)) → AreSetsOf g lists sets.now → IfOk result (λ found. AreTakenFrom g (each_axiom_once [] (flat_map (λ l. l) lists)) found.items) }
+{
+    let mut met = IndexMap::new(alloc);
+    let mut found = Vec::new(alloc);
+    for i in 0..sets.len() {
+        gather(&mut met, &mut found, &sets[i].rules)?;
+    }
+    Ok(found)
+}
+
+/// Adds those of these rules that weren't met yet.
+fn gather<'a>(met: &mut Met, found: &mut Vec<&'a Rule>, rules: &'a [Rule]) -> Result<(), AllocError>
+    ensures { (g : KoreSignature) (passed axioms : List NumberedAxiom) → AllZip (IsTakenFrom g) axioms rules.now → AreGathered g passed met.old found.old.items → OnOk result (AreGathered g (passed ++ axioms) met.new found.new.items) }
+{
+    for i in 0..rules.len() {
+        gather_one(met, found, &rules[i])?;
+    }
+    Ok(())
+}
+
+/// Adds a rule where it wasn't met yet.
+fn gather_one<'a>(
+    met: &mut Met,
+    found: &mut Vec<&'a Rule>,
+    rule: &'a Rule,
+) -> Result<(), AllocError>
+    ensures { (g : KoreSignature) (passed : List NumberedAxiom) (a : NumberedAxiom) → IsTakenFrom g a rule.now → AreGathered g passed met.old found.old.items → OnOk result (AreGathered g (passed ++ a ∷ []) met.new found.new.items) }
+{
+    let source = &rule.source;
+    let _number = counted(source.number);
+    if meet(met, &source.numbered)? {
+        found.push(rule)?;
+    }
+    Ok(())
+}
+
+/// The number, which is one of 64 bits.
+fn counted(number: usize) -> usize
+    ensures same { result ≡ number }
+    ensures small { number < 2 ^ 64 }
+{
+    number
+}
+
+/// Adds these rules.
+pub fn add_own<'a>(found: &mut Vec<&'a Rule>, own: &'a [Rule]) -> Result<(), AllocError>
+    ensures { (g : KoreSignature) (before axioms : List NumberedAxiom) → AreTakenFrom g before found.old.items → AllZip (IsTakenFrom g) axioms own.now → OnOk result (AreTakenFrom g (before ++ axioms) found.new.items) }
+{
+    for i in 0..own.len() {
+        found.push(&own[i])?;
+    }
+    Ok(())
+}
+
+/// The labels of these rules.
+fn labels_in(alloc: Global, rules: &[&Rule]) -> Result<Labels, AllocError>
+    ensures { (g : KoreSignature) (axioms : List NumberedAxiom) → AreTakenFrom g axioms rules.now → IfOk result (Counts (labels_among axioms)) }
+{
+    let mut labels = IndexMap::new(alloc);
+    for i in 0..rules.len() {
+        note_label(alloc, &mut labels, rules[i])?;
+    }
+    Ok(labels)
+}
+
+/// Notes the rule's label, where it has one.
+fn note_label(alloc: Global, labels: &mut Labels, rule: &Rule) -> Result<(), AllocError>
+    ensures { (g : KoreSignature) (names : List Text) (a : NumberedAxiom) → IsTakenFrom g a rule.now → Counts names labels.old → OnOk result (Counts (names ++ labels_among (a ∷ [])) labels.new) }
+{
+    match &rule.source.label {
+        Some(label) => add_label(alloc, labels, label),
+        None => Ok(()),
+    }
+}
+
+/// The rules, each called by these labels.
+fn all_named(alloc: Global, labels: &Labels, rules: &[&Rule]) -> Result<Vec<Rule>, AllocError>
+    ensures { (g : KoreSignature) (names : List Text) (axioms : List NumberedAxiom) → Counts names labels.now → AreTakenFrom g axioms rules.now → IfOk result (λ found. AreMadeOf g names axioms found.items) }
+{
+    let mut found = Vec::new(alloc);
+    for i in 0..rules.len() {
+        found.push(named(labels, rules[i])?)?;
+    }
+    Ok(found)
+}
+
+/// The rule, called by these labels.
+fn named(labels: &Labels, rule: &Rule) -> Result<Rule, AllocError>
+    ensures { (g : KoreSignature) (names : List Text) (a : NumberedAxiom) → Counts names labels.now → IsTakenFrom g a rule.now → IfOk result (IsMadeOf g names a) }
+{
+    Ok(Rule {
+        id: rule_id(labels, &rule.source)?,
+        priority: rule.priority,
+        body: rule.body.clone()?,
+        source: rule.source.clone()?,
+    })
+}

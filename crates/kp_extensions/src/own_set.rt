@@ -1,0 +1,72 @@
+// The rule set of a module that main reaches, in the order of its own walk.
+ghost use Rattle.std.specs.Prelude.{◌≡◌, ◌++◌, IfOk, List, OnOk, Some, length, map, slice_get};
+ghost use Rattle.kp_kore.specs.Syntax.{Text, KoreDefinition, KoreModule};
+ghost use Rattle.kp_kore.specs.Signature.{KoreSignature};
+ghost use Rattle.kp_semantics.specs.Theory.{NumberedAxiom, modules_reached, rewrite_axioms};
+ghost use Rattle.kp_book.specs.Books.{Opening, rules_in};
+ghost use Rattle.kp_modules.specs.Keeping.{KeepsReached, own_axioms};
+ghost use Rattle.kp_modules.specs.Made.{IsSetOf};
+ghost use Rattle.kp_modules.specs.Openings.{IsTableOf};
+ghost use Rattle.kp_modules.specs.Tables.{rule_set_of};
+ghost use Rattle.kp_extensions.specs.Extending.{AreTakenFrom};
+ghost use Rattle.kp_extensions.specs.OwnSets.{MeansRules};
+
+use crate::joined::{add_own, called};
+use kp_modules::Table;
+use kp_rules::{Rule, RuleSet};
+use std::alloc::{AllocError, Global};
+use std::sync::Arc;
+
+/// The rule set of a module that the table's main module reaches, in the order of that module's own walk; none of
+/// another name. Main's takes no memory.
+pub fn rules_of(
+    alloc: Global,
+    table: &Table,
+    name: &str,
+) -> Result<Option<Arc<RuleSet>>, AllocError>
+    ensures { (o : Opening) → IsTableOf o table.now → IfOk result (MeansRules o name.now) }
+{
+    if table.main() == name {
+        return Ok(Some(table.shared()?));
+    }
+    match table.places_of(alloc, name)? {
+        Some(places) => Ok(Some(set_at(alloc, table, &places)?)),
+        None => Ok(None),
+    }
+}
+
+/// The rule set of the modules at these places.
+fn set_at(alloc: Global, table: &Table, places: &[usize]) -> Result<Arc<RuleSet>, AllocError>
+    ensures { (g : KoreSignature) (d : KoreDefinition) (main : Text) (ms : List KoreModule) → KeepsReached d main table.now → IsSetOf g (rewrite_axioms (modules_reached d main)) (rule_set_of table.now) →
+        map (slice_get (modules_reached d main)) places.now ≡ map Some ms → IfOk result (λ rules. IsSetOf g (rewrite_axioms ms) rules.value) }
+{
+    let found = rules_at(alloc, table, places)?;
+    Ok(Arc::new(alloc, called(alloc, &table.rule_set().signature, &found)?)?)
+}
+
+/// The rules of the modules at these places.
+fn rules_at<'a>(
+    alloc: Global,
+    table: &'a Table,
+    places: &[usize],
+) -> Result<Vec<&'a Rule>, AllocError>
+    ensures { (g : KoreSignature) (d : KoreDefinition) (main : Text) (ms : List KoreModule) → KeepsReached d main table.now → IsSetOf g (rewrite_axioms (modules_reached d main)) (rule_set_of table.now) →
+        map (slice_get (modules_reached d main)) places.now ≡ map Some ms → IfOk result (λ found. AreTakenFrom g (rewrite_axioms ms) found.items) }
+{
+    let mut found = Vec::new(alloc);
+    for i in 0..places.len() {
+        add_at(&mut found, table, places[i])?;
+    }
+    Ok(found)
+}
+
+/// Adds the rules of the module at this place.
+fn add_at<'a>(found: &mut Vec<&'a Rule>, table: &'a Table, place: usize) -> Result<(), AllocError>
+    ensures { (g : KoreSignature) (d : KoreDefinition) (main : Text) (m : KoreModule) (before : List NumberedAxiom) → KeepsReached d main table.now → IsSetOf g (rewrite_axioms (modules_reached d main)) (rule_set_of table.now) →
+        slice_get (modules_reached d main) place ≡ Some m → AreTakenFrom g before found.old.items → OnOk result (AreTakenFrom g (before ++ own_axioms m) found.new.items) }
+{
+    match table.rules_at(place) {
+        Some(rules) => add_own(found, rules),
+        None => Ok(()),
+    }
+}
