@@ -80,11 +80,7 @@ fn count(rules: &RuleSet) -> usize {
 }
 
 /// The numbers of rules of main, of the id of `NEXT` and of its own name.
-fn named(
-    alloc: Global,
-    registry: &Registry,
-    pass: &mut Pass,
-) -> Result<(usize, usize, usize), Fail>
+fn named(alloc: Global, registry: &Registry, pass: &mut Pass) -> Result<(usize, usize, usize), Fail>
     requires pass { IsPass pass.old }
     ensures pass { IsPass pass.new }
 {

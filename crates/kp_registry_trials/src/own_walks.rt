@@ -6,7 +6,8 @@ use std::alloc::Global;
 use std::test::Fail;
 
 /// Main reaches A before B, and X reaches B before A; a label stands in A and in main.
-const CROSSED: &str = "[] module SORTS sort SortS{} [] symbol LblOne{}() : SortS{} [constructor{}()] endmodule [] module A import SORTS [] axiom{} \\rewrites{SortS{}}(LblOne{}(), LblOne{}()) [label{}(\"go\")] endmodule [] module B import SORTS [] axiom{} \\rewrites{SortS{}}(LblOne{}(), LblOne{}()) [] endmodule [] module X import B [] import A [] axiom{} \\rewrites{SortS{}}(LblOne{}(), LblOne{}()) [] endmodule [] module MAIN import A [] import X [] axiom{} \\rewrites{SortS{}}(LblOne{}(), LblOne{}()) [label{}(\"go\")] endmodule [] module Y endmodule []";
+const CROSSED: &str =
+    "[] module SORTS sort SortS{} [] symbol LblOne{}() : SortS{} [constructor{}()] endmodule [] module A import SORTS [] axiom{} \\rewrites{SortS{}}(LblOne{}(), LblOne{}()) [label{}(\"go\")] endmodule [] module B import SORTS [] axiom{} \\rewrites{SortS{}}(LblOne{}(), LblOne{}()) [] endmodule [] module X import B [] import A [] axiom{} \\rewrites{SortS{}}(LblOne{}(), LblOne{}()) [] endmodule [] module MAIN import A [] import X [] axiom{} \\rewrites{SortS{}}(LblOne{}(), LblOne{}()) [label{}(\"go\")] endmodule [] module Y endmodule []";
 
 /// The table of that definition.
 fn crossed(alloc: Global) -> Result<Table, Fail> {
