@@ -7,4 +7,5 @@ pub mod Right
 pub mod Said
 pub mod Hearing
 pub mod Playing
+pub mod Breaking
 pub mod Places

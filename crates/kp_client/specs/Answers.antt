@@ -1,6 +1,7 @@
 -- What the parts of a round come to, as the code keeps them.
-use Rattle.std.specs.Prelude.{◌≡◌, ◌≢◌, ◌≤◌, ℕ, true, List, [], ◌∷◌, Some, None}
-use Rattle.kp_kore.specs.Syntax.{KorePattern}
+use Rattle.std.specs.Prelude.{◌≡◌, ◌≢◌, ◌≤◌, ℕ, true, List, [], ◌∷◌, Option, Some, None, codes}
+use Rattle.kp_kore.specs.Syntax as kore
+use Rattle.kp_kore.specs.Syntax.{KoreSort, sort_of, no_sorts, KorePattern}
 use Rattle.kp_kore.specs.View.{view}
 use Rattle.kp_semantics.specs.Claims.{ReachabilityClaim}
 use Rattle.kp_semantics.specs.Implied.{not_valid, valid}
@@ -11,7 +12,7 @@ use Rattle.kp_replies.specs.Read.{Method, execute, implies, ServerReply, execute
 use Rattle.kp_replies.specs.Replies.{IsReplyOf}
 use Rattle.kp_replies.specs.View.{reply_view}
 use Rattle.kp_client.specs.Links.{Exchange, LinkState, Makes, IsTextOf}
-use Rattle.kp_client.specs.Rounds.{cover_question, step_question, Tells, Refuses, undecided_code, is_followed, Stepping, Round, RoundEnd, Rounds, Proves, ProofOutcome, passed, pending_at, IsNoneHeld, IsFirstHeld}
+use Rattle.kp_client.specs.Rounds.{cover_question, step_question, Tells, Refuses, undecided_code, is_followed, Stepping, Round, RoundEnd, Rounds, Proves, MayAsk, RoundBegins, ProofOutcome, passed, pending_at, IsNoneHeld, IsFirstHeld}
 use Rattle.kp_client.specs.declared.hear.Heard.{Heard}
 use Rattle.kp_client.specs.declared.hear.Heard.TheVariants as heard
 use Rattle.kp_client.specs.declared.cover.CoverAnswer.{CoverAnswer}
@@ -82,3 +83,63 @@ pub record IsProved (before after : LinkState) (claim : ReachabilityClaim) (dept
 pub data IsEnding (tree : List ProofNode) : ProofOutcome → Type 0 where
   none_held : IsNoneHeld tree → IsEnding tree passed
   first_held : (n : ℕ) (why : HeldBy) → IsFirstHeld tree n why → IsEnding tree (pending_at n why)
+
+-- ---- where a call fails
+
+-- exchanges are made of which this holds
+pub record Made (before after : LinkState) (P : List Exchange → Type 0) : Type 0 where
+  pub exchanges : List Exchange
+  pub makes : Makes before after exchanges
+  pub fact : P exchanges
+
+-- the question's text may have been sent
+pub data MaySend (q : Question) : List Exchange → Type 0 where
+  unsent : MaySend q []
+  sent : (e : Exchange) → IsTextOf q e.frame → MaySend q (e ∷ [])
+
+-- the second half of a round of node n has begun
+pub record BeginsSteps (before after : LinkState) (depth : ℕ) (tree : List ProofNode) (n : ℕ) : Type 0 where
+  pub node : ProofNode
+  pub at : node_at tree n ≡ Some node
+  pub made : Made before after (MayAsk (step_question depth node.state))
+
+-- a round of node n has begun
+pub record BeginsRound (before after : LinkState) (claim : ReachabilityClaim) (depth : ℕ) (tree : List ProofNode) (n : ℕ) : Type 0 where
+  pub node : ProofNode
+  pub at : node_at tree n ≡ Some node
+  pub made : Made before after (RoundBegins claim depth node.state)
+
+-- ---- the sort of a conjunction
+
+-- the sort that a pattern states of itself; an application states none, nor do a text, \mu and \nu
+abbrev pub stated_sort : KorePattern → Option KoreSort
+stated_sort (kore.variable x s) = Some s
+stated_sort (kore.set_variable x s) = Some s
+stated_sort (kore.application f ss ps) = None
+stated_sort (kore.string_literal t) = None
+stated_sort (kore.literal s t) = Some s
+stated_sort (kore.top s) = Some s
+stated_sort (kore.bottom s) = Some s
+stated_sort (kore.negation s p) = Some s
+stated_sort (kore.next s p) = Some s
+stated_sort (kore.conjunction s ps) = Some s
+stated_sort (kore.disjunction s ps) = Some s
+stated_sort (kore.implication s p q) = Some s
+stated_sort (kore.equivalence s p q) = Some s
+stated_sort (kore.rewriting s p q) = Some s
+stated_sort (kore.exists s x t p) = Some s
+stated_sort (kore.forall s x t p) = Some s
+stated_sort (kore.ceil a s p) = Some s
+stated_sort (kore.floor a s p) = Some s
+stated_sort (kore.equals a s p q) = Some s
+stated_sort (kore.membership a s p q) = Some s
+stated_sort (kore.mu x s p) = None
+stated_sort (kore.nu x s p) = None
+
+-- the sort at which a term is joined with this predicate: the predicate's own, else that of whole configurations
+abbrev pub sort_beside : KorePattern → KoreSort
+sort_beside p = of_stated (stated_sort p)
+  where
+    of_stated : Option KoreSort → KoreSort
+    of_stated (Some s) = s
+    of_stated None = sort_of (codes "SortGeneratedTopCell") no_sorts

@@ -38,6 +38,12 @@ pub record Tells (question : RequestId → Question) (method : Method) (e : Exch
   pub asked : IsTextOf (question number) e.frame
   pub told : IsReplyOf method e.reply r
 
+-- it is asked
+pub record Asks (question : RequestId → Question) (e : Exchange) : Type 0 where
+  pub number : RequestId
+  pub lawful : IsGivenId number
+  pub asked : IsTextOf (question number) e.frame
+
 -- it is asked, and the reply is none to the method
 pub record TellsNothing (question : RequestId → Question) (method : Method) (e : Exchange) : Type 0 where
   pub number : RequestId
@@ -146,3 +152,22 @@ pub data Proves (claim : ReachabilityClaim) (depth : ℕ) : List Exchange → Li
       IsNoneHeld tree → Proves claim depth es tree passed
   some_held : (k : ℕ) (tree : List ProofNode) (es : List Exchange) (n : ℕ) (why : HeldBy) → Rounds claim depth k tree es → k ≤ most_rounds → least_open tree ≡ None →
       IsFirstHeld tree n why → Proves claim depth es tree (pending_at n why)
+
+-- ---- a proof that breaks off
+
+-- a question may have been asked
+pub data MayAsk (question : RequestId → Question) : List Exchange → Type 0 where
+  unasked : MayAsk question []
+  asked : (e : Exchange) → Asks question e → MayAsk question (e ∷ [])
+
+-- the first questions of a round, none or more of them: is the node covered? and where it isn't, what are its next steps?
+pub data RoundBegins (claim : ReachabilityClaim) (depth : ℕ) (s : KorePattern) : List Exchange → Type 0 where
+  with_cover : (es : List Exchange) → MayAsk (cover_question claim s) es → RoundBegins claim depth s es
+  with_steps : (e : Exchange) (es : List Exchange) → Tells (cover_question claim s) implies e (implied not_valid) →
+      MayAsk (step_question depth s) es → RoundBegins claim depth s (e ∷ es)
+
+-- the exchanges of a proof that breaks off: those of some rounds that don't end it, and the first ones of the next round
+pub data BreaksOff (claim : ReachabilityClaim) (depth : ℕ) : List Exchange → Type 0 where
+  between : (k : ℕ) (tree : List ProofNode) (es : List Exchange) → k ≤ most_rounds → Rounds claim depth k tree es → BreaksOff claim depth es
+  in_next : (k : ℕ) (tree : List ProofNode) (es more : List Exchange) (n : ℕ) (x : ProofNode) → Rounds claim depth k tree es → k < most_rounds →
+      least_open tree ≡ Some n → node_at tree n ≡ Some x → RoundBegins claim depth x.state more → BreaksOff claim depth (es ++ more)

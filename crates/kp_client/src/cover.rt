@@ -1,4 +1,4 @@
-ghost use Rattle.std.specs.Prelude.{◌≡◌, ◌∷◌, [], IfOk, IsErrOf, List};
+ghost use Rattle.std.specs.Prelude.{◌≡◌, ◌∷◌, [], IfOk, OnErr, IsErrOf, List};
 ghost use Rattle.kp_io.specs.Outside.{Rose};
 ghost use Rattle.kp_kore.specs.Syntax.{KorePattern};
 ghost use Rattle.kp_kore.specs.View.{view};
@@ -9,9 +9,9 @@ ghost use Rattle.kp_replies.specs.View.{reply_view};
 ghost use Rattle.serde_json.specs.Data.{unsigned};
 ghost use Rattle.kp_rpc.specs.Request.{RequestId, id_number};
 ghost use Rattle.kp_rpc.specs.View.{question_view};
-ghost use Rattle.kp_client.specs.Answers.{IsHeard, IsCoverAnswer};
+ghost use Rattle.kp_client.specs.Answers.{IsHeard, IsCoverAnswer, Made};
 ghost use Rattle.kp_client.specs.Links.{Exchange, Makes};
-ghost use Rattle.kp_client.specs.Rounds.{IsGivenId, cover_question, Tells};
+ghost use Rattle.kp_client.specs.Rounds.{IsGivenId, MayAsk, cover_question, Tells};
 ghost use Rattle.kp_client.specs.declared.outcome.ProveFault.TheVariants.{LinkFault};
 
 use crate::hear::{Heard, hear};
@@ -108,6 +108,7 @@ pub fn ask_cover<L: Link>(
     state: &Pattern,
 ) -> Result<CoverAnswer, ProveFault>
     ensures answer { IfOk result (λ a. (es : List Exchange) × Makes (L.told link.old) (L.told link.new) es × IsCoverAnswer (claim_view claim.now) (view state.now) es a) }
+    ensures broken { OnErr result (Made (L.told link.old) (L.told link.new) (MayAsk (cover_question (claim_view claim.now) (view state.now)))) }
     ensures link_fault { IsErrOf result LinkFault → Rose (L.told link.old).faults (L.told link.new).faults }
 {
     let question = cover_question_of(alloc, id, claim, state)?;

@@ -1,8 +1,8 @@
-ghost use Rattle.std.specs.Prelude.{IfOk, IsErrOf, List};
+ghost use Rattle.std.specs.Prelude.{IfOk, OnErr, IsErrOf, List};
 ghost use Rattle.kp_io.specs.Outside.{Rose};
 ghost use Rattle.kp_replies.specs.View.{method_view};
 ghost use Rattle.kp_rpc.specs.View.{question_view};
-ghost use Rattle.kp_client.specs.Answers.{IsHeard};
+ghost use Rattle.kp_client.specs.Answers.{IsHeard, Made, MaySend};
 ghost use Rattle.kp_client.specs.Links.{Exchange, Makes};
 ghost use Rattle.kp_client.specs.declared.outcome.ProveFault.TheVariants.{LinkFault};
 
@@ -31,6 +31,7 @@ pub fn hear<L: Link>(
     question: &Question,
 ) -> Result<Heard, ProveFault>
     ensures heard { IfOk result (λ h. (es : List Exchange) × Makes (L.told link.old) (L.told link.new) es × IsHeard (method_view method) (question_view question.now) es h) }
+    ensures broken { OnErr result (Made (L.told link.old) (L.told link.new) (MaySend (question_view question.now))) }
     ensures link_fault { IsErrOf result LinkFault → Rose (L.told link.old).faults (L.told link.new).faults }
 {
     let Some(frame) = question_text(alloc, question)? else {

@@ -1,4 +1,4 @@
-ghost use Rattle.std.specs.Prelude.{◌≡◌, ◌<◌, ℕ, [], Some, None, IfOk, IsErrOf, length, option_map, slice_get};
+ghost use Rattle.std.specs.Prelude.{◌≡◌, ◌<◌, ℕ, [], Some, None, IfOk, OnErr, IsErrOf, length, option_map, slice_get};
 ghost use Rattle.kp_io.specs.Outside.{Rose};
 ghost use Rattle.kp_kore.specs.Parts.{free_variables};
 ghost use Rattle.kp_semantics.specs.Claims.{Holds};
@@ -9,9 +9,9 @@ ghost use Rattle.kp_graph.specs.Tree.{IsTree, node_at, with_hold, rounds, status
 ghost use Rattle.kp_graph.specs.Says.{TreeSays};
 ghost use Rattle.kp_graph.specs.TreeView.{tree_view};
 ghost use Rattle.kp_graph.specs.declared.status.Status.TheVariants.{Passed};
-ghost use Rattle.kp_client.specs.Answers.{IsEnding, IsProved};
+ghost use Rattle.kp_client.specs.Answers.{IsEnding, IsProved, Made};
 ghost use Rattle.kp_client.specs.Links.{Serves, ToldTheory};
-ghost use Rattle.kp_client.specs.Rounds.{least_open, passed, failed_at, pending_at};
+ghost use Rattle.kp_client.specs.Rounds.{BreaksOff, least_open, passed, failed_at, pending_at};
 ghost use Rattle.kp_client.specs.Sound.{AreReadBack, IsGround, IsStuckAt};
 ghost use Rattle.kp_client.specs.View.{outcome_view};
 ghost use Rattle.kp_client.specs.declared.outcome.ProveFault.TheVariants.{LinkFault};
@@ -70,6 +70,7 @@ fn play_rounds<L: Link>(
     max_depth: u64,
 ) -> Result<Proof, ProveFault>
     ensures proved { IfOk result (λ r. IsProved (L.told link.old) (L.told link.new) (claim_view claim.now) max_depth (tree_view r.1) (outcome_view r.0)) }
+    ensures broken { OnErr result (Made (L.told link.old) (L.told link.new) (BreaksOff (claim_view claim.now) max_depth)) }
     ensures link_fault { IsErrOf result LinkFault → Rose (L.told link.old).faults (L.told link.new).faults }
 {
     let mut tree = Tree::new(alloc, claim)?;
@@ -106,6 +107,8 @@ pub fn prove_claim<L: Link>(
     ensures says { (t : ToldTheory) → Serves (L.told link.old) t → free_variables (claim_view claim.now).right ≡ [] → AreReadBack (claim_view claim.now) → IfOk result (λ r. TreeSays t.theory [] [] (claim_view claim.now) (tree_view r.1)) }
     ensures holds { (t : ToldTheory) → Serves (L.told link.old) t → IsGround (claim_view claim.now) → AreReadBack (claim_view claim.now) → IfOk result (λ r. outcome_view r.0 ≡ passed → Holds t.theory (claim_view claim.now)) }
     ensures stuck { (t : ToldTheory) (n : ℕ) → Serves (L.told link.old) t → AreReadBack (claim_view claim.now) → IfOk result (λ r. outcome_view r.0 ≡ failed_at n → IsStuckAt t.theory (claim_view claim.now) (tree_view r.1) n) }
+    // where it breaks off, the exchanges are those of some rounds and the first ones of the next
+    ensures broken { OnErr result (Made (L.told link.old) (L.told link.new) (BreaksOff (claim_view claim.now) options.now.max_depth)) }
     ensures link_fault { IsErrOf result LinkFault → Rose (L.told link.old).faults (L.told link.new).faults }
 {
     Ok(play_rounds(alloc, link, claim, options.max_depth)?)
@@ -131,6 +134,7 @@ pub fn prove<L: Link>(
     ensures says { (i : LabelledClaim) (t : ToldTheory) → slice_get (items_view claims.now) place ≡ Some i → Serves (L.told link.old) t → free_variables i.claim.right ≡ [] → AreReadBack i.claim → IfOk result (λ r. TreeSays t.theory [] [] i.claim (tree_view r.1)) }
     ensures holds { (i : LabelledClaim) (t : ToldTheory) → slice_get (items_view claims.now) place ≡ Some i → Serves (L.told link.old) t → IsGround i.claim → AreReadBack i.claim → IfOk result (λ r. outcome_view r.0 ≡ passed → Holds t.theory i.claim) }
     ensures stuck { (i : LabelledClaim) (t : ToldTheory) (n : ℕ) → slice_get (items_view claims.now) place ≡ Some i → Serves (L.told link.old) t → AreReadBack i.claim → IfOk result (λ r. outcome_view r.0 ≡ failed_at n → IsStuckAt t.theory i.claim (tree_view r.1) n) }
+    ensures broken { (i : LabelledClaim) → slice_get (items_view claims.now) place ≡ Some i → OnErr result (Made (L.told link.old) (L.told link.new) (BreaksOff i.claim options.now.max_depth)) }
     ensures link_fault { IsErrOf result LinkFault → Rose (L.told link.old).faults (L.told link.new).faults }
 {
     let item = &claims[place];

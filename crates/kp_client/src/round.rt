@@ -1,10 +1,10 @@
-ghost use Rattle.std.specs.Prelude.{◌≡◌, ◌<◌, ◌≤◌, IfOk, IsErrOf, Some, false, length};
+ghost use Rattle.std.specs.Prelude.{◌≡◌, ◌<◌, ◌≤◌, IfOk, OnErr, IsErrOf, Some, false, length};
 ghost use Rattle.kp_io.specs.Outside.{Rose};
 ghost use Rattle.kp_semantics.specs.ClaimView.{claim_view};
 ghost use Rattle.kp_kore.specs.View.{view};
 ghost use Rattle.kp_graph.specs.Tree.{cover, stuck, nodes, reply, with_arc, with_hold, with_edge};
 ghost use Rattle.kp_graph.specs.TreeView.{tree_view};
-ghost use Rattle.kp_client.specs.Answers.{PlaysRound, PlaysSteps};
+ghost use Rattle.kp_client.specs.Answers.{BeginsRound, BeginsSteps, PlaysRound, PlaysSteps};
 ghost use Rattle.kp_client.specs.Rounds.{least_open, most_nodes, goes_on, ends, failed_at, pending_at};
 ghost use Rattle.kp_client.specs.View.{round_end};
 ghost use Rattle.kp_client.specs.declared.outcome.ProveFault.TheVariants.{LinkFault};
@@ -81,6 +81,7 @@ fn play_steps<L: Link>(
 ) -> Result<Option<Outcome>, ProveFault>
     requires least { least_open (tree_view tree.old) ≡ Some node.number }
     ensures plays { IfOk result (λ o. PlaysSteps (L.told link.old) (L.told link.new) max_depth (tree_view tree.old) node.number (round_end (tree_view tree.new) o)) }
+    ensures broken { OnErr result (BeginsSteps (L.told link.old) (L.told link.new) max_depth (tree_view tree.old) node.number) }
     ensures link_fault { IsErrOf result LinkFault → Rose (L.told link.old).faults (L.told link.new).faults }
 {
     match ask_steps(alloc, link, id, max_depth, tree.state(node))? {
@@ -104,6 +105,7 @@ pub fn play_round<L: Link>(
     requires least { least_open (tree_view tree.old) ≡ Some node.number }
     requires id { id < 10000 }
     ensures plays { IfOk result (λ o. PlaysRound (L.told link.old) (L.told link.new) (claim_view claim.now) max_depth (tree_view tree.old) node.number (round_end (tree_view tree.new) o)) }
+    ensures broken { OnErr result (BeginsRound (L.told link.old) (L.told link.new) (claim_view claim.now) max_depth (tree_view tree.old) node.number) }
     ensures link_fault { IsErrOf result LinkFault → Rose (L.told link.old).faults (L.told link.new).faults }
 {
     match ask_cover(alloc, link, id, claim, tree.state(node))? {

@@ -1,4 +1,4 @@
-ghost use Rattle.std.specs.Prelude.{◌≡◌, ◌≢◌, ◌∷◌, [], true, false, IfOk, IsErrOf, List, Some, ℕ};
+ghost use Rattle.std.specs.Prelude.{◌≡◌, ◌≢◌, ◌∷◌, [], true, false, IfOk, OnErr, IsErrOf, List, Some, option_map, ℕ};
 ghost use Rattle.kp_io.specs.Outside.{Rose};
 ghost use Rattle.kp_kore.specs.Syntax.{KorePattern, conjunction};
 ghost use Rattle.kp_kore.specs.View.{view, sort_view, patterns_view};
@@ -9,9 +9,9 @@ ghost use Rattle.kp_replies.specs.View.{reply_view};
 ghost use Rattle.serde_json.specs.Data.{unsigned};
 ghost use Rattle.kp_rpc.specs.Request.{RequestId, id_number};
 ghost use Rattle.kp_rpc.specs.View.{question_view};
-ghost use Rattle.kp_client.specs.Answers.{IsHeard, IsStepAnswer};
+ghost use Rattle.kp_client.specs.Answers.{IsHeard, IsStepAnswer, Made, sort_beside as beside, stated_sort as sort_stated};
 ghost use Rattle.kp_client.specs.Links.{Exchange, Makes};
-ghost use Rattle.kp_client.specs.Rounds.{IsGivenId, is_followed as goes_by, step_question, Tells};
+ghost use Rattle.kp_client.specs.Rounds.{IsGivenId, MayAsk, is_followed as goes_by, step_question, Tells};
 ghost use Rattle.kp_client.specs.declared.outcome.ProveFault.TheVariants.{LinkFault};
 
 use crate::cover::{NO_PATTERN, PARSE_ERROR};
@@ -58,20 +58,43 @@ fn step_question_of(
     })
 }
 
-/// A sort at which a term and this predicate may be joined: the predicate's, where it has one.
-fn sort_beside(alloc: Global, predicate: &Pattern) -> Result<Sort, AllocError> {
-    match predicate {
-        Pattern::Top { sort } => sort.copy(alloc),
-        Pattern::Not { sort, .. } => sort.copy(alloc),
-        Pattern::And { sort, .. } => sort.copy(alloc),
-        Pattern::Or { sort, .. } => sort.copy(alloc),
-        Pattern::Implies { sort, .. } => sort.copy(alloc),
-        Pattern::Exists { sort, .. } => sort.copy(alloc),
-        Pattern::Ceil { sort, .. } => sort.copy(alloc),
-        Pattern::Floor { sort, .. } => sort.copy(alloc),
-        Pattern::Equals { sort, .. } => sort.copy(alloc),
-        Pattern::In { sort, .. } => sort.copy(alloc),
-        _ => Ok(Sort::App {
+/// The sort that a pattern states of itself, where it states one.
+fn stated_sort(pattern: &Pattern) -> Option<&Sort>
+    ensures { option_map (λ s. sort_view s.now) result ≡ sort_stated (view pattern.now) }
+{
+    match pattern {
+        Pattern::Variable { sort, .. }
+        | Pattern::SetVariable { sort, .. }
+        | Pattern::Literal { sort, .. }
+        | Pattern::Top { sort }
+        | Pattern::Bottom { sort }
+        | Pattern::Not { sort, .. }
+        | Pattern::Next { sort, .. }
+        | Pattern::And { sort, .. }
+        | Pattern::Or { sort, .. }
+        | Pattern::Implies { sort, .. }
+        | Pattern::Iff { sort, .. }
+        | Pattern::Rewrites { sort, .. }
+        | Pattern::Exists { sort, .. }
+        | Pattern::Forall { sort, .. }
+        | Pattern::Ceil { sort, .. }
+        | Pattern::Floor { sort, .. }
+        | Pattern::Equals { sort, .. }
+        | Pattern::In { sort, .. } => Some(sort),
+        Pattern::Application { .. }
+        | Pattern::StringLiteral { .. }
+        | Pattern::Mu { .. }
+        | Pattern::Nu { .. } => None,
+    }
+}
+
+/// The sort at which a term is joined with this predicate: the predicate's own, else that of whole configurations.
+fn sort_beside(alloc: Global, predicate: &Pattern) -> Result<Sort, AllocError>
+    ensures { IfOk result (λ s. sort_view s ≡ beside (view predicate.now)) }
+{
+    match stated_sort(predicate) {
+        Some(sort) => sort.copy(alloc),
+        None => Ok(Sort::App {
             name: String::from_str(alloc, "SortGeneratedTopCell")?,
             arguments: Vec::new(alloc),
         }),
@@ -85,9 +108,10 @@ fn conjunction_of(sort: Sort, patterns: Vec<Pattern>) -> Pattern
     Pattern::And { sort, patterns }
 }
 
-/// The conjunction of a term and a predicate.
+/// The conjunction of a term and a predicate, at the predicate's sort.
 fn joined(alloc: Global, term: Pattern, predicate: Pattern) -> Result<Pattern, AllocError>
-    ensures { IfOk result (λ p. IsPatternOf (record { term = view term; predicate = Some (view predicate) }) (view p)) }
+    ensures sort { IfOk result (λ p. sort_stated (view p) ≡ Some (beside (view predicate))) }
+    ensures pattern { IfOk result (λ p. IsPatternOf (record { term = view term; predicate = Some (view predicate) }) (view p)) }
 {
     let sort = sort_beside(alloc, &predicate)?;
     let mut patterns = Vec::new(alloc);
@@ -191,6 +215,7 @@ pub fn ask_steps<L: Link>(
     state: &Pattern,
 ) -> Result<StepAnswer, ProveFault>
     ensures answer { IfOk result (λ a. (es : List Exchange) × Makes (L.told link.old) (L.told link.new) es × IsStepAnswer depth (view state.now) es a) }
+    ensures broken { OnErr result (Made (L.told link.old) (L.told link.new) (MayAsk (step_question depth (view state.now)))) }
     ensures link_fault { IsErrOf result LinkFault → Rose (L.told link.old).faults (L.told link.new).faults }
 {
     let question = step_question_of(alloc, id, depth, state)?;

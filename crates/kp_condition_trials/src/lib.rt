@@ -8,3 +8,5 @@ mod comparing;
 mod demands;
 #[cfg(test)]
 mod folding;
+#[cfg(test)]
+mod opening;

@@ -215,7 +215,7 @@ mutual
       let one = bound_sort x t (r.stands.place.scope ++ free_variables p) (free_variables p) (agrees g (under_binder x t (part_at r.stands.place s)) p h) in
       let a = λ (u : Value) (z : HasSort g t u). all_under g rs x y t v u (free_variables p) z one r.stands.placed r.given (bound_apart rs x p m.0) in
       let k = λ (u : Value) (z : HasSort g t u). binder_says g rs x y t v u p (a u z) (written_says g (renamed x y t rs) (assigned v y u) p i
-          (record { stands = record { place = under_binder x t (part_at r.stands.place s); faultless = h; meant = r.stands.meant; placed = under_placed g rs x y t v u (free_variables p) (a u z) }; predicate = r.predicate; given = under_given g rs x y t v u (free_variables p) (a u z) }) m.1) in
+      (record { stands = record { place = under_binder x t (part_at r.stands.place s); faultless = h; meant = r.stands.meant; placed = under_placed g rs x y t v u (free_variables p) (a u z) }; predicate = r.predicate; given = under_given g rs x y t v u (free_variables p) (a u z) }) m.1) in
       ((λ n f. n (λ u z e. f u z ((k u z).0 e))), (λ n f. n (λ u z e. f u z ((k u z).1 e))))
   written_says g rs v (forall s x t p) i r m =
       let y = bound_name rs x p in
@@ -223,7 +223,7 @@ mutual
       let one = bound_sort x t (r.stands.place.scope ++ free_variables p) (free_variables p) (agrees g (under_binder x t (part_at r.stands.place s)) p h) in
       let a = λ (u : Value) (z : HasSort g t u). all_under g rs x y t v u (free_variables p) z one r.stands.placed r.given (bound_apart rs x p m.0) in
       let k = λ (u : Value) (z : HasSort g t u). binder_says g rs x y t v u p (a u z) (written_says g (renamed x y t rs) (assigned v y u) p i
-          (record { stands = record { place = under_binder x t (part_at r.stands.place s); faultless = h; meant = r.stands.meant; placed = under_placed g rs x y t v u (free_variables p) (a u z) }; predicate = r.predicate; given = under_given g rs x y t v u (free_variables p) (a u z) }) m.1) in
+      (record { stands = record { place = under_binder x t (part_at r.stands.place s); faultless = h; meant = r.stands.meant; placed = under_placed g rs x y t v u (free_variables p) (a u z) }; predicate = r.predicate; given = under_given g rs x y t v u (free_variables p) (a u z) }) m.1) in
       ((λ f u z. (k u z).0 (f u z)), (λ f u z. (k u z).1 (f u z)))
   written_says g rs v (ceil a s p) i r m = ceil_written g rs v a s p i r (λ e f. written_says g rs v p i ((read_closed g rs v).under_ceil a s p e f r) m)
   written_says g rs v (floor a s p) i r m = floor_written g rs v a s p i r (λ e. written_says g rs v p i ((read_closed g rs v).under_floor a s p e r) m)

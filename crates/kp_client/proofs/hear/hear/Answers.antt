@@ -9,6 +9,8 @@ use Rattle.kp_replies.specs.declared.told.ServerReply.{ServerReply as RustReply}
 use Rattle.kp_rpc.specs.View.{question_view}
 use Rattle.kp_client.proofs.Hearing.{nothing, told}
 use Rattle.kp_client.proofs.hear.hear.Goals as goal
+use Rattle.kp_client.proofs.Breaking.{always, nothing_sent, one_sent}
+use Rattle.kp_client.proofs.Made.{makes_none}
 
 pub returns-clause-heard : goal.returns-clause-heard
 returns-clause-heard g c =
@@ -29,3 +31,16 @@ returns-in-Some-2-clause-heard g c =
     let tells = subst (λ (o : Option RustReply). IfSome o (λ (r : RustReply). IsReplyOf m c.deref-2.result.now (reply_view r))) c.in-Some-2.is c.in_ok-reply.ensures.told in
     told (g.L.Link.told c.args.link.now) (g.L.Link.told c.ask.new.self) m q c.deref.result.now c.in_ok-line.line c.in-Some-2.reply reads
     (subst (λ (l : List ℕ). IsReplyOf m l (reply_view c.in-Some-2.reply)) c.deref-2.ensures.value tells) c.in_ok-line.ensures.asked
+
+pub returns-in_err-frame-clause-broken : goal.returns-in_err-frame-clause-broken
+returns-in_err-frame-clause-broken g c = always _ (nothing_sent (g.L.Link.told c.args.link.now) (g.L.Link.told c.args.link.now) (question_view c.args.question.now) (makes_none (g.L.Link.told c.args.link.now)))
+
+pub returns-in_err-line-clause-broken : goal.returns-in_err-line-clause-broken
+returns-in_err-line-clause-broken g c = always _ (nothing_sent (g.L.Link.told c.args.link.now) (g.L.Link.told c.ask.new.self) (question_view c.args.question.now) c.in_err-line.ensures.nothing_asked)
+
+pub returns-in_err-reply-clause-broken : goal.returns-in_err-reply-clause-broken
+returns-in_err-reply-clause-broken g c =
+    let q = question_view c.args.question.now in
+    let reads : Some c.deref.result.now ≡ option_map compact_text (question_tree q) =
+    ap Some c.deref.ensures.value ∙ sym (ap (option_map (λ (b : Vec ℕ Global). b.items)) c.in-Some.is) ∙ c.in_ok-frame.ensures.text in
+    always _ (one_sent (g.L.Link.told c.args.link.now) (g.L.Link.told c.ask.new.self) q c.deref.result.now c.in_ok-line.line.items reads c.in_ok-line.ensures.asked)

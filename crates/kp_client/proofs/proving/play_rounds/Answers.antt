@@ -1,4 +1,4 @@
-use Rattle.std.proofs.Common.{◌≡◌, ◌≤◌, subst, arith}
+use Rattle.std.proofs.Common.{◌≡◌, ◌≤◌, refl, subst, arith}
 use Rattle.kp_semantics.specs.ClaimView.{claim_view}
 use Rattle.kp_graph.specs.TreeView.{tree_view}
 use Rattle.kp_client.specs.Answers.{PlaysRound}
@@ -6,6 +6,8 @@ use Rattle.kp_client.specs.Rounds.{most_rounds}
 use Rattle.kp_client.specs.View.{outcome_view, round_end}
 use Rattle.kp_client.proofs.Playing.{played_none, played_more, proved_in_round, settled_end, after_end, none_told, open_told}
 use Rattle.kp_client.proofs.proving.play_rounds.Goals as goal
+use Rattle.kp_graph.specs.Tree.{first_nodes}
+use Rattle.kp_client.proofs.Breaking.{always, broken_between, broken_in_round}
 
 pub loop-round-init : goal.loop-round-init
 loop-round-init g c = played_none (g.L.Link.told c.args.link.now) (claim_view c.args.claim.now) c.args.max_depth (tree_view c.in_ok-tree.tree) c.in_ok-tree.ensures
@@ -44,3 +46,24 @@ returns-clause-proved g c =
     let last : c.loop-round.round ≡ most_rounds = omega (arith, c.loop-round-test.false, c.loop-round.auto.round-end) in
     after_end (g.L.Link.told c.args.link.now) (g.L.Link.told c.loop-round.link) (claim_view c.args.claim.now) c.args.max_depth c.loop-round.round (tree_view c.loop-round.tree) c.end_of_rounds.result
     c.loop-round.invariant last c.end_of_rounds.ensures.open c.end_of_rounds.ensures.settled
+
+pub returns-in_err-tree-clause-broken : goal.returns-in_err-tree-clause-broken
+returns-in_err-tree-clause-broken g c =
+    let claim = claim_view c.args.claim.now in
+    always _ (broken_between (g.L.Link.told c.args.link.now) (g.L.Link.told c.args.link.now) claim c.args.max_depth 0 (first_nodes claim.left) (omega arith) (played_none (g.L.Link.told c.args.link.now) claim c.args.max_depth (first_nodes claim.left) refl))
+
+pub returns-in_default-clause-broken : goal.returns-in_default-clause-broken
+returns-in_default-clause-broken g c =
+    let within : c.loop-round.round ≤ most_rounds = omega (arith, c.loop-round-test.true) in
+    always c.end_settled.result (broken_between (g.L.Link.told c.args.link.now) (g.L.Link.told c.loop-round.link) (claim_view c.args.claim.now) c.args.max_depth c.loop-round.round (tree_view c.loop-round.tree) within c.loop-round.invariant)
+
+pub returns-in_err-outcome-clause-broken : goal.returns-in_err-outcome-clause-broken
+returns-in_err-outcome-clause-broken g c =
+    let tree = tree_view c.loop-round.tree in
+    always _ (broken_in_round (g.L.Link.told c.args.link.now) (g.L.Link.told c.loop-round.link) (g.L.Link.told c.play_round.new.link) (claim_view c.args.claim.now) c.args.max_depth c.loop-round.round tree c.in-Some.node.number
+    c.loop-round-test.true (open_told tree c.first_open.result c.in-Some.node c.first_open.ensures.least c.in-Some.is) c.loop-round.invariant c.in_err-outcome.ensures.broken)
+
+pub returns-clause-broken : goal.returns-clause-broken
+returns-clause-broken g c =
+    let within : c.loop-round.round ≤ most_rounds = omega (arith, c.loop-round-test.false, c.loop-round.auto.round-end) in
+    always c.end_of_rounds.result (broken_between (g.L.Link.told c.args.link.now) (g.L.Link.told c.loop-round.link) (claim_view c.args.claim.now) c.args.max_depth c.loop-round.round (tree_view c.loop-round.tree) within c.loop-round.invariant)

@@ -14,6 +14,7 @@ use Rattle.kp_client.specs.declared.cover.CoverAnswer.TheVariants as cover
 use Rattle.kp_client.proofs.Nodes.{open_at}
 use Rattle.kp_client.proofs.Playing.{plays_round, plays_both, round_covered, round_undecided, round_refused}
 use Rattle.kp_client.proofs.round.play_round.Goals as goal
+use Rattle.kp_client.proofs.Breaking.{always, both_begun, onwards, round_begun, round_told}
 
 pub state-requires : goal.state-requires
 state-requires g c = (open_at (tree_view c.args.tree.now) c.args.node.number c.requires.least).there
@@ -73,3 +74,27 @@ returns-in-Refused-clause-plays g c =
     let fits : SFits w64 c.in-Refused.code = search rules in
     plays_round (g.L.Link.told c.args.link.now) (g.L.Link.told c.ask_cover.new.link) claim c.args.max_depth tree n s heard.0 _ c.state.ensures heard.1
     (subst (λ z. Round claim c.args.max_depth tree n s heard.0 (ends tree (refused_with z))) (sym (to_z-of_z w64 c.in-Refused.code fits)) (round_refused claim c.args.max_depth tree n s heard.0 c.in-Refused.code answer))
+
+pub returns-in_err-ask_cover-clause-broken : goal.returns-in_err-ask_cover-clause-broken
+returns-in_err-ask_cover-clause-broken g c = always _ (round_begun (g.L.Link.told c.args.link.now) (g.L.Link.told c.ask_cover.new.link) (claim_view c.args.claim.now) c.args.max_depth (tree_view c.args.tree.now) c.args.node.number (view c.state.result.now) c.state.ensures c.in_err-ask_cover.ensures.broken)
+
+pub returns-in-Covered-clause-broken : goal.returns-in-Covered-clause-broken
+returns-in-Covered-clause-broken g c =
+    let heard = c.in_ok-ask_cover.ensures.answer in
+    always c.cover_at.result (round_told (g.L.Link.told c.args.link.now) (g.L.Link.told c.ask_cover.new.link) (claim_view c.args.claim.now) c.args.max_depth (tree_view c.args.tree.now) c.args.node.number (view c.state.result.now) heard.0 _ c.state.ensures heard.1 heard.2)
+
+pub returns-in-Undecided-clause-broken : goal.returns-in-Undecided-clause-broken
+returns-in-Undecided-clause-broken g c =
+    let heard = c.in_ok-ask_cover.ensures.answer in
+    always c.hold_by.result (round_told (g.L.Link.told c.args.link.now) (g.L.Link.told c.ask_cover.new.link) (claim_view c.args.claim.now) c.args.max_depth (tree_view c.args.tree.now) c.args.node.number (view c.state.result.now) heard.0 _ c.state.ensures heard.1 heard.2)
+
+pub returns-in-Uncovered-clause-broken : goal.returns-in-Uncovered-clause-broken
+returns-in-Uncovered-clause-broken g c =
+    let claim = claim_view c.args.claim.now in
+    let tree = tree_view c.args.tree.now in
+    let s = view c.state.result.now in
+    let heard = c.in_ok-ask_cover.ensures.answer in
+    let answer : IsCoverAnswer claim s heard.0 cover.Uncovered = subst (IsCoverAnswer claim s heard.0) c.in-Uncovered.is heard.2 in
+    onwards c.play_steps.result
+    (both_begun (g.L.Link.told c.args.link.now) (g.L.Link.told c.ask_cover.new.link) (g.L.Link.told c.play_steps.new.link) claim c.args.max_depth tree c.args.node.number s heard.0 c.state.ensures heard.1 answer)
+    c.play_steps.ensures.broken

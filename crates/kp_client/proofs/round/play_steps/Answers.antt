@@ -14,6 +14,7 @@ use Rattle.kp_client.specs.declared.steps.StepAnswer.TheVariants as steps
 use Rattle.kp_client.proofs.Nodes.{open_at}
 use Rattle.kp_client.proofs.Playing.{if_ok_both, plays_steps, steps_edge, steps_stuck, steps_held, steps_refused}
 use Rattle.kp_client.proofs.round.play_steps.Goals as goal
+use Rattle.kp_client.proofs.Breaking.{always, steps_begun, steps_told}
 
 pub state-requires : goal.state-requires
 state-requires g c = (open_at (tree_view c.args.tree.now) c.args.node.number c.requires.least).there
@@ -71,3 +72,21 @@ returns-in-Refused-clause-plays g c =
     let fits : SFits w64 c.in-Refused.code = search rules in
     plays_steps (g.L.Link.told c.args.link.now) (g.L.Link.told c.ask_steps.new.link) c.args.max_depth tree n s heard.0 _ c.state.ensures heard.1
     (subst (λ z. Stepping c.args.max_depth tree n s heard.0 (ends tree (refused_with z))) (sym (to_z-of_z w64 c.in-Refused.code fits)) (steps_refused c.args.max_depth tree n s heard.0 c.in-Refused.code answer))
+
+pub returns-in-Stepped-clause-broken : goal.returns-in-Stepped-clause-broken
+returns-in-Stepped-clause-broken g c =
+    let heard = c.in_ok-depth.ensures.answer in
+    always c.grow.result (steps_told (g.L.Link.told c.args.link.now) (g.L.Link.told c.ask_steps.new.link) c.args.max_depth (tree_view c.args.tree.now) c.args.node.number (view c.state.result.now) heard.0 _ c.state.ensures heard.1 heard.2)
+
+pub returns-in-Stuck-clause-broken : goal.returns-in-Stuck-clause-broken
+returns-in-Stuck-clause-broken g c =
+    let heard = c.in_ok-depth.ensures.answer in
+    always c.fail_at.result (steps_told (g.L.Link.told c.args.link.now) (g.L.Link.told c.ask_steps.new.link) c.args.max_depth (tree_view c.args.tree.now) c.args.node.number (view c.state.result.now) heard.0 _ c.state.ensures heard.1 heard.2)
+
+pub returns-in-Held-clause-broken : goal.returns-in-Held-clause-broken
+returns-in-Held-clause-broken g c =
+    let heard = c.in_ok-depth.ensures.answer in
+    always c.hold_by.result (steps_told (g.L.Link.told c.args.link.now) (g.L.Link.told c.ask_steps.new.link) c.args.max_depth (tree_view c.args.tree.now) c.args.node.number (view c.state.result.now) heard.0 _ c.state.ensures heard.1 heard.2)
+
+pub returns-in_err-depth-clause-broken : goal.returns-in_err-depth-clause-broken
+returns-in_err-depth-clause-broken g c = always _ (steps_begun (g.L.Link.told c.args.link.now) (g.L.Link.told c.ask_steps.new.link) c.args.max_depth (tree_view c.args.tree.now) c.args.node.number (view c.state.result.now) c.state.ensures c.in_err-depth.ensures.broken)

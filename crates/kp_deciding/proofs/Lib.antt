@@ -1,0 +1,5 @@
+pub mod BoundEnds
+pub mod BoundLemmas
+pub mod FormLemmas
+pub mod KindLemmas
+pub mod LengthLemmas

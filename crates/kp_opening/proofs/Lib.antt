@@ -1,0 +1,4 @@
+pub mod Firsts
+pub mod SameLemmas
+pub mod SeenLemmas
+pub mod Sizes
