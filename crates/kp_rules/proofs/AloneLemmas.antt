@@ -1,5 +1,5 @@
 -- Sorts that are marked as alone share lower sorts with comparable ones alone.
-use Rattle.std.proofs.Common.{◌≡◌, refl, sym, ap, subst, ◌∙◌, ℕ, zero, suc, ◌+◌, ◌<◌, ◌≤◌, ◌⊎◌, ◌↔◌, inl, inr, Bool, true, false, List, [], ◌∷◌, ◌++◌, length, get_or, Vec, Global, Contains, arith}
+use Rattle.std.proofs.Common.{◌≡◌, refl, sym, ap, subst, ◌∙◌, ℕ, zero, suc, ◌+◌, ◌<◌, ◌≤◌, ◌⊎◌, inl, inr, Bool, true, false, List, [], ◌∷◌, ◌++◌, length, get_or, Vec, Global, Contains, arith}
 use Rattle.std.specs.Prelude.{IsTrue}
 use Rattle.kp_kore.specs.Syntax.{KoreSort}
 use Rattle.kp_signature.specs.Edges.{edges_of, Leads, Reaches, stays, goes}

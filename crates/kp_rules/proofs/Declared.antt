@@ -1,5 +1,5 @@
 -- What applies neither a declared foreign symbol nor an undeclared name applies no foreign name.
-use Rattle.std.proofs.Common.{◌≡◌, refl, ap, Bool, true, false, ◌&&◌, not, List, [], ◌∷◌, ◌∙◌}
+use Rattle.std.proofs.Common.{◌≡◌, refl, Bool, true, false, ◌&&◌, not, List, [], ◌∷◌}
 use Rattle.std.specs.List.{list_all}
 use Rattle.kp_kore.specs.Syntax.{KorePattern, application, bottom, ceil, conjunction, disjunction, equals, equivalence, exists, floor, forall, implication, literal, membership, mu, negation, next, nu, rewriting, set_variable, string_literal, top, variable}
 use Rattle.kp_kore.specs.Signature.{KoreSignature, meaning_of}

@@ -1,4 +1,4 @@
-use Rattle.std.proofs.Common.{rules, ℕ, List, Bool, false, ◌<◌, ap, sym, subst, ◌∙◌, length, get_or, Contains}
+use Rattle.std.proofs.Common.{rules, ℕ, List, Bool, false, ◌<◌, ap, subst, ◌∙◌, length, get_or, Contains}
 use Rattle.std.specs.Prelude.{IsTrue}
 use Rattle.kp_signature.proofs.SpanLemmas.{edges_read, one_longer}
 use Rattle.kp_rules.proofs.AloneLemmas.{no_straight, straight_more}

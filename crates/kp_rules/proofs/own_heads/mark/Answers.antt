@@ -1,4 +1,4 @@
-use Rattle.std.proofs.Common.{rules, refl, ◌≡◌, ◌<◌, subst, ◌∙◌, length, arith}
+use Rattle.std.proofs.Common.{refl, ◌≡◌, ◌<◌, subst, ◌∙◌, length, arith}
 use Rattle.kp_kore.specs.View.{sort_view}
 use Rattle.kp_signature.specs.Numbering.{TellsNumber}
 use Rattle.kp_signature.specs.Order.{sorts_of}
