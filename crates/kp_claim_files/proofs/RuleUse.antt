@@ -23,7 +23,7 @@ use Rattle.kp_claim_sentences.specs.Items.{item_view, sorted_view}
 use Rattle.kp_claim_files.specs.Read.{reads_rule, sides_at, IsClear}
 use Rattle.kp_claim_sentences.specs.declared.item.ClaimItem.{ClaimItem}
 use Rattle.kp_claim_sentences.proofs.Noting.{equal_both_ways}
-use Rattle.kp_claim_sentences.proofs.OneSort.{left_has_one_sort}
+use Rattle.kp_claim_sentences.proofs.LeftSorts.{left_has_one_sort}
 
 -- ---- rules
 

@@ -1,4 +1,4 @@
 pub mod Commas
+pub mod LeftSorts
 pub mod Noting
-pub mod OneSort
 pub mod Shapes

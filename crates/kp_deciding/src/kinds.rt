@@ -4,7 +4,7 @@ ghost use Rattle.kp_kore.specs.Attributes.{sorts_equal};
 ghost use Rattle.kp_kore.specs.Signature as head;
 ghost use Rattle.kp_kore.specs.Signature.{is_below, is_head, is_own_below};
 ghost use Rattle.kp_kore.specs.View.{sort_view, symbol_sentence_view};
-ghost use Rattle.kp_signature.specs.Table.{subsort_view};
+ghost use Rattle.kp_subsorts.specs.Pairs.{subsort_view};
 ghost use Rattle.kp_signature.specs.View.{signature_view};
 ghost use Rattle.kp_symbolic.specs.Plain as plain;
 ghost use Rattle.kp_deciding.specs.Kinds.{lower_sorts, lowers, some_below, are_other, no_tokens_among, no_constructors_among, tokens_are, one_kind_of_tokens};

@@ -1,7 +1,7 @@
 -- A value of a sort has each sort above.
 use Rattle.kp_kore.specs.Syntax.{KoreSort}
 use Rattle.kp_kore.specs.Signature.{KoreSignature, IsBelow, Head, IsHeadOf, integers, booleans, tokens, constructor_of}
-use Rattle.kp_signature.proofs.Below.{onwards}
+use Rattle.kp_subsorts.proofs.Below.{onwards}
 use Rattle.kp_semantics.specs.Value.{Value, whole, truth, token, constructed, HasSort}
 
 head_above : (g : KoreSignature) (a b : KoreSort) (h : Head) → IsBelow g.subsorts a b → IsHeadOf g a h → IsHeadOf g b h

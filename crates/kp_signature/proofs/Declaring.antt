@@ -4,7 +4,8 @@ use Rattle.std.proofs.lemmas.List.{append_assoc, append-nil, map-append, length-
 use Rattle.kp_kore.specs.Syntax.{Text, KoreSentence, import_sentence, sort_sentence, symbol_sentence, alias_sentence, axiom_sentence, claim_sentence}
 use Rattle.indexmap.specs.IndexMap.{IndexMap}
 use Rattle.kp_signature.specs.Names.{Indexes}
-use Rattle.kp_signature.specs.Table.{IsTableOf, subsort_view}
+use Rattle.kp_signature.specs.Table.{IsTableOf}
+use Rattle.kp_subsorts.specs.Pairs.{subsort_view}
 use Rattle.kp_signature.specs.declared.table.Table.{Table}
 use Rattle.kp_kore.specs.View.{sort_sentence_view, symbol_sentence_view, alias_sentence_view}
 use Rattle.kp_kore.specs.Signature.{sorts_in, symbols_in, aliases_in, subsorts_in, subsorts_among}

@@ -1,24 +1,15 @@
 pub mod AloneLemmas
 pub mod Applied
-pub mod Below
-pub mod Decided
 pub mod Declaring
-pub mod EdgeLemmas
+pub mod Faults
 pub mod FirstPlaces
-pub mod HiddenOrder
 pub mod InstanceLemmas
 pub mod KnownSorts
 pub mod Marks
-pub mod NewOrder
 pub mod NodeLemmas
-mod Numbered
-pub mod Numbers
 pub mod Numerals
-pub mod OrderLemmas
 pub mod OwnSorts
-pub mod Same
 pub mod ScopeLemmas
 pub mod SortTexts
-pub mod SpanLemmas
 pub mod SubsortPairs
 pub mod VerifyLemmas

@@ -1,15 +1,11 @@
 pub mod Alone
-pub mod Edges
 pub mod Examples
 pub mod Faults
 pub mod Kinds
 pub mod Names
 pub mod Nodes
-pub mod Numbering
-pub mod Order
 pub mod Places
 pub mod Scopes
-pub mod Spans
 pub mod Table
 pub mod Texts
 pub mod Verify

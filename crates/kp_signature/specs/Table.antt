@@ -7,7 +7,7 @@ use Rattle.kp_kore.specs.Syntax.{Text, KoreSort, KoreSentence, SortDeclaration, 
 use Rattle.kp_kore.specs.Signature.{KoreSignature, sorts_in, symbols_in, aliases_in, subsorts_in, has_hook}
 use Rattle.kp_kore.specs.View.{sort_view, sort_sentence_view, symbol_sentence_view, alias_sentence_view}
 use Rattle.kp_signature.specs.Names.{Indexes}
-use Rattle.kp_signature.specs.declared.table.Subsort.{Subsort}
+use Rattle.kp_subsorts.specs.Pairs.{subsort_view}
 use Rattle.kp_signature.specs.declared.table.Table.{Table}
 
 abbrev pub sort_names : List SortDeclaration → List Text
@@ -18,9 +18,6 @@ symbol_names = map (λ d. d.name)
 
 abbrev pub alias_names : List AliasDeclaration → List Text
 alias_names = map (λ d. d.name)
-
-abbrev pub subsort_view : Subsort → KoreSort × KoreSort
-subsort_view p = (sort_view p.lower, sort_view p.upper)
 
 -- the table has what the sentences declare
 pub record IsTableOf (t : Table) (sentences : List KoreSentence) : Type 0 where

@@ -1,15 +1,9 @@
 use crate::names::{NamePlaces, note_name};
 use crate::subsorts::add_subsorts;
 use indexmap::IndexMap;
-use kp_kore::{AliasSentence, Sentence, Sort, SortSentence, SymbolSentence};
+use kp_kore::{AliasSentence, Sentence, SortSentence, SymbolSentence};
+use kp_subsorts::Subsort;
 use std::alloc::{AllocError, Global};
-
-/// What an attribute `subsort{A,B}()` says.
-#[derive(Drop)]
-pub struct Subsort {
-    pub lower: Sort,
-    pub upper: Sort,
-}
 
 /// The declarations in order, and the first place of each name among them.
 #[derive(Drop)]

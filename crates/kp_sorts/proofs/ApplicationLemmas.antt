@@ -13,7 +13,7 @@ use Rattle.kp_semantics.proofs.InstanceLemmas.{first_true, second_true}
 use Rattle.kp_signature.specs.Places.{Profile, profile_of, argument_sorts}
 use Rattle.kp_signature.specs.Verify.{VerifyFault, fault_unless, symbol_fault, injection_fault, wrong_number, sort_differs}
 use Rattle.kp_signature.proofs.Applied.{of_profile, as_many}
-use Rattle.kp_signature.proofs.Below.{is_below-Decides}
+use Rattle.kp_subsorts.proofs.Below.{is_below-Decides}
 use Rattle.kp_sorts.proofs.FaultLemmas.{no_fault_unless}
 use Rattle.kp_sorts.proofs.SortLemmas.{has_sort_above, at_no_arguments, all_at_no_arguments, same_inside}
 use Rattle.kp_sorts.proofs.CallLemmas.{call_is_sorted}

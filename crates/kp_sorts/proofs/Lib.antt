@@ -6,6 +6,7 @@ pub mod HeadLemmas
 pub mod InjLemmas
 pub mod MeaningLemmas
 pub mod NumberLemmas
+pub mod OneSort
 pub mod RuleSides
 pub mod SortLemmas
 pub mod SortedInstances

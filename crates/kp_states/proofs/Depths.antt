@@ -11,7 +11,7 @@ use Rattle.kp_kore.specs.declared.sort.Sort.{Sort}
 use Rattle.kp_semantics.specs.Value as model
 use Rattle.kp_ground.specs.View.{value_view, values_of}
 use Rattle.kp_ground.specs.declared.value.Value.{Value}
-use Rattle.kp_signature.proofs.Same.{sorts_equal-Decides}
+use Rattle.kp_subsorts.proofs.Same.{sorts_equal-Decides}
 use Rattle.kp_states.specs.Spelled.{spelling, spellings, bare_spelling, home_of, places_of, placed, injected}
 
 -- the spellings of the first i of a list, whose values f gives, at the first i places

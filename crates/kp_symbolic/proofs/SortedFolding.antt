@@ -22,7 +22,7 @@ use Rattle.kp_semantics.proofs.InstanceLemmas.{first_true, second_true}
 use Rattle.kp_signature.specs.Places.{Place, own_sort, Profile, argument_sorts, argument_at, after}
 use Rattle.kp_signature.specs.Verify.{VerifyFault, first_fault, fault_at, arguments_fault, fault_unless, symbol_fault, injection_fault, wrong_number, sort_differs}
 use Rattle.kp_signature.proofs.Applied.{of_profile}
-use Rattle.kp_signature.proofs.Below.{is_below-Decides}
+use Rattle.kp_subsorts.proofs.Below.{is_below-Decides}
 use Rattle.kp_sorts.proofs.FaultLemmas.{nothing_earlier, nothing_later, keeps_rules, no_fault_unless, term_has_wanted_sort}
 use Rattle.kp_sorts.proofs.ApplicationLemmas.{as_many_arguments}
 use Rattle.kp_sorts.proofs.InjLemmas.{inj_goes_across}

@@ -10,7 +10,7 @@ use Rattle.kp_semantics.specs.Interpretation.{interpreted}
 use Rattle.kp_semantics.specs.Instance.{Valuation, GivesSorts, applied}
 use Rattle.kp_semantics.proofs.InstanceLemmas.{first_true}
 use Rattle.kp_signature.specs.Places.{Profile, argument_sorts}
-use Rattle.kp_signature.proofs.Below.{onwards}
+use Rattle.kp_subsorts.proofs.Below.{onwards}
 use Rattle.kp_sorts.proofs.SortLemmas.{has_sort_above, at_no_arguments, all_at_no_arguments, is_that_sort}
 use Rattle.kp_sorts.proofs.CallLemmas.{call_is_sorted}
 use Rattle.kp_sorts.proofs.MeaningLemmas.{meaning_by_tests, an_interpretation, it_fits, no_parameters, constructor_is_plain}

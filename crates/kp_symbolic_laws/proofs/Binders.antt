@@ -17,7 +17,7 @@ use Rattle.kp_symbolic.specs.WellFormed.{IsWellSorted, AreWellPlaced}
 use Rattle.kp_symbolic.specs.Folding.{term_for}
 use Rattle.kp_symbolic.specs.Writing.{least_fresh, names_coming_in, bound_name, renamed}
 use Rattle.kp_symbolic.proofs.Folded.{for_instance}
-use Rattle.kp_claim_sentences.proofs.OneSort.{Agree}
+use Rattle.kp_sorts.proofs.OneSort.{Agree}
 use Rattle.kp_symbolic_laws.specs.Runs.{IsRoomAt}
 use Rattle.kp_symbolic_laws.proofs.NewNames.{least_is_new}
 

@@ -24,7 +24,7 @@ use Rattle.kp_symbolic.proofs.Read.{Stands, StandAll, conjunction_stands, first_
 use Rattle.kp_symbolic.proofs.Leaf.{then_says}
 use Rattle.kp_symbolic.proofs.OpenedState.{placed_as_they_are, opened_as, opened_instances}
 use Rattle.kp_symbolic.proofs.Facts.{Good}
-use Rattle.kp_claim_sentences.proofs.OneSort.{Agree, agrees}
+use Rattle.kp_sorts.proofs.OneSort.{Agree, agrees}
 use Rattle.kp_symbolic_laws.specs.Runs.{HasOneSortEach, IsSortedState, IsWrittenOfThese, IsWrittenRight, OfEachKept}
 use Rattle.kp_symbolic_laws.proofs.OpenedGood.{IsAmong, predicates_have, each_itself}
 use Rattle.kp_symbolic_laws.proofs.Course.{solving_sorted, solving_instance}

@@ -27,7 +27,7 @@ use Rattle.kp_symbolic.specs.Writing.{written_call, written_sum, written_term, w
 use Rattle.kp_symbolic.proofs.Distribution.{all_first, all_second}
 use Rattle.kp_symbolic.proofs.Read.{Stands, StandBoth, equals_stand, membership_stands, IsRead, AreRead, read_closed, IsSide, side_of}
 use Rattle.kp_symbolic.proofs.Written.{written_is}
-use Rattle.kp_claim_sentences.proofs.OneSort.{agrees}
+use Rattle.kp_sorts.proofs.OneSort.{agrees}
 use Rattle.kp_symbolic_laws.specs.Runs.{HasRoom, AllHaveRoom}
 use Rattle.kp_symbolic_laws.proofs.Binders.{IsUnder, bound_apart, bound_sort, all_under, under_placed, under_given, under_agrees}
 

@@ -1,7 +1,7 @@
 use Rattle.std.proofs.Common.{rules, ◌≡◌, sym, ap, ◌∙◌, Some}
 use Rattle.kp_kore.specs.View.{sort_view}
 use Rattle.kp_signature.specs.Verify.{sort_differs}
-use Rattle.kp_signature.proofs.Same.{same_is_no_fault, other_is_a_fault}
+use Rattle.kp_signature.proofs.Faults.{same_is_no_fault, other_is_a_fault}
 use Rattle.kp_signature.proofs.rules.check_same.Goals as goal
 
 pub returns-then-equal-clause-ok : goal.returns-then-equal-clause-ok

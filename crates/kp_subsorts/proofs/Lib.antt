@@ -1,0 +1,10 @@
+pub mod Below
+pub mod Decided
+pub mod EdgeLemmas
+pub mod HiddenOrder
+pub mod NewOrder
+pub mod Numbered
+pub mod Numbers
+pub mod OrderLemmas
+pub mod Same
+pub mod SpanLemmas

@@ -1,0 +1,5 @@
+pub mod Edges
+pub mod Numbering
+pub mod Order
+pub mod Pairs
+pub mod Spans
