@@ -1,4 +1,4 @@
--- What a pass of the service has seen.
+-- What a pass over a registry has seen.
 use Rattle.std.specs.Prelude.{List}
 use Rattle.kp_book.specs.Books.{Opening, Registration}
 use Rattle.kp_modules.specs.Openings.{IsTableOf}
