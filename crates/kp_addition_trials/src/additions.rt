@@ -52,12 +52,7 @@ fn add(
 }
 
 /// Adds the texts in order.
-fn add_all(
-    alloc: Global,
-    registry: &Registry,
-    pass: &mut Pass,
-    all: &[Asked],
-) -> Result<(), Fail>
+fn add_all(alloc: Global, registry: &Registry, pass: &mut Pass, all: &[Asked]) -> Result<(), Fail>
     requires pass { IsPass pass.old }
     ensures pass { IsPass pass.new }
 {
@@ -131,7 +126,12 @@ fn behind(
 const ALONE: [(&str, bool, (u64, u64, u64), &str); 9] = [
     ("module X", false, (1, 5, 8), ""),
     ("module X import NOPE [] !", false, (1, 1, 24), ""),
-    ("module E2 import NOPE [] endmodule []", false, (11, 0, 0), "NOPE"),
+    (
+        "module E2 import NOPE [] endmodule []",
+        false,
+        (11, 0, 0),
+        "NOPE",
+    ),
     (
         "module X import TOYS [] import NOPE [] import NONE [] endmodule []",
         false,
@@ -144,7 +144,12 @@ const ALONE: [(&str, bool, (u64, u64, u64), &str); 9] = [
         (16, 2, 0),
         "",
     ),
-    ("module E3 sort SortZ{} [] endmodule []", false, (17, 1, 0), ""),
+    (
+        "module E3 sort SortZ{} [] endmodule []",
+        false,
+        (17, 1, 0),
+        "",
+    ),
     ("module TOYS endmodule []", true, (9, 0, 0), "TOYS"),
     // M1 before M6 and M7
     (
@@ -179,9 +184,21 @@ const BEHIND: [(&str, bool, (u64, u64, u64), &str, usize); 8] = [
     (NEXT, false, (0, 0, 0), NEXT_ID, 2),
     (SPACED, true, (9, 1, 0), "NEXT", 1),
     (SPACED, false, (0, 0, 0), "", 2),
-    ("module A import NEXT [] endmodule []", true, (0, 0, 0), "", 2),
+    (
+        "module A import NEXT [] endmodule []",
+        true,
+        (0, 0, 0),
+        "",
+        2,
+    ),
     // M1, M6 and M7 before a duplicate
-    ("module NEXT import NOPE [] endmodule []", true, (11, 0, 0), "NOPE", 1),
+    (
+        "module NEXT import NOPE [] endmodule []",
+        true,
+        (11, 0, 0),
+        "NOPE",
+        1,
+    ),
     (
         "module NEXT axiom{} \\rewrites{SortS{}}(LblOne{}(), LblNone{}()) [] endmodule []",
         true,
@@ -189,7 +206,13 @@ const BEHIND: [(&str, bool, (u64, u64, u64), &str, usize); 8] = [
         "",
         1,
     ),
-    ("module NEXT sort SortZ{} [] endmodule []", true, (17, 1, 0), "", 1),
+    (
+        "module NEXT sort SortZ{} [] endmodule []",
+        true,
+        (17, 1, 0),
+        "",
+        1,
+    ),
 ];
 
 #[test]
@@ -205,21 +228,25 @@ fn texts_behind_an_entry(rt: HostRuntime) -> Result<(), Fail> {
 
 /// A module that imports `NEXT` by its own name, and one that imports it by its id.
 const BY_NAME: &str = "module A import NEXT [] endmodule []";
+
 const BY_ID: &str =
     "module A import m728b6759c673735e493062e115c41fa7cdc7c758891238229e67340596bebc4b [] endmodule []";
 
 #[test]
 fn an_own_name_is_bound_where_that_is_asked_for(rt: HostRuntime) -> Result<(), Fail> {
-    let (told, named, _entries) =
-        behind(rt.alloc(), &[(NEXT, false)], (BY_NAME, false), "NEXT")?;
+    let (told, named, _entries) = behind(rt.alloc(), &[(NEXT, false)], (BY_NAME, false), "NEXT")?;
     assert_eq!(rt; told, (11, 0, 0));
     assert!(rt; named);
     let (told, _named, entries) = behind(rt.alloc(), &[(NEXT, false)], (BY_ID, false), "")?;
     assert_eq!(rt; told, (0, 0, 0));
     assert_eq!(rt; entries, 2);
     // its own import isn't itself
-    let (told, named, entries) =
-        behind(rt.alloc(), &[], ("module A import A [] endmodule []", true), "A")?;
+    let (told, named, entries) = behind(
+        rt.alloc(),
+        &[],
+        ("module A import A [] endmodule []", true),
+        "A",
+    )?;
     assert_eq!(rt; told, (11, 0, 0));
     assert!(rt; named);
     assert_eq!(rt; entries, 0);
@@ -281,11 +308,7 @@ fn add_often(
 }
 
 /// What the text gives behind `NEXT`, so many times.
-fn behind_many(
-    alloc: Global,
-    times: usize,
-    last: Asked,
-) -> Result<((u64, u64, u64), usize), Fail> {
+fn behind_many(alloc: Global, times: usize, last: Asked) -> Result<((u64, u64, u64), usize), Fail> {
     let (registry, mut pass) = begun(alloc)?;
     add_often(alloc, &registry, &mut pass, (NEXT, true), times)?;
     let told = add(alloc, &registry, &mut pass, last)?;

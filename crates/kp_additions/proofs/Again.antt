@@ -31,7 +31,7 @@ same_entry one o before after r again text flag h k =
     let ids : again.id ≡ r.id = k.fits.is_id ∙ (ap id_of texts ∙ sym h.fits.is_id) in
     let names : again.also ≡ r.also = k.also_is ∙ ap (λ m. own_name_asked flag m.name) named ∙ sym h.also_is in
     let lists = meant_once o before (before ++ r ∷ after) (imports_in h.fits.spelled.sentences) h.fits.imports k.fits.imports (λ n a. meaning_stays o before (before ++ r ∷ after) n a (r ∷ after, refl)) h.fits.bound
-        (subst (λ m. AllZip (λ n a. meaning_in o (before ++ r ∷ after) n ≡ Some a) (imports_in m.sentences) k.fits.imports) modules k.fits.bound) in
+    (subst (λ m. AllZip (λ n a. meaning_in o (before ++ r ∷ after) n ≡ Some a) (imports_in m.sentences) k.fits.imports) modules k.fits.bound) in
     let axioms : again.axioms ≡ r.axioms = k.fits.axioms ∙ ap (λ l. extended l again.id k.fits.spelled) lists ∙ ap (λ i. extended h.fits.imports i k.fits.spelled) ids ∙ ap (λ m. extended h.fits.imports r.id m) modules ∙ sym h.fits.axioms in
     same again.text again.id again.also again.axioms texts ids names axioms
   where

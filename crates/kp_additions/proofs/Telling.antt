@@ -32,7 +32,7 @@ pub readied : (o : Opening) (g : KoreSignature) (book : List Registration) (text
 readied o g book text flag m id sets rules e same is_id spells are set addable t i a r =
     let l = listed o book (imports_in (map sentence_view m.sentences.items)) sets are in
     let made : IsSetOf o.signature (extended l.lists (id_of text) (module_view m)) rules =
-        subst (λ x. IsSetOf o.signature (extended l.lists x (module_view m)) rules) is_id (subst (λ h. IsSetOf h (extended l.lists id (module_view m)) rules) same (set l.lists (subst (λ h. AreSetsOf h l.lists sets) (sym same) l.are_sets))) in
+    subst (λ x. IsSetOf o.signature (extended l.lists x (module_view m)) rules) is_id (subst (λ h. IsSetOf h (extended l.lists id (module_view m)) rules) same (set l.lists (subst (λ h. AreSetsOf h l.lists sets) (sym same) l.are_sets))) in
     record {
       spelled = module_view m;
       sound = record {
