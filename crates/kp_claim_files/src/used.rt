@@ -10,7 +10,7 @@ ghost use Rattle.kp_signature.specs.Names.{Indexes};
 ghost use Rattle.kp_signature.specs.Places.{the_top};
 ghost use Rattle.kp_signature.specs.Verify.{first_fault};
 ghost use Rattle.kp_signature.specs.View.{signature_view};
-ghost use Rattle.kp_rules.specs.Index.{IsIndexOf};
+ghost use Rattle.kp_sort_index.specs.Index.{IsIndexOf};
 ghost use Rattle.kp_claims.specs.Faults.{bare_claim, no_rule, unknown_label, TellsOf};
 ghost use Rattle.kp_claims.specs.Labels.{Lists};
 ghost use Rattle.kp_claim_sentences.specs.Faults.{FileLabels as Stated, IsRuleFault, IsUsable, unknown_fault};
@@ -24,7 +24,8 @@ use kp_claim_sentences::ClaimItem;
 use kp_claims::label::is_noted;
 use kp_claims::{ClaimError, ClaimFault};
 use kp_kore::Name;
-use kp_rules::{RuleBody, RuleError, SortIndex, read_rule};
+use kp_rules::{RuleBody, RuleError, read_rule};
+use kp_sort_index::SortIndex;
 use kp_signature::Signature;
 use std::alloc::{AllocError, Global};
 

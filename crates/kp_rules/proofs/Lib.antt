@@ -1,14 +1,10 @@
-pub mod AloneLemmas
 pub mod Constrained
 pub mod Declared
 pub mod Fired
 pub mod Firing
 pub mod Forms
 pub mod HeadSorts
-pub mod IndexLemmas
-pub mod InjectLemmas
 pub mod LeftTerms
-pub mod MarkLemmas
 pub mod NameSets
 pub mod NewVariables
 pub mod Numbers
@@ -19,6 +15,5 @@ pub mod ReadShapes
 pub mod Showing
 pub mod Sides
 pub mod SkeletonLemmas
-pub mod SplitLemmas
 pub mod TestLemmas
 pub mod VerifiedSides

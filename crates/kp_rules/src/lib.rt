@@ -2,25 +2,20 @@
 // stand for; where a rule fires, and which values a foreign rule may rewrite.
 #![tactic(auto)]
 
-mod alone;
 mod choice;
 mod depth;
 pub mod fires;
 mod form;
-mod inject;
 mod label;
 mod may_be;
 mod names;
-mod own_heads;
 mod parts_read;
 pub mod priority;
 mod read;
 pub mod rule;
 pub mod shape;
 pub mod skeleton;
-pub mod sort_index;
 mod sort_test;
-mod splits;
 mod values;
 
 pub use label::label_of;
@@ -28,5 +23,4 @@ pub use priority::{Priority, USUAL_PRIORITY, priority_of};
 pub use read::{RuleError, read_rule};
 pub use rule::{Rewrite, RightSide, Rule, RuleBody, RuleSet, RuleSource, SortTest};
 pub use skeleton::Skeleton;
-pub use sort_index::SortIndex;
 pub use values::has_sort;

@@ -9,14 +9,14 @@ ghost use Rattle.std.specs.Str.Parse.{signed_digits_value};
 ghost use Rattle.kp_signature.specs.View.{signature_view};
 ghost use Rattle.kp_compile.specs.Meanings.{meaning_view};
 ghost use Rattle.kp_compile.specs.Verified.{is_injection_meaning, misapplies_injection as misapplied};
-ghost use Rattle.kp_rules.specs.Index.{IsIndexOf};
+ghost use Rattle.kp_sort_index.specs.Index.{IsIndexOf};
 ghost use Rattle.kp_rules.specs.Reading.{is_part_read, is_condition_part};
 ghost use Rattle.kp_rules.specs.Shapes.{seen};
 
 use crate::depth::is_within;
-use crate::inject::is_split;
+use kp_sort_index::inject::is_split;
 use crate::skeleton::MOST_DEPTH;
-use crate::sort_index::SortIndex;
+use kp_sort_index::sort_index::SortIndex;
 use kp_compile::{Meaning, is_term, meaning_of};
 use kp_kore::{Name, Pattern};
 use kp_signature::Signature;
