@@ -6,7 +6,7 @@ use Rattle.std.specs.declared.sync.Arc.{Arc}
 use Rattle.kp_kore.specs.Syntax.{Text, KoreModule}
 use Rattle.kp_semantics.specs.Theory.{NumberedAxiom, imports_in}
 use Rattle.kp_rules.specs.declared.rule.RuleSet.{RuleSet}
-use Rattle.kp_replies.specs.Failures.{AdditionFault, bad_axiom, bad_sentence, Failure, bad_module, duplicate}
+use Rattle.kp_replies.specs.Failures.{AdditionFault, bad_axiom, bad_sentence, unknown_import, Failure, bad_module, duplicate}
 use Rattle.kp_replies.specs.View.{addition_view}
 use Rattle.kp_book.specs.Books.{Opening, Registration, meaning_in, extended}
 use Rattle.kp_extensions.specs.Extending.{ExtendFault, rule_fault, declaration}
@@ -17,7 +17,7 @@ use Rattle.kp_registry.specs.Refusals.{own_name_of}
 use Rattle.kp_registry.specs.declared.book.Registry.{Registry}
 use Rattle.kp_registry.specs.declared.seen.Entry.{Entry}
 use Rattle.kp_registry.specs.declared.seen.Pass.{Pass}
-use Rattle.kp_additions.specs.Added.{IsAdded, IsRefusedFor, IsSound}
+use Rattle.kp_additions.specs.Added.{IsAdded, IsFirstUnbound, IsRefusedFor, IsSound}
 use Rattle.kp_additions.specs.Served.{HasSeenAt}
 use Rattle.kp_additions.specs.declared.error.AdditionError.{AdditionError}
 use Rattle.kp_additions.specs.declared.error.AdditionError.TheVariants as error
@@ -33,6 +33,10 @@ failure_told (error.Duplicate entry name) = Some (duplicate entry (string_bytes 
 -- the error is want of memory, or tells why the text isn't added at the book
 abbrev pub TellsRefusal : Opening → List Registration → List ℕ → Bool → AdditionError → Type 0
 TellsRefusal o book text name_as_id e = (f : Failure) → failure_told e ≡ Some f → IsRefusedFor o book text name_as_id f
+
+-- or the first of these names that means nothing at the book
+abbrev pub TellsUnbound : Opening → List Registration → List Text → AdditionError → Type 0
+TellsUnbound o book names e = (f : Failure) → failure_told e ≡ Some f → (name : Text) × (f ≡ bad_module (unknown_import name)) × IsFirstUnbound o book names name
 
 -- the text is added behind the book under this id, and the pass has seen it there
 pub record IsEntered (o : Opening) (book : List Registration) (text : List ℕ) (name_as_id : Bool) (id : Text) (registry : Registry) (pass : Pass) : Type 0 where
