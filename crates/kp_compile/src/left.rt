@@ -13,11 +13,10 @@ ghost use Rattle.kp_compile.specs.declared.error.CompileError.TheVariants.{Memor
 
 use crate::error::CompileError;
 use crate::literal::literal_value;
-use crate::meaning::{Meaning, meaning_of};
 use crate::term::shared_name;
 use kp_ground::Left;
 use kp_kore::{Name, Pattern};
-use kp_signature::Signature;
+use kp_signature::{Meaning, Signature, meaning_of};
 use std::alloc::Global;
 use std::sync::Arc;
 

@@ -14,12 +14,10 @@ ghost use Rattle.kp_compile.specs.Verified.{IsVerifiedTerm};
 ghost use Rattle.kp_compile.specs.declared.error.CompileError.TheVariants.{Memory};
 
 use crate::error::CompileError;
-use crate::function::Function;
 use crate::literal::literal_value;
-use crate::meaning::{Meaning, meaning_of};
 use kp_ground::{Hook, Term};
 use kp_kore::{Name, Pattern};
-use kp_signature::Signature;
+use kp_signature::{Function, Meaning, Signature, meaning_of};
 use std::alloc::{AllocError, Global};
 use std::sync::Arc;
 

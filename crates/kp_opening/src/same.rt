@@ -21,10 +21,9 @@ use crate::sides::{
     are_same, compared_at_once, constructor_of, fixed_or, is_never, keeps_truth, members_of,
     places_of, truth_known, unconstructed,
 };
-use kp_compile::{Function, Meaning, meaning_of};
 use kp_ground::{Connective, Hook, Value};
 use kp_kore::{Name, Sort};
-use kp_signature::Signature;
+use kp_signature::{Function, Meaning, Signature, meaning_of};
 use kp_terms::{Atom, Literal, Term};
 use std::alloc::{AllocError, Global};
 use std::sync::Arc;

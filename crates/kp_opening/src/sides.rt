@@ -19,10 +19,9 @@ ghost use Rattle.kp_opening.specs.Seen.{constructor_seen, truth_known as truth_r
 ghost use Rattle.kp_opening.specs.View.{formula_view};
 
 use crate::formula::{Formula, kept_fact, make_fixed};
-use kp_compile::{Meaning, meaning_of};
 use kp_ground::{Comparison, Value};
 use kp_kore::Sort;
-use kp_signature::Signature;
+use kp_signature::{Meaning, Signature, meaning_of};
 use kp_terms::sum::{Sum, sum_of};
 use kp_terms::{Literal, Term};
 use std::alloc::{AllocError, Global};

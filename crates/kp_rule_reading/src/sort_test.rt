@@ -15,10 +15,10 @@ ghost use Rattle.kp_rules.specs.Bodies.{IsVerifiedLeft};
 ghost use Rattle.kp_rules.specs.Heads.{HasHead};
 ghost use Rattle.kp_rule_reading.specs.Tests.{IsGiven, Adds};
 
-use kp_compile::{CompileError, Meaning, meaning_of};
+use kp_compile::CompileError;
 use kp_kore::{Name, Pattern, Sort};
 use kp_rules::rule::SortTest;
-use kp_signature::Signature;
+use kp_signature::{Meaning, Signature, meaning_of};
 use std::alloc::{AllocError, Global};
 
 /// The sort tests of a left term: one for each variable that doesn't stand as a constructor's argument of its own sort.

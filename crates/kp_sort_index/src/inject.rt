@@ -8,9 +8,8 @@ ghost use Rattle.kp_semantics.specs.Foreign.{InjectionsSplit};
 ghost use Rattle.kp_sort_index.specs.Index.{IsIndexOf, is_variable, is_one_variable};
 
 use crate::sort_index::SortIndex;
-use kp_compile::{Meaning, meaning_of};
 use kp_kore::{Name, Pattern, Sort};
-use kp_signature::Signature;
+use kp_signature::{Meaning, Signature, meaning_of};
 use std::alloc::{AllocError, Global};
 
 /// Whether the pattern isn't a variable under `inj`, or is one whose value's heads have sorts of their own.

@@ -8,9 +8,8 @@ ghost use Rattle.kp_subsorts.specs.Order.{IsOrderOf, sorts_of};
 ghost use Rattle.kp_signature.specs.View.{signature_view};
 ghost use Rattle.kp_sort_index.specs.Index.{AreMarked, constructed_sort};
 
-use kp_compile::{Meaning, meaning_of};
 use kp_kore::{Name, Sort, SymbolSentence};
-use kp_signature::Signature;
+use kp_signature::{Meaning, Signature, meaning_of};
 use kp_subsorts::order::SortOrder;
 use std::alloc::{AllocError, Global};
 

@@ -17,10 +17,10 @@ ghost use Rattle.kp_states.specs.Spelled.{IsSpellingOf, spelling, spellings, bar
 
 use crate::error::SpellingError;
 use crate::own::own_sort;
-use kp_compile::{Meaning, meaning_of, subpatterns};
+use kp_compile::subpatterns;
 use kp_ground::Value;
 use kp_kore::{Name, Pattern, Sort};
-use kp_signature::Signature;
+use kp_signature::{Meaning, Signature, meaning_of};
 use std::alloc::{AllocError, Global};
 
 /// The normal spelling of a value at a sort: numbers without a plus sign or leading zeros, and one `inj` where the

@@ -20,10 +20,10 @@ ghost use Rattle.kp_states.specs.Spelled.{IsGroundState, IsOtherShape, first_mem
 ghost use Rattle.kp_states.specs.States.{IsNoForeign, IsTold};
 
 use crate::error::StateError;
-use kp_compile::{CompileError, Meaning, compile_term, is_term, meaning_of, subpatterns};
+use kp_compile::{CompileError, compile_term, is_term, subpatterns};
 use kp_ground::{EvaluationError, Term, Value};
 use kp_kore::{Name, Pattern, Sort};
-use kp_signature::Signature;
+use kp_signature::{Meaning, Signature, meaning_of};
 use std::alloc::{AllocError, Global};
 
 /// A configuration and the sort that it is written at.

@@ -6,7 +6,7 @@ ghost use Rattle.kp_semantics.specs.Forms.{two};
 ghost use Rattle.kp_semantics.specs.Interpretation.{interpreted};
 ghost use Rattle.kp_ground.specs.HookView.{hook_view};
 ghost use Rattle.kp_ground.specs.View.{value_view, values_of};
-ghost use Rattle.kp_compile.specs.Meanings.{function_view};
+ghost use Rattle.kp_signature.specs.Meanings.{function_view};
 ghost use Rattle.kp_symbolic.specs.Terms.{headed, known};
 ghost use Rattle.kp_symbolic.specs.Folding as model;
 ghost use Rattle.kp_terms.specs.View.{term_view, terms_of};
@@ -16,9 +16,9 @@ ghost use Rattle.kp_terms.specs.Calls.{IsCalled, values_in, value_or, made_of_co
 use crate::language::Language;
 use crate::sum::summed_or;
 use crate::term::Term;
-use kp_compile::{Function, Meaning, meaning_of};
 use kp_ground::evaluate::{call_of_two, negation};
 use kp_ground::{EvaluationError, Hook, Value};
+use kp_signature::{Function, Meaning, meaning_of};
 use std::alloc::{AllocError, Global};
 use std::sync::Arc;
 

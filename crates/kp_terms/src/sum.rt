@@ -3,7 +3,7 @@ ghost use Rattle.std.specs.Prelude.{◌≡◌, ℤ, IfOk, map};
 ghost use Rattle.std.specs.Option.{option_map};
 ghost use Rattle.kp_kore.specs.Hooks.{whole_arithmetic, addition, subtraction};
 ghost use Rattle.kp_ground.specs.View.{value_view};
-ghost use Rattle.kp_compile.specs.Meanings.{function_view};
+ghost use Rattle.kp_signature.specs.Meanings.{function_view};
 ghost use Rattle.kp_signature.specs.View.{signature_view};
 ghost use Rattle.kp_symbolic.specs.Terms.{unknown, offset};
 ghost use Rattle.kp_symbolic.specs.Folding.{can_be_added as addition_test, sum_of as sum_read, summed as sum_added, summed_call};
@@ -14,9 +14,8 @@ ghost use Rattle.kp_terms.specs.Sums.{sum_view, whole_in, whole_known, pair, con
 use crate::language::Language;
 use crate::term::Term;
 use crate::variable::Variable;
-use kp_compile::Function;
 use kp_ground::{Arithmetic, Hook, Value};
-use kp_signature::Signature;
+use kp_signature::{Function, Signature};
 use std::alloc::AllocError;
 use std::sync::Arc;
 
