@@ -24,10 +24,10 @@ use kp_kore::{Module, Name, Pattern, Sentence};
 use kp_modules::Table;
 use kp_modules::axioms::{RewriteAxiom, axioms_in};
 use kp_modules::labels::source_of;
-use kp_rules::{Rule, RuleBody, RuleSet};
 use kp_rule_reading::{RuleError, read_rule};
-use kp_sort_index::SortIndex;
+use kp_rules::{Rule, RuleBody, RuleSet};
 use kp_signature::{Signature, VerifyError, verify};
+use kp_sort_index::SortIndex;
 use std::alloc::{AllocError, Global};
 use std::sync::Arc;
 

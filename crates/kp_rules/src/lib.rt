@@ -1,5 +1,5 @@
-// Rules of a definition: from a rewrite axiom to a rule that runs, or to a foreign rule with what its left side may
-// stand for; where a rule fires, and which values a foreign rule may rewrite.
+// Rules of a definition, and foreign rules with what their left side may stand for; where a rule fires, and which values
+// a foreign rule may rewrite.
 #![tactic(auto)]
 
 pub mod fires;
