@@ -217,7 +217,7 @@ pub fn compared_at_once(
     left: &Term,
     right: &Term,
 ) -> Option<bool>
-    ensures { result ≡ model.compared_at_once (comparison_view comparison) (sum_read (signature_view signature.now) (term_view left.now)) (sum_read (signature_view signature.now) (term_view right.now)) }
+    ensures { let g = signature_view signature.now in result ≡ model.compared_at_once (comparison_view comparison) (sum_read g (term_view left.now)) (sum_read g (term_view right.now)) }
 {
     compared_sums(
         comparison,
@@ -257,7 +257,7 @@ pub fn unconstructed(
     left: &Term,
     right: &Term,
 ) -> Result<Formula, AllocError>
-    ensures { IfOk result (λ f. formula_view f ≡ model.unconstructed (signature_view signature.now) sign (fact (literal_view kept.now)) (term_view left.now) (term_view right.now)) }
+    ensures { let g = signature_view signature.now in IfOk result (λ f. formula_view f ≡ model.unconstructed g sign (fact (literal_view kept.now)) (term_view left.now) (term_view right.now)) }
 {
     if are_known(left, right) {
         return make_fixed(alloc, !sign);

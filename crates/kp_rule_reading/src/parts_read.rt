@@ -248,7 +248,7 @@ pub fn all_split(
     parts: &[&Pattern],
 ) -> Result<bool, AllocError>
     requires index { IsIndexOf (signature_view signature.now) index.now }
-    ensures { IfOk result (λ b. MatchBool b (AllByRecursion (InjectionsSplit (signature_view signature.now)) (seen parts.now)) (¬ AllByRecursion (InjectionsSplit (signature_view signature.now)) (seen parts.now))) }
+    ensures { let g = signature_view signature.now in IfOk result (λ b. MatchBool b (AllByRecursion (InjectionsSplit g) (seen parts.now)) (¬ AllByRecursion (InjectionsSplit g) (seen parts.now))) }
 {
     for part in parts {
         if !is_split(alloc, signature, index, part)? {

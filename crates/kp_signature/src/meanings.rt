@@ -114,7 +114,7 @@ fn symbol_meaning(kinds: &Kinds, declaration: &SymbolSentence) -> Meaning
 
 /// What each declared symbol means, in order.
 pub fn meanings(alloc: Global, kinds: &Kinds) -> Result<Vec<Meaning>, AllocError>
-    ensures { IfOk result (λ ms. map meaning_view ms.items ≡ map (meaning_declared (table_view kinds.now.declarations.table)) (table_view kinds.now.declarations.table).symbols) }
+    ensures { let table' = table_view kinds.now.declarations.table in IfOk result (λ ms. map meaning_view ms.items ≡ map (meaning_declared table') table'.symbols) }
 {
     let mut meanings = Vec::new(alloc);
     for declaration in kinds.declarations.symbols() {

@@ -59,7 +59,7 @@ impl Signature {
 
     /// What the first declaration of a symbol of this name means.
     pub(crate) fn meaning(&self, name: &str) -> Option<&Meaning>
-        ensures { option_map (λ m. meaning_view m.now) result ≡ option_map (symbol_meaning (signature_view self.now)) (symbol_declared (signature_view self.now) name.now) }
+        ensures { let g = signature_view self.now in option_map (λ m. meaning_view m.now) result ≡ option_map (symbol_meaning g) (symbol_declared g name.now) }
     {
         match self.kinds.declarations.table.symbol_places.get(name) {
             Some(place) => self.meanings.get(*place),

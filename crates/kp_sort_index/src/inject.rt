@@ -20,7 +20,7 @@ pub fn is_split(
     pattern: &Pattern,
 ) -> Result<bool, AllocError>
     requires { IsIndexOf (signature_view signature.now) index.now }
-    ensures { IfOk result (λ b. MatchBool b (InjectionsSplit (signature_view signature.now) (view pattern.now)) (¬ InjectionsSplit (signature_view signature.now) (view pattern.now))) }
+    ensures { let g = signature_view signature.now in IfOk result (λ b. MatchBool b (InjectionsSplit g (view pattern.now)) (¬ InjectionsSplit g (view pattern.now))) }
 {
     match pattern {
         Pattern::Application {
@@ -42,7 +42,7 @@ fn applied_is_split(
     arguments: &[Pattern],
 ) -> Result<bool, AllocError>
     requires { IsIndexOf (signature_view signature.now) index.now }
-    ensures { IfOk result (λ b. MatchBool b (InjectionsSplit (signature_view signature.now) (application (string_bytes symbol.now) (sorts_view sorts.now) (patterns_view arguments.now))) (¬ InjectionsSplit (signature_view signature.now) (application (string_bytes symbol.now) (sorts_view sorts.now) (patterns_view arguments.now)))) }
+    ensures { let the_application = application (string_bytes symbol.now) (sorts_view sorts.now) (patterns_view arguments.now) in let g = signature_view signature.now in IfOk result (λ b. MatchBool b (InjectionsSplit g the_application) (¬ InjectionsSplit g the_application)) }
 {
     if !is_injection(signature, symbol) {
         return Ok(true);

@@ -113,7 +113,7 @@ fn lesser_if<'a>(
     symbol: &'a SymbolSentence,
     other: Option<&'a Name>,
 ) -> Option<&'a Name>
-    ensures { option_map (λ f. string_bytes f.now) result ≡ least_with (signature_view signature.now) (arithmetic_view arithmetic) (symbol_sentence_view symbol.now) (option_map (λ f. string_bytes f.now) other.entry) }
+    ensures { let g = signature_view signature.now in let arithmetic' = arithmetic_view arithmetic in let symbol' = symbol_sentence_view symbol.now in option_map (λ f. string_bytes f.now) result ≡ least_with g arithmetic' symbol' (option_map (λ f. string_bytes f.now) other.entry) }
 {
     if is_arithmetic(arithmetic, meaning_of(signature, &symbol.name)) {
         Some(lesser(&symbol.name, other))

@@ -153,7 +153,7 @@ fn made_call(
     symbol: Arc<String>,
     arguments: Arc<Vec<Term>>,
 ) -> Result<Term, AllocError>
-    ensures { IfOk result (λ t. term_view t ≡ made_of_call (language_view language.now) (function_view function) (string_bytes symbol.value) (terms_of (map term_view arguments.value.items))) }
+    ensures { let language' = language_view language.now in let function' = function_view function in let terms = terms_of (map term_view arguments.value.items) in IfOk result (λ t. term_view t ≡ made_of_call language' function' (string_bytes symbol.value) terms) }
 {
     let call = make_headed(symbol, arguments.clone()?);
     match values_known(alloc, &arguments)? {
@@ -169,7 +169,7 @@ pub fn apply(
     symbol: Arc<String>,
     arguments: Arc<Vec<Term>>,
 ) -> Result<Term, AllocError>
-    ensures { IfOk result (λ t. term_view t ≡ model.applied_term (language_view language.now) (string_bytes symbol.value) (terms_of (map term_view arguments.value.items))) }
+    ensures { let language' = language_view language.now in IfOk result (λ t. term_view t ≡ model.applied_term language' (string_bytes symbol.value) (terms_of (map term_view arguments.value.items))) }
 {
     match meaning_of(language.signature, &symbol) {
         Meaning::Injection => only_term(alloc, &arguments),

@@ -124,7 +124,7 @@ fn summed(
     number: i128,
     call: Term,
 ) -> Result<Term, AllocError>
-    ensures { (c : ℤ) → IsTaken operation number c → IfOk result (λ t. term_view t ≡ sum_added (language_view language.now) (option_map sum_view sum.entry) c (term_view call)) }
+    ensures { (c : ℤ) → let language' = language_view language.now in IsTaken operation number c → IfOk result (λ t. term_view t ≡ sum_added language' (option_map sum_view sum.entry) c (term_view call)) }
 {
     match sum {
         Some(sum) => match operation.computes(sum.constant, number) {
@@ -142,7 +142,7 @@ fn summed_both(
     right: &Term,
     call: Term,
 ) -> Result<Term, AllocError>
-    ensures { IfOk result (λ t. term_view t ≡ summed_call (language_view language.now) (whole_arithmetic addition) (pair (term_view left.now) (term_view right.now)) (term_view call)) }
+    ensures { let language' = language_view language.now in let left' = term_view left.now in IfOk result (λ t. term_view t ≡ summed_call language' (whole_arithmetic addition) (pair left' (term_view right.now)) (term_view call)) }
 {
     if let Some(number) = whole_of(right) {
         let sum = sum_of(language.signature, left);
@@ -164,7 +164,7 @@ fn less_constant(
     right: &Term,
     call: Term,
 ) -> Result<Term, AllocError>
-    ensures { IfOk result (λ t. term_view t ≡ summed_call (language_view language.now) (whole_arithmetic subtraction) (pair (term_view left.now) (term_view right.now)) (term_view call)) }
+    ensures { let language' = language_view language.now in let left' = term_view left.now in IfOk result (λ t. term_view t ≡ summed_call language' (whole_arithmetic subtraction) (pair left' (term_view right.now)) (term_view call)) }
 {
     match whole_of(right) {
         Some(number) => {
@@ -182,7 +182,7 @@ pub fn summed_or(
     arguments: &[Term],
     call: Term,
 ) -> Result<Term, AllocError>
-    ensures { IfOk result (λ t. term_view t ≡ summed_call (language_view language.now) (function_view function) (terms_of (map term_view arguments.now)) (term_view call)) }
+    ensures { let language' = language_view language.now in IfOk result (λ t. term_view t ≡ summed_call language' (function_view function) (terms_of (map term_view arguments.now)) (term_view call)) }
 {
     if arguments.len() != 2 {
         return Ok(call);
