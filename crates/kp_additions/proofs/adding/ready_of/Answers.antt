@@ -60,4 +60,4 @@ returns-clause-entry c = λ o book had.
     let are : AreMeant o book (imports_in (map sentence_view m.sentences.items)) sets = subst (λ ss. AreMeant o book (imports_in (map sentence_view ss)) sets) c.deref-2.ensures.value (c.in_ok-imports.ensures.meant o book had) in
     let ready = c.in_ok-prepare.ensures in
     readied o g book text c.args.name_as_id m c.id_of.result sets c.in_ok-rules.rules.value c.in_ok-prepare.field-0.entry same is_id spells are
-    (λ lists of. c.in_ok-rules.ensures.set lists (subst (AreSetsOf g lists) (sym c.deref-3.ensures.value) of)) c.in_ok-rules.ensures.none ready.text ready.id ready.own ready.rules
+    (λ lists of. c.in_ok-rules.ensures.set lists (subst (AreSetsOf g lists) (sym c.deref-3.ensures.value) of)) c.in_ok-rules.ensures.addable ready.text ready.id ready.own ready.rules
