@@ -1,11 +1,11 @@
 -- What answering a frame does to the book.
-use Rattle.std.proofs.Common.{refl, sym, ap, ◌∙◌, ℕ, List, [], ◌∷◌, ◌++◌, Option, append-nil, append_assoc}
+use Rattle.std.proofs.Common.{◌≡◌, refl, sym, ap, ◌∙◌, ℕ, List, [], ◌∷◌, ◌++◌, Option, append-nil, append_assoc}
 use Rattle.serde_json.specs.Data.{Data}
 use Rattle.kp_requests.specs.Requests.{Asked, asks, refused, execute, implies, simplify, add_module, Call}
 use Rattle.kp_book.specs.Books.{Opening, Registration, Grows}
 use Rattle.kp_registry.specs.Legal.{IsLegal}
 use Rattle.kp_registry.proofs.LegalLemmas.{stays_legal}
-use Rattle.kp_service.specs.Answers.{Adds, IsMember, told, added, silent, added_silently, AreMembers, none, next, IsAnswer, refusal, alone, together, IsBegun, not_begun, begun_alone, begun_together}
+use Rattle.kp_service.specs.Answers.{Adds, IsMember, told, added, silent, added_silently, AreMembers, none, next, IsAnswer, refusal, alone, together, IsFront, IsBegun, not_begun, begun_alone, begun_together}
 
 grows_none : (seen : List Registration) → Grows seen seen
 grows_none seen = ([], sym (append-nil seen))

@@ -9,7 +9,7 @@ use Rattle.kp_rpc.specs.Reply.{RequestError, error_reply, result_reply}
 use Rattle.kp_replies.specs.Failures.{Failure, failure_reply}
 use Rattle.kp_replies.specs.Written.{added_tree}
 use Rattle.kp_requests.specs.Frames.{Asks}
-use Rattle.kp_requests.specs.Requests.{execute, implies, simplify, add_module, Asked, asks, refused, Call, single, batch, refused_whole}
+use Rattle.kp_requests.specs.Requests.{Request, execute, implies, simplify, add_module, Asked, asks, refused, Call, single, batch, refused_whole}
 use Rattle.kp_book.specs.Books.{Opening, Registration}
 use Rattle.kp_service.specs.Added.{IsAdded, IsRefusedFor}
 use Rattle.kp_service.specs.Answered.{IsExecutedAs, IsImpliedAs, IsSimplifiedAs, IsReplyIn}

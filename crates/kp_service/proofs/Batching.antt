@@ -1,0 +1,86 @@
+-- Calls answered one behind another, and the text of their replies.
+use Rattle.std.proofs.Common.{◌≡◌, refl, sym, ap, subst, ◌∙◌, ℕ, true, false, List, [], ◌∷◌, ◌++◌, Option, Some, None, option_map, append-nil, append_assoc}
+use Rattle.serde_json.specs.Data.{Data, array}
+use Rattle.serde_json.specs.Written.{compact_text, items_text}
+use Rattle.kp_rpc.specs.Request.{RequestId}
+use Rattle.kp_requests.specs.Requests.{Asked, Call}
+use Rattle.kp_book.specs.Books.{Opening, Registration}
+use Rattle.kp_service.specs.Answers.{Adds, IsMember, told, added, silent, added_silently, with_reply, AreMembers, none, next, items_of, batch_reply, IsFront}
+use Rattle.kp_service.specs.Batches.{IsReplyLine, line_told, line_added, IsEffect, adds_nothing, adds, MayHaveDone, did_nothing, did_add, IsMemberText, texts_behind, batch_front, AreTold}
+
+-- ---- texts
+
+items_told : (ds : List Data) → items_text true (items_of ds) ≡ texts_behind ds ++ 93 ∷ []
+items_told [] = refl
+items_told (d ∷ ds) = ap (λ t. 44 ∷ t) (ap (λ t. compact_text d ++ t) (items_told ds) ∙ sym (append_assoc (compact_text d) (texts_behind ds) (93 ∷ [])))
+
+-- the array's text is its front and a closing bracket; there is none where there are no replies
+pub array_told : (d : Data) (ds : List Data) → compact_text (array (items_of (d ∷ ds))) ≡ batch_front (d ∷ ds) ++ 93 ∷ []
+array_told d ds = ap (λ t. 91 ∷ t) (ap (λ t. compact_text d ++ t) (items_told ds) ∙ sym (append_assoc (compact_text d) (texts_behind ds) (93 ∷ [])))
+
+behind_on : (ds es : List Data) → texts_behind (ds ++ es) ≡ texts_behind ds ++ texts_behind es
+behind_on [] es = refl
+behind_on (d ∷ ds) es = ap (λ t. 44 ∷ t) (ap (λ t. compact_text d ++ t) (behind_on ds es) ∙ sym (append_assoc (compact_text d) (texts_behind ds) (texts_behind es)))
+
+-- one more reply behind others
+pub front_more : (first : Data) (ds : List Data) (d : Data) → batch_front ((first ∷ ds) ++ d ∷ []) ≡ batch_front (first ∷ ds) ++ 44 ∷ compact_text d
+front_more first ds d = ap (λ t. 91 ∷ t) (ap (λ t. compact_text first ++ t) (behind_on ds (d ∷ []) ∙ ap (λ t. texts_behind ds ++ 44 ∷ t) (append-nil (compact_text d))) ∙ sym (append_assoc (compact_text first) (texts_behind ds) (44 ∷ compact_text d)))
+
+pub front_one : (d : Data) → batch_front (d ∷ []) ≡ 91 ∷ compact_text d
+front_one d = ap (λ t. 91 ∷ t) (append-nil (compact_text d))
+
+-- ---- calls
+
+pub members_more : (o : Opening) (before between after : List Registration) (calls : List Call) (replies : List Data) (call : Call) (reply : Option Data) →
+    AreMembers o before calls replies between → IsMember o between call reply after → AreMembers o before (calls ++ call ∷ []) (replies ++ with_reply reply []) after
+members_more o before between after calls replies call reply (none seen) m = next before after after call reply [] [] m (none after)
+members_more o before between after calls replies call reply (next b mid a c d cs ds now later) m = subst (λ x. AreMembers o before (c ∷ (cs ++ call ∷ [])) x after) (with_assoc d ds (with_reply reply []))
+    (next before mid after c d (cs ++ call ∷ []) (ds ++ with_reply reply []) now (members_more o mid between after cs ds call reply later m))
+  where
+    with_assoc : (d : Option Data) (ds es : List Data) → with_reply d (ds ++ es) ≡ with_reply d ds ++ es
+    with_assoc None ds es = refl
+    with_assoc (Some x) ds es = refl
+
+members_on : (o : Opening) (before between after : List Registration) (calls more : List Call) (replies others : List Data) → AreMembers o before calls replies between → AreMembers o between more others after →
+    (all : List Data) × AreMembers o before (calls ++ more) all after
+members_on o before between after calls more replies others (none seen) later = (others, later)
+members_on o before between after calls more replies others (next b mid a c d cs ds now rest) later =
+    let all : (all : List Data) × AreMembers o mid (cs ++ more) all after = members_on o mid between after cs more ds others rest later in
+    (with_reply d all.0, next before mid after c d (cs ++ more) all.0 now all.1)
+
+-- a front of later calls is one of all of them
+pub front_behind : (o : Opening) (before between after : List Registration) (calls more : List Call) (replies : List Data) → AreMembers o before calls replies between → IsFront o between more after →
+    IsFront o before (calls ++ more) after
+front_behind o before between after calls more replies p f =
+    let all : (all : List Data) × AreMembers o before (calls ++ f.done) all after = members_on o before between after calls f.done replies f.replies p f.answered in
+    record { done = calls ++ f.done; more = f.more; are = ap (λ x. calls ++ x) f.are ∙ sym (append_assoc calls f.done f.more); replies = all.0; answered = all.1 }
+
+-- more calls come behind
+pub front_before : (o : Opening) (before after : List Registration) (calls more : List Call) → IsFront o before calls after → IsFront o before (calls ++ more) after
+front_before o before after calls more f = record { done = f.done; more = f.more ++ more; are = ap (λ x. x ++ more) f.are ∙ append_assoc f.done f.more more; replies = f.replies; answered = f.answered }
+
+-- ---- one call
+
+pub member_of_line : (o : Opening) (book after : List Registration) (call : Call) (id : RequestId) (line text : List ℕ) → call.id ≡ Some id → IsReplyLine o book id call.asked line after →
+    ((t : List ℕ) → line ≡ t ++ 10 ∷ [] → text ≡ t) → IsMemberText o book call (Some text) after
+member_of_line o book after call id line text e (line_told reply p is) cut = (Some reply, told id reply e p, ap Some (cut (compact_text reply) is))
+member_of_line o book after call id line text e (line_added r p is) cut = (Some _, added id r e p, ap Some (cut _ is))
+
+pub member_of_effect : (o : Opening) (book after : List Registration) (call : Call) → call.id ≡ None → IsEffect o book call.asked after → IsMemberText o book call None after
+member_of_effect o book after call e (adds_nothing p) = (None, silent e p, refl)
+member_of_effect o book after call e (adds r p) = (None, added_silently r e p, refl)
+
+none_front : (o : Opening) (book : List Registration) (calls : List Call) → IsFront o book calls book
+none_front o book calls = record { done = []; more = calls; are = refl; replies = []; answered = none book }
+
+whole_front : (o : Opening) (book after : List Registration) (call : Call) (reply : Option Data) → IsMember o book call reply after → IsFront o book (call ∷ []) after
+whole_front o book after call reply m = record { done = call ∷ []; more = []; are = refl; replies = with_reply reply []; answered = next book after after call reply [] [] m (none after) }
+
+-- where memory ran out in a call
+pub front_of_call : (o : Opening) (book after : List Registration) (call : Call) → MayHaveDone o book call.asked after → IsFront o book (call ∷ []) after
+front_of_call o book after call did_nothing = none_front o book (call ∷ [])
+front_of_call o book after call (did_add r p) = by call.id refl
+  where
+    by : (id : Option RequestId) → call.id ≡ id → IsFront o book (call ∷ []) (book ++ r ∷ [])
+    by (Some id) e = whole_front o book (book ++ r ∷ []) call _ (added id r e p)
+    by None e = whole_front o book (book ++ r ∷ []) call None (added_silently r e p)

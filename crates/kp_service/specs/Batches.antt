@@ -1,0 +1,44 @@
+-- What is told of calls while a frame is answered; for private clauses.
+use Rattle.std.specs.Prelude.{◌≡◌, ℕ, List, [], ◌∷◌, ◌++◌, Option, option_map}
+use Rattle.serde_json.specs.Data.{Data}
+use Rattle.serde_json.specs.Written.{compact_text}
+use Rattle.kp_rpc.specs.Request.{RequestId}
+use Rattle.kp_rpc.specs.Reply.{reply_bytes, result_reply}
+use Rattle.kp_replies.specs.Written.{added_tree}
+use Rattle.kp_requests.specs.Requests.{Asked, Call}
+use Rattle.kp_book.specs.Books.{Opening, Registration}
+use Rattle.kp_service.specs.Answers.{Adds, AddsNothing, IsReplyTo, IsMember, AreMembers}
+
+-- the line replies to what is asked, and this is seen behind it
+pub data IsReplyLine (o : Opening) (book : List Registration) (id : RequestId) (asked : Asked) (line : List ℕ) : List Registration → Type 0 where
+  line_told : (reply : Data) → IsReplyTo o book id asked reply → line ≡ reply_bytes reply → IsReplyLine o book id asked line book
+  line_added : (r : Registration) → Adds o book asked r → line ≡ reply_bytes (result_reply id (added_tree r.id)) → IsReplyLine o book id asked line (book ++ r ∷ [])
+
+-- what is asked took effect or, where memory ran out, may have done so
+pub data IsEffect (o : Opening) (book : List Registration) (asked : Asked) : List Registration → Type 0 where
+  adds_nothing : AddsNothing o book asked → IsEffect o book asked book
+  adds : (r : Registration) → Adds o book asked r → IsEffect o book asked (book ++ r ∷ [])
+
+pub data MayHaveDone (o : Opening) (book : List Registration) (asked : Asked) : List Registration → Type 0 where
+  did_nothing : MayHaveDone o book asked book
+  did_add : (r : Registration) → Adds o book asked r → MayHaveDone o book asked (book ++ r ∷ [])
+
+-- the call is answered with this text
+abbrev pub IsMemberText : Opening → List Registration → Call → Option (List ℕ) → List Registration → Type 0
+IsMemberText o book call text after = (reply : Option Data) × IsMember o book call reply after × (text ≡ option_map compact_text reply)
+
+-- ---- the text of the replies to a batch, before its end
+
+abbrev pub texts_behind : List Data → List ℕ
+texts_behind [] = []
+texts_behind (d ∷ ds) = 44 ∷ (compact_text d ++ texts_behind ds)
+
+abbrev pub batch_front : List Data → List ℕ
+batch_front [] = []
+batch_front (d ∷ ds) = 91 ∷ (compact_text d ++ texts_behind ds)
+
+-- these calls were answered, and this text begins their array
+pub record AreTold (o : Opening) (before : List Registration) (calls : List Call) (text : List ℕ) (after : List Registration) : Type 0 where
+  pub replies : List Data
+  pub members : AreMembers o before calls replies after
+  pub is_text : text ≡ batch_front replies

@@ -1,0 +1,169 @@
+// One call, alone or in a batch.
+use crate::added::{added, added_line};
+use crate::executed::executed_line;
+use crate::implied::implied_line;
+use crate::service::look;
+use crate::simplified::simplified_line;
+use crate::unadded::Unadded;
+use kp_registry::{Pass, Registry};
+use kp_requests::{Asked, Call, Reading, Request};
+use kp_rpc::{Id, Options, StateFault, fault_text, refusal_text};
+use kp_rules::RuleSet;
+use std::alloc::{AllocError, Global};
+use std::sync::Arc;
+
+/// The text of the reply to a call; none to a notification, which takes effect.
+pub fn answered(
+    alloc: Global,
+    registry: &Registry,
+    pass: &mut Pass,
+    call: Call,
+) -> Result<Option<Vec<u8>>, AllocError>
+    requires pass { IsPass pass.old }
+    ensures pass { IsPass pass.new }
+    ensures told { IfOk result (λ reply. ForEachSeen (HasSeenAt registry.now pass.old) (HasSeenAt registry.now pass.new) (λ o book. IsMemberText o book (call_view call) (option_map (λ text. text.items) reply))) }
+    ensures begun { OnErr result (ForEachSeen (HasSeenAt registry.now pass.old) (HasSeenAt registry.now pass.new) (λ o book. IsFront o book (call_view call ∷ []))) }
+{
+    let Call { id, asked } = call;
+    match id {
+        Some(id) => Ok(Some(text_of(reply_line(alloc, registry, pass, &id, asked)?))),
+        None => {
+            take_effect(alloc, registry, pass, asked)?;
+            Ok(None)
+        }
+    }
+}
+
+/// A line without its line feed.
+pub fn text_of(line: Vec<u8>) -> Vec<u8>
+    ensures { (text : List ℕ) → line.items ≡ text ++ 10 ∷ [] → result.items ≡ text }
+{
+    let mut text = line;
+    let _line_feed = text.pop();
+    text
+}
+
+/// What a notification does.
+fn take_effect(
+    alloc: Global,
+    registry: &Registry,
+    pass: &mut Pass,
+    asked: Asked,
+) -> Result<(), AllocError>
+    requires pass { IsPass pass.old }
+    ensures pass { IsPass pass.new }
+    ensures done { OnOk result (ForEachSeen (HasSeenAt registry.now pass.old) (HasSeenAt registry.now pass.new) (λ o book. IsEffect o book (asked_view asked))) }
+    ensures begun { OnErr result (ForEachSeen (HasSeenAt registry.now pass.old) (HasSeenAt registry.now pass.new) (λ o book. MayHaveDone o book (asked_view asked))) }
+{
+    let Asked::Request(Request::AddModule { text, name_as_id }) = asked else {
+        return Ok(());
+    };
+    match added(alloc, registry, pass, text, name_as_id) {
+        Ok(_id) => Ok(()),
+        Err(Unadded::Refused(_failure)) => Ok(()),
+        Err(Unadded::Memory) => Err(AllocError),
+    }
+}
+
+/// The reply to what is asked, as a line.
+fn reply_line(
+    alloc: Global,
+    registry: &Registry,
+    pass: &mut Pass,
+    id: &Id,
+    asked: Asked,
+) -> Result<Vec<u8>, AllocError>
+    requires pass { IsPass pass.old }
+    ensures pass { IsPass pass.new }
+    ensures told { IfOk result (λ line. ForEachSeen (HasSeenAt registry.now pass.old) (HasSeenAt registry.now pass.new) (λ o book. IsReplyLine o book (id_view id.now) (asked_view asked) line.items)) }
+    ensures begun { OnErr result (ForEachSeen (HasSeenAt registry.now pass.old) (HasSeenAt registry.now pass.new) (λ o book. MayHaveDone o book (asked_view asked))) }
+{
+    match asked {
+        Asked::Request(request) => request_line(alloc, registry, pass, id, request),
+        Asked::Refused(refusal) => refusal_text(alloc, id, refusal),
+    }
+}
+
+/// The reply to a request of a method.
+fn request_line(
+    alloc: Global,
+    registry: &Registry,
+    pass: &mut Pass,
+    id: &Id,
+    request: Request,
+) -> Result<Vec<u8>, AllocError>
+    requires pass { IsPass pass.old }
+    ensures pass { IsPass pass.new }
+    ensures told { IfOk result (λ line. ForEachSeen (HasSeenAt registry.now pass.old) (HasSeenAt registry.now pass.new) (λ o book. IsReplyLine o book (id_view id.now) (asks (request_view request)) line.items)) }
+    ensures begun { OnErr result (ForEachSeen (HasSeenAt registry.now pass.old) (HasSeenAt registry.now pass.new) (λ o book. MayHaveDone o book (asks (request_view request)))) }
+{
+    match request {
+        Request::Execute { state, options } => {
+            execute_line(alloc, registry, pass, id, state, options)
+        }
+        Request::Implies {
+            antecedent,
+            consequent,
+            module_name,
+        } => match rules_at(alloc, registry, pass, &module_name)? {
+            Some(rules) => implied_line(alloc, &rules, id, antecedent, consequent),
+            None => no_module_line(alloc, id, module_name),
+        },
+        Request::Simplify { state, module_name } => {
+            match rules_at(alloc, registry, pass, &module_name)? {
+                Some(rules) => simplified_line(alloc, &rules, id, state),
+                None => no_module_line(alloc, id, module_name),
+            }
+        }
+        Request::AddModule { text, name_as_id } => {
+            added_line(alloc, registry, pass, id, text, name_as_id)
+        }
+    }
+}
+
+/// The reply to a request of execute.
+fn execute_line(
+    alloc: Global,
+    registry: &Registry,
+    pass: &mut Pass,
+    id: &Id,
+    state: Reading,
+    options: Options,
+) -> Result<Vec<u8>, AllocError>
+    requires pass { IsPass pass.old }
+    ensures pass { pass.new ≡ pass.old }
+    ensures { IfOk result (λ line. (o : Opening) (book : List Registration) → HasSeenAt registry.now pass.old o book → IsLineIn o book (options_view options).module_name (id_view id.now) (λ s. IsExecutedAs s (id_view id.now) (options_view options) (reading_view state)) line.items) }
+{
+    match rules_at(alloc, registry, pass, &options.module_name)? {
+        Some(rules) => executed_line(alloc, &rules, id, state, &options),
+        None => no_module_line(alloc, id, options.module_name),
+    }
+}
+
+/// The rules of the module that is asked, of main where none is named.
+fn rules_at(
+    alloc: Global,
+    registry: &Registry,
+    pass: &mut Pass,
+    asked: &Option<String>,
+) -> Result<Option<Arc<RuleSet>>, AllocError>
+    requires pass { IsPass pass.old }
+    ensures pass { pass.new ≡ pass.old }
+    ensures { IfOk result (λ rules. (o : Opening) (book : List Registration) → HasSeenAt registry.now pass.old o book → MeansAt o book (module_asked o (name_view asked.now)) (option_map (λ r. r.value) rules)) }
+{
+    match asked {
+        Some(name) => look(alloc, registry, pass, name.as_str()),
+        None => Ok(Some(registry.table().shared()?)),
+    }
+}
+
+/// The reply with code 3.
+fn no_module_line(alloc: Global, id: &Id, asked: Option<String>) -> Result<Vec<u8>, AllocError>
+    requires named { IsSome asked }
+    ensures { IfOk result (λ line. IfSome asked (λ name. line.items ≡ reply_bytes (error_reply (id_view id.now) (no_module (string_bytes name))))) }
+{
+    match asked {
+        Some(name) => fault_text(alloc, id, &StateFault::NoModule { name }),
+        None => unreachable!(),
+    }
+}

@@ -1,0 +1,60 @@
+// The service, and what is looked up of its book.
+ghost use Rattle.kp_registry.specs.Passes.{IsPass};
+ghost use Rattle.kp_service.specs.Answers.{IsAnswer, IsBegun};
+ghost use Rattle.kp_service.specs.Served.{HasSeenAt};
+
+use crate::batch::answered_batch;
+use crate::member::{answered, text_of};
+use kp_conn::Answerer;
+use kp_registry::{Pass, Registry};
+use kp_requests::{Parsed, request_of};
+use kp_rpc::{Id, refusal_text};
+use kp_rules::RuleSet;
+use std::alloc::{AllocError, Global};
+use std::sync::Arc;
+
+/// Answers frames over a book of modules.
+#[derive(Drop)]
+pub struct Service {
+    pub registry: Registry,
+}
+
+impl Answerer for Service {
+    type Pass = Pass;
+
+    ghost has_seen = { λ s pass o book. HasSeenAt s.registry pass o book };
+
+    ghost is_pass = { λ s pass. IsPass pass };
+
+    ghost answers = { λ s o before frame reply after. IsAnswer o before frame reply after };
+
+    ghost begins = { λ s o before frame after. IsBegun o before frame after };
+
+    fn answer(
+        &self,
+        alloc: Global,
+        pass: &mut Pass,
+        frame: &[u8],
+    ) -> Result<Option<Vec<u8>>, AllocError> {
+        match request_of(alloc, frame)? {
+            Parsed::Single(call) => answered(alloc, &self.registry, pass, call),
+            Parsed::Batch(calls) => answered_batch(alloc, &self.registry, pass, calls),
+            Parsed::Refused(refusal) => Ok(Some(text_of(refusal_text(
+                alloc,
+                &Id::Null,
+                refusal,
+            )?))),
+        }
+    }
+}
+
+/// The rule set that a name means.
+pub fn look(
+    alloc: Global,
+    registry: &Registry,
+    pass: &mut Pass,
+    name: &str,
+) -> Result<Option<Arc<RuleSet>>, AllocError> {
+    let _alloc = alloc;
+    registry.look(pass, name)
+}
