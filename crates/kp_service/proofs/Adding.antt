@@ -1,96 +1,124 @@
--- A module that is added.
-use Rattle.std.proofs.Common.{◌≡◌, refl, sym, ap, subst, ◌∙◌, ◌⊎◌, ℕ, Bool, true, false, List, [], ◌∷◌, ◌++◌, Option, Some, None, append-nil, append_assoc, inl, inr}
-use Rattle.kp_kore.specs.Syntax.{Text, KoreModule, KoreSentence, import_sentence, sort_sentence, symbol_sentence, alias_sentence, axiom_sentence, claim_sentence}
-use Rattle.kp_semantics.specs.Theory.{NumberedAxiom, imports_in}
-use Rattle.kp_replies.specs.Failures.{bad_module, full_book, duplicate}
-use Rattle.kp_book.specs.Books.{Opening, Registration, IsDuplicate, extended}
-use Rattle.kp_registry.specs.Legal.{Fits, IsExtension, IsLegal, AreLegalFrom, id_of}
-use Rattle.kp_registry.specs.Passes.{IsEntryOf, own_name_asked}
-use Rattle.kp_registry.specs.Refusals.{IsAlsoFree, IsAlsoDuplicate, IsFree, IsRefused, IsWelcome, own_name_of}
-use Rattle.kp_registry.specs.declared.book.RegisterFault.TheVariants.{Duplicate, Many}
-use Rattle.kp_registry.specs.declared.seen.Entry.{Entry}
-use Rattle.kp_service.specs.Added.{AreBound, IsAdded, IsRefusedFor, IsSound, other_id, other_name, no_room}
-use Rattle.kp_service.specs.Adding.{IsEntered, IsReadied, Mean}
+-- A module that is added, or why it isn't.
+use Rattle.std.proofs.Common.{◌≡◌, ◌<◌, ◌≤◌, refl, sym, ap, subst, ◌∙◌, ℕ, Bool, List, [], ◌∷◌, ◌++◌, length, Option, Some, None, Vec, append-nil, append_assoc, length-append, arith}
+use Rattle.std.specs.Option.{option_map}
+use Rattle.std.specs.declared.alloc.Global.{Global}
+use Rattle.serde_json.specs.Data.{Data}
+use Rattle.kp_rpc.specs.Request.{RequestId}
+use Rattle.kp_rpc.specs.Reply.{reply_bytes, result_reply}
+use Rattle.kp_replies.specs.Failures.{Failure, bad_sides, undecided, bad_module, duplicate, failure_reply}
+use Rattle.kp_replies.specs.Written.{added_tree}
+use Rattle.kp_requests.specs.Requests.{asks, add_module}
+use Rattle.kp_book.specs.Books.{Opening, Registration, most_entries}
+use Rattle.kp_registry.specs.Legal.{Fits, IsLegal, AreLegalFrom}
+use Rattle.kp_registry.specs.Passes.{HasSeen}
+use Rattle.kp_registry.specs.declared.book.Registry.{Registry}
+use Rattle.kp_registry.specs.declared.seen.Pass.{Pass}
+use Rattle.kp_additions.specs.Additions.{IsAddition, IsRefusal}
+use Rattle.kp_additions.specs.Told.{TellsRefusal, failure_told}
+use Rattle.kp_additions.specs.declared.error.AdditionError.{AdditionError}
+use Rattle.kp_modules.specs.Openings.{IsTableOf}
+use Rattle.kp_conn.specs.Conversations.{ForEachSeen, Sees}
+use Rattle.kp_service.specs.Added.{IsAdded}
+use Rattle.kp_service.specs.Batches.{IsAddFailure, IsReplyLine, line_told, line_added, IsEffect, adds_nothing, adds, MayHaveDone, did_nothing, did_add}
+use Rattle.kp_service.specs.Served.{HasSeenAt}
+use Rattle.kp_service.proofs.Serving.{stays}
 
--- ---- imports
-
-imports_more : (xs ys : List KoreSentence) → imports_in (xs ++ ys) ≡ imports_in xs ++ imports_in ys
-imports_more [] ys = refl
-imports_more (import_sentence n a ∷ xs) ys = ap (λ l. n ∷ l) (imports_more xs ys)
-imports_more (sort_sentence d ∷ xs) ys = imports_more xs ys
-imports_more (symbol_sentence d ∷ xs) ys = imports_more xs ys
-imports_more (alias_sentence d ∷ xs) ys = imports_more xs ys
-imports_more (axiom_sentence d ∷ xs) ys = imports_more xs ys
-imports_more (claim_sentence d ∷ xs) ys = imports_more xs ys
-
-pub all_bound : (o : Opening) (book : List Registration) (names : List Text) (lists : List (List NumberedAxiom)) → Mean o book names lists → AreBound o book names
-all_bound o book [] [] m = tt
-all_bound o book (n ∷ ns) (l ∷ ls) m = ((l, m.0), all_bound o book ns ls m.1)
-all_bound o book [] (l ∷ ls) m = absurd m
-all_bound o book (n ∷ ns) [] m = absurd m
-
--- ---- the entry as a registration
-
-abbrev pub registered : List ℕ → Bool → KoreModule → List (List NumberedAxiom) → Registration
-registered text flag m imports = record { text = text; id = id_of text; also = own_name_asked flag m.name; axioms = extended imports (id_of text) m }
-
-pub entry_of : (o : Opening) (book : List Registration) (text : List ℕ) (flag : Bool) (e : Entry) (p : IsReadied o book text flag e) → IsEntryOf o.signature (registered text flag p.spelled p.imports) e
-entry_of o book text flag e p = record { text = p.text_is; id = p.id_is; also = p.own_is; rules = p.rules }
-
-own_name_cases : (flag : Bool) (name : Text) → (own_name_asked flag name ≡ None) ⊎ (own_name_asked flag name ≡ Some name)
-own_name_cases true name = inr refl
-own_name_cases false name = inl refl
-
-pub extension_of : (o : Opening) (book : List Registration) (text : List ℕ) (flag : Bool) (e : Entry) (p : IsReadied o book text flag e) → IsExtension o book (registered text flag p.spelled p.imports)
-extension_of o book text flag e p = record {
-  spelled = p.spelled;
-  spells = p.sound.importable.spells;
-  is_id = refl;
-  own_name = own_name_cases flag p.spelled.name;
-  imports = p.imports;
-  bound = p.mean;
-  axioms = refl;
-}
+-- ---- the entry of a longer legal book
 
 last_fits : (o : Opening) (before xs : List Registration) (r : Registration) → AreLegalFrom o before (xs ++ r ∷ []) → Fits o (before ++ xs) r
 last_fits o before [] r p = subst (λ b. Fits o b r) (sym (append-nil before)) p.0
 last_fits o before (x ∷ xs) r p = subst (λ b. Fits o b r) (append_assoc before (x ∷ []) xs) (last_fits o (before ++ x ∷ []) xs r p.1)
 
+room_for : (book : List Registration) (r : Registration) → length (book ++ r ∷ []) ≤ most_entries → length book < most_entries
+room_for book r few = let more : length (book ++ r ∷ []) ≡ length book + 1 = length-append book (r ∷ []) in omega arith
+
+pub added_of : (o : Opening) (book : List Registration) (text : List ℕ) (flag : Bool) (r : Registration) → IsAddition o book text flag r → IsLegal o (book ++ r ∷ []) → IsAdded o book text flag r
+added_of o book text flag r a legal = record { addition = a; fits = last_fits o [] book r legal.entries; room = room_for book r legal.room }
+
+-- ---- what add_module tells
+
+-- it entered a registration of the text with this id
+pub record IsEntered (o : Opening) (book : List Registration) (text : List ℕ) (flag : Bool) (id : List ℕ) (pass : Pass) : Type 0 where
+  pub registration : Registration
+  pub added : IsAdded o book text flag registration
+  pub id_is : registration.id ≡ id
+  pub seen : HasSeen o.signature (book ++ registration ∷ []) pass
+  pub legal : IsLegal o (book ++ registration ∷ [])
+
+pub entered_of : (o : Opening) (book : List Registration) (text : List ℕ) (flag : Bool) (id : List ℕ) (pass : Pass) →
+    (r : Registration) × IsAddition o book text flag r × (r.id ≡ id) × HasSeen o.signature (book ++ r ∷ []) pass × IsLegal o (book ++ r ∷ []) → IsEntered o book text flag id pass
+entered_of o book text flag id pass h = record { registration = h.0; added = added_of o book text flag h.0 h.1 h.4; id_is = h.2; seen = h.3; legal = h.4 }
+
+abbrev EntersAll : Registry → Pass → Pass → List ℕ → Bool → List ℕ → Type 0
+EntersAll registry before after text flag id = (o : Opening) (book : List Registration) → HasSeenAt registry before o book → IsEntered o book text flag id after
+
+sees_entered : (registry : Registry) (o : Opening) (book : List Registration) (text : List ℕ) (flag : Bool) (id : List ℕ) (after : Pass) (Holds : List Registration → Type 0) → IsTableOf o registry.table → (e : IsEntered o book text flag id after) →
+    Holds (book ++ e.registration ∷ []) → Sees (HasSeenAt registry after o) book Holds
+sees_entered registry o book text flag id after Holds table e holds = record {
+  after = book ++ e.registration ∷ [];
+  seen = record { table = table; seen = e.seen; legal = e.legal };
+  grows = (e.registration ∷ [], refl);
+  holds = holds;
+}
+
+pub entered_line : (registry : Registry) (before after : Pass) (text : List ℕ) (flag : Bool) (mid : List ℕ) (id : RequestId) (line : List ℕ) → EntersAll registry before after text flag mid → line ≡ reply_bytes (result_reply id (added_tree mid)) →
+    ForEachSeen (HasSeenAt registry before) (HasSeenAt registry after) (λ o book. IsReplyLine o book id (asks (add_module text flag)) line)
+entered_line registry before after text flag mid id line all l o book seen =
+    let e : IsEntered o book text flag mid after = all o book seen in
+    sees_entered registry o book text flag mid after (IsReplyLine o book id (asks (add_module text flag)) line) seen.table e
+    (line_added e.registration e.added (l ∙ ap (λ m. reply_bytes (result_reply id (added_tree m))) (sym e.id_is)))
+
+pub entered_silently : (registry : Registry) (before after : Pass) (text : List ℕ) (flag : Bool) (mid : List ℕ) → EntersAll registry before after text flag mid →
+    ForEachSeen (HasSeenAt registry before) (HasSeenAt registry after) (λ o book. IsEffect o book (asks (add_module text flag)))
+entered_silently registry before after text flag mid all o book seen =
+    let e : IsEntered o book text flag mid after = all o book seen in
+    sees_entered registry o book text flag mid after (IsEffect o book (asks (add_module text flag))) seen.table e (adds e.registration e.added)
+
+pub entered_yet : (registry : Registry) (before after : Pass) (text : List ℕ) (flag : Bool) (mid : List ℕ) → EntersAll registry before after text flag mid →
+    ForEachSeen (HasSeenAt registry before) (HasSeenAt registry after) (λ o book. MayHaveDone o book (asks (add_module text flag)))
+entered_yet registry before after text flag mid all o book seen =
+    let e : IsEntered o book text flag mid after = all o book seen in
+    sees_entered registry o book text flag mid after (MayHaveDone o book (asks (add_module text flag))) seen.table e (did_add e.registration e.added)
+
 -- ---- refusals
 
-pub refused_for : (o : Opening) (book : List Registration) (text : List ℕ) (flag : Bool) (e : Entry) (p : IsReadied o book text flag e) (n : ℕ) →
-    IsDuplicate o book e.text.items e.id n → IsRefusedFor o book text flag (duplicate n (id_of text))
-refused_for o book text flag e p n d = other_id p.spelled n p.sound (subst (λ i. IsDuplicate o book text i n) p.id_is (subst (λ t. IsDuplicate o book t e.id n) p.text_is d))
+-- the book stays, and this is why
+abbrev RefusesAll : Registry → Pass → List ℕ → Bool → Failure → Type 0
+RefusesAll registry before text flag f = (o : Opening) (book : List Registration) → HasSeenAt registry before o book → IsRefusal o book text flag f
 
-free_id : (o : Opening) (book : List Registration) (text : List ℕ) (flag : Bool) (e : Entry) → IsReadied o book text flag e → IsFree o book e.text.items e.id → IsFree o book text (id_of text)
-free_id o book text flag e p f = subst (λ i. IsFree o book text i) p.id_is (subst (λ t. IsFree o book t e.id) p.text_is f)
+pub refused_all : (registry : Registry) (before : Pass) (text : List ℕ) (flag : Bool) (e : AdditionError) (f : Failure) → failure_told e ≡ Some f →
+    ((o : Opening) (book : List Registration) → IsTableOf o registry.table → HasSeen o.signature book before → TellsRefusal o book text flag e) → RefusesAll registry before text flag f
+refused_all registry before text flag e f is h o book seen = h o book seen.table seen.seen f is
 
-also_free : (o : Opening) (book : List Registration) (text : List ℕ) (flag : Bool) (e : Entry) (p : IsReadied o book text flag e) → IsAlsoFree o book e.text.items (own_name_of e) →
-    IsAlsoFree o book text (own_name_asked flag p.spelled.name)
-also_free o book text flag e p f = subst (λ n. IsAlsoFree o book text n) p.own_is (subst (λ t. IsAlsoFree o book t (own_name_of e)) p.text_is f)
+pub refused_line_told : (registry : Registry) (before after : Pass) (text : List ℕ) (flag : Bool) (f : Failure) (id : RequestId) (line : List ℕ) → after ≡ before → RefusesAll registry before text flag f →
+    (reply : Data) × (failure_reply id f ≡ Some reply) × (line ≡ reply_bytes reply) →
+    ForEachSeen (HasSeenAt registry before) (HasSeenAt registry after) (λ o book. IsReplyLine o book id (asks (add_module text flag)) line)
+refused_line_told registry before after text flag f id line same all l =
+    stays registry before after (λ o book. IsReplyLine o book id (asks (add_module text flag)) line) same (λ o book seen. line_told l.0 (f, all o book seen, l.1) l.2)
 
-own_duplicate : (o : Opening) (book : List Registration) (text : List ℕ) (flag : Bool) (m : KoreModule) (n : ℕ) → IsSound o book text m → IsFree o book text (id_of text) →
-    IsAlsoDuplicate o book text (own_name_asked flag m.name) n → IsRefusedFor o book text flag (duplicate n m.name)
-own_duplicate o book text true m n s f d = other_name m n s f refl d
-own_duplicate o book text false m n s f d = absurd d
+pub refused_silently : (registry : Registry) (before after : Pass) (text : List ℕ) (flag : Bool) (f : Failure) → after ≡ before → RefusesAll registry before text flag f →
+    ForEachSeen (HasSeenAt registry before) (HasSeenAt registry after) (λ o book. IsEffect o book (asks (add_module text flag)))
+refused_silently registry before after text flag f same all = stays registry before after (λ o book. IsEffect o book (asks (add_module text flag))) same (λ o book seen. adds_nothing (f, all o book seen))
 
-pub also_refused_for : (o : Opening) (book : List Registration) (text : List ℕ) (flag : Bool) (e : Entry) (p : IsReadied o book text flag e) (n : ℕ) →
-    IsRefused o book e (Duplicate n false) → IsRefusedFor o book text flag (duplicate n p.spelled.name)
-also_refused_for o book text flag e p n d = own_duplicate o book text flag p.spelled n p.sound (free_id o book text flag e p d.0)
-    (subst (λ x. IsAlsoDuplicate o book text x n) p.own_is (subst (λ t. IsAlsoDuplicate o book t (own_name_of e) n) p.text_is d.1))
+-- ---- the reply with a cause
 
-pub room_refused_for : (o : Opening) (book : List Registration) (text : List ℕ) (flag : Bool) (e : Entry) (p : IsReadied o book text flag e) →
-    IsRefused o book e Many → IsRefusedFor o book text flag (bad_module full_book)
-room_refused_for o book text flag e p d = no_room p.spelled p.sound (free_id o book text flag e p d.0) (also_free o book text flag e p d.1) d.2
+pub reply_told : (o : Option (Vec ℕ Global)) (line : Vec ℕ Global) (r : Option Data) → o ≡ Some line → option_map (λ (b : Vec ℕ Global). b.items) o ≡ option_map reply_bytes r → (reply : Data) × (r ≡ Some reply) × (line.items ≡ reply_bytes reply)
+reply_told o line None is e =
+    let none : Some line.items ≡ None = sym (ap (option_map (λ (b : Vec ℕ Global). b.items)) is) ∙ e in
+    absurd (cc none)
+reply_told o line (Some reply) is e =
+    let some : Some line.items ≡ Some (reply_bytes reply) = sym (ap (option_map (λ (b : Vec ℕ Global). b.items)) is) ∙ e in
+    (reply, refl, cc some)
 
--- ---- the module that is added
+some_reply : (id : RequestId) (f : Failure) → IsAddFailure f → failure_reply id f ≡ None → ⊥
+some_reply id (bad_module f) told none = absurd (cc none)
+some_reply id (duplicate n name) told none = absurd (cc none)
+some_reply id (bad_sides f) told none = absurd told
+some_reply id (undecided u) told none = absurd told
 
-pub entered : (o : Opening) (book : List Registration) (text : List ℕ) (flag : Bool) (e : Entry) (p : IsReadied o book text flag e) → IsWelcome o book e →
-    IsLegal o (book ++ registered text flag p.spelled p.imports ∷ []) → IsEntered o book text flag e.id (book ++ registered text flag p.spelled p.imports ∷ [])
-entered o book text flag e p w legal = (registered text flag p.spelled p.imports, added, refl, sym p.id_is)
+pub has_reply : (id : RequestId) (f : Failure) (o : Option (Vec ℕ Global)) → IsAddFailure f → option_map (λ (b : Vec ℕ Global). b.items) o ≡ option_map reply_bytes (failure_reply id f) → o ≡ None → ⊥
+has_reply id f o told e none = some_reply id f told (none_of (failure_reply id f) (sym e ∙ ap (option_map (λ (b : Vec ℕ Global). b.items)) none))
   where
-    fits : Fits o book (registered text flag p.spelled p.imports)
-    fits = last_fits o [] book (registered text flag p.spelled p.imports) legal.entries
-
-    added : IsAdded o book text flag (registered text flag p.spelled p.imports)
-    added = record { spelled = p.spelled; sound = p.sound; fits = fits; text_is = refl; also_is = refl; room = w.room }
+    none_of : (r : Option Data) → option_map reply_bytes r ≡ None → r ≡ None
+    none_of None e = refl
+    none_of (Some d) e = absurd (cc e)

@@ -4,9 +4,14 @@ use Rattle.serde_json.specs.Data.{Data, array}
 use Rattle.serde_json.specs.Written.{compact_text, items_text}
 use Rattle.kp_rpc.specs.Request.{RequestId}
 use Rattle.kp_requests.specs.Requests.{Asked, Call}
-use Rattle.kp_book.specs.Books.{Opening, Registration}
-use Rattle.kp_service.specs.Answers.{Adds, IsMember, told, added, silent, added_silently, with_reply, AreMembers, none, next, items_of, batch_reply, IsFront}
-use Rattle.kp_service.specs.Batches.{IsReplyLine, line_told, line_added, IsEffect, adds_nothing, adds, MayHaveDone, did_nothing, did_add, IsMemberText, texts_behind, batch_front, AreTold}
+use Rattle.kp_book.specs.Books.{Opening, Registration, Grows}
+use Rattle.kp_service.proofs.Growing.{grows_on}
+use Rattle.kp_service.specs.Answers.{Adds, IsMember, told, added, silent, added_silently, with_reply, AreMembers, none, next, items_of, batch_reply, IsFront, IsAnswer, alone, together, IsBegun, begun_alone, begun_together}
+use Rattle.kp_conn.specs.Conversations.{ForEachSeen, Sees}
+use Rattle.kp_registry.specs.declared.book.Registry.{Registry}
+use Rattle.kp_registry.specs.declared.seen.Pass.{Pass}
+use Rattle.kp_service.specs.Batches.{IsReplyLine, line_told, line_added, IsEffect, adds_nothing, adds, MayHaveDone, did_nothing, did_add, IsMemberText, texts_behind, batch_front, AreTold, text_then, text_closed, IsNextTold, AreFirstTold, AreMembersText}
+use Rattle.kp_service.specs.Served.{HasSeenAt}
 
 -- ---- texts
 
@@ -84,3 +89,84 @@ front_of_call o book after call (did_add r p) = by call.id refl
     by : (id : Option RequestId) → call.id ≡ id → IsFront o book (call ∷ []) (book ++ r ∷ [])
     by (Some id) e = whole_front o book (book ++ r ∷ []) call _ (added id r e p)
     by None e = whole_front o book (book ++ r ∷ []) call None (added_silently r e p)
+
+-- ---- the text of a batch
+
+front_then : (ds : List Data) (reply : Option Data) → text_then (batch_front ds) reply ≡ batch_front (ds ++ with_reply reply [])
+front_then [] None = refl
+front_then [] (Some d) = sym (front_one d)
+front_then (first ∷ ds) None = sym (ap batch_front (append-nil (first ∷ ds)))
+front_then (first ∷ ds) (Some d) = sym (front_more first ds d)
+
+closed_told : (ds : List Data) → text_closed (batch_front ds) ≡ option_map compact_text (batch_reply ds)
+closed_told [] = refl
+closed_told (d ∷ ds) = ap Some (sym (array_told d ds))
+
+-- ---- one call behind others
+
+pub none_told : (o : Opening) (book : List Registration) (calls : List Call) → AreFirstTold o book calls [] calls book
+none_told o book calls = record { done = []; are = refl; told = record { replies = []; members = none book; is_text = refl } }
+
+next_told : (o : Opening) (before between after : List Registration) (calls rest : List Call) (call : Call) (text longer : List ℕ) → AreFirstTold o before calls text (call ∷ rest) between → IsNextTold o between call text longer after →
+    AreFirstTold o before calls longer rest after
+next_told o before between after calls rest call text longer f n = record {
+  done = f.done ++ call ∷ [];
+  are = f.are ∙ sym (append_assoc f.done (call ∷ []) rest);
+  told = record {
+    replies = f.told.replies ++ with_reply n.0 [];
+    members = members_more o before between after f.done f.told.replies call n.0 f.told.members n.1;
+    is_text = n.2 ∙ ap (λ t. text_then t n.0) f.told.is_text ∙ front_then f.told.replies n.0;
+  };
+}
+
+front_on : (o : Opening) (before between after : List Registration) (calls rest : List Call) (call : Call) (text : List ℕ) → AreFirstTold o before calls text (call ∷ rest) between → IsFront o between (call ∷ []) after → IsFront o before calls after
+front_on o before between after calls rest call text f n = subst (λ x. IsFront o before x after) (sym f.are)
+    (front_behind o before between after f.done (call ∷ rest) f.told.replies f.told.members (front_before o between after (call ∷ []) rest n))
+
+all_told : (o : Opening) (before after : List Registration) (calls : List Call) (text : List ℕ) → AreFirstTold o before calls text [] after → AreMembersText o before calls (text_closed text) after
+all_told o before after calls text f = (f.told.replies, subst (λ x. AreMembers o before x f.told.replies after) (sym (f.are ∙ append-nil f.done)) f.told.members, ap text_closed f.told.is_text ∙ closed_told f.told.replies)
+
+all_front : (o : Opening) (before after : List Registration) (calls : List Call) (text : List ℕ) → AreFirstTold o before calls text [] after → IsFront o before calls after
+all_front o before after calls text f = record { done = f.done; more = []; are = f.are; replies = f.told.replies; answered = f.told.members }
+
+-- ---- the same of all that a pass may have seen
+
+abbrev pub Changes : Registry → Pass → Pass → (Opening → List Registration → List Registration → Type 0) → Type 0
+Changes registry before after Holds = ForEachSeen (HasSeenAt registry before) (HasSeenAt registry after) Holds
+
+behind : (registry : Registry) (o : Opening) (first : List Registration) (after : Pass) (between : List Registration) (P Q : List Registration → Type 0) → Grows first between → ((later : List Registration) → P later → Q later) →
+    Sees (HasSeenAt registry after o) between P → Sees (HasSeenAt registry after o) first Q
+behind registry o first after between P Q grew f s = record {
+  after = s.after;
+  seen = s.seen;
+  grows = grows_on first between s.after grew s.grows;
+  holds = f s.after s.holds;
+}
+
+pub then_next : (registry : Registry) (first now later : Pass) (calls rest : List Call) (call : Call) (text longer : List ℕ) → Changes registry first now (λ o book. AreFirstTold o book calls text (call ∷ rest)) →
+    Changes registry now later (λ o book. IsNextTold o book call text longer) → Changes registry first later (λ o book. AreFirstTold o book calls longer rest)
+then_next registry first now later calls rest call text longer f n o book seen =
+    let so_far : Sees (HasSeenAt registry now o) book (AreFirstTold o book calls text (call ∷ rest)) = f o book seen in
+    behind registry o book later so_far.after (IsNextTold o so_far.after call text longer) (AreFirstTold o book calls longer rest) so_far.grows
+    (λ after p. next_told o book so_far.after after calls rest call text longer so_far.holds p) (n o so_far.after so_far.seen)
+
+pub then_broken : (registry : Registry) (first now later : Pass) (calls rest : List Call) (call : Call) (text : List ℕ) → Changes registry first now (λ o book. AreFirstTold o book calls text (call ∷ rest)) →
+    Changes registry now later (λ o book. IsFront o book (call ∷ [])) → Changes registry first later (λ o book. IsFront o book calls)
+then_broken registry first now later calls rest call text f n o book seen =
+    let so_far : Sees (HasSeenAt registry now o) book (AreFirstTold o book calls text (call ∷ rest)) = f o book seen in
+    behind registry o book later so_far.after (IsFront o so_far.after (call ∷ [])) (IsFront o book calls) so_far.grows
+    (λ after p. front_on o book so_far.after after calls rest call text so_far.holds p) (n o so_far.after so_far.seen)
+
+-- what holds of all that is seen holds in a weaker form
+pub weaker : (registry : Registry) (first now : Pass) (P Q : Opening → List Registration → List Registration → Type 0) → ((o : Opening) (book after : List Registration) → P o book after → Q o book after) → Changes registry first now P → Changes registry first now Q
+weaker registry first now P Q f h o book seen =
+    let s : Sees (HasSeenAt registry now o) book (P o book) = h o book seen in
+    record { after = s.after; seen = s.seen; grows = s.grows; holds = f o book s.after s.holds }
+
+pub told_whole : (registry : Registry) (first now : Pass) (calls : List Call) (text : List ℕ) (array : Option (List ℕ)) → array ≡ text_closed text → Changes registry first now (λ o book. AreFirstTold o book calls text []) →
+    Changes registry first now (λ o book. AreMembersText o book calls array)
+told_whole registry first now calls text array is h = weaker registry first now (λ o book. AreFirstTold o book calls text []) (λ o book. AreMembersText o book calls array)
+    (λ o book after f. subst (λ a. AreMembersText o book calls a after) (sym is) (all_told o book after calls text f)) h
+
+pub whole_broken : (registry : Registry) (first now : Pass) (calls : List Call) (text : List ℕ) → Changes registry first now (λ o book. AreFirstTold o book calls text []) → Changes registry first now (λ o book. IsFront o book calls)
+whole_broken registry first now calls text h = weaker registry first now (λ o book. AreFirstTold o book calls text []) (λ o book. IsFront o book calls) (λ o book after f. all_front o book after calls text f) h

@@ -5,12 +5,12 @@ use Rattle.kp_requests.specs.Requests.{Asked, asks, refused, execute, implies, s
 use Rattle.kp_book.specs.Books.{Opening, Registration, Grows}
 use Rattle.kp_registry.specs.Legal.{IsLegal}
 use Rattle.kp_registry.proofs.LegalLemmas.{stays_legal}
-use Rattle.kp_service.specs.Answers.{Adds, IsMember, told, added, silent, added_silently, AreMembers, none, next, IsAnswer, refusal, alone, together, IsFront, IsBegun, not_begun, begun_alone, begun_together}
+use Rattle.kp_service.specs.Answers.{Adds, IsMember, told, added, silent, added_silently, AreMembers, none, next, IsAnswer, refusal, alone, together, IsBegun, not_begun, begun_alone, begun_together}
 
-grows_none : (seen : List Registration) → Grows seen seen
+pub grows_none : (seen : List Registration) → Grows seen seen
 grows_none seen = ([], sym (append-nil seen))
 
-grows_on : (before between after : List Registration) → Grows before between → Grows between after → Grows before after
+pub grows_on : (before between after : List Registration) → Grows before between → Grows between after → Grows before after
 grows_on before between after p q = (p.0 ++ q.0, q.1 ∙ ap (λ x. x ++ q.0) p.1 ∙ append_assoc before p.0 q.0)
 
 member_grows : (o : Opening) (before after : List Registration) (call : Call) (reply : Option Data) → IsMember o before call reply after → Grows before after

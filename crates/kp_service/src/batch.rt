@@ -1,4 +1,12 @@
 // The calls of a batch, whose replies stand in one array.
+ghost use Rattle.std.specs.Prelude.{◌≡◌, ◌∷◌, [], IfOk, OnErr, OnOk, option_map};
+ghost use Rattle.kp_requests.specs.View.{call_view, calls_view};
+ghost use Rattle.kp_registry.specs.Passes.{IsPass};
+ghost use Rattle.kp_conn.specs.Conversations.{ForEachSeen};
+ghost use Rattle.kp_service.specs.Answers.{IsFront};
+ghost use Rattle.kp_service.specs.Batches.{AreMembersText, IsNextTold, text_closed, text_with};
+ghost use Rattle.kp_service.specs.Served.{HasSeenAt};
+
 use crate::member::answered;
 use kp_registry::{Pass, Registry};
 use kp_requests::Call;
@@ -18,29 +26,43 @@ pub fn answered_batch(
 {
     let mut replies = Vec::new(alloc);
     for call in calls {
-        if let Some(reply) = answered(alloc, registry, pass, call)? {
-            add_reply(&mut replies, &reply)?;
-        }
+        answer_next(alloc, registry, pass, call, &mut replies)?;
     }
     closed(replies)
 }
 
+/// Answers one more call, and adds its reply, where it has one.
+fn answer_next(
+    alloc: Global,
+    registry: &Registry,
+    pass: &mut Pass,
+    call: Call,
+    replies: &mut Vec<u8>,
+) -> Result<(), AllocError>
+    requires pass { IsPass pass.old }
+    ensures pass { IsPass pass.new }
+    ensures told { OnOk result (ForEachSeen (HasSeenAt registry.now pass.old) (HasSeenAt registry.now pass.new) (λ o book. IsNextTold o book (call_view call) replies.old.items replies.new.items)) }
+    ensures begun { OnErr result (ForEachSeen (HasSeenAt registry.now pass.old) (HasSeenAt registry.now pass.new) (λ o book. IsFront o book (call_view call ∷ []))) }
+{
+    match answered(alloc, registry, pass, call)? {
+        Some(reply) => add_reply(replies, &reply),
+        None => Ok(()),
+    }
+}
+
 /// Adds a reply behind a bracket, or behind a comma and the replies before.
 fn add_reply(replies: &mut Vec<u8>, reply: &[u8]) -> Result<(), AllocError>
-    ensures { (told : List Data) (reply_tree : Data) → replies.old.items ≡ batch_front told → reply.now ≡ compact_text reply_tree → OnOk result (replies.new.items ≡ batch_front (told ++ reply_tree ∷ [])) }
+    ensures { OnOk result (replies.new.items ≡ text_with replies.old.items reply.now) }
 {
-    if replies.is_empty() {
-        replies.push(b'[')?;
-    } else {
-        replies.push(b',')?;
-    }
+    let mark = if replies.is_empty() { b'[' } else { b',' };
+    replies.push(mark)?;
     replies.extend_from_slice(reply)?;
     Ok(())
 }
 
 /// The array of replies, where there are any.
 fn closed(replies: Vec<u8>) -> Result<Option<Vec<u8>>, AllocError>
-    ensures { (told : List Data) → replies.items ≡ batch_front told → IfOk result (λ array. option_map (λ text. text.items) array ≡ option_map compact_text (batch_reply told)) }
+    ensures { IfOk result (λ array. option_map (λ text. text.items) array ≡ text_closed replies.items) }
 {
     if replies.is_empty() {
         return Ok(None);

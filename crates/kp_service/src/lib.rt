@@ -11,6 +11,5 @@ pub mod laws;
 mod member;
 mod service;
 mod simplified;
-mod unadded;
 
 pub use service::Service;

@@ -1,10 +1,23 @@
 // One call, alone or in a batch.
-use crate::added::{added, added_line};
+ghost use Rattle.std.specs.Prelude.{◌≡◌, ◌⊎◌, ◌∷◌, ◌++◌, [], ℕ, List, Some, IfOk, IfSome, IsSome, OnErr, OnOk, option_map, string_bytes};
+ghost use Rattle.kp_rpc.specs.Reply.{error_reply, no_module, reply_bytes};
+ghost use Rattle.kp_rpc.specs.View.{id_view, name_view, options_view};
+ghost use Rattle.kp_requests.specs.Requests as requests;
+ghost use Rattle.kp_requests.specs.View.{asked_view, call_view, reading_view, request_view};
+ghost use Rattle.kp_book.specs.Books.{Opening, Registration};
+ghost use Rattle.kp_registry.specs.Passes.{IsPass, MeansAt};
+ghost use Rattle.kp_conn.specs.Conversations.{ForEachSeen};
+ghost use Rattle.kp_service.specs.Answered.{IsExecutedAs, IsImpliedAs, IsReplyIn, IsSimplifiedAs};
+ghost use Rattle.kp_service.specs.Answers.{IsFront};
+ghost use Rattle.kp_service.specs.Batches.{IsEffect, IsMemberText, IsReplyLine, MayHaveDone};
+ghost use Rattle.kp_service.specs.Meant.{module_asked};
+ghost use Rattle.kp_service.specs.Served.{HasSeenAt};
+ghost use Rattle.kp_service.specs.Told.{IsLineOf};
+
+use crate::added::{add_silently, added_line};
 use crate::executed::executed_line;
 use crate::implied::implied_line;
-use crate::service::look;
 use crate::simplified::simplified_line;
-use crate::unadded::Unadded;
 use kp_registry::{Pass, Registry};
 use kp_requests::{Asked, Call, Reading, Request};
 use kp_rpc::{Id, Options, StateFault, fault_text, refusal_text};
@@ -55,13 +68,14 @@ fn take_effect(
     ensures done { OnOk result (ForEachSeen (HasSeenAt registry.now pass.old) (HasSeenAt registry.now pass.new) (λ o book. IsEffect o book (asked_view asked))) }
     ensures begun { OnErr result (ForEachSeen (HasSeenAt registry.now pass.old) (HasSeenAt registry.now pass.new) (λ o book. MayHaveDone o book (asked_view asked))) }
 {
-    let Asked::Request(Request::AddModule { text, name_as_id }) = asked else {
-        return Ok(());
-    };
-    match added(alloc, registry, pass, text, name_as_id) {
-        Ok(_id) => Ok(()),
-        Err(Unadded::Refused(_failure)) => Ok(()),
-        Err(Unadded::Memory) => Err(AllocError),
+    match asked {
+        Asked::Request(Request::AddModule { text, name_as_id }) => {
+            add_silently(alloc, registry, pass, text, name_as_id)
+        }
+        Asked::Request(Request::Execute { .. })
+        | Asked::Request(Request::Implies { .. })
+        | Asked::Request(Request::Simplify { .. })
+        | Asked::Refused(_) => Ok(()),
     }
 }
 
@@ -94,8 +108,8 @@ fn request_line(
 ) -> Result<Vec<u8>, AllocError>
     requires pass { IsPass pass.old }
     ensures pass { IsPass pass.new }
-    ensures told { IfOk result (λ line. ForEachSeen (HasSeenAt registry.now pass.old) (HasSeenAt registry.now pass.new) (λ o book. IsReplyLine o book (id_view id.now) (asks (request_view request)) line.items)) }
-    ensures begun { OnErr result (ForEachSeen (HasSeenAt registry.now pass.old) (HasSeenAt registry.now pass.new) (λ o book. MayHaveDone o book (asks (request_view request)))) }
+    ensures told { IfOk result (λ line. ForEachSeen (HasSeenAt registry.now pass.old) (HasSeenAt registry.now pass.new) (λ o book. IsReplyLine o book (id_view id.now) (requests.asks (request_view request)) line.items)) }
+    ensures begun { OnErr result (ForEachSeen (HasSeenAt registry.now pass.old) (HasSeenAt registry.now pass.new) (λ o book. MayHaveDone o book (requests.asks (request_view request)))) }
 {
     match request {
         Request::Execute { state, options } => {
@@ -105,15 +119,9 @@ fn request_line(
             antecedent,
             consequent,
             module_name,
-        } => match rules_at(alloc, registry, pass, &module_name)? {
-            Some(rules) => implied_line(alloc, &rules, id, antecedent, consequent),
-            None => no_module_line(alloc, id, module_name),
-        },
+        } => implies_line(alloc, registry, pass, id, antecedent, consequent, module_name),
         Request::Simplify { state, module_name } => {
-            match rules_at(alloc, registry, pass, &module_name)? {
-                Some(rules) => simplified_line(alloc, &rules, id, state),
-                None => no_module_line(alloc, id, module_name),
-            }
+            simplify_line(alloc, registry, pass, id, state, module_name)
         }
         Request::AddModule { text, name_as_id } => {
             added_line(alloc, registry, pass, id, text, name_as_id)
@@ -132,11 +140,53 @@ fn execute_line(
 ) -> Result<Vec<u8>, AllocError>
     requires pass { IsPass pass.old }
     ensures pass { pass.new ≡ pass.old }
-    ensures { IfOk result (λ line. (o : Opening) (book : List Registration) → HasSeenAt registry.now pass.old o book → IsLineIn o book (options_view options).module_name (id_view id.now) (λ s. IsExecutedAs s (id_view id.now) (options_view options) (reading_view state)) line.items) }
+    ensures { IfOk result (λ line. (o : Opening) (book : List Registration) → HasSeenAt registry.now pass.old o book →
+        IsLineOf (IsReplyIn o book (options_view options).module_name (id_view id.now) (λ s. IsExecutedAs s (id_view id.now) (options_view options) (reading_view state))) line.items) }
 {
     match rules_at(alloc, registry, pass, &options.module_name)? {
         Some(rules) => executed_line(alloc, &rules, id, state, &options),
         None => no_module_line(alloc, id, options.module_name),
+    }
+}
+
+/// The reply to a request of implies.
+fn implies_line(
+    alloc: Global,
+    registry: &Registry,
+    pass: &mut Pass,
+    id: &Id,
+    antecedent: Reading,
+    consequent: Reading,
+    module_name: Option<String>,
+) -> Result<Vec<u8>, AllocError>
+    requires pass { IsPass pass.old }
+    ensures pass { pass.new ≡ pass.old }
+    ensures { IfOk result (λ line. (o : Opening) (book : List Registration) → HasSeenAt registry.now pass.old o book →
+        IsLineOf (IsReplyIn o book (name_view module_name) (id_view id.now) (λ s. IsImpliedAs s (id_view id.now) (name_view module_name) (reading_view antecedent) (reading_view consequent))) line.items) }
+{
+    match rules_at(alloc, registry, pass, &module_name)? {
+        Some(rules) => implied_line(alloc, &rules, id, antecedent, consequent),
+        None => no_module_line(alloc, id, module_name),
+    }
+}
+
+/// The reply to a request of simplify.
+fn simplify_line(
+    alloc: Global,
+    registry: &Registry,
+    pass: &mut Pass,
+    id: &Id,
+    state: Reading,
+    module_name: Option<String>,
+) -> Result<Vec<u8>, AllocError>
+    requires pass { IsPass pass.old }
+    ensures pass { pass.new ≡ pass.old }
+    ensures { IfOk result (λ line. (o : Opening) (book : List Registration) → HasSeenAt registry.now pass.old o book →
+        IsLineOf (IsReplyIn o book (name_view module_name) (id_view id.now) (λ s. IsSimplifiedAs s (id_view id.now) (reading_view state))) line.items) }
+{
+    match rules_at(alloc, registry, pass, &module_name)? {
+        Some(rules) => simplified_line(alloc, &rules, id, state),
+        None => no_module_line(alloc, id, module_name),
     }
 }
 
@@ -149,10 +199,11 @@ fn rules_at(
 ) -> Result<Option<Arc<RuleSet>>, AllocError>
     requires pass { IsPass pass.old }
     ensures pass { pass.new ≡ pass.old }
-    ensures { IfOk result (λ rules. (o : Opening) (book : List Registration) → HasSeenAt registry.now pass.old o book → MeansAt o book (module_asked o (name_view asked.now)) (option_map (λ r. r.value) rules)) }
+    ensures means { IfOk result (λ rules. (o : Opening) (book : List Registration) → HasSeenAt registry.now pass.old o book → MeansAt o book (module_asked o (name_view asked.now)) (option_map (λ r. r.value) rules)) }
+    ensures named { IfOk result (λ rules. IsSome rules ⊎ IsSome asked.now) }
 {
     match asked {
-        Some(name) => look(alloc, registry, pass, name.as_str()),
+        Some(name) => registry.look(alloc, pass, name.as_str()),
         None => Ok(Some(registry.table().shared()?)),
     }
 }

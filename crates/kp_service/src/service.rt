@@ -1,4 +1,4 @@
-// The service, and what is looked up of its book.
+// The service.
 ghost use Rattle.kp_registry.specs.Passes.{IsPass};
 ghost use Rattle.kp_service.specs.Answers.{IsAnswer, IsBegun};
 ghost use Rattle.kp_service.specs.Served.{HasSeenAt};
@@ -9,11 +9,10 @@ use kp_conn::Answerer;
 use kp_registry::{Pass, Registry};
 use kp_requests::{Parsed, request_of};
 use kp_rpc::{Id, refusal_text};
-use kp_rules::RuleSet;
 use std::alloc::{AllocError, Global};
-use std::sync::Arc;
 
-/// Answers frames over a book of modules.
+/// Answers frames over a book of modules: each call at the book that the pass has seen, which grows by the modules that
+/// calls add.
 #[derive(Drop)]
 pub struct Service {
     pub registry: Registry,
@@ -46,15 +45,4 @@ impl Answerer for Service {
             )?))),
         }
     }
-}
-
-/// The rule set that a name means.
-pub fn look(
-    alloc: Global,
-    registry: &Registry,
-    pass: &mut Pass,
-    name: &str,
-) -> Result<Option<Arc<RuleSet>>, AllocError> {
-    let _alloc = alloc;
-    registry.look(pass, name)
 }

@@ -1,0 +1,82 @@
+-- The module that is asked, and what is served of it; calls that leave the book.
+use Rattle.std.proofs.Common.{◌≡◌, refl, sym, ap, subst, ◌∙◌, ℕ, List, [], ◌∷◌, Option, Some, None, string_bytes}
+use Rattle.std.specs.Option.{option_map}
+use Rattle.std.specs.declared.alloc.Global.{Global}
+use Rattle.std.specs.Prelude.{String}
+use Rattle.serde_json.specs.Data.{Data}
+use Rattle.kp_kore.specs.Syntax.{Text}
+use Rattle.kp_signature.specs.View.{signature_view}
+use Rattle.kp_rules.specs.Bodies.{RunsAs}
+use Rattle.kp_rules.specs.declared.rule.RuleSet.{RuleSet}
+use Rattle.kp_rpc.specs.Request.{RequestId}
+use Rattle.kp_rpc.specs.Reply.{error_reply, no_module, reply_bytes}
+use Rattle.kp_requests.specs.Requests.{Asked}
+use Rattle.kp_book.specs.Books.{Opening, Registration, meaning_in, first_of, rules_bound}
+use Rattle.kp_modules.specs.Made.{IsSetOf}
+use Rattle.kp_modules.specs.Openings.{IsTableOf}
+use Rattle.kp_modules.specs.Tables.{rule_set_of}
+use Rattle.kp_registry.specs.Passes.{MeansAt}
+use Rattle.kp_registry.specs.declared.book.Registry.{Registry}
+use Rattle.kp_registry.specs.declared.seen.Pass.{Pass}
+use Rattle.kp_conn.specs.Conversations.{ForEachSeen, Sees}
+use Rattle.kp_server.specs.Setting.{IsElsewhere, Setting}
+use Rattle.kp_service.proofs.Growing.{grows_none}
+use Rattle.kp_service.specs.Answered.{IsReplyIn, no_such_module, in_module}
+use Rattle.kp_service.specs.Answers.{IsReplyTo}
+use Rattle.kp_service.specs.Batches.{IsReplyLine, line_told, MayHaveDone, did_nothing}
+use Rattle.kp_service.specs.Meant.{IsServedAt, module_asked}
+use Rattle.kp_service.specs.Served.{HasSeenAt}
+use Rattle.kp_service.specs.Told.{IsLineOf}
+
+-- ---- the module that is asked
+
+-- main means the rule set of the table
+pub main_means : (o : Opening) (book : List Registration) (registry : Registry) → IsTableOf o registry.table → (rules : RuleSet) → rules ≡ rule_set_of registry.table → MeansAt o book o.main (Some rules)
+main_means o book registry t rules is = (t.axioms, ap (λ m. first_of m (rules_bound book o.main)) t.bound, subst (IsSetOf o.signature t.axioms) (sym is) t.rules)
+
+-- what is served where a module is asked that means this rule set
+pub record Serves (o : Opening) (book : List Registration) (asked : Option Text) (rules : RuleSet) : Type 0 where
+  pub setting : Setting
+  pub served : IsServedAt o book asked setting
+  pub runs : RunsAs setting.theory rules
+  pub here : ¬ IsElsewhere setting.main asked
+
+not_elsewhere : (o : Opening) (asked : Option Text) → ¬ IsElsewhere (module_asked o asked) asked
+not_elsewhere o None e = e
+not_elsewhere o (Some name) e = e refl
+
+pub serves : (o : Opening) (book : List Registration) (asked : Option Text) (rules : RuleSet) → MeansAt o book (module_asked o asked) (Some rules) → Serves o book asked rules
+serves o book asked rules m = record {
+  setting = record { theory = record { signature = o.signature; rules = m.2.made.meant }; main = module_asked o asked; names = module_asked o asked ∷ [] };
+  served = record { axioms = m.0; bound = m.1; means = record { signature = refl; rules = m.2.made.are_rules }; main_is = refl; names_are = refl };
+  runs = record { signature = m.2.signature; each = m.2.made.are_code };
+  here = not_elsewhere o asked;
+}
+
+-- ---- lines
+
+-- the line that is right over what is served
+pub in_module_line : (o : Opening) (book : List Registration) (asked : Option Text) (id : RequestId) (RightOver : Setting → Data → Type 0) (s : Setting) → IsServedAt o book asked s →
+    (line : List ℕ) → IsLineOf (RightOver s) line → IsLineOf (IsReplyIn o book asked id RightOver) line
+in_module_line o book asked id RightOver s served line l = (l.0, in_module s l.0 served l.1, l.2)
+
+-- the line with code 3, where the name that is asked means nothing
+pub no_module_line : (o : Opening) (book : List Registration) (asked : Option (String Global)) (name : String Global) (id : RequestId) (RightOver : Setting → Data → Type 0) → asked ≡ Some name → MeansAt o book (module_asked o (option_map string_bytes asked)) None →
+    (line : List ℕ) → line ≡ reply_bytes (error_reply id (no_module (string_bytes name))) → IsLineOf (IsReplyIn o book (option_map string_bytes asked) id RightOver) line
+no_module_line o book asked name id RightOver is none line l =
+    (error_reply id (no_module (string_bytes name)), no_such_module (string_bytes name) (ap (option_map string_bytes) is, subst (λ a. meaning_in o book (module_asked o (option_map string_bytes a)) ≡ None) is none), l)
+
+-- ---- what was seen stays
+
+-- the pass is the one before, and this holds of what it has seen
+pub stays : (registry : Registry) (before after : Pass) (Holds : Opening → List Registration → List Registration → Type 0) → after ≡ before →
+    ((o : Opening) (book : List Registration) → HasSeenAt registry before o book → Holds o book book) → ForEachSeen (HasSeenAt registry before) (HasSeenAt registry after) Holds
+stays registry before after Holds same h o book seen = record { after = book; seen = subst (λ p. HasSeenAt registry p o book) (sym same) seen; grows = grows_none book; holds = h o book seen }
+
+pub nothing_done : (registry : Registry) (before after : Pass) (asked : Asked) → after ≡ before → ForEachSeen (HasSeenAt registry before) (HasSeenAt registry after) (λ o book. MayHaveDone o book asked)
+nothing_done registry before after asked same = stays registry before after (λ o book. MayHaveDone o book asked) same (λ o book seen. did_nothing)
+
+-- a line that is right, of a call that leaves the book
+pub line_stays : (registry : Registry) (before after : Pass) (id : RequestId) (asked : Asked) (line : List ℕ) → after ≡ before →
+    ((o : Opening) (book : List Registration) → HasSeenAt registry before o book → IsLineOf (IsReplyTo o book id asked) line) → ForEachSeen (HasSeenAt registry before) (HasSeenAt registry after) (λ o book. IsReplyLine o book id asked line)
+line_stays registry before after id asked line same h = stays registry before after (λ o book. IsReplyLine o book id asked line) same (λ o book seen. let l = h o book seen in line_told l.0 l.1 l.2)
