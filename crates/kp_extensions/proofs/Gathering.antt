@@ -14,9 +14,9 @@ use Rattle.kp_semantics.specs.Theory.{NumberedAxiom}
 use Rattle.kp_rules.specs.declared.rule.Rule.{Rule}
 use Rattle.kp_book.specs.Books.{is_same_axiom, each_axiom_once}
 use Rattle.kp_extensions.specs.Extending.{IsTakenFrom, AreTakenFrom, AreGathered, name_by_number}
-use Rattle.kp_modules.specs.Names.{Lists}
-use Rattle.kp_modules.specs.Reaching.{has}
-use Rattle.kp_modules.proofs.Collect.{all_append, false_true}
+use Rattle.kp_imports.specs.Names.{Lists}
+use Rattle.kp_imports.specs.Reaching.{has}
+use Rattle.kp_imports.proofs.Collect.{all_append, false_true}
 use Rattle.kp_extensions.proofs.Numbering.{same_among}
 
 -- ---- two lists of one length

@@ -11,8 +11,8 @@ use Rattle.kp_kore.specs.Syntax.{Text}
 use Rattle.kp_semantics.specs.Theory.{NumberedAxiom}
 use Rattle.kp_book.specs.Books.{is_same_axiom}
 use Rattle.kp_extensions.specs.Extending.{name_by_number}
-use Rattle.kp_modules.specs.Reaching.{has}
-use Rattle.kp_modules.proofs.Collect.{all_append, false_true}
+use Rattle.kp_imports.specs.Reaching.{has}
+use Rattle.kp_imports.proofs.Collect.{all_append, false_true}
 
 -- no mark that stands before a number
 abbrev HasNoMark : List ℕ → Type 0

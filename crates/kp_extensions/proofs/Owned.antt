@@ -11,14 +11,14 @@ use Rattle.kp_rules.specs.declared.rule.RuleSet.{RuleSet}
 use Rattle.kp_book.specs.Books.{Opening, rules_in}
 use Rattle.kp_modules.specs.Keeping.{own_axioms, own_rules}
 use Rattle.kp_modules.specs.Made.{IsSetOf}
-use Rattle.kp_modules.specs.Names.{names_of}
+use Rattle.kp_imports.specs.Names.{names_of}
 use Rattle.kp_modules.specs.Openings.{IsTableOf}
-use Rattle.kp_modules.specs.Reaching.{has}
+use Rattle.kp_imports.specs.Reaching.{has}
 use Rattle.kp_modules.specs.Tables.{rule_set_of}
 use Rattle.kp_modules.specs.declared.table.Table.{Table}
 use Rattle.kp_modules.proofs.Kept.{axioms_parted}
 use Rattle.kp_modules.proofs.Opened.{bound_where}
-use Rattle.kp_modules.proofs.Walking.{some_same}
+use Rattle.kp_imports.proofs.Walking.{some_same}
 use Rattle.kp_extensions.specs.Extending.{IsTakenFrom}
 use Rattle.kp_extensions.proofs.Taken.{of_set}
 

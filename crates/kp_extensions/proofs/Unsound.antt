@@ -15,7 +15,7 @@ use Rattle.kp_extensions.specs.Extending.{AreAllSound, ExtendFault, IsExtendFaul
 use Rattle.kp_modules.specs.declared.axioms.RewriteAxiom.{RewriteAxiom}
 use Rattle.kp_extensions.specs.declared.extend_error.ExtendError.{ExtendError}
 use Rattle.kp_extensions.specs.declared.extend_error.ExtendError.TheVariants.{Memory, RuleFault}
-use Rattle.kp_modules.proofs.Collect.{all_append}
+use Rattle.kp_imports.proofs.Collect.{all_append}
 use Rattle.kp_modules.proofs.Firsts.{parted}
 use Rattle.kp_modules.proofs.Ruled.{axioms_more}
 

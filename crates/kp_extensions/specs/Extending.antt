@@ -21,7 +21,7 @@ use Rattle.kp_rules.specs.declared.rule.Rewrite as code
 use Rattle.kp_rules.specs.declared.skeleton.Skeleton.{Skeleton}
 use Rattle.kp_book.specs.Books.{each_axiom_once}
 use Rattle.kp_modules.specs.Made.{IsSetOf}
-use Rattle.kp_modules.specs.Names.{Lists}
+use Rattle.kp_imports.specs.Names.{Lists}
 use Rattle.kp_modules.specs.Sources.{IsSourceOf}
 use Rattle.kp_extensions.specs.declared.extend_error.ExtendError.{ExtendError}
 use Rattle.kp_extensions.specs.declared.extend_error.ExtendError.TheVariants as error

@@ -11,8 +11,8 @@ ghost use Rattle.kp_modules.specs.Labels.{Counts};
 ghost use Rattle.kp_modules.specs.Made.{IsMadeOf, AreMadeOf, IsSetOf};
 
 use indexmap::IndexMap;
+use kp_imports::repeated::{Met, meet};
 use kp_modules::labels::{Labels, add_label, rule_id};
-use kp_modules::repeated::{Met, meet};
 use kp_rules::{Rule, RuleSet};
 use kp_signature::Signature;
 use std::alloc::{AllocError, Global};

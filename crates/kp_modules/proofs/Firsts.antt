@@ -12,13 +12,13 @@ use Rattle.kp_signature.specs.Table.{sort_names, symbol_names}
 use Rattle.kp_signature.specs.View.{sentences_of}
 use Rattle.kp_rules.specs.Bodies.{IsFaulty}
 use Rattle.kp_modules.specs.Axioms.{axiom_view, axioms_view}
-use Rattle.kp_modules.specs.Faults.{Fault, unknown_import, import_cycle, duplicate_sort, duplicate_symbol, duplicate_module, rule_fault, no_main_module, rank, IsUnknown, IsCyclic, IsImportFault, IsFaultOf, IsFaultyAmong, IsFirstFaulty, IsFirstFault, AreSound, HasNoFault, signature_reached, axioms_reached}
-use Rattle.kp_modules.specs.Names.{names_of, IsFirstRepeated, AreOnce}
+use Rattle.kp_imports.specs.Faults.{Fault, unknown_import, import_cycle, duplicate_sort, duplicate_symbol, duplicate_module, rule_fault, no_main_module, rank, IsUnknown, IsCyclic, IsImportFault, IsFaultOf, IsFaultyAmong, IsFirstFaulty, IsFirstFault, AreSound, HasNoFault, signature_reached, axioms_reached}
+use Rattle.kp_imports.specs.Names.{names_of, IsFirstRepeated, AreOnce}
 use Rattle.kp_modules.specs.declared.axioms.RewriteAxiom.{RewriteAxiom}
-use Rattle.kp_modules.proofs.Collect.{all_append}
+use Rattle.kp_imports.proofs.Collect.{all_append}
 use Rattle.kp_modules.proofs.Ruled.{axioms_more, sentences_seen}
-use Rattle.kp_modules.proofs.Seen.{all_at}
-use Rattle.kp_modules.proofs.Twice.{stands_twice}
+use Rattle.kp_imports.proofs.Seen.{all_at}
+use Rattle.kp_imports.proofs.Twice.{stands_twice}
 
 -- ---- rewrite axioms
 

@@ -14,17 +14,17 @@ use Rattle.kp_kore.specs.declared.sentence.Module.{Module}
 use Rattle.kp_semantics.specs.Theory.{modules_reached, names_reached, rewrite_axioms}
 use Rattle.kp_rules.specs.declared.rule.Rule.{Rule}
 use Rattle.kp_signature.specs.Names.{first_place}
-use Rattle.kp_modules.specs.Faults.{Fault, IsImportFault, fault_view}
+use Rattle.kp_imports.specs.Faults.{Fault, IsImportFault, fault_view}
 use Rattle.kp_modules.specs.Keeping.{outline, own_axioms, spans_from, span_view, KeepsReached, StandsAt, own_rules}
-use Rattle.kp_modules.specs.Names.{names_of, module_names}
-use Rattle.kp_modules.specs.Reaching.{has}
-use Rattle.kp_modules.specs.Walks.{IsLaidOut, IsOver}
-use Rattle.kp_modules.specs.declared.fault.LoadError.{LoadError}
+use Rattle.kp_imports.specs.Names.{names_of, module_names}
+use Rattle.kp_imports.specs.Reaching.{has}
+use Rattle.kp_imports.specs.Walks.{IsLaidOut, IsOver}
+use Rattle.kp_imports.specs.declared.fault.LoadError.{LoadError}
 use Rattle.kp_modules.specs.declared.outlines.RuleSpan.{RuleSpan}
 use Rattle.kp_modules.specs.declared.table.Table.{Table}
-use Rattle.kp_modules.proofs.Collect.{false_true, or_true}
+use Rattle.kp_imports.proofs.Collect.{false_true, or_true}
 use Rattle.kp_modules.proofs.Outlined.{names_named, same_names, no_fault_kept, stands_at}
-use Rattle.kp_modules.proofs.Walking.{bool_not, some_same}
+use Rattle.kp_imports.proofs.Walking.{bool_not, some_same}
 
 pub kept : (d : KoreDefinition) (main : Text) (t : Table) (ms ks : List (Bor Module)) → map (λ m. module_view m.now) ms ≡ modules_reached d main → map (λ m. module_view m.now) ks ≡ modules_reached d main →
     IsLaidOut d.modules (names_reached (length d.modules) d.modules main) → map (λ m. outline (module_view m)) t.modules.items ≡ map (λ m. outline (module_view m.now)) ms →

@@ -13,10 +13,10 @@ use Rattle.std.specs.Fmt.{decimal}
 use Rattle.kp_semantics.specs.Theory.{NumberedAxiom, label_of, labels_of, rule_id}
 use Rattle.kp_modules.specs.Axioms.{axiom_view, axioms_view}
 use Rattle.kp_modules.specs.Labels.{stands_once}
-use Rattle.kp_modules.specs.Reaching.{has}
+use Rattle.kp_imports.specs.Reaching.{has}
 use Rattle.kp_modules.specs.declared.axioms.RewriteAxiom.{RewriteAxiom}
-use Rattle.kp_modules.proofs.Collect.{has_more, or_true, or_false, false_true}
-use Rattle.kp_modules.proofs.Twice.{count_more, none_counted, some_counted}
+use Rattle.kp_imports.proofs.Collect.{has_more, or_true, or_false, false_true}
+use Rattle.kp_imports.proofs.Twice.{count_more, none_counted, some_counted}
 
 -- what is told of a name that stands so often
 abbrev told : Bool → ℕ → Option Bool

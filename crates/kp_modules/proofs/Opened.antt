@@ -7,16 +7,16 @@ use Rattle.std.proofs.lemmas.Slice.Eq.{bytes_eq-Decides}
 use Rattle.kp_kore.specs.Syntax.{Text, KoreModule, KoreDefinition}
 use Rattle.kp_semantics.specs.Theory.{NumberedAxiom, modules_reached, module_named, names_reached, imports_in, sentences_of, rewrite_axioms}
 use Rattle.kp_book.specs.Books.{rules_in}
-use Rattle.kp_modules.specs.Faults.{signature_reached}
+use Rattle.kp_imports.specs.Faults.{signature_reached}
 use Rattle.kp_modules.specs.Keeping.{KeepsReached}
 use Rattle.kp_modules.specs.Made.{IsSetOf}
-use Rattle.kp_modules.specs.Names.{names_of}
+use Rattle.kp_imports.specs.Names.{names_of}
 use Rattle.kp_modules.specs.Openings.{IsTableOf, bound_in, opening_of}
-use Rattle.kp_modules.specs.Reaching.{has}
+use Rattle.kp_imports.specs.Reaching.{has}
 use Rattle.kp_modules.specs.Tables.{rule_set_of, main_of, does_reach}
 use Rattle.kp_modules.specs.declared.table.Table.{Table}
-use Rattle.kp_modules.proofs.Chains.{last_there}
-use Rattle.kp_modules.proofs.Collect.{each_once_is, false_true, has_collect}
+use Rattle.kp_imports.proofs.Chains.{last_there}
+use Rattle.kp_imports.proofs.Collect.{each_once_is, false_true, has_collect}
 
 -- a name of one of the modules means what that module reaches
 pub bound_where : (d : KoreDefinition) (ms : List KoreModule) (n : Text) → rules_in (bound_in d ms) n ≡ cond (has n (names_of ms)) (Some (rewrite_axioms (modules_reached d n))) None

@@ -10,16 +10,16 @@ use Rattle.kp_kore.specs.View.{module_view}
 use Rattle.kp_kore.specs.declared.sentence.Module.{Module}
 use Rattle.kp_semantics.specs.Theory.{each_once, imports_in, module_named, modules_reached, names_reached, sentences_of}
 use Rattle.kp_signature.specs.Names.{first_place}
-use Rattle.kp_modules.specs.Faults.{Fault, unknown_import, import_cycle, duplicate_sort, duplicate_symbol, duplicate_module, rule_fault, no_main_module, Leads, stays, goes, IsImportFault}
+use Rattle.kp_imports.specs.Faults.{Fault, unknown_import, import_cycle, duplicate_sort, duplicate_symbol, duplicate_module, rule_fault, no_main_module, Leads, stays, goes, IsImportFault}
 use Rattle.kp_modules.specs.Keeping.{outline, StandsAt}
-use Rattle.kp_modules.specs.Names.{names_of}
-use Rattle.kp_modules.specs.Reaching.{has, imports_of, AllIn, IsClosed}
-use Rattle.kp_modules.specs.Walks.{IsLaidOut, IsOver}
-use Rattle.kp_modules.proofs.Acyclic.{found_named, in_all, leads_in}
-use Rattle.kp_modules.proofs.Collect.{false_true, flat_same, or_cases}
+use Rattle.kp_imports.specs.Names.{names_of}
+use Rattle.kp_imports.specs.Reaching.{has, imports_of, AllIn, IsClosed}
+use Rattle.kp_imports.specs.Walks.{IsLaidOut, IsOver}
+use Rattle.kp_imports.proofs.Acyclic.{found_named, in_all, leads_in}
+use Rattle.kp_imports.proofs.Collect.{false_true, flat_same, or_cases}
 use Rattle.kp_modules.proofs.Opened.{named_so}
-use Rattle.kp_modules.proofs.Settled.{all_reached}
-use Rattle.kp_modules.proofs.Walking.{bool_not}
+use Rattle.kp_imports.proofs.Settled.{all_reached}
+use Rattle.kp_imports.proofs.Walking.{bool_not}
 
 -- ---- after a walk
 

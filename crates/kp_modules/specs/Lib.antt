@@ -1,11 +1,7 @@
 pub mod Axioms
-pub mod Faults
 pub mod Keeping
 pub mod Labels
 pub mod Made
-pub mod Names
 pub mod Openings
-pub mod Reaching
 pub mod Sources
 pub mod Tables
-pub mod Walks

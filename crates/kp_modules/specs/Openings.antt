@@ -5,7 +5,7 @@ use Rattle.std.specs.Option.{is_some}
 use Rattle.kp_kore.specs.Syntax.{Text, KoreModule, KoreDefinition}
 use Rattle.kp_semantics.specs.Theory.{NumberedAxiom, modules_reached, rewrite_axioms}
 use Rattle.kp_book.specs.Books.{Opening, rules_in}
-use Rattle.kp_modules.specs.Faults.{signature_reached}
+use Rattle.kp_imports.specs.Faults.{signature_reached}
 use Rattle.kp_modules.specs.Keeping.{KeepsReached}
 use Rattle.kp_modules.specs.Made.{IsSetOf}
 use Rattle.kp_modules.specs.Tables.{rule_set_of, main_of, does_reach}

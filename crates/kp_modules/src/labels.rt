@@ -11,7 +11,8 @@ ghost use Rattle.kp_modules.specs.Sources.{IsSourceOf};
 use crate::axioms::RewriteAxiom;
 use indexmap::IndexMap;
 use kp_kore::Name;
-use kp_rules::{RuleSource, label_of};
+use kp_rule_reading::label_of;
+use kp_rules::RuleSource;
 use std::alloc::{AllocError, Global};
 use std::sync::Arc;
 

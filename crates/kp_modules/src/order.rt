@@ -3,14 +3,14 @@ ghost use Rattle.std.specs.Prelude.{◌≡◌, ◌<◌, IfOk, IfErr, OnOk, None,
 ghost use Rattle.std.specs.List.{AllByRecursion};
 ghost use Rattle.kp_kore.specs.View.{module_view, definition_view};
 ghost use Rattle.kp_semantics.specs.Theory.{modules_reached, module_named, names_reached};
-ghost use Rattle.kp_modules.specs.Faults.{Fault, TellsFirst, IsImportFault};
-ghost use Rattle.kp_modules.specs.Names.{AreOnce, names_of};
-ghost use Rattle.kp_modules.specs.Walks.{IsLaidOut};
+ghost use Rattle.kp_imports.specs.Faults.{Fault, TellsFirst, IsImportFault};
+ghost use Rattle.kp_imports.specs.Names.{AreOnce, names_of};
+ghost use Rattle.kp_imports.specs.Walks.{IsLaidOut};
 
-use crate::fault::{LoadError, ModuleFault};
-use crate::names::{check_names, module_places};
-use crate::unknown::check_imports;
-use crate::walk::places_in_order;
+use kp_imports::fault::{LoadError, ModuleFault};
+use kp_imports::names::{check_names, module_places};
+use kp_imports::unknown::check_imports;
+use kp_imports::walk::places_in_order;
 use kp_kore::{Definition, Module};
 use std::alloc::{AllocError, Global};
 

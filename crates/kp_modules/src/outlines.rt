@@ -5,7 +5,7 @@ ghost use Rattle.kp_semantics.specs.Theory.{imports_in};
 ghost use Rattle.kp_modules.specs.Keeping.{outline, own_axioms, span_view, spans_from};
 
 use crate::axioms::{RewriteAxiom, add_axioms};
-use crate::imports::import_of;
+use kp_imports::imports::import_of;
 use kp_kore::{Module, Name, Sentence};
 use std::alloc::{AllocError, Global};
 

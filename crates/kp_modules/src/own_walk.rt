@@ -4,14 +4,14 @@ ghost use Rattle.std.specs.Option.{is_some};
 ghost use Rattle.kp_kore.specs.Syntax.{Text};
 ghost use Rattle.kp_kore.specs.View.{module_view};
 ghost use Rattle.kp_signature.specs.Names.{Indexes, first_place};
-ghost use Rattle.kp_modules.specs.Faults.{Fault, IsImportFault, fault_view};
-ghost use Rattle.kp_modules.specs.Names.{PlacesAreBelow, module_names};
-ghost use Rattle.kp_modules.specs.Walks.{IsOver};
+ghost use Rattle.kp_imports.specs.Faults.{Fault, IsImportFault, fault_view};
+ghost use Rattle.kp_imports.specs.Names.{PlacesAreBelow, module_names};
+ghost use Rattle.kp_imports.specs.Walks.{IsOver};
 
-use crate::fault::LoadError;
-use crate::names::{NamePlaces, module_places};
 use crate::table::Table;
-use crate::walk::places_in_order;
+use kp_imports::fault::LoadError;
+use kp_imports::names::{NamePlaces, module_places};
+use kp_imports::walk::places_in_order;
 use kp_kore::Module;
 use kp_rules::Rule;
 use std::alloc::{AllocError, Global};
@@ -21,8 +21,8 @@ impl Table {
     ghost use Rattle.kp_kore.specs.Syntax.{Text, KoreDefinition, KoreModule};
     ghost use Rattle.kp_semantics.specs.Theory.{modules_reached, rewrite_axioms};
     ghost use Rattle.kp_modules.specs.Keeping.{KeepsReached, StandsAt, own_rules};
-    ghost use Rattle.kp_modules.specs.Names.{names_of};
-    ghost use Rattle.kp_modules.specs.Reaching.{has};
+    ghost use Rattle.kp_imports.specs.Names.{names_of};
+    ghost use Rattle.kp_imports.specs.Reaching.{has};
     ghost use Rattle.kp_modules.specs.Tables.{rule_set_of};
 
     /// The places, among the modules that main reaches, of those that the module of this name reaches, in the order of

@@ -6,7 +6,7 @@ use Rattle.kp_io.specs.Outside.{Names, HoldsMore, Rose, load_limit}
 use Rattle.kp_text.specs.Spelling.{SpellsDefinition}
 use Rattle.kp_text.proofs.CompleteModules.{one_definition}
 use Rattle.kp_text.proofs.FirstFaults.{not_definition_and_fault}
-use Rattle.kp_modules.specs.Faults.{HasNoFault, IsFirstFault}
+use Rattle.kp_imports.specs.Faults.{HasNoFault, IsFirstFault}
 use Rattle.kp_program.specs.Faults.{too_long, in_text, in_modules, in_claims, IsFileFault, IsFaultless}
 use Rattle.kp_program.specs.Statuses.{Ending, memory, exit_status, line_of, IsCause, Tells}
 use Rattle.kp_program.specs.Troubles.{EndsAs, IsFileAbsent, IsFaulty, IsLate, ending_of}
@@ -14,8 +14,8 @@ use Rattle.kp_program.specs.Words.{NamesDefinition}
 use Rattle.kp_program.specs.declared.trouble.Trouble.{Trouble}
 use Rattle.kp_program.specs.declared.trouble.Trouble.TheVariants as trouble
 use Rattle.kp_semantics.specs.Theory.{Theory, IsTheoryOf, modules_reached}
-use Rattle.kp_modules.specs.Names.{names_of}
-use Rattle.kp_modules.specs.Reaching.{has}
+use Rattle.kp_imports.specs.Names.{names_of}
+use Rattle.kp_imports.specs.Reaching.{has}
 use Rattle.kp_modules.specs.Tables.{RunsTable, does_reach, main_of}
 use Rattle.kp_modules.specs.declared.table.Table.{Table}
 use Rattle.kp_program.specs.Inputs.{IsTableOf}

@@ -7,7 +7,7 @@ use Rattle.kp_kore.specs.Signature.{KoreSignature}
 use Rattle.kp_io.specs.Outside.{load_limit}
 use Rattle.kp_text.specs.Spelling.{IsDefinitionText, IsFaultOf, SpellsDefinition}
 use Rattle.kp_text.specs.declared.fault.TextFault.{TextFault}
-use Rattle.kp_modules.specs.Faults.{Fault, IsFirstFault}
+use Rattle.kp_imports.specs.Faults.{Fault, IsFirstFault}
 use Rattle.kp_claims.specs.Claims.{counted}
 use Rattle.kp_claims.specs.Faults as claims
 use Rattle.kp_claims.specs.Files.{IsFileText, SpellsFile}

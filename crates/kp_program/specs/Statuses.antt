@@ -6,7 +6,7 @@ use Rattle.std.specs.Io.KnownBytes.{Appends}
 use Rattle.kp_kore.specs.Syntax.{Text}
 use Rattle.kp_io.specs.Outside.{Names}
 use Rattle.kp_text.specs.Kinds.{kind_number}
-use Rattle.kp_modules.specs.Faults.{fault_code}
+use Rattle.kp_imports.specs.Faults.{fault_code}
 use Rattle.kp_program.specs.Faults.{FileFault, too_long, in_text, in_modules, in_claims, IsFileFault, IsFaultless, IsClaimsFault, AreFaultlessClaims, claim_code}
 use Rattle.kp_program.specs.Loaded.{IsLoaded}
 use Rattle.kp_program.specs.Served.{GainsFront}

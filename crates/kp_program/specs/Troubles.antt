@@ -3,7 +3,7 @@ use Rattle.std.specs.Prelude.{◌≡◌, ◌⊎◌, ℕ, List, [], Option, Some,
 use Rattle.kp_kore.specs.Syntax.{Text}
 use Rattle.kp_kore.specs.Signature.{KoreSignature}
 use Rattle.kp_claims.specs.Faults as claims
-use Rattle.kp_modules.specs.Faults.{told_fault}
+use Rattle.kp_imports.specs.Faults.{told_fault}
 use Rattle.kp_program.specs.Faults.{FileFault, too_long, in_text, in_modules, in_claims, IsFileFault, IsClaimsFault}
 use Rattle.kp_program.specs.Statuses.{Ending, faulty, no_file, outside, memory, exit_status, line_of, Tells}
 use Rattle.kp_program.specs.declared.trouble.FileFault as code

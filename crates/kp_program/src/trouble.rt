@@ -4,7 +4,7 @@ ghost use Rattle.kp_io.specs.Outside.{Rose, load_limit};
 ghost use Rattle.kp_claims.specs.Faults.{IsErrorOf as AreErrorOf};
 ghost use Rattle.kp_kore.specs.Signature.{KoreSignature};
 ghost use Rattle.kp_kore.specs.Syntax.{KoreDefinition};
-ghost use Rattle.kp_modules.specs.Faults.{TellsFirst};
+ghost use Rattle.kp_imports.specs.Faults.{TellsFirst};
 ghost use Rattle.kp_text.specs.Errors.{IsErrorOf};
 ghost use Rattle.kp_text.specs.Spelling.{IsDefinitionText, SpellsDefinition};
 ghost use Rattle.kp_program.specs.Faults.{IsClaimsFault, IsFileFault};
@@ -12,8 +12,8 @@ ghost use Rattle.kp_program.specs.Statuses.{Tells, faulty, line_of, memory, no_f
 ghost use Rattle.kp_program.specs.Troubles.{AreFaulty, EndsAs, IsFileAbsent, IsFaulty, ending_of, file_fault_view};
 
 use kp_claims::{ClaimError, ClaimFault};
+use kp_imports::{LoadError, ModuleFault};
 use kp_io::{Sink, put_all};
-use kp_modules::{LoadError, ModuleFault};
 use kp_text::{ReadError, TextFault};
 use std::alloc::{AllocError, Global};
 

@@ -1,9 +1,5 @@
 pub mod Bodies
 pub mod Heads
-pub mod Index
 pub mod OwnSorts
-pub mod Priorities
-pub mod Reading
 pub mod Shapes
 pub mod Skeletons
-pub mod Tests

@@ -32,7 +32,7 @@ use Rattle.kp_rpc.specs.View.{id_view, options_view, pattern_fault_view, state_f
 use Rattle.kp_rpc.specs.declared.fault.StateFault.{StateFault}
 use Rattle.kp_rpc.specs.declared.fault.StateFault.TheVariants as fault
 use Rattle.kp_rpc.specs.declared.request.Execute.{Execute}
-use Rattle.kp_modules.specs.Reaching.{has}
+use Rattle.kp_imports.specs.Reaching.{has}
 use Rattle.kp_run.specs.Causes.{IsStateIn, StopsUntold}
 use Rattle.kp_run.proofs.Among.{between_any}
 use Rattle.kp_run.specs.Runs.{IsRunOf, reason_of, written_of}

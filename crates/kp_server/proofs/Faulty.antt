@@ -2,7 +2,7 @@
 use Rattle.std.proofs.Common.{◌≡◌, false, Option, Some, sym, ap, ◌∙◌}
 use Rattle.kp_kore.specs.Syntax.{Text, KoreSort, KorePattern}
 use Rattle.kp_kore.specs.Signature.{KoreSignature}
-use Rattle.kp_modules.specs.Reaching.{has}
+use Rattle.kp_imports.specs.Reaching.{has}
 use Rattle.kp_rpc.specs.Reply.{VerifyFault, unknown_sort, unknown_symbol, other_number, sorts_differ, wide_number, deep_term, no_literal, foreign_symbol, other_shape}
 use Rattle.kp_rpc.specs.View.{pattern_fault_view}
 use Rattle.kp_rpc.specs.declared.fault.StateFault.TheVariants as fault

@@ -4,8 +4,8 @@
 use Rattle.std.specs.Prelude.{◌≡◌, ◌≢◌, true, List, Option, Some, None, ⊤}
 use Rattle.kp_kore.specs.Syntax.{Text, KoreDefinition}
 use Rattle.kp_semantics.specs.Theory.{Theory, IsTheoryOf, modules_reached}
-use Rattle.kp_modules.specs.Names.{names_of}
-use Rattle.kp_modules.specs.Reaching.{has}
+use Rattle.kp_imports.specs.Names.{names_of}
+use Rattle.kp_imports.specs.Reaching.{has}
 use Rattle.kp_modules.specs.Tables.{RunsTable, does_reach, main_of}
 use Rattle.kp_modules.specs.declared.table.Table.{Table}
 

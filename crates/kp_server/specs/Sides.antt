@@ -8,7 +8,7 @@ use Rattle.kp_kore.specs.View.{sort_view}
 use Rattle.kp_semantics.specs.Implied.{Implied, not_valid, valid}
 use Rattle.kp_semantics.specs.Value.{Value}
 use Rattle.kp_ground.specs.View.{value_view}
-use Rattle.kp_modules.specs.Reaching.{has}
+use Rattle.kp_imports.specs.Reaching.{has}
 use Rattle.kp_states.specs.Spelled.{IsOtherShape, first_foreign}
 use Rattle.kp_states.specs.declared.state.State.{State}
 use Rattle.kp_rpc.specs.Causes.{IsImpliesTree}

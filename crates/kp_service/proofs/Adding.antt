@@ -1,5 +1,5 @@
 -- A module that is added, or why it isn't.
-use Rattle.std.proofs.Common.{◌≡◌, ◌<◌, ◌≤◌, refl, sym, ap, subst, ◌∙◌, ℕ, Bool, List, [], ◌∷◌, ◌++◌, length, Option, Some, None, Vec, append-nil, append_assoc, length-append, arith}
+use Rattle.std.proofs.Common.{◌≡◌, refl, sym, ap, ◌∙◌, ℕ, Bool, List, [], ◌∷◌, ◌++◌, Option, Some, None, Vec}
 use Rattle.std.specs.Option.{option_map}
 use Rattle.std.specs.declared.alloc.Global.{Global}
 use Rattle.serde_json.specs.Data.{Data}
@@ -8,87 +8,54 @@ use Rattle.kp_rpc.specs.Reply.{reply_bytes, result_reply}
 use Rattle.kp_replies.specs.Failures.{Failure, bad_sides, undecided, bad_module, duplicate, failure_reply}
 use Rattle.kp_replies.specs.Written.{added_tree}
 use Rattle.kp_requests.specs.Requests.{asks, add_module}
-use Rattle.kp_book.specs.Books.{Opening, Registration, most_entries}
-use Rattle.kp_registry.specs.Legal.{Fits, IsLegal, AreLegalFrom}
-use Rattle.kp_registry.specs.Passes.{HasSeen}
+use Rattle.kp_book.specs.Books.{Opening, Registration}
 use Rattle.kp_registry.specs.declared.book.Registry.{Registry}
 use Rattle.kp_registry.specs.declared.seen.Pass.{Pass}
-use Rattle.kp_additions.specs.Additions.{IsAddition, IsRefusal}
-use Rattle.kp_additions.specs.Told.{TellsRefusal, failure_told}
+use Rattle.kp_additions.specs.Added.{IsRefusedFor}
+use Rattle.kp_additions.specs.Served.{HasSeenAt}
+use Rattle.kp_additions.specs.Told.{IsEntered, TellsRefusal, failure_told}
 use Rattle.kp_additions.specs.declared.error.AdditionError.{AdditionError}
-use Rattle.kp_modules.specs.Openings.{IsTableOf}
 use Rattle.kp_conn.specs.Conversations.{ForEachSeen, Sees}
-use Rattle.kp_service.specs.Added.{IsAdded}
 use Rattle.kp_service.specs.Batches.{IsAddFailure, IsReplyLine, line_told, line_added, IsEffect, adds_nothing, adds, MayHaveDone, did_nothing, did_add}
-use Rattle.kp_service.specs.Served.{HasSeenAt}
 use Rattle.kp_service.proofs.Serving.{stays}
 
--- ---- the entry of a longer legal book
+-- ---- what was entered
 
-last_fits : (o : Opening) (before xs : List Registration) (r : Registration) → AreLegalFrom o before (xs ++ r ∷ []) → Fits o (before ++ xs) r
-last_fits o before [] r p = subst (λ b. Fits o b r) (sym (append-nil before)) p.0
-last_fits o before (x ∷ xs) r p = subst (λ b. Fits o b r) (append_assoc before (x ∷ []) xs) (last_fits o (before ++ x ∷ []) xs r p.1)
+abbrev pub EntersAll : Registry → Pass → Pass → List ℕ → Bool → List ℕ → Type 0
+EntersAll registry before after text flag id = (o : Opening) (book : List Registration) → HasSeenAt registry before o book → IsEntered o book text flag id registry after
 
-room_for : (book : List Registration) (r : Registration) → length (book ++ r ∷ []) ≤ most_entries → length book < most_entries
-room_for book r few = let more : length (book ++ r ∷ []) ≡ length book + 1 = length-append book (r ∷ []) in omega arith
-
-pub added_of : (o : Opening) (book : List Registration) (text : List ℕ) (flag : Bool) (r : Registration) → IsAddition o book text flag r → IsLegal o (book ++ r ∷ []) → IsAdded o book text flag r
-added_of o book text flag r a legal = record { addition = a; fits = last_fits o [] book r legal.entries; room = room_for book r legal.room }
-
--- ---- what add_module tells
-
--- it entered a registration of the text with this id
-pub record IsEntered (o : Opening) (book : List Registration) (text : List ℕ) (flag : Bool) (id : List ℕ) (pass : Pass) : Type 0 where
-  pub registration : Registration
-  pub added : IsAdded o book text flag registration
-  pub id_is : registration.id ≡ id
-  pub seen : HasSeen o.signature (book ++ registration ∷ []) pass
-  pub legal : IsLegal o (book ++ registration ∷ [])
-
-pub entered_of : (o : Opening) (book : List Registration) (text : List ℕ) (flag : Bool) (id : List ℕ) (pass : Pass) →
-    (r : Registration) × IsAddition o book text flag r × (r.id ≡ id) × HasSeen o.signature (book ++ r ∷ []) pass × IsLegal o (book ++ r ∷ []) → IsEntered o book text flag id pass
-entered_of o book text flag id pass h = record { registration = h.0; added = added_of o book text flag h.0 h.1 h.4; id_is = h.2; seen = h.3; legal = h.4 }
-
-abbrev EntersAll : Registry → Pass → Pass → List ℕ → Bool → List ℕ → Type 0
-EntersAll registry before after text flag id = (o : Opening) (book : List Registration) → HasSeenAt registry before o book → IsEntered o book text flag id after
-
-sees_entered : (registry : Registry) (o : Opening) (book : List Registration) (text : List ℕ) (flag : Bool) (id : List ℕ) (after : Pass) (Holds : List Registration → Type 0) → IsTableOf o registry.table → (e : IsEntered o book text flag id after) →
+sees_entered : (registry : Registry) (o : Opening) (book : List Registration) (text : List ℕ) (flag : Bool) (id : List ℕ) (after : Pass) (Holds : List Registration → Type 0) → (e : IsEntered o book text flag id registry after) →
     Holds (book ++ e.registration ∷ []) → Sees (HasSeenAt registry after o) book Holds
-sees_entered registry o book text flag id after Holds table e holds = record {
-  after = book ++ e.registration ∷ [];
-  seen = record { table = table; seen = e.seen; legal = e.legal };
-  grows = (e.registration ∷ [], refl);
-  holds = holds;
-}
+sees_entered registry o book text flag id after Holds e holds = record { after = book ++ e.registration ∷ []; seen = e.seen; grows = (e.registration ∷ [], refl); holds = holds }
 
 pub entered_line : (registry : Registry) (before after : Pass) (text : List ℕ) (flag : Bool) (mid : List ℕ) (id : RequestId) (line : List ℕ) → EntersAll registry before after text flag mid → line ≡ reply_bytes (result_reply id (added_tree mid)) →
     ForEachSeen (HasSeenAt registry before) (HasSeenAt registry after) (λ o book. IsReplyLine o book id (asks (add_module text flag)) line)
 entered_line registry before after text flag mid id line all l o book seen =
-    let e : IsEntered o book text flag mid after = all o book seen in
-    sees_entered registry o book text flag mid after (IsReplyLine o book id (asks (add_module text flag)) line) seen.table e
-    (line_added e.registration e.added (l ∙ ap (λ m. reply_bytes (result_reply id (added_tree m))) (sym e.id_is)))
+    let e : IsEntered o book text flag mid registry after = all o book seen in
+    sees_entered registry o book text flag mid after (IsReplyLine o book id (asks (add_module text flag)) line) e
+    (line_added e.registration e.is_added (l ∙ ap (λ m. reply_bytes (result_reply id (added_tree m))) (sym e.is_id)))
 
 pub entered_silently : (registry : Registry) (before after : Pass) (text : List ℕ) (flag : Bool) (mid : List ℕ) → EntersAll registry before after text flag mid →
     ForEachSeen (HasSeenAt registry before) (HasSeenAt registry after) (λ o book. IsEffect o book (asks (add_module text flag)))
 entered_silently registry before after text flag mid all o book seen =
-    let e : IsEntered o book text flag mid after = all o book seen in
-    sees_entered registry o book text flag mid after (IsEffect o book (asks (add_module text flag))) seen.table e (adds e.registration e.added)
+    let e : IsEntered o book text flag mid registry after = all o book seen in
+    sees_entered registry o book text flag mid after (IsEffect o book (asks (add_module text flag))) e (adds e.registration e.is_added)
 
 pub entered_yet : (registry : Registry) (before after : Pass) (text : List ℕ) (flag : Bool) (mid : List ℕ) → EntersAll registry before after text flag mid →
     ForEachSeen (HasSeenAt registry before) (HasSeenAt registry after) (λ o book. MayHaveDone o book (asks (add_module text flag)))
 entered_yet registry before after text flag mid all o book seen =
-    let e : IsEntered o book text flag mid after = all o book seen in
-    sees_entered registry o book text flag mid after (MayHaveDone o book (asks (add_module text flag))) seen.table e (did_add e.registration e.added)
+    let e : IsEntered o book text flag mid registry after = all o book seen in
+    sees_entered registry o book text flag mid after (MayHaveDone o book (asks (add_module text flag))) e (did_add e.registration e.is_added)
 
 -- ---- refusals
 
--- the book stays, and this is why
-abbrev RefusesAll : Registry → Pass → List ℕ → Bool → Failure → Type 0
-RefusesAll registry before text flag f = (o : Opening) (book : List Registration) → HasSeenAt registry before o book → IsRefusal o book text flag f
+-- whatever the book is, the text isn't added for this cause
+abbrev pub RefusesAll : Registry → Pass → List ℕ → Bool → Failure → Type 0
+RefusesAll registry before text flag f = (o : Opening) (book : List Registration) → HasSeenAt registry before o book → IsRefusedFor o book text flag f
 
 pub refused_all : (registry : Registry) (before : Pass) (text : List ℕ) (flag : Bool) (e : AdditionError) (f : Failure) → failure_told e ≡ Some f →
-    ((o : Opening) (book : List Registration) → IsTableOf o registry.table → HasSeen o.signature book before → TellsRefusal o book text flag e) → RefusesAll registry before text flag f
-refused_all registry before text flag e f is h o book seen = h o book seen.table seen.seen f is
+    ((o : Opening) (book : List Registration) → HasSeenAt registry before o book → TellsRefusal o book text flag e) → RefusesAll registry before text flag f
+refused_all registry before text flag e f is h o book seen = h o book seen f is
 
 pub refused_line_told : (registry : Registry) (before after : Pass) (text : List ℕ) (flag : Bool) (f : Failure) (id : RequestId) (line : List ℕ) → after ≡ before → RefusesAll registry before text flag f →
     (reply : Data) × (failure_reply id f ≡ Some reply) × (line ≡ reply_bytes reply) →

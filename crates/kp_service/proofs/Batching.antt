@@ -4,14 +4,14 @@ use Rattle.serde_json.specs.Data.{Data, array}
 use Rattle.serde_json.specs.Written.{compact_text, items_text}
 use Rattle.kp_rpc.specs.Request.{RequestId}
 use Rattle.kp_requests.specs.Requests.{Asked, Call}
-use Rattle.kp_book.specs.Books.{Opening, Registration, Grows}
-use Rattle.kp_service.proofs.Growing.{grows_on}
+use Rattle.kp_book.specs.Books.{Opening, Registration}
+use Rattle.kp_conn.proofs.Conversing.{sees_behind, sees_more}
 use Rattle.kp_service.specs.Answers.{Adds, IsMember, told, added, silent, added_silently, with_reply, AreMembers, none, next, items_of, batch_reply, IsFront, IsAnswer, alone, together, IsBegun, begun_alone, begun_together}
 use Rattle.kp_conn.specs.Conversations.{ForEachSeen, Sees}
 use Rattle.kp_registry.specs.declared.book.Registry.{Registry}
 use Rattle.kp_registry.specs.declared.seen.Pass.{Pass}
 use Rattle.kp_service.specs.Batches.{IsReplyLine, line_told, line_added, IsEffect, adds_nothing, adds, MayHaveDone, did_nothing, did_add, IsMemberText, texts_behind, batch_front, AreTold, text_then, text_closed, IsNextTold, AreFirstTold, AreMembersText}
-use Rattle.kp_service.specs.Served.{HasSeenAt}
+use Rattle.kp_additions.specs.Served.{HasSeenAt}
 
 -- ---- texts
 
@@ -134,34 +134,23 @@ all_front o before after calls text f = record { done = f.done; more = []; are =
 abbrev pub Changes : Registry → Pass → Pass → (Opening → List Registration → List Registration → Type 0) → Type 0
 Changes registry before after Holds = ForEachSeen (HasSeenAt registry before) (HasSeenAt registry after) Holds
 
-behind : (registry : Registry) (o : Opening) (first : List Registration) (after : Pass) (between : List Registration) (P Q : List Registration → Type 0) → Grows first between → ((later : List Registration) → P later → Q later) →
-    Sees (HasSeenAt registry after o) between P → Sees (HasSeenAt registry after o) first Q
-behind registry o first after between P Q grew f s = record {
-  after = s.after;
-  seen = s.seen;
-  grows = grows_on first between s.after grew s.grows;
-  holds = f s.after s.holds;
-}
-
 pub then_next : (registry : Registry) (first now later : Pass) (calls rest : List Call) (call : Call) (text longer : List ℕ) → Changes registry first now (λ o book. AreFirstTold o book calls text (call ∷ rest)) →
     Changes registry now later (λ o book. IsNextTold o book call text longer) → Changes registry first later (λ o book. AreFirstTold o book calls longer rest)
 then_next registry first now later calls rest call text longer f n o book seen =
     let so_far : Sees (HasSeenAt registry now o) book (AreFirstTold o book calls text (call ∷ rest)) = f o book seen in
-    behind registry o book later so_far.after (IsNextTold o so_far.after call text longer) (AreFirstTold o book calls longer rest) so_far.grows
+    sees_behind (HasSeenAt registry later o) book so_far.after (IsNextTold o so_far.after call text longer) (AreFirstTold o book calls longer rest) so_far.grows
     (λ after p. next_told o book so_far.after after calls rest call text longer so_far.holds p) (n o so_far.after so_far.seen)
 
 pub then_broken : (registry : Registry) (first now later : Pass) (calls rest : List Call) (call : Call) (text : List ℕ) → Changes registry first now (λ o book. AreFirstTold o book calls text (call ∷ rest)) →
     Changes registry now later (λ o book. IsFront o book (call ∷ [])) → Changes registry first later (λ o book. IsFront o book calls)
 then_broken registry first now later calls rest call text f n o book seen =
     let so_far : Sees (HasSeenAt registry now o) book (AreFirstTold o book calls text (call ∷ rest)) = f o book seen in
-    behind registry o book later so_far.after (IsFront o so_far.after (call ∷ [])) (IsFront o book calls) so_far.grows
+    sees_behind (HasSeenAt registry later o) book so_far.after (IsFront o so_far.after (call ∷ [])) (IsFront o book calls) so_far.grows
     (λ after p. front_on o book so_far.after after calls rest call text so_far.holds p) (n o so_far.after so_far.seen)
 
 -- what holds of all that is seen holds in a weaker form
 pub weaker : (registry : Registry) (first now : Pass) (P Q : Opening → List Registration → List Registration → Type 0) → ((o : Opening) (book after : List Registration) → P o book after → Q o book after) → Changes registry first now P → Changes registry first now Q
-weaker registry first now P Q f h o book seen =
-    let s : Sees (HasSeenAt registry now o) book (P o book) = h o book seen in
-    record { after = s.after; seen = s.seen; grows = s.grows; holds = f o book s.after s.holds }
+weaker registry first now P Q f h o book seen = sees_more (HasSeenAt registry now o) book (P o book) (Q o book) (f o book) (h o book seen)
 
 pub told_whole : (registry : Registry) (first now : Pass) (calls : List Call) (text : List ℕ) (array : Option (List ℕ)) → array ≡ text_closed text → Changes registry first now (λ o book. AreFirstTold o book calls text []) →
     Changes registry first now (λ o book. AreMembersText o book calls array)

@@ -18,14 +18,14 @@ use Rattle.kp_modules.specs.Tables.{rule_set_of}
 use Rattle.kp_registry.specs.Passes.{MeansAt}
 use Rattle.kp_registry.specs.declared.book.Registry.{Registry}
 use Rattle.kp_registry.specs.declared.seen.Pass.{Pass}
-use Rattle.kp_conn.specs.Conversations.{ForEachSeen, Sees}
+use Rattle.kp_conn.proofs.Conversing.{sees_same}
+use Rattle.kp_conn.specs.Conversations.{ForEachSeen}
 use Rattle.kp_server.specs.Setting.{IsElsewhere, Setting}
-use Rattle.kp_service.proofs.Growing.{grows_none}
 use Rattle.kp_service.specs.Answered.{IsReplyIn, no_such_module, in_module}
 use Rattle.kp_service.specs.Answers.{IsReplyTo}
 use Rattle.kp_service.specs.Batches.{IsReplyLine, line_told, MayHaveDone, did_nothing}
 use Rattle.kp_service.specs.Meant.{IsServedAt, module_asked}
-use Rattle.kp_service.specs.Served.{HasSeenAt}
+use Rattle.kp_additions.specs.Served.{HasSeenAt}
 use Rattle.kp_service.specs.Told.{IsLineOf}
 
 -- ---- the module that is asked
@@ -71,7 +71,7 @@ no_module_line o book asked name id RightOver is none line l =
 -- the pass is the one before, and this holds of what it has seen
 pub stays : (registry : Registry) (before after : Pass) (Holds : Opening → List Registration → List Registration → Type 0) → after ≡ before →
     ((o : Opening) (book : List Registration) → HasSeenAt registry before o book → Holds o book book) → ForEachSeen (HasSeenAt registry before) (HasSeenAt registry after) Holds
-stays registry before after Holds same h o book seen = record { after = book; seen = subst (λ p. HasSeenAt registry p o book) (sym same) seen; grows = grows_none book; holds = h o book seen }
+stays registry before after Holds same h o book seen = sees_same (HasSeenAt registry after o) (Holds o book) book (subst (λ p. HasSeenAt registry p o book) (sym same) seen) (h o book seen)
 
 pub nothing_done : (registry : Registry) (before after : Pass) (asked : Asked) → after ≡ before → ForEachSeen (HasSeenAt registry before) (HasSeenAt registry after) (λ o book. MayHaveDone o book asked)
 nothing_done registry before after asked same = stays registry before after (λ o book. MayHaveDone o book asked) same (λ o book seen. did_nothing)

@@ -9,10 +9,9 @@ use Rattle.kp_rpc.specs.Reply.{RequestError, error_reply, result_reply}
 use Rattle.kp_replies.specs.Failures.{Failure, failure_reply}
 use Rattle.kp_replies.specs.Written.{added_tree}
 use Rattle.kp_requests.specs.Frames.{Asks}
-use Rattle.kp_requests.specs.Requests.{Request, execute, implies, simplify, add_module, Asked, asks, refused, Call, single, batch, refused_whole}
+use Rattle.kp_requests.specs.Requests.{execute, implies, simplify, add_module, Asked, asks, refused, Call, single, batch, refused_whole}
 use Rattle.kp_book.specs.Books.{Opening, Registration}
-use Rattle.kp_additions.specs.Additions.{IsRefusal}
-use Rattle.kp_service.specs.Added.{IsAdded}
+use Rattle.kp_additions.specs.Added.{IsAdded, IsRefusedFor}
 use Rattle.kp_service.specs.Answered.{IsExecutedAs, IsImpliedAs, IsSimplifiedAs, IsReplyIn}
 
 -- ---- one call
@@ -23,11 +22,11 @@ IsReplyTo o book id (refused e) reply = reply ≡ error_reply id e
 IsReplyTo o book id (asks (execute state options)) reply = IsReplyIn o book options.module_name id (λ s. IsExecutedAs s id options state) reply
 IsReplyTo o book id (asks (implies antecedent consequent name)) reply = IsReplyIn o book name id (λ s. IsImpliedAs s id name antecedent consequent) reply
 IsReplyTo o book id (asks (simplify state name)) reply = IsReplyIn o book name id (λ s. IsSimplifiedAs s id state) reply
-IsReplyTo o book id (asks (add_module text name_as_id)) reply = (f : Failure) × IsRefusal o book text name_as_id f × (failure_reply id f ≡ Some reply)
+IsReplyTo o book id (asks (add_module text name_as_id)) reply = (f : Failure) × IsRefusedFor o book text name_as_id f × (failure_reply id f ≡ Some reply)
 
 -- a call that adds nothing at this book
 abbrev pub AddsNothing : Opening → List Registration → Asked → Type 0
-AddsNothing o book (asks (add_module text name_as_id)) = (f : Failure) × IsRefusal o book text name_as_id f
+AddsNothing o book (asks (add_module text name_as_id)) = (f : Failure) × IsRefusedFor o book text name_as_id f
 AddsNothing o book _ = Unit {0}
 
 -- a call that adds this module at this book

@@ -11,7 +11,7 @@ ghost use Rattle.kp_requests.specs.Requests.{asks, add_module};
 ghost use Rattle.kp_registry.specs.Passes.{IsPass};
 ghost use Rattle.kp_conn.specs.Conversations.{ForEachSeen};
 ghost use Rattle.kp_service.specs.Batches.{IsAddFailure, IsEffect, IsReplyLine, MayHaveDone};
-ghost use Rattle.kp_service.specs.Served.{HasSeenAt};
+ghost use Rattle.kp_additions.specs.Served.{HasSeenAt};
 
 use kp_additions::{AdditionError, add_module};
 use kp_registry::{Id as ModuleId, Pass, Registry};

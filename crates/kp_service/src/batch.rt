@@ -5,7 +5,7 @@ ghost use Rattle.kp_registry.specs.Passes.{IsPass};
 ghost use Rattle.kp_conn.specs.Conversations.{ForEachSeen};
 ghost use Rattle.kp_service.specs.Answers.{IsFront};
 ghost use Rattle.kp_service.specs.Batches.{AreMembersText, IsNextTold, text_closed, text_with};
-ghost use Rattle.kp_service.specs.Served.{HasSeenAt};
+ghost use Rattle.kp_additions.specs.Served.{HasSeenAt};
 
 use crate::member::answered;
 use kp_registry::{Pass, Registry};

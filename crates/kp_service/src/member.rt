@@ -11,7 +11,7 @@ ghost use Rattle.kp_service.specs.Answered.{IsExecutedAs, IsImpliedAs, IsReplyIn
 ghost use Rattle.kp_service.specs.Answers.{IsFront};
 ghost use Rattle.kp_service.specs.Batches.{IsEffect, IsMemberText, IsReplyLine, MayHaveDone};
 ghost use Rattle.kp_service.specs.Meant.{module_asked};
-ghost use Rattle.kp_service.specs.Served.{HasSeenAt};
+ghost use Rattle.kp_additions.specs.Served.{HasSeenAt};
 ghost use Rattle.kp_service.specs.Told.{IsLineOf};
 
 use crate::added::{add_silently, added_line};

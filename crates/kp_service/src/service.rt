@@ -1,7 +1,7 @@
 // The service.
 ghost use Rattle.kp_registry.specs.Passes.{IsPass};
 ghost use Rattle.kp_service.specs.Answers.{IsAnswer, IsBegun};
-ghost use Rattle.kp_service.specs.Served.{HasSeenAt};
+ghost use Rattle.kp_additions.specs.Served.{HasSeenAt};
 
 use crate::batch::answered_batch;
 use crate::member::{answered, text_of};

@@ -1,4 +1,5 @@
-use kp_modules::{LoadError, reached};
+use kp_imports::LoadError;
+use kp_modules::reached;
 use kp_text::read_definition;
 use std::alloc::Global;
 use std::test::Fail;

@@ -1,8 +1,8 @@
 use Rattle.std.proofs.Common.{◌≡◌, sym, subst, true, false, Option, MatchOption, Vec, ℕ, Global}
 use Rattle.kp_semantics.specs.Theory.{modules_reached, rewrite_axioms}
 use Rattle.kp_modules.specs.Keeping.{StandsAt}
-use Rattle.kp_modules.specs.Names.{names_of}
-use Rattle.kp_modules.specs.Reaching.{has}
+use Rattle.kp_imports.specs.Names.{names_of}
+use Rattle.kp_imports.specs.Reaching.{has}
 use Rattle.kp_extensions.proofs.Owned.{bound_as, main_set}
 use Rattle.kp_extensions.proofs.own_set.rules_of.Goals as goal
 

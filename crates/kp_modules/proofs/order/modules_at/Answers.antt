@@ -1,5 +1,5 @@
 use Rattle.std.proofs.Common.{◌<◌, length}
-use Rattle.kp_modules.proofs.Seen.{all_at, one_more_seen}
+use Rattle.kp_imports.proofs.Seen.{all_at, one_more_seen}
 use Rattle.kp_modules.proofs.order.modules_at.Goals as goal
 
 pub loop-i-preserved : goal.loop-i-preserved

@@ -4,15 +4,15 @@ use Rattle.kp_kore.specs.Syntax.{Text}
 use Rattle.kp_kore.specs.View.{module_view, definition_view}
 use Rattle.kp_signature.specs.Names.{first_place}
 use Rattle.kp_semantics.specs.Theory.{module_named, names_reached}
-use Rattle.kp_modules.specs.Walks.{IsLaidOut, IsOver}
-use Rattle.kp_modules.specs.Faults.{IsImportFault, IsFirstFault, IsUnknown, TellsFirst, duplicate_module, no_main_module, unknown_import}
-use Rattle.kp_modules.specs.Names.{AreOnce, IsFirstRepeated, module_names, names_of}
-use Rattle.kp_modules.proofs.Acyclic.{found_named, no_import_fault}
-use Rattle.kp_modules.proofs.Chains.{exit, no_name}
+use Rattle.kp_imports.specs.Walks.{IsLaidOut, IsOver}
+use Rattle.kp_imports.specs.Faults.{IsImportFault, IsFirstFault, IsUnknown, TellsFirst, duplicate_module, no_main_module, unknown_import}
+use Rattle.kp_imports.specs.Names.{AreOnce, IsFirstRepeated, module_names, names_of}
+use Rattle.kp_imports.proofs.Acyclic.{found_named, no_import_fault}
+use Rattle.kp_imports.proofs.Chains.{exit, no_name}
 use Rattle.kp_modules.proofs.Firsts.{first_of_modules, first_of_main, first_of_imports, first_of_cycles}
 use Rattle.kp_modules.proofs.Outlined.{laid_out}
-use Rattle.kp_modules.proofs.Seen.{all_seen}
-use Rattle.kp_modules.proofs.Walking.{some_same}
+use Rattle.kp_imports.proofs.Seen.{all_seen}
+use Rattle.kp_imports.proofs.Walking.{some_same}
 use Rattle.kp_modules.proofs.order.reached.Goals as goal
 
 pub check_imports-requires-clause-start : goal.check_imports-requires-clause-start

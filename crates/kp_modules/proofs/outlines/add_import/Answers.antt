@@ -3,7 +3,7 @@ use Rattle.std.specs.Prelude.{option_to_list}
 use Rattle.std.specs.Option.{option_map}
 use Rattle.kp_kore.specs.View.{sentence_view}
 use Rattle.kp_semantics.specs.Theory.{imports_in}
-use Rattle.kp_modules.proofs.Sentences.{import_added}
+use Rattle.kp_imports.proofs.Sentences.{import_added}
 use Rattle.kp_modules.proofs.outlines.add_import.Goals as goal
 
 pub returns-in_ok-push-in-Some : goal.returns-in_ok-push-in-Some

@@ -1,7 +1,7 @@
 use Rattle.std.proofs.Common.{rules, ◌≡◌, ◌≤◌, ◌++◌, ◌∷◌, [], refl, sym, ap, ◌∙◌, get_or, length}
 use Rattle.kp_kore.specs.View.{sentence_view}
 use Rattle.kp_semantics.specs.Theory.{imports_in}
-use Rattle.kp_modules.proofs.Sentences.{all_taken, one_further}
+use Rattle.kp_imports.proofs.Sentences.{all_taken, one_further}
 use Rattle.kp_modules.proofs.outlines.imports_alone.Goals as goal
 
 pub loop-i-preserved : goal.loop-i-preserved

@@ -1,5 +1,5 @@
 use Rattle.std.proofs.Common.{MatchOption}
-use Rattle.kp_modules.specs.Walks.{IsOver}
+use Rattle.kp_imports.specs.Walks.{IsOver}
 use Rattle.kp_modules.proofs.Kept.{none_of_it}
 use Rattle.kp_modules.proofs.own_walk.order_from.Goals as goal
 

@@ -3,9 +3,9 @@ use Rattle.std.proofs.lemmas.List.{take_all}
 use Rattle.kp_signature.specs.View.{signature_view}
 use Rattle.kp_semantics.specs.Rules.{is_rewriting}
 use Rattle.kp_modules.specs.Axioms.{axiom_view, axioms_view}
-use Rattle.kp_modules.specs.Faults.{AreSound, TellsFaulty}
+use Rattle.kp_imports.specs.Faults.{AreSound, TellsFaulty}
 use Rattle.kp_modules.specs.Made.{AreMadeOf}
-use Rattle.kp_modules.proofs.Chains.{exit}
+use Rattle.kp_imports.proofs.Chains.{exit}
 use Rattle.kp_modules.proofs.Firsts.{one_more_sound, first_faulty}
 use Rattle.kp_modules.proofs.Ruled.{rewriting_at, one_more_made}
 use Rattle.kp_modules.proofs.rules.rules_among.Goals as goal

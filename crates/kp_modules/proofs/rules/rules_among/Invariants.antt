@@ -2,7 +2,7 @@ use Rattle.std.proofs.Common.{List, take}
 use Rattle.kp_kore.specs.Syntax.{Text}
 use Rattle.kp_signature.specs.View.{signature_view}
 use Rattle.kp_modules.specs.Axioms.{axioms_view}
-use Rattle.kp_modules.specs.Faults.{AreSound}
+use Rattle.kp_imports.specs.Faults.{AreSound}
 use Rattle.kp_modules.specs.Labels.{Counts}
 use Rattle.kp_modules.specs.Made.{AreMadeOf, AreRewriting}
 use Rattle.kp_modules.proofs.rules.rules_among.Given as goal

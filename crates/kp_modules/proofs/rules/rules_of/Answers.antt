@@ -3,7 +3,7 @@ use Rattle.kp_kore.specs.View.{module_view}
 use Rattle.kp_signature.specs.View.{signature_view}
 use Rattle.kp_semantics.specs.Theory.{rewrite_axioms, labels_of}
 use Rattle.kp_modules.specs.Axioms.{axioms_view}
-use Rattle.kp_modules.specs.Faults.{AreSound, TellsFaulty}
+use Rattle.kp_imports.specs.Faults.{AreSound, TellsFaulty}
 use Rattle.kp_modules.specs.Labels.{Counts}
 use Rattle.kp_modules.specs.Made.{AreMadeOf, AreRewriting}
 use Rattle.kp_modules.proofs.Ruled.{all_rewriting}

@@ -3,7 +3,7 @@ use Rattle.std.specs.Str.{bytes_eq}
 use Rattle.std.proofs.lemmas.Map.Text.{hash_map_updates_text}
 use Rattle.indexmap.specs.IndexMap.{get_by_text}
 use Rattle.kp_kore.specs.Syntax.{Text}
-use Rattle.kp_modules.proofs.Twice.{newly_listed}
+use Rattle.kp_imports.proofs.Twice.{newly_listed}
 use Rattle.kp_modules.proofs.table.add_name.Goals as goal
 
 pub returns : goal.returns

@@ -5,11 +5,11 @@ use Rattle.kp_kore.specs.View.{module_view, definition_view}
 use Rattle.kp_semantics.specs.Theory.{modules_reached, rewrite_axioms}
 use Rattle.kp_signature.specs.Table.{sort_names, symbol_names}
 use Rattle.kp_signature.specs.View.{sentences_of}
-use Rattle.kp_modules.specs.Faults.{signature_reached, AreSound, TellsFaulty, TellsFirst, duplicate_symbol}
-use Rattle.kp_modules.specs.Names.{AreOnce, IsFirstRepeated, Lists, names_of}
+use Rattle.kp_imports.specs.Faults.{signature_reached, AreSound, TellsFaulty, TellsFirst, duplicate_symbol}
+use Rattle.kp_imports.specs.Names.{AreOnce, IsFirstRepeated, Lists, names_of}
 use Rattle.kp_modules.specs.Made.{IsRunOf, IsSetOf}
-use Rattle.kp_modules.specs.Reaching.{has}
-use Rattle.kp_modules.proofs.Chains.{exit}
+use Rattle.kp_imports.specs.Reaching.{has}
+use Rattle.kp_imports.proofs.Chains.{exit}
 use Rattle.kp_modules.proofs.Firsts.{first_of_sorts, first_of_symbols, first_of_rules, no_fault}
 use Rattle.kp_modules.specs.declared.table.Table.{Table}
 use Rattle.kp_modules.proofs.Kept.{kept}

@@ -1,6 +1,6 @@
 use Rattle.std.proofs.Common.{map, take}
 use Rattle.kp_kore.specs.View.{module_view}
-use Rattle.kp_modules.specs.Names.{Lists, names_of}
+use Rattle.kp_imports.specs.Names.{Lists, names_of}
 use Rattle.kp_modules.proofs.table.names_of.Given as goal
 
 abbrev pub invariant-loop-i : goal.invariant-loop-i

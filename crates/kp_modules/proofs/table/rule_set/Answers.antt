@@ -3,9 +3,9 @@ use Rattle.kp_kore.specs.Signature.{signature_of}
 use Rattle.kp_kore.specs.View.{module_view}
 use Rattle.kp_semantics.specs.Theory.{rewrite_axioms, labels_of}
 use Rattle.kp_signature.specs.View.{signature_view, sentences_of}
-use Rattle.kp_modules.specs.Faults.{AreSound, TellsFaulty}
+use Rattle.kp_imports.specs.Faults.{AreSound, TellsFaulty}
 use Rattle.kp_modules.specs.Made.{AreMadeOf}
-use Rattle.kp_modules.proofs.Chains.{exit}
+use Rattle.kp_imports.proofs.Chains.{exit}
 use Rattle.kp_modules.proofs.Ruled.{runs, sentences_seen}
 use Rattle.kp_modules.proofs.table.rule_set.Goals as goal
 

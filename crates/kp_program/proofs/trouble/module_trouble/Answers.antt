@@ -1,5 +1,5 @@
 use Rattle.std.proofs.Common.{ap}
-use Rattle.kp_modules.specs.Faults.{fault_view, told_fault}
+use Rattle.kp_imports.specs.Faults.{fault_view, told_fault}
 use Rattle.kp_program.proofs.trouble.module_trouble.Goals as goal
 
 pub returns-in-Fault : goal.returns-in-Fault

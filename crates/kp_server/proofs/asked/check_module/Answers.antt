@@ -1,6 +1,6 @@
 use Rattle.std.proofs.Common.{ap, sym, subst, false, ◌≡◌, ◌∙◌, string_bytes}
 use Rattle.std.specs.Option.{option_map}
-use Rattle.kp_modules.specs.Reaching.{has}
+use Rattle.kp_imports.specs.Reaching.{has}
 use Rattle.kp_rpc.specs.View.{name_view}
 use Rattle.kp_server.proofs.Faulty.{unreached_at}
 use Rattle.kp_server.proofs.asked.check_module.Goals as goal

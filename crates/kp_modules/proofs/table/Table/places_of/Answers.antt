@@ -1,6 +1,6 @@
 use Rattle.std.proofs.Common.{◌≡◌, sym, ◌∙◌, Some}
 use Rattle.kp_signature.specs.Names.{first_place}
-use Rattle.kp_modules.specs.Names.{module_names}
+use Rattle.kp_imports.specs.Names.{module_names}
 use Rattle.kp_modules.proofs.Kept.{not_reached, walked}
 use Rattle.kp_modules.proofs.table.Table.places_of.Goals as goal
 

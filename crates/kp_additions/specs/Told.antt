@@ -1,0 +1,64 @@
+-- What adding a text to a book tells, and what is ready to be entered.
+use Rattle.std.specs.Prelude.{◌≡◌, ℕ, Bool, List, [], ◌∷◌, ◌++◌, Option, Some, None, string_bytes}
+use Rattle.std.specs.List.{AllZip}
+use Rattle.std.specs.declared.alloc.Global.{Global}
+use Rattle.std.specs.declared.sync.Arc.{Arc}
+use Rattle.kp_kore.specs.Syntax.{Text, KoreModule}
+use Rattle.kp_semantics.specs.Theory.{NumberedAxiom, imports_in}
+use Rattle.kp_rules.specs.declared.rule.RuleSet.{RuleSet}
+use Rattle.kp_replies.specs.Failures.{AdditionFault, bad_axiom, bad_sentence, Failure, bad_module, duplicate}
+use Rattle.kp_replies.specs.View.{addition_view}
+use Rattle.kp_book.specs.Books.{Opening, Registration, meaning_in, extended}
+use Rattle.kp_extensions.specs.Extending.{ExtendFault, rule_fault, declaration}
+use Rattle.kp_modules.specs.Made.{IsSetOf}
+use Rattle.kp_registry.specs.Legal.{id_of}
+use Rattle.kp_registry.specs.Passes.{MeansAt, own_name_asked}
+use Rattle.kp_registry.specs.Refusals.{own_name_of}
+use Rattle.kp_registry.specs.declared.book.Registry.{Registry}
+use Rattle.kp_registry.specs.declared.seen.Entry.{Entry}
+use Rattle.kp_registry.specs.declared.seen.Pass.{Pass}
+use Rattle.kp_additions.specs.Added.{IsAdded, IsRefusedFor, IsSound}
+use Rattle.kp_additions.specs.Served.{HasSeenAt}
+use Rattle.kp_additions.specs.declared.error.AdditionError.{AdditionError}
+use Rattle.kp_additions.specs.declared.error.AdditionError.TheVariants as error
+
+-- ---- what is told
+
+-- want of memory tells none
+abbrev pub failure_told : AdditionError → Option Failure
+failure_told error.Memory = None
+failure_told (error.Bad fault) = Some (bad_module (addition_view fault))
+failure_told (error.Duplicate entry name) = Some (duplicate entry (string_bytes name))
+
+-- the error is want of memory, or tells why the text isn't added at the book
+abbrev pub TellsRefusal : Opening → List Registration → List ℕ → Bool → AdditionError → Type 0
+TellsRefusal o book text name_as_id e = (f : Failure) → failure_told e ≡ Some f → IsRefusedFor o book text name_as_id f
+
+-- the text is added behind the book under this id, and the pass has seen it there
+pub record IsEntered (o : Opening) (book : List Registration) (text : List ℕ) (name_as_id : Bool) (id : Text) (registry : Registry) (pass : Pass) : Type 0 where
+  pub registration : Registration
+  pub is_added : IsAdded o book text name_as_id registration
+  pub is_id : registration.id ≡ id
+  pub seen : HasSeenAt registry pass o (book ++ registration ∷ [])
+
+-- an axiom or a sentence of an added module is at fault
+abbrev pub sentence_fault : ExtendFault → AdditionFault
+sentence_fault (rule_fault n) = bad_axiom n
+sentence_fault (declaration n) = bad_sentence n
+
+-- ---- what is ready
+
+-- the rule sets are what the names mean at the book, one of each
+abbrev pub AreMeant : Opening → List Registration → List Text → List (Arc RuleSet Global) → Type 0
+AreMeant o book = AllZip (λ name rules. MeansAt o book name (Some rules.value))
+
+-- the entry is that of the sound module that the text spells
+pub record IsReadied (o : Opening) (book : List Registration) (text : List ℕ) (name_as_id : Bool) (e : Entry) : Type 0 where
+  pub spelled : KoreModule
+  pub sound : IsSound o book text spelled
+  pub is_text : e.text.items ≡ text
+  pub is_id : e.id ≡ id_of text
+  pub own_name : own_name_of e ≡ own_name_asked name_as_id spelled.name
+  pub imports : List (List NumberedAxiom)
+  pub bound : AllZip (λ name axioms. meaning_in o book name ≡ Some axioms) (imports_in spelled.sentences) imports
+  pub rules : IsSetOf o.signature (extended imports (id_of text) spelled) e.rules.value

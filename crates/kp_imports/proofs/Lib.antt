@@ -1,0 +1,14 @@
+pub mod Acyclic
+pub mod Chains
+pub mod Collect
+pub mod Declared
+pub mod Leaving
+pub mod Noting
+pub mod Places
+pub mod Seen
+pub mod Sentences
+pub mod Settled
+pub mod Starting
+pub mod Stepping
+pub mod Twice
+pub mod Walking

@@ -1,5 +1,0 @@
-use Rattle.kp_modules.proofs.Places.{places_below_take}
-use Rattle.kp_modules.proofs.names.module_places.Goals as goal
-
-pub returns-clause-below : goal.returns-clause-below
-returns-clause-below c = places_below_take c.loop-place.place c.args.modules.now c.loop-place.places c.loop-place.invariant

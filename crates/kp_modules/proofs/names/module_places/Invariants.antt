@@ -1,7 +1,0 @@
-use Rattle.std.proofs.Common.{take}
-use Rattle.kp_signature.specs.Names.{Indexes}
-use Rattle.kp_modules.specs.Names.{module_names}
-use Rattle.kp_modules.proofs.names.module_places.Given as goal
-
-abbrev pub invariant-loop-place : goal.invariant-loop-place
-invariant-loop-place l = Indexes (module_names (take l.place l.modules)) l.places

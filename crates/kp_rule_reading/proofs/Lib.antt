@@ -1,0 +1,12 @@
+pub mod Constrained
+pub mod Declared
+pub mod LeftTerms
+pub mod NameSets
+pub mod NewVariables
+pub mod Numbers
+pub mod PlainRules
+pub mod ReadBodies
+pub mod ReadParts
+pub mod ReadShapes
+pub mod TestLemmas
+pub mod VerifiedSides

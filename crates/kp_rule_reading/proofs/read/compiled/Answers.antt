@@ -1,0 +1,53 @@
+use Rattle.std.proofs.Common.{◌≡◌, refl, sym, subst, not}
+use Rattle.std.specs.Bool.{Decides}
+use Rattle.std.specs.List.{AllByRecursion, list_any}
+use Rattle.std.proofs.lemmas.Result.{err_from_is_err_and}
+use Rattle.kp_kore.specs.View.{view}
+use Rattle.kp_semantics.specs.Instance.{IsTrueUnder}
+use Rattle.kp_semantics.specs.Numbers.{computes_wide}
+use Rattle.kp_ground.specs.Conditions.{condition_holds, condition_narrow}
+use Rattle.kp_ground.specs.ConditionView.{condition_view}
+use Rattle.kp_signature.specs.View.{signature_view}
+use Rattle.kp_compile.specs.Verified.{IsVerifiedPredicate}
+use Rattle.kp_rules.specs.Shapes.{seen}
+use Rattle.kp_rule_reading.proofs.ReadBodies.{decides_seen}
+use Rattle.kp_rule_reading.proofs.read.compiled.Goals as goal
+
+pub returns-clause-made : goal.returns-clause-made
+returns-clause-made c = λ r choice.
+    let g = signature_view c.args.signature.now in
+    let condition = c.in_ok-condition.condition in (
+      record {
+        left = c.in_ok-left.ensures.meaning;
+        tests = c.in_ok-tests.ensures.tests;
+        condition = λ v. decides_seen g v c.args.shape.now.left.predicates.items (condition_holds v (condition_view condition))
+            (subst (λ ps. Decides (condition_holds v (condition_view condition)) (AllByRecursion (λ p. IsTrueUnder g v (view p.now)) ps)) c.deref.ensures.value (c.in_ok-condition.ensures.holds v));
+        right = c.in_ok-right.ensures.meaning;
+        right_narrow = c.in_ok-right.ensures.narrow;
+        condition_narrow = λ v. subst (λ ps. condition_narrow v (condition_view condition) ≡ not (list_any (computes_wide g v) (seen ps))) c.deref.ensures.value (c.in_ok-condition.ensures.narrow v);
+        right_sort = c.in_ok-copy.ensures;
+        choice = choice;
+      },
+      refl,
+    )
+
+pub returns-in_err-left-clause-sound : goal.returns-in_err-left-clause-sound
+returns-in_err-left-clause-sound c = λ r.
+    let p = err_from_is_err_and c.from_residual.result c.from_residual.ensures.1 in
+    rw (p.1, p.2) (λ sound. c.in_err-left.ensures.refused sound.left)
+
+pub returns-in_err-tests-clause-sound : goal.returns-in_err-tests-clause-sound
+returns-in_err-tests-clause-sound c = λ r.
+    let p = err_from_is_err_and c.from_residual-in_err-tests.result c.from_residual-in_err-tests.ensures.1 in
+    rw (p.1, p.2) (λ sound. c.in_err-tests.ensures.refused sound.left)
+
+pub returns-in_err-condition-clause-sound : goal.returns-in_err-condition-clause-sound
+returns-in_err-condition-clause-sound c = λ r.
+    let p = err_from_is_err_and c.from_residual-in_err-condition.result c.from_residual-in_err-condition.ensures.1 in
+    rw (p.1, p.2) (λ sound. c.in_err-condition.ensures.refused
+    (subst (λ ps. AllByRecursion (IsVerifiedPredicate (signature_view c.args.signature.now)) (seen ps)) (sym c.deref.ensures.value) sound.condition))
+
+pub returns-in_err-right-clause-sound : goal.returns-in_err-right-clause-sound
+returns-in_err-right-clause-sound c = λ r.
+    let p = err_from_is_err_and c.from_residual-in_err-right.result c.from_residual-in_err-right.ensures.1 in
+    rw (p.1, p.2) (λ sound. c.in_err-right.ensures.refused sound.right)

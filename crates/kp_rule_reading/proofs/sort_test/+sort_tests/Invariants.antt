@@ -1,0 +1,12 @@
+use Rattle.std.proofs.Common.{take}
+use Rattle.kp_kore.specs.Parts.{all_free_variables}
+use Rattle.kp_kore.specs.View.{sorts_view, patterns_view}
+use Rattle.kp_signature.specs.View.{signature_view}
+use Rattle.kp_semantics.specs.Value.{HaveSorts}
+use Rattle.kp_semantics.specs.Instance.{Valuation, instances}
+use Rattle.kp_rule_reading.specs.Tests.{Adds}
+use Rattle.kp_rule_reading.proofs.sort_test.+sort_tests.Given as goal
+
+abbrev pub invariant-add_tests_of_arguments-loop-i : goal.invariant-add_tests_of_arguments-loop-i
+invariant-add_tests_of_arguments-loop-i l = (v : Valuation) → HaveSorts (signature_view l.signature) (sorts_view l.places) (instances (signature_view l.signature) v (patterns_view l.patterns)) →
+    Adds (signature_view l.signature) v l.fn.tests.items l.tests.items (all_free_variables (patterns_view (take l.i l.patterns)))

@@ -1,0 +1,10 @@
+use Rattle.kp_kore.specs.Parts.{free_variables}
+use Rattle.kp_kore.specs.View.{view}
+use Rattle.kp_signature.specs.View.{signature_view}
+use Rattle.kp_rule_reading.proofs.TestLemmas.{all_added}
+use Rattle.kp_rule_reading.proofs.sort_test.sort_tests.Goals as goal
+
+pub returns-clause-tests : goal.returns-clause-tests
+returns-clause-tests c = λ verified v sorted.
+    all_added (signature_view c.args.signature.now) v c.new-tests.result.items c.add_tests.new.tests.items (free_variables (view c.args.left.now))
+    c.new-tests.ensures.items (c.in_ok-add_tests.ensures.tests v sorted)

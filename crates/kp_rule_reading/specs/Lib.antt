@@ -1,0 +1,3 @@
+pub mod Priorities
+pub mod Reading
+pub mod Tests

@@ -1,0 +1,108 @@
+// The right side of a rule that chooses, as its axiom has it.
+ghost use Rattle.std.specs.Prelude.{◌≡◌, ◌++◌, IfOk, OnOk, not, map, string_bytes};
+ghost use Rattle.std.specs.List.{filter};
+ghost use Rattle.indexmap.specs.IndexSet.{contains_text};
+ghost use Rattle.kp_kore.specs.Parts.{free_variables};
+ghost use Rattle.kp_kore.specs.View.{view, sort_view, sorted_variable_view};
+ghost use Rattle.kp_semantics.specs.Rules.{top_binders};
+ghost use Rattle.kp_rules.specs.Bodies.{IsSideOf, IsChoiceOf};
+ghost use Rattle.kp_rules.specs.Shapes.{seen, variables_seen, rewrite_seen};
+
+use crate::names::{NameSet, names_of};
+use kp_kore::{Pattern, SortedVariable};
+use kp_rules::rule::RightSide;
+use kp_rules::shape::{Binder, Shape, under_binders};
+use std::alloc::{AllocError, Global};
+
+/// The right side of these parts, where the rule chooses.
+pub fn choice_of(
+    alloc: Global,
+    shape: &Shape<'_>,
+    right: &Pattern,
+    chooses: bool,
+) -> Result<Option<RightSide>, AllocError>
+    ensures { IfOk result (IsChoiceOf (rewrite_seen (view right.now) shape.now) chooses) }
+{
+    if !chooses {
+        return Ok(None);
+    }
+    Ok(Some(right_side(alloc, shape, right)?))
+}
+
+/// The right side with its ensured condition and its new variables.
+fn right_side(alloc: Global, shape: &Shape<'_>, right: &Pattern) -> Result<RightSide, AllocError>
+    ensures { IfOk result (IsSideOf (rewrite_seen (view right.now) shape.now)) }
+{
+    let left_variables = shape.left.term.free_vars(alloc)?;
+    let names = names_of(alloc, &left_variables)?;
+    Ok(RightSide {
+        term: shape.right.term.copy(alloc)?,
+        ensured: copies(alloc, &shape.right.predicates)?,
+        new_variables: new_variables(alloc, right, &names)?,
+        left_variables,
+    })
+}
+
+/// The patterns once more.
+fn copies(alloc: Global, patterns: &[&Pattern]) -> Result<Vec<Pattern>, AllocError>
+    ensures { IfOk result (λ ps. map view ps.items ≡ seen patterns.now) }
+{
+    let mut copies = Vec::new(alloc);
+    for pattern in patterns {
+        copies.push(pattern.copy(alloc)?)?;
+    }
+    Ok(copies)
+}
+
+/// The variables of a right side that aren't named: those that `\exists` binds at the top, then those without a name.
+fn new_variables(
+    alloc: Global,
+    right: &Pattern,
+    names: &NameSet,
+) -> Result<Vec<SortedVariable>, AllocError>
+    ensures { IfOk result (λ vs. map sorted_variable_view vs.items ≡ top_binders (view right.now) ++ filter (λ x. not (contains_text names.now x.name)) (free_variables (view right.now))) }
+{
+    let bound = under_binders(alloc, right)?;
+    let mut found = bound_variables(alloc, &bound.variables)?;
+    let variables = right.free_vars(alloc)?;
+    add_unnamed(&mut found, variables, names)?;
+    Ok(found)
+}
+
+/// The variables that these quantifiers bind.
+fn bound_variables(alloc: Global, binders: &[Binder<'_>]) -> Result<Vec<SortedVariable>, AllocError>
+    ensures { IfOk result (λ vs. map sorted_variable_view vs.items ≡ variables_seen binders.now) }
+{
+    let mut variables = Vec::new(alloc);
+    for binder in binders {
+        variables.push(bound_variable(alloc, binder)?)?;
+    }
+    Ok(variables)
+}
+
+/// The variable that a quantifier binds.
+fn bound_variable(alloc: Global, binder: &Binder<'_>) -> Result<SortedVariable, AllocError>
+    ensures { IfOk result (λ v. sorted_variable_view v ≡ record { name = string_bytes binder.now.name.now; sort = sort_view binder.now.sort.now }) }
+{
+    Ok(SortedVariable {
+        name: binder.name.clone()?,
+        sort: binder.sort.copy(alloc)?,
+    })
+}
+
+/// Adds the variables whose names aren't among these.
+fn add_unnamed(
+    found: &mut Vec<SortedVariable>,
+    variables: Vec<SortedVariable>,
+    names: &NameSet,
+) -> Result<(), AllocError>
+    ensures { OnOk result (map sorted_variable_view found.new.items
+        ≡ map sorted_variable_view found.old.items ++ filter (λ x. not (contains_text names.now x.name)) (map sorted_variable_view variables.items)) }
+{
+    for variable in variables {
+        if !names.contains(variable.name.as_str()) {
+            found.push(variable)?;
+        }
+    }
+    Ok(())
+}

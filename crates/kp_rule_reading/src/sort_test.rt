@@ -1,0 +1,140 @@
+// Which left variables a match must test.
+ghost use Rattle.std.specs.Prelude.{◌≡◌, ◌∷◌, [], ◌↔◌, true, length, IfOk, IfErr, OnOk, string_bytes};
+ghost use Rattle.std.specs.List.{AllByRecursion};
+ghost use Rattle.kp_kore.specs.Syntax.{KoreSorts, application};
+ghost use Rattle.kp_kore.specs.Parts.{free_variables, all_free_variables};
+ghost use Rattle.kp_kore.specs.Signature.{KoreSignature, meaning_of as meaning_named};
+ghost use Rattle.kp_kore.specs.View.{view, patterns_view, sort_view, sorts_view};
+ghost use Rattle.kp_signature.specs.View.{signature_view};
+ghost use Rattle.kp_semantics.specs.Value.{Value, HasSort, HaveSorts};
+ghost use Rattle.kp_semantics.specs.Sorted.{IsSorted};
+ghost use Rattle.kp_semantics.specs.Instance.{Valuation, instance, instances, applied, GivesSorts};
+ghost use Rattle.kp_compile.specs.Verified.{IsVerifiedLeftTerm};
+ghost use Rattle.kp_compile.specs.declared.error.CompileError.TheVariants.{Memory};
+ghost use Rattle.kp_rules.specs.Bodies.{IsVerifiedLeft};
+ghost use Rattle.kp_rules.specs.Heads.{HasHead};
+ghost use Rattle.kp_rule_reading.specs.Tests.{IsGiven, Adds};
+
+use kp_compile::{CompileError, Meaning, meaning_of};
+use kp_kore::{Name, Pattern, Sort};
+use kp_rules::rule::SortTest;
+use kp_signature::Signature;
+use std::alloc::{AllocError, Global};
+
+/// The sort tests of a left term: one for each variable that doesn't stand as a constructor's argument of its own sort.
+/// A term that `compile_left` refuses is refused, and a constructor with another number of arguments than it declares.
+pub fn sort_tests(
+    alloc: Global,
+    signature: &Signature,
+    left: &Pattern,
+) -> Result<Vec<SortTest>, CompileError>
+    ensures tests { IfOk result (λ tests. IsVerifiedLeft (signature_view signature.now) (view left.now) → (v : Valuation) → IsSorted (signature_view signature.now) (instance (signature_view signature.now) v (view left.now)) → AllByRecursion (HasHead (signature_view signature.now) v) tests.items ↔ GivesSorts (signature_view signature.now) v (free_variables (view left.now))) }
+    ensures refused { IfErr result (λ e. IsVerifiedLeftTerm (signature_view signature.now) (view left.now) → e ≡ Memory) }
+{
+    let mut tests = Vec::new(alloc);
+    add_tests(left, alloc, signature, None, &mut tests)?;
+    Ok(tests)
+}
+
+/// Adds the tests of a term at a place that gives its values this sort, or none.
+#[cycle(sort_tests)]
+fn add_tests(
+    pattern: &Pattern,
+    alloc: Global,
+    signature: &Signature,
+    given: Option<&Sort>,
+    tests: &mut Vec<SortTest>,
+) -> Result<(), CompileError>
+    ensures tests { OnOk result ((v : Valuation) → IsGiven (signature_view signature.now) given.entry (instance (signature_view signature.now) v (view pattern.now)) → Adds (signature_view signature.now) v tests.old.items tests.new.items (free_variables (view pattern.now))) }
+    ensures refused { IfErr result (λ e. IsVerifiedLeftTerm (signature_view signature.now) (view pattern.now) → e ≡ Memory) }
+{
+    match pattern {
+        Pattern::Variable { name, sort } => Ok(add_test(alloc, name, sort, given, tests)?),
+        Pattern::Literal { .. } => Ok(()),
+        Pattern::Application {
+            symbol,
+            arguments,
+            ..
+        } => add_tests_of_applied(arguments, alloc, signature, symbol, tests),
+        _ => Err(CompileError::Shape),
+    }
+}
+
+/// The same of a name applied to arguments: `inj` gives its argument no sort, a constructor those that it declares.
+#[cycle(sort_tests)]
+fn add_tests_of_applied(
+    arguments: &[Pattern],
+    alloc: Global,
+    signature: &Signature,
+    symbol: &Name,
+    tests: &mut Vec<SortTest>,
+) -> Result<(), CompileError>
+    ensures tests { OnOk result ((v : Valuation) → IsSorted (signature_view signature.now) (applied (meaning_named (signature_view signature.now) (string_bytes symbol.now)) (string_bytes symbol.now) (instances (signature_view signature.now) v (patterns_view arguments.now))) → Adds (signature_view signature.now) v tests.old.items tests.new.items (all_free_variables (patterns_view arguments.now))) }
+    ensures refused { IfErr result (λ e. (ss : KoreSorts) → IsVerifiedLeftTerm (signature_view signature.now) (application (string_bytes symbol.now) ss (patterns_view arguments.now)) → e ≡ Memory) }
+{
+    match meaning_of(signature, symbol) {
+        Meaning::Injection => match arguments {
+            [argument] => add_tests(argument, alloc, signature, None, tests),
+            _ => Err(CompileError::Shape),
+        },
+        Meaning::Constructor => match signature.symbol(symbol) {
+            Some(found) => {
+                add_tests_of_arguments(arguments, alloc, signature, &found.arguments, tests)
+            }
+            None => Err(CompileError::Shape),
+        },
+        Meaning::Interpreted(_) => Err(CompileError::Shape),
+        Meaning::Foreign => Err(CompileError::Shape),
+    }
+}
+
+/// The same of a constructor's arguments, at places that give these sorts.
+#[cycle(sort_tests)]
+fn add_tests_of_arguments(
+    patterns: &[Pattern],
+    alloc: Global,
+    signature: &Signature,
+    places: &[Sort],
+    tests: &mut Vec<SortTest>,
+) -> Result<(), CompileError>
+    ensures tests { OnOk result ((v : Valuation) → HaveSorts (signature_view signature.now) (sorts_view places.now) (instances (signature_view signature.now) v (patterns_view patterns.now)) → Adds (signature_view signature.now) v tests.old.items tests.new.items (all_free_variables (patterns_view patterns.now))) }
+    ensures refused { IfErr result (λ e. length patterns.now ≡ length places.now → AllByRecursion (λ p. IsVerifiedLeftTerm (signature_view signature.now) (view p)) patterns.now → e ≡ Memory) }
+{
+    if patterns.len() != places.len() {
+        return Err(CompileError::Shape);
+    }
+    for i in 0..patterns.len() {
+        add_tests(&patterns[i], alloc, signature, Some(&places[i]), tests)?;
+    }
+    Ok(())
+}
+
+/// Whether the place gives this sort.
+fn gives(given: Option<&Sort>, sort: &Sort) -> bool
+    ensures { (g : KoreSignature) (u : Value) → result ≡ true → IsGiven g given.entry u → HasSort g (sort_view sort.now) u }
+{
+    match given {
+        Some(given) => given.equal(sort),
+        None => false,
+    }
+}
+
+/// Adds a variable's test, unless its place gives its sort.
+fn add_test(
+    alloc: Global,
+    name: &Name,
+    sort: &Sort,
+    given: Option<&Sort>,
+    tests: &mut Vec<SortTest>,
+) -> Result<(), AllocError>
+    ensures { OnOk result ((g : KoreSignature) (v : Valuation) → IsGiven g given.entry (v (string_bytes name.now)) → Adds g v tests.old.items tests.new.items (record { name = string_bytes name.now; sort = sort_view sort.now } ∷ [])) }
+{
+    if gives(given, sort) {
+        return Ok(());
+    }
+    tests.push(SortTest {
+        name: name.clone()?,
+        sort: sort.copy(alloc)?,
+    })?;
+    Ok(())
+}

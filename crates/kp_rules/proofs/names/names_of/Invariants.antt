@@ -1,5 +1,0 @@
-use Rattle.kp_rules.proofs.NameSets.{Fills}
-use Rattle.kp_rules.proofs.names.names_of.Given as goal
-
-abbrev pub invariant-loop-variable : goal.invariant-loop-variable
-invariant-loop-variable l = Fills l.names l.variables l.variable-index

@@ -1,0 +1,5 @@
+pub mod AloneLemmas
+pub mod IndexLemmas
+pub mod InjectLemmas
+pub mod MarkLemmas
+pub mod SplitLemmas
