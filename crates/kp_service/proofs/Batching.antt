@@ -1,5 +1,5 @@
 -- Calls answered one behind another, and the text of their replies.
-use Rattle.std.proofs.Common.{◌≡◌, refl, sym, ap, subst, ◌∙◌, ℕ, true, false, List, [], ◌∷◌, ◌++◌, Option, Some, None, option_map, append-nil, append_assoc}
+use Rattle.std.proofs.Common.{◌≡◌, refl, sym, ap, subst, ◌∙◌, ℕ, suc, ◌-◌, length, take, true, List, [], ◌∷◌, ◌++◌, Option, Some, None, option_map, append-nil, append_assoc}
 use Rattle.serde_json.specs.Data.{Data, array}
 use Rattle.serde_json.specs.Written.{compact_text, items_text}
 use Rattle.kp_rpc.specs.Request.{RequestId}
@@ -33,6 +33,19 @@ front_more first ds d = ap (λ t. 91 ∷ t) (ap (λ t. compact_text first ++ t) 
 
 pub front_one : (d : Data) → batch_front (d ∷ []) ≡ 91 ∷ compact_text d
 front_one d = ap (λ t. 91 ∷ t) (append-nil (compact_text d))
+
+-- ---- a line without its end
+
+line_length : (text : List ℕ) → length (text ++ 10 ∷ []) ≡ suc (length text)
+line_length [] = refl
+line_length (b ∷ text) = ap suc (line_length text)
+
+take_front : (text more : List ℕ) → take (length text) (text ++ more) ≡ text
+take_front [] more = refl
+take_front (b ∷ text) more = ap (λ t. b ∷ t) (take_front text more)
+
+pub text_of_line : (text : List ℕ) → take (length (text ++ 10 ∷ []) - 1) (text ++ 10 ∷ []) ≡ text
+text_of_line text = ap (λ n. take (n - 1) (text ++ 10 ∷ [])) (line_length text) ∙ take_front text (10 ∷ [])
 
 -- ---- calls
 

@@ -1,5 +1,6 @@
 -- From what was read of a state, and the end of its run, to the reply to execute.
 use Rattle.std.proofs.Common.{◌≡◌, ◌⊎◌, ℕ, false, List, [], ◌∷◌, ◌++◌, Option, Some, None, Vec, refl, sym, ap, subst, ◌∙◌, inl, inr}
+use Rattle.std.specs.Option.{option_map}
 use Rattle.std.specs.declared.alloc.Global.{Global}
 use Rattle.serde_json.specs.Data.{Data}
 use Rattle.kp_kore.specs.Syntax.{Text, KoreSort, KorePattern}
@@ -7,7 +8,7 @@ use Rattle.kp_kore.specs.Signature.{KoreSignature, injection, meaning_of}
 use Rattle.kp_kore.specs.View.{sort_view}
 use Rattle.kp_ground.specs.View.{value_view}
 use Rattle.kp_json.specs.Faults.{Reading, read, fault, TreeFault}
-use Rattle.kp_semantics.specs.Value.{Value}
+use Rattle.kp_semantics.specs.Value.{Value, HasSort}
 use Rattle.kp_semantics.specs.Foreign.{none_within}
 use Rattle.kp_semantics.specs.Replies as three
 use Rattle.kp_semantics.specs.Ground.{executed_of}
@@ -26,7 +27,8 @@ use Rattle.kp_rpc.specs.declared.fault.StateFault.{StateFault}
 use Rattle.kp_rpc.specs.declared.fault.StateFault.TheVariants as state
 use Rattle.kp_replies.specs.Written.{executed_tree}
 use Rattle.kp_replies.specs.Right.{asked_options}
-use Rattle.kp_server.proofs.Ended.{both_empty, ended, ends_at, not_empty, reason_meant, same_value, tells_first}
+use Rattle.kp_results.specs.Results.{ExecutedParts}
+use Rattle.kp_server.proofs.Ended.{both_empty, ended, ends_at, has_tree_of, not_empty, reason_meant, same_value, tells_first}
 use Rattle.kp_server.proofs.Runs.{run_is_right}
 use Rattle.kp_server.specs.Ends.{IsListing, IsStateAt, IsWrongPattern, result_of}
 use Rattle.kp_server.specs.Normal.{IsLater, HasNoSpelling}
@@ -56,6 +58,13 @@ state_failure s options x p (failure.Fault (state.NoModule name)) is w = absurd 
 
 pub state_read : (g : KoreSignature) (x : Reading KorePattern) (p : KorePattern) (found : State) → x ≡ read p → IsStateOf g p found → IsStateRead g x found
 state_read g x p found is h = record { pattern = p; is_read = is; is_of = h }
+
+pub state_of : (g h : KoreSignature) → g ≡ h → (p : KorePattern) (sort : KoreSort) (found : State) → VerifiesAs g p sort → IsStateAt g p sort found → IsStateOf h p found
+state_of g h same p sort found v at = subst (λ k. IsStateOf k p found) same (record { sort = sort; verifies = v; is_state = at })
+
+-- the state's value has the sort that it is written at
+pub sorted_start : (g : KoreSignature) (x : Reading KorePattern) (found : State) → IsStateRead g x found → HasSort g (sort_view found.sort) (value_view found.value)
+sorted_start g x found h = (h.is_of.is_state.ground h.is_of.verifies).sorted
 
 pub state_over : (g h : KoreSignature) → g ≡ h → (x : Reading KorePattern) (found : State) → IsStateRead g x found → IsStateRead h x found
 state_over g h same x found r = subst (λ k. IsStateRead k x found) same r
@@ -126,6 +135,11 @@ answered s id options x end here h p sp normal tree w =
     })
 
 -- ---- lines
+
+pub end_line_of : (id : RequestId) (x y : ExecutedParts) (o : Option (Vec ℕ Global)) (line : Vec ℕ Global) → y ≡ x → o ≡ Some line →
+    option_map (λ (b : Vec ℕ Global). b.items) o ≡ option_map (λ (t : Data). reply_bytes (result_reply id t)) (executed_tree y) → IsEndLine id x line.items
+end_line_of id x y o line same is told =
+    has_tree_of o line id (executed_tree x) is (told ∙ ap (λ (z : ExecutedParts). option_map (λ (t : Data). reply_bytes (result_reply id t)) (executed_tree z)) same)
 
 -- the line with the end of a run
 pub end_line_is_right : (s : Setting) (id : RequestId) (options : ExecuteOptions) (x : Reading KorePattern) (end : Executed) → ¬ IsElsewhere s.main options.module_name → (h : IsEndOf s.theory options x end) → (p : KorePattern) →

@@ -21,7 +21,7 @@ use Rattle.kp_server.proofs.Implied.{ground_of, is_told, right_result, sort_of_s
 use Rattle.kp_server.specs.Ends.{IsWrongPattern}
 use Rattle.kp_server.specs.Right.{IsPatternFault, NoneLeftOut}
 use Rattle.kp_server.specs.Setting.{IsElsewhere, Setting}
-use Rattle.kp_server.specs.Sides.{AreApart, AreBothCompared, AreNotCompared, result_at}
+use Rattle.kp_server.specs.Sides.{AreApart, AreBothCompared, AreNotCompared, IsSideState, result_at}
 use Rattle.kp_server.specs.Untold.{IsImpliesUntold, IsLeftOut, no_antecedent, no_consequent, other_sorts}
 use Rattle.kp_server.specs.declared.failure.Failure.{Failure}
 use Rattle.kp_server.specs.declared.failure.Failure.TheVariants as failure
@@ -44,8 +44,14 @@ right_unread s asked a c p (failure.Fault f) is w = subst (λ x. IsImpliesError 
 pub of_read : (s : Setting) (asked : Option Text) (a c : Reading KorePattern) (p q : KorePattern) (f : Failure) → a ≡ read p → c ≡ read q → IsSidesFailure s asked (read p) (read q) f → IsSidesFailure s asked a c f
 of_read s asked a c p q f is other w = subst (λ x. IsSidesFailure s asked x c f) (sym is) (subst (λ x. IsSidesFailure s asked (read p) x f) (sym other) w)
 
-pub implied_of_read : (g : KoreSignature) (a c : Reading KorePattern) (p q : KorePattern) (o : Option KoreSort) → a ≡ read p → c ≡ read q → IsImpliedOf g (read p) (read q) o → IsImpliedOf g a c o
+implied_of_read : (g : KoreSignature) (a c : Reading KorePattern) (p q : KorePattern) (o : Option KoreSort) → a ≡ read p → c ≡ read q → IsImpliedOf g (read p) (read q) o → IsImpliedOf g a c o
 implied_of_read g a c p q o is other h = subst (λ x. IsImpliedOf g x c o) (sym is) (subst (λ x. IsImpliedOf g (read p) x o) (sym other) h)
+
+pub implied_over : (g h : KoreSignature) → g ≡ h → (a c : Reading KorePattern) (p q : KorePattern) (o : Option KoreSort) → a ≡ read p → c ≡ read q → IsImpliedOf g (read p) (read q) o → IsImpliedOf h a c o
+implied_over g h same a c p q o is other x = subst (λ k. IsImpliedOf k a c o) same (implied_of_read g a c p q o is other x)
+
+pub side_of : (g : KoreSignature) (p : KorePattern) (sort : KoreSort) (found : Option State) → VerifiesAs g p sort → IsSideState g p sort found → IsSideOf g p found
+side_of g p sort found v x = record { sort = sort; verifies = v; is_state = x }
 
 pub left_wrong : (g : KoreSignature) (s : Setting) → g ≡ s.theory.signature → (asked : Option Text) (p q : KorePattern) (f : Failure) → IsWrongPattern g NoneLeftOut p f → IsSidesFailure s asked (read p) (read q) f
 left_wrong g s same asked p q failure.Memory w = tt
@@ -128,6 +134,9 @@ result_line_is id o r x line same is told =
     has_tree_of x line id (implied_tree (result_at o)) is (told ∙ ap (λ (y : Implied). option_map (λ (t : Data). reply_bytes (result_reply id t)) (implied_tree y)) same)
 
 -- ---- simplify
+
+pub no_options : ExecuteOptions
+no_options = record { max_depth = None; module_name = None; cut_points = []; terminals = [] }
 
 -- each fault of a pattern is one where all patterns are left out
 all_left_out : (g : KoreSignature) (s : Setting) (options : ExecuteOptions) (p : KorePattern) (f : VerifyFault) → IsPatternFault g (IsLeftOut s options) p f → IsPatternFault g AllLeftOut p f

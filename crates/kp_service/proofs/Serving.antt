@@ -1,6 +1,8 @@
 -- The module that is asked, and what is served of it; calls that leave the book.
-use Rattle.std.proofs.Common.{◌≡◌, refl, sym, ap, subst, ◌∙◌, ℕ, List, [], ◌∷◌, Option, Some, None, string_bytes}
-use Rattle.std.specs.Option.{option_map}
+use Rattle.std.proofs.Common.{◌≡◌, refl, sym, ap, subst, ◌∙◌, ℕ, List, [], ◌∷◌, Option, Some, None, Result, Ok, Err, Vec, ◌⊎◌, inl, inr, string_bytes}
+use Rattle.std.specs.Option.{option_map, IsSome, IfSome}
+use Rattle.std.proofs.lemmas.Result.{IfOk-weaker}
+use Rattle.std.specs.Result.{IfOk}
 use Rattle.std.specs.declared.alloc.Global.{Global}
 use Rattle.std.specs.Prelude.{String}
 use Rattle.serde_json.specs.Data.{Data}
@@ -11,7 +13,7 @@ use Rattle.kp_rules.specs.declared.rule.RuleSet.{RuleSet}
 use Rattle.kp_rpc.specs.Request.{RequestId}
 use Rattle.kp_rpc.specs.Reply.{error_reply, no_module, reply_bytes}
 use Rattle.kp_requests.specs.Requests.{Asked}
-use Rattle.kp_book.specs.Books.{Opening, Registration, meaning_in, first_of, rules_bound}
+use Rattle.kp_book.specs.Books.{Opening, Registration, first_of, rules_bound}
 use Rattle.kp_modules.specs.Made.{IsSetOf}
 use Rattle.kp_modules.specs.Openings.{IsTableOf}
 use Rattle.kp_modules.specs.Tables.{rule_set_of}
@@ -61,10 +63,28 @@ pub in_module_line : (o : Opening) (book : List Registration) (asked : Option Te
 in_module_line o book asked id RightOver s served line l = (l.0, in_module s l.0 served l.1, l.2)
 
 -- the line with code 3, where the name that is asked means nothing
-pub no_module_line : (o : Opening) (book : List Registration) (asked : Option (String Global)) (name : String Global) (id : RequestId) (RightOver : Setting → Data → Type 0) → asked ≡ Some name → MeansAt o book (module_asked o (option_map string_bytes asked)) None →
-    (line : List ℕ) → line ≡ reply_bytes (error_reply id (no_module (string_bytes name))) → IsLineOf (IsReplyIn o book (option_map string_bytes asked) id RightOver) line
-no_module_line o book asked name id RightOver is none line l =
-    (error_reply id (no_module (string_bytes name)), no_such_module (string_bytes name) (ap (option_map string_bytes) is, subst (λ a. meaning_in o book (module_asked o (option_map string_bytes a)) ≡ None) is none), l)
+pub no_module_line : (o : Opening) (book : List Registration) (asked : Option (String Global)) (id : RequestId) (RightOver : Setting → Data → Type 0) → IsSome asked → MeansAt o book (module_asked o (option_map string_bytes asked)) None →
+    (line : List ℕ) → IfSome asked (λ name. line ≡ reply_bytes (error_reply id (no_module (string_bytes name)))) → IsLineOf (IsReplyIn o book (option_map string_bytes asked) id RightOver) line
+no_module_line o book None id RightOver some means line l = absurd (cc some)
+no_module_line o book (Some name) id RightOver some means line l = (error_reply id (no_module (string_bytes name)), no_such_module (string_bytes name) (refl, means), l)
+
+-- rules are there, or a name was asked; so a name was asked where no rules are there
+pub was_asked : {X Y : Type 0} (rules : Option X) (asked : Option Y) → rules ≡ None → IsSome rules ⊎ IsSome asked → IsSome asked
+was_asked None asked is (inl some) = absurd (cc some)
+was_asked None asked is (inr some) = some
+was_asked (Some r) asked is either = absurd (cc is)
+
+-- ---- for all that was seen
+
+-- what an outcome has for each book it has for all of them
+pub for_all : {T E : Type 0} (r : Result T E) (Seen : Opening → List Registration → Type 0) (Holds : Opening → List Registration → T → Type 0) →
+    ((o : Opening) (book : List Registration) → Seen o book → IfOk r (Holds o book)) → IfOk r (λ x. (o : Opening) (book : List Registration) → Seen o book → Holds o book x)
+for_all (Ok x) Seen Holds h = h
+for_all (Err e) Seen Holds h = tt
+
+pub for_any : {T E : Type 0} (r : Result T E) (A : Type 0) → A → IfOk r (λ x. A)
+for_any (Ok x) A a = a
+for_any (Err e) A a = tt
 
 -- ---- what was seen stays
 
@@ -80,3 +100,24 @@ nothing_done registry before after asked same = stays registry before after (λ 
 pub line_stays : (registry : Registry) (before after : Pass) (id : RequestId) (asked : Asked) (line : List ℕ) → after ≡ before →
     ((o : Opening) (book : List Registration) → HasSeenAt registry before o book → IsLineOf (IsReplyTo o book id asked) line) → ForEachSeen (HasSeenAt registry before) (HasSeenAt registry after) (λ o book. IsReplyLine o book id asked line)
 line_stays registry before after id asked line same h = stays registry before after (λ o book. IsReplyLine o book id asked line) same (λ o book seen. let l = h o book seen in line_told l.0 l.1 l.2)
+
+-- ---- what a call of a method is answered
+
+-- the line over the module that is asked
+pub served_line : {E : Type 0} (r : Result (Vec ℕ Global) E) (registry : Registry) (pass : Pass) (asked : Option Text) (found : Option RuleSet) (rules : RuleSet) (id : RequestId) (RightOver : Setting → Data → Type 0) → found ≡ Some rules →
+    ((o : Opening) (book : List Registration) → HasSeenAt registry pass o book → MeansAt o book (module_asked o asked) found) →
+    ((s : Setting) → RunsAs s.theory rules → ¬ IsElsewhere s.main asked → IfOk r (λ line. IsLineOf (RightOver s) line.items)) →
+    IfOk r (λ line. (o : Opening) (book : List Registration) → HasSeenAt registry pass o book → IsLineOf (IsReplyIn o book asked id RightOver) line.items)
+served_line r registry pass asked found rules id RightOver is means right =
+    for_all r (HasSeenAt registry pass) (λ o book line. IsLineOf (IsReplyIn o book asked id RightOver) line.items)
+    (λ o book seen. let s = serves o book asked rules (subst (MeansAt o book (module_asked o asked)) is (means o book seen)) in
+        IfOk-weaker r _ _ (λ line l. in_module_line o book asked id RightOver s.setting s.served line.items l) (right s.setting s.runs s.here))
+
+-- the line where no such module is there
+pub unserved_line : {E : Type 0} (r : Result (Vec ℕ Global) E) (registry : Registry) (pass : Pass) (asked : Option (String Global)) (found : Option RuleSet) (id : RequestId) (RightOver : Setting → Data → Type 0) → found ≡ None → IsSome asked →
+    ((o : Opening) (book : List Registration) → HasSeenAt registry pass o book → MeansAt o book (module_asked o (option_map string_bytes asked)) found) →
+    IfOk r (λ line. IfSome asked (λ name. line.items ≡ reply_bytes (error_reply id (no_module (string_bytes name))))) →
+    IfOk r (λ line. (o : Opening) (book : List Registration) → HasSeenAt registry pass o book → IsLineOf (IsReplyIn o book (option_map string_bytes asked) id RightOver) line.items)
+unserved_line r registry pass asked found id RightOver is some means told =
+    for_all r (HasSeenAt registry pass) (λ o book line. IsLineOf (IsReplyIn o book (option_map string_bytes asked) id RightOver) line.items)
+    (λ o book seen. IfOk-weaker r _ _ (λ line l. no_module_line o book asked id RightOver some (subst (MeansAt o book (module_asked o (option_map string_bytes asked))) is (means o book seen)) line.items l) told)

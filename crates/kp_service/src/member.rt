@@ -140,7 +140,7 @@ fn execute_line(
 ) -> Result<Vec<u8>, AllocError>
     requires pass { IsPass pass.old }
     ensures pass { pass.new ≡ pass.old }
-    ensures { IfOk result (λ line. (o : Opening) (book : List Registration) → HasSeenAt registry.now pass.old o book →
+    ensures line { IfOk result (λ line. (o : Opening) (book : List Registration) → HasSeenAt registry.now pass.old o book →
         IsLineOf (IsReplyIn o book (options_view options).module_name (id_view id.now) (λ s. IsExecutedAs s (id_view id.now) (options_view options) (reading_view state))) line.items) }
 {
     match rules_at(alloc, registry, pass, &options.module_name)? {
@@ -161,7 +161,7 @@ fn implies_line(
 ) -> Result<Vec<u8>, AllocError>
     requires pass { IsPass pass.old }
     ensures pass { pass.new ≡ pass.old }
-    ensures { IfOk result (λ line. (o : Opening) (book : List Registration) → HasSeenAt registry.now pass.old o book →
+    ensures line { IfOk result (λ line. (o : Opening) (book : List Registration) → HasSeenAt registry.now pass.old o book →
         IsLineOf (IsReplyIn o book (name_view module_name) (id_view id.now) (λ s. IsImpliedAs s (id_view id.now) (name_view module_name) (reading_view antecedent) (reading_view consequent))) line.items) }
 {
     match rules_at(alloc, registry, pass, &module_name)? {
@@ -181,7 +181,7 @@ fn simplify_line(
 ) -> Result<Vec<u8>, AllocError>
     requires pass { IsPass pass.old }
     ensures pass { pass.new ≡ pass.old }
-    ensures { IfOk result (λ line. (o : Opening) (book : List Registration) → HasSeenAt registry.now pass.old o book →
+    ensures line { IfOk result (λ line. (o : Opening) (book : List Registration) → HasSeenAt registry.now pass.old o book →
         IsLineOf (IsReplyIn o book (name_view module_name) (id_view id.now) (λ s. IsSimplifiedAs s (id_view id.now) (reading_view state))) line.items) }
 {
     match rules_at(alloc, registry, pass, &module_name)? {

@@ -6,6 +6,7 @@ ghost use Rattle.kp_additions.specs.Served.{HasSeenAt};
 use crate::batch::answered_batch;
 use crate::member::{answered, text_of};
 use kp_conn::Answerer;
+use kp_modules::Table;
 use kp_registry::{Pass, Registry};
 use kp_requests::{Parsed, request_of};
 use kp_rpc::{Id, refusal_text};
@@ -16,6 +17,24 @@ use std::alloc::{AllocError, Global};
 #[derive(Drop)]
 pub struct Service {
     pub registry: Registry,
+}
+
+impl Service {
+    ghost use Rattle.std.specs.Prelude.{◌≤◌, [], IfOk};
+    ghost use Rattle.kp_book.specs.Books.{Opening};
+    ghost use Rattle.kp_modules.specs.Openings.{IsTableOf};
+    ghost use Rattle.kp_registry.specs.Passes.{IsPass};
+    ghost use Rattle.kp_additions.specs.Served.{HasSeenAt};
+
+    /// A service over a table's modules, with a pass that has seen no added ones.
+    pub fn begin(alloc: Global, table: Table, seats: usize) -> Result<(Service, Pass), AllocError>
+        requires seats { (1 ≤ seats) × (seats ≤ 64) }
+        ensures pass { IfOk result (λ out. IsPass out.1) }
+        ensures seen { (o : Opening) → IsTableOf o table → IfOk result (λ out. HasSeenAt out.0.registry out.1 o []) }
+    {
+        let (registry, pass) = Registry::begin(alloc, table, seats)?;
+        Ok((Service { registry }, pass))
+    }
 }
 
 impl Answerer for Service {
