@@ -1,5 +1,5 @@
 -- A module that is added, or why it isn't.
-use Rattle.std.proofs.Common.{◌≡◌, refl, sym, ap, ◌∙◌, ℕ, Bool, List, [], ◌∷◌, ◌++◌, Option, Some, None, Vec}
+use Rattle.std.proofs.Common.{◌≡◌, refl, sym, ap, subst, ◌∙◌, ℕ, Bool, List, [], ◌∷◌, ◌++◌, Option, Some, None, Vec}
 use Rattle.std.specs.Option.{option_map}
 use Rattle.std.specs.declared.alloc.Global.{Global}
 use Rattle.serde_json.specs.Data.{Data}
@@ -23,6 +23,10 @@ use Rattle.kp_service.proofs.Serving.{stays}
 
 abbrev pub EntersAll : Registry → Pass → Pass → List ℕ → Bool → List ℕ → Type 0
 EntersAll registry before after text flag id = (o : Opening) (book : List Registration) → HasSeenAt registry before o book → IsEntered o book text flag id registry after
+
+-- a text is its bytes
+pub enters_text : (registry : Registry) (before after : Pass) (bytes text : List ℕ) (flag : Bool) (id : List ℕ) → bytes ≡ text → EntersAll registry before after bytes flag id → EntersAll registry before after text flag id
+enters_text registry before after bytes text flag id is h = subst (λ t. EntersAll registry before after t flag id) is h
 
 sees_entered : (registry : Registry) (o : Opening) (book : List Registration) (text : List ℕ) (flag : Bool) (id : List ℕ) (after : Pass) (Holds : List Registration → Type 0) → (e : IsEntered o book text flag id registry after) →
     Holds (book ++ e.registration ∷ []) → Sees (HasSeenAt registry after o) book Holds
@@ -53,9 +57,9 @@ entered_yet registry before after text flag mid all o book seen =
 abbrev pub RefusesAll : Registry → Pass → List ℕ → Bool → Failure → Type 0
 RefusesAll registry before text flag f = (o : Opening) (book : List Registration) → HasSeenAt registry before o book → IsRefusedFor o book text flag f
 
-pub refused_all : (registry : Registry) (before : Pass) (text : List ℕ) (flag : Bool) (e : AdditionError) (f : Failure) → failure_told e ≡ Some f →
-    ((o : Opening) (book : List Registration) → HasSeenAt registry before o book → TellsRefusal o book text flag e) → RefusesAll registry before text flag f
-refused_all registry before text flag e f is h o book seen = h o book seen f is
+pub refused_all : (registry : Registry) (before : Pass) (bytes text : List ℕ) (flag : Bool) (e : AdditionError) (f : Failure) → bytes ≡ text → failure_told e ≡ Some f →
+    ((o : Opening) (book : List Registration) → HasSeenAt registry before o book → TellsRefusal o book bytes flag e) → RefusesAll registry before text flag f
+refused_all registry before bytes text flag e f same is h = subst (λ t. RefusesAll registry before t flag f) same (λ o book seen. h o book seen f is)
 
 pub refused_line_told : (registry : Registry) (before after : Pass) (text : List ℕ) (flag : Bool) (f : Failure) (id : RequestId) (line : List ℕ) → after ≡ before → RefusesAll registry before text flag f →
     (reply : Data) × (failure_reply id f ≡ Some reply) × (line ≡ reply_bytes reply) →

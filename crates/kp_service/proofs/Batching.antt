@@ -1,16 +1,18 @@
 -- Calls answered one behind another, and the text of their replies.
-use Rattle.std.proofs.Common.{◌≡◌, refl, sym, ap, subst, ◌∙◌, ℕ, suc, ◌-◌, length, take, true, List, [], ◌∷◌, ◌++◌, Option, Some, None, option_map, append-nil, append_assoc}
+use Rattle.std.proofs.Common.{◌≡◌, refl, sym, ap, subst, ◌∙◌, ℕ, suc, ◌-◌, length, take, true, List, [], ◌∷◌, ◌++◌, Option, Some, None, option_map, append-nil, append_assoc, arith}
 use Rattle.serde_json.specs.Data.{Data, array}
 use Rattle.serde_json.specs.Written.{compact_text, items_text}
-use Rattle.kp_rpc.specs.Request.{RequestId}
-use Rattle.kp_requests.specs.Requests.{Asked, Call}
+use Rattle.kp_rpc.specs.Reply.{RequestError, error_reply}
+use Rattle.kp_rpc.specs.Request.{RequestId, id_null}
+use Rattle.kp_requests.specs.Frames.{Asks}
+use Rattle.kp_requests.specs.Requests.{Asked, Call, single, batch, refused_whole}
 use Rattle.kp_book.specs.Books.{Opening, Registration}
 use Rattle.kp_conn.proofs.Conversing.{sees_behind, sees_more}
-use Rattle.kp_service.specs.Answers.{Adds, IsMember, told, added, silent, added_silently, with_reply, AreMembers, none, next, items_of, batch_reply, IsFront, IsAnswer, alone, together, IsBegun, begun_alone, begun_together}
+use Rattle.kp_service.specs.Answers.{Adds, IsMember, told, added, silent, added_silently, with_reply, AreMembers, none, next, items_of, batch_reply, IsFront, IsAnswer, refusal, alone, together}
 use Rattle.kp_conn.specs.Conversations.{ForEachSeen, Sees}
 use Rattle.kp_registry.specs.declared.book.Registry.{Registry}
 use Rattle.kp_registry.specs.declared.seen.Pass.{Pass}
-use Rattle.kp_service.specs.Batches.{IsReplyLine, line_told, line_added, IsEffect, adds_nothing, adds, MayHaveDone, did_nothing, did_add, IsMemberText, texts_behind, batch_front, AreTold, text_then, text_closed, IsNextTold, AreFirstTold, AreMembersText}
+use Rattle.kp_service.specs.Batches.{call_of, IsReplyLine, line_told, line_added, IsEffect, adds_nothing, adds, MayHaveDone, did_nothing, did_add, IsMemberText, texts_behind, batch_front, AreTold, text_with, text_then, text_closed, IsNextTold, AreFirstTold, AreMembersText}
 use Rattle.kp_additions.specs.Served.{HasSeenAt}
 
 -- ---- texts
@@ -44,8 +46,11 @@ take_front : (text more : List ℕ) → take (length text) (text ++ more) ≡ te
 take_front [] more = refl
 take_front (b ∷ text) more = ap (λ t. b ∷ t) (take_front text more)
 
+less_one : (n : ℕ) → suc n - 1 ≡ n
+less_one n = omega arith
+
 pub text_of_line : (text : List ℕ) → take (length (text ++ 10 ∷ []) - 1) (text ++ 10 ∷ []) ≡ text
-text_of_line text = ap (λ n. take (n - 1) (text ++ 10 ∷ [])) (line_length text) ∙ take_front text (10 ∷ [])
+text_of_line text = ap (λ n. take n (text ++ 10 ∷ [])) (ap (λ n. n - 1) (line_length text) ∙ less_one (length text)) ∙ take_front text (10 ∷ [])
 
 -- ---- calls
 
@@ -165,10 +170,52 @@ then_broken registry first now later calls rest call text f n o book seen =
 pub weaker : (registry : Registry) (first now : Pass) (P Q : Opening → List Registration → List Registration → Type 0) → ((o : Opening) (book after : List Registration) → P o book after → Q o book after) → Changes registry first now P → Changes registry first now Q
 weaker registry first now P Q f h o book seen = sees_more (HasSeenAt registry now o) book (P o book) (Q o book) (f o book) (h o book seen)
 
-pub told_whole : (registry : Registry) (first now : Pass) (calls : List Call) (text : List ℕ) (array : Option (List ℕ)) → array ≡ text_closed text → Changes registry first now (λ o book. AreFirstTold o book calls text []) →
-    Changes registry first now (λ o book. AreMembersText o book calls array)
-told_whole registry first now calls text array is h = weaker registry first now (λ o book. AreFirstTold o book calls text []) (λ o book. AreMembersText o book calls array)
+pub told_whole : (registry : Registry) (first now : Pass) (calls : List Call) (text : List ℕ) (whole : Option (List ℕ)) → whole ≡ text_closed text → Changes registry first now (λ o book. AreFirstTold o book calls text []) →
+    Changes registry first now (λ o book. AreMembersText o book calls whole)
+told_whole registry first now calls text whole is h = weaker registry first now (λ o book. AreFirstTold o book calls text []) (λ o book. AreMembersText o book calls whole)
     (λ o book after f. subst (λ a. AreMembersText o book calls a after) (sym is) (all_told o book after calls text f)) h
 
 pub whole_broken : (registry : Registry) (first now : Pass) (calls : List Call) (text : List ℕ) → Changes registry first now (λ o book. AreFirstTold o book calls text []) → Changes registry first now (λ o book. IsFront o book calls)
 whole_broken registry first now calls text h = weaker registry first now (λ o book. AreFirstTold o book calls text []) (λ o book. IsFront o book calls) (λ o book after f. all_front o book after calls text f) h
+
+-- ---- one call behind others, from its text
+
+pub next_some : (o : Opening) (book after : List Registration) (call : Call) (text longer reply : List ℕ) (reply_text : Option (List ℕ)) → reply_text ≡ Some reply → longer ≡ text_with text reply → IsMemberText o book call reply_text after → IsNextTold o book call text longer after
+next_some o book after call text longer reply reply_text is then h = by h.0 h.1 (sym is ∙ h.2)
+  where
+    by : (d : Option Data) → IsMember o book call d after → Some reply ≡ option_map compact_text d → IsNextTold o book call text longer after
+    by None m e = absurd (cc e)
+    by (Some d) m e =
+        let same : reply ≡ compact_text d = cc e in
+        (Some d, m, then ∙ ap (text_with text) same)
+
+pub next_none : (o : Opening) (book after : List Registration) (call : Call) (text : List ℕ) (reply_text : Option (List ℕ)) → reply_text ≡ None → IsMemberText o book call reply_text after → IsNextTold o book call text text after
+next_none o book after call text reply_text is h = by h.0 h.1 (sym is ∙ h.2)
+  where
+    by : (d : Option Data) → IsMember o book call d after → None ≡ option_map compact_text d → IsNextTold o book call text text after
+    by None m e = (None, m, refl)
+    by (Some d) m e = absurd (cc e)
+
+pub front_of_text : (o : Opening) (book after : List Registration) (call : Call) (reply_text : Option (List ℕ)) → IsMemberText o book call reply_text after → IsFront o book (call ∷ []) after
+front_of_text o book after call reply_text h = whole_front o book after call h.0 h.1
+
+-- ---- frames
+
+pub answer_alone : (o : Opening) (before after : List Registration) (bytes : List ℕ) (call : Call) (reply_text : Option (List ℕ)) → Asks bytes (single call) → IsMemberText o before call reply_text after → IsAnswer o before bytes reply_text after
+answer_alone o before after bytes call reply_text asked h = subst (λ x. IsAnswer o before bytes x after) (sym h.2) (alone call h.0 after asked h.1)
+
+pub answer_together : (o : Opening) (before after : List Registration) (bytes : List ℕ) (calls : List Call) (reply_text : Option (List ℕ)) → Asks bytes (batch calls) → AreMembersText o before calls reply_text after → IsAnswer o before bytes reply_text after
+answer_together o before after bytes calls reply_text asked h = subst (λ x. IsAnswer o before bytes x after) (sym h.2) (together calls h.0 after asked h.1)
+
+pub answer_refused : (o : Opening) (before : List Registration) (bytes : List ℕ) (e : RequestError) (text : List ℕ) → Asks bytes (refused_whole e) → text ≡ compact_text (error_reply id_null e) → IsAnswer o before bytes (Some text) before
+answer_refused o before bytes e text asked is = subst (λ x. IsAnswer o before bytes (Some x) before) (sym is) (refusal e asked)
+
+-- ---- calls by their ids
+
+pub with_id : (registry : Registry) (first now : Pass) (id other : Option RequestId) (asked : Asked) (reply_text : Option (List ℕ)) → id ≡ other → Changes registry first now (λ o book. IsMemberText o book (call_of other asked) reply_text) →
+    Changes registry first now (λ o book. IsMemberText o book (call_of id asked) reply_text)
+with_id registry first now id other asked reply_text is h = subst (λ i. Changes registry first now (λ o book. IsMemberText o book (call_of i asked) reply_text)) (sym is) h
+
+pub front_with_id : (registry : Registry) (first now : Pass) (id other : Option RequestId) (asked : Asked) → id ≡ other → Changes registry first now (λ o book. IsFront o book (call_of other asked ∷ [])) →
+    Changes registry first now (λ o book. IsFront o book (call_of id asked ∷ []))
+front_with_id registry first now id other asked is h = subst (λ i. Changes registry first now (λ o book. IsFront o book (call_of i asked ∷ []))) (sym is) h

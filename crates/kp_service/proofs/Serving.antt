@@ -2,7 +2,7 @@
 use Rattle.std.proofs.Common.{◌≡◌, refl, sym, ap, subst, ◌∙◌, ℕ, List, [], ◌∷◌, Option, Some, None, Result, Ok, Err, Vec, ◌⊎◌, inl, inr, string_bytes}
 use Rattle.std.specs.Option.{option_map, IsSome, IfSome}
 use Rattle.std.proofs.lemmas.Result.{IfOk-weaker}
-use Rattle.std.specs.Result.{IfOk}
+use Rattle.std.specs.Result.{IfOk, OnErr, OnOk}
 use Rattle.std.specs.declared.alloc.Global.{Global}
 use Rattle.std.specs.Prelude.{String}
 use Rattle.serde_json.specs.Data.{Data}
@@ -24,8 +24,8 @@ use Rattle.kp_conn.proofs.Conversing.{sees_same}
 use Rattle.kp_conn.specs.Conversations.{ForEachSeen}
 use Rattle.kp_server.specs.Setting.{IsElsewhere, Setting}
 use Rattle.kp_service.specs.Answered.{IsReplyIn, no_such_module, in_module}
-use Rattle.kp_service.specs.Answers.{IsReplyTo}
-use Rattle.kp_service.specs.Batches.{IsReplyLine, line_told, MayHaveDone, did_nothing}
+use Rattle.kp_service.specs.Answers.{AddsNothing, IsReplyTo}
+use Rattle.kp_service.specs.Batches.{IsEffect, adds_nothing, IsReplyLine, line_told, MayHaveDone, did_nothing}
 use Rattle.kp_service.specs.Meant.{IsServedAt, module_asked}
 use Rattle.kp_additions.specs.Served.{HasSeenAt}
 use Rattle.kp_service.specs.Told.{IsLineOf}
@@ -82,9 +82,9 @@ pub for_all : {T E : Type 0} (r : Result T E) (Seen : Opening → List Registrat
 for_all (Ok x) Seen Holds h = h
 for_all (Err e) Seen Holds h = tt
 
-pub for_any : {T E : Type 0} (r : Result T E) (A : Type 0) → A → IfOk r (λ x. A)
-for_any (Ok x) A a = a
-for_any (Err e) A a = tt
+pub for_any : {T E : Type 0} (r : Result T E) (Holds : T → Type 0) → ((x : T) → Holds x) → IfOk r Holds
+for_any (Ok x) Holds h = h x
+for_any (Err e) Holds h = tt
 
 -- ---- what was seen stays
 
@@ -92,6 +92,22 @@ for_any (Err e) A a = tt
 pub stays : (registry : Registry) (before after : Pass) (Holds : Opening → List Registration → List Registration → Type 0) → after ≡ before →
     ((o : Opening) (book : List Registration) → HasSeenAt registry before o book → Holds o book book) → ForEachSeen (HasSeenAt registry before) (HasSeenAt registry after) Holds
 stays registry before after Holds same h o book seen = sees_same (HasSeenAt registry after o) (Holds o book) book (subst (λ p. HasSeenAt registry p o book) (sym same) seen) (h o book seen)
+
+-- the same of what is asked, by another name
+pub lines_of : (registry : Registry) (before after : Pass) (id : RequestId) (x y : Asked) (line : List ℕ) → x ≡ y → ForEachSeen (HasSeenAt registry before) (HasSeenAt registry after) (λ o book. IsReplyLine o book id y line) →
+    ForEachSeen (HasSeenAt registry before) (HasSeenAt registry after) (λ o book. IsReplyLine o book id x line)
+lines_of registry before after id x y line is h = subst (λ z. ForEachSeen (HasSeenAt registry before) (HasSeenAt registry after) (λ o book. IsReplyLine o book id z line)) (sym is) h
+
+pub begun_of : {T E : Type 0} (r : Result T E) (registry : Registry) (before after : Pass) (x y : Asked) → x ≡ y → OnErr r (ForEachSeen (HasSeenAt registry before) (HasSeenAt registry after) (λ o book. MayHaveDone o book y)) →
+    OnErr r (ForEachSeen (HasSeenAt registry before) (HasSeenAt registry after) (λ o book. MayHaveDone o book x))
+begun_of r registry before after x y is h = subst (λ z. OnErr r (ForEachSeen (HasSeenAt registry before) (HasSeenAt registry after) (λ o book. MayHaveDone o book z))) (sym is) h
+
+pub effect_of : {T E : Type 0} (r : Result T E) (registry : Registry) (before after : Pass) (x y : Asked) → x ≡ y → OnOk r (ForEachSeen (HasSeenAt registry before) (HasSeenAt registry after) (λ o book. IsEffect o book y)) →
+    OnOk r (ForEachSeen (HasSeenAt registry before) (HasSeenAt registry after) (λ o book. IsEffect o book x))
+effect_of r registry before after x y is h = subst (λ z. OnOk r (ForEachSeen (HasSeenAt registry before) (HasSeenAt registry after) (λ o book. IsEffect o book z))) (sym is) h
+
+pub no_effect : (registry : Registry) (pass : Pass) (x y : Asked) → x ≡ y → ((o : Opening) (book : List Registration) → AddsNothing o book y) → ForEachSeen (HasSeenAt registry pass) (HasSeenAt registry pass) (λ o book. IsEffect o book x)
+no_effect registry pass x y is h = stays registry pass pass (λ o book. IsEffect o book x) refl (λ o book seen. subst (λ z. IsEffect o book z book) (sym is) (adds_nothing (h o book)))
 
 pub nothing_done : (registry : Registry) (before after : Pass) (asked : Asked) → after ≡ before → ForEachSeen (HasSeenAt registry before) (HasSeenAt registry after) (λ o book. MayHaveDone o book asked)
 nothing_done registry before after asked same = stays registry before after (λ o book. MayHaveDone o book asked) same (λ o book seen. did_nothing)
@@ -121,3 +137,8 @@ pub unserved_line : {E : Type 0} (r : Result (Vec ℕ Global) E) (registry : Reg
 unserved_line r registry pass asked found id RightOver is some means told =
     for_all r (HasSeenAt registry pass) (λ o book line. IsLineOf (IsReplyIn o book (option_map string_bytes asked) id RightOver) line.items)
     (λ o book seen. IfOk-weaker r _ _ (λ line l. no_module_line o book asked id RightOver some (subst (MeansAt o book (module_asked o (option_map string_bytes asked))) is (means o book seen)) line.items l) told)
+
+-- the name that is asked means what it means
+pub asked_means : (o : Opening) (book : List Registration) (asked : Option (String Global)) (name : String Global) (text : Text) (rules : Option RuleSet) → asked ≡ Some name → text ≡ string_bytes name → MeansAt o book text rules →
+    MeansAt o book (module_asked o (option_map string_bytes asked)) rules
+asked_means o book asked name text rules is same m = subst (λ a. MeansAt o book (module_asked o (option_map string_bytes a)) rules) (sym is) (subst (λ t. MeansAt o book t rules) same m)

@@ -10,6 +10,10 @@ use Rattle.kp_requests.specs.Requests.{Asked, Call}
 use Rattle.kp_book.specs.Books.{Opening, Registration}
 use Rattle.kp_service.specs.Answers.{Adds, AddsNothing, IsReplyTo, IsMember, AreMembers, batch_reply}
 
+-- a call with this id, or a notification
+abbrev pub call_of : Option RequestId → Asked → Call
+call_of id asked = record { id = id; asked = asked }
+
 -- the line replies to what is asked, and this is seen behind it
 pub data IsReplyLine (o : Opening) (book : List Registration) (id : RequestId) (asked : Asked) (line : List ℕ) : List Registration → Type 0 where
   line_told : (reply : Data) → IsReplyTo o book id asked reply → line ≡ reply_bytes reply → IsReplyLine o book id asked line book

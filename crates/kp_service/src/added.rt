@@ -4,7 +4,8 @@ ghost use Rattle.std.specs.Str.{IsUtf8};
 ghost use Rattle.serde_json.specs.Data.{Data};
 ghost use Rattle.kp_rpc.specs.Reply.{reply_bytes, result_reply};
 ghost use Rattle.kp_rpc.specs.View.{id_view};
-ghost use Rattle.kp_replies.specs.Failures.{failure_reply};
+ghost use Rattle.kp_replies.specs.Failures.{Failure as Refusal, failure_reply};
+ghost use Rattle.kp_additions.specs.Told.{failure_told};
 ghost use Rattle.kp_replies.specs.View.{failure_view};
 ghost use Rattle.kp_replies.specs.Written.{added_tree};
 ghost use Rattle.kp_requests.specs.Requests.{asks, add_module};
@@ -58,8 +59,18 @@ pub fn add_silently(
 {
     match add_module(alloc, registry, pass, text.into_bytes(), name_as_id) {
         Ok(_id) => Ok(()),
-        Err(AdditionError::Memory) => Err(AllocError),
-        Err(_refused) => Ok(()),
+        Err(error) => unless_memory(&error),
+    }
+}
+
+/// Want of memory; a refusal is none.
+fn unless_memory(error: &AdditionError) -> Result<(), AllocError>
+    ensures { OnOk result ((f : Refusal) × (failure_told error.now ≡ Some f)) }
+{
+    match error {
+        AdditionError::Bad(_fault) => Ok(()),
+        AdditionError::Duplicate { .. } => Ok(()),
+        AdditionError::Memory => Err(AllocError),
     }
 }
 

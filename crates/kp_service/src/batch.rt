@@ -44,7 +44,8 @@ fn answer_next(
     ensures told { OnOk result (ForEachSeen (HasSeenAt registry.now pass.old) (HasSeenAt registry.now pass.new) (λ o book. IsNextTold o book (call_view call) replies.old.items replies.new.items)) }
     ensures begun { OnErr result (ForEachSeen (HasSeenAt registry.now pass.old) (HasSeenAt registry.now pass.new) (λ o book. IsFront o book (call_view call ∷ []))) }
 {
-    match answered(alloc, registry, pass, call)? {
+    let told = answered(alloc, registry, pass, call)?;
+    match told {
         Some(reply) => add_reply(replies, &reply),
         None => Ok(()),
     }

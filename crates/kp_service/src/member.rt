@@ -1,5 +1,5 @@
 // One call, alone or in a batch.
-ghost use Rattle.std.specs.Prelude.{◌≡◌, ◌⊎◌, ◌∷◌, ◌++◌, [], ℕ, List, Some, IfOk, IfSome, IsSome, OnErr, OnOk, option_map, string_bytes};
+ghost use Rattle.std.specs.Prelude.{◌≡◌, ◌⊎◌, ◌∷◌, ◌++◌, [], ℕ, List, Some, None, IfOk, IfSome, IsSome, OnErr, OnOk, option_map, string_bytes};
 ghost use Rattle.kp_rpc.specs.Reply.{error_reply, no_module, reply_bytes};
 ghost use Rattle.kp_rpc.specs.View.{id_view, name_view, options_view};
 ghost use Rattle.kp_requests.specs.Requests as requests;
@@ -9,7 +9,7 @@ ghost use Rattle.kp_registry.specs.Passes.{IsPass, MeansAt};
 ghost use Rattle.kp_conn.specs.Conversations.{ForEachSeen};
 ghost use Rattle.kp_service.specs.Answered.{IsExecutedAs, IsImpliedAs, IsReplyIn, IsSimplifiedAs};
 ghost use Rattle.kp_service.specs.Answers.{IsFront};
-ghost use Rattle.kp_service.specs.Batches.{IsEffect, IsMemberText, IsReplyLine, MayHaveDone};
+ghost use Rattle.kp_service.specs.Batches.{call_of, IsEffect, IsMemberText, IsReplyLine, MayHaveDone};
 ghost use Rattle.kp_service.specs.Meant.{module_asked};
 ghost use Rattle.kp_additions.specs.Served.{HasSeenAt};
 ghost use Rattle.kp_service.specs.Told.{IsLineOf};
@@ -39,12 +39,42 @@ pub fn answered(
 {
     let Call { id, asked } = call;
     match id {
-        Some(id) => Ok(Some(text_of(reply_line(alloc, registry, pass, &id, asked)?))),
-        None => {
-            take_effect(alloc, registry, pass, asked)?;
-            Ok(None)
-        }
+        Some(id) => reply_text(alloc, registry, pass, &id, asked),
+        None => no_text(alloc, registry, pass, asked),
     }
+}
+
+/// The text of the reply with this id.
+fn reply_text(
+    alloc: Global,
+    registry: &Registry,
+    pass: &mut Pass,
+    id: &Id,
+    asked: Asked,
+) -> Result<Option<Vec<u8>>, AllocError>
+    requires pass { IsPass pass.old }
+    ensures pass { IsPass pass.new }
+    ensures told { IfOk result (λ reply. ForEachSeen (HasSeenAt registry.now pass.old) (HasSeenAt registry.now pass.new) (λ o book. IsMemberText o book (call_of (Some (id_view id.now)) (asked_view asked)) (option_map (λ text. text.items) reply))) }
+    ensures begun { OnErr result (ForEachSeen (HasSeenAt registry.now pass.old) (HasSeenAt registry.now pass.new) (λ o book. IsFront o book (call_of (Some (id_view id.now)) (asked_view asked) ∷ []))) }
+{
+    let line = reply_line(alloc, registry, pass, id, asked)?;
+    Ok(Some(text_of(line)))
+}
+
+/// None: a notification has no reply.
+fn no_text(
+    alloc: Global,
+    registry: &Registry,
+    pass: &mut Pass,
+    asked: Asked,
+) -> Result<Option<Vec<u8>>, AllocError>
+    requires pass { IsPass pass.old }
+    ensures pass { IsPass pass.new }
+    ensures told { IfOk result (λ reply. ForEachSeen (HasSeenAt registry.now pass.old) (HasSeenAt registry.now pass.new) (λ o book. IsMemberText o book (call_of None (asked_view asked)) (option_map (λ text. text.items) reply))) }
+    ensures begun { OnErr result (ForEachSeen (HasSeenAt registry.now pass.old) (HasSeenAt registry.now pass.new) (λ o book. IsFront o book (call_of None (asked_view asked) ∷ []))) }
+{
+    take_effect(alloc, registry, pass, asked)?;
+    Ok(None)
 }
 
 /// A line without its line feed.
@@ -69,13 +99,30 @@ fn take_effect(
     ensures begun { OnErr result (ForEachSeen (HasSeenAt registry.now pass.old) (HasSeenAt registry.now pass.new) (λ o book. MayHaveDone o book (asked_view asked))) }
 {
     match asked {
-        Asked::Request(Request::AddModule { text, name_as_id }) => {
+        Asked::Request(request) => request_effect(alloc, registry, pass, request),
+        Asked::Refused(_refusal) => Ok(()),
+    }
+}
+
+/// What a notification of a method does: add-module adds its module, the others do nothing.
+fn request_effect(
+    alloc: Global,
+    registry: &Registry,
+    pass: &mut Pass,
+    request: Request,
+) -> Result<(), AllocError>
+    requires pass { IsPass pass.old }
+    ensures pass { IsPass pass.new }
+    ensures done { OnOk result (ForEachSeen (HasSeenAt registry.now pass.old) (HasSeenAt registry.now pass.new) (λ o book. IsEffect o book (requests.asks (request_view request)))) }
+    ensures begun { OnErr result (ForEachSeen (HasSeenAt registry.now pass.old) (HasSeenAt registry.now pass.new) (λ o book. MayHaveDone o book (requests.asks (request_view request)))) }
+{
+    match request {
+        Request::AddModule { text, name_as_id } => {
             add_silently(alloc, registry, pass, text, name_as_id)
         }
-        Asked::Request(Request::Execute { .. })
-        | Asked::Request(Request::Implies { .. })
-        | Asked::Request(Request::Simplify { .. })
-        | Asked::Refused(_) => Ok(()),
+        Request::Execute { .. } => Ok(()),
+        Request::Implies { .. } => Ok(()),
+        Request::Simplify { .. } => Ok(()),
     }
 }
 

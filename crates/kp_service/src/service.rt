@@ -57,11 +57,10 @@ impl Answerer for Service {
         match request_of(alloc, frame)? {
             Parsed::Single(call) => answered(alloc, &self.registry, pass, call),
             Parsed::Batch(calls) => answered_batch(alloc, &self.registry, pass, calls),
-            Parsed::Refused(refusal) => Ok(Some(text_of(refusal_text(
-                alloc,
-                &Id::Null,
-                refusal,
-            )?))),
+            Parsed::Refused(refusal) => {
+                let line = refusal_text(alloc, &Id::Null, refusal)?;
+                Ok(Some(text_of(line)))
+            }
         }
     }
 }

@@ -21,5 +21,5 @@ returns-in-None-clause-line c =
     unserved_line c.no_module_line.result c.args.registry.now c.args.pass.now c.args.options.module_name _ id (λ s. IsExecutedAs s id options (reading_view c.args.state)) (ap (option_map (λ r. r.value)) c.in-None.is)
     (was_asked c.in_ok-rules.field-0 c.args.options.module_name c.in-None.is c.in_ok-rules.ensures.named) c.in_ok-rules.ensures.means c.no_module_line.ensures
 
-pub no_module_line-requires-clause-named : goal.no_module_line-requires-clause-named
-no_module_line-requires-clause-named c = was_asked c.in_ok-rules.field-0 c.args.options.module_name c.in-None.is c.in_ok-rules.ensures.named
+pub no_module_line-requires : goal.no_module_line-requires
+no_module_line-requires c = record { named = was_asked c.in_ok-rules.field-0 c.args.options.module_name c.in-None.is c.in_ok-rules.ensures.named }
