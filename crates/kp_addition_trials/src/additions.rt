@@ -37,6 +37,9 @@ fn begun(alloc: Global) -> Result<(Registry, Pass), Fail>
 /// A text with whether its module's own name is to be bound.
 type Asked = (&'static str, bool);
 
+/// What is told, in numbers.
+type Told = (u64, u64, u64);
+
 /// What adding the text gives.
 fn add(
     alloc: Global,
@@ -64,7 +67,7 @@ fn add_all(alloc: Global, registry: &Registry, pass: &mut Pass, all: &[Asked]) -
 
 /// What is told: a text's fault by 1, its kind and its place; M1, M6, M7 and M9 by 10 and more, and the number of the
 /// axiom or of the sentence; a duplicate by 9 and the entry; 0 for an id, and 2 for want of memory.
-fn numbers(told: &Result<Id, AdditionError>) -> (u64, u64, u64) {
+fn numbers(told: &Result<Id, AdditionError>) -> Told {
     match told {
         Ok(_id) => (0, 0, 0),
         Err(AdditionError::Memory) => (2, 0, 0),
@@ -74,7 +77,7 @@ fn numbers(told: &Result<Id, AdditionError>) -> (u64, u64, u64) {
 }
 
 /// The numbers of a fault.
-fn fault_numbers(fault: &AdditionFault) -> (u64, u64, u64) {
+fn fault_numbers(fault: &AdditionFault) -> Told {
     match fault {
         AdditionFault::BadText { at, kind } => (1, *kind, *at),
         AdditionFault::UnknownImport { .. } => (11, 0, 0),
@@ -114,7 +117,7 @@ fn behind(
     all: &[Asked],
     last: Asked,
     name: &str,
-) -> Result<((u64, u64, u64), bool, usize), Fail> {
+) -> Result<(Told, bool, usize), Fail> {
     let (registry, mut pass) = begun(alloc)?;
     add_all(alloc, &registry, &mut pass, all)?;
     let told = add(alloc, &registry, &mut pass, last)?;
@@ -123,7 +126,7 @@ fn behind(
 }
 
 /// Texts that are refused by an empty book, what is told, and the name that is told.
-const ALONE: [(&str, bool, (u64, u64, u64), &str); 9] = [
+const ALONE: [(&str, bool, Told, &str); 9] = [
     ("module X", false, (1, 5, 8), ""),
     ("module X import NOPE [] !", false, (1, 1, 24), ""),
     (
@@ -179,7 +182,7 @@ fn texts_are_refused(rt: HostRuntime) -> Result<(), Fail> {
 }
 
 /// Texts that are refused or added behind `NEXT` with its own name.
-const BEHIND: [(&str, bool, (u64, u64, u64), &str, usize); 8] = [
+const BEHIND: [(&str, bool, Told, &str, usize); 8] = [
     (NEXT, true, (0, 0, 0), NEXT_ID, 2),
     (NEXT, false, (0, 0, 0), NEXT_ID, 2),
     (SPACED, true, (9, 1, 0), "NEXT", 1),
@@ -307,18 +310,20 @@ fn add_often(
     Ok(())
 }
 
-/// What the text gives behind `NEXT`, so many times.
-fn behind_many(alloc: Global, times: usize, last: Asked) -> Result<((u64, u64, u64), usize), Fail> {
+/// What a last text of a full book gives, the same once more, another text of a bound name; and the number of entries.
+fn filled(alloc: Global) -> Result<((Told, Told, Told), usize), Fail> {
     let (registry, mut pass) = begun(alloc)?;
-    add_often(alloc, &registry, &mut pass, (NEXT, true), times)?;
-    let told = add(alloc, &registry, &mut pass, last)?;
-    Ok((numbers(&told), pass.entries.len()))
+    add_often(alloc, &registry, &mut pass, (NEXT, true), 4095)?;
+    let last = numbers(&add(alloc, &registry, &mut pass, (NEXT, true))?);
+    let beyond = numbers(&add(alloc, &registry, &mut pass, (NEXT, true))?);
+    let bound = numbers(&add(alloc, &registry, &mut pass, (SPACED, true))?);
+    Ok(((last, beyond, bound), pass.entries.len()))
 }
 
 #[test]
 fn a_book_has_4096_entries(rt: HostRuntime) -> Result<(), Fail> {
-    assert!(rt; behind_many(rt.alloc(), 4095, (NEXT, true))? == ((0, 0, 0), 4096));
-    assert!(rt; behind_many(rt.alloc(), 4096, (NEXT, true))? == ((19, 0, 0), 4096));
-    assert!(rt; behind_many(rt.alloc(), 4096, (SPACED, true))? == ((9, 1, 0), 4096));
+    let (told, entries) = filled(rt.alloc())?;
+    assert!(rt; told == ((0, 0, 0), (19, 0, 0), (9, 1, 0)));
+    assert_eq!(rt; entries, 4096);
     Ok(())
 }

@@ -2,11 +2,12 @@
 use Rattle.std.proofs.Common.{◌≡◌, refl, sym, ap, subst, ◌∙◌, ℕ, zero, suc, ◌<◌, ◌≤◌, ◌+◌, List, [], ◌∷◌, ◌++◌, length, map, take, drop, get_or, Option, Some, None, Result, Ok, Err, IsErr, IsErrAnd, IfErr, Global, arith}
 use Rattle.std.specs.List.{AllZip}
 use Rattle.std.specs.declared.sync.Arc.{Arc}
-use Rattle.std.proofs.Math.Seq.{take-suc}
-use Rattle.std.proofs.lemmas.List.{append-nil, map-append, take_all}
-use Rattle.kp_kore.specs.Syntax.{Text, KoreSentence, import_sentence, sort_sentence, symbol_sentence, alias_sentence, axiom_sentence, claim_sentence}
+use Rattle.std.proofs.lemmas.List.{append-nil}
+use Rattle.kp_kore.specs.Syntax.{Text}
 use Rattle.kp_kore.specs.View.{sentence_view}
 use Rattle.kp_kore.specs.declared.sentence.Sentence.{Sentence}
+use Rattle.kp_imports.specs.Walks.{import_names}
+use Rattle.kp_imports.proofs.Sentences.{all_taken, imports_in-append, one_further}
 use Rattle.kp_rules.specs.declared.rule.RuleSet.{RuleSet}
 use Rattle.kp_semantics.specs.Theory.{NumberedAxiom, imports_in}
 use Rattle.kp_book.specs.Books.{Opening, Registration, meaning_in}
@@ -22,29 +23,6 @@ exit (Ok x) P e h p = tt
 exit (Err y) P e h p = subst P (sym h.1) p
 
 -- ---- imports
-
-abbrev pub import_names : List Sentence → List Text
-import_names ss = imports_in (map sentence_view ss)
-
-imports_in-append : (ss ts : List KoreSentence) → imports_in (ss ++ ts) ≡ imports_in ss ++ imports_in ts
-imports_in-append [] ts = refl
-imports_in-append (import_sentence n a ∷ ss) ts = ap (λ l. n ∷ l) (imports_in-append ss ts)
-imports_in-append (sort_sentence d ∷ ss) ts = imports_in-append ss ts
-imports_in-append (symbol_sentence d ∷ ss) ts = imports_in-append ss ts
-imports_in-append (alias_sentence d ∷ ss) ts = imports_in-append ss ts
-imports_in-append (axiom_sentence a ∷ ss) ts = imports_in-append ss ts
-imports_in-append (claim_sentence a ∷ ss) ts = imports_in-append ss ts
-
--- the imports up to the next sentence
-further : (ss : List Sentence) (i : ℕ) (s : Sentence) (own : List Text) → i < length ss → s ≡ get_or ss i s → imports_in (sentence_view s ∷ []) ≡ own → import_names (take (i + 1) ss) ≡ import_names (take i ss) ++ own
-further ss i s own h e is =
-    let more : i + 1 ≡ suc i = omega arith in
-    ap (λ k. import_names (take k ss)) more
-    ∙ ap import_names (take-suc ss i s h)
-    ∙ ap imports_in (map-append sentence_view (take i ss) (get_or ss i s ∷ []))
-    ∙ imports_in-append (map sentence_view (take i ss)) (sentence_view (get_or ss i s) ∷ [])
-    ∙ ap (λ t. import_names (take i ss) ++ imports_in (sentence_view t ∷ [])) (sym e)
-    ∙ ap (λ l. import_names (take i ss) ++ l) is
 
 sentences_parted : (ss : List Sentence) (i : ℕ) (d : Sentence) → i < length ss → map sentence_view ss ≡ map sentence_view (take i ss) ++ sentence_view (get_or ss i d) ∷ map sentence_view (drop (suc i) ss)
 sentences_parted [] i d h = absurd (omega (arith, h))
@@ -70,15 +48,15 @@ zip_then R (a ∷ xs) (b ∷ ys) x y are is = (are.0, zip_then R xs ys x y are.1
 pub one_meant : (o : Opening) (book : List Registration) (ss : List Sentence) (i : ℕ) (s : Sentence) (n : Text) (sets : List (Arc RuleSet Global)) (rules : Arc RuleSet Global) → i < length ss → s ≡ get_or ss i s → imports_in (sentence_view s ∷ []) ≡ n ∷ [] →
     AreMeant o book (import_names (take i ss)) sets → MeansAt o book n (Some rules.value) → AreMeant o book (import_names (take (i + 1) ss)) (sets ++ rules ∷ [])
 one_meant o book ss i s n sets rules h e own are is =
-    subst (λ names. AreMeant o book names (sets ++ rules ∷ [])) (sym (further ss i s (n ∷ []) h e own))
+    subst (λ names. AreMeant o book names (sets ++ rules ∷ [])) (sym (one_further ss i s (n ∷ []) h e own))
     (zip_then (λ name x. MeansAt o book name (Some x.value)) (import_names (take i ss)) sets n rules are is)
 
 pub none_meant : (o : Opening) (book : List Registration) (ss : List Sentence) (i : ℕ) (s : Sentence) (sets : List (Arc RuleSet Global)) → i < length ss → s ≡ get_or ss i s → imports_in (sentence_view s ∷ []) ≡ [] →
     AreMeant o book (import_names (take i ss)) sets → AreMeant o book (import_names (take (i + 1) ss)) sets
-none_meant o book ss i s sets h e own are = subst (λ names. AreMeant o book names sets) (sym (further ss i s [] h e own ∙ append-nil (import_names (take i ss)))) are
+none_meant o book ss i s sets h e own are = subst (λ names. AreMeant o book names sets) (sym (one_further ss i s [] h e own ∙ append-nil (import_names (take i ss)))) are
 
 pub all_meant : (o : Opening) (book : List Registration) (ss : List Sentence) (i : ℕ) (sets : List (Arc RuleSet Global)) → length ss ≤ i → AreMeant o book (import_names (take i ss)) sets → AreMeant o book (import_names ss) sets
-all_meant o book ss i sets h are = subst (λ l. AreMeant o book (import_names l) sets) (take_all i ss h) are
+all_meant o book ss i sets h are = subst (λ names. AreMeant o book names sets) (all_taken ss i h) are
 
 pub all_bound : (o : Opening) (book : List Registration) (names : List Text) (sets : List (Arc RuleSet Global)) → AreMeant o book names sets → AreBound o book names
 all_bound o book [] [] h = tt

@@ -5,7 +5,9 @@ use Rattle.kp_kore.specs.Syntax.{Text, KoreModule}
 use Rattle.kp_kore.specs.Signature.{KoreSignature}
 use Rattle.kp_kore.specs.View.{module_view, sentence_view}
 use Rattle.kp_kore.specs.declared.sentence.Module.{Module}
-use Rattle.kp_text.specs.Spelling.{SpellsModule}
+use Rattle.kp_text.specs.Kinds.{kind_number}
+use Rattle.kp_text.specs.Spelling.{IsFaultOf, IsModuleText, SpellsModule}
+use Rattle.kp_text.specs.declared.fault.TextFault.{TextFault}
 use Rattle.kp_rules.specs.declared.rule.RuleSet.{RuleSet}
 use Rattle.kp_semantics.specs.Theory.{NumberedAxiom, imports_in}
 use Rattle.kp_book.specs.Books.{Opening, Registration, IsDuplicate, extended}
@@ -16,8 +18,8 @@ use Rattle.kp_registry.specs.Passes.{IsEntryOf, own_name_asked}
 use Rattle.kp_registry.specs.Refusals.{IsAlsoDuplicate, IsAlsoFree, IsFree, IsRefused, IsWelcome, own_name_of}
 use Rattle.kp_registry.specs.declared.book.RegisterFault.TheVariants.{Duplicate, Many}
 use Rattle.kp_registry.specs.declared.seen.Entry.{Entry}
-use Rattle.kp_replies.specs.Failures.{Failure, bad_module, full_book, duplicate}
-use Rattle.kp_additions.specs.Added.{IsAdded, IsRefusedFor, IsSound, no_rule, declares, no_room, other_id, other_name}
+use Rattle.kp_replies.specs.Failures.{Failure, bad_module, bad_text, unknown_import, full_book, duplicate}
+use Rattle.kp_additions.specs.Added.{IsAdded, IsFirstUnbound, IsRefusedFor, IsSound, no_import, no_module, no_rule, declares, no_room, other_id, other_name}
 use Rattle.kp_additions.specs.Told.{AreMeant, IsReadied, sentence_fault}
 use Rattle.kp_additions.proofs.Meanings.{listed, all_bound}
 
@@ -48,6 +50,13 @@ readied o g book text flag m id sets rules e same is_id spells are set addable t
     }
 
 -- ---- refusals
+
+pub of_text : (o : Opening) (book : List Registration) (text : List ℕ) (flag : Bool) (f : Failure) (t : TextFault) → f ≡ bad_module (bad_text t.at (kind_number t.kind)) → IsFaultOf IsModuleText text t → IsRefusedFor o book text flag f
+of_text o book text flag f t is h = subst (IsRefusedFor o book text flag) (sym is) (no_module t h)
+
+pub of_import : (o : Opening) (book : List Registration) (text : List ℕ) (flag : Bool) (m : KoreModule) (f : Failure) (name : Text) → SpellsModule text m → f ≡ bad_module (unknown_import name) → IsFirstUnbound o book (imports_in m.sentences) name →
+    IsRefusedFor o book text flag f
+of_import o book text flag m f name spells is h = subst (IsRefusedFor o book text flag) (sym is) (no_import m name spells h)
 
 of_fault : (o : Opening) (book : List Registration) (text : List ℕ) (flag : Bool) (m : KoreModule) (x : ExtendFault) → SpellsModule text m → (sets : List (Arc RuleSet Global)) → AreMeant o book (imports_in m.sentences) sets →
     IsExtendFault o.signature (id_of text) m x → IsRefusedFor o book text flag (bad_module (sentence_fault x))

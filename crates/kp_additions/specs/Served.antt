@@ -12,3 +12,7 @@ pub record HasSeenAt (registry : Registry) (pass : Pass) (o : Opening) (book : L
   pub table : IsTableOf o registry.table
   pub seen : HasSeen o.signature book pass
   pub legal : IsLegal o book
+
+-- this holds at every opening and book that the pass has seen
+abbrev pub AtEachBookSeen : Registry → Pass → (Opening → List Registration → Type 0) → Type 0
+AtEachBookSeen registry pass Holds = (o : Opening) (book : List Registration) → HasSeenAt registry pass o book → Holds o book

@@ -4,12 +4,16 @@ use Rattle.std.specs.List.{AllZip}
 use Rattle.std.specs.declared.alloc.Global.{Global}
 use Rattle.std.specs.declared.sync.Arc.{Arc}
 use Rattle.kp_kore.specs.Syntax.{Text, KoreModule}
+use Rattle.kp_kore.specs.Signature.{KoreSignature}
+use Rattle.kp_text.specs.Kinds.{kind_number}
+use Rattle.kp_text.specs.Spelling.{IsFaultOf, IsModuleText}
+use Rattle.kp_text.specs.declared.fault.TextFault.{TextFault}
 use Rattle.kp_semantics.specs.Theory.{NumberedAxiom, imports_in}
 use Rattle.kp_rules.specs.declared.rule.RuleSet.{RuleSet}
-use Rattle.kp_replies.specs.Failures.{AdditionFault, bad_axiom, bad_sentence, Failure, bad_module, duplicate}
+use Rattle.kp_replies.specs.Failures.{AdditionFault, bad_text, bad_axiom, bad_sentence, unknown_import, Failure, bad_module, duplicate}
 use Rattle.kp_replies.specs.View.{addition_view}
 use Rattle.kp_book.specs.Books.{Opening, Registration, meaning_in, extended}
-use Rattle.kp_extensions.specs.Extending.{ExtendFault, rule_fault, declaration}
+use Rattle.kp_extensions.specs.Extending.{ExtendFault, IsExtendFault, rule_fault, declaration}
 use Rattle.kp_modules.specs.Made.{IsSetOf}
 use Rattle.kp_registry.specs.Legal.{id_of}
 use Rattle.kp_registry.specs.Passes.{MeansAt, own_name_asked}
@@ -17,7 +21,7 @@ use Rattle.kp_registry.specs.Refusals.{own_name_of}
 use Rattle.kp_registry.specs.declared.book.Registry.{Registry}
 use Rattle.kp_registry.specs.declared.seen.Entry.{Entry}
 use Rattle.kp_registry.specs.declared.seen.Pass.{Pass}
-use Rattle.kp_additions.specs.Added.{IsAdded, IsRefusedFor, IsSound}
+use Rattle.kp_additions.specs.Added.{IsAdded, IsFirstUnbound, IsRefusedFor, IsSound}
 use Rattle.kp_additions.specs.Served.{HasSeenAt}
 use Rattle.kp_additions.specs.declared.error.AdditionError.{AdditionError}
 use Rattle.kp_additions.specs.declared.error.AdditionError.TheVariants as error
@@ -34,17 +38,33 @@ failure_told (error.Duplicate entry name) = Some (duplicate entry (string_bytes 
 abbrev pub TellsRefusal : Opening → List Registration → List ℕ → Bool → AdditionError → Type 0
 TellsRefusal o book text name_as_id e = (f : Failure) → failure_told e ≡ Some f → IsRefusedFor o book text name_as_id f
 
+-- or the text's fault
+abbrev pub TellsText : List ℕ → AdditionError → Type 0
+TellsText text e = (f : Failure) → failure_told e ≡ Some f → (t : TextFault) × (f ≡ bad_module (bad_text t.at (kind_number t.kind))) × IsFaultOf IsModuleText text t
+
+-- or that the name means nothing at the book
+abbrev pub TellsNoMeaning : Opening → List Registration → Text → AdditionError → Type 0
+TellsNoMeaning o book name e = (f : Failure) → failure_told e ≡ Some f → (f ≡ bad_module (unknown_import name)) × (meaning_in o book name ≡ None)
+
+-- or the first of these names that means nothing at the book
+abbrev pub TellsUnbound : Opening → List Registration → List Text → AdditionError → Type 0
+TellsUnbound o book names e = (f : Failure) → failure_told e ≡ Some f → (name : Text) × (f ≡ bad_module (unknown_import name)) × IsFirstUnbound o book names name
+
+-- an axiom or a sentence of an added module is at fault
+abbrev pub sentence_fault : ExtendFault → AdditionFault
+sentence_fault (rule_fault n) = bad_axiom n
+sentence_fault (declaration n) = bad_sentence n
+
+-- or the first fault of the module's axioms and sentences
+abbrev pub TellsUnsound : KoreSignature → Text → KoreModule → AdditionError → Type 0
+TellsUnsound g id m e = (f : Failure) → failure_told e ≡ Some f → (x : ExtendFault) × (f ≡ bad_module (sentence_fault x)) × IsExtendFault g id m x
+
 -- the text is added behind the book under this id, and the pass has seen it there
 pub record IsEntered (o : Opening) (book : List Registration) (text : List ℕ) (name_as_id : Bool) (id : Text) (registry : Registry) (pass : Pass) : Type 0 where
   pub registration : Registration
   pub is_added : IsAdded o book text name_as_id registration
   pub is_id : registration.id ≡ id
   pub seen : HasSeenAt registry pass o (book ++ registration ∷ [])
-
--- an axiom or a sentence of an added module is at fault
-abbrev pub sentence_fault : ExtendFault → AdditionFault
-sentence_fault (rule_fault n) = bad_axiom n
-sentence_fault (declaration n) = bad_sentence n
 
 -- ---- what is ready
 

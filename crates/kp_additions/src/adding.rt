@@ -6,19 +6,17 @@ ghost use Rattle.kp_kore.specs.Syntax.{Text};
 ghost use Rattle.kp_kore.specs.View.{module_view};
 ghost use Rattle.kp_semantics.specs.Theory.{NumberedAxiom};
 ghost use Rattle.kp_signature.specs.View.{signature_view};
-ghost use Rattle.kp_text.specs.Kinds.{kind_number};
-ghost use Rattle.kp_text.specs.Spelling.{IsFaultOf, IsModuleText, SpellsModule};
-ghost use Rattle.kp_text.specs.declared.fault.TextFault.{TextFault};
+ghost use Rattle.kp_text.specs.Spelling.{SpellsModule};
 ghost use Rattle.kp_book.specs.Books.{Opening, Registration, extended as extended_by};
-ghost use Rattle.kp_extensions.specs.Extending.{AreSetsOf, ExtendFault, IsAddable, IsExtendFault, extend_fault};
+ghost use Rattle.kp_extensions.specs.Extending.{AreSetsOf, ExtendFault, IsAddable, extend_fault};
 ghost use Rattle.kp_modules.specs.Made.{IsSetOf};
 ghost use Rattle.kp_modules.specs.Tables.{rule_set_of};
 ghost use Rattle.kp_registry.specs.Legal.{id_of as stated_id};
 ghost use Rattle.kp_registry.specs.Passes.{IsPass, IsReady};
 ghost use Rattle.kp_registry.specs.Refusals.{IsRefused};
-ghost use Rattle.kp_replies.specs.Failures.{Failure, bad_module, bad_text};
-ghost use Rattle.kp_additions.specs.Served.{HasSeenAt};
-ghost use Rattle.kp_additions.specs.Told.{IsEntered, IsReadied, TellsRefusal, failure_told, sentence_fault};
+ghost use Rattle.kp_replies.specs.Failures.{Failure, bad_module};
+ghost use Rattle.kp_additions.specs.Served.{AtEachBookSeen};
+ghost use Rattle.kp_additions.specs.Told.{IsEntered, IsReadied, TellsRefusal, TellsText, TellsUnsound, failure_told, sentence_fault};
 
 use crate::error::AdditionError;
 use crate::imports::imports_of;
@@ -47,8 +45,8 @@ pub fn add_module(
     ensures pass { IsPass pass.new }
     ensures left { OnErr result (pass.new ≡ pass.old) }
     ensures id { IfOk result (λ id. id ≡ stated_id text.items) }
-    ensures added { IfOk result (λ id. (o : Opening) (book : List Registration) → HasSeenAt registry.now pass.old o book → IsEntered o book text.items name_as_id id registry.now pass.new) }
-    ensures refused { IfErr result (λ e. (o : Opening) (book : List Registration) → HasSeenAt registry.now pass.old o book → TellsRefusal o book text.items name_as_id e) }
+    ensures added { IfOk result (λ id. AtEachBookSeen registry.now pass.old (λ o book. IsEntered o book text.items name_as_id id registry.now pass.new)) }
+    ensures refused { IfErr result (λ e. AtEachBookSeen registry.now pass.old (λ o book. TellsRefusal o book text.items name_as_id e)) }
 {
     let ready = ready_of(alloc, registry, pass, text, name_as_id)?;
     match registry.register(pass, ready) {
@@ -60,7 +58,7 @@ pub fn add_module(
 /// What a refused entry tells.
 fn fault_told(fault: RegisterFault, ready: Ready) -> AdditionError
     requires ready { IsReady ready }
-    ensures { (o : Opening) (book : List Registration) (text : List ℕ) (name_as_id : Bool) → IsReadied o book text name_as_id ready.entry → IsRefused o book ready.entry fault → TellsRefusal o book text name_as_id result }
+    ensures { (o : Opening) (book : List Registration) (text : List ℕ) (also : Bool) → IsReadied o book text also ready.entry → IsRefused o book ready.entry fault → TellsRefusal o book text also result }
 {
     match fault {
         RegisterFault::Duplicate { entry, of_id } => AdditionError::Duplicate {
@@ -102,8 +100,8 @@ fn ready_of(
     ensures pass { pass.new ≡ pass.old }
     ensures ready { IfOk result IsReady }
     ensures id { IfOk result (λ ready. ready.entry.id ≡ stated_id text.items) }
-    ensures entry { IfOk result (λ ready. (o : Opening) (book : List Registration) → HasSeenAt registry.now pass.old o book → IsReadied o book text.items name_as_id ready.entry) }
-    ensures err { IfErr result (λ e. (o : Opening) (book : List Registration) → HasSeenAt registry.now pass.old o book → TellsRefusal o book text.items name_as_id e) }
+    ensures entry { IfOk result (λ ready. AtEachBookSeen registry.now pass.old (λ o book. IsReadied o book text.items name_as_id ready.entry)) }
+    ensures err { IfErr result (λ e. AtEachBookSeen registry.now pass.old (λ o book. TellsRefusal o book text.items name_as_id e)) }
 {
     let module = module_of(alloc, &text)?;
     let imports = imports_of(alloc, registry, pass, &module.sentences)?;
@@ -114,7 +112,7 @@ fn ready_of(
 /// The module that the text spells.
 fn module_of(alloc: Global, text: &[u8]) -> Result<Module, AdditionError>
     ensures spells { IfOk result (λ m. SpellsModule text.now (module_view m)) }
-    ensures err { IfErr result (λ e. (f : Failure) → failure_told e ≡ Some f → (t : TextFault) × (f ≡ bad_module (bad_text t.at (kind_number t.kind))) × IsFaultOf IsModuleText text.now t) }
+    ensures err { IfErr result (TellsText text.now) }
 {
     match read_module(alloc, text) {
         Ok(module) => Ok(module),
@@ -135,10 +133,10 @@ fn rules_of(
     added: &Module,
 ) -> Result<Arc<RuleSet>, AdditionError>
     requires id { IsUtf8 id.now }
-    ensures set { (lists : List (List NumberedAxiom)) → AreSetsOf (signature_view (rule_set_of table.now).signature.value) lists imports.now →
-        IfOk result (λ rules. IsSetOf (signature_view (rule_set_of table.now).signature.value) (extended_by lists id.now (module_view added.now)) rules.value) }
-    ensures none { IfOk result (λ rules. IsAddable (signature_view (rule_set_of table.now).signature.value) id.now (module_view added.now)) }
-    ensures err { IfErr result (λ e. (f : Failure) → failure_told e ≡ Some f → (x : ExtendFault) × (f ≡ bad_module (sentence_fault x)) × IsExtendFault (signature_view (rule_set_of table.now).signature.value) id.now (module_view added.now) x) }
+    ensures set { let g = signature_view (rule_set_of table.now).signature.value in (lists : List (List NumberedAxiom)) → AreSetsOf g lists imports.now →
+        IfOk result (λ rules. IsSetOf g (extended_by lists id.now (module_view added.now)) rules.value) }
+    ensures addable { IfOk result (λ rules. IsAddable (signature_view (rule_set_of table.now).signature.value) id.now (module_view added.now)) }
+    ensures err { IfErr result (TellsUnsound (signature_view (rule_set_of table.now).signature.value) id.now (module_view added.now)) }
 {
     match std::str::from_utf8(id) {
         Ok(name) => match extend(alloc, table, imports, name, added) {

@@ -2,7 +2,7 @@ use Rattle.std.proofs.Common.{◌≡◌, List, take}
 use Rattle.kp_book.specs.Books.{Opening, Registration}
 use Rattle.kp_additions.specs.Served.{HasSeenAt}
 use Rattle.kp_additions.specs.Told.{AreMeant}
-use Rattle.kp_additions.proofs.Meanings.{import_names}
+use Rattle.kp_imports.specs.Walks.{import_names}
 use Rattle.kp_additions.proofs.imports.imports_of.Given as goal
 
 abbrev pub invariant-loop-i : goal.invariant-loop-i
