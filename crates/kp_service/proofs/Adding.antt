@@ -15,8 +15,8 @@ use Rattle.kp_additions.specs.Added.{IsRefusedFor}
 use Rattle.kp_additions.specs.Served.{HasSeenAt}
 use Rattle.kp_additions.specs.Told.{IsEntered, TellsRefusal, failure_told}
 use Rattle.kp_additions.specs.declared.error.AdditionError.{AdditionError}
-use Rattle.kp_conn.specs.Conversations.{ForEachSeen, Sees}
-use Rattle.kp_service.specs.Batches.{IsAddFailure, IsReplyLine, line_told, line_added, IsEffect, adds_nothing, adds, MayHaveDone, did_nothing, did_add}
+use Rattle.kp_conn.specs.Conversations.{Sees}
+use Rattle.kp_service.specs.Batches.{FromEachBookSeen, IsAddFailure, IsReplyLine, line_told, line_added, IsEffect, adds_nothing, adds, MayHaveDone, did_nothing, did_add}
 use Rattle.kp_service.proofs.Serving.{stays}
 
 -- ---- what was entered
@@ -33,20 +33,20 @@ sees_entered : (registry : Registry) (o : Opening) (book : List Registration) (t
 sees_entered registry o book text flag id after Holds e holds = record { after = book ++ e.registration ∷ []; seen = e.seen; grows = (e.registration ∷ [], refl); holds = holds }
 
 pub entered_line : (registry : Registry) (before after : Pass) (text : List ℕ) (flag : Bool) (mid : List ℕ) (id : RequestId) (line : List ℕ) → EntersAll registry before after text flag mid → line ≡ reply_bytes (result_reply id (added_tree mid)) →
-    ForEachSeen (HasSeenAt registry before) (HasSeenAt registry after) (λ o book. IsReplyLine o book id (asks (add_module text flag)) line)
+    FromEachBookSeen registry before after (λ o book. IsReplyLine o book id (asks (add_module text flag)) line)
 entered_line registry before after text flag mid id line all l o book seen =
     let e : IsEntered o book text flag mid registry after = all o book seen in
     sees_entered registry o book text flag mid after (IsReplyLine o book id (asks (add_module text flag)) line) e
     (line_added e.registration e.is_added (l ∙ ap (λ m. reply_bytes (result_reply id (added_tree m))) (sym e.is_id)))
 
 pub entered_silently : (registry : Registry) (before after : Pass) (text : List ℕ) (flag : Bool) (mid : List ℕ) → EntersAll registry before after text flag mid →
-    ForEachSeen (HasSeenAt registry before) (HasSeenAt registry after) (λ o book. IsEffect o book (asks (add_module text flag)))
+    FromEachBookSeen registry before after (λ o book. IsEffect o book (asks (add_module text flag)))
 entered_silently registry before after text flag mid all o book seen =
     let e : IsEntered o book text flag mid registry after = all o book seen in
     sees_entered registry o book text flag mid after (IsEffect o book (asks (add_module text flag))) e (adds e.registration e.is_added)
 
 pub entered_yet : (registry : Registry) (before after : Pass) (text : List ℕ) (flag : Bool) (mid : List ℕ) → EntersAll registry before after text flag mid →
-    ForEachSeen (HasSeenAt registry before) (HasSeenAt registry after) (λ o book. MayHaveDone o book (asks (add_module text flag)))
+    FromEachBookSeen registry before after (λ o book. MayHaveDone o book (asks (add_module text flag)))
 entered_yet registry before after text flag mid all o book seen =
     let e : IsEntered o book text flag mid registry after = all o book seen in
     sees_entered registry o book text flag mid after (MayHaveDone o book (asks (add_module text flag))) e (did_add e.registration e.is_added)
@@ -63,12 +63,12 @@ refused_all registry before bytes text flag e f same is h = subst (λ t. Refuses
 
 pub refused_line_told : (registry : Registry) (before after : Pass) (text : List ℕ) (flag : Bool) (f : Failure) (id : RequestId) (line : List ℕ) → after ≡ before → RefusesAll registry before text flag f →
     (reply : Data) × (failure_reply id f ≡ Some reply) × (line ≡ reply_bytes reply) →
-    ForEachSeen (HasSeenAt registry before) (HasSeenAt registry after) (λ o book. IsReplyLine o book id (asks (add_module text flag)) line)
+    FromEachBookSeen registry before after (λ o book. IsReplyLine o book id (asks (add_module text flag)) line)
 refused_line_told registry before after text flag f id line same all l =
     stays registry before after (λ o book. IsReplyLine o book id (asks (add_module text flag)) line) same (λ o book seen. line_told l.0 (f, all o book seen, l.1) l.2)
 
 pub refused_silently : (registry : Registry) (before after : Pass) (text : List ℕ) (flag : Bool) (f : Failure) → after ≡ before → RefusesAll registry before text flag f →
-    ForEachSeen (HasSeenAt registry before) (HasSeenAt registry after) (λ o book. IsEffect o book (asks (add_module text flag)))
+    FromEachBookSeen registry before after (λ o book. IsEffect o book (asks (add_module text flag)))
 refused_silently registry before after text flag f same all = stays registry before after (λ o book. IsEffect o book (asks (add_module text flag))) same (λ o book seen. adds_nothing (f, all o book seen))
 
 -- ---- the reply with a cause

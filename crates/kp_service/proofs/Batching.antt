@@ -9,10 +9,10 @@ use Rattle.kp_requests.specs.Requests.{Asked, Call, single, batch, refused_whole
 use Rattle.kp_book.specs.Books.{Opening, Registration}
 use Rattle.kp_conn.proofs.Conversing.{sees_behind, sees_more}
 use Rattle.kp_service.specs.Answers.{Adds, IsMember, told, added, silent, added_silently, with_reply, AreMembers, none, next, items_of, batch_reply, IsFront, IsAnswer, refusal, alone, together}
-use Rattle.kp_conn.specs.Conversations.{ForEachSeen, Sees}
+use Rattle.kp_conn.specs.Conversations.{Sees}
 use Rattle.kp_registry.specs.declared.book.Registry.{Registry}
 use Rattle.kp_registry.specs.declared.seen.Pass.{Pass}
-use Rattle.kp_service.specs.Batches.{call_of, IsReplyLine, line_told, line_added, IsEffect, adds_nothing, adds, MayHaveDone, did_nothing, did_add, IsMemberText, texts_behind, batch_front, AreTold, text_with, text_then, text_closed, IsNextTold, AreFirstTold, AreMembersText}
+use Rattle.kp_service.specs.Batches.{FromEachBookSeen, call_of, IsReplyLine, line_told, line_added, IsEffect, adds_nothing, adds, MayHaveDone, did_nothing, did_add, IsMemberText, texts_behind, batch_front, AreTold, text_with, text_then, text_closed, IsNextTold, AreFirstTold, AreMembersText}
 use Rattle.kp_additions.specs.Served.{HasSeenAt}
 
 -- ---- texts
@@ -149,33 +149,30 @@ all_front o before after calls text f = record { done = f.done; more = []; are =
 
 -- ---- the same of all that a pass may have seen
 
-abbrev pub Changes : Registry → Pass → Pass → (Opening → List Registration → List Registration → Type 0) → Type 0
-Changes registry before after Holds = ForEachSeen (HasSeenAt registry before) (HasSeenAt registry after) Holds
-
-pub then_next : (registry : Registry) (first now later : Pass) (calls rest : List Call) (call : Call) (text longer : List ℕ) → Changes registry first now (λ o book. AreFirstTold o book calls text (call ∷ rest)) →
-    Changes registry now later (λ o book. IsNextTold o book call text longer) → Changes registry first later (λ o book. AreFirstTold o book calls longer rest)
+pub then_next : (registry : Registry) (first now later : Pass) (calls rest : List Call) (call : Call) (text longer : List ℕ) → FromEachBookSeen registry first now (λ o book. AreFirstTold o book calls text (call ∷ rest)) →
+    FromEachBookSeen registry now later (λ o book. IsNextTold o book call text longer) → FromEachBookSeen registry first later (λ o book. AreFirstTold o book calls longer rest)
 then_next registry first now later calls rest call text longer f n o book seen =
     let so_far : Sees (HasSeenAt registry now o) book (AreFirstTold o book calls text (call ∷ rest)) = f o book seen in
     sees_behind (HasSeenAt registry later o) book so_far.after (IsNextTold o so_far.after call text longer) (AreFirstTold o book calls longer rest) so_far.grows
     (λ after p. next_told o book so_far.after after calls rest call text longer so_far.holds p) (n o so_far.after so_far.seen)
 
-pub then_broken : (registry : Registry) (first now later : Pass) (calls rest : List Call) (call : Call) (text : List ℕ) → Changes registry first now (λ o book. AreFirstTold o book calls text (call ∷ rest)) →
-    Changes registry now later (λ o book. IsFront o book (call ∷ [])) → Changes registry first later (λ o book. IsFront o book calls)
+pub then_broken : (registry : Registry) (first now later : Pass) (calls rest : List Call) (call : Call) (text : List ℕ) → FromEachBookSeen registry first now (λ o book. AreFirstTold o book calls text (call ∷ rest)) →
+    FromEachBookSeen registry now later (λ o book. IsFront o book (call ∷ [])) → FromEachBookSeen registry first later (λ o book. IsFront o book calls)
 then_broken registry first now later calls rest call text f n o book seen =
     let so_far : Sees (HasSeenAt registry now o) book (AreFirstTold o book calls text (call ∷ rest)) = f o book seen in
     sees_behind (HasSeenAt registry later o) book so_far.after (IsFront o so_far.after (call ∷ [])) (IsFront o book calls) so_far.grows
     (λ after p. front_on o book so_far.after after calls rest call text so_far.holds p) (n o so_far.after so_far.seen)
 
 -- what holds of all that is seen holds in a weaker form
-pub weaker : (registry : Registry) (first now : Pass) (P Q : Opening → List Registration → List Registration → Type 0) → ((o : Opening) (book after : List Registration) → P o book after → Q o book after) → Changes registry first now P → Changes registry first now Q
+pub weaker : (registry : Registry) (first now : Pass) (P Q : Opening → List Registration → List Registration → Type 0) → ((o : Opening) (book after : List Registration) → P o book after → Q o book after) → FromEachBookSeen registry first now P → FromEachBookSeen registry first now Q
 weaker registry first now P Q f h o book seen = sees_more (HasSeenAt registry now o) book (P o book) (Q o book) (f o book) (h o book seen)
 
-pub told_whole : (registry : Registry) (first now : Pass) (calls : List Call) (text : List ℕ) (whole : Option (List ℕ)) → whole ≡ text_closed text → Changes registry first now (λ o book. AreFirstTold o book calls text []) →
-    Changes registry first now (λ o book. AreMembersText o book calls whole)
+pub told_whole : (registry : Registry) (first now : Pass) (calls : List Call) (text : List ℕ) (whole : Option (List ℕ)) → whole ≡ text_closed text → FromEachBookSeen registry first now (λ o book. AreFirstTold o book calls text []) →
+    FromEachBookSeen registry first now (λ o book. AreMembersText o book calls whole)
 told_whole registry first now calls text whole is h = weaker registry first now (λ o book. AreFirstTold o book calls text []) (λ o book. AreMembersText o book calls whole)
     (λ o book after f. subst (λ a. AreMembersText o book calls a after) (sym is) (all_told o book after calls text f)) h
 
-pub whole_broken : (registry : Registry) (first now : Pass) (calls : List Call) (text : List ℕ) → Changes registry first now (λ o book. AreFirstTold o book calls text []) → Changes registry first now (λ o book. IsFront o book calls)
+pub whole_broken : (registry : Registry) (first now : Pass) (calls : List Call) (text : List ℕ) → FromEachBookSeen registry first now (λ o book. AreFirstTold o book calls text []) → FromEachBookSeen registry first now (λ o book. IsFront o book calls)
 whole_broken registry first now calls text h = weaker registry first now (λ o book. AreFirstTold o book calls text []) (λ o book. IsFront o book calls) (λ o book after f. all_front o book after calls text f) h
 
 -- ---- one call behind others, from its text
@@ -212,10 +209,10 @@ answer_refused o before bytes e text asked is = subst (λ x. IsAnswer o before b
 
 -- ---- calls by their ids
 
-pub with_id : (registry : Registry) (first now : Pass) (id other : Option RequestId) (asked : Asked) (reply_text : Option (List ℕ)) → id ≡ other → Changes registry first now (λ o book. IsMemberText o book (call_of other asked) reply_text) →
-    Changes registry first now (λ o book. IsMemberText o book (call_of id asked) reply_text)
-with_id registry first now id other asked reply_text is h = subst (λ i. Changes registry first now (λ o book. IsMemberText o book (call_of i asked) reply_text)) (sym is) h
+pub with_id : (registry : Registry) (first now : Pass) (id other : Option RequestId) (asked : Asked) (reply_text : Option (List ℕ)) → id ≡ other → FromEachBookSeen registry first now (λ o book. IsMemberText o book (call_of other asked) reply_text) →
+    FromEachBookSeen registry first now (λ o book. IsMemberText o book (call_of id asked) reply_text)
+with_id registry first now id other asked reply_text is h = subst (λ i. FromEachBookSeen registry first now (λ o book. IsMemberText o book (call_of i asked) reply_text)) (sym is) h
 
-pub front_with_id : (registry : Registry) (first now : Pass) (id other : Option RequestId) (asked : Asked) → id ≡ other → Changes registry first now (λ o book. IsFront o book (call_of other asked ∷ [])) →
-    Changes registry first now (λ o book. IsFront o book (call_of id asked ∷ []))
-front_with_id registry first now id other asked is h = subst (λ i. Changes registry first now (λ o book. IsFront o book (call_of i asked ∷ []))) (sym is) h
+pub front_with_id : (registry : Registry) (first now : Pass) (id other : Option RequestId) (asked : Asked) → id ≡ other → FromEachBookSeen registry first now (λ o book. IsFront o book (call_of other asked ∷ [])) →
+    FromEachBookSeen registry first now (λ o book. IsFront o book (call_of id asked ∷ []))
+front_with_id registry first now id other asked is h = subst (λ i. FromEachBookSeen registry first now (λ o book. IsFront o book (call_of i asked ∷ []))) (sym is) h

@@ -21,11 +21,10 @@ use Rattle.kp_registry.specs.Passes.{MeansAt}
 use Rattle.kp_registry.specs.declared.book.Registry.{Registry}
 use Rattle.kp_registry.specs.declared.seen.Pass.{Pass}
 use Rattle.kp_conn.proofs.Conversing.{sees_same}
-use Rattle.kp_conn.specs.Conversations.{ForEachSeen}
 use Rattle.kp_server.specs.Setting.{IsElsewhere, Setting}
 use Rattle.kp_service.specs.Answered.{IsReplyIn, no_such_module, in_module}
 use Rattle.kp_service.specs.Answers.{AddsNothing, IsReplyTo}
-use Rattle.kp_service.specs.Batches.{IsEffect, adds_nothing, IsReplyLine, line_told, MayHaveDone, did_nothing}
+use Rattle.kp_service.specs.Batches.{FromEachBookSeen, IsEffect, adds_nothing, IsReplyLine, line_told, MayHaveDone, did_nothing}
 use Rattle.kp_service.specs.Meant.{IsServedAt, module_asked}
 use Rattle.kp_additions.specs.Served.{HasSeenAt}
 use Rattle.kp_service.specs.Told.{IsLineOf}
@@ -90,31 +89,31 @@ for_any (Err e) Holds h = tt
 
 -- the pass is the one before, and this holds of what it has seen
 pub stays : (registry : Registry) (before after : Pass) (Holds : Opening → List Registration → List Registration → Type 0) → after ≡ before →
-    ((o : Opening) (book : List Registration) → HasSeenAt registry before o book → Holds o book book) → ForEachSeen (HasSeenAt registry before) (HasSeenAt registry after) Holds
+    ((o : Opening) (book : List Registration) → HasSeenAt registry before o book → Holds o book book) → FromEachBookSeen registry before after Holds
 stays registry before after Holds same h o book seen = sees_same (HasSeenAt registry after o) (Holds o book) book (subst (λ p. HasSeenAt registry p o book) (sym same) seen) (h o book seen)
 
 -- the same of what is asked, by another name
-pub lines_of : (registry : Registry) (before after : Pass) (id : RequestId) (x y : Asked) (line : List ℕ) → x ≡ y → ForEachSeen (HasSeenAt registry before) (HasSeenAt registry after) (λ o book. IsReplyLine o book id y line) →
-    ForEachSeen (HasSeenAt registry before) (HasSeenAt registry after) (λ o book. IsReplyLine o book id x line)
-lines_of registry before after id x y line is h = subst (λ z. ForEachSeen (HasSeenAt registry before) (HasSeenAt registry after) (λ o book. IsReplyLine o book id z line)) (sym is) h
+pub lines_of : (registry : Registry) (before after : Pass) (id : RequestId) (x y : Asked) (line : List ℕ) → x ≡ y → FromEachBookSeen registry before after (λ o book. IsReplyLine o book id y line) →
+    FromEachBookSeen registry before after (λ o book. IsReplyLine o book id x line)
+lines_of registry before after id x y line is h = subst (λ z. FromEachBookSeen registry before after (λ o book. IsReplyLine o book id z line)) (sym is) h
 
-pub begun_of : {T E : Type 0} (r : Result T E) (registry : Registry) (before after : Pass) (x y : Asked) → x ≡ y → OnErr r (ForEachSeen (HasSeenAt registry before) (HasSeenAt registry after) (λ o book. MayHaveDone o book y)) →
-    OnErr r (ForEachSeen (HasSeenAt registry before) (HasSeenAt registry after) (λ o book. MayHaveDone o book x))
-begun_of r registry before after x y is h = subst (λ z. OnErr r (ForEachSeen (HasSeenAt registry before) (HasSeenAt registry after) (λ o book. MayHaveDone o book z))) (sym is) h
+pub begun_of : {T E : Type 0} (r : Result T E) (registry : Registry) (before after : Pass) (x y : Asked) → x ≡ y → OnErr r (FromEachBookSeen registry before after (λ o book. MayHaveDone o book y)) →
+    OnErr r (FromEachBookSeen registry before after (λ o book. MayHaveDone o book x))
+begun_of r registry before after x y is h = subst (λ z. OnErr r (FromEachBookSeen registry before after (λ o book. MayHaveDone o book z))) (sym is) h
 
-pub effect_of : {T E : Type 0} (r : Result T E) (registry : Registry) (before after : Pass) (x y : Asked) → x ≡ y → OnOk r (ForEachSeen (HasSeenAt registry before) (HasSeenAt registry after) (λ o book. IsEffect o book y)) →
-    OnOk r (ForEachSeen (HasSeenAt registry before) (HasSeenAt registry after) (λ o book. IsEffect o book x))
-effect_of r registry before after x y is h = subst (λ z. OnOk r (ForEachSeen (HasSeenAt registry before) (HasSeenAt registry after) (λ o book. IsEffect o book z))) (sym is) h
+pub effect_of : {T E : Type 0} (r : Result T E) (registry : Registry) (before after : Pass) (x y : Asked) → x ≡ y → OnOk r (FromEachBookSeen registry before after (λ o book. IsEffect o book y)) →
+    OnOk r (FromEachBookSeen registry before after (λ o book. IsEffect o book x))
+effect_of r registry before after x y is h = subst (λ z. OnOk r (FromEachBookSeen registry before after (λ o book. IsEffect o book z))) (sym is) h
 
-pub no_effect : (registry : Registry) (pass : Pass) (x y : Asked) → x ≡ y → ((o : Opening) (book : List Registration) → AddsNothing o book y) → ForEachSeen (HasSeenAt registry pass) (HasSeenAt registry pass) (λ o book. IsEffect o book x)
+pub no_effect : (registry : Registry) (pass : Pass) (x y : Asked) → x ≡ y → ((o : Opening) (book : List Registration) → AddsNothing o book y) → FromEachBookSeen registry pass pass (λ o book. IsEffect o book x)
 no_effect registry pass x y is h = stays registry pass pass (λ o book. IsEffect o book x) refl (λ o book seen. subst (λ z. IsEffect o book z book) (sym is) (adds_nothing (h o book)))
 
-pub nothing_done : (registry : Registry) (before after : Pass) (asked : Asked) → after ≡ before → ForEachSeen (HasSeenAt registry before) (HasSeenAt registry after) (λ o book. MayHaveDone o book asked)
+pub nothing_done : (registry : Registry) (before after : Pass) (asked : Asked) → after ≡ before → FromEachBookSeen registry before after (λ o book. MayHaveDone o book asked)
 nothing_done registry before after asked same = stays registry before after (λ o book. MayHaveDone o book asked) same (λ o book seen. did_nothing)
 
 -- a line that is right, of a call that leaves the book
 pub line_stays : (registry : Registry) (before after : Pass) (id : RequestId) (asked : Asked) (line : List ℕ) → after ≡ before →
-    ((o : Opening) (book : List Registration) → HasSeenAt registry before o book → IsLineOf (IsReplyTo o book id asked) line) → ForEachSeen (HasSeenAt registry before) (HasSeenAt registry after) (λ o book. IsReplyLine o book id asked line)
+    ((o : Opening) (book : List Registration) → HasSeenAt registry before o book → IsLineOf (IsReplyTo o book id asked) line) → FromEachBookSeen registry before after (λ o book. IsReplyLine o book id asked line)
 line_stays registry before after id asked line same h = stays registry before after (λ o book. IsReplyLine o book id asked line) same (λ o book seen. let l = h o book seen in line_told l.0 l.1 l.2)
 
 -- ---- what a call of a method is answered

@@ -8,7 +8,15 @@ use Rattle.kp_replies.specs.Failures.{Failure, bad_module, duplicate}
 use Rattle.kp_replies.specs.Written.{added_tree}
 use Rattle.kp_requests.specs.Requests.{Asked, Call}
 use Rattle.kp_book.specs.Books.{Opening, Registration}
+use Rattle.kp_registry.specs.declared.book.Registry.{Registry}
+use Rattle.kp_registry.specs.declared.seen.Pass.{Pass}
+use Rattle.kp_additions.specs.Served.{HasSeenAt}
+use Rattle.kp_conn.specs.Conversations.{ForEachSeen}
 use Rattle.kp_service.specs.Answers.{Adds, AddsNothing, IsReplyTo, IsMember, AreMembers, batch_reply}
+
+-- whatever book the pass had seen, this holds from it to what the pass has seen after
+abbrev pub FromEachBookSeen : Registry → Pass → Pass → (Opening → List Registration → List Registration → Type 0) → Type 0
+FromEachBookSeen registry before after Holds = ForEachSeen (HasSeenAt registry before) (HasSeenAt registry after) Holds
 
 -- a call with this id, or a notification
 abbrev pub call_of : Option RequestId → Asked → Call

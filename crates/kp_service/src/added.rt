@@ -10,9 +10,7 @@ ghost use Rattle.kp_replies.specs.View.{failure_view};
 ghost use Rattle.kp_replies.specs.Written.{added_tree};
 ghost use Rattle.kp_requests.specs.Requests.{asks, add_module};
 ghost use Rattle.kp_registry.specs.Passes.{IsPass};
-ghost use Rattle.kp_conn.specs.Conversations.{ForEachSeen};
-ghost use Rattle.kp_service.specs.Batches.{IsAddFailure, IsEffect, IsReplyLine, MayHaveDone};
-ghost use Rattle.kp_additions.specs.Served.{HasSeenAt};
+ghost use Rattle.kp_service.specs.Batches.{FromEachBookSeen, IsAddFailure, IsEffect, IsReplyLine, MayHaveDone};
 
 use kp_additions::{AdditionError, add_module};
 use kp_registry::{Id as ModuleId, Pass, Registry};
@@ -31,8 +29,8 @@ pub fn added_line(
 ) -> Result<Vec<u8>, AllocError>
     requires pass { IsPass pass.old }
     ensures pass { IsPass pass.new }
-    ensures told { IfOk result (λ line. ForEachSeen (HasSeenAt registry.now pass.old) (HasSeenAt registry.now pass.new) (λ o book. IsReplyLine o book (id_view id.now) (asks (add_module (string_bytes text) name_as_id)) line.items)) }
-    ensures begun { OnErr result (ForEachSeen (HasSeenAt registry.now pass.old) (HasSeenAt registry.now pass.new) (λ o book. MayHaveDone o book (asks (add_module (string_bytes text) name_as_id)))) }
+    ensures told { IfOk result (λ line. FromEachBookSeen registry.now pass.old pass.new (λ o book. IsReplyLine o book (id_view id.now) (asks (add_module (string_bytes text) name_as_id)) line.items)) }
+    ensures begun { OnErr result (FromEachBookSeen registry.now pass.old pass.new (λ o book. MayHaveDone o book (asks (add_module (string_bytes text) name_as_id)))) }
 {
     match add_module(alloc, registry, pass, text.into_bytes(), name_as_id) {
         Ok(module_id) => id_line(alloc, id, &module_id),
@@ -54,8 +52,8 @@ pub fn add_silently(
 ) -> Result<(), AllocError>
     requires pass { IsPass pass.old }
     ensures pass { IsPass pass.new }
-    ensures done { OnOk result (ForEachSeen (HasSeenAt registry.now pass.old) (HasSeenAt registry.now pass.new) (λ o book. IsEffect o book (asks (add_module (string_bytes text) name_as_id)))) }
-    ensures begun { OnErr result (ForEachSeen (HasSeenAt registry.now pass.old) (HasSeenAt registry.now pass.new) (λ o book. MayHaveDone o book (asks (add_module (string_bytes text) name_as_id)))) }
+    ensures done { OnOk result (FromEachBookSeen registry.now pass.old pass.new (λ o book. IsEffect o book (asks (add_module (string_bytes text) name_as_id)))) }
+    ensures begun { OnErr result (FromEachBookSeen registry.now pass.old pass.new (λ o book. MayHaveDone o book (asks (add_module (string_bytes text) name_as_id)))) }
 {
     match add_module(alloc, registry, pass, text.into_bytes(), name_as_id) {
         Ok(_id) => Ok(()),

@@ -2,10 +2,8 @@
 ghost use Rattle.std.specs.Prelude.{◌≡◌, ◌∷◌, [], IfOk, OnErr, OnOk, option_map};
 ghost use Rattle.kp_requests.specs.View.{call_view, calls_view};
 ghost use Rattle.kp_registry.specs.Passes.{IsPass};
-ghost use Rattle.kp_conn.specs.Conversations.{ForEachSeen};
 ghost use Rattle.kp_service.specs.Answers.{IsFront};
-ghost use Rattle.kp_service.specs.Batches.{AreMembersText, IsNextTold, text_closed, text_with};
-ghost use Rattle.kp_additions.specs.Served.{HasSeenAt};
+ghost use Rattle.kp_service.specs.Batches.{FromEachBookSeen, AreMembersText, IsNextTold, text_closed, text_with};
 
 use crate::member::answered;
 use kp_registry::{Pass, Registry};
@@ -21,8 +19,8 @@ pub fn answered_batch(
 ) -> Result<Option<Vec<u8>>, AllocError>
     requires pass { IsPass pass.old }
     ensures pass { IsPass pass.new }
-    ensures told { IfOk result (λ array. ForEachSeen (HasSeenAt registry.now pass.old) (HasSeenAt registry.now pass.new) (λ o book. AreMembersText o book (calls_view calls.items) (option_map (λ text. text.items) array))) }
-    ensures begun { OnErr result (ForEachSeen (HasSeenAt registry.now pass.old) (HasSeenAt registry.now pass.new) (λ o book. IsFront o book (calls_view calls.items))) }
+    ensures told { IfOk result (λ array. FromEachBookSeen registry.now pass.old pass.new (λ o book. AreMembersText o book (calls_view calls.items) (option_map (λ text. text.items) array))) }
+    ensures begun { OnErr result (FromEachBookSeen registry.now pass.old pass.new (λ o book. IsFront o book (calls_view calls.items))) }
 {
     let mut replies = Vec::new(alloc);
     for call in calls {
@@ -41,8 +39,8 @@ fn answer_next(
 ) -> Result<(), AllocError>
     requires pass { IsPass pass.old }
     ensures pass { IsPass pass.new }
-    ensures told { OnOk result (ForEachSeen (HasSeenAt registry.now pass.old) (HasSeenAt registry.now pass.new) (λ o book. IsNextTold o book (call_view call) replies.old.items replies.new.items)) }
-    ensures begun { OnErr result (ForEachSeen (HasSeenAt registry.now pass.old) (HasSeenAt registry.now pass.new) (λ o book. IsFront o book (call_view call ∷ []))) }
+    ensures told { OnOk result (FromEachBookSeen registry.now pass.old pass.new (λ o book. IsNextTold o book (call_view call) replies.old.items replies.new.items)) }
+    ensures begun { OnErr result (FromEachBookSeen registry.now pass.old pass.new (λ o book. IsFront o book (call_view call ∷ []))) }
 {
     let told = answered(alloc, registry, pass, call)?;
     match told {

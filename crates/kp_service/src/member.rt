@@ -4,14 +4,12 @@ ghost use Rattle.kp_rpc.specs.Reply.{error_reply, no_module, reply_bytes};
 ghost use Rattle.kp_rpc.specs.View.{id_view, name_view, options_view};
 ghost use Rattle.kp_requests.specs.Requests as requests;
 ghost use Rattle.kp_requests.specs.View.{asked_view, call_view, reading_view, request_view};
-ghost use Rattle.kp_book.specs.Books.{Opening, Registration};
 ghost use Rattle.kp_registry.specs.Passes.{IsPass, MeansAt};
-ghost use Rattle.kp_conn.specs.Conversations.{ForEachSeen};
 ghost use Rattle.kp_service.specs.Answered.{IsExecutedAs, IsImpliedAs, IsReplyIn, IsSimplifiedAs};
 ghost use Rattle.kp_service.specs.Answers.{IsFront};
-ghost use Rattle.kp_service.specs.Batches.{call_of, IsEffect, IsMemberText, IsReplyLine, MayHaveDone};
+ghost use Rattle.kp_service.specs.Batches.{FromEachBookSeen, call_of, IsEffect, IsMemberText, IsReplyLine, MayHaveDone};
 ghost use Rattle.kp_service.specs.Meant.{module_asked};
-ghost use Rattle.kp_additions.specs.Served.{HasSeenAt};
+ghost use Rattle.kp_additions.specs.Served.{AtEachBookSeen};
 ghost use Rattle.kp_service.specs.Told.{IsLineOf};
 
 use crate::added::{add_silently, added_line};
@@ -34,8 +32,8 @@ pub fn answered(
 ) -> Result<Option<Vec<u8>>, AllocError>
     requires pass { IsPass pass.old }
     ensures pass { IsPass pass.new }
-    ensures told { IfOk result (λ reply. ForEachSeen (HasSeenAt registry.now pass.old) (HasSeenAt registry.now pass.new) (λ o book. IsMemberText o book (call_view call) (option_map (λ text. text.items) reply))) }
-    ensures begun { OnErr result (ForEachSeen (HasSeenAt registry.now pass.old) (HasSeenAt registry.now pass.new) (λ o book. IsFront o book (call_view call ∷ []))) }
+    ensures told { IfOk result (λ reply. FromEachBookSeen registry.now pass.old pass.new (λ o book. IsMemberText o book (call_view call) (option_map (λ text. text.items) reply))) }
+    ensures begun { OnErr result (FromEachBookSeen registry.now pass.old pass.new (λ o book. IsFront o book (call_view call ∷ []))) }
 {
     let Call { id, asked } = call;
     match id {
@@ -54,8 +52,8 @@ fn reply_text(
 ) -> Result<Option<Vec<u8>>, AllocError>
     requires pass { IsPass pass.old }
     ensures pass { IsPass pass.new }
-    ensures told { IfOk result (λ reply. ForEachSeen (HasSeenAt registry.now pass.old) (HasSeenAt registry.now pass.new) (λ o book. IsMemberText o book (call_of (Some (id_view id.now)) (asked_view asked)) (option_map (λ text. text.items) reply))) }
-    ensures begun { OnErr result (ForEachSeen (HasSeenAt registry.now pass.old) (HasSeenAt registry.now pass.new) (λ o book. IsFront o book (call_of (Some (id_view id.now)) (asked_view asked) ∷ []))) }
+    ensures told { IfOk result (λ reply. FromEachBookSeen registry.now pass.old pass.new (λ o book. IsMemberText o book (call_of (Some (id_view id.now)) (asked_view asked)) (option_map (λ text. text.items) reply))) }
+    ensures begun { OnErr result (FromEachBookSeen registry.now pass.old pass.new (λ o book. IsFront o book (call_of (Some (id_view id.now)) (asked_view asked) ∷ []))) }
 {
     let line = reply_line(alloc, registry, pass, id, asked)?;
     Ok(Some(text_of(line)))
@@ -70,8 +68,8 @@ fn no_text(
 ) -> Result<Option<Vec<u8>>, AllocError>
     requires pass { IsPass pass.old }
     ensures pass { IsPass pass.new }
-    ensures told { IfOk result (λ reply. ForEachSeen (HasSeenAt registry.now pass.old) (HasSeenAt registry.now pass.new) (λ o book. IsMemberText o book (call_of None (asked_view asked)) (option_map (λ text. text.items) reply))) }
-    ensures begun { OnErr result (ForEachSeen (HasSeenAt registry.now pass.old) (HasSeenAt registry.now pass.new) (λ o book. IsFront o book (call_of None (asked_view asked) ∷ []))) }
+    ensures told { IfOk result (λ reply. FromEachBookSeen registry.now pass.old pass.new (λ o book. IsMemberText o book (call_of None (asked_view asked)) (option_map (λ text. text.items) reply))) }
+    ensures begun { OnErr result (FromEachBookSeen registry.now pass.old pass.new (λ o book. IsFront o book (call_of None (asked_view asked) ∷ []))) }
 {
     take_effect(alloc, registry, pass, asked)?;
     Ok(None)
@@ -95,8 +93,8 @@ fn take_effect(
 ) -> Result<(), AllocError>
     requires pass { IsPass pass.old }
     ensures pass { IsPass pass.new }
-    ensures done { OnOk result (ForEachSeen (HasSeenAt registry.now pass.old) (HasSeenAt registry.now pass.new) (λ o book. IsEffect o book (asked_view asked))) }
-    ensures begun { OnErr result (ForEachSeen (HasSeenAt registry.now pass.old) (HasSeenAt registry.now pass.new) (λ o book. MayHaveDone o book (asked_view asked))) }
+    ensures done { OnOk result (FromEachBookSeen registry.now pass.old pass.new (λ o book. IsEffect o book (asked_view asked))) }
+    ensures begun { OnErr result (FromEachBookSeen registry.now pass.old pass.new (λ o book. MayHaveDone o book (asked_view asked))) }
 {
     match asked {
         Asked::Request(request) => request_effect(alloc, registry, pass, request),
@@ -113,8 +111,8 @@ fn request_effect(
 ) -> Result<(), AllocError>
     requires pass { IsPass pass.old }
     ensures pass { IsPass pass.new }
-    ensures done { OnOk result (ForEachSeen (HasSeenAt registry.now pass.old) (HasSeenAt registry.now pass.new) (λ o book. IsEffect o book (requests.asks (request_view request)))) }
-    ensures begun { OnErr result (ForEachSeen (HasSeenAt registry.now pass.old) (HasSeenAt registry.now pass.new) (λ o book. MayHaveDone o book (requests.asks (request_view request)))) }
+    ensures done { OnOk result (FromEachBookSeen registry.now pass.old pass.new (λ o book. IsEffect o book (requests.asks (request_view request)))) }
+    ensures begun { OnErr result (FromEachBookSeen registry.now pass.old pass.new (λ o book. MayHaveDone o book (requests.asks (request_view request)))) }
 {
     match request {
         Request::AddModule { text, name_as_id } => {
@@ -136,8 +134,8 @@ fn reply_line(
 ) -> Result<Vec<u8>, AllocError>
     requires pass { IsPass pass.old }
     ensures pass { IsPass pass.new }
-    ensures told { IfOk result (λ line. ForEachSeen (HasSeenAt registry.now pass.old) (HasSeenAt registry.now pass.new) (λ o book. IsReplyLine o book (id_view id.now) (asked_view asked) line.items)) }
-    ensures begun { OnErr result (ForEachSeen (HasSeenAt registry.now pass.old) (HasSeenAt registry.now pass.new) (λ o book. MayHaveDone o book (asked_view asked))) }
+    ensures told { IfOk result (λ line. FromEachBookSeen registry.now pass.old pass.new (λ o book. IsReplyLine o book (id_view id.now) (asked_view asked) line.items)) }
+    ensures begun { OnErr result (FromEachBookSeen registry.now pass.old pass.new (λ o book. MayHaveDone o book (asked_view asked))) }
 {
     match asked {
         Asked::Request(request) => request_line(alloc, registry, pass, id, request),
@@ -155,8 +153,8 @@ fn request_line(
 ) -> Result<Vec<u8>, AllocError>
     requires pass { IsPass pass.old }
     ensures pass { IsPass pass.new }
-    ensures told { IfOk result (λ line. ForEachSeen (HasSeenAt registry.now pass.old) (HasSeenAt registry.now pass.new) (λ o book. IsReplyLine o book (id_view id.now) (requests.asks (request_view request)) line.items)) }
-    ensures begun { OnErr result (ForEachSeen (HasSeenAt registry.now pass.old) (HasSeenAt registry.now pass.new) (λ o book. MayHaveDone o book (requests.asks (request_view request)))) }
+    ensures told { IfOk result (λ line. FromEachBookSeen registry.now pass.old pass.new (λ o book. IsReplyLine o book (id_view id.now) (requests.asks (request_view request)) line.items)) }
+    ensures begun { OnErr result (FromEachBookSeen registry.now pass.old pass.new (λ o book. MayHaveDone o book (requests.asks (request_view request)))) }
 {
     match request {
         Request::Execute { state, options } => {
@@ -187,8 +185,7 @@ fn execute_line(
 ) -> Result<Vec<u8>, AllocError>
     requires pass { IsPass pass.old }
     ensures pass { pass.new ≡ pass.old }
-    ensures line { IfOk result (λ line. (o : Opening) (book : List Registration) → HasSeenAt registry.now pass.old o book →
-        IsLineOf (IsReplyIn o book (options_view options).module_name (id_view id.now) (λ s. IsExecutedAs s (id_view id.now) (options_view options) (reading_view state))) line.items) }
+    ensures line { IfOk result (λ line. AtEachBookSeen registry.now pass.old (λ o book. IsLineOf (IsReplyIn o book (options_view options).module_name (id_view id.now) (λ s. IsExecutedAs s (id_view id.now) (options_view options) (reading_view state))) line.items)) }
 {
     match rules_at(alloc, registry, pass, &options.module_name)? {
         Some(rules) => executed_line(alloc, &rules, id, state, &options),
@@ -208,8 +205,7 @@ fn implies_line(
 ) -> Result<Vec<u8>, AllocError>
     requires pass { IsPass pass.old }
     ensures pass { pass.new ≡ pass.old }
-    ensures line { IfOk result (λ line. (o : Opening) (book : List Registration) → HasSeenAt registry.now pass.old o book →
-        IsLineOf (IsReplyIn o book (name_view module_name) (id_view id.now) (λ s. IsImpliedAs s (id_view id.now) (name_view module_name) (reading_view antecedent) (reading_view consequent))) line.items) }
+    ensures line { IfOk result (λ line. AtEachBookSeen registry.now pass.old (λ o book. IsLineOf (IsReplyIn o book (name_view module_name) (id_view id.now) (λ s. IsImpliedAs s (id_view id.now) (name_view module_name) (reading_view antecedent) (reading_view consequent))) line.items)) }
 {
     match rules_at(alloc, registry, pass, &module_name)? {
         Some(rules) => implied_line(alloc, &rules, id, antecedent, consequent),
@@ -228,8 +224,7 @@ fn simplify_line(
 ) -> Result<Vec<u8>, AllocError>
     requires pass { IsPass pass.old }
     ensures pass { pass.new ≡ pass.old }
-    ensures line { IfOk result (λ line. (o : Opening) (book : List Registration) → HasSeenAt registry.now pass.old o book →
-        IsLineOf (IsReplyIn o book (name_view module_name) (id_view id.now) (λ s. IsSimplifiedAs s (id_view id.now) (reading_view state))) line.items) }
+    ensures line { IfOk result (λ line. AtEachBookSeen registry.now pass.old (λ o book. IsLineOf (IsReplyIn o book (name_view module_name) (id_view id.now) (λ s. IsSimplifiedAs s (id_view id.now) (reading_view state))) line.items)) }
 {
     match rules_at(alloc, registry, pass, &module_name)? {
         Some(rules) => simplified_line(alloc, &rules, id, state),
@@ -246,7 +241,7 @@ fn rules_at(
 ) -> Result<Option<Arc<RuleSet>>, AllocError>
     requires pass { IsPass pass.old }
     ensures pass { pass.new ≡ pass.old }
-    ensures means { IfOk result (λ rules. (o : Opening) (book : List Registration) → HasSeenAt registry.now pass.old o book → MeansAt o book (module_asked o (name_view asked.now)) (option_map (λ r. r.value) rules)) }
+    ensures means { IfOk result (λ rules. AtEachBookSeen registry.now pass.old (λ o book. MeansAt o book (module_asked o (name_view asked.now)) (option_map (λ r. r.value) rules))) }
     ensures named { IfOk result (λ rules. IsSome rules ⊎ IsSome asked.now) }
 {
     match asked {

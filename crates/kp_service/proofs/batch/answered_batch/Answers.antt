@@ -4,6 +4,7 @@ use Rattle.std.specs.Option.{option_map}
 use Rattle.kp_conn.proofs.Conversing.{at_err, sees_same}
 use Rattle.kp_requests.specs.View.{call_view, calls_view}
 use Rattle.kp_additions.specs.Served.{HasSeenAt}
+use Rattle.kp_service.specs.Batches.{AreFirstTold, FromEachBookSeen}
 use Rattle.kp_service.proofs.Batching.{none_told, then_broken, then_next, told_whole, whole_broken}
 use Rattle.kp_service.proofs.batch.answered_batch.Goals as goal
 
@@ -12,3 +13,16 @@ loop-call-init c = record {
   pass = c.requires.pass;
   told = λ o book seen. sees_same (HasSeenAt c.args.registry.now c.args.pass.now o) _ book seen (none_told o book (calls_view c.args.calls.items));
 }
+
+pub loop-call-preserved : goal.loop-call-preserved
+loop-call-preserved c =
+    let so_far = subst (λ l. FromEachBookSeen c.args.registry.now c.args.pass.now c.loop-call.pass (λ o book. AreFirstTold o book (calls_view c.args.calls.items) c.loop-call.replies.items l)) (ap calls_view c.in-Some.ensures.steps.0) c.loop-call.invariant.told in
+    record {
+      pass = c.answer_next.ensures.pass;
+      told = then_next c.args.registry.now c.args.pass.now c.loop-call.pass c.answer_next.new.pass (calls_view c.args.calls.items) (calls_view c.next.new.self.rest.items) (call_view c.in-Some.call) c.loop-call.replies.items c.answer_next.new.replies.items so_far c.in_ok-answer_next.ensures.told;
+    }
+
+pub returns-in_err-answer_next-clause-begun : goal.returns-in_err-answer_next-clause-begun
+returns-in_err-answer_next-clause-begun c =
+    let so_far = subst (λ l. FromEachBookSeen c.args.registry.now c.args.pass.now c.loop-call.pass (λ o book. AreFirstTold o book (calls_view c.args.calls.items) c.loop-call.replies.items l)) (ap calls_view c.in-Some.ensures.steps.0) c.loop-call.invariant.told in
+    at_err c.from_residual.result _ (then_broken c.args.registry.now c.args.pass.now c.loop-call.pass c.answer_next.new.pass (calls_view c.args.calls.items) (calls_view c.next.new.self.rest.items) (call_view c.in-Some.call) c.loop-call.replies.items so_far c.in_err-answer_next.ensures.begun)
