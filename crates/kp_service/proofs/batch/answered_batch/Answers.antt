@@ -11,7 +11,7 @@ use Rattle.kp_service.proofs.batch.answered_batch.Goals as goal
 pub loop-call-init : goal.loop-call-init
 loop-call-init c = record {
   pass = c.requires.pass;
-  told = λ o book seen. sees_same (HasSeenAt c.args.registry.now c.args.pass.now o) _ book seen (none_told o book (calls_view c.args.calls.items));
+  told = λ o book seen. sees_same (HasSeenAt c.args.registry.now c.args.pass.now o) (AreFirstTold o book (calls_view c.args.calls.items) [] (calls_view c.args.calls.items)) book seen (none_told o book (calls_view c.args.calls.items));
 }
 
 pub loop-call-preserved : goal.loop-call-preserved

@@ -1,4 +1,5 @@
 use Rattle.std.proofs.Common.{refl, None, ◌∷◌, []}
+use Rattle.kp_conn.proofs.Conversing.{at_err}
 use Rattle.kp_requests.specs.View.{asked_view}
 use Rattle.kp_service.specs.Answers.{IsFront}
 use Rattle.kp_service.specs.Batches.{call_of, IsEffect, IsMemberText, MayHaveDone}
@@ -14,4 +15,4 @@ returns-clause-told c =
 pub returns-in_err-take_effect-clause-begun : goal.returns-in_err-take_effect-clause-begun
 returns-in_err-take_effect-clause-begun c =
     let call = call_of None (asked_view c.args.asked) in
-    weaker c.args.registry.now c.args.pass.now c.take_effect.new.pass (λ o book. MayHaveDone o book call.asked) (λ o book. IsFront o book (call ∷ [])) (λ o book after h. front_of_call o book after call h) c.in_err-take_effect.ensures.begun
+    at_err c.from_residual.result _ (weaker c.args.registry.now c.args.pass.now c.take_effect.new.pass (λ o book. MayHaveDone o book call.asked) (λ o book. IsFront o book (call ∷ [])) (λ o book after h. front_of_call o book after call h) c.in_err-take_effect.ensures.begun)
