@@ -10,8 +10,9 @@ ghost use Rattle.kp_symbolic.specs.Plain as plain;
 ghost use Rattle.kp_deciding.specs.Kinds.{lower_sorts, lowers, some_below, are_other, no_tokens_among, no_constructors_among, tokens_are, one_kind_of_tokens};
 
 use kp_kore::{Name, Sort, SymbolSentence};
+use kp_signature::Signature;
 use kp_signature::symbols::is_constructor;
-use kp_signature::{Signature, Subsort};
+use kp_subsorts::Subsort;
 
 /// Whether all values of the sort are whole numbers.
 pub fn has_only_numbers(signature: &Signature, sort: &Sort) -> bool

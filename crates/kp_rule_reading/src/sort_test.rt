@@ -127,7 +127,7 @@ fn add_test(
     given: Option<&Sort>,
     tests: &mut Vec<SortTest>,
 ) -> Result<(), AllocError>
-    ensures { let the_record = record { name = string_bytes name.now; sort = sort_view sort.now } ∷ [] in OnOk result ((g : KoreSignature) (v : Valuation) → IsGiven g given.entry (v (string_bytes name.now)) → Adds g v tests.old.items tests.new.items the_record) }
+    ensures { OnOk result ((g : KoreSignature) (v : Valuation) → IsGiven g given.entry (v (string_bytes name.now)) → Adds g v tests.old.items tests.new.items (record { name = string_bytes name.now; sort = sort_view sort.now } ∷ [])) }
 {
     if gives(given, sort) {
         return Ok(());

@@ -1,0 +1,4 @@
+pub mod AlikeItself
+pub mod Counting
+pub mod DistributionLemmas
+pub mod KeptLemmas

@@ -1,0 +1,4 @@
+pub mod NameLemmas
+pub mod OverLemmas
+pub mod ToldLemmas
+pub mod WeightLemmas
