@@ -4,3 +4,4 @@ pub mod Executing
 pub mod Growing
 pub mod Implying
 pub mod Serving
+pub mod Talking

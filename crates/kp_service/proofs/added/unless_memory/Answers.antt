@@ -5,7 +5,7 @@ use Rattle.kp_replies.specs.View.{addition_view}
 use Rattle.kp_service.proofs.added.unless_memory.Goals as goal
 
 pub returns-in-Bad : goal.returns-in-Bad
-returns-in-Bad c = (bad_module (addition_view c.in-Bad._fault.now), ap failure_told c.in-Bad.is)
+returns-in-Bad c = (bad_module (addition_view c.in-Bad._fault), ap failure_told c.in-Bad.is)
 
 pub returns-in-Duplicate : goal.returns-in-Duplicate
 returns-in-Duplicate c = (duplicate c.in-Duplicate.entry (string_bytes c.in-Duplicate.name), ap failure_told c.in-Duplicate.is)
