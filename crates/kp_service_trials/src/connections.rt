@@ -34,10 +34,34 @@ fn is_told(alloc: Global, input: &str, output: &str) -> Result<bool, Fail> {
 #[test]
 fn what_is_no_request_is_refused(rt: HostRuntime) -> Result<(), Fail> {
     let alloc = rt.alloc();
-    assert!(rt; is_told(alloc, "[1]", "[{\"error\":{\"code\":-32600,\"message\":\"Invalid Request\"},\"id\":null,\"jsonrpc\":\"2.0\"}]\n")?);
-    assert!(rt; is_told(alloc, "[]", "{\"error\":{\"code\":-32600,\"message\":\"Invalid Request\"},\"id\":null,\"jsonrpc\":\"2.0\"}\n")?);
-    assert!(rt; is_told(alloc, "[{\"jsonrpc\":\"2.0\",\"method\":\"x\"},{\"jsonrpc\":\"2.0\",\"method\":\"y\"}]", "")?);
-    assert!(rt; is_told(alloc, "[{\"jsonrpc\":\"2.0\",\"id\":2,\"method\":\"get-model\"},7]", "[{\"error\":{\"code\":-32601,\"message\":\"Method not found\"},\"id\":2,\"jsonrpc\":\"2.0\"},{\"error\":{\"code\":-32600,\"message\":\"Invalid Request\"},\"id\":null,\"jsonrpc\":\"2.0\"}]\n")?);
+    assert!(rt;
+        is_told(
+            alloc,
+            "[1]",
+            "[{\"error\":{\"code\":-32600,\"message\":\"Invalid Request\"},\"id\":null,\"jsonrpc\":\"2.0\"}]\n"
+        )?
+    );
+    assert!(rt;
+        is_told(
+            alloc,
+            "[]",
+            "{\"error\":{\"code\":-32600,\"message\":\"Invalid Request\"},\"id\":null,\"jsonrpc\":\"2.0\"}\n"
+        )?
+    );
+    assert!(rt;
+        is_told(
+            alloc,
+            "[{\"jsonrpc\":\"2.0\",\"method\":\"x\"},{\"jsonrpc\":\"2.0\",\"method\":\"y\"}]",
+            ""
+        )?
+    );
+    assert!(rt;
+        is_told(
+            alloc,
+            "[{\"jsonrpc\":\"2.0\",\"id\":2,\"method\":\"get-model\"},7]",
+            "[{\"error\":{\"code\":-32601,\"message\":\"Method not found\"},\"id\":2,\"jsonrpc\":\"2.0\"},{\"error\":{\"code\":-32600,\"message\":\"Invalid Request\"},\"id\":null,\"jsonrpc\":\"2.0\"}]\n"
+        )?
+    );
     Ok(())
 }
 
@@ -70,7 +94,13 @@ fn arrays_nest_127_deep(rt: HostRuntime) -> Result<(), Fail> {
     let alloc = rt.alloc();
     let deep = brackets(alloc, 127)?;
     let deeper = brackets(alloc, 128)?;
-    assert!(rt; is_told(alloc, deep.as_str(), "[{\"error\":{\"code\":-32600,\"message\":\"Invalid Request\"},\"id\":null,\"jsonrpc\":\"2.0\"}]\n")?);
+    assert!(rt;
+        is_told(
+            alloc,
+            deep.as_str(),
+            "[{\"error\":{\"code\":-32600,\"message\":\"Invalid Request\"},\"id\":null,\"jsonrpc\":\"2.0\"}]\n"
+        )?
+    );
     assert!(rt; is_told(alloc, deeper.as_str(), PARSE_ERROR)?);
     Ok(())
 }
@@ -79,14 +109,25 @@ fn arrays_nest_127_deep(rt: HostRuntime) -> Result<(), Fail> {
 fn a_malformed_line_is_answered_before_what_follows(rt: HostRuntime) -> Result<(), Fail> {
     let alloc = rt.alloc();
     let mut output = String::from_str(alloc, PARSE_ERROR)?;
-    output.push_str("{\"error\":{\"code\":-32601,\"message\":\"Method not found\"},\"id\":2,\"jsonrpc\":\"2.0\"}\n")?;
-    assert!(rt; is_told(alloc, "so not\n{\"jsonrpc\":\"2.0\",\"id\":2,\"method\":\"get-model\"}", output.as_str())?);
+    output.push_str(
+        "{\"error\":{\"code\":-32601,\"message\":\"Method not found\"},\"id\":2,\"jsonrpc\":\"2.0\"}\n",
+    )?;
+    assert!(rt;
+        is_told(
+            alloc,
+            "so not\n{\"jsonrpc\":\"2.0\",\"id\":2,\"method\":\"get-model\"}",
+            output.as_str()
+        )?
+    );
     Ok(())
 }
 
 /// A request to add a module of this text, with its own name or without, and what follows.
 fn adding(alloc: Global, text: &str, more: &str) -> Result<String, Fail> {
-    let mut input = String::from_str(alloc, "{\"jsonrpc\":\"2.0\",\"id\":1,\"method\":\"add-module\",\"params\":{\"module\":\"")?;
+    let mut input = String::from_str(
+        alloc,
+        "{\"jsonrpc\":\"2.0\",\"id\":1,\"method\":\"add-module\",\"params\":{\"module\":\"",
+    )?;
     input.push_str(text)?;
     input.push_str("\"")?;
     input.push_str(more)?;
@@ -106,10 +147,34 @@ fn is_refused(alloc: Global, text: &str, error: &str) -> Result<bool, Fail> {
 #[test]
 fn a_module_at_fault_is_refused(rt: HostRuntime) -> Result<(), Fail> {
     let alloc = rt.alloc();
-    assert!(rt; is_refused(alloc, "module E2 import NOPE [] endmodule []", "{\"code\":8,\"data\":{\"kind\":\"M1\",\"name\":\"NOPE\"},\"message\":\"Invalid module\"}")?);
-    assert!(rt; is_refused(alloc, "module E3 sort SortZ{} [] endmodule []", "{\"code\":8,\"data\":{\"kind\":\"M7\",\"sentence\":1},\"message\":\"Invalid module\"}")?);
-    assert!(rt; is_refused(alloc, "module E3", "{\"code\":8,\"data\":{\"at\":9,\"kind\":\"text\",\"number\":5},\"message\":\"Invalid module\"}")?);
-    assert!(rt; is_refused(alloc, "module E4 axiom{} LblNone{}() [] axiom{} \\\\rewrites{SortS{}}(LblOne{}(), LblNone{}()) [] endmodule []", "{\"code\":8,\"data\":{\"axiom\":2,\"kind\":\"M6\"},\"message\":\"Invalid module\"}")?);
+    assert!(rt;
+        is_refused(
+            alloc,
+            "module E2 import NOPE [] endmodule []",
+            "{\"code\":8,\"data\":{\"kind\":\"M1\",\"name\":\"NOPE\"},\"message\":\"Invalid module\"}"
+        )?
+    );
+    assert!(rt;
+        is_refused(
+            alloc,
+            "module E3 sort SortZ{} [] endmodule []",
+            "{\"code\":8,\"data\":{\"kind\":\"M7\",\"sentence\":1},\"message\":\"Invalid module\"}"
+        )?
+    );
+    assert!(rt;
+        is_refused(
+            alloc,
+            "module E3",
+            "{\"code\":8,\"data\":{\"at\":9,\"kind\":\"text\",\"number\":5},\"message\":\"Invalid module\"}"
+        )?
+    );
+    assert!(rt;
+        is_refused(
+            alloc,
+            "module E4 axiom{} LblNone{}() [] axiom{} \\\\rewrites{SortS{}}(LblOne{}(), LblNone{}()) [] endmodule []",
+            "{\"code\":8,\"data\":{\"axiom\":2,\"kind\":\"M6\"},\"message\":\"Invalid module\"}"
+        )?
+    );
     Ok(())
 }
 
@@ -119,9 +184,14 @@ const TWO: &str =
 
 /// The reply with this depth and this term.
 fn reply(alloc: Global, depth: &str, term: &str) -> Result<String, Fail> {
-    let mut output = String::from_str(alloc, "{\"id\":3,\"jsonrpc\":\"2.0\",\"result\":{\"depth\":")?;
+    let mut output = String::from_str(
+        alloc,
+        "{\"id\":3,\"jsonrpc\":\"2.0\",\"result\":{\"depth\":",
+    )?;
     output.push_str(depth)?;
-    output.push_str(",\"reason\":\"stuck\",\"state\":{\"term\":{\"format\":\"KORE\",\"term\":{\"args\":[],\"name\":\"")?;
+    output.push_str(
+        ",\"reason\":\"stuck\",\"state\":{\"term\":{\"format\":\"KORE\",\"term\":{\"args\":[],\"name\":\"",
+    )?;
     output.push_str(term)?;
     output.push_str("\",\"sorts\":[],\"tag\":\"App\"},\"version\":1}}}}")?;
     Ok(output)
@@ -141,8 +211,20 @@ fn is_execute_refused(alloc: Global, members: &str, error: &str) -> Result<bool,
 #[test]
 fn a_call_of_execute_is_refused(rt: HostRuntime) -> Result<(), Fail> {
     let alloc = rt.alloc();
-    assert!(rt; is_execute_refused(alloc, ",\"module\":\"NOPE\"", "{\"code\":3,\"data\":{\"name\":\"NOPE\"},\"message\":\"Could not find module\"}")?);
-    assert!(rt; is_execute_refused(alloc, ",\"max-depth\":-1", "{\"code\":-32602,\"message\":\"Invalid params\"}")?);
+    assert!(rt;
+        is_execute_refused(
+            alloc,
+            ",\"module\":\"NOPE\"",
+            "{\"code\":3,\"data\":{\"name\":\"NOPE\"},\"message\":\"Could not find module\"}"
+        )?
+    );
+    assert!(rt;
+        is_execute_refused(
+            alloc,
+            ",\"max-depth\":-1",
+            "{\"code\":-32602,\"message\":\"Invalid params\"}"
+        )?
+    );
     Ok(())
 }
 
@@ -162,8 +244,32 @@ fn are_both_told(alloc: Global, frames: (&str, &str), lines: (&str, &str)) -> Re
 #[test]
 fn calls_are_answered_in_order(rt: HostRuntime) -> Result<(), Fail> {
     let alloc = rt.alloc();
-    assert!(rt; are_both_told(alloc, ("[", ",{\"jsonrpc\":\"2.0\",\"id\":2,\"method\":\"get-model\"}]"), ("[", ",{\"error\":{\"code\":-32601,\"message\":\"Method not found\"},\"id\":2,\"jsonrpc\":\"2.0\"}]\n"))?);
-    assert!(rt; are_both_told(alloc, ("", "{\"jsonrpc\":\"2.0\",\"id\":2,\"method\":\"get-model\"}"), ("", "\n{\"error\":{\"code\":-32601,\"message\":\"Method not found\"},\"id\":2,\"jsonrpc\":\"2.0\"}\n"))?);
+    assert!(rt;
+        are_both_told(
+            alloc,
+            (
+                "[",
+                ",{\"jsonrpc\":\"2.0\",\"id\":2,\"method\":\"get-model\"}]"
+            ),
+            (
+                "[",
+                ",{\"error\":{\"code\":-32601,\"message\":\"Method not found\"},\"id\":2,\"jsonrpc\":\"2.0\"}]\n"
+            )
+        )?
+    );
+    assert!(rt;
+        are_both_told(
+            alloc,
+            (
+                "",
+                "{\"jsonrpc\":\"2.0\",\"id\":2,\"method\":\"get-model\"}"
+            ),
+            (
+                "",
+                "\n{\"error\":{\"code\":-32601,\"message\":\"Method not found\"},\"id\":2,\"jsonrpc\":\"2.0\"}\n"
+            )
+        )?
+    );
     Ok(())
 }
 
@@ -186,7 +292,9 @@ fn added_and_asked(alloc: Global, open: &str, between: &str, close: &str) -> Res
     input.push_str(",\"module\":\"BACK\"}}")?;
     input.push_str(between)?;
     input.push_str(TWO)?;
-    input.push_str(",\"module\":\"m0f63ff68878456a550d36ed8937b38ebe2a31700c8bee22483e5700fd97caff4\"}}")?;
+    input.push_str(
+        ",\"module\":\"m0f63ff68878456a550d36ed8937b38ebe2a31700c8bee22483e5700fd97caff4\"}}",
+    )?;
     input.push_str(between)?;
     input.push_str(TWO)?;
     input.push_str("}}")?;
@@ -211,7 +319,11 @@ fn replies(alloc: Global, open: &str, between: &str, close: &str) -> Result<Stri
 }
 
 /// Whether the replies are those.
-fn is_added(alloc: Global, frames: (&str, &str, &str), lines: (&str, &str, &str)) -> Result<bool, Fail> {
+fn is_added(
+    alloc: Global,
+    frames: (&str, &str, &str),
+    lines: (&str, &str, &str),
+) -> Result<bool, Fail> {
     let found = added_and_asked(alloc, frames.0, frames.1, frames.2)?;
     let wanted = replies(alloc, lines.0, lines.1, lines.2)?;
     Ok(found.as_slice() == wanted.as_bytes())
@@ -249,7 +361,9 @@ fn added_again(alloc: Global) -> Result<String, Fail> {
 fn bound(alloc: Global) -> Result<String, Fail> {
     let mut output = String::from_str(alloc, EXTRA_REPLY)?;
     output.push_str(EXTRA_REPLY)?;
-    output.push_str("{\"error\":{\"code\":9,\"data\":{\"entry\":1,\"name\":\"EXTRA\"},\"message\":\"Duplicate module\"},\"id\":1,\"jsonrpc\":\"2.0\"}\n")?;
+    output.push_str(
+        "{\"error\":{\"code\":9,\"data\":{\"entry\":1,\"name\":\"EXTRA\"},\"message\":\"Duplicate module\"},\"id\":1,\"jsonrpc\":\"2.0\"}\n",
+    )?;
     Ok(output)
 }
 
