@@ -14,7 +14,7 @@ ghost use Rattle.kp_ground.specs.Solves.{Solves};
 ghost use Rattle.kp_ground.specs.Terms.{term_value};
 ghost use Rattle.kp_ground.specs.TermView.{term_view};
 ghost use Rattle.kp_ground.specs.View.{value_view};
-ghost use Rattle.kp_rules.specs.Bodies.{RunsAs};
+ghost use Rattle.kp_rule_sets.specs.RuleSets.{RunsAs};
 ghost use Rattle.kp_run.specs.Causes.{TwoAmong, IsWrittenAt, IsNotStepped, StopsUntold};
 ghost use Rattle.kp_run.specs.Runs.{IsNext, IsWrittenNext, written_of};
 ghost use Rattle.kp_run.specs.Shallow.{IsShallow, IsShallowNext, IsMatchOf};
@@ -25,7 +25,8 @@ ghost use Rattle.kp_run.specs.declared.error.RunError.TheVariants.{NotAnswered, 
 use crate::error::RunError;
 use kp_ground::{Binding, Value};
 use kp_kore::Sort;
-use kp_rules::{Rewrite, Rule, RuleBody, RuleSet};
+use kp_rule_sets::RuleSet;
+use kp_rules::{Rewrite, Rule, RuleBody};
 use kp_signature::Signature;
 use kp_states::{Matched, State, is_right_within, is_within_written};
 use std::alloc::{AllocError, Global};

@@ -15,7 +15,8 @@ ghost use Rattle.kp_successors.specs.declared.error.GroundError.TheVariants.{Unb
 
 use crate::error::GroundError;
 use kp_ground::Value;
-use kp_rules::{Rule, RuleBody, RuleSet};
+use kp_rule_sets::RuleSet;
+use kp_rules::{Rule, RuleBody};
 use kp_signature::Signature;
 use std::alloc::Global;
 

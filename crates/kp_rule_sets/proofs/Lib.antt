@@ -1,0 +1,6 @@
+pub mod Chosen
+pub mod Filled
+pub mod InTurn
+pub mod Keyed
+pub mod RowLemmas
+pub mod Topped

@@ -1,0 +1,6 @@
+pub mod HeadView
+pub mod Keys
+pub mod Rows
+pub mod RuleSets
+pub mod Tops
+pub mod Turns
