@@ -2,11 +2,11 @@ use crate::texts::{axiom, pattern, signature};
 use kp_compile::compile_term;
 use kp_ground::Value;
 use kp_kore::{Pattern, Sort};
-use kp_rules::skeleton::skeleton_of_left;
-use kp_rules::RuleBody;
 use kp_rule_reading::{RuleError, label_of, read_rule};
-use kp_sort_index::SortIndex;
+use kp_rules::RuleBody;
+use kp_rules::skeleton::skeleton_of_left;
 use kp_signature::Signature;
+use kp_sort_index::SortIndex;
 use std::alloc::Global;
 use std::test::Fail;
 
