@@ -2,6 +2,7 @@ pub mod Above
 pub mod Among
 pub mod Answered
 pub mod Causes
+pub mod Chosen
 pub mod Open
 pub mod Runs
 pub mod Shallow

@@ -1,4 +1,4 @@
-ghost use Rattle.std.specs.Prelude.{◌≡◌, ◌↔◌, ◌++◌, ◌≤◌, List, [], ◌∷◌, IfOk, IfErr, IsTrue, MatchOption, false};
+ghost use Rattle.std.specs.Prelude.{◌≡◌, ◌↔◌, ◌++◌, ◌≤◌, List, [], ◌∷◌, IfOk, IfErr, IsTrue, MatchOption, false, slice_get};
 ghost use Rattle.std.specs.List.{AllByRecursion};
 ghost use Rattle.kp_kore.specs.Syntax.{KoreSort};
 ghost use Rattle.kp_kore.specs.Signature.{KoreSignature};
@@ -15,6 +15,7 @@ ghost use Rattle.kp_ground.specs.Terms.{term_value};
 ghost use Rattle.kp_ground.specs.TermView.{term_view};
 ghost use Rattle.kp_ground.specs.View.{value_view};
 ghost use Rattle.kp_rule_sets.specs.RuleSets.{RunsAs};
+ghost use Rattle.kp_rule_sets.specs.Turns.{rules_among, with_first};
 ghost use Rattle.kp_run.specs.Causes.{TwoAmong, IsWrittenAt, IsNotStepped, StopsUntold};
 ghost use Rattle.kp_run.specs.Runs.{IsNext, IsWrittenNext, written_of};
 ghost use Rattle.kp_run.specs.Shallow.{IsShallow, IsShallowNext, IsMatchOf};
@@ -25,7 +26,7 @@ ghost use Rattle.kp_run.specs.declared.error.RunError.TheVariants.{NotAnswered, 
 use crate::error::RunError;
 use kp_ground::{Binding, Value};
 use kp_kore::Sort;
-use kp_rule_sets::RuleSet;
+use kp_rule_sets::{RuleSet, head_of};
 use kp_rules::{Rewrite, Rule, RuleBody};
 use kp_signature::Signature;
 use kp_states::{Matched, State, is_right_within, is_within_written};
@@ -102,7 +103,44 @@ fn told_after<'a>(first: Option<&'a Rule>, rule: &'a Rule, might: bool) -> Optio
     first
 }
 
-/// The foreign rule that is told of those that might rewrite the value: of the smallest priority number the first.
+/// The foreign rule that is told, when the rule at one more place is asked.
+fn told_with<'a>(
+    alloc: Global,
+    rules: &'a RuleSet,
+    place: usize,
+    value: &Value,
+    first: Option<&'a Rule>,
+) -> Result<Option<&'a Rule>, AllocError>
+    ensures { (before : List Rule) → IsSorted (signature_view rules.now.signature.value) (value_view value.now) → TellsForeign (signature_view rules.now.signature.value) (value_view value.now) before first.entry →
+        IfOk result (TellsForeign (signature_view rules.now.signature.value) (value_view value.now) (before ++ with_first (slice_get rules.now.rules.items place) [])) }
+{
+    match rules.rules.get(place) {
+        Some(rule) => {
+            let might = might_rewrite(alloc, &rules.signature, &rule.body, value)?;
+            Ok(told_after(first, rule, might))
+        }
+        None => Ok(first),
+    }
+}
+
+/// The foreign rule that is told of those at these places.
+fn foreign_among<'a>(
+    alloc: Global,
+    rules: &'a RuleSet,
+    places: &[usize],
+    value: &Value,
+) -> Result<Option<&'a Rule>, AllocError>
+    ensures { IsSorted (signature_view rules.now.signature.value) (value_view value.now) → IfOk result (TellsForeign (signature_view rules.now.signature.value) (value_view value.now) (rules_among rules.now.rules.items places.now)) }
+{
+    let mut first = None;
+    for i in 0..places.len() {
+        first = told_with(alloc, rules, places[i], value, first)?;
+    }
+    Ok(first)
+}
+
+/// The foreign rule that is told of those that might rewrite the value: of the smallest priority number the first. Rules
+/// of other heads aren't looked at.
 pub fn foreign_on<'a>(
     alloc: Global,
     rules: &'a RuleSet,
@@ -110,11 +148,8 @@ pub fn foreign_on<'a>(
 ) -> Result<Option<&'a Rule>, AllocError>
     ensures { IsSorted (signature_view rules.now.signature.value) (value_view value.now) → IfOk result (TellsForeign (signature_view rules.now.signature.value) (value_view value.now) rules.now.rules.items) }
 {
-    let mut first = None;
-    for rule in &rules.rules {
-        let might = might_rewrite(alloc, &rules.signature, &rule.body, value)?;
-        first = told_after(first, rule, might);
-    }
+    let places = rules.rules_at(&head_of(value));
+    let first = foreign_among(alloc, rules, places, value)?;
     Ok(first)
 }
 
@@ -187,19 +222,56 @@ fn turn_after<'a>(turn: Turn<'a>, firing: Option<Firing<'a>>) -> Turn<'a>
     }
 }
 
-/// The rules that have their turn on a value.
+/// Who has the turn when the rule at one more place is asked.
+fn turn_with<'a>(
+    alloc: Global,
+    rules: &'a RuleSet,
+    place: usize,
+    value: &Value,
+    turn: Turn<'a>,
+) -> Result<Turn<'a>, RunError>
+    ensures turn { (before : List Rule) → IsTurn (signature_view rules.now.signature.value) (value_view value.now) before turn.entry → IfOk result (λ next. IsTurn (signature_view rules.now.signature.value) (value_view value.now) (before ++ with_first (slice_get rules.now.rules.items place) []) next) }
+    ensures wide { IfErr result (λ e. e ≡ NotAnswered → AnyByRecursion (λ r. BodyIsWide (signature_view rules.now.signature.value) (value_view value.now) r.body.value) (with_first (slice_get rules.now.rules.items place) [])) }
+    ensures narrow { IfOk result (λ _. AllByRecursion (λ r. ¬ BodyIsWide (signature_view rules.now.signature.value) (value_view value.now) r.body.value) (with_first (slice_get rules.now.rules.items place) [])) }
+    ensures unbound { IfErr result (λ e. e ≡ Unbound → SomeOpen (with_first (slice_get rules.now.rules.items place) [])) }
+{
+    match rules.rules.get(place) {
+        Some(rule) => {
+            let firing = firing_of(alloc, &rules.signature, rule, value)?;
+            Ok(turn_after(turn, firing))
+        }
+        None => Ok(turn),
+    }
+}
+
+/// Of the rules at these places those that have their turn on a value.
+fn turn_among<'a>(
+    alloc: Global,
+    rules: &'a RuleSet,
+    places: &[usize],
+    value: &Value,
+) -> Result<Turn<'a>, RunError>
+    ensures turn { IfOk result (λ turn. IsTurn (signature_view rules.now.signature.value) (value_view value.now) (rules_among rules.now.rules.items places.now) turn) }
+    ensures wide { IfErr result (λ e. e ≡ NotAnswered → AnyByRecursion (λ r. BodyIsWide (signature_view rules.now.signature.value) (value_view value.now) r.body.value) (rules_among rules.now.rules.items places.now)) }
+    ensures narrow { IfOk result (λ _. AllByRecursion (λ r. ¬ BodyIsWide (signature_view rules.now.signature.value) (value_view value.now) r.body.value) (rules_among rules.now.rules.items places.now)) }
+    ensures unbound { IfErr result (λ e. e ≡ Unbound → SomeOpen (rules_among rules.now.rules.items places.now)) }
+{
+    let mut turn = Turn::Nobody;
+    for i in 0..places.len() {
+        turn = turn_with(alloc, rules, places[i], value, turn)?;
+    }
+    Ok(turn)
+}
+
+/// The rules that have their turn on a value. Rules of other heads aren't looked at.
 fn turn_on<'a>(alloc: Global, rules: &'a RuleSet, value: &Value) -> Result<Turn<'a>, RunError>
     ensures turn { IfOk result (λ turn. IsTurn (signature_view rules.now.signature.value) (value_view value.now) rules.now.rules.items turn) }
     ensures wide { IfErr result (λ e. e ≡ NotAnswered → AnyByRecursion (λ r. BodyIsWide (signature_view rules.now.signature.value) (value_view value.now) r.body.value) rules.now.rules.items) }
     ensures narrow { IfOk result (λ _. AllByRecursion (λ r. ¬ BodyIsWide (signature_view rules.now.signature.value) (value_view value.now) r.body.value) rules.now.rules.items) }
     ensures unbound { IfErr result (λ e. e ≡ Unbound → SomeOpen rules.now.rules.items) }
 {
-    let mut turn = Turn::Nobody;
-    for rule in &rules.rules {
-        let firing = firing_of(alloc, &rules.signature, rule, value)?;
-        turn = turn_after(turn, firing);
-    }
-    Ok(turn)
+    let places = rules.rules_at(&head_of(value));
+    turn_among(alloc, rules, places, value)
 }
 
 /// The sort that a rule's right side is written at: the state's, where the rule's own is it or below it.
