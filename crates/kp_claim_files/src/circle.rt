@@ -27,7 +27,7 @@ pub fn check_circles(
     items: &[ClaimItem],
 ) -> Result<(), ClaimError>
     ensures ok { (ss : List KoreSentence) → Indexes (labels_of ss) places.now → AllZip IsStatedBy ss (items_view items.now) → OnOk result ((i : ℕ) → ¬ DependsOn (stated_needs ss) i i) }
-    ensures err { (g : KoreSignature) (ss : List KoreSentence) → Indexes (labels_of ss) places.now → AllZip IsStatedBy ss (items_view items.now) → AreFaultless g (file_labels ss) [] ss → IfErr result (TellsOf (IsCircle g ss)) }
+    ensures err { (g : KoreSignature) (ss : List KoreSentence) → let it' = items_view items.now in Indexes (labels_of ss) places.now → AllZip IsStatedBy ss it' → AreFaultless g (file_labels ss) [] ss → IfErr result (TellsOf (IsCircle g ss)) }
 {
     let needs = needs_of(alloc, places, items)?;
     match layers_of(alloc, &needs)? {

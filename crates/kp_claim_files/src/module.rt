@@ -88,7 +88,7 @@ fn add_axiom(
     sentences: &mut Vec<Sentence>,
     item: &ClaimItem,
 ) -> Result<(), AllocError>
-    ensures { OnOk result (map sentence_view sentences.new.items ≡ map sentence_view sentences.old.items ++ axiom_sentence (stated_axiom (sorted_view item.now)) ∷ []) }
+    ensures { let item' = sorted_view item.now in OnOk result (map sentence_view sentences.new.items ≡ map sentence_view sentences.old.items ++ axiom_sentence (stated_axiom item') ∷ []) }
 {
     let axiom = claim_axiom(alloc, item)?;
     sentences.push(Sentence::Axiom(axiom))?;

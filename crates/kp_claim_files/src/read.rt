@@ -28,10 +28,10 @@ use kp_claims::outline::Sides;
 use kp_claims::sentences::counted_sentences;
 use kp_claims::{ClaimError, ClaimFault};
 use kp_kore::{AxiomSentence, Name, Sentence};
-use kp_sort_index::SortIndex;
 use kp_semantics::Claim;
 use kp_signature::Signature;
 use kp_signature::attributes::has_mark;
+use kp_sort_index::SortIndex;
 use std::alloc::{AllocError, Global};
 
 /// The claims of a file over a signature, in order; else the file's fault: that of its text, or the first fault of the
@@ -41,7 +41,7 @@ pub fn read_claims(
     bytes: &[u8],
     signature: &Signature,
 ) -> Result<Vec<ClaimItem>, ClaimError>
-    ensures read { IfOk result (λ items. (ms : List KoreModule) × SpellsFile bytes.now ms × IsFaultlessFile (signature_view signature.now) (counted ms) × AllZip IsStatedBy (counted ms) (items_view items.items)) }
+    ensures read { let g = signature_view signature.now in IfOk result (λ items. (ms : List KoreModule) × SpellsFile bytes.now ms × IsFaultlessFile g (counted ms) × AllZip IsStatedBy (counted ms) (items_view items.items)) }
     ensures fault { IfErr result (IsErrorOf (signature_view signature.now) bytes.now) }
 {
     let modules = modules_in(alloc, bytes)?;
@@ -72,7 +72,7 @@ fn claims_among(
     file: &FileLabels,
     sentences: &[&Sentence],
 ) -> Result<Vec<ClaimItem>, ClaimError>
-    ensures faultless { Notes (stated_file (seen sentences.now)) file.now → OnOk result (AreFaultless (signature_view signature.now) (stated_file (seen sentences.now)) [] (seen sentences.now)) }
+    ensures faultless { let the_seen = seen sentences.now in Notes (stated_file the_seen) file.now → OnOk result (AreFaultless (signature_view signature.now) (stated_file the_seen) [] the_seen) }
     ensures claims { IfOk result (λ items. AllZip IsStatedBy (seen sentences.now) (items_view items.items)) }
     ensures err { Notes (stated_file (seen sentences.now)) file.now → IfErr result (TellsOf (IsFirstFault (signature_view signature.now) (seen sentences.now))) }
 {
@@ -99,7 +99,7 @@ fn claim_of_sentence(
     ensures claim { IfOk result (λ item. IsStatedBy (sentence_view sentence.now) (item_view item)) }
     ensures faultless { (f : Stated) (before : List Text) → Notes f file.now → Lists before labels.old → OnOk result (IsFaultless (signature_view signature.now) f before (sentence_view sentence.now)) }
     ensures labels { (before : List Text) → Lists before labels.old → OnOk result (Lists (before ++ label_at (sentence_view sentence.now)) labels.new) }
-    ensures err { (f : Stated) (before : List Text) → Notes f file.now → Lists before labels.old → IfErr result (TellsOf (IsFaultAt (signature_view signature.now) f before (sentence_view sentence.now))) }
+    ensures err { (f : Stated) (before : List Text) → let g = signature_view signature.now in Notes f file.now → Lists before labels.old → IfErr result (TellsOf (IsFaultAt g f before (sentence_view sentence.now))) }
 {
     match sentence {
         Sentence::Claim(statement) => claim_of(alloc, signature, index, file, labels, statement),
@@ -122,9 +122,9 @@ fn claim_of(
 ) -> Result<ClaimItem, ClaimError>
     requires index { IsIndexOf (signature_view signature.now) index.now }
     ensures claim { IfOk result (λ item. IsStatedAs (axiom_sentence_view statement.now) (item_view item)) }
-    ensures faultless { (f : Stated) (before : List Text) → Notes f file.now → Lists before labels.old → OnOk result (IsFaultlessClaim (signature_view signature.now) f before (axiom_sentence_view statement.now)) }
+    ensures faultless { (f : Stated) (before : List Text) → let g = signature_view signature.now in Notes f file.now → Lists before labels.old → OnOk result (IsFaultlessClaim g f before (axiom_sentence_view statement.now)) }
     ensures labels { (before : List Text) → Lists before labels.old → OnOk result (Lists (before ++ label_at (claim_sentence (axiom_sentence_view statement.now))) labels.new) }
-    ensures err { (f : Stated) (before : List Text) → Notes f file.now → Lists before labels.old → IfErr result (TellsOf (IsFaultOfClaim (signature_view signature.now) f before (axiom_sentence_view statement.now))) }
+    ensures err { (f : Stated) (before : List Text) → let g = signature_view signature.now in Notes f file.now → Lists before labels.old → IfErr result (TellsOf (IsFaultOfClaim g f before (axiom_sentence_view statement.now))) }
 {
     let item = stated_claim(alloc, signature, labels, statement)?;
     check_use(alloc, signature, index, file, &item)?;
@@ -141,7 +141,7 @@ fn stated_claim(
     ensures clear { IfOk result (IsClear (signature_view signature.now) (axiom_sentence_view statement.now)) }
     ensures none { (before : List Text) → Lists before labels.old → OnOk result (early_fault (signature_view signature.now) before (axiom_sentence_view statement.now) ≡ None) }
     ensures labels { (before : List Text) → Lists before labels.old → OnOk result (Lists (before ++ label_at (claim_sentence (axiom_sentence_view statement.now))) labels.new) }
-    ensures err { (before : List Text) → Lists before labels.old → IfErr result (TellsOf (λ f. early_fault (signature_view signature.now) before (axiom_sentence_view statement.now) ≡ Some f)) }
+    ensures err { (before : List Text) → let g = signature_view signature.now in Lists before labels.old → IfErr result (TellsOf (λ f. early_fault g before (axiom_sentence_view statement.now) ≡ Some f)) }
 {
     let sides = outline(alloc, statement)?;
     let label = take_label(labels, &statement.attributes)?;

@@ -24,10 +24,10 @@ use kp_claim_sentences::ClaimItem;
 use kp_claims::label::is_noted;
 use kp_claims::{ClaimError, ClaimFault};
 use kp_kore::Name;
-use kp_rules::RuleBody;
 use kp_rule_reading::{RuleError, read_rule};
-use kp_sort_index::SortIndex;
+use kp_rules::RuleBody;
 use kp_signature::Signature;
+use kp_sort_index::SortIndex;
 use std::alloc::{AllocError, Global};
 
 /// C8 where a claim is its own circularity or some claim depends on it, and it can't be a rule; then C4 of the first label
@@ -40,8 +40,8 @@ pub fn check_use(
     item: &ClaimItem,
 ) -> Result<(), ClaimError>
     requires index { IsIndexOf (signature_view signature.now) index.now }
-    ensures ok { (f : Stated) (s : Statement) → Notes f file.now → IsClear (signature_view signature.now) s item.now → OnOk result (IsUsable (signature_view signature.now) f s × (unknown_fault f s ≡ None)) }
-    ensures err { (f : Stated) (s : Statement) → Notes f file.now → IsClear (signature_view signature.now) s item.now → IfErr result (TellsOf (λ e. IsRuleFault (signature_view signature.now) f s e ⊎ (IsUsable (signature_view signature.now) f s × (unknown_fault f s ≡ Some e)))) }
+    ensures ok { (f : Stated) (s : Statement) → let g = signature_view signature.now in Notes f file.now → IsClear g s item.now → OnOk result (IsUsable g f s × (unknown_fault f s ≡ None)) }
+    ensures err { (f : Stated) (s : Statement) → let g = signature_view signature.now in Notes f file.now → IsClear g s item.now → IfErr result (TellsOf (λ e. IsRuleFault g f s e ⊎ (IsUsable g f s × (unknown_fault f s ≡ Some e)))) }
 {
     check_rule(alloc, signature, index, file, item)?;
     check_known(&file.places, &item.depends)
@@ -57,7 +57,7 @@ fn check_rule(
 ) -> Result<(), ClaimError>
     requires index { IsIndexOf (signature_view signature.now) index.now }
     ensures ok { (f : Stated) (s : Statement) → Notes f file.now → IsClear (signature_view signature.now) s item.now → OnOk result (IsUsable (signature_view signature.now) f s) }
-    ensures err { (f : Stated) (s : Statement) → Notes f file.now → IsClear (signature_view signature.now) s item.now → IfErr result (TellsOf (IsRuleFault (signature_view signature.now) f s)) }
+    ensures err { (f : Stated) (s : Statement) → let g = signature_view signature.now in Notes f file.now → IsClear g s item.now → IfErr result (TellsOf (IsRuleFault g f s)) }
 {
     if !is_used(file, item) {
         return Ok(());
@@ -84,7 +84,7 @@ fn can_be_rule(
     item: &ClaimItem,
 ) -> Result<bool, AllocError>
     requires index { IsIndexOf (signature_view signature.now) index.now }
-    ensures { first_fault (signature_view signature.now) the_top (bare_claim (sides_at item.now)) ≡ None → IfOk result (λ b. MatchBool b (CanBeRule (signature_view signature.now) (sorted_view item.now)) (¬ CanBeRule (signature_view signature.now) (sorted_view item.now))) }
+    ensures { let g = signature_view signature.now in let item' = sorted_view item.now in first_fault g the_top (bare_claim (sides_at item.now)) ≡ None → IfOk result (λ b. MatchBool b (CanBeRule g item') (¬ CanBeRule g item')) }
 {
     let axiom = claim_axiom(alloc, item)?;
     match read_rule(alloc, signature, index, &axiom) {

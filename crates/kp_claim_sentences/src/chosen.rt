@@ -39,7 +39,7 @@ fn are_own_in(
     binders: &[Binder<'_>],
     term: &Pattern,
 ) -> Result<bool, AllocError>
-    ensures { IfOk result (λ b. b ≡ list_all (λ x. is_named x.name (free_variables (view term.now))) (variables_seen binders.now ++ filter (λ x. not (is_named x.name (free_variables (sides_view sides.entry).left))) (free_variables (sides_view sides.entry).right))) }
+    ensures { let entry' = sides_view sides.entry in IfOk result (λ b. b ≡ list_all (λ x. is_named x.name (free_variables (view term.now))) (variables_seen binders.now ++ filter (λ x. not (is_named x.name (free_variables entry'.left))) (free_variables entry'.right))) }
 {
     let names = names_in(alloc, term)?;
     if !are_bound_in(binders, &names) {

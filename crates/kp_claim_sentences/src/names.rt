@@ -65,7 +65,7 @@ fn are_apart(met: Labels, parts: &[&Pattern]) -> Result<bool, AllocError>
 /// Notes the name that a pattern binds, if any; whether it wasn't noted.
 fn is_new(names: &mut Labels, part: &Pattern) -> Result<bool, AllocError>
     ensures lists { (before : List Text) → Lists before names.old → IfOk result (λ b. b ≡ true → Lists (before ++ bound_at (view part.now)) names.new) }
-    ensures is { (before more : List Text) → Lists before names.old → IfOk result (λ b. MatchBool b (apart_test (before ++ bound_at (view part.now)) more ≡ apart_test before (bound_at (view part.now) ++ more)) (apart_test before (bound_at (view part.now) ++ more) ≡ false)) }
+    ensures is { (before more : List Text) → let bound = bound_at (view part.now) ++ more in Lists before names.old → IfOk result (λ b. MatchBool b (apart_test (before ++ bound_at (view part.now)) more ≡ apart_test before bound) (apart_test before bound ≡ false)) }
 {
     match bound_name(part) {
         Some(name) => is_new_name(names, name),
@@ -76,7 +76,7 @@ fn is_new(names: &mut Labels, part: &Pattern) -> Result<bool, AllocError>
 /// Notes a name; whether it wasn't noted.
 fn is_new_name(names: &mut Labels, name: &Name) -> Result<bool, AllocError>
     ensures lists { (before : List Text) → Lists before names.old → IfOk result (λ b. b ≡ true → Lists (before ++ string_bytes name.now ∷ []) names.new) }
-    ensures is { (before more : List Text) → Lists before names.old → IfOk result (λ b. MatchBool b (apart_test (before ++ string_bytes name.now ∷ []) more ≡ apart_test before (string_bytes name.now ∷ more)) (apart_test before (string_bytes name.now ∷ more) ≡ false)) }
+    ensures is { (before more : List Text) → let the_string_bytes = string_bytes name.now ∷ more in Lists before names.old → IfOk result (λ b. MatchBool b (apart_test (before ++ string_bytes name.now ∷ []) more ≡ apart_test before the_string_bytes) (apart_test before the_string_bytes ≡ false)) }
 {
     if is_noted(names, name) {
         return Ok(false);

@@ -49,7 +49,7 @@ fn clear_sides<'a>(
 
 /// Whether a claim has no sort parameters, and its `depends` a text.
 fn has_read_head(statement: &AxiomSentence) -> bool
-    ensures { result ≡ (is_without_parameters (axiom_sentence_view statement.now).parameters && is_some (dependencies_of (axiom_sentence_view statement.now).attributes)) }
+    ensures { let statement' = axiom_sentence_view statement.now in result ≡ (is_without_parameters statement'.parameters && is_some (dependencies_of statement'.attributes)) }
 {
     statement.parameters.is_empty() && has_dependencies(&statement.attributes)
 }

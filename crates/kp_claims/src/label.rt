@@ -21,7 +21,7 @@ pub type Labels = IndexMap<Name, ()>;
 /// Notes and gives the label among a claim's attributes; C6 where there is none, C7 where an earlier claim has it.
 pub fn take_label(labels: &mut Labels, attributes: &[Pattern]) -> Result<Name, ClaimError>
     ensures label { IfOk result (λ l. stated_label (patterns_view attributes.now) ≡ Some (string_bytes l)) }
-    ensures ok { (before : List Text) → Lists before labels.old → IfOk result (λ l. (label_fault before (stated_label (patterns_view attributes.now)) ≡ None) × Lists (before ++ string_bytes l ∷ []) labels.new) }
+    ensures ok { (before : List Text) → let attributes' = patterns_view attributes.now in Lists before labels.old → IfOk result (λ l. (label_fault before (stated_label attributes') ≡ None) × Lists (before ++ string_bytes l ∷ []) labels.new) }
     ensures err { (before : List Text) → Lists before labels.old → IfErr result (TellsOf (λ f. label_fault before (stated_label (patterns_view attributes.now)) ≡ Some f)) }
 {
     match label_of(attributes) {

@@ -173,7 +173,7 @@ fn argument_on_all<'a>(
     sorts: &[Sort],
     arguments: &'a [Pattern],
 ) -> Option<&'a Pattern>
-    ensures { option_map (λ p. view p.now) result ≡ stated_reached (sort_view sort.now) (application symbol.now (sorts_view sorts.now) (patterns_view arguments.now)) }
+    ensures { let sort' = sort_view sort.now in option_map (λ p. view p.now) result ≡ stated_reached sort' (application symbol.now (sorts_view sorts.now) (patterns_view arguments.now)) }
 {
     if sorts.len() != 1 {
         return None;

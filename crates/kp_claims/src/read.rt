@@ -30,7 +30,7 @@ pub fn read_claims(
     bytes: &[u8],
     signature: &Signature,
 ) -> Result<Vec<ClaimItem>, ClaimError>
-    ensures read { IfOk result (λ items. (ms : List KoreModule) × SpellsFile bytes.now ms × AreFaultless (signature_view signature.now) [] (counted ms) × AllZip IsClaimOfSentence (counted ms) (items_view items.items)) }
+    ensures read { let g = signature_view signature.now in IfOk result (λ items. (ms : List KoreModule) × SpellsFile bytes.now ms × AreFaultless g [] (counted ms) × AllZip IsClaimOfSentence (counted ms) (items_view items.items)) }
     ensures fault { IfErr result (IsErrorOf (signature_view signature.now) bytes.now) }
 {
     let modules = modules_in(alloc, bytes)?;

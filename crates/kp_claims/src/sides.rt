@@ -27,8 +27,8 @@ pub fn checked_claim(
 ) -> Result<Claim, ClaimError>
     ensures left { IfOk result (λ c. view c.left ≡ (sides_view sides.entry).left) }
     ensures right { IfOk result (λ c. view c.right ≡ (sides_view sides.entry).right) }
-    ensures ok { is_ground (sides_view sides.entry).left ≡ true → is_ground (sides_view sides.entry).right ≡ true → OnOk result (AreFaultlessSides (signature_view signature.now) (sides_view sides.entry)) }
-    ensures err { is_ground (sides_view sides.entry).left ≡ true → is_ground (sides_view sides.entry).right ≡ true → IfErr result (TellsOf (IsFaultOfSides (signature_view signature.now) (sides_view sides.entry))) }
+    ensures ok { let entry' = sides_view sides.entry in is_ground entry'.left ≡ true → is_ground entry'.right ≡ true → OnOk result (AreFaultlessSides (signature_view signature.now) entry') }
+    ensures err { let entry' = sides_view sides.entry in is_ground entry'.left ≡ true → is_ground entry'.right ≡ true → IfErr result (TellsOf (IsFaultOfSides (signature_view signature.now) entry')) }
 {
     let bare = bare_claim(alloc, sides)?;
     check_verified(alloc, signature, &bare)?;
@@ -94,7 +94,7 @@ pub fn check_foreign(
 /// C2 where a verified side without foreign symbols computes a number beyond 128 bits.
 fn check_numbers(alloc: Global, signature: &Signature, sides: Sides<'_>) -> Result<(), ClaimError>
     ensures ok { OnOk result (¬ IsWideClaim (signature_view signature.now) (Some (sides_view sides.entry))) }
-    ensures err { HasMeaning (signature_view signature.now) (sides_view sides.entry) → IfErr result (TellsOf (IsNumberFault (signature_view signature.now) (Some (sides_view sides.entry)))) }
+    ensures err { let g = signature_view signature.now in HasMeaning g (sides_view sides.entry) → IfErr result (TellsOf (IsNumberFault g (Some (sides_view sides.entry)))) }
 {
     check_number(alloc, signature, sides.left, sides.sort)?;
     Ok(check_number(alloc, signature, sides.right, sides.sort)?)
@@ -108,7 +108,7 @@ fn check_number(
     sort: &Sort,
 ) -> Result<(), ClaimError>
     ensures ok { OnOk result (¬ IsWide (signature_view signature.now) (view pattern.now)) }
-    ensures err { IsGroundAt (signature_view signature.now) (sort_view sort.now) (view pattern.now) → IfErr result (TellsOf (IsNumberFaultOf (signature_view signature.now) (view pattern.now))) }
+    ensures err { let g = signature_view signature.now in IsGroundAt g (sort_view sort.now) (view pattern.now) → IfErr result (TellsOf (IsNumberFaultOf g (view pattern.now))) }
 {
     match state_of(alloc, signature, pattern, sort.copy(alloc)?) {
         Ok(_) => Ok(()),

@@ -107,7 +107,7 @@ pub fn ask_cover<L: Link>(
     claim: &Claim,
     state: &Pattern,
 ) -> Result<CoverAnswer, ProveFault>
-    ensures answer { IfOk result (λ a. (es : List Exchange) × Makes (L.told link.old) (L.told link.new) es × IsCoverAnswer (claim_view claim.now) (view state.now) es a) }
+    ensures answer { let claim' = claim_view claim.now in IfOk result (λ a. (es : List Exchange) × Makes (L.told link.old) (L.told link.new) es × IsCoverAnswer claim' (view state.now) es a) }
     ensures broken { OnErr result (Made (L.told link.old) (L.told link.new) (MayAsk (cover_question (claim_view claim.now) (view state.now)))) }
     ensures link_fault { IsErrOf result LinkFault → Rose (L.told link.old).faults (L.told link.new).faults }
 {

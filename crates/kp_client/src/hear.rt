@@ -30,7 +30,7 @@ pub fn hear<L: Link>(
     method: Method,
     question: &Question,
 ) -> Result<Heard, ProveFault>
-    ensures heard { IfOk result (λ h. (es : List Exchange) × Makes (L.told link.old) (L.told link.new) es × IsHeard (method_view method) (question_view question.now) es h) }
+    ensures heard { let method' = method_view method in IfOk result (λ h. (es : List Exchange) × Makes (L.told link.old) (L.told link.new) es × IsHeard method' (question_view question.now) es h) }
     ensures broken { OnErr result (Made (L.told link.old) (L.told link.new) (MaySend (question_view question.now))) }
     ensures link_fault { IsErrOf result LinkFault → Rose (L.told link.old).faults (L.told link.new).faults }
 {

@@ -43,7 +43,7 @@ fn end_settled(alloc: Global, tree: Tree) -> Result<Proof, ProveFault>
 
 /// The end of a proof after the last round that may be.
 fn end_of_rounds(alloc: Global, mut tree: Tree) -> Result<Proof, ProveFault>
-    ensures open { (n : ℕ) → least_open (tree_view tree) ≡ Some n → IfOk result (λ r. (tree_view r.1 ≡ with_hold n rounds (tree_view tree)) × (outcome_view r.0 ≡ pending_at n rounds)) }
+    ensures open { (n : ℕ) → let tree' = tree_view tree in least_open tree' ≡ Some n → IfOk result (λ r. (tree_view r.1 ≡ with_hold n rounds tree') × (outcome_view r.0 ≡ pending_at n rounds)) }
     ensures settled { least_open (tree_view tree) ≡ None → IfOk result (λ r. (tree_view r.1 ≡ tree_view tree) × IsEnding (tree_view tree) (outcome_view r.0)) }
     ensures fault { IsErrOf result LinkFault → ⊥ }
 {
@@ -99,14 +99,14 @@ pub fn prove_claim<L: Link>(
     options: &ProveOptions,
 ) -> Result<(Outcome, Tree), ProveFault>
     // the tree, the outcome and the exchanges are what the rounds make of the replies
-    ensures proved { IfOk result (λ r. IsProved (L.told link.old) (L.told link.new) (claim_view claim.now) options.now.max_depth (tree_view r.1) (outcome_view r.0)) }
+    ensures proved { let claim' = claim_view claim.now in IfOk result (λ r. IsProved (L.told link.old) (L.told link.new) claim' options.now.max_depth (tree_view r.1) (outcome_view r.0)) }
     ensures shape { IfOk result (λ r. IsTree (tree_view r.1)) }
     ensures first { IfOk result (λ r. option_map (λ x. x.state) (node_at (tree_view r.1) 1) ≡ Some (claim_view claim.now).left) }
     ensures status { IfOk result (λ r. outcome_view r.0 ≡ passed → status_of (tree_view r.1) ≡ Passed) }
     // where the link serves a theory, and what is read of both sides' texts, if anything, is these sides
-    ensures says { (t : ToldTheory) → Serves (L.told link.old) t → free_variables (claim_view claim.now).right ≡ [] → AreReadBack (claim_view claim.now) → IfOk result (λ r. TreeSays t.theory [] [] (claim_view claim.now) (tree_view r.1)) }
-    ensures holds { (t : ToldTheory) → Serves (L.told link.old) t → IsGround (claim_view claim.now) → AreReadBack (claim_view claim.now) → IfOk result (λ r. outcome_view r.0 ≡ passed → Holds t.theory (claim_view claim.now)) }
-    ensures stuck { (t : ToldTheory) (n : ℕ) → Serves (L.told link.old) t → AreReadBack (claim_view claim.now) → IfOk result (λ r. outcome_view r.0 ≡ failed_at n → IsStuckAt t.theory (claim_view claim.now) (tree_view r.1) n) }
+    ensures says { (t : ToldTheory) → let claim' = claim_view claim.now in Serves (L.told link.old) t → free_variables claim'.right ≡ [] → AreReadBack claim' → IfOk result (λ r. TreeSays t.theory [] [] claim' (tree_view r.1)) }
+    ensures holds { (t : ToldTheory) → let claim' = claim_view claim.now in Serves (L.told link.old) t → IsGround claim' → AreReadBack claim' → IfOk result (λ r. outcome_view r.0 ≡ passed → Holds t.theory claim') }
+    ensures stuck { (t : ToldTheory) (n : ℕ) → let claim' = claim_view claim.now in Serves (L.told link.old) t → AreReadBack claim' → IfOk result (λ r. outcome_view r.0 ≡ failed_at n → IsStuckAt t.theory claim' (tree_view r.1) n) }
     // where it breaks off, the exchanges are those of some rounds and the first ones of the next
     ensures broken { OnErr result (Made (L.told link.old) (L.told link.new) (BreaksOff (claim_view claim.now) options.now.max_depth)) }
     ensures link_fault { IsErrOf result LinkFault → Rose (L.told link.old).faults (L.told link.new).faults }
@@ -127,14 +127,14 @@ pub fn prove<L: Link>(
 ) -> Result<(Outcome, Tree), ProveFault>
     requires place { place < length claims.now }
     // of the claim at that place, as of each claim that is proved
-    ensures proved { (i : LabelledClaim) → slice_get (items_view claims.now) place ≡ Some i → IfOk result (λ r. IsProved (L.told link.old) (L.told link.new) i.claim options.now.max_depth (tree_view r.1) (outcome_view r.0)) }
+    ensures proved { (i : LabelledClaim) → let claims' = items_view claims.now in slice_get claims' place ≡ Some i → IfOk result (λ r. IsProved (L.told link.old) (L.told link.new) i.claim options.now.max_depth (tree_view r.1) (outcome_view r.0)) }
     ensures shape { IfOk result (λ r. IsTree (tree_view r.1)) }
-    ensures first { (i : LabelledClaim) → slice_get (items_view claims.now) place ≡ Some i → IfOk result (λ r. option_map (λ x. x.state) (node_at (tree_view r.1) 1) ≡ Some i.claim.left) }
+    ensures first { (i : LabelledClaim) → let claims' = items_view claims.now in slice_get claims' place ≡ Some i → IfOk result (λ r. option_map (λ x. x.state) (node_at (tree_view r.1) 1) ≡ Some i.claim.left) }
     ensures status { IfOk result (λ r. outcome_view r.0 ≡ passed → status_of (tree_view r.1) ≡ Passed) }
-    ensures says { (i : LabelledClaim) (t : ToldTheory) → slice_get (items_view claims.now) place ≡ Some i → Serves (L.told link.old) t → free_variables i.claim.right ≡ [] → AreReadBack i.claim → IfOk result (λ r. TreeSays t.theory [] [] i.claim (tree_view r.1)) }
-    ensures holds { (i : LabelledClaim) (t : ToldTheory) → slice_get (items_view claims.now) place ≡ Some i → Serves (L.told link.old) t → IsGround i.claim → AreReadBack i.claim → IfOk result (λ r. outcome_view r.0 ≡ passed → Holds t.theory i.claim) }
-    ensures stuck { (i : LabelledClaim) (t : ToldTheory) (n : ℕ) → slice_get (items_view claims.now) place ≡ Some i → Serves (L.told link.old) t → AreReadBack i.claim → IfOk result (λ r. outcome_view r.0 ≡ failed_at n → IsStuckAt t.theory i.claim (tree_view r.1) n) }
-    ensures broken { (i : LabelledClaim) → slice_get (items_view claims.now) place ≡ Some i → OnErr result (Made (L.told link.old) (L.told link.new) (BreaksOff i.claim options.now.max_depth)) }
+    ensures says { (i : LabelledClaim) (t : ToldTheory) → let claims' = items_view claims.now in slice_get claims' place ≡ Some i → Serves (L.told link.old) t → free_variables i.claim.right ≡ [] → AreReadBack i.claim → IfOk result (λ r. TreeSays t.theory [] [] i.claim (tree_view r.1)) }
+    ensures holds { (i : LabelledClaim) (t : ToldTheory) → let claims' = items_view claims.now in slice_get claims' place ≡ Some i → Serves (L.told link.old) t → IsGround i.claim → AreReadBack i.claim → IfOk result (λ r. outcome_view r.0 ≡ passed → Holds t.theory i.claim) }
+    ensures stuck { (i : LabelledClaim) (t : ToldTheory) (n : ℕ) → let claims' = items_view claims.now in slice_get claims' place ≡ Some i → Serves (L.told link.old) t → AreReadBack i.claim → IfOk result (λ r. outcome_view r.0 ≡ failed_at n → IsStuckAt t.theory i.claim (tree_view r.1) n) }
+    ensures broken { (i : LabelledClaim) → let claims' = items_view claims.now in slice_get claims' place ≡ Some i → OnErr result (Made (L.told link.old) (L.told link.new) (BreaksOff i.claim options.now.max_depth)) }
     ensures link_fault { IsErrOf result LinkFault → Rose (L.told link.old).faults (L.told link.new).faults }
 {
     let item = &claims[place];

@@ -28,8 +28,8 @@ fn grow(
     depth: u64,
     state: Pattern,
 ) -> Result<Option<Outcome>, ProveFault>
-    ensures grown { length (tree_view tree.old) < most_nodes → IfOk result (λ o. round_end (tree_view tree.new) o ≡ goes_on (with_edge node.number depth (view state) false (tree_view tree.old))) }
-    ensures too_many { most_nodes ≤ length (tree_view tree.old) → IfOk result (λ o. round_end (tree_view tree.new) o ≡ ends (with_hold node.number nodes (tree_view tree.old)) (pending_at node.number nodes)) }
+    ensures grown { let tree' = tree_view tree.old in let tree'' = tree_view tree.new in length tree' < most_nodes → IfOk result (λ o. round_end tree'' o ≡ goes_on (with_edge node.number depth (view state) false tree')) }
+    ensures too_many { let tree' = tree_view tree.old in let tree'' = tree_view tree.new in most_nodes ≤ length tree' → IfOk result (λ o. round_end tree'' o ≡ ends (with_hold node.number nodes tree') (pending_at node.number nodes)) }
     ensures fault { IsErrOf result LinkFault → ⊥ }
 {
     if tree.len() < MOST_NODES {
@@ -80,7 +80,7 @@ fn play_steps<L: Link>(
     node: NodeId,
 ) -> Result<Option<Outcome>, ProveFault>
     requires least { least_open (tree_view tree.old) ≡ Some node.number }
-    ensures plays { IfOk result (λ o. PlaysSteps (L.told link.old) (L.told link.new) max_depth (tree_view tree.old) node.number (round_end (tree_view tree.new) o)) }
+    ensures plays { let tree' = tree_view tree.old in IfOk result (λ o. PlaysSteps (L.told link.old) (L.told link.new) max_depth tree' node.number (round_end (tree_view tree.new) o)) }
     ensures broken { OnErr result (BeginsSteps (L.told link.old) (L.told link.new) max_depth (tree_view tree.old) node.number) }
     ensures link_fault { IsErrOf result LinkFault → Rose (L.told link.old).faults (L.told link.new).faults }
 {
@@ -104,7 +104,7 @@ pub fn play_round<L: Link>(
 ) -> Result<Option<Outcome>, ProveFault>
     requires least { least_open (tree_view tree.old) ≡ Some node.number }
     requires id { id < 10000 }
-    ensures plays { IfOk result (λ o. PlaysRound (L.told link.old) (L.told link.new) (claim_view claim.now) max_depth (tree_view tree.old) node.number (round_end (tree_view tree.new) o)) }
+    ensures plays { let claim' = claim_view claim.now in let tree' = tree_view tree.old in IfOk result (λ o. PlaysRound (L.told link.old) (L.told link.new) claim' max_depth tree' node.number (round_end (tree_view tree.new) o)) }
     ensures broken { OnErr result (BeginsRound (L.told link.old) (L.told link.new) (claim_view claim.now) max_depth (tree_view tree.old) node.number) }
     ensures link_fault { IsErrOf result LinkFault → Rose (L.told link.old).faults (L.told link.new).faults }
 {

@@ -1,36 +1,12 @@
--- Sorts and arguments by their number.
-use Rattle.std.proofs.Common.{◌≡◌, refl, sym, ◌∙◌, ap, ap₂, ℕ, Bool, true, false, ◌&&◌, ◌==◌, List, [], ◌∷◌, length, get_or}
-use Rattle.std.proofs.lemmas.Bool.Decides.{Decides-eqb}
+-- Arguments by their number.
+use Rattle.std.proofs.Common.{◌≡◌, refl, sym, ◌∙◌, ap, ap₂, Bool, true, false, ◌&&◌, List, [], ◌∷◌, length, get_or}
 use Rattle.kp_kore.specs.Syntax.{KoreSort, conjunction}
-use Rattle.kp_kore.specs.Signature.{KoreSignature, are_two, are_one}
+use Rattle.kp_kore.specs.Signature.{KoreSignature}
 use Rattle.kp_kore.specs.Parts.{is_term}
-use Rattle.kp_kore.specs.View.{sort_view, sorts_view, view, patterns_view}
-use Rattle.kp_kore.specs.declared.sort.Sort.{Sort}
+use Rattle.kp_kore.specs.View.{view, patterns_view}
 use Rattle.kp_kore.specs.declared.pattern.Pattern.{Pattern}
 use Rattle.kp_semantics.specs.Value.{no_values, next_value}
 use Rattle.kp_semantics.specs.Instance.{Valuation, instance, instances, is_conjoined_pair}
-
-pub two_sorts : (test : KoreSort → Bool) (ss : List Sort) (a b : Sort) → length ss ≡ 2 → a ≡ get_or ss 0 a → b ≡ get_or ss 1 b → are_two test (sorts_view ss) ≡ test (sort_view a) && test (sort_view b)
-two_sorts test [] a b h p q = absurd (cc)
-two_sorts test (x ∷ []) a b h p q = absurd (cc)
-two_sorts test (x ∷ y ∷ []) a b h p q = ap₂ (λ s t. test (sort_view s) && test (sort_view t)) (sym p) (sym q)
-two_sorts test (x ∷ y ∷ z ∷ zs) a b h p q = absurd (cc)
-
-pub not_two_sorts : (test : KoreSort → Bool) (ss : List Sort) → (length ss ≡ 2 → ⊥) → are_two test (sorts_view ss) ≡ false
-not_two_sorts test [] h = refl
-not_two_sorts test (x ∷ []) h = refl
-not_two_sorts test (x ∷ y ∷ []) h = absurd (h refl)
-not_two_sorts test (x ∷ y ∷ z ∷ zs) h = refl
-
-pub one_sort : (test : KoreSort → Bool) (ss : List Sort) (a : Sort) → length ss ≡ 1 → a ≡ get_or ss 0 a → are_one test (sorts_view ss) ≡ test (sort_view a)
-one_sort test [] a h p = absurd (cc)
-one_sort test (x ∷ []) a h p = ap (λ s. test (sort_view s)) (sym p)
-one_sort test (x ∷ y ∷ ys) a h p = absurd (cc)
-
-pub not_one_sort : (test : KoreSort → Bool) (ss : List Sort) → (length ss ≡ 1 → ⊥) → are_one test (sorts_view ss) ≡ false
-not_one_sort test [] h = refl
-not_one_sort test (x ∷ []) h = absurd (h refl)
-not_one_sort test (x ∷ y ∷ ys) h = refl
 
 pub one_argument : (g : KoreSignature) (v : Valuation) (ps : List Pattern) (p : Pattern) → length ps ≡ 1 → p ≡ get_or ps 0 p → instances g v (patterns_view ps) ≡ next_value (instance g v (view p)) no_values
 one_argument g v [] p h e = absurd (cc)
@@ -42,16 +18,6 @@ two_arguments g v [] p q h e f = absurd (cc)
 two_arguments g v (a ∷ []) p q h e f = absurd (cc)
 two_arguments g v (a ∷ b ∷ []) p q h e f = ap₂ (λ r s. next_value (instance g v (view r)) (next_value (instance g v (view s)) no_values)) (sym e) (sym f)
 two_arguments g v (a ∷ b ∷ d ∷ ps) p q h e f = absurd (cc)
-
-another_number : (n : ℕ) (b : Bool) → (n == 2) ≡ b → (n ≡ 2 → ⊥) → b ≡ false
-another_number n true e h = absurd (h ((Decides-eqb n 2).0 e))
-another_number n false e h = refl
-
-pub two_of_any : (ss : List Sort) → (length ss == 2) ≡ are_two (λ s. true) (sorts_view ss)
-two_of_any [] = refl
-two_of_any (x ∷ []) = refl
-two_of_any (x ∷ y ∷ []) = refl
-two_of_any (x ∷ y ∷ z ∷ zs) = another_number (length (x ∷ y ∷ z ∷ zs)) _ refl (λ e. absurd (cc))
 
 -- ---- conjunctions that aren't of two terms
 

@@ -1,4 +1,3 @@
 pub mod Exact
-pub mod Meanings
 pub mod Parts
 pub mod Verified

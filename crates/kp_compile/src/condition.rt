@@ -83,9 +83,9 @@ fn make_same(
     left: &Pattern,
     right: &Pattern,
 ) -> Result<Condition, CompileError>
-    ensures holds { IfOk result (λ c. (v : Valuation) → Decides (condition_holds v (condition_view c)) (instance (signature_view signature.now) v (view left.now) ≡ instance (signature_view signature.now) v (view right.now))) }
-    ensures narrow { IfOk result (λ c. (v : Valuation) → condition_narrow v (condition_view c) ≡ not (computes_wide (signature_view signature.now) v (view left.now) || computes_wide (signature_view signature.now) v (view right.now))) }
-    ensures refused { IfErr result (λ e. IsVerifiedTerm (signature_view signature.now) (view left.now) → IsVerifiedTerm (signature_view signature.now) (view right.now) → e ≡ Memory) }
+    ensures holds { let g = signature_view signature.now in let right' = view right.now in IfOk result (λ c. (v : Valuation) → Decides (condition_holds v (condition_view c)) (instance g v (view left.now) ≡ instance g v right')) }
+    ensures narrow { let g = signature_view signature.now in let right' = view right.now in IfOk result (λ c. (v : Valuation) → condition_narrow v (condition_view c) ≡ not (computes_wide g v (view left.now) || computes_wide g v right')) }
+    ensures refused { let g = signature_view signature.now in IfErr result (λ e. IsVerifiedTerm g (view left.now) → IsVerifiedTerm g (view right.now) → e ≡ Memory) }
 {
     let left = compile_term(alloc, signature, left)?;
     let right = compile_term(alloc, signature, right)?;
@@ -224,8 +224,8 @@ pub fn compile_condition(
     signature: &Signature,
     predicates: &[&Pattern],
 ) -> Result<Condition, CompileError>
-    ensures holds { IfOk result (λ c. (v : Valuation) → Decides (condition_holds v (condition_view c)) (AllByRecursion (λ p. IsTrueUnder (signature_view signature.now) v (view p.now)) predicates.now)) }
-    ensures narrow { IfOk result (λ c. (v : Valuation) → condition_narrow v (condition_view c) ≡ not (list_any (computes_wide (signature_view signature.now) v) (seen predicates.now))) }
+    ensures holds { let g = signature_view signature.now in IfOk result (λ c. (v : Valuation) → Decides (condition_holds v (condition_view c)) (AllByRecursion (λ p. IsTrueUnder g v (view p.now)) predicates.now)) }
+    ensures narrow { let g = signature_view signature.now in IfOk result (λ c. (v : Valuation) → condition_narrow v (condition_view c) ≡ not (list_any (computes_wide g v) (seen predicates.now))) }
     ensures refused { IfErr result (λ e. AllByRecursion (IsVerifiedPredicate (signature_view signature.now)) (seen predicates.now) → e ≡ Memory) }
 {
     let mut conditions = Vec::new(alloc);

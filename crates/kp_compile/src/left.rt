@@ -13,11 +13,10 @@ ghost use Rattle.kp_compile.specs.declared.error.CompileError.TheVariants.{Memor
 
 use crate::error::CompileError;
 use crate::literal::literal_value;
-use crate::meaning::{Meaning, meaning_of};
 use crate::term::shared_name;
 use kp_ground::Left;
 use kp_kore::{Name, Pattern};
-use kp_signature::Signature;
+use kp_signature::{Meaning, Signature, meaning_of};
 use std::alloc::Global;
 use std::sync::Arc;
 
@@ -61,8 +60,8 @@ fn compile_applied(
     signature: &Signature,
     name: &Name,
 ) -> Result<Left, CompileError>
-    ensures meaning { IfOk result (λ t. (v : Valuation) → left_value v (left_view t) ≡ applied (meaning_named (signature_view signature.now) (string_bytes name.now)) (string_bytes name.now) (instances (signature_view signature.now) v (patterns_view arguments.now))) }
-    ensures refused { IfErr result (λ e. (ss : KoreSorts) → IsVerifiedLeftTerm (signature_view signature.now) (application (string_bytes name.now) ss (patterns_view arguments.now)) → e ≡ Memory) }
+    ensures meaning { let g = signature_view signature.now in let the_string_bytes = string_bytes name.now in let arguments' = patterns_view arguments.now in IfOk result (λ t. (v : Valuation) → left_value v (left_view t) ≡ applied (meaning_named g the_string_bytes) the_string_bytes (instances g v arguments')) }
+    ensures refused { let g = signature_view signature.now in let arguments' = patterns_view arguments.now in IfErr result (λ e. (ss : KoreSorts) → IsVerifiedLeftTerm g (application (string_bytes name.now) ss arguments') → e ≡ Memory) }
 {
     match meaning_of(signature, name) {
         Meaning::Injection => match arguments {

@@ -8,21 +8,16 @@
 
 mod condition;
 mod error;
-pub mod function;
-mod hooks;
 mod left;
 mod literal;
-pub mod meaning;
 mod parts;
 mod shape;
 mod term;
 
 pub use condition::compile_condition;
 pub use error::CompileError;
-pub use function::Function;
 pub use left::compile_left;
 pub use literal::literal_value;
-pub use meaning::{Meaning, meaning_of};
 pub use parts::{add_subpatterns, subpatterns};
 pub use shape::is_term;
 pub use term::compile_term;

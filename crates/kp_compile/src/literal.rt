@@ -35,7 +35,7 @@ pub fn literal_value(
     text: &Name,
 ) -> Result<Value, CompileError>
     ensures written { IfOk result (λ u. value_view u ≡ value_written (signature_view signature.now) (sort_view sort.now) (string_bytes text.now)) }
-    ensures refused { IfErr result (λ e. (c : Place) → first_fault (signature_view signature.now) c (literal (sort_view sort.now) (string_bytes text.now)) ≡ None → e ≡ Memory) }
+    ensures refused { let g = signature_view signature.now in IfErr result (λ e. (c : Place) → first_fault g c (literal (sort_view sort.now) (string_bytes text.now)) ≡ None → e ≡ Memory) }
 {
     if signature.is_integer_sort(sort) {
         Ok(Value::Whole {

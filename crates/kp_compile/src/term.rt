@@ -14,12 +14,10 @@ ghost use Rattle.kp_compile.specs.Verified.{IsVerifiedTerm};
 ghost use Rattle.kp_compile.specs.declared.error.CompileError.TheVariants.{Memory};
 
 use crate::error::CompileError;
-use crate::function::Function;
 use crate::literal::literal_value;
-use crate::meaning::{Meaning, meaning_of};
 use kp_ground::{Hook, Term};
 use kp_kore::{Name, Pattern};
-use kp_signature::Signature;
+use kp_signature::{Function, Meaning, Signature, meaning_of};
 use std::alloc::{AllocError, Global};
 use std::sync::Arc;
 
@@ -92,10 +90,10 @@ fn compile_applied(
     signature: &Signature,
     name: &Name,
 ) -> Result<Term, CompileError>
-    ensures meaning { IfOk result (λ t. (v : Valuation) → term_value v (term_view t) ≡ applied (meaning_named (signature_view signature.now) (string_bytes name.now)) (string_bytes name.now) (instances (signature_view signature.now) v (patterns_view arguments.now))) }
-    ensures narrow { IfOk result (λ t. (ss : KoreSorts) → IsNarrowAs (signature_view signature.now) (application (string_bytes name.now) ss (patterns_view arguments.now)) t) }
+    ensures meaning { let g = signature_view signature.now in let the_string_bytes = string_bytes name.now in let arguments' = patterns_view arguments.now in IfOk result (λ t. (v : Valuation) → term_value v (term_view t) ≡ applied (meaning_named g the_string_bytes) the_string_bytes (instances g v arguments')) }
+    ensures narrow { let g = signature_view signature.now in IfOk result (λ t. (ss : KoreSorts) → IsNarrowAs g (application (string_bytes name.now) ss (patterns_view arguments.now)) t) }
     ensures variables { IfOk result (λ t. (xs : List Text) → lacks xs (term_view t) ≡ some_unnamed xs (all_free_variables (patterns_view arguments.now))) }
-    ensures refused { IfErr result (λ e. (ss : KoreSorts) → IsVerifiedTerm (signature_view signature.now) (application (string_bytes name.now) ss (patterns_view arguments.now)) → e ≡ Memory) }
+    ensures refused { let g = signature_view signature.now in IfErr result (λ e. (ss : KoreSorts) → IsVerifiedTerm g (application (string_bytes name.now) ss (patterns_view arguments.now)) → e ≡ Memory) }
 {
     match meaning_of(signature, name) {
         Meaning::Injection => match arguments {

@@ -1,7 +1,7 @@
 // What literals say: comparisons of whole numbers, Boolean variables, equality of tokens.
 ghost use Rattle.std.specs.Prelude.{◌≡◌, true, map};
 ghost use Rattle.std.specs.Option.{option_map};
-ghost use Rattle.kp_compile.specs.Meanings.{meaning_view};
+ghost use Rattle.kp_signature.specs.Meanings.{meaning_view};
 ghost use Rattle.kp_ground.specs.HookView.{comparison_view};
 ghost use Rattle.kp_ground.specs.View.{value_view};
 ghost use Rattle.kp_signature.specs.View.{signature_view};
@@ -11,10 +11,9 @@ ghost use Rattle.kp_terms.specs.View.{variable_view, term_view, terms_of, litera
 ghost use Rattle.kp_deciding.specs.Forms.{whole_part_view, token_part_view, form_view, number_said, token_said, truth_known};
 
 use crate::kinds::{has_only_numbers, has_only_tokens, has_only_truths};
-use kp_compile::{Function, Meaning, meaning_of};
 use kp_ground::{Comparison, Hook, Value};
 use kp_kore::Sort;
-use kp_signature::Signature;
+use kp_signature::{Function, Meaning, Signature, meaning_of};
 use kp_terms::{Atom, Literal, Term, Variable};
 
 /// A side of a comparison: a whole-number variable or none, and a constant.

@@ -26,7 +26,7 @@ fn is_row_below(row: &[Option<i128>], limit: u128) -> bool
 
 /// Whether all bounds are below a limit.
 fn are_rows_below(rows: &[Vec<Option<i128>>], limit: u128) -> bool
-    ensures { IsTrue result ↔ ((x : ℕ) → x < length rows.now → (y : ℕ) → y < length (get_or (rows_of rows.now) x []) → IsBelow limit (bound_in (rows_of rows.now) x y)) }
+    ensures { let the_rows = rows_of rows.now in IsTrue result ↔ ((x : ℕ) → x < length rows.now → (y : ℕ) → y < length (get_or the_rows x []) → IsBelow limit (bound_in the_rows x y)) }
 {
     for row in rows {
         if !is_row_below(row, limit) {

@@ -82,9 +82,9 @@ fn own_rules(
     id: &str,
     sentences: &[Sentence],
 ) -> Result<Vec<Rule>, ExtendError>
-    ensures err { IfErr result (λ e. (f : ExtendFault) → extend_fault e ≡ Some f → (i : ℕ) × (f ≡ rule_fault i) × IsFirstUnsound (signature_view signature.now) (rewrite_axioms_from id.now 1 (map sentence_view sentences.now)) i) }
+    ensures err { let g = signature_view signature.now in let rewrite_axioms = rewrite_axioms_from id.now 1 (map sentence_view sentences.now) in IfErr result (λ e. (f : ExtendFault) → extend_fault e ≡ Some f → (i : ℕ) × (f ≡ rule_fault i) × IsFirstUnsound g rewrite_axioms i) }
     ensures sound { OnOk result (AreAllSound (signature_view signature.now) (rewrite_axioms_from id.now 1 (map sentence_view sentences.now))) }
-    ensures ok { IfOk result (λ rules. AllZip (IsTakenFrom (signature_view signature.now)) (rewrite_axioms_from id.now 1 (map sentence_view sentences.now)) rules.items) }
+    ensures ok { let g = signature_view signature.now in IfOk result (λ rules. AllZip (IsTakenFrom g) (rewrite_axioms_from id.now 1 (map sentence_view sentences.now)) rules.items) }
 {
     let key = String::from_str(alloc, id)?;
     let axioms = axioms_in(alloc, &key, sentences)?;
@@ -100,9 +100,9 @@ fn rules_read(
     axioms: &[RewriteAxiom<'_>],
 ) -> Result<Vec<Rule>, ExtendError>
     requires index { IsIndexOf (signature_view signature.now) index.now }
-    ensures err { AreRewriting (axioms_view axioms.now) → IfErr result (λ e. (f : ExtendFault) → extend_fault e ≡ Some f → (i : ℕ) × (f ≡ rule_fault i) × IsFirstUnsound (signature_view signature.now) (axioms_view axioms.now) i) }
+    ensures err { let axioms' = axioms_view axioms.now in let g = signature_view signature.now in AreRewriting axioms' → IfErr result (λ e. (f : ExtendFault) → extend_fault e ≡ Some f → (i : ℕ) × (f ≡ rule_fault i) × IsFirstUnsound g axioms' i) }
     ensures sound { AreRewriting (axioms_view axioms.now) → OnOk result (AreAllSound (signature_view signature.now) (axioms_view axioms.now)) }
-    ensures ok { AreRewriting (axioms_view axioms.now) → IfOk result (λ rules. AllZip (IsTakenFrom (signature_view signature.now)) (axioms_view axioms.now) rules.items) }
+    ensures ok { let axioms' = axioms_view axioms.now in AreRewriting axioms' → IfOk result (λ rules. AllZip (IsTakenFrom (signature_view signature.now)) axioms' rules.items) }
 {
     let mut rules = Vec::new(alloc);
     for i in 0..axioms.len() {
@@ -119,9 +119,9 @@ fn rule_read(
     rewriting: &RewriteAxiom<'_>,
 ) -> Result<Rule, ExtendError>
     requires index { IsIndexOf (signature_view signature.now) index.now }
-    ensures err { is_rewriting (axiom_view rewriting.now).axiom_of.pattern ≡ true → IfErr result (λ e. (f : ExtendFault) → extend_fault e ≡ Some f → (f ≡ rule_fault rewriting.now.number) × IsUnsound (signature_view signature.now) (axiom_view rewriting.now).axiom_of) }
-    ensures sound { is_rewriting (axiom_view rewriting.now).axiom_of.pattern ≡ true → OnOk result (¬ IsUnsound (signature_view signature.now) (axiom_view rewriting.now).axiom_of) }
-    ensures ok { is_rewriting (axiom_view rewriting.now).axiom_of.pattern ≡ true → IfOk result (IsTakenFrom (signature_view signature.now) (axiom_view rewriting.now)) }
+    ensures err { let rewriting' = axiom_view rewriting.now in let g = signature_view signature.now in is_rewriting rewriting'.axiom_of.pattern ≡ true → IfErr result (λ e. (f : ExtendFault) → extend_fault e ≡ Some f → (f ≡ rule_fault rewriting.now.number) × IsUnsound g rewriting'.axiom_of) }
+    ensures sound { let rewriting' = axiom_view rewriting.now in is_rewriting rewriting'.axiom_of.pattern ≡ true → OnOk result (¬ IsUnsound (signature_view signature.now) rewriting'.axiom_of) }
+    ensures ok { let rewriting' = axiom_view rewriting.now in is_rewriting rewriting'.axiom_of.pattern ≡ true → IfOk result (IsTakenFrom (signature_view signature.now) rewriting') }
 {
     check_axiom(alloc, signature, &rewriting.axiom.pattern, rewriting.number)?;
     match read_rule(alloc, signature, index, rewriting.axiom) {
@@ -139,7 +139,7 @@ fn check_axiom(
     number: usize,
 ) -> Result<(), ExtendError>
     ensures ok { OnOk result ((f : VerifyFault) → ¬ FailsWith (signature_view signature.now) (view pattern.now) f) }
-    ensures err { IfErr result (λ e. (f : ExtendFault) → extend_fault e ≡ Some f → (f ≡ rule_fault number) × ((v : VerifyFault) × FailsWith (signature_view signature.now) (view pattern.now) v)) }
+    ensures err { let g = signature_view signature.now in let pattern' = view pattern.now in IfErr result (λ e. (f : ExtendFault) → extend_fault e ≡ Some f → (f ≡ rule_fault number) × ((v : VerifyFault) × FailsWith g pattern' v)) }
 {
     match verify(alloc, signature, pattern) {
         Ok(_sort) => Ok(()),

@@ -82,7 +82,7 @@ impl Made {
 
     /// Takes in each symbol of the signature.
     fn add_symbols(&mut self, alloc: Global, signature: &Signature) -> Result<(), AllocError>
-        ensures { (steps : List Step) → IsMade steps self.old → OnOk result (IsMade (steps ++ flat_map (symbol_steps (signature_view signature.now)) (signature_view signature.now).symbols) self.new) }
+        ensures { (steps : List Step) → let g = signature_view signature.now in IsMade steps self.old → OnOk result (IsMade (steps ++ flat_map (symbol_steps g) g.symbols) self.new) }
     {
         for symbol in signature.symbols() {
             self.add_symbol(alloc, signature, symbol)?;
@@ -97,7 +97,7 @@ impl Made {
         signature: &Signature,
         symbol: &SymbolSentence,
     ) -> Result<(), AllocError>
-        ensures { (steps : List Step) → IsMade steps self.old → OnOk result (IsMade (steps ++ symbol_steps (signature_view signature.now) (symbol_sentence_view symbol.now)) self.new) }
+        ensures { (steps : List Step) → let g = signature_view signature.now in IsMade steps self.old → OnOk result (IsMade (steps ++ symbol_steps g (symbol_sentence_view symbol.now)) self.new) }
     {
         match constructor_named(signature, &symbol.name) {
             Some(declaration) => Ok(self.add_constructor(alloc, declaration)?),

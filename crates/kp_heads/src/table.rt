@@ -84,7 +84,7 @@ impl HeadTable {
 
     /// Whether each of the sorts has a value, where the table is the signature's.
     pub fn have_values(&self, signature: &Signature, sorts: &[Sort]) -> bool
-        ensures { IsHeadTableOf (signature_view signature.now) self.now → IsTrue result ↔ ((s : KoreSort) → Contains (map sort_view sorts.now) s → HasValue (signature_view signature.now) s) }
+        ensures { let g = signature_view signature.now in IsHeadTableOf g self.now → IsTrue result ↔ ((s : KoreSort) → Contains (map sort_view sorts.now) s → HasValue g s) }
     {
         for sort in sorts {
             if !self.has_value(signature, sort) {

@@ -17,7 +17,7 @@ use std::alloc::{AllocError, Global};
 /// M3 of the first sort that is declared again.
 pub fn check_sorts(alloc: Global, modules: &[&Module]) -> Result<(), LoadError>
     ensures ok { OnOk result (AreOnce (sorts_named (sorts_in (sentences_of modules.now)))) }
-    ensures err { IfErr result (λ e. (f : Fault) → fault_view e ≡ Some f → (n : Text) × (f ≡ duplicate_sort n) × IsFirstRepeated n (sorts_named (sorts_in (sentences_of modules.now)))) }
+    ensures err { let the_sorts_named = sorts_named (sorts_in (sentences_of modules.now)) in IfErr result (λ e. (f : Fault) → fault_view e ≡ Some f → (n : Text) × (f ≡ duplicate_sort n) × IsFirstRepeated n the_sorts_named) }
 {
     let names = sort_names(alloc, modules)?;
     match repeated_name(alloc, names.as_slice())? {
@@ -29,7 +29,7 @@ pub fn check_sorts(alloc: Global, modules: &[&Module]) -> Result<(), LoadError>
 /// M4 of the first symbol that is declared again.
 pub fn check_symbols(alloc: Global, modules: &[&Module]) -> Result<(), LoadError>
     ensures ok { OnOk result (AreOnce (symbols_named (symbols_in (sentences_of modules.now)))) }
-    ensures err { IfErr result (λ e. (f : Fault) → fault_view e ≡ Some f → (n : Text) × (f ≡ duplicate_symbol n) × IsFirstRepeated n (symbols_named (symbols_in (sentences_of modules.now)))) }
+    ensures err { let the_symbols_named = symbols_named (symbols_in (sentences_of modules.now)) in IfErr result (λ e. (f : Fault) → fault_view e ≡ Some f → (n : Text) × (f ≡ duplicate_symbol n) × IsFirstRepeated n the_symbols_named) }
 {
     let names = symbol_names(alloc, modules)?;
     match repeated_name(alloc, names.as_slice())? {

@@ -18,7 +18,7 @@ use std::alloc::{AllocError, Global};
 /// The place of the module of this name, or M1.
 pub fn place_of(places: &NamePlaces, name: &Name) -> Result<usize, LoadError>
     ensures ok { IfOk result (λ p. get_by_text places.now (string_bytes name.now) ≡ Some p) }
-    ensures err { IfErr result (λ e. (f : Fault) → fault_view e ≡ Some f → (f ≡ unknown_import (string_bytes name.now)) × (get_by_text places.now (string_bytes name.now) ≡ None)) }
+    ensures err { let the_string_bytes = string_bytes name.now in IfErr result (λ e. (f : Fault) → fault_view e ≡ Some f → (f ≡ unknown_import the_string_bytes) × (get_by_text places.now the_string_bytes ≡ None)) }
 {
     match places.get(name.as_str()) {
         Some(place) => Ok(*place),
@@ -94,7 +94,7 @@ pub fn next_import(
     ensures place { IfOk result (λ o. IfSome o (λ i. i.place < length marks.now)) }
     ensures mark { (d : Mark) → IfOk result (λ o. IfSome o (λ i. is_done (slice_index_or marks.now i.place d) ≡ false)) }
     ensures err { IfErr result (TellsUnplaced places.now (import_names sentences.now)) }
-    ensures next { IfOk result (λ o. MatchOption o (ArePassed places.now marks.now (import_names (take from sentences.now)) (import_names sentences.now)) (IsNext places.now marks.now sentences.now from)) }
+    ensures next { let the_import_names = import_names (take from sentences.now) in IfOk result (λ o. MatchOption o (ArePassed places.now marks.now the_import_names (import_names sentences.now)) (IsNext places.now marks.now sentences.now from)) }
 {
     for sentence in from..sentences.len() {
         if let Some(name) = import_of(&sentences[sentence]) {

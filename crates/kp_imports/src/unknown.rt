@@ -24,8 +24,8 @@ pub fn check_imports(
 ) -> Result<(), LoadError>
     requires places { PlacesAreBelow places.now (length modules.now) }
     requires start { start < length modules.now }
-    ensures err { (main : Text) → Indexes (module_names modules.now) places.now → first_place main (module_names modules.now) ≡ Some start → IfErr result (TellsUnknown (map module_view modules.now) main) }
-    ensures known { (main : Text) → Indexes (module_names modules.now) places.now → first_place main (module_names modules.now) ≡ Some start → OnOk result ((n : Text) → ¬ IsUnknown (map module_view modules.now) main n) }
+    ensures err { (main : Text) → let the_module_names = module_names modules.now in Indexes the_module_names places.now → first_place main the_module_names ≡ Some start → IfErr result (TellsUnknown (map module_view modules.now) main) }
+    ensures known { (main : Text) → let the_module_names = module_names modules.now in Indexes the_module_names places.now → first_place main the_module_names ≡ Some start → OnOk result ((n : Text) → ¬ IsUnknown (map module_view modules.now) main n) }
 {
     let mut marks = unseen(alloc, modules.len())?;
     let mut found = Vec::new(alloc);

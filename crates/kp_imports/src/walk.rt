@@ -115,8 +115,8 @@ pub fn places_in_order(
     requires places { PlacesAreBelow places.now (length modules.now) }
     requires start { start < length modules.now }
     ensures within { IfOk result (λ order. AllByRecursion (λ p. p < length modules.now) order.items) }
-    ensures order { (main : Text) → Indexes (module_names modules.now) places.now → first_place main (module_names modules.now) ≡ Some start → IfOk result (λ order. IsOver modules.now main order.items) }
-    ensures err { (main : Text) → Indexes (module_names modules.now) places.now → first_place main (module_names modules.now) ≡ Some start → IfErr result (TellsImport (map module_view modules.now) main) }
+    ensures order { (main : Text) → let the_module_names = module_names modules.now in Indexes the_module_names places.now → first_place main the_module_names ≡ Some start → IfOk result (λ order. IsOver modules.now main order.items) }
+    ensures err { (main : Text) → let the_module_names = module_names modules.now in Indexes the_module_names places.now → first_place main the_module_names ≡ Some start → IfErr result (TellsImport (map module_view modules.now) main) }
 {
     let mut walk = Walk::start(alloc, modules.len(), start)?;
     loop {

@@ -68,7 +68,7 @@ fn add_axiom<'a>(
     number: usize,
     statement: &'a AxiomSentence,
 ) -> Result<(), AllocError>
-    ensures { OnOk result (axioms_view found.new.items ≡ axioms_view found.old.items ++ (if rewriting_test (view statement.now.pattern) then record { key = string_bytes key.now; number = number; axiom_of = axiom_sentence_view statement.now } ∷ [] else [])) }
+    ensures { let pattern' = view statement.now.pattern in let the_if = if rewriting_test pattern' then record { key = string_bytes key.now; number = number; axiom_of = axiom_sentence_view statement.now } ∷ [] else [] in OnOk result (axioms_view found.new.items ≡ axioms_view found.old.items ++ the_if) }
 {
     if is_rewriting(&statement.pattern) {
         found.push(RewriteAxiom {

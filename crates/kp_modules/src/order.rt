@@ -26,7 +26,7 @@ pub fn reached<'a>(
     ensures once { OnOk result (AreOnce (names_of (definition_view definition.now).modules)) }
     ensures main { OnOk result (module_named (definition_view definition.now).modules main.now ≡ None → ⊥) }
     ensures none { OnOk result ((f : Fault) → IsImportFault (definition_view definition.now).modules main.now f → ⊥) }
-    ensures laid { OnOk result (IsLaidOut (definition_view definition.now).modules (names_reached (length (definition_view definition.now).modules) (definition_view definition.now).modules main.now)) }
+    ensures laid { let definition' = definition_view definition.now in OnOk result (IsLaidOut definition'.modules (names_reached (length definition'.modules) definition'.modules main.now)) }
     ensures err { IfErr result (TellsFirst (definition_view definition.now) main.now) }
 {
     let modules = definition.modules.as_slice();

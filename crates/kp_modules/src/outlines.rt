@@ -56,7 +56,7 @@ fn add_import(
     found: &mut Vec<Sentence>,
     sentence: &Sentence,
 ) -> Result<(), AllocError>
-    ensures { OnOk result (imports_in (map sentence_view found.new.items) ≡ imports_in (map sentence_view found.old.items) ++ imports_in (sentence_view sentence.now ∷ [])) }
+    ensures { let the_sentence = sentence_view sentence.now ∷ [] in OnOk result (imports_in (map sentence_view found.new.items) ≡ imports_in (map sentence_view found.old.items) ++ imports_in the_sentence) }
 {
     match import_of(sentence) {
         Some(name) => {
@@ -96,7 +96,7 @@ fn rule_span<'a>(
     found: &mut Vec<RewriteAxiom<'a>>,
     whole: &'a Module,
 ) -> Result<RuleSpan, AllocError>
-    ensures { IfOk result (λ span. (span.from ≡ length found.old.items) × (span.to ≡ length found.new.items) × (length found.new.items ≡ length found.old.items + length (own_axioms (module_view whole.now)))) }
+    ensures { let whole' = module_view whole.now in IfOk result (λ span. (span.from ≡ length found.old.items) × (span.to ≡ length found.new.items) × (length found.new.items ≡ length found.old.items + length (own_axioms whole'))) }
 {
     let from = found.len();
     add_axioms(found, &whole.name, &whole.sentences)?;

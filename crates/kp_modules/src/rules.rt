@@ -33,7 +33,7 @@ pub fn rules_of(
 ) -> Result<Vec<Rule>, LoadError>
     ensures err { IfErr result (TellsFaulty (signature_view signature.now) (axioms_among (map (λ m. module_view m.now) modules.now))) }
     ensures sound { OnOk result (AreSound (signature_view signature.now) (axioms_among (map (λ m. module_view m.now) modules.now))) }
-    ensures ok { IfOk result (λ rules. AreMadeOf (signature_view signature.now) (labels_among (axioms_among (map (λ m. module_view m.now) modules.now))) (axioms_among (map (λ m. module_view m.now) modules.now)) rules.items) }
+    ensures ok { let g = signature_view signature.now in IfOk result (λ rules. AreMadeOf g (labels_among (axioms_among (map (λ m. module_view m.now) modules.now))) (axioms_among (map (λ m. module_view m.now) modules.now)) rules.items) }
 {
     let axioms = rewrite_axioms(alloc, modules)?;
     let labels = labels_of(alloc, &axioms)?;
@@ -52,7 +52,7 @@ fn rules_among(
     requires index { IsIndexOf (signature_view signature.now) index.now }
     ensures err { AreRewriting (axioms_view axioms.now) → IfErr result (TellsFaulty (signature_view signature.now) (axioms_view axioms.now)) }
     ensures sound { AreRewriting (axioms_view axioms.now) → OnOk result (AreSound (signature_view signature.now) (axioms_view axioms.now)) }
-    ensures ok { (names : List Text) → Counts names labels.now → AreRewriting (axioms_view axioms.now) → IfOk result (λ rules. AreMadeOf (signature_view signature.now) names (axioms_view axioms.now) rules.items) }
+    ensures ok { (names : List Text) → let axioms' = axioms_view axioms.now in Counts names labels.now → AreRewriting axioms' → IfOk result (λ rules. AreMadeOf (signature_view signature.now) names axioms' rules.items) }
 {
     let mut rules = Vec::new(alloc);
     for i in 0..axioms.len() {
@@ -70,9 +70,9 @@ fn rule_of(
     rewriting: &RewriteAxiom<'_>,
 ) -> Result<Rule, LoadError>
     requires index { IsIndexOf (signature_view signature.now) index.now }
-    ensures err { is_rewriting (axiom_view rewriting.now).axiom_of.pattern ≡ true → IfErr result (TellsAxiom (signature_view signature.now) (axiom_view rewriting.now)) }
-    ensures sound { is_rewriting (axiom_view rewriting.now).axiom_of.pattern ≡ true → OnOk result (¬ IsFaulty (signature_view signature.now) (axiom_view rewriting.now).axiom_of) }
-    ensures ok { (names : List Text) → Counts names labels.now → is_rewriting (axiom_view rewriting.now).axiom_of.pattern ≡ true → IfOk result (λ r. IsMadeOf (signature_view signature.now) names (axiom_view rewriting.now) r) }
+    ensures err { let rewriting' = axiom_view rewriting.now in is_rewriting rewriting'.axiom_of.pattern ≡ true → IfErr result (TellsAxiom (signature_view signature.now) rewriting') }
+    ensures sound { let rewriting' = axiom_view rewriting.now in is_rewriting rewriting'.axiom_of.pattern ≡ true → OnOk result (¬ IsFaulty (signature_view signature.now) rewriting'.axiom_of) }
+    ensures ok { (names : List Text) → let rewriting' = axiom_view rewriting.now in let g = signature_view signature.now in Counts names labels.now → is_rewriting rewriting'.axiom_of.pattern ≡ true → IfOk result (λ r. IsMadeOf g names rewriting' r) }
 {
     match read_rule(alloc, signature, index, rewriting.axiom) {
         Ok((priority, body)) => rule_from(alloc, labels, rewriting, priority, body),
@@ -92,7 +92,7 @@ fn rule_from(
     body: RuleBody,
 ) -> Result<Rule, LoadError>
     ensures fault { IfErr result (λ e. e ≡ Memory) }
-    ensures made { (g : KoreSignature) (names : List Text) → Counts names labels.now → IsReadAs g (axiom_view rewriting.now).axiom_of priority body → IfOk result (IsMadeOf g names (axiom_view rewriting.now)) }
+    ensures made { (g : KoreSignature) (names : List Text) → let rewriting' = axiom_view rewriting.now in Counts names labels.now → IsReadAs g rewriting'.axiom_of priority body → IfOk result (IsMadeOf g names rewriting') }
 {
     let source = source_of(alloc, rewriting)?;
     Ok(Rule {

@@ -71,7 +71,7 @@ impl Table {
 /// Its rule set is the theory that the definition means for its main module, rule by rule.
 pub fn load(alloc: Global, definition: &Definition, main: &str) -> Result<Table, LoadError>
     ensures loaded { IfOk result (λ table. (t : Theory) × IsTheoryOf (definition_view definition.now) main.now t × RunsTable t table) }
-    ensures made { IfOk result (λ table. IsSetOf (signature_of (flat_map (λ m. m.sentences) (modules_reached (definition_view definition.now) main.now))) (axioms_among (modules_reached (definition_view definition.now) main.now)) (rule_set_of table)) }
+    ensures made { let the_modules_reached = modules_reached (definition_view definition.now) main.now in IfOk result (λ table. IsSetOf (signature_of (flat_map (λ m. m.sentences) the_modules_reached)) (axioms_among the_modules_reached) (rule_set_of table)) }
     ensures opening { IfOk result (IsTableOf (opening_of (definition_view definition.now) main.now)) }
     ensures main { IfOk result (λ table. main_of table ≡ main.now) }
     ensures reaches { IfOk result (λ table. (n : Text) → does_reach table n ≡ has n (names_among (modules_reached (definition_view definition.now) main.now))) }

@@ -21,10 +21,9 @@ use crate::sides::{
     are_same, compared_at_once, constructor_of, fixed_or, is_never, keeps_truth, members_of,
     places_of, truth_known, unconstructed,
 };
-use kp_compile::{Function, Meaning, meaning_of};
 use kp_ground::{Connective, Hook, Value};
 use kp_kore::{Name, Sort};
-use kp_signature::Signature;
+use kp_signature::{Function, Meaning, Signature, meaning_of};
 use kp_terms::{Atom, Literal, Term};
 use std::alloc::{AllocError, Global};
 use std::sync::Arc;
@@ -136,7 +135,7 @@ pub fn open_told(
     sign: bool,
     kept: &Literal,
 ) -> Result<Formula, AllocError>
-    ensures { IfOk result (λ f. formula_view f ≡ told alone sign (fact (literal_view kept.now)) (model.seen_term (signature_view signature.now) (term_view term.now))) }
+    ensures { let kept' = literal_view kept.now in IfOk result (λ f. formula_view f ≡ told alone sign (fact kept') (model.seen_term (signature_view signature.now) (term_view term.now))) }
 {
     match term {
         Term::Known { value } => open_value(alloc, value, sign, kept),
@@ -175,7 +174,7 @@ fn open_call(
     sign: bool,
     kept: &Literal,
 ) -> Result<Formula, AllocError>
-    ensures { IfOk result (λ f. formula_view f ≡ model.opened_call (signature_view signature.now) (spelled.places_of (signature_view signature.now) symbol.now) (named (signature_view signature.now) symbol.now) (model.seen_terms (signature_view signature.now) (terms_of (map term_view arguments.now))) alone sign (fact (literal_view kept.now))) }
+    ensures { let g = signature_view signature.now in let kept' = literal_view kept.now in let terms = terms_of (map term_view arguments.now) in IfOk result (λ f. formula_view f ≡ model.opened_call g (spelled.places_of g symbol.now) (named g symbol.now) (model.seen_terms g terms) alone sign (fact kept')) }
 {
     match meaning_of(signature, symbol) {
         Meaning::Interpreted(Function::Negation) => {
@@ -200,7 +199,7 @@ fn open_negation(
     sign: bool,
     kept: &Literal,
 ) -> Result<Formula, AllocError>
-    ensures { IfOk result (λ f. formula_view f ≡ model.opened_call (signature_view signature.now) (spelled.places_of (signature_view signature.now) symbol.now) (interpretation truth_negation) (model.seen_terms (signature_view signature.now) (terms_of (map term_view arguments.now))) alone sign (fact (literal_view kept.now))) }
+    ensures { let g = signature_view signature.now in let kept' = literal_view kept.now in let terms = terms_of (map term_view arguments.now) in IfOk result (λ f. formula_view f ≡ model.opened_call g (spelled.places_of g symbol.now) (interpretation truth_negation) (model.seen_terms g terms) alone sign (fact kept')) }
 {
     if arguments.len() == 1 {
         return open_asked(&arguments[0], alloc, signature, alone, !sign);
@@ -221,7 +220,7 @@ fn open_two(
     sign: bool,
     kept: &Literal,
 ) -> Result<Formula, AllocError>
-    ensures { IfOk result (λ f. formula_view f ≡ model.opened_call (signature_view signature.now) (spelled.places_of (signature_view signature.now) symbol.now) (interpretation (hook_view hook)) (model.seen_terms (signature_view signature.now) (terms_of (map term_view arguments.now))) alone sign (fact (literal_view kept.now))) }
+    ensures { let g = signature_view signature.now in let hook' = hook_view hook in let kept' = literal_view kept.now in let terms = terms_of (map term_view arguments.now) in IfOk result (λ f. formula_view f ≡ model.opened_call g (spelled.places_of g symbol.now) (interpretation hook') (model.seen_terms g terms) alone sign (fact kept')) }
 {
     if arguments.len() != 2 {
         return kept_fact(alloc, kept);
@@ -256,7 +255,7 @@ fn open_compared(
     sign: bool,
     kept: &Literal,
 ) -> Result<Formula, AllocError>
-    ensures { IfOk result (λ f. formula_view f ≡ model.opened_seen (signature_view signature.now) alone sign (model.common_sort (spelled.places_of (signature_view signature.now) symbol.now)) (fact (literal_view kept.now)) (model.seen_term (signature_view signature.now) (term_view left.now)) (model.seen_term (signature_view signature.now) (term_view right.now))) }
+    ensures { let g = signature_view signature.now in let kept' = literal_view kept.now in let left' = term_view left.now in let right' = term_view right.now in IfOk result (λ f. formula_view f ≡ model.opened_seen g alone sign (model.common_sort (spelled.places_of g symbol.now)) (fact kept') (model.seen_term g left') (model.seen_term g right')) }
 {
     let sort = common_sort(alloc, places_of(signature, symbol))?;
     open_sides(left, right, alloc, signature, &sort, alone, sign, kept)
@@ -273,7 +272,7 @@ fn open_connected(
     alone: bool,
     sign: bool,
 ) -> Result<Formula, AllocError>
-    ensures { IfOk result (λ f. formula_view f ≡ connected_by (signature_view signature.now) (connective_view connective) alone sign (model.seen_term (signature_view signature.now) (term_view left.now)) (model.seen_term (signature_view signature.now) (term_view right.now))) }
+    ensures { let g = signature_view signature.now in let connective' = connective_view connective in let left' = term_view left.now in let right' = term_view right.now in IfOk result (λ f. formula_view f ≡ connected_by g connective' alone sign (model.seen_term g left') (model.seen_term g right')) }
 {
     match connective {
         Connective::Both => {
@@ -327,7 +326,7 @@ fn open_asked(
     alone: bool,
     sign: bool,
 ) -> Result<Formula, AllocError>
-    ensures { IfOk result (λ f. formula_view f ≡ model.asked (signature_view signature.now) alone sign (model.seen_term (signature_view signature.now) (term_view term.now))) }
+    ensures { let g = signature_view signature.now in IfOk result (λ f. formula_view f ≡ model.asked g alone sign (model.seen_term g (term_view term.now))) }
 {
     let kept = truth_literal(alloc, signature, sign, term)?;
     open_told(term, alloc, signature, alone, sign, &kept)
@@ -345,7 +344,7 @@ fn open_pair(
     second: bool,
     both: bool,
 ) -> Result<Formula, AllocError>
-    ensures { IfOk result (λ f. formula_view f ≡ model.all_if both (model.pair (model.asked (signature_view signature.now) alone first (model.seen_term (signature_view signature.now) (term_view left.now))) (model.asked (signature_view signature.now) alone second (model.seen_term (signature_view signature.now) (term_view right.now))))) }
+    ensures { let g = signature_view signature.now in let left' = term_view left.now in let right' = term_view right.now in IfOk result (λ f. formula_view f ≡ model.all_if both (model.pair (model.asked g alone first (model.seen_term g left')) (model.asked g alone second (model.seen_term g right')))) }
 {
     let mut parts = Vec::new(alloc);
     parts.push(open_asked(left, alloc, signature, alone, first)?)?;
@@ -362,7 +361,7 @@ fn open_agreement(
     signature: &Signature,
     sign: bool,
 ) -> Result<Formula, AllocError>
-    ensures { IfOk result (λ f. formula_view f ≡ model.opened_agreement (signature_view signature.now) sign (model.seen_term (signature_view signature.now) (term_view left.now)) (model.seen_term (signature_view signature.now) (term_view right.now))) }
+    ensures { let g = signature_view signature.now in let left' = term_view left.now in IfOk result (λ f. formula_view f ≡ model.opened_agreement g sign (model.seen_term g left') (model.seen_term g (term_view right.now))) }
 {
     let mut parts = Vec::new(alloc);
     parts.push(open_pair(left, right, alloc, signature, false, false, sign, false)?)?;
@@ -383,7 +382,7 @@ fn open_sides(
     sign: bool,
     kept: &Literal,
 ) -> Result<Formula, AllocError>
-    ensures { IfOk result (λ f. formula_view f ≡ model.opened_seen (signature_view signature.now) alone sign (sort_view sort.now) (fact (literal_view kept.now)) (model.seen_term (signature_view signature.now) (term_view left.now)) (model.seen_term (signature_view signature.now) (term_view right.now))) }
+    ensures { let g = signature_view signature.now in let sort' = sort_view sort.now in let kept' = literal_view kept.now in let left' = term_view left.now in let right' = term_view right.now in IfOk result (λ f. formula_view f ≡ model.opened_seen g alone sign sort' (fact kept') (model.seen_term g left') (model.seen_term g right')) }
 {
     if are_same(left, right) {
         return make_fixed(alloc, sign);
@@ -406,7 +405,7 @@ fn open_truths(
     sign: bool,
     kept: &Literal,
 ) -> Result<Formula, AllocError>
-    ensures { IfOk result (λ f. formula_view f ≡ model.opened_truths (signature_view signature.now) alone sign (fact (literal_view kept.now)) (model.seen_term (signature_view signature.now) (term_view left.now)) (model.seen_term (signature_view signature.now) (term_view right.now))) }
+    ensures { let g = signature_view signature.now in let kept' = literal_view kept.now in let left' = term_view left.now in let right' = term_view right.now in IfOk result (λ f. formula_view f ≡ model.opened_truths g alone sign (fact kept') (model.seen_term g left') (model.seen_term g right')) }
 {
     if let Some(holds) = truth_known(right) {
         return open_told(left, alloc, signature, alone, holds == sign, kept);
@@ -432,7 +431,7 @@ fn open_constructed(
     sign: bool,
     kept: &Literal,
 ) -> Result<Formula, AllocError>
-    ensures { IfOk result (λ f. formula_view f ≡ opened_constructed (signature_view signature.now) alone sign (fact (literal_view kept.now)) (term_view left.now) (term_view right.now)) }
+    ensures { let g = signature_view signature.now in let kept' = literal_view kept.now in IfOk result (λ f. formula_view f ≡ opened_constructed g alone sign (fact kept') (term_view left.now) (term_view right.now)) }
 {
     match constructor_of(signature, left) {
         Some(first) => match constructor_of(signature, right) {
@@ -474,7 +473,7 @@ fn open_alike(
     alone: bool,
     sign: bool,
 ) -> Result<Formula, AllocError>
-    ensures { IfOk result (λ f. formula_view f ≡ model.all_if sign (model.opened_members (signature_view signature.now) alone sign (spelled.places_of (signature_view signature.now) constructor.now) (members_seen (model.seen_term (signature_view signature.now) (term_view left.now))) (members_seen (model.seen_term (signature_view signature.now) (term_view right.now))))) }
+    ensures { let g = signature_view signature.now in let left' = term_view left.now in let right' = term_view right.now in let the_members_seen = members_seen (model.seen_term g left') in IfOk result (λ f. formula_view f ≡ model.all_if sign (model.opened_members g alone sign (spelled.places_of g constructor.now) the_members_seen (members_seen (model.seen_term g right')))) }
 {
     let lefts = members_of(alloc, left)?;
     let rights = members_of(alloc, right)?;
@@ -492,7 +491,7 @@ fn open_listed(
     alone: bool,
     sign: bool,
 ) -> Result<Formula, AllocError>
-    ensures { IfOk result (λ f. formula_view f ≡ model.all_if sign (model.opened_members (signature_view signature.now) alone sign (spelled.places_of (signature_view signature.now) constructor.now) (model.seen_terms (signature_view signature.now) (terms_of (map term_view lefts.now))) (model.seen_terms (signature_view signature.now) (terms_of (map term_view rights.now))))) }
+    ensures { let g = signature_view signature.now in IfOk result (λ f. formula_view f ≡ model.all_if sign (model.opened_members g alone sign (spelled.places_of g constructor.now) (model.seen_terms g (terms_of (map term_view lefts.now))) (model.seen_terms g (terms_of (map term_view rights.now))))) }
 {
     let sorts = places_of(signature, constructor);
     let parts = open_members(lefts, rights, alloc, signature, sorts, alone, sign)?;
@@ -510,7 +509,7 @@ fn open_member(
     alone: bool,
     sign: bool,
 ) -> Result<Formula, AllocError>
-    ensures { IfOk result (λ f. formula_view f ≡ model.opened_seen (signature_view signature.now) alone sign (sort_view sort.now) (model.equality_fact sign (sort_view sort.now) (term_view left.now) (term_view right.now)) (model.seen_term (signature_view signature.now) (term_view left.now)) (model.seen_term (signature_view signature.now) (term_view right.now))) }
+    ensures { let g = signature_view signature.now in let right' = term_view right.now in let sort' = sort_view sort.now in let left' = term_view left.now in IfOk result (λ f. formula_view f ≡ model.opened_seen g alone sign sort' (model.equality_fact sign sort' left' right') (model.seen_term g left') (model.seen_term g right')) }
 {
     let kept = member_equality(alloc, sign, sort, left, right)?;
     open_sides(left, right, alloc, signature, sort, alone, sign, &kept)
@@ -540,7 +539,7 @@ fn open_members(
     alone: bool,
     sign: bool,
 ) -> Result<Vec<Formula>, AllocError>
-    ensures { IfOk result (λ fs. map formula_view fs.items ≡ formula_list (model.opened_members (signature_view signature.now) alone sign (sorts_view sorts.now) (model.seen_terms (signature_view signature.now) (terms_of (map term_view lefts.now))) (model.seen_terms (signature_view signature.now) (terms_of (map term_view rights.now))))) }
+    ensures { let g = signature_view signature.now in let sorts' = sorts_view sorts.now in IfOk result (λ fs. map formula_view fs.items ≡ formula_list (model.opened_members g alone sign sorts' (model.seen_terms g (terms_of (map term_view lefts.now))) (model.seen_terms g (terms_of (map term_view rights.now))))) }
 {
     let both = lesser(lefts.len(), rights.len());
     let most = lesser(both, sorts.len());
@@ -570,7 +569,7 @@ pub fn open_same(
     left: &Term,
     right: &Term,
 ) -> Result<Formula, AllocError>
-    ensures { IfOk result (λ f. formula_view f ≡ model.opened_same (signature_view signature.now) alone sign (sort_view sort.now) (term_view left.now) (term_view right.now)) }
+    ensures { let g = signature_view signature.now in IfOk result (λ f. formula_view f ≡ model.opened_same g alone sign (sort_view sort.now) (term_view left.now) (term_view right.now)) }
 {
     let kept = member_equality(alloc, sign, sort, left, right)?;
     open_sides(left, right, alloc, signature, sort, alone, sign, &kept)

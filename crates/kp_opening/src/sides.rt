@@ -19,10 +19,9 @@ ghost use Rattle.kp_opening.specs.Seen.{constructor_seen, truth_known as truth_r
 ghost use Rattle.kp_opening.specs.View.{formula_view};
 
 use crate::formula::{Formula, kept_fact, make_fixed};
-use kp_compile::{Meaning, meaning_of};
 use kp_ground::{Comparison, Value};
 use kp_kore::Sort;
-use kp_signature::Signature;
+use kp_signature::{Meaning, Signature, meaning_of};
 use kp_terms::sum::{Sum, sum_of};
 use kp_terms::{Literal, Term};
 use std::alloc::{AllocError, Global};
@@ -218,7 +217,7 @@ pub fn compared_at_once(
     left: &Term,
     right: &Term,
 ) -> Option<bool>
-    ensures { result ≡ model.compared_at_once (comparison_view comparison) (sum_read (signature_view signature.now) (term_view left.now)) (sum_read (signature_view signature.now) (term_view right.now)) }
+    ensures { let g = signature_view signature.now in result ≡ model.compared_at_once (comparison_view comparison) (sum_read g (term_view left.now)) (sum_read g (term_view right.now)) }
 {
     compared_sums(
         comparison,
@@ -258,7 +257,7 @@ pub fn unconstructed(
     left: &Term,
     right: &Term,
 ) -> Result<Formula, AllocError>
-    ensures { IfOk result (λ f. formula_view f ≡ model.unconstructed (signature_view signature.now) sign (fact (literal_view kept.now)) (term_view left.now) (term_view right.now)) }
+    ensures { let g = signature_view signature.now in IfOk result (λ f. formula_view f ≡ model.unconstructed g sign (fact (literal_view kept.now)) (term_view left.now) (term_view right.now)) }
 {
     if are_known(left, right) {
         return make_fixed(alloc, !sign);

@@ -52,7 +52,7 @@ pub fn push_signature(
     result_sort: &Sort,
     text: &mut String,
 ) -> Result<(), AllocError>
-    ensures { OnOk result (string_bytes text.new ≡ string_bytes text.old ++ signature_text name.now (names_view parameters.now) (sorts_view arguments.now) (sort_view result_sort.now)) }
+    ensures { let parameters' = names_view parameters.now in let arguments' = sorts_view arguments.now in OnOk result (string_bytes text.new ≡ string_bytes text.old ++ signature_text name.now parameters' arguments' (sort_view result_sort.now)) }
 {
     text.push_str(name)?;
     push_parameters(parameters, text)?;

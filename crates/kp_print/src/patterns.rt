@@ -216,7 +216,7 @@ fn push_long_head(
     sort: &Sort,
     text: &mut String,
 ) -> Result<(), AllocError>
-    ensures { OnOk result (string_bytes text.new ≡ string_bytes text.old ++ head word.now (pair (sort_text (sort_view argument_sort.now)) (sort_text (sort_view sort.now)))) }
+    ensures { let argument_sort' = sort_view argument_sort.now in let sort' = sort_view sort.now in OnOk result (string_bytes text.new ≡ string_bytes text.old ++ head word.now (pair (sort_text argument_sort') (sort_text sort'))) }
 {
     text.push_str(word)?;
     text.push_str("{")?;
@@ -244,7 +244,7 @@ fn push_quantifier(
     name_sort: &Sort,
     text: &mut String,
 ) -> Result<(), AllocError>
-    ensures { OnOk result (string_bytes text.new ≡ string_bytes text.old ++ (head word.now (sort_text (sort_view sort.now)) ++ variable_text name.now (sort_view name_sort.now))) }
+    ensures { let sort' = sort_view sort.now in let name_sort' = sort_view name_sort.now in OnOk result (string_bytes text.new ≡ string_bytes text.old ++ (head word.now (sort_text sort') ++ variable_text name.now name_sort')) }
 {
     push_head(word, sort, text)?;
     push_variable(name, name_sort, text)

@@ -40,9 +40,9 @@ pub fn prove_file<H: Shelf, O: Sink>(
     out: &mut O,
 ) -> Result<u8, Trouble>
     ensures proved { IfOk result (Proved (H.names shelf.old) (Appends (O.held out.old) (O.held out.new)) (prove_view command.now)) }
-    ensures cause { (words : List (List ℕ)) → SpellsProve words (prove_view command.now) → IfErr result (λ trouble. IsCause (H.names shelf.old) words (Rose (H.fault_count shelf.old) (H.fault_count shelf.new) ⊎ Rose (O.fault_count out.old) (O.fault_count out.new)) (ending_of trouble)) }
+    ensures cause { (words : List (List ℕ)) → let command' = prove_view command.now in SpellsProve words command' → IfErr result (λ trouble. IsCause (H.names shelf.old) words (Rose (H.fault_count shelf.old) (H.fault_count shelf.new) ⊎ Rose (O.fault_count out.old) (O.fault_count out.new)) (ending_of trouble)) }
     ensures untouched { IfErr result (λ trouble. trouble_status (ending_of trouble) ≤ 5 → O.held out.new ≡ O.held out.old) }
-    ensures front { OnErr result ((O.held out.new ≡ O.held out.old) ⊎ ((status : ℕ) × Proved (H.names shelf.old) (GainsFront (O.held out.old) (O.held out.new)) (prove_view command.now) status)) }
+    ensures front { let command' = prove_view command.now in OnErr result ((O.held out.new ≡ O.held out.old) ⊎ ((status : ℕ) × Proved (H.names shelf.old) (GainsFront (O.held out.old) (O.held out.new)) command' status)) }
     ensures files_kept { H.names shelf.new ≡ H.names shelf.old }
     ensures shelf_count { H.fault_count shelf.old ≤ H.fault_count shelf.new }
     ensures out_count { O.fault_count out.old ≤ O.fault_count out.new }
@@ -61,10 +61,10 @@ fn prove_over<H: Shelf, O: Sink>(
     shelf: &mut H,
     out: &mut O,
 ) -> Result<u8, Trouble>
-    ensures proved { (l : IsLoaded (H.names shelf.old) command.now.definition.now command.now.module_name.now) → IsSettingOf l.setting table.now → IfOk result (Proved (H.names shelf.old) (Appends (O.held out.old) (O.held out.new)) (prove_view command.now)) }
-    ensures cause { (words : List (List ℕ)) (l : IsLoaded (H.names shelf.old) command.now.definition.now command.now.module_name.now) → IsSettingOf l.setting table.now → SpellsProve words (prove_view command.now) → IfErr result (λ trouble. IsCause (H.names shelf.old) words (Rose (H.fault_count shelf.old) (H.fault_count shelf.new) ⊎ Rose (O.fault_count out.old) (O.fault_count out.new)) (ending_of trouble)) }
+    ensures proved { (l : IsLoaded (H.names shelf.old) command.now.definition.now command.now.module_name.now) → let command' = prove_view command.now in IsSettingOf l.setting table.now → IfOk result (Proved (H.names shelf.old) (Appends (O.held out.old) (O.held out.new)) command') }
+    ensures cause { (words : List (List ℕ)) (l : IsLoaded (H.names shelf.old) command.now.definition.now command.now.module_name.now) → let command' = prove_view command.now in IsSettingOf l.setting table.now → SpellsProve words command' → IfErr result (λ trouble. IsCause (H.names shelf.old) words (Rose (H.fault_count shelf.old) (H.fault_count shelf.new) ⊎ Rose (O.fault_count out.old) (O.fault_count out.new)) (ending_of trouble)) }
     ensures untouched { IfErr result (λ trouble. trouble_status (ending_of trouble) ≤ 5 → O.held out.new ≡ O.held out.old) }
-    ensures front { (l : IsLoaded (H.names shelf.old) command.now.definition.now command.now.module_name.now) → IsSettingOf l.setting table.now → OnErr result ((O.held out.new ≡ O.held out.old) ⊎ ((status : ℕ) × Proved (H.names shelf.old) (GainsFront (O.held out.old) (O.held out.new)) (prove_view command.now) status)) }
+    ensures front { (l : IsLoaded (H.names shelf.old) command.now.definition.now command.now.module_name.now) → let command' = prove_view command.now in IsSettingOf l.setting table.now → OnErr result ((O.held out.new ≡ O.held out.old) ⊎ ((status : ℕ) × Proved (H.names shelf.old) (GainsFront (O.held out.old) (O.held out.new)) command' status)) }
     ensures files_kept { H.names shelf.new ≡ H.names shelf.old }
     ensures shelf_count { H.fault_count shelf.old ≤ H.fault_count shelf.new }
     ensures out_count { O.fault_count out.old ≤ O.fault_count out.new }
@@ -83,9 +83,9 @@ fn report_claims<O: Sink>(
     max_depth: u64,
     out: &mut O,
 ) -> Result<u8, Trouble>
-    ensures reported { (s : Setting) → IsSettingOf s table.now → AllByRecursion IsProvableClaim (items_view claims.now) → IfOk result (AreReported s max_depth (items_view claims.now) (Appends (O.held out.old) (O.held out.new))) }
+    ensures reported { (s : Setting) → let claims' = items_view claims.now in IsSettingOf s table.now → AllByRecursion IsProvableClaim claims' → IfOk result (AreReported s max_depth claims' (Appends (O.held out.old) (O.held out.new))) }
     ensures late { IfErr result (IsLate (Rose (O.fault_count out.old) (O.fault_count out.new))) }
-    ensures front { (s : Setting) → IsSettingOf s table.now → AllByRecursion IsProvableClaim (items_view claims.now) → OnErr result ((O.held out.new ≡ O.held out.old) ⊎ ((status : ℕ) × AreReported s max_depth (items_view claims.now) (GainsFront (O.held out.old) (O.held out.new)) status)) }
+    ensures front { (s : Setting) → let claims' = items_view claims.now in IsSettingOf s table.now → AllByRecursion IsProvableClaim claims' → OnErr result ((O.held out.new ≡ O.held out.old) ⊎ ((status : ℕ) × AreReported s max_depth claims' (GainsFront (O.held out.old) (O.held out.new)) status)) }
     ensures count { O.fault_count out.old ≤ O.fault_count out.new }
 {
     let lines = prove_all(alloc, table, claims, max_depth)?;
@@ -104,7 +104,7 @@ fn prove_all(
     claims: &[ClaimItem],
     max_depth: u64,
 ) -> Result<Vec<Line>, AllocError>
-    ensures { (s : Setting) → IsSettingOf s table.now → AllByRecursion IsProvableClaim (items_view claims.now) → IfOk result (λ lines. AllZip (IsLineFor s max_depth) (items_view claims.now) (map line_view lines.items)) }
+    ensures { (s : Setting) → let claims' = items_view claims.now in IsSettingOf s table.now → AllByRecursion IsProvableClaim claims' → IfOk result (λ lines. AllZip (IsLineFor s max_depth) claims' (map line_view lines.items)) }
 {
     let mut lines = Vec::new(alloc);
     for place in 0..claims.len() {
@@ -123,7 +123,7 @@ fn prove_at(
     max_depth: u64,
 ) -> Result<Line, AllocError>
     requires { place < length claims.now }
-    ensures { (s : Setting) (c : LabelledClaim) → IsSettingOf s table.now → slice_get (items_view claims.now) place ≡ Some c → IsProvableClaim c → IfOk result (λ line. IsLineFor s max_depth c (line_view line)) }
+    ensures { (s : Setting) (c : LabelledClaim) → let claims' = items_view claims.now in IsSettingOf s table.now → slice_get claims' place ≡ Some c → IsProvableClaim c → IfOk result (λ line. IsLineFor s max_depth c (line_view line)) }
 {
     let label = claims[place].label.clone()?;
     let options = ProveOptions { max_depth };

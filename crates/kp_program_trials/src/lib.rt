@@ -5,4 +5,6 @@
 #[cfg(test)]
 mod claims;
 #[cfg(test)]
+mod endings;
+#[cfg(test)]
 mod requests;

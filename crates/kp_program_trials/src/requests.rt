@@ -461,9 +461,38 @@ fn nested(alloc: Global, depth: usize) -> Result<String, AllocError> {
 fn other_endings_are_told(rt: HostRuntime) -> Result<(), Fail> {
     let alloc = rt.alloc();
     let importing = "[] module M import NOPE [] endmodule []";
+    let sorts = "[] module M sort S{} [] sort S{} [] endmodule []";
+    let symbols =
+        "[] module M sort S{} [] symbol a{}() : S{} [] symbol a{}() : S{} [] endmodule []";
+    let undeclared =
+        "[] module M sort S{} [] symbol a{}() : S{} [constructor{}()] axiom{} \\rewrites{S{}}(a{}(), b{}()) [] endmodule []";
     let rows = [
         ("stdio", "x.kore", "[]", 5, "kprove: no file x.kore\n"),
         ("stdio", "d.kore", importing, 4, "kprove: d.kore: M1\n"),
+        (
+            "stdio",
+            "d.kore",
+            "[] module M import M [] endmodule []",
+            4,
+            "kprove: d.kore: M2\n",
+        ),
+        ("stdio", "d.kore", sorts, 4, "kprove: d.kore: M3\n"),
+        ("stdio", "d.kore", symbols, 4, "kprove: d.kore: M4\n"),
+        (
+            "stdio",
+            "d.kore",
+            "[] module M endmodule [] module M endmodule []",
+            4,
+            "kprove: d.kore: M5\n",
+        ),
+        ("stdio", "d.kore", undeclared, 4, "kprove: d.kore: M6\n"),
+        (
+            "stdio",
+            "d.kore",
+            "[] module A endmodule []",
+            4,
+            "kprove: d.kore: M8\n",
+        ),
         (
             "stdio",
             "d.kore",

@@ -68,6 +68,14 @@ fn the_first_fault_is_told(rt: HostRuntime) -> Result<(), Fail> {
         "J4 version"
     );
     assert_eq!(rt;
+        written(alloc, "{\"format\":\"JSON\",\"version\":1,\"term\":{}}")?.as_str(),
+        "J4 format"
+    );
+    let unnamed = around(alloc, "{\"tag\":\"Nope\"}")?;
+    assert_eq!(rt; written(alloc, &unnamed)?.as_str(), "J1 Nope");
+    let numbered = around(alloc, "{\"tag\":7}")?;
+    assert_eq!(rt; written(alloc, &numbered)?.as_str(), "J3 tag");
+    assert_eq!(rt;
         written(alloc, "{\"format\":\"KORE\",\"version\":1,\"term\":{}}")?.as_str(),
         "J2 tag"
     );

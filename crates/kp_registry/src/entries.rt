@@ -84,7 +84,7 @@ impl Pass {
 fn search(names: &[Bound], name: &str) -> Result<usize, usize>
     requires rising { IsRising (map name_of names.now) }
     ensures found { IfOk result (λ i. (i < length names.now) × ((d : Bound) → place_named names.now name.now ≡ Some (get_or names.now i d).place)) }
-    ensures absent { IfErr result (λ i. (i ≤ length names.now) × (AreBelow name.now (take i (map name_of names.now)) × AreAbove name.now (drop i (map name_of names.now)))) }
+    ensures absent { let the_map = map name_of names.now in IfErr result (λ i. (i ≤ length names.now) × (AreBelow name.now (take i the_map) × AreAbove name.now (drop i the_map))) }
 {
     let mut from = 0;
     let mut to = names.len();

@@ -26,5 +26,5 @@ pub fn an_extended_entry_extends_the_book()
 
 /// An id means what the first entry that binds it holds, however often its text is entered again.
 pub fn an_id_means_its_first_entry()
-    ensures { (o : Opening) (before after : List Registration) (r : Registration) → IsLegal o (before ++ r ∷ after) → AllByRecursion (λ q. binds r.id q ≡ false) before → meaning_in o (before ++ r ∷ after) r.id ≡ Some r.axioms }
+    ensures { (o : Opening) (before after : List Registration) (r : Registration) → let the_before = before ++ r ∷ after in IsLegal o the_before → AllByRecursion (λ q. binds r.id q ≡ false) before → meaning_in o the_before r.id ≡ Some r.axioms }
 {}

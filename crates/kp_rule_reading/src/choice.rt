@@ -60,7 +60,7 @@ fn new_variables(
     right: &Pattern,
     names: &NameSet,
 ) -> Result<Vec<SortedVariable>, AllocError>
-    ensures { IfOk result (λ vs. map sorted_variable_view vs.items ≡ top_binders (view right.now) ++ filter (λ x. not (contains_text names.now x.name)) (free_variables (view right.now))) }
+    ensures { let right' = view right.now in IfOk result (λ vs. map sorted_variable_view vs.items ≡ top_binders right' ++ filter (λ x. not (contains_text names.now x.name)) (free_variables right')) }
 {
     let bound = under_binders(alloc, right)?;
     let mut found = bound_variables(alloc, &bound.variables)?;

@@ -45,7 +45,7 @@ fn is_named_without_literals(
     variable: &SortedVariable,
     names: &NameSet,
 ) -> bool
-    ensures { result ≡ (contains_text names.now (string_bytes variable.now.name) && not (literals_test (signature_view signature.now) (sort_view variable.now.sort))) }
+    ensures { let g = signature_view signature.now in result ≡ (contains_text names.now (string_bytes variable.now.name) && not (literals_test g (sort_view variable.now.sort))) }
 {
     names.contains(variable.name.as_str()) && !signature.has_literals(&variable.sort)
 }

@@ -7,18 +7,18 @@ ghost use Rattle.kp_kore.specs.Limits.{writes_number, fits_number};
 ghost use Rattle.kp_semantics.specs.Foreign.{is_foreign_meaning, is_interpretation, is_declared as declared, applies_foreign as foreign_applied, applies_undeclared as undeclared_applied, has_interpreted_head as interpreted_head, is_set_variable as set_variable_test, is_quantifier as quantifier_test, is_floor_of_term as floor_test, is_wide_literal as wide_literal, InjectionsSplit};
 ghost use Rattle.std.specs.Str.Parse.{signed_digits_value};
 ghost use Rattle.kp_signature.specs.View.{signature_view};
-ghost use Rattle.kp_compile.specs.Meanings.{meaning_view};
+ghost use Rattle.kp_signature.specs.Meanings.{meaning_view};
 ghost use Rattle.kp_compile.specs.Verified.{is_injection_meaning, misapplies_injection as misapplied};
 ghost use Rattle.kp_sort_index.specs.Index.{IsIndexOf};
 ghost use Rattle.kp_rule_reading.specs.Reading.{is_part_read, is_condition_part};
 ghost use Rattle.kp_rules.specs.Shapes.{seen};
 
 use crate::depth::is_within;
-use kp_compile::{Meaning, is_term, meaning_of};
+use kp_compile::is_term;
 use kp_kore::{Name, Pattern};
 use kp_rules::skeleton::MOST_DEPTH;
-use kp_signature::Signature;
 use kp_signature::rules::is_numeral;
+use kp_signature::{Meaning, Signature, meaning_of};
 use kp_sort_index::inject::is_split;
 use kp_sort_index::sort_index::SortIndex;
 use std::alloc::{AllocError, Global};
@@ -248,7 +248,7 @@ pub fn all_split(
     parts: &[&Pattern],
 ) -> Result<bool, AllocError>
     requires index { IsIndexOf (signature_view signature.now) index.now }
-    ensures { IfOk result (λ b. MatchBool b (AllByRecursion (InjectionsSplit (signature_view signature.now)) (seen parts.now)) (¬ AllByRecursion (InjectionsSplit (signature_view signature.now)) (seen parts.now))) }
+    ensures { let g = signature_view signature.now in IfOk result (λ b. MatchBool b (AllByRecursion (InjectionsSplit g) (seen parts.now)) (¬ AllByRecursion (InjectionsSplit g) (seen parts.now))) }
 {
     for part in parts {
         if !is_split(alloc, signature, index, part)? {

@@ -69,9 +69,9 @@ pub fn read_rule(
     statement: &AxiomSentence,
 ) -> Result<(u32, RuleBody), RuleError>
     requires index { IsIndexOf (signature_view signature.now) index.now }
-    ensures read { IsTrue (is_rewriting (view statement.now.pattern)) → IfOk result (λ out. IsReadAs (signature_view signature.now) (axiom_sentence_view statement.now) out.0 out.1) }
-    ensures fault { IsTrue (is_rewriting (view statement.now.pattern)) → IfErr result (λ e. e ≡ Fault → IsFaulty (signature_view signature.now) (axiom_sentence_view statement.now)) }
-    ensures unfaulty { IsTrue (is_rewriting (view statement.now.pattern)) → OnOk result (¬ IsFaulty (signature_view signature.now) (axiom_sentence_view statement.now)) }
+    ensures read { let pattern' = view statement.now.pattern in let g = signature_view signature.now in IsTrue (is_rewriting pattern') → IfOk result (λ out. IsReadAs g (axiom_sentence_view statement.now) out.0 out.1) }
+    ensures fault { let pattern' = view statement.now.pattern in IsTrue (is_rewriting pattern') → IfErr result (λ e. e ≡ Fault → IsFaulty (signature_view signature.now) (axiom_sentence_view statement.now)) }
+    ensures unfaulty { let pattern' = view statement.now.pattern in IsTrue (is_rewriting pattern') → OnOk result (¬ IsFaulty (signature_view signature.now) (axiom_sentence_view statement.now)) }
     ensures other { is_rewriting (view statement.now.pattern) ≡ false → result ≡ Ok (usual_priority, body.Foreign skeleton.Anything) }
 {
     match &statement.pattern {
@@ -133,7 +133,7 @@ fn foreign_body(
     left: &Pattern,
 ) -> Result<RuleBody, RuleError>
     requires index { IsIndexOf (signature_view signature.now) index.now }
-    ensures body { IfOk result (IsBodyOf (signature_view signature.now) (foreign_rule (record { sort = sort_view sort.now; term = constrained_term (view left.now) }))) }
+    ensures body { let g = signature_view signature.now in IfOk result (IsBodyOf g (foreign_rule (record { sort = sort_view sort.now; term = constrained_term (view left.now) }))) }
     ensures fault { IfErr result (λ e. e ≡ Memory) }
 {
     let skeleton = skeleton_of_left(alloc, signature, index, sort, left)?;
@@ -195,7 +195,7 @@ fn is_read_statement(
     statement: &AxiomSentence,
 ) -> Result<bool, AllocError>
     requires index { IsIndexOf (signature_view signature.now) index.now }
-    ensures { IfOk result (λ b. MatchBool b (IsStatementRead (signature_view signature.now) (axiom_sentence_view statement.now)) (¬ IsStatementRead (signature_view signature.now) (axiom_sentence_view statement.now))) }
+    ensures { let statement' = axiom_sentence_view statement.now in let g = signature_view signature.now in IfOk result (λ b. MatchBool b (IsStatementRead g statement') (¬ IsStatementRead g statement')) }
 {
     if !statement.parameters.is_empty() {
         return Ok(false);
@@ -305,7 +305,7 @@ fn rewrite_from(
     shape: &Shape<'_>,
     right: &Pattern,
 ) -> Result<Rewrite, RuleError>
-    ensures made { IfOk result (λ w. IsMadeOf (signature_view signature.now) (sort_view sort.now) (rewrite_seen (view right.now) shape.now) w × (w.chooses ≡ not (is_plain_by (λ y. is_named y (free_variables (view shape.now.left.term.now))) (view right.now) (seen shape.now.right.predicates.items)))) }
+    ensures made { let g = signature_view signature.now in let sort' = sort_view sort.now in let term' = view shape.now.left.term.now in let right' = view right.now in IfOk result (λ w. IsMadeOf g sort' (rewrite_seen right' shape.now) w × (w.chooses ≡ not (is_plain_by (λ y. is_named y (free_variables term')) right' (seen shape.now.right.predicates.items)))) }
     ensures sound { IfErr result (λ e. IsSound (signature_view signature.now) (rewrite_seen (view right.now) shape.now) → e ≡ Memory) }
 {
     let variables = shape.left.term.free_vars(alloc)?;
@@ -388,7 +388,7 @@ fn compiled(
     chooses: bool,
     choice: Option<RightSide>,
 ) -> Result<Rewrite, CompileError>
-    ensures made { (r : KorePattern) → IsChoiceOf (rewrite_seen r shape.now) chooses choice → IfOk result (λ w. IsMadeOf (signature_view signature.now) (sort_view sort.now) (rewrite_seen r shape.now) w × (w.chooses ≡ chooses)) }
+    ensures made { (r : KorePattern) → let the_rewrite_seen = rewrite_seen r shape.now in let g = signature_view signature.now in IsChoiceOf the_rewrite_seen chooses choice → IfOk result (λ w. IsMadeOf g (sort_view sort.now) the_rewrite_seen w × (w.chooses ≡ chooses)) }
     ensures sound { (r : KorePattern) → IfErr result (λ e. IsSound (signature_view signature.now) (rewrite_seen r shape.now) → e ≡ compiling.Memory) }
 {
     let left = compile_left(alloc, signature, shape.left.term)?;

@@ -15,10 +15,10 @@ ghost use Rattle.kp_rules.specs.Bodies.{IsVerifiedLeft};
 ghost use Rattle.kp_rules.specs.Heads.{HasHead};
 ghost use Rattle.kp_rule_reading.specs.Tests.{IsGiven, Adds};
 
-use kp_compile::{CompileError, Meaning, meaning_of};
+use kp_compile::CompileError;
 use kp_kore::{Name, Pattern, Sort};
 use kp_rules::rule::SortTest;
-use kp_signature::Signature;
+use kp_signature::{Meaning, Signature, meaning_of};
 use std::alloc::{AllocError, Global};
 
 /// The sort tests of a left term: one for each variable that doesn't stand as a constructor's argument of its own sort.
@@ -28,7 +28,7 @@ pub fn sort_tests(
     signature: &Signature,
     left: &Pattern,
 ) -> Result<Vec<SortTest>, CompileError>
-    ensures tests { IfOk result (λ tests. IsVerifiedLeft (signature_view signature.now) (view left.now) → (v : Valuation) → IsSorted (signature_view signature.now) (instance (signature_view signature.now) v (view left.now)) → AllByRecursion (HasHead (signature_view signature.now) v) tests.items ↔ GivesSorts (signature_view signature.now) v (free_variables (view left.now))) }
+    ensures tests { let g = signature_view signature.now in IfOk result (λ tests. IsVerifiedLeft g (view left.now) → (v : Valuation) → IsSorted g (instance g v (view left.now)) → AllByRecursion (HasHead g v) tests.items ↔ GivesSorts g v (free_variables (view left.now))) }
     ensures refused { IfErr result (λ e. IsVerifiedLeftTerm (signature_view signature.now) (view left.now) → e ≡ Memory) }
 {
     let mut tests = Vec::new(alloc);
@@ -45,7 +45,7 @@ fn add_tests(
     given: Option<&Sort>,
     tests: &mut Vec<SortTest>,
 ) -> Result<(), CompileError>
-    ensures tests { OnOk result ((v : Valuation) → IsGiven (signature_view signature.now) given.entry (instance (signature_view signature.now) v (view pattern.now)) → Adds (signature_view signature.now) v tests.old.items tests.new.items (free_variables (view pattern.now))) }
+    ensures tests { let g = signature_view signature.now in let pattern' = view pattern.now in OnOk result ((v : Valuation) → IsGiven g given.entry (instance g v pattern') → Adds g v tests.old.items tests.new.items (free_variables pattern')) }
     ensures refused { IfErr result (λ e. IsVerifiedLeftTerm (signature_view signature.now) (view pattern.now) → e ≡ Memory) }
 {
     match pattern {
@@ -69,8 +69,8 @@ fn add_tests_of_applied(
     symbol: &Name,
     tests: &mut Vec<SortTest>,
 ) -> Result<(), CompileError>
-    ensures tests { OnOk result ((v : Valuation) → IsSorted (signature_view signature.now) (applied (meaning_named (signature_view signature.now) (string_bytes symbol.now)) (string_bytes symbol.now) (instances (signature_view signature.now) v (patterns_view arguments.now))) → Adds (signature_view signature.now) v tests.old.items tests.new.items (all_free_variables (patterns_view arguments.now))) }
-    ensures refused { IfErr result (λ e. (ss : KoreSorts) → IsVerifiedLeftTerm (signature_view signature.now) (application (string_bytes symbol.now) ss (patterns_view arguments.now)) → e ≡ Memory) }
+    ensures tests { let g = signature_view signature.now in let arguments' = patterns_view arguments.now in let the_string_bytes = string_bytes symbol.now in OnOk result ((v : Valuation) → IsSorted g (applied (meaning_named g the_string_bytes) the_string_bytes (instances g v arguments')) → Adds g v tests.old.items tests.new.items (all_free_variables arguments')) }
+    ensures refused { let g = signature_view signature.now in let arguments' = patterns_view arguments.now in IfErr result (λ e. (ss : KoreSorts) → IsVerifiedLeftTerm g (application (string_bytes symbol.now) ss arguments') → e ≡ Memory) }
 {
     match meaning_of(signature, symbol) {
         Meaning::Injection => match arguments {
@@ -97,8 +97,8 @@ fn add_tests_of_arguments(
     places: &[Sort],
     tests: &mut Vec<SortTest>,
 ) -> Result<(), CompileError>
-    ensures tests { OnOk result ((v : Valuation) → HaveSorts (signature_view signature.now) (sorts_view places.now) (instances (signature_view signature.now) v (patterns_view patterns.now)) → Adds (signature_view signature.now) v tests.old.items tests.new.items (all_free_variables (patterns_view patterns.now))) }
-    ensures refused { IfErr result (λ e. length patterns.now ≡ length places.now → AllByRecursion (λ p. IsVerifiedLeftTerm (signature_view signature.now) (view p)) patterns.now → e ≡ Memory) }
+    ensures tests { let g = signature_view signature.now in let patterns' = patterns_view patterns.now in let places' = sorts_view places.now in OnOk result ((v : Valuation) → HaveSorts g places' (instances g v patterns') → Adds g v tests.old.items tests.new.items (all_free_variables patterns')) }
+    ensures refused { let g = signature_view signature.now in IfErr result (λ e. length patterns.now ≡ length places.now → AllByRecursion (λ p. IsVerifiedLeftTerm g (view p)) patterns.now → e ≡ Memory) }
 {
     if patterns.len() != places.len() {
         return Err(CompileError::Shape);

@@ -9,10 +9,9 @@ ghost use Rattle.kp_semantics.specs.Value.{head_of};
 ghost use Rattle.kp_ground.specs.View.{value_view};
 ghost use Rattle.kp_rules.specs.OwnSorts.{IsBelowSome};
 
-use kp_compile::{Meaning, meaning_of};
 use kp_ground::Value;
 use kp_kore::{Name, Sort};
-use kp_signature::Signature;
+use kp_signature::{Meaning, Signature, meaning_of};
 use std::alloc::{AllocError, Global};
 
 /// Whether the name is a constructor's.

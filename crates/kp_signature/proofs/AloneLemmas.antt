@@ -1,13 +1,12 @@
 -- The tests head by head tell whether a sort has the heads of its own kind alone.
-use Rattle.std.proofs.Common.{◌≡◌, refl, sym, ap, subst, ◌∙◌, ℕ, zero, suc, ◌<◌, ◌↔◌, arith, Bool, true, false, not, ◌&&◌, ◌||◌, ◌==◌, nat_le, cond, List, [], ◌∷◌, ◌++◌, map, length, slice_index_or, Option, Some, None, string_bytes, String}
+use Rattle.std.proofs.Common.{◌≡◌, refl, sym, ap, ◌∙◌, ℕ, ◌↔◌, Bool, true, false, not, ◌&&◌, ◌||◌, ◌==◌, nat_le, cond, List, [], ◌∷◌, ◌++◌, map, length, Option, Some, None, string_bytes, String}
 use Rattle.std.specs.declared.alloc.Global.{Global}
 use Rattle.std.specs.Prelude.{codes, IsTrue}
 use Rattle.std.specs.List.{find, filter, list_all}
 use Rattle.std.specs.Option.{option_map}
 use Rattle.std.specs.Str.{bytes_eq}
 use Rattle.kp_kore.specs.Syntax.{Text, KoreSort, sort_of, no_sorts, SortDeclaration, SymbolDeclaration}
-use Rattle.kp_kore.specs.Attributes.{sorts_equal}
-use Rattle.kp_kore.specs.Signature.{KoreSignature, has_hook, declared_sort, other_than, integer_sort, boolean_sort, is_the, is_integer_sort, is_boolean_sort, goes_across, Head, integers, booleans, tokens, constructor_of, is_own_below, is_head, are_numbers, are_truths, has_only_numbers, has_only_truths, is_number_sort, is_truth_sort, IsBelow, is_below, itself, through}
+use Rattle.kp_kore.specs.Signature.{KoreSignature, has_hook, declared_sort, other_than, integer_sort, boolean_sort, is_the, is_integer_sort, is_boolean_sort, goes_across, Head, integers, booleans, tokens, constructor_of, is_own_below, is_head, are_numbers, are_truths, has_only_numbers, has_only_truths, is_number_sort, is_truth_sort, IsBelow, is_below}
 use Rattle.kp_kore.specs.Parts.{sort_list}
 use Rattle.kp_kore.specs.View.{names_view, sorts_view}
 use Rattle.kp_kore.specs.declared.sort.Sort.{Sort}

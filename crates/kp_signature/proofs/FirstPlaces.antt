@@ -1,10 +1,11 @@
 -- The first places of names, once one more name stands after the others.
-use Rattle.std.proofs.Common.{◌≡◌, refl, sym, ap, ◌∙◌, ℕ, suc, Bool, true, false, cond, List, [], ◌∷◌, ◌++◌, length, Option, Some, None, is_some, map, slice_get, Bor, IfSome, get_or, nat_lt}
+use Rattle.std.proofs.Common.{◌≡◌, refl, sym, ap, ◌∙◌, ℕ, suc, Bool, true, false, cond, List, [], ◌∷◌, ◌++◌, length, Option, Some, None, is_some, map, slice_get, Bor, IfSome, get_or, nat_lt, ◌<◌, ◌+◌, drop}
 use Rattle.std.specs.Option.{option_map, option_and_then, option_copied}
 use Rattle.std.specs.List.{find}
 use Rattle.std.specs.Str.{bytes_eq}
-use Rattle.std.proofs.lemmas.Option.{slice_get_read, slice_get_past}
+use Rattle.std.proofs.lemmas.Option.{slice_get_read, slice_get_past, slice_get-map}
 use Rattle.std.proofs.lemmas.Bool.{ltb-true, ltb-false}
+use Rattle.std.proofs.lemmas.List.{drop_more}
 use Rattle.std.proofs.lemmas.Slice.Eq.{bytes_eq-Decides}
 use Rattle.kp_kore.specs.Syntax.{Text}
 use Rattle.kp_signature.specs.Places.{earlier}
@@ -88,3 +89,29 @@ some_row {A = A} f name n rows place r at is = by r ∙ ap (option_map f) is ∙
 
 pub no_row : {A B : Type 0} (f : A → B) (name : B → Text) (n : Text) (rows : List A) → None ≡ first_place n (map name (map f rows)) → None ≡ find (λ d. bytes_eq (name d) n) (map f rows)
 no_row f name n rows at = ap (λ o. option_and_then (λ i. option_map f (slice_get rows i)) o) at ∙ looked_up f name n rows
+
+-- what was kept beside each row, in order, is what is told of the row that is found by the name
+pub kept_row : {A B C D : Type 0} (f : A → B) (name : B → Text) (tells : B → D) (view : C → D) (n : Text) (rows : List A) (kept : List C) (place : ℕ) (r : Option (Bor C)) →
+    map view kept ≡ map tells (map f rows) → Some place ≡ first_place n (map name (map f rows)) → option_copied r ≡ slice_get kept place →
+    option_map (λ d. view d.now) r ≡ option_map tells (find (λ d. bytes_eq (name d) n) (map f rows))
+kept_row {C = C} f name tells view n rows kept place r told at is =
+    by r ∙ ap (option_map view) is ∙ sym (slice_get-map view kept place) ∙ ap (λ ds. slice_get ds place) told ∙ slice_get-map tells (map f rows) place
+    ∙ ap (option_map tells) (slice_get-map f rows place ∙ ap (λ o. option_and_then (λ i. option_map f (slice_get rows i)) o) at ∙ looked_up f name n rows)
+  where
+    by : (o : Option (Bor C)) → option_map (λ d. view d.now) o ≡ option_map view (option_copied o)
+    by (Some d) = refl
+    by None = refl
+
+-- one more row's view is kept, and one row fewer is left
+pub kept_more : {A B C D : Type 0} (f : A → B) (tells : B → D) (view : C → D) (rows : List A) (i : ℕ) (row : A) (made : C) (kept longer : List C) →
+    i < length rows → row ≡ get_or rows i row → longer ≡ kept ++ made ∷ [] → view made ≡ tells (f row) →
+    map view longer ++ map tells (map f (drop (i + 1) rows)) ≡ map view kept ++ map tells (map f (drop i rows))
+kept_more {C = C} f tells view rows i row made kept longer h read pushed told =
+    ap (λ l. map view l ++ map tells (map f (drop (i + 1) rows))) pushed
+    ∙ by kept
+    ∙ ap (λ d. map view kept ++ d ∷ map tells (map f (drop (i + 1) rows))) (told ∙ ap (λ r. tells (f r)) read)
+    ∙ ap (λ l. map view kept ++ map tells (map f l)) (sym (drop_more rows i row h))
+  where
+    by : (l : List C) → map view (l ++ made ∷ []) ++ map tells (map f (drop (i + 1) rows)) ≡ map view l ++ view made ∷ map tells (map f (drop (i + 1) rows))
+    by [] = refl
+    by (x ∷ l) = ap (λ r. view x ∷ r) (by l)

@@ -10,6 +10,7 @@ pub mod NodeLemmas
 pub mod Numerals
 pub mod OwnSorts
 pub mod ScopeLemmas
+pub mod SortCounts
 pub mod SortTexts
 pub mod SubsortPairs
 pub mod VerifyLemmas

@@ -2,6 +2,7 @@ pub mod Alone
 pub mod Examples
 pub mod Faults
 pub mod Kinds
+pub mod Meanings
 pub mod Names
 pub mod Nodes
 pub mod Places

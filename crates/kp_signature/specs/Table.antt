@@ -3,9 +3,9 @@ use Rattle.std.specs.Prelude.{◌≡◌, List, map, Option, Some, None, if◌the
 use Rattle.std.specs.List.{find}
 use Rattle.std.specs.Option.{option_map}
 use Rattle.std.specs.Str.{bytes_eq}
-use Rattle.kp_kore.specs.Syntax.{Text, KoreSort, KoreSentence, SortDeclaration, SymbolDeclaration, AliasDeclaration}
+use Rattle.kp_kore.specs.Syntax.{Text, KoreSentence, SortDeclaration, SymbolDeclaration, AliasDeclaration}
 use Rattle.kp_kore.specs.Signature.{KoreSignature, sorts_in, symbols_in, aliases_in, subsorts_in, has_hook}
-use Rattle.kp_kore.specs.View.{sort_view, sort_sentence_view, symbol_sentence_view, alias_sentence_view}
+use Rattle.kp_kore.specs.View.{sort_sentence_view, symbol_sentence_view, alias_sentence_view}
 use Rattle.kp_signature.specs.Names.{Indexes}
 use Rattle.kp_subsorts.specs.Pairs.{subsort_view}
 use Rattle.kp_signature.specs.declared.table.Table.{Table}

@@ -10,7 +10,7 @@ use Rattle.kp_signature.specs.Table.{table_view}
 use Rattle.kp_signature.specs.declared.signature.Signature.{Signature}
 
 abbrev pub signature_view : Signature → KoreSignature
-signature_view g = table_view g.declarations.table
+signature_view g = table_view g.kinds.declarations.table
 
 -- the sentences of the modules, in order
 abbrev pub sentences_of : List (Bor Module) → List KoreSentence

@@ -47,7 +47,7 @@ impl Declarations {
         own: &Option<Name>,
         other: &Option<Name>,
     ) -> Result<bool, AllocError>
-        ensures { IfOk result (λ b. b ≡ none_but_own (table_view self.now.table) (option_map (λ n. sort_of (string_bytes n) no_sorts) own.now) (option_map (λ n. sort_of (string_bytes n) no_sorts) other.now)) }
+        ensures { let table' = table_view self.now.table in IfOk result (λ b. b ≡ none_but_own table' (option_map (λ n. sort_of (string_bytes n) no_sorts) own.now) (option_map (λ n. sort_of (string_bytes n) no_sorts) other.now)) }
     {
         let own = plain_sort(alloc, own)?;
         let other = plain_sort(alloc, other)?;

@@ -42,8 +42,8 @@ pub fn check_application(
     ensures places { IfOk result (λ ss. sorts_view ss.items ≡ argument_sorts (signature_view signature.now) (string_bytes symbol.now) (sorts_view sorts.now)) }
     ensures number { IfOk result (λ ss. length ss.items ≡ count) }
     ensures shallow { OnOk result (depth ≤ 48) }
-    ensures ok { OnOk result ((ps : KorePatterns) → length (pattern_list ps) ≡ count → application_fault (signature_view signature.now) (option_map (λ s. sort_view s.now) wanted.entry) depth (string_bytes symbol.now) (sorts_view sorts.now) ps ≡ None) }
-    ensures err { IfErr result (λ e. (f : VerifyFault) → (ps : KorePatterns) → length (pattern_list ps) ≡ count → fault_view e ≡ Some f → application_fault (signature_view signature.now) (option_map (λ s. sort_view s.now) wanted.entry) depth (string_bytes symbol.now) (sorts_view sorts.now) ps ≡ Some f) }
+    ensures ok { let g = signature_view signature.now in let sorts' = sorts_view sorts.now in OnOk result ((ps : KorePatterns) → length (pattern_list ps) ≡ count → application_fault g (option_map (λ s. sort_view s.now) wanted.entry) depth (string_bytes symbol.now) sorts' ps ≡ None) }
+    ensures err { let g = signature_view signature.now in let sorts' = sorts_view sorts.now in IfErr result (λ e. (f : VerifyFault) → (ps : KorePatterns) → length (pattern_list ps) ≡ count → fault_view e ≡ Some f → application_fault g (option_map (λ s. sort_view s.now) wanted.entry) depth (string_bytes symbol.now) sorts' ps ≡ Some f) }
 {
     check_all_known(alloc, signature, sorts)?;
     let profile = check_symbol(signature, symbol, sorts.len(), count)?;
@@ -61,11 +61,11 @@ fn check_symbol<'a>(
     sorts: usize,
     count: usize,
 ) -> Result<Profile<'a>, VerifyError>
-    ensures takes { IfOk result (λ p. profile_of (signature_view signature.now) (string_bytes symbol.now) ≡ Some (record { parameters = names_view p.parameters.now; arguments = sorts_view p.arguments.now })) }
-    ensures gives { IfOk result (λ p. (ss : KoreSorts) → result_sort (signature_view signature.now) (string_bytes symbol.now) ss ≡ Some (at_arguments (names_view p.parameters.now) ss (sort_view p.result_sort.now))) }
+    ensures takes { let g = signature_view signature.now in IfOk result (λ p. profile_of g (string_bytes symbol.now) ≡ Some (record { parameters = names_view p.parameters.now; arguments = sorts_view p.arguments.now })) }
+    ensures gives { let g = signature_view signature.now in IfOk result (λ p. (ss : KoreSorts) → result_sort g (string_bytes symbol.now) ss ≡ Some (at_arguments (names_view p.parameters.now) ss (sort_view p.result_sort.now))) }
     ensures number { IfOk result (λ p. length p.arguments.now ≡ count) }
-    ensures ok { OnOk result ((ss : KoreSorts) (ps : KorePatterns) → length (sort_list ss) ≡ sorts → length (pattern_list ps) ≡ count → symbol_fault (signature_view signature.now) (application (string_bytes symbol.now) ss ps) ≡ None) }
-    ensures err { IfErr result (λ e. (f : VerifyFault) → (ss : KoreSorts) (ps : KorePatterns) → length (sort_list ss) ≡ sorts → length (pattern_list ps) ≡ count → fault_view e ≡ Some f → symbol_fault (signature_view signature.now) (application (string_bytes symbol.now) ss ps) ≡ Some f) }
+    ensures ok { let g = signature_view signature.now in OnOk result ((ss : KoreSorts) (ps : KorePatterns) → length (sort_list ss) ≡ sorts → length (pattern_list ps) ≡ count → symbol_fault g (application (string_bytes symbol.now) ss ps) ≡ None) }
+    ensures err { let g = signature_view signature.now in IfErr result (λ e. (f : VerifyFault) → (ss : KoreSorts) (ps : KorePatterns) → length (sort_list ss) ≡ sorts → length (pattern_list ps) ≡ count → fault_view e ≡ Some f → symbol_fault g (application (string_bytes symbol.now) ss ps) ≡ Some f) }
 {
     match signature.profile(symbol) {
         Some(profile) => {
@@ -90,8 +90,8 @@ fn check_symbol<'a>(
 impl Signature {
     /// What a symbol of this name, or else an alias, takes and gives.
     pub(crate) fn profile(&self, symbol: &str) -> Option<Profile<'_>>
-        ensures takes { option_map (λ p. record { parameters = names_view p.parameters.now; arguments = sorts_view p.arguments.now }) result ≡ profile_of (signature_view self.now) symbol.now }
-        ensures gives { (ss : KoreSorts) → option_map (λ p. at_arguments (names_view p.parameters.now) ss (sort_view p.result_sort.now)) result ≡ result_sort (signature_view self.now) symbol.now ss }
+        ensures takes { let g = signature_view self.now in option_map (λ p. record { parameters = names_view p.parameters.now; arguments = sorts_view p.arguments.now }) result ≡ profile_of g symbol.now }
+        ensures gives { (ss : KoreSorts) → let g = signature_view self.now in option_map (λ p. at_arguments (names_view p.parameters.now) ss (sort_view p.result_sort.now)) result ≡ result_sort g symbol.now ss }
     {
         match self.symbol(symbol) {
             Some(declaration) => Some(Profile {
@@ -105,8 +105,8 @@ impl Signature {
 
     /// What an alias takes and gives.
     fn alias_profile(&self, symbol: &str) -> Option<Profile<'_>>
-        ensures takes { symbol_declared (signature_view self.now) symbol.now ≡ None → option_map (λ p. record { parameters = names_view p.parameters.now; arguments = sorts_view p.arguments.now }) result ≡ profile_of (signature_view self.now) symbol.now }
-        ensures gives { (ss : KoreSorts) → symbol_declared (signature_view self.now) symbol.now ≡ None → option_map (λ p. at_arguments (names_view p.parameters.now) ss (sort_view p.result_sort.now)) result ≡ result_sort (signature_view self.now) symbol.now ss }
+        ensures takes { let g = signature_view self.now in symbol_declared g symbol.now ≡ None → option_map (λ p. record { parameters = names_view p.parameters.now; arguments = sorts_view p.arguments.now }) result ≡ profile_of g symbol.now }
+        ensures gives { (ss : KoreSorts) → let g = signature_view self.now in symbol_declared g symbol.now ≡ None → option_map (λ p. at_arguments (names_view p.parameters.now) ss (sort_view p.result_sort.now)) result ≡ result_sort g symbol.now ss }
     {
         match self.alias(symbol) {
             Some(declaration) => Some(Profile {
@@ -126,8 +126,8 @@ fn check_injection(
     symbol: &Name,
     sorts: &[Sort],
 ) -> Result<(), VerifyError>
-    ensures ok { OnOk result ((ps : KorePatterns) → injection_fault (signature_view signature.now) (application (string_bytes symbol.now) (sorts_view sorts.now) ps) ≡ None) }
-    ensures err { IfErr result (λ e. (f : VerifyFault) → (ps : KorePatterns) → fault_view e ≡ Some f → injection_fault (signature_view signature.now) (application (string_bytes symbol.now) (sorts_view sorts.now) ps) ≡ Some f) }
+    ensures ok { let g = signature_view signature.now in OnOk result ((ps : KorePatterns) → injection_fault g (application (string_bytes symbol.now) (sorts_view sorts.now) ps) ≡ None) }
+    ensures err { let g = signature_view signature.now in let sorts' = sorts_view sorts.now in IfErr result (λ e. (f : VerifyFault) → (ps : KorePatterns) → fault_view e ≡ Some f → injection_fault g (application (string_bytes symbol.now) sorts' ps) ≡ Some f) }
 {
     if sorts.len() != 2 {
         return Ok(());
@@ -143,8 +143,8 @@ fn check_upwards(
     lower: &Sort,
     upper: &Sort,
 ) -> Result<(), VerifyError>
-    ensures ok { OnOk result ((ps : KorePatterns) → injection_fault (signature_view signature.now) (application (string_bytes symbol.now) (two_sorts (sort_view lower.now) (sort_view upper.now)) ps) ≡ None) }
-    ensures err { IfErr result (λ e. (f : VerifyFault) → (ps : KorePatterns) → fault_view e ≡ Some f → injection_fault (signature_view signature.now) (application (string_bytes symbol.now) (two_sorts (sort_view lower.now) (sort_view upper.now)) ps) ≡ Some f) }
+    ensures ok { let g = signature_view signature.now in let lower' = sort_view lower.now in let upper' = sort_view upper.now in OnOk result ((ps : KorePatterns) → injection_fault g (application (string_bytes symbol.now) (two_sorts lower' upper') ps) ≡ None) }
+    ensures err { let g = signature_view signature.now in let lower' = sort_view lower.now in let upper' = sort_view upper.now in IfErr result (λ e. (f : VerifyFault) → (ps : KorePatterns) → fault_view e ≡ Some f → injection_fault g (application (string_bytes symbol.now) (two_sorts lower' upper') ps) ≡ Some f) }
 {
     if !signature.injects(symbol) {
         return Ok(());

@@ -9,8 +9,9 @@ use crate::attributes::has_mark;
 use crate::hooked::{first_hooked, other_than};
 use crate::kinds::is_named;
 use crate::symbols::is_constructor;
-use crate::table::{Subsort, Table};
+use crate::table::Table;
 use kp_kore::{AliasSentence, Module, Name, Sort, SortSentence, SymbolSentence};
+use kp_subsorts::Subsort;
 use kp_subsorts::order::SortOrder;
 use std::alloc::{AllocError, Global};
 

@@ -27,8 +27,8 @@ pub fn check_literal(
     sort: &Sort,
     text: &Name,
 ) -> Result<(), VerifyError>
-    ensures ok { OnOk result (literal_node_fault (signature_view signature.now) (option_map (λ s. sort_view s.now) wanted.entry) depth (sort_view sort.now) (string_bytes text.now) ≡ None) }
-    ensures err { IfErr result (λ e. (f : VerifyFault) → fault_view e ≡ Some f → literal_node_fault (signature_view signature.now) (option_map (λ s. sort_view s.now) wanted.entry) depth (sort_view sort.now) (string_bytes text.now) ≡ Some f) }
+    ensures ok { let g = signature_view signature.now in let sort' = sort_view sort.now in OnOk result (literal_node_fault g (option_map (λ s. sort_view s.now) wanted.entry) depth sort' (string_bytes text.now) ≡ None) }
+    ensures err { let g = signature_view signature.now in let sort' = sort_view sort.now in IfErr result (λ e. (f : VerifyFault) → fault_view e ≡ Some f → literal_node_fault g (option_map (λ s. sort_view s.now) wanted.entry) depth sort' (string_bytes text.now) ≡ Some f) }
 {
     check_known(alloc, signature, sort)?;
     check_sort(alloc, wanted, sort)?;
@@ -40,7 +40,7 @@ pub fn check_literal(
 /// Whether a literal is spelled as its sort asks.
 fn check_spelling(signature: &Signature, sort: &Sort, text: &Name) -> Result<(), VerifyError>
     ensures ok { OnOk result (literal_fault (signature_view signature.now) (literal (sort_view sort.now) (string_bytes text.now)) ≡ None) }
-    ensures err { IfErr result (λ e. (f : VerifyFault) → fault_view e ≡ Some f → literal_fault (signature_view signature.now) (literal (sort_view sort.now) (string_bytes text.now)) ≡ Some f) }
+    ensures err { let g = signature_view signature.now in let sort' = sort_view sort.now in IfErr result (λ e. (f : VerifyFault) → fault_view e ≡ Some f → literal_fault g (literal sort' (string_bytes text.now)) ≡ Some f) }
 {
     if is_literal_of(signature, sort, text.as_str()) {
         return Ok(());
@@ -65,8 +65,8 @@ fn is_literal_of(signature: &Signature, sort: &Sort, text: &str) -> bool
 
 /// Whether a numeral's number fits in 128 bits.
 fn check_width(signature: &Signature, sort: &Sort, text: &Name) -> Result<(), VerifyError>
-    ensures ok { OnOk result (literal_fault (signature_view signature.now) (literal (sort_view sort.now) (string_bytes text.now)) ≡ None → width_fault (signature_view signature.now) (literal (sort_view sort.now) (string_bytes text.now)) ≡ None) }
-    ensures err { IfErr result (λ e. (f : VerifyFault) → literal_fault (signature_view signature.now) (literal (sort_view sort.now) (string_bytes text.now)) ≡ None → fault_view e ≡ Some f → width_fault (signature_view signature.now) (literal (sort_view sort.now) (string_bytes text.now)) ≡ Some f) }
+    ensures ok { let the_literal = literal (sort_view sort.now) (string_bytes text.now) in let g = signature_view signature.now in OnOk result (literal_fault g the_literal ≡ None → width_fault g the_literal ≡ None) }
+    ensures err { let the_literal = literal (sort_view sort.now) (string_bytes text.now) in let g = signature_view signature.now in IfErr result (λ e. (f : VerifyFault) → literal_fault g the_literal ≡ None → fault_view e ≡ Some f → width_fault g the_literal ≡ Some f) }
 {
     if !signature.is_integer_sort(sort) {
         return Ok(());

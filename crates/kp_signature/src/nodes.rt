@@ -37,7 +37,7 @@ pub fn check_all_known(
 /// V1 of one sort.
 pub fn check_known(alloc: Global, signature: &Signature, sort: &Sort) -> Result<(), VerifyError>
     ensures ok { OnOk result (sorts_fault (signature_view signature.now) (one_sort (sort_view sort.now)) ≡ None) }
-    ensures err { IfErr result (λ e. (f : VerifyFault) → fault_view e ≡ Some f → sorts_fault (signature_view signature.now) (one_sort (sort_view sort.now)) ≡ Some f) }
+    ensures err { let g = signature_view signature.now in IfErr result (λ e. (f : VerifyFault) → fault_view e ≡ Some f → sorts_fault g (one_sort (sort_view sort.now)) ≡ Some f) }
 {
     match signature.unknown_sort(sort) {
         Some(unknown) => Err(VerifyError::UnknownSort {
@@ -55,7 +55,7 @@ pub fn check_two_known(
     second: &Sort,
 ) -> Result<(), VerifyError>
     ensures ok { OnOk result (sorts_fault (signature_view signature.now) (two_sorts (sort_view first.now) (sort_view second.now)) ≡ None) }
-    ensures err { IfErr result (λ e. (f : VerifyFault) → fault_view e ≡ Some f → sorts_fault (signature_view signature.now) (two_sorts (sort_view first.now) (sort_view second.now)) ≡ Some f) }
+    ensures err { let g = signature_view signature.now in let first' = sort_view first.now in IfErr result (λ e. (f : VerifyFault) → fault_view e ≡ Some f → sorts_fault g (two_sorts first' (sort_view second.now)) ≡ Some f) }
 {
     check_known(alloc, signature, first)?;
     Ok(check_known(alloc, signature, second)?)
@@ -69,7 +69,7 @@ pub fn check_own(
     own: &Sort,
 ) -> Result<(), VerifyError>
     ensures ok { OnOk result (own_fault (option_map (λ s. sort_view s.now) wanted.entry) depth (sort_view own.now) ≡ None) }
-    ensures err { IfErr result (λ e. (f : VerifyFault) → fault_view e ≡ Some f → own_fault (option_map (λ s. sort_view s.now) wanted.entry) depth (sort_view own.now) ≡ Some f) }
+    ensures err { let own' = sort_view own.now in IfErr result (λ e. (f : VerifyFault) → fault_view e ≡ Some f → own_fault (option_map (λ s. sort_view s.now) wanted.entry) depth own' ≡ Some f) }
 {
     check_sort(alloc, wanted, own)?;
     Ok(check_depth(depth)?)
@@ -83,8 +83,8 @@ pub fn check_form(
     depth: usize,
     sort: &Sort,
 ) -> Result<(), VerifyError>
-    ensures ok { OnOk result (form_fault (signature_view signature.now) (option_map (λ s. sort_view s.now) wanted.entry) depth (one_sort (sort_view sort.now)) (sort_view sort.now) ≡ None) }
-    ensures err { IfErr result (λ e. (f : VerifyFault) → fault_view e ≡ Some f → form_fault (signature_view signature.now) (option_map (λ s. sort_view s.now) wanted.entry) depth (one_sort (sort_view sort.now)) (sort_view sort.now) ≡ Some f) }
+    ensures ok { let g = signature_view signature.now in let sort' = sort_view sort.now in OnOk result (form_fault g (option_map (λ s. sort_view s.now) wanted.entry) depth (one_sort sort') sort' ≡ None) }
+    ensures err { let g = signature_view signature.now in let sort' = sort_view sort.now in IfErr result (λ e. (f : VerifyFault) → fault_view e ≡ Some f → form_fault g (option_map (λ s. sort_view s.now) wanted.entry) depth (one_sort sort') sort' ≡ Some f) }
 {
     check_known(alloc, signature, sort)?;
     Ok(check_own(alloc, wanted, depth, sort)?)
@@ -99,8 +99,8 @@ pub fn check_form_of_part(
     part: &Sort,
     sort: &Sort,
 ) -> Result<(), VerifyError>
-    ensures ok { OnOk result (form_fault (signature_view signature.now) (option_map (λ s. sort_view s.now) wanted.entry) depth (two_sorts (sort_view part.now) (sort_view sort.now)) (sort_view sort.now) ≡ None) }
-    ensures err { IfErr result (λ e. (f : VerifyFault) → fault_view e ≡ Some f → form_fault (signature_view signature.now) (option_map (λ s. sort_view s.now) wanted.entry) depth (two_sorts (sort_view part.now) (sort_view sort.now)) (sort_view sort.now) ≡ Some f) }
+    ensures ok { let g = signature_view signature.now in let part' = sort_view part.now in let sort' = sort_view sort.now in OnOk result (form_fault g (option_map (λ s. sort_view s.now) wanted.entry) depth (two_sorts part' sort') sort' ≡ None) }
+    ensures err { let g = signature_view signature.now in let part' = sort_view part.now in let sort' = sort_view sort.now in IfErr result (λ e. (f : VerifyFault) → fault_view e ≡ Some f → form_fault g (option_map (λ s. sort_view s.now) wanted.entry) depth (two_sorts part' sort') sort' ≡ Some f) }
 {
     check_two_known(alloc, signature, part, sort)?;
     Ok(check_own(alloc, wanted, depth, sort)?)
@@ -115,8 +115,8 @@ pub fn check_binder(
     sort: &Sort,
     variable: &Sort,
 ) -> Result<(), VerifyError>
-    ensures ok { OnOk result (form_fault (signature_view signature.now) (option_map (λ s. sort_view s.now) wanted.entry) depth (two_sorts (sort_view sort.now) (sort_view variable.now)) (sort_view sort.now) ≡ None) }
-    ensures err { IfErr result (λ e. (f : VerifyFault) → fault_view e ≡ Some f → form_fault (signature_view signature.now) (option_map (λ s. sort_view s.now) wanted.entry) depth (two_sorts (sort_view sort.now) (sort_view variable.now)) (sort_view sort.now) ≡ Some f) }
+    ensures ok { let g = signature_view signature.now in let sort' = sort_view sort.now in OnOk result (form_fault g (option_map (λ s. sort_view s.now) wanted.entry) depth (two_sorts sort' (sort_view variable.now)) sort' ≡ None) }
+    ensures err { let g = signature_view signature.now in let sort' = sort_view sort.now in let variable' = sort_view variable.now in IfErr result (λ e. (f : VerifyFault) → fault_view e ≡ Some f → form_fault g (option_map (λ s. sort_view s.now) wanted.entry) depth (two_sorts sort' variable') sort' ≡ Some f) }
 {
     check_two_known(alloc, signature, sort, variable)?;
     Ok(check_own(alloc, wanted, depth, sort)?)
@@ -129,8 +129,8 @@ pub fn check_text(
     wanted: Option<&Sort>,
     depth: usize,
 ) -> Result<(), VerifyError>
-    ensures ok { OnOk result (form_fault (signature_view signature.now) (option_map (λ s. sort_view s.now) wanted.entry) depth (one_sort text_sort) text_sort ≡ None) }
-    ensures err { IfErr result (λ e. (f : VerifyFault) → fault_view e ≡ Some f → form_fault (signature_view signature.now) (option_map (λ s. sort_view s.now) wanted.entry) depth (one_sort text_sort) text_sort ≡ Some f) }
+    ensures ok { let g = signature_view signature.now in OnOk result (form_fault g (option_map (λ s. sort_view s.now) wanted.entry) depth (one_sort text_sort) text_sort ≡ None) }
+    ensures err { let g = signature_view signature.now in IfErr result (λ e. (f : VerifyFault) → fault_view e ≡ Some f → form_fault g (option_map (λ s. sort_view s.now) wanted.entry) depth (one_sort text_sort) text_sort ≡ Some f) }
 {
     let sort = sort_of_texts(alloc)?;
     Ok(check_form(alloc, signature, wanted, depth, &sort)?)
@@ -157,8 +157,8 @@ pub fn check_variable(
     sort: &Sort,
 ) -> Result<(), VerifyError>
     ensures known { OnOk result ((s : List SortedName) → Knows s scope.old → Knows (s ++ record { name = string_bytes name.now; sort = sort_view sort.now } ∷ []) scope.new) }
-    ensures ok { OnOk result ((s : List SortedName) → Knows s scope.old → variable_node_fault (signature_view signature.now) (option_map (λ s. sort_view s.now) wanted.entry) depth s (string_bytes name.now) (sort_view sort.now) ≡ None) }
-    ensures err { IfErr result (λ e. (f : VerifyFault) → (s : List SortedName) → Knows s scope.old → fault_view e ≡ Some f → variable_node_fault (signature_view signature.now) (option_map (λ s. sort_view s.now) wanted.entry) depth s (string_bytes name.now) (sort_view sort.now) ≡ Some f) }
+    ensures ok { let g = signature_view signature.now in let sort' = sort_view sort.now in OnOk result ((s : List SortedName) → Knows s scope.old → variable_node_fault g (option_map (λ s. sort_view s.now) wanted.entry) depth s (string_bytes name.now) sort' ≡ None) }
+    ensures err { let g = signature_view signature.now in let sort' = sort_view sort.now in IfErr result (λ e. (f : VerifyFault) → (s : List SortedName) → Knows s scope.old → fault_view e ≡ Some f → variable_node_fault g (option_map (λ s. sort_view s.now) wanted.entry) depth s (string_bytes name.now) sort' ≡ Some f) }
 {
     check_known(alloc, signature, sort)?;
     check_sort(alloc, wanted, sort)?;

@@ -16,7 +16,7 @@ use std::alloc::Global;
 /// V4: the sort that is found is the one that is expected, where one is.
 pub fn check_sort(alloc: Global, expected: Option<&Sort>, found: &Sort) -> Result<(), VerifyError>
     ensures ok { OnOk result (difference (option_map (λ s. sort_view s.now) expected.entry) (Some (sort_view found.now)) ≡ None) }
-    ensures err { IfErr result (λ e. (f : VerifyFault) → fault_view e ≡ Some f → difference (option_map (λ s. sort_view s.now) expected.entry) (Some (sort_view found.now)) ≡ Some f) }
+    ensures err { let found' = sort_view found.now in IfErr result (λ e. (f : VerifyFault) → fault_view e ≡ Some f → difference (option_map (λ s. sort_view s.now) expected.entry) (Some found') ≡ Some f) }
 {
     match expected {
         Some(sort) => check_same(alloc, sort, found),

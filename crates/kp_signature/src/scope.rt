@@ -27,7 +27,7 @@ pub fn meet_variable(
 ) -> Result<(), VerifyError>
     ensures known { OnOk result ((s : List SortedName) → Knows s scope.old → Knows (s ++ record { name = string_bytes name.now; sort = sort_view sort.now } ∷ []) scope.new) }
     ensures ok { OnOk result ((s : List SortedName) → Knows s scope.old → variable_fault s (variable (string_bytes name.now) (sort_view sort.now)) ≡ None) }
-    ensures err { IfErr result (λ e. (f : VerifyFault) → (s : List SortedName) → Knows s scope.old → fault_view e ≡ Some f → variable_fault s (variable (string_bytes name.now) (sort_view sort.now)) ≡ Some f) }
+    ensures err { let sort' = sort_view sort.now in let the_variable = variable (string_bytes name.now) sort' in IfErr result (λ e. (f : VerifyFault) → (s : List SortedName) → Knows s scope.old → fault_view e ≡ Some f → variable_fault s the_variable ≡ Some f) }
 {
     match scope.get(name.as_str()) {
         Some(first) => check_same(alloc, first, sort),
@@ -67,7 +67,7 @@ pub fn unbind_variable(
     name: &Name,
     hidden: Option<Sort>,
 ) -> Result<(), AllocError>
-    ensures { OnOk result ((s found : List SortedName) (t : KoreSort) → Knows (record { name = string_bytes name.now; sort = t } ∷ (s ++ found)) scope.old → option_map sort_view hidden ≡ sort_in_scope (string_bytes name.now) s → Knows (s ++ without_name (string_bytes name.now) found) scope.new) }
+    ensures { let the_string_bytes = string_bytes name.now in OnOk result ((s found : List SortedName) (t : KoreSort) → Knows (record { name = string_bytes name.now; sort = t } ∷ (s ++ found)) scope.old → option_map sort_view hidden ≡ sort_in_scope the_string_bytes s → Knows (s ++ without_name the_string_bytes found) scope.new) }
 {
     match hidden {
         Some(sort) => {

@@ -1,24 +1,24 @@
 ghost use Rattle.std.specs.Prelude.{◌≡◌, map, string_bytes};
 ghost use Rattle.std.specs.Option.{option_map};
 ghost use Rattle.std.proofs.Props.{props};
-ghost use Rattle.kp_signature.specs.Alone.{numbers_stand_alone, truths_stand_alone};
+ghost use Rattle.kp_kore.specs.Signature.{symbol_meaning};
+ghost use Rattle.kp_signature.specs.Meanings.{meaning_view};
 ghost use Rattle.kp_signature.specs.Table.{table_view};
 
-use crate::declarations::Declarations;
+use crate::kinds::Kinds;
+use crate::meaning::Meaning;
+use crate::meanings::meanings;
 use kp_kore::{AliasSentence, Module, Name, Sort, SortSentence, SymbolSentence};
 use kp_subsorts::Subsort;
 use kp_subsorts::order::SortOrder;
 use std::alloc::{AllocError, Global};
 
-/// The signature of a definition: what the sentences of its modules declare, and whether the sorts of whole numbers and
-/// of truth values have these values alone.
+/// The signature of a definition: what the sentences of its modules declare, and what each declared symbol means.
 #[derive(Drop)]
 pub struct Signature {
-    pub(crate) declarations: Declarations,
-    pub(crate) numbers_alone: bool,
-    pub(crate) truths_alone: bool,
-    ghost numbers_told: { numbers_alone ≡ numbers_stand_alone (table_view declarations.table) } by { Prim.hlevel props },
-    ghost truths_told: { truths_alone ≡ truths_stand_alone (table_view declarations.table) } by { Prim.hlevel props },
+    pub(crate) kinds: Kinds,
+    pub(crate) meanings: Vec<Meaning>,
+    ghost meanings_told: { map meaning_view meanings.items ≡ map (symbol_meaning (table_view kinds.declarations.table)) (table_view kinds.declarations.table).symbols } by { Prim.hlevel props },
 }
 
 impl Signature {
@@ -38,49 +38,54 @@ impl Signature {
     pub fn new(alloc: Global, modules: &[&Module]) -> Result<Signature, AllocError>
         ensures { IfOk result (λ g. signature_view g ≡ signature_of (sentences_of modules.now)) }
     {
-        let declarations = Declarations::new(alloc, modules)?;
-        let numbers_alone = declarations.numbers_stand_alone(alloc)?;
-        let truths_alone = declarations.truths_stand_alone(alloc)?;
-        Ok(Signature {
-            declarations,
-            numbers_alone,
-            truths_alone,
-        })
+        let kinds = Kinds::new(alloc, modules)?;
+        let meanings = meanings(alloc, &kinds)?;
+        Ok(Signature { kinds, meanings })
     }
 
     /// The first declaration of a sort of this name.
     pub fn sort_named(&self, name: &str) -> Option<&SortSentence>
         ensures { option_map (λ d. sort_sentence_view d.now) result ≡ find (λ d. bytes_eq d.name name.now) (signature_view self.now).sorts }
     {
-        self.declarations.sort_named(name)
+        self.kinds.declarations.sort_named(name)
     }
 
     /// The first declaration of a symbol of this name.
     pub fn symbol(&self, name: &str) -> Option<&SymbolSentence>
         ensures { option_map (λ d. symbol_sentence_view d.now) result ≡ symbol_declared (signature_view self.now) name.now }
     {
-        self.declarations.symbol(name)
+        self.kinds.declarations.symbol(name)
+    }
+
+    /// What the first declaration of a symbol of this name means.
+    pub(crate) fn meaning(&self, name: &str) -> Option<&Meaning>
+        ensures { let g = signature_view self.now in option_map (λ m. meaning_view m.now) result ≡ option_map (symbol_meaning g) (symbol_declared g name.now) }
+    {
+        match self.kinds.declarations.table.symbol_places.get(name) {
+            Some(place) => self.meanings.get(*place),
+            None => None,
+        }
     }
 
     /// The first declaration of an alias of this name.
     pub fn alias(&self, name: &str) -> Option<&AliasSentence>
         ensures { option_map (λ d. alias_sentence_view d.now) result ≡ alias_declared (signature_view self.now) name.now }
     {
-        self.declarations.alias(name)
+        self.kinds.declarations.alias(name)
     }
 
     /// The declarations of symbols, in order.
     pub fn symbols(&self) -> &[SymbolSentence]
         ensures { map symbol_sentence_view result.now ≡ (signature_view self.now).symbols }
     {
-        self.declarations.symbols()
+        self.kinds.declarations.symbols()
     }
 
     /// The name of the sort of whole numbers, the first hooked sort with `INT.Int`.
     pub fn integer_sort(&self) -> Option<&Name>
         ensures { option_map (λ n. sort_of (string_bytes n.now) no_sorts) result ≡ integer_sort (signature_view self.now) }
     {
-        self.declarations.integer_sort()
+        self.kinds.declarations.integer_sort()
     }
 
     /// The name of the sort of truth values, the first hooked sort with `BOOL.Bool`, if it isn't that of whole
@@ -88,14 +93,14 @@ impl Signature {
     pub fn boolean_sort(&self) -> Option<&Name>
         ensures { option_map (λ n. sort_of (string_bytes n.now) no_sorts) result ≡ boolean_sort (signature_view self.now) }
     {
-        self.declarations.boolean_sort()
+        self.kinds.declarations.boolean_sort()
     }
 
     /// The pairs of sorts that the attributes `subsort{A,B}()` give, in order.
     pub fn subsorts(&self) -> &[Subsort]
         ensures { map subsort_view result.now ≡ (signature_view self.now).subsorts }
     {
-        self.declarations.subsorts()
+        self.kinds.declarations.subsorts()
     }
 
     /// Whether a sort and all sorts in it are declared, with as many arguments as they take.
@@ -150,7 +155,7 @@ impl Signature {
     pub fn order(&self) -> &SortOrder
         ensures { IsOrderOf (signature_view self.now).subsorts result.now }
     {
-        self.declarations.order()
+        self.kinds.declarations.order()
     }
 
     /// Whether a sort is another or lies below it, by the pairs that the attributes `subsort{A,B}()` give. Takes no
@@ -158,6 +163,6 @@ impl Signature {
     pub fn subsort(&self, lower: &Sort, upper: &Sort) -> bool
         ensures { IsTrue result ↔ IsBelow (signature_view self.now).subsorts (sort_view lower.now) (sort_view upper.now) }
     {
-        self.declarations.subsort(lower, upper)
+        self.kinds.declarations.subsort(lower, upper)
     }
 }

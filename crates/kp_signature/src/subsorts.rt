@@ -31,7 +31,7 @@ fn sorts_marked<'a>(
     sorts: &'a [Sort],
     arguments: &[Pattern],
 ) -> Option<(&'a Sort, &'a Sort)>
-    ensures { option_map (λ p. (sort_view p.0.now, sort_view p.1.now)) result ≡ marked_sorts (codes "subsort") (application symbol.now (sorts_view sorts.now) (patterns_view arguments.now)) }
+    ensures { let sorts' = sorts_view sorts.now in let arguments' = patterns_view arguments.now in option_map (λ p. (sort_view p.0.now, sort_view p.1.now)) result ≡ marked_sorts (codes "subsort") (application symbol.now sorts' arguments') }
 {
     if symbol == "subsort" && sorts.len() == 2 && arguments.len() == 0 {
         Some((&sorts[0], &sorts[1]))
@@ -60,7 +60,7 @@ fn add_subsort(
     alloc: Global,
     attribute: &Pattern,
 ) -> Result<(), AllocError>
-    ensures { OnOk result (map subsort_view subsorts.new.items ≡ map subsort_view subsorts.old.items ++ subsorts_among (next_pattern (view attribute.now) no_patterns)) }
+    ensures { let attribute' = view attribute.now in OnOk result (map subsort_view subsorts.new.items ≡ map subsort_view subsorts.old.items ++ subsorts_among (next_pattern attribute' no_patterns)) }
 {
     match subsort_of(attribute) {
         Some((lower, upper)) => {

@@ -68,7 +68,7 @@ fn goes_across(parameters: &[Name], arguments: &[Sort], result_sort: &Sort) -> b
 
 /// Whether the argument is the first of two different parameters, and the result the second.
 fn goes_between(first: &Name, second: &Name, argument: &Sort, result_sort: &Sort) -> bool
-    ensures { result ≡ (parameter_test (string_bytes first.now) (sort_view argument.now) && parameter_test (string_bytes second.now) (sort_view result_sort.now) && not (bytes_eq (string_bytes first.now) (string_bytes second.now))) }
+    ensures { let the_string_bytes = string_bytes second.now in let argument' = sort_view argument.now in let result_sort' = sort_view result_sort.now in let the_bytes_eq = bytes_eq (string_bytes first.now) the_string_bytes in result ≡ (parameter_test (string_bytes first.now) argument' && parameter_test the_string_bytes result_sort' && not the_bytes_eq) }
 {
     is_parameter(argument, first) && is_parameter(result_sort, second) && first != second
 }

@@ -30,8 +30,8 @@ fn verify_at(
     scope: &mut Scope,
 ) -> Result<(), VerifyError>
     ensures known { OnOk result ((s : List SortedName) → Knows s scope.old → Knows (s ++ free_variables (view pattern.now)) scope.new) }
-    ensures ok { OnOk result ((s : List SortedName) → Knows s scope.old → first_fault (signature_view signature.now) (place_of wanted.entry depth s) (view pattern.now) ≡ None) }
-    ensures err { IfErr result (λ e. (f : VerifyFault) → (s : List SortedName) → Knows s scope.old → fault_view e ≡ Some f → first_fault (signature_view signature.now) (place_of wanted.entry depth s) (view pattern.now) ≡ Some f) }
+    ensures ok { let g = signature_view signature.now in OnOk result ((s : List SortedName) → Knows s scope.old → first_fault g (place_of wanted.entry depth s) (view pattern.now) ≡ None) }
+    ensures err { let g = signature_view signature.now in let pattern' = view pattern.now in IfErr result (λ e. (f : VerifyFault) → (s : List SortedName) → Knows s scope.old → fault_view e ≡ Some f → first_fault g (place_of wanted.entry depth s) pattern' ≡ Some f) }
 {
     match pattern {
         Pattern::Variable { name, sort } => {
@@ -137,9 +137,9 @@ fn verify_arguments(
     depth: usize,
     scope: &mut Scope,
 ) -> Result<(), VerifyError>
-    ensures known { OnOk result (length places.now ≡ length arguments.now → (s : List SortedName) → Knows s scope.old → Knows (s ++ all_free_variables (patterns_view arguments.now)) scope.new) }
-    ensures ok { OnOk result ((c : Place) → c.depth + 1 ≡ depth → Knows c.scope scope.old → arguments_fault (signature_view signature.now) c (sorts_view places.now) (patterns_view arguments.now) ≡ None) }
-    ensures err { IfErr result (λ e. (f : VerifyFault) → (c : Place) → c.depth + 1 ≡ depth → Knows c.scope scope.old → fault_view e ≡ Some f → arguments_fault (signature_view signature.now) c (sorts_view places.now) (patterns_view arguments.now) ≡ Some f) }
+    ensures known { let arguments' = patterns_view arguments.now in OnOk result (length places.now ≡ length arguments.now → (s : List SortedName) → Knows s scope.old → Knows (s ++ all_free_variables arguments') scope.new) }
+    ensures ok { let g = signature_view signature.now in let places' = sorts_view places.now in OnOk result ((c : Place) → c.depth + 1 ≡ depth → Knows c.scope scope.old → arguments_fault g c places' (patterns_view arguments.now) ≡ None) }
+    ensures err { let g = signature_view signature.now in let places' = sorts_view places.now in let arguments' = patterns_view arguments.now in IfErr result (λ e. (f : VerifyFault) → (c : Place) → c.depth + 1 ≡ depth → Knows c.scope scope.old → fault_view e ≡ Some f → arguments_fault g c places' arguments' ≡ Some f) }
 {
     for (i, argument) in arguments.iter().enumerate() {
         if i >= places.len() {
@@ -160,8 +160,8 @@ fn verify_members(
     scope: &mut Scope,
 ) -> Result<(), VerifyError>
     ensures known { OnOk result ((s : List SortedName) → Knows s scope.old → Knows (s ++ all_free_variables (patterns_view members.now)) scope.new) }
-    ensures ok { OnOk result ((s : List SortedName) → Knows s scope.old → members_fault (signature_view signature.now) (part_place (sort_view sort.now) s) (patterns_view members.now) ≡ None) }
-    ensures err { IfErr result (λ e. (f : VerifyFault) → (s : List SortedName) → Knows s scope.old → fault_view e ≡ Some f → members_fault (signature_view signature.now) (part_place (sort_view sort.now) s) (patterns_view members.now) ≡ Some f) }
+    ensures ok { let g = signature_view signature.now in let sort' = sort_view sort.now in OnOk result ((s : List SortedName) → Knows s scope.old → members_fault g (part_place sort' s) (patterns_view members.now) ≡ None) }
+    ensures err { let g = signature_view signature.now in let sort' = sort_view sort.now in let members' = patterns_view members.now in IfErr result (λ e. (f : VerifyFault) → (s : List SortedName) → Knows s scope.old → fault_view e ≡ Some f → members_fault g (part_place sort' s) members' ≡ Some f) }
 {
     for member in members {
         verify_at(member, alloc, signature, Some(sort), 1, scope)?;

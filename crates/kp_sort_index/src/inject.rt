@@ -8,9 +8,8 @@ ghost use Rattle.kp_semantics.specs.Foreign.{InjectionsSplit};
 ghost use Rattle.kp_sort_index.specs.Index.{IsIndexOf, is_variable, is_one_variable};
 
 use crate::sort_index::SortIndex;
-use kp_compile::{Meaning, meaning_of};
 use kp_kore::{Name, Pattern, Sort};
-use kp_signature::Signature;
+use kp_signature::{Meaning, Signature, meaning_of};
 use std::alloc::{AllocError, Global};
 
 /// Whether the pattern isn't a variable under `inj`, or is one whose value's heads have sorts of their own.
@@ -21,7 +20,7 @@ pub fn is_split(
     pattern: &Pattern,
 ) -> Result<bool, AllocError>
     requires { IsIndexOf (signature_view signature.now) index.now }
-    ensures { IfOk result (λ b. MatchBool b (InjectionsSplit (signature_view signature.now) (view pattern.now)) (¬ InjectionsSplit (signature_view signature.now) (view pattern.now))) }
+    ensures { let g = signature_view signature.now in IfOk result (λ b. MatchBool b (InjectionsSplit g (view pattern.now)) (¬ InjectionsSplit g (view pattern.now))) }
 {
     match pattern {
         Pattern::Application {
@@ -43,7 +42,7 @@ fn applied_is_split(
     arguments: &[Pattern],
 ) -> Result<bool, AllocError>
     requires { IsIndexOf (signature_view signature.now) index.now }
-    ensures { IfOk result (λ b. MatchBool b (InjectionsSplit (signature_view signature.now) (application (string_bytes symbol.now) (sorts_view sorts.now) (patterns_view arguments.now))) (¬ InjectionsSplit (signature_view signature.now) (application (string_bytes symbol.now) (sorts_view sorts.now) (patterns_view arguments.now)))) }
+    ensures { let the_application = application (string_bytes symbol.now) (sorts_view sorts.now) (patterns_view arguments.now) in let g = signature_view signature.now in IfOk result (λ b. MatchBool b (InjectionsSplit g the_application) (¬ InjectionsSplit g the_application)) }
 {
     if !is_injection(signature, symbol) {
         return Ok(true);

@@ -8,9 +8,8 @@ ghost use Rattle.kp_subsorts.specs.Order.{IsOrderOf, sorts_of};
 ghost use Rattle.kp_signature.specs.View.{signature_view};
 ghost use Rattle.kp_sort_index.specs.Index.{AreMarked, constructed_sort};
 
-use kp_compile::{Meaning, meaning_of};
 use kp_kore::{Name, Sort, SymbolSentence};
-use kp_signature::Signature;
+use kp_signature::{Meaning, Signature, meaning_of};
 use kp_subsorts::order::SortOrder;
 use std::alloc::{AllocError, Global};
 
@@ -20,7 +19,7 @@ pub fn own_heads(
     signature: &Signature,
     order: &SortOrder,
 ) -> Result<Vec<bool>, AllocError>
-    ensures { IsOrderOf (signature_view signature.now).subsorts order.now → IfOk result (λ marks. AreMarked (signature_view signature.now) (signature_view signature.now).symbols (sorts_of order.now.graph) marks.items) }
+    ensures { let g = signature_view signature.now in IsOrderOf g.subsorts order.now → IfOk result (λ marks. AreMarked g g.symbols (sorts_of order.now.graph) marks.items) }
 {
     let mut marks = literal_marks(alloc, signature, &order.graph.numbering.sorts)?;
     mark_results(&mut marks, signature, order);
@@ -44,7 +43,7 @@ fn literal_marks(
 
 /// Marks the result sorts of constructors.
 fn mark_results(marks: &mut Vec<bool>, signature: &Signature, order: &SortOrder)
-    ensures { IsOrderOf (signature_view signature.now).subsorts order.now → AreMarked (signature_view signature.now) [] (sorts_of order.now.graph) marks.old.items → AreMarked (signature_view signature.now) (signature_view signature.now).symbols (sorts_of order.now.graph) marks.new.items }
+    ensures { let g = signature_view signature.now in let sorts = sorts_of order.now.graph in IsOrderOf g.subsorts order.now → AreMarked g [] sorts marks.old.items → AreMarked g g.symbols sorts marks.new.items }
 {
     for symbol in signature.symbols() {
         mark_result(marks, signature, order, symbol);
@@ -58,7 +57,7 @@ fn mark_result(
     order: &SortOrder,
     symbol: &SymbolSentence,
 )
-    ensures { (ds : List SymbolDeclaration) → IsOrderOf (signature_view signature.now).subsorts order.now → AreMarked (signature_view signature.now) ds (sorts_of order.now.graph) marks.old.items → AreMarked (signature_view signature.now) (ds ++ symbol_sentence_view symbol.now ∷ []) (sorts_of order.now.graph) marks.new.items }
+    ensures { (ds : List SymbolDeclaration) → let g = signature_view signature.now in let sorts = sorts_of order.now.graph in let the_ds = ds ++ symbol_sentence_view symbol.now ∷ [] in IsOrderOf g.subsorts order.now → AreMarked g ds sorts marks.old.items → AreMarked g the_ds sorts marks.new.items }
 {
     if let Some(sort) = constructed_sort(signature, &symbol.name) {
         mark(marks, order, sort);
@@ -67,7 +66,7 @@ fn mark_result(
 
 /// Marks the number of a sort, where it has one.
 fn mark(marks: &mut Vec<bool>, order: &SortOrder, sort: &Sort)
-    ensures { (g : KoreSignature) (ds : List SymbolDeclaration) (d : SymbolDeclaration) → constructed_sort g d.name ≡ Some (sort_view sort.now) → IsOrderOf g.subsorts order.now → AreMarked g ds (sorts_of order.now.graph) marks.old.items → AreMarked g (ds ++ d ∷ []) (sorts_of order.now.graph) marks.new.items }
+    ensures { (g : KoreSignature) (ds : List SymbolDeclaration) (d : SymbolDeclaration) → let sorts = sorts_of order.now.graph in let sort' = sort_view sort.now in constructed_sort g d.name ≡ Some sort' → IsOrderOf g.subsorts order.now → AreMarked g ds sorts marks.old.items → AreMarked g (ds ++ d ∷ []) sorts marks.new.items }
 {
     if let Some(number) = order.number_of(sort) {
         if number < marks.len() {

@@ -26,7 +26,7 @@ impl<'a> SortIndex<'a> {
         upper: &Sort,
     ) -> Result<bool, AllocError>
         requires { IsIndexOf (signature_view signature.now) self.now }
-        ensures { IfOk result (λ b. MatchBool b (SplitsByHeads (signature_view signature.now) (sort_view lower.now) (sort_view upper.now)) (¬ SplitsByHeads (signature_view signature.now) (sort_view lower.now) (sort_view upper.now))) }
+        ensures { let g = signature_view signature.now in let lower' = sort_view lower.now in IfOk result (λ b. MatchBool b (SplitsByHeads g lower' (sort_view upper.now)) (¬ SplitsByHeads g lower' (sort_view upper.now))) }
     {
         let Some(lower) = self.order.number_of(lower) else {
             return Ok(true);

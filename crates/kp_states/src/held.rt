@@ -32,7 +32,7 @@ pub fn is_held(
     levels: usize,
     wanted: &Wanted,
 ) -> bool
-    ensures { IsTrue result → (v : Valuation) → term_depth (spelling (signature_view signature.now) (sort_view sort.now) (left_value v (left_view left.now))) ≤ levels → term_depth (spelling (signature_view signature.now) (sort_view wanted.now.sort.now) (v wanted.now.name.now)) ≤ wanted.now.levels }
+    ensures { let g = signature_view signature.now in let sort' = sort_view sort.now in let left' = left_view left.now in let wanted_sort' = sort_view wanted.now.sort.now in IsTrue result → (v : Valuation) → term_depth (spelling g sort' (left_value v left')) ≤ levels → term_depth (spelling g wanted_sort' (v wanted.now.name.now)) ≤ wanted.now.levels }
 {
     match left {
         Left::Fixed { .. } => false,
@@ -64,7 +64,7 @@ fn is_held_among(
     levels: usize,
     wanted: &Wanted,
 ) -> bool
-    ensures { IsTrue result → (v : Valuation) → most_term_depth (spellings (signature_view signature.now) (sorts_view places.now) (left_values v (lefts_of (map left_view lefts.now)))) ≤ levels → term_depth (spelling (signature_view signature.now) (sort_view wanted.now.sort.now) (v wanted.now.name.now)) ≤ wanted.now.levels }
+    ensures { let g = signature_view signature.now in let places' = sorts_view places.now in let sort' = sort_view wanted.now.sort.now in IsTrue result → (v : Valuation) → most_term_depth (spellings g places' (left_values v (lefts_of (map left_view lefts.now)))) ≤ levels → term_depth (spelling g sort' (v wanted.now.name.now)) ≤ wanted.now.levels }
 {
     for i in 0..lefts.len().min(places.len()) {
         if is_held(&lefts[i], signature, &places[i], levels, wanted) {

@@ -37,7 +37,7 @@ pub fn is_right_within(
     sort: &Sort,
     levels: usize,
 ) -> bool
-    ensures { (v : Valuation) → IsMatchedUnder (signature_view signature.now) matched.now v → value_view value.now ≡ term_value v (term_view right.now) → IsTrue result ↔ (term_depth (spelling (signature_view signature.now) (sort_view sort.now) (value_view value.now)) ≤ levels) }
+    ensures { (v : Valuation) → let g = signature_view signature.now in let right' = term_view right.now in let sort' = sort_view sort.now in let value' = value_view value.now in IsMatchedUnder g matched.now v → value_view value.now ≡ term_value v right' → IsTrue result ↔ (term_depth (spelling g sort' value') ≤ levels) }
 {
     if is_term_within(right, signature, matched, sort, levels) {
         return true;
@@ -54,7 +54,7 @@ fn is_term_within(
     sort: &Sort,
     levels: usize,
 ) -> bool
-    ensures { IsTrue result → (v : Valuation) → IsMatchedUnder (signature_view signature.now) matched.now v → term_depth (spelling (signature_view signature.now) (sort_view sort.now) (term_value v (term_view term.now))) ≤ levels }
+    ensures { let g = signature_view signature.now in let sort' = sort_view sort.now in let term' = term_view term.now in IsTrue result → (v : Valuation) → IsMatchedUnder g matched.now v → term_depth (spelling g sort' (term_value v term')) ≤ levels }
 {
     match term {
         Term::Variable { name } => is_variable_within(name, signature, matched, sort, levels),
@@ -86,7 +86,7 @@ fn are_terms_within(
     places: &[Sort],
     levels: usize,
 ) -> bool
-    ensures { IsTrue result → (v : Valuation) → IsMatchedUnder (signature_view signature.now) matched.now v → most_term_depth (spellings (signature_view signature.now) (sorts_view places.now) (term_values v (terms_of (map term_view terms.now)))) ≤ levels }
+    ensures { let g = signature_view signature.now in let places' = sorts_view places.now in IsTrue result → (v : Valuation) → IsMatchedUnder g matched.now v → most_term_depth (spellings g places' (term_values v (terms_of (map term_view terms.now)))) ≤ levels }
 {
     for i in 0..terms.len().min(places.len()) {
         if !is_term_within(&terms[i], signature, matched, &places[i], levels) {
@@ -104,7 +104,7 @@ fn is_variable_within(
     sort: &Sort,
     levels: usize,
 ) -> bool
-    ensures { IsTrue result → (v : Valuation) → IsMatchedUnder (signature_view signature.now) matched.now v → term_depth (spelling (signature_view signature.now) (sort_view sort.now) (v name.now)) ≤ levels }
+    ensures { let g = signature_view signature.now in IsTrue result → (v : Valuation) → IsMatchedUnder g matched.now v → term_depth (spelling g (sort_view sort.now) (v name.now)) ≤ levels }
 {
     let wanted = Wanted { name, sort, levels };
     if is_held(

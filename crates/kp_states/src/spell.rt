@@ -17,10 +17,10 @@ ghost use Rattle.kp_states.specs.Spelled.{IsSpellingOf, spelling, spellings, bar
 
 use crate::error::SpellingError;
 use crate::own::own_sort;
-use kp_compile::{Meaning, meaning_of, subpatterns};
+use kp_compile::subpatterns;
 use kp_ground::Value;
 use kp_kore::{Name, Pattern, Sort};
-use kp_signature::Signature;
+use kp_signature::{Meaning, Signature, meaning_of};
 use std::alloc::{AllocError, Global};
 
 /// The normal spelling of a value at a sort: numbers without a plus sign or leading zeros, and one `inj` where the
@@ -34,8 +34,8 @@ pub fn spelled(
     ensures normal { IfOk result (λ p. view p ≡ spelling (signature_view signature.now) (sort_view sort.now) (value_view value.now)) }
     ensures written { IfOk result (λ p. IsTrue (none_within spec.is_other_form (view p))) }
     ensures no_injection { IfErr result (λ e. e ≡ NoInjection → ¬ (meaning_named (signature_view signature.now) spec.injection_name ≡ injection)) }
-    ensures injects { IfErr result (λ e. e ≡ NoInjection → none_within spec.has_two_sorts (spelling (signature_view signature.now) (sort_view sort.now) (value_view value.now)) ≡ false) }
-    ensures meant { model.HasSort (signature_view signature.now) (sort_view sort.now) (value_view value.now) → IfOk result (λ p. IsSpellingOf (signature_view signature.now) (value_view value.now) (view p)) }
+    ensures injects { let g = signature_view signature.now in IfErr result (λ e. e ≡ NoInjection → none_within spec.has_two_sorts (spelling g (sort_view sort.now) (value_view value.now)) ≡ false) }
+    ensures meant { let g = signature_view signature.now in model.HasSort g (sort_view sort.now) (value_view value.now) → IfOk result (λ p. IsSpellingOf g (value_view value.now) (view p)) }
 {
     let pattern = spelled_at(value, alloc, signature, sort)?;
     if has_injection(signature) {
@@ -137,8 +137,8 @@ fn spelled_all(
     signature: &Signature,
     places: &[Sort],
 ) -> Result<Vec<Pattern>, AllocError>
-    ensures normal { IfOk result (λ ps. patterns_view ps.items ≡ spellings (signature_view signature.now) (sorts_view places.now) (values_of (map value_view values.now))) }
-    ensures fits { model.HaveSorts (signature_view signature.now) (sorts_view places.now) (values_of (map value_view values.now)) → OnOk result (spec.AllNumbersFit (values_of (map value_view values.now))) }
+    ensures normal { let g = signature_view signature.now in IfOk result (λ ps. patterns_view ps.items ≡ spellings g (sorts_view places.now) (values_of (map value_view values.now))) }
+    ensures fits { let the_values = values_of (map value_view values.now) in model.HaveSorts (signature_view signature.now) (sorts_view places.now) the_values → OnOk result (spec.AllNumbersFit the_values) }
 {
     let mut patterns = Vec::new(alloc);
     for i in 0..values.len().min(places.len()) {

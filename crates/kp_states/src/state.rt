@@ -20,10 +20,10 @@ ghost use Rattle.kp_states.specs.Spelled.{IsGroundState, IsOtherShape, first_mem
 ghost use Rattle.kp_states.specs.States.{IsNoForeign, IsTold};
 
 use crate::error::StateError;
-use kp_compile::{CompileError, Meaning, compile_term, is_term, meaning_of, subpatterns};
+use kp_compile::{CompileError, compile_term, is_term, subpatterns};
 use kp_ground::{EvaluationError, Term, Value};
 use kp_kore::{Name, Pattern, Sort};
-use kp_signature::Signature;
+use kp_signature::{Meaning, Signature, meaning_of};
 use std::alloc::{AllocError, Global};
 
 /// A configuration and the sort that it is written at.
@@ -41,11 +41,11 @@ pub fn state_of(
     pattern: &Pattern,
     sort: Sort,
 ) -> Result<State, StateError>
-    ensures state { VerifiesAs (signature_view signature.now) (view pattern.now) (sort_view sort) → IfOk result (λ state. IsGroundState (signature_view signature.now) (view pattern.now) (sort_view state.sort) (value_view state.value)) }
+    ensures state { let g = signature_view signature.now in let sort' = sort_view sort in let pattern' = view pattern.now in VerifiesAs g pattern' sort' → IfOk result (λ state. IsGroundState g pattern' (sort_view state.sort) (value_view state.value)) }
     ensures sort { IfOk result (λ state. state.sort ≡ sort) }
     ensures no_foreign { OnOk result (first_foreign_in (signature_view signature.now) (view pattern.now) ≡ None) }
     ensures refused { IfErr result (IsTold (first_foreign_in (signature_view signature.now) (view pattern.now))) }
-    ensures other_shape { VerifiesAs (signature_view signature.now) (view pattern.now) (sort_view sort) → IfErr result (λ e. e ≡ OtherShape → IsOtherShape (signature_view signature.now) (view pattern.now)) }
+    ensures other_shape { let g = signature_view signature.now in VerifiesAs g (view pattern.now) (sort_view sort) → IfErr result (λ e. e ≡ OtherShape → IsOtherShape g (view pattern.now)) }
     ensures shape { IfOk result (λ _. ¬ IsOtherShape (signature_view signature.now) (view pattern.now)) }
 {
     match first_foreign(alloc, signature, pattern)? {
@@ -104,7 +104,7 @@ fn value_of(alloc: Global, signature: &Signature, pattern: &Pattern) -> Result<V
     ensures meant { IfOk result (λ u. (v : Valuation) → instance (signature_view signature.now) v (view pattern.now) ≡ value_view u) }
     ensures narrow { OnOk result ((v : Valuation) → computes_wide (signature_view signature.now) v (view pattern.now) ≡ false) }
     ensures refused { IfErr result IsNoForeign }
-    ensures other_shape { (c : Place) → first_fault (signature_view signature.now) c (view pattern.now) ≡ None → IsTrue (none_within (has_foreign_head (signature_view signature.now)) (view pattern.now)) → IfErr result (λ e. e ≡ OtherShape → IsOtherShape (signature_view signature.now) (view pattern.now)) }
+    ensures other_shape { (c : Place) → let g = signature_view signature.now in let pattern' = view pattern.now in let the_none_within = none_within (has_foreign_head g) pattern' in first_fault g c pattern' ≡ None → IsTrue the_none_within → IfErr result (λ e. e ≡ OtherShape → IsOtherShape g pattern') }
 {
     if !is_term(pattern) {
         return Err(StateError::OtherShape);

@@ -55,7 +55,7 @@ fn is_bare_within(value: &Value, signature: &Signature, levels: usize) -> bool
 /// The same of a constructor's arguments, each at its declared sort.
 #[cycle(within)]
 fn are_within(values: &[Value], signature: &Signature, places: &[Sort], levels: usize) -> bool
-    ensures { IsTrue result ↔ (most_term_depth (spellings (signature_view signature.now) (sorts_view places.now) (values_of (map value_view values.now))) ≤ levels) }
+    ensures { let g = signature_view signature.now in IsTrue result ↔ (most_term_depth (spellings g (sorts_view places.now) (values_of (map value_view values.now))) ≤ levels) }
 {
     for i in 0..values.len().min(places.len()) {
         if !is_within_written(&values[i], signature, &places[i], levels) {
@@ -99,7 +99,7 @@ fn is_plain_sort(plain: &Name, sort: &Sort) -> bool
 
 /// Whether a constructor is written at a sort without `inj` around it.
 fn is_result(signature: &Signature, constructor: &str, sort: &Sort) -> bool
-    ensures { IsTrue result ↔ (unwrap_or (option_map (λ d. d.result) (symbol_declared (signature_view signature.now) constructor.now)) (sort_view sort.now) ≡ sort_view sort.now) }
+    ensures { let g = signature_view signature.now in IsTrue result ↔ (unwrap_or (option_map (λ d. d.result) (symbol_declared g constructor.now)) (sort_view sort.now) ≡ sort_view sort.now) }
 {
     match signature.symbol(constructor) {
         Some(symbol) => symbol.result_sort.equal(sort),
@@ -115,7 +115,7 @@ pub fn room_below(
     sort: &Sort,
     levels: usize,
 ) -> Option<usize>
-    ensures { (us : model.Values) → MatchOption result (¬ (term_depth (spelling (signature_view signature.now) (sort_view sort.now) (model.constructed constructor.now us)) ≤ levels)) (λ n. (term_depth (spelling (signature_view signature.now) (sort_view sort.now) (model.constructed constructor.now us)) ≤ levels) ↔ (most_term_depth (spellings (signature_view signature.now) (places_in (signature_view signature.now) constructor.now) us) ≤ n)) }
+    ensures { (us : model.Values) → let the_spelling = spelling (signature_view signature.now) (sort_view sort.now) (model.constructed constructor.now us) in let g = signature_view signature.now in let the_spellings = spellings g (places_in g constructor.now) us in MatchOption result (¬ (term_depth the_spelling ≤ levels)) (λ n. (term_depth the_spelling ≤ levels) ↔ (most_term_depth the_spellings ≤ n)) }
 {
     if is_result(signature, constructor, sort) {
         return levels.checked_sub(1);

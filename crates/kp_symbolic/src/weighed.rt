@@ -34,10 +34,10 @@ pub fn bounds_are_plain()
 pub fn heads_are_plain_in_their_own_clause()
     ensures solved { IsPlainState toys_signature (state_of (codes "Lblcount") (unknown x_name) (alone (pa_literal true))) }
     ensures not_solved { rough_clauses toys_signature (state_of (codes "Lblpick") (unknown p_name) (alone (pa_literal true))) ≡ alone (pa_literal true) }
-    ensures other { forms_of (state_of (codes "Lblpick") (unknown p_name) (alone (pa_literal false))) ≡ (Some (asks p_name (one_head (codes "Lblpa")) false) ∷ []) ∷ [] }
-    ensures number { forms_of (state_of (codes "Lblcount") (unknown x_name) (alone q_fresh)) ≡ (Some (gives (record { variable = q_name; term = unknown fresh_one })) ∷ []) ∷ [] }
-    ensures no_number { forms_of (state_of (codes "Lblnum") (unknown q_name) (alone (number_test false))) ≡ (Some (asks q_name (head_of_sort sort_int) false) ∷ []) ∷ [] }
-    ensures one_of_two { rough_clauses toys_signature (count_with ((number_test false ∷ is_above true 0 ∷ []) ∷ [])) ≡ (number_test false ∷ is_above true 0 ∷ []) ∷ [] }
+    ensures other { let state = state_of (codes "Lblpick") (unknown p_name) (alone (pa_literal false)) in forms_of state ≡ (Some (asks p_name (one_head (codes "Lblpa")) false) ∷ []) ∷ [] }
+    ensures number { let state = state_of (codes "Lblcount") (unknown x_name) (alone q_fresh) in forms_of state ≡ (Some (gives (record { variable = q_name; term = unknown fresh_one })) ∷ []) ∷ [] }
+    ensures no_number { let state = state_of (codes "Lblnum") (unknown q_name) (alone (number_test false)) in forms_of state ≡ (Some (asks q_name (head_of_sort sort_int) false) ∷ []) ∷ [] }
+    ensures one_of_two { let the_number_test = number_test false ∷ is_above true 0 ∷ [] in rough_clauses toys_signature (count_with (the_number_test ∷ [])) ≡ the_number_test ∷ [] }
 {}
 
 /// X * X < 0 isn't plain; beside it the plain clauses are the others. Y > X is.
@@ -51,6 +51,6 @@ pub fn squares_are_not_plain()
 
 /// X <= 2 ^ 126 weighs 128 bits: 127 of the constant, and one variable.
 pub fn a_wide_bound_is_too_heavy()
-    ensures plain { forms_of (count_with (alone wide_bound)) ≡ (Some (compares at_most (of_x (pos 0)) (number (pos 85070591730234615865843651857942052864))) ∷ []) ∷ [] }
+    ensures plain { let the_pos = pos 85070591730234615865843651857942052864 in forms_of (count_with (alone wide_bound)) ≡ (Some (compares at_most (of_x (pos 0)) (number the_pos)) ∷ []) ∷ [] }
     ensures over { IsOver bits (read (count_with (alone wide_bound))) 128 }
 {}

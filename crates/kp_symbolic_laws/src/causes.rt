@@ -25,7 +25,7 @@ pub fn a_run_shows_what_its_rule_asks()
 pub fn an_implication_of_counters_is_easy()
     ensures asks_nothing { question_of toys_signature less_situation (counter_beside []) ≡ [] }
     ensures easy { IsEasyImplication toys_signature counter_less_one some_counter }
-    ensures written { written_clause toys_signature sort_s (equality true sort_int (unknown y_name) (offset x_name (negsuc 0)) ∷ []) ≡ equals sort_int sort_s y less_one }
+    ensures written { let the_equality = equality true sort_int (unknown y_name) (offset x_name (negsuc 0)) ∷ [] in written_clause toys_signature sort_s the_equality ≡ equals sort_int sort_s y less_one }
 {}
 
 /// That count(X) is some count(Y) where Y * Y < 0 may not be decided: shown is that predicate of X, or its opposite.

@@ -61,7 +61,7 @@ pub fn terms_under(
     language: &Language,
     replaced: &[Replaced],
 ) -> Result<Vec<Term>, CompileError>
-    ensures meant { IfOk result (λ ts. terms_of (map term_view ts.items) ≡ model.all_folded (language_view language.now) (map replaced_view replaced.now) (patterns_view patterns.now)) }
+    ensures meant { let language' = language_view language.now in let patterns' = patterns_view patterns.now in IfOk result (λ ts. terms_of (map term_view ts.items) ≡ model.all_folded language' (map replaced_view replaced.now) patterns') }
     ensures refused { IfErr result (λ e. AllByRecursion (λ p. IsFaultless (language_view language.now) (view p)) patterns.now → e ≡ Memory) }
 {
     let mut terms = Vec::new(alloc);
@@ -87,7 +87,7 @@ fn apply_named(
     symbol: &Name,
     arguments: Vec<Term>,
 ) -> Result<Term, AllocError>
-    ensures { IfOk result (λ t. term_view t ≡ model.applied_term (language_view language.now) (string_bytes symbol.now) (terms_of (map term_view arguments.items))) }
+    ensures { let language' = language_view language.now in IfOk result (λ t. term_view t ≡ model.applied_term language' (string_bytes symbol.now) (terms_of (map term_view arguments.items))) }
 {
     let name = Arc::new(alloc, symbol.clone()?)?;
     apply(alloc, language, name, Arc::new(alloc, arguments)?)

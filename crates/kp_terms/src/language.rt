@@ -5,16 +5,15 @@ ghost use Rattle.std.proofs.Props.{props};
 ghost use Rattle.kp_kore.specs.Hooks.{addition as sum, subtraction as difference, whole_arithmetic};
 ghost use Rattle.kp_kore.specs.Signature.{interpretation};
 ghost use Rattle.kp_ground.specs.HookView.{arithmetic_view};
-ghost use Rattle.kp_compile.specs.Meanings.{meaning_view};
+ghost use Rattle.kp_signature.specs.Meanings.{meaning_view};
 ghost use Rattle.kp_kore.specs.View.{symbol_sentence_view};
 ghost use Rattle.kp_signature.specs.View.{signature_view};
 ghost use Rattle.kp_terms.specs.Sums.{least_with};
 ghost use Rattle.kp_symbolic.specs.Folding.{is_text_before, is_arithmetic as arithmetic_test, least_of, least_symbol as least_named};
 
-use kp_compile::{Function, Meaning, meaning_of};
 use kp_ground::{Arithmetic, Hook};
 use kp_kore::{Name, SymbolSentence};
-use kp_signature::Signature;
+use kp_signature::{Function, Meaning, Signature, meaning_of};
 use std::alloc::{AllocError, Global};
 use std::sync::Arc;
 
@@ -114,7 +113,7 @@ fn lesser_if<'a>(
     symbol: &'a SymbolSentence,
     other: Option<&'a Name>,
 ) -> Option<&'a Name>
-    ensures { option_map (λ f. string_bytes f.now) result ≡ least_with (signature_view signature.now) (arithmetic_view arithmetic) (symbol_sentence_view symbol.now) (option_map (λ f. string_bytes f.now) other.entry) }
+    ensures { let g = signature_view signature.now in let arithmetic' = arithmetic_view arithmetic in let symbol' = symbol_sentence_view symbol.now in option_map (λ f. string_bytes f.now) result ≡ least_with g arithmetic' symbol' (option_map (λ f. string_bytes f.now) other.entry) }
 {
     if is_arithmetic(arithmetic, meaning_of(signature, &symbol.name)) {
         Some(lesser(&symbol.name, other))

@@ -6,7 +6,7 @@ ghost use Rattle.kp_semantics.specs.Forms.{two};
 ghost use Rattle.kp_semantics.specs.Interpretation.{interpreted};
 ghost use Rattle.kp_ground.specs.HookView.{hook_view};
 ghost use Rattle.kp_ground.specs.View.{value_view, values_of};
-ghost use Rattle.kp_compile.specs.Meanings.{function_view};
+ghost use Rattle.kp_signature.specs.Meanings.{function_view};
 ghost use Rattle.kp_symbolic.specs.Terms.{headed, known};
 ghost use Rattle.kp_symbolic.specs.Folding as model;
 ghost use Rattle.kp_terms.specs.View.{term_view, terms_of};
@@ -16,9 +16,9 @@ ghost use Rattle.kp_terms.specs.Calls.{IsCalled, values_in, value_or, made_of_co
 use crate::language::Language;
 use crate::sum::summed_or;
 use crate::term::Term;
-use kp_compile::{Function, Meaning, meaning_of};
 use kp_ground::evaluate::{call_of_two, negation};
 use kp_ground::{EvaluationError, Hook, Value};
+use kp_signature::{Function, Meaning, meaning_of};
 use std::alloc::{AllocError, Global};
 use std::sync::Arc;
 
@@ -153,7 +153,7 @@ fn made_call(
     symbol: Arc<String>,
     arguments: Arc<Vec<Term>>,
 ) -> Result<Term, AllocError>
-    ensures { IfOk result (λ t. term_view t ≡ made_of_call (language_view language.now) (function_view function) (string_bytes symbol.value) (terms_of (map term_view arguments.value.items))) }
+    ensures { let language' = language_view language.now in let function' = function_view function in let terms = terms_of (map term_view arguments.value.items) in IfOk result (λ t. term_view t ≡ made_of_call language' function' (string_bytes symbol.value) terms) }
 {
     let call = make_headed(symbol, arguments.clone()?);
     match values_known(alloc, &arguments)? {
@@ -169,7 +169,7 @@ pub fn apply(
     symbol: Arc<String>,
     arguments: Arc<Vec<Term>>,
 ) -> Result<Term, AllocError>
-    ensures { IfOk result (λ t. term_view t ≡ model.applied_term (language_view language.now) (string_bytes symbol.value) (terms_of (map term_view arguments.value.items))) }
+    ensures { let language' = language_view language.now in IfOk result (λ t. term_view t ≡ model.applied_term language' (string_bytes symbol.value) (terms_of (map term_view arguments.value.items))) }
 {
     match meaning_of(language.signature, &symbol) {
         Meaning::Injection => only_term(alloc, &arguments),

@@ -39,7 +39,7 @@ pub fn term_for(
     replaced: &[Replaced],
     variable: &Arc<Variable>,
 ) -> Result<Term, AllocError>
-    ensures { IfOk result (λ t. term_view t ≡ model.term_for (variable_view variable.now.value) (replacement_for (map replaced_view replaced.now) (string_bytes variable.now.value.name))) }
+    ensures { let value' = variable_view variable.now.value in let the_replacement_for = replacement_for (map replaced_view replaced.now) (string_bytes variable.now.value.name) in IfOk result (λ t. term_view t ≡ model.term_for value' the_replacement_for) }
 {
     match replacement_of(replaced, &variable.name) {
         Some(term) => term.share(alloc),
@@ -66,7 +66,7 @@ fn under_symbol(
     term: Term,
     number: i128,
 ) -> Result<Term, AllocError>
-    ensures { IfOk result (λ t. term_view t ≡ model.applied_term (language_view language.now) (string_bytes symbol.now.value) (pair (term_view term) (known (whole number)))) }
+    ensures { let language' = language_view language.now in IfOk result (λ t. term_view t ≡ model.applied_term language' (string_bytes symbol.now.value) (pair (term_view term) (known (whole number)))) }
 {
     let mut arguments = Vec::new(alloc);
     arguments.push(term)?;
@@ -134,7 +134,7 @@ impl Term {
         language: &Language,
         replaced: &[Replaced],
     ) -> Result<Vec<Term>, CompileError>
-        ensures meant { IfOk result (λ ts. terms_of (map term_view ts.items) ≡ model.all_replaced (language_view language.now) (map replaced_view replaced.now) (terms_of (map term_view terms.now))) }
+        ensures meant { let language' = language_view language.now in IfOk result (λ ts. terms_of (map term_view ts.items) ≡ model.all_replaced language' (map replaced_view replaced.now) (terms_of (map term_view terms.now))) }
         ensures refused { IfErr result (λ e. AreAllWritten (language_view language.now) (terms_of (map term_view terms.now)) → e ≡ Memory) }
     {
         let mut found = Vec::new(alloc);

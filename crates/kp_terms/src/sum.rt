@@ -3,7 +3,7 @@ ghost use Rattle.std.specs.Prelude.{◌≡◌, ℤ, IfOk, map};
 ghost use Rattle.std.specs.Option.{option_map};
 ghost use Rattle.kp_kore.specs.Hooks.{whole_arithmetic, addition, subtraction};
 ghost use Rattle.kp_ground.specs.View.{value_view};
-ghost use Rattle.kp_compile.specs.Meanings.{function_view};
+ghost use Rattle.kp_signature.specs.Meanings.{function_view};
 ghost use Rattle.kp_signature.specs.View.{signature_view};
 ghost use Rattle.kp_symbolic.specs.Terms.{unknown, offset};
 ghost use Rattle.kp_symbolic.specs.Folding.{can_be_added as addition_test, sum_of as sum_read, summed as sum_added, summed_call};
@@ -14,9 +14,8 @@ ghost use Rattle.kp_terms.specs.Sums.{sum_view, whole_in, whole_known, pair, con
 use crate::language::Language;
 use crate::term::Term;
 use crate::variable::Variable;
-use kp_compile::Function;
 use kp_ground::{Arithmetic, Hook, Value};
-use kp_signature::Signature;
+use kp_signature::{Function, Signature};
 use std::alloc::AllocError;
 use std::sync::Arc;
 
@@ -125,7 +124,7 @@ fn summed(
     number: i128,
     call: Term,
 ) -> Result<Term, AllocError>
-    ensures { (c : ℤ) → IsTaken operation number c → IfOk result (λ t. term_view t ≡ sum_added (language_view language.now) (option_map sum_view sum.entry) c (term_view call)) }
+    ensures { (c : ℤ) → let language' = language_view language.now in IsTaken operation number c → IfOk result (λ t. term_view t ≡ sum_added language' (option_map sum_view sum.entry) c (term_view call)) }
 {
     match sum {
         Some(sum) => match operation.computes(sum.constant, number) {
@@ -143,7 +142,7 @@ fn summed_both(
     right: &Term,
     call: Term,
 ) -> Result<Term, AllocError>
-    ensures { IfOk result (λ t. term_view t ≡ summed_call (language_view language.now) (whole_arithmetic addition) (pair (term_view left.now) (term_view right.now)) (term_view call)) }
+    ensures { let language' = language_view language.now in let left' = term_view left.now in IfOk result (λ t. term_view t ≡ summed_call language' (whole_arithmetic addition) (pair left' (term_view right.now)) (term_view call)) }
 {
     if let Some(number) = whole_of(right) {
         let sum = sum_of(language.signature, left);
@@ -165,7 +164,7 @@ fn less_constant(
     right: &Term,
     call: Term,
 ) -> Result<Term, AllocError>
-    ensures { IfOk result (λ t. term_view t ≡ summed_call (language_view language.now) (whole_arithmetic subtraction) (pair (term_view left.now) (term_view right.now)) (term_view call)) }
+    ensures { let language' = language_view language.now in let left' = term_view left.now in IfOk result (λ t. term_view t ≡ summed_call language' (whole_arithmetic subtraction) (pair left' (term_view right.now)) (term_view call)) }
 {
     match whole_of(right) {
         Some(number) => {
@@ -183,7 +182,7 @@ pub fn summed_or(
     arguments: &[Term],
     call: Term,
 ) -> Result<Term, AllocError>
-    ensures { IfOk result (λ t. term_view t ≡ summed_call (language_view language.now) (function_view function) (terms_of (map term_view arguments.now)) (term_view call)) }
+    ensures { let language' = language_view language.now in IfOk result (λ t. term_view t ≡ summed_call language' (function_view function) (terms_of (map term_view arguments.now)) (term_view call)) }
 {
     if arguments.len() != 2 {
         return Ok(call);

@@ -16,7 +16,7 @@ pub fn claims_keep_the_variables_of_the_left()
 /// The reply to execute of count(2) is done, stuck at depth 3; at the bound 0 it is count(2) itself.
 pub fn the_reply_to_count_two_is_right()
     ensures stuck { IsRightExecuted toys [] 10000 (count_of (integer (codes "2"))) (record { depth = 3; reason = stuck; state = done }) }
-    ensures bound { IsRightExecuted toys [] 0 (count_of (integer (codes "2"))) (record { depth = 0; reason = depth_bound; state = count_of (integer (codes "2")) }) }
+    ensures bound { let the_integer = integer (codes "2") in IsRightExecuted toys [] 0 (count_of the_integer) (record { depth = 0; reason = depth_bound; state = count_of the_integer }) }
 {}
 
 /// A step that keeps its number is after the start with the same variable, and not with a new one: both states have

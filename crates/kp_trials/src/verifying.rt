@@ -9,6 +9,7 @@ const COUNTING: &str = r#"module COUNTING
   sort SortS{} []
   symbol Lblcount{}(SortInt{}) : SortS{} [constructor{}()]
   symbol Lbldone{}() : SortS{} [constructor{}()]
+  symbol Lblnext{}(SortS{}) : SortS{} [constructor{}()]
   sort SortK{} []
   symbol inj{From, To}(From) : To [sortInjection{}()]
   axiom{} \top{SortK{}}() [subsort{SortInt{}, SortK{}}()]
@@ -72,5 +73,30 @@ fn patterns_have_their_sort_or_their_first_fault(rt: HostRuntime) -> Result<(), 
         let found = verified(rt.alloc(), *text)?;
         assert_eq!(rt; found.as_str(), *told);
     }
+    Ok(())
+}
+
+/// The most levels of a term.
+const DEPTH: usize = 48;
+
+/// So many `Lblnext` over `Lbldone`.
+fn chain(alloc: Global, length: usize) -> Result<String, Fail> {
+    let mut text = String::new(alloc);
+    for _ in 0..length {
+        text.push_str("Lblnext{}(")?;
+    }
+    text.push_str("Lbldone{}()")?;
+    for _ in 0..length {
+        text.push_str(")")?;
+    }
+    Ok(text)
+}
+
+#[test]
+fn a_term_deeper_than_the_limit_is_a_fault(rt: HostRuntime) -> Result<(), Fail> {
+    let within = chain(rt.alloc(), DEPTH - 1)?;
+    assert_eq!(rt; verified(rt.alloc(), &within)?.as_str(), "SortS{}");
+    let deeper = chain(rt.alloc(), DEPTH)?;
+    assert_eq!(rt; verified(rt.alloc(), &deeper)?.as_str(), "V6");
     Ok(())
 }

@@ -7,7 +7,7 @@ use Rattle.kp_kore.specs.declared.pattern.Pattern.{the_lemmas}
 use Rattle.kp_semantics.specs.Value.{constructed}
 use Rattle.kp_signature.specs.View.{signature_view}
 use Rattle.kp_compile.specs.Exact.{IsLeftOf, AreLeftsOf}
-use Rattle.kp_compile.specs.Meanings.{function_view, meaning_view}
+use Rattle.kp_signature.specs.Meanings.{function_view, meaning_view}
 use Rattle.kp_compile.specs.Verified.{IsVerifiedLeftTerm}
 use Rattle.kp_compile.proofs.Compiled.{zip_push, each_left}
 use Rattle.kp_compile.proofs.Taken.{inj_takes_one, not_interpreted}

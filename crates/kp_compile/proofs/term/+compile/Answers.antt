@@ -11,7 +11,7 @@ use Rattle.kp_ground.specs.HookView.{hook_view}
 use Rattle.kp_ground.specs.TermView.{term_view}
 use Rattle.kp_signature.specs.View.{signature_view}
 use Rattle.kp_compile.specs.Exact.{IsTermOf, AreTermsOf, IsNarrowAs, AreTermsNarrowAs, HasVariablesOf, HaveVariablesOf, some_unnamed}
-use Rattle.kp_compile.specs.Meanings.{function_view, meaning_view}
+use Rattle.kp_signature.specs.Meanings.{function_view, meaning_view}
 use Rattle.kp_compile.specs.Verified.{IsVerifiedTerm}
 use Rattle.kp_compile.proofs.Compiled.{zip_push, each_term}
 use Rattle.kp_compile.proofs.Narrow.{built_narrow, call_narrow, opposite_narrow}

@@ -9,7 +9,7 @@ use Rattle.kp_kore.specs.Signature.{meaning_of, symbol_declared, injection, cons
 use Rattle.kp_kore.specs.View.{view, patterns_view, sorts_view, symbol_sentence_view}
 use Rattle.kp_kore.specs.declared.pattern.Pattern.{the_lemmas}
 use Rattle.kp_signature.specs.View.{signature_view}
-use Rattle.kp_compile.specs.Meanings.{function_view, meaning_view}
+use Rattle.kp_signature.specs.Meanings.{function_view, meaning_view}
 use Rattle.kp_compile.specs.Verified.{IsVerifiedLeftTerm}
 use Rattle.kp_compile.proofs.Taken.{inj_takes_one, as_many_places, is_declared, not_interpreted, not_foreign}
 use Rattle.kp_compile.proofs.VerifiedParts.{left_arguments, at_index}

@@ -6,7 +6,7 @@ use Rattle.kp_kore.specs.Signature.{meaning_of, construction, injection}
 use Rattle.kp_kore.specs.declared.pattern.Pattern.{the_lemmas}
 use Rattle.kp_signature.specs.View.{signature_view}
 use Rattle.kp_semantics.specs.Foreign.{InjectionsSplit}
-use Rattle.kp_compile.specs.Meanings.{meaning_view}
+use Rattle.kp_signature.specs.Meanings.{meaning_view}
 use Rattle.kp_compile.proofs.Compiled.{zip_push, zip_whole}
 use Rattle.kp_rules.specs.Skeletons.{skeleton_view, StandsFor, StandForAll, StandsForFirst}
 use Rattle.kp_rules.proofs.SkeletonLemmas.{of_pattern, at_level, built_stands, injection_seen, injection_any, zip_stands, first_stands, none_stands, is_other, other_stands, chosen_true, chosen_false}

@@ -2,7 +2,7 @@ use Rattle.std.proofs.Common.{rules, ◌≡◌, ◌∙◌, ap, map, length}
 use Rattle.kp_semantics.specs.Interpretation.{interpreted}
 use Rattle.kp_ground.specs.HookView.{hook_view}
 use Rattle.kp_ground.specs.View.{value_view, values_of}
-use Rattle.kp_compile.specs.Meanings.{function_view}
+use Rattle.kp_signature.specs.Meanings.{function_view}
 use Rattle.kp_terms.proofs.MadeLemmas.{not_two_values, not_one_value, no_call_of_two, no_call_of_one, not_negation, nothing_called}
 use Rattle.kp_terms.proofs.made.called.Goals as goal
 use Rattle.kp_terms.proofs.made.called.Goals.{in_default-via-then-values-lt2, in_default-via-else-values-lt2+else-values-lt3, in_default-values-via-then-values-lt1, in_default-values-via-else-values-lt1+else-values-lt2-2}

@@ -1,5 +1,5 @@
 use Rattle.std.proofs.Common.{rules, ◌≡◌, sym, map, length}
-use Rattle.kp_compile.specs.Meanings.{function_view}
+use Rattle.kp_signature.specs.Meanings.{function_view}
 use Rattle.kp_signature.specs.View.{signature_view}
 use Rattle.kp_terms.specs.View.{term_view, terms_of}
 use Rattle.kp_terms.proofs.SumLemmas.{not_two, other_number}

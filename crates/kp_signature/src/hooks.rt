@@ -3,7 +3,7 @@ ghost use Rattle.std.specs.Prelude.{◌≡◌};
 ghost use Rattle.std.specs.Option.{option_map};
 ghost use Rattle.kp_kore.specs.Hooks.{whole_arithmetic, whole_comparison, truth_connective, found_under, hook_named};
 ghost use Rattle.kp_ground.specs.HookView.{arithmetic_view, comparison_view, connective_view, hook_view};
-ghost use Rattle.kp_compile.specs.Meanings.{function_view, arithmetic_rows, comparison_rows, joining_rows, truth_rows, comparing_rows, equality_rows};
+ghost use Rattle.kp_signature.specs.Meanings.{function_view, arithmetic_rows, comparison_rows, joining_rows, truth_rows, comparing_rows, equality_rows};
 
 use crate::function::Function;
 use kp_ground::{Arithmetic, Comparison, Connective, Hook};

@@ -4,10 +4,10 @@ use Rattle.kp_kore.specs.Syntax.{Text}
 use Rattle.kp_kore.specs.Hooks as model
 use Rattle.kp_kore.specs.Signature.{SymbolMeaning, injection, construction, interpretation, foreign}
 use Rattle.kp_ground.specs.HookView.{hook_view}
-use Rattle.kp_compile.specs.declared.function.Function.{Function}
-use Rattle.kp_compile.specs.declared.function.Function.TheVariants.{Two, Negation}
-use Rattle.kp_compile.specs.declared.meaning.Meaning.{Meaning}
-use Rattle.kp_compile.specs.declared.meaning.Meaning.TheVariants.{Injection, Constructor, Interpreted, Foreign}
+use Rattle.kp_signature.specs.declared.function.Function.{Function}
+use Rattle.kp_signature.specs.declared.function.Function.TheVariants.{Two, Negation}
+use Rattle.kp_signature.specs.declared.meaning.Meaning.{Meaning}
+use Rattle.kp_signature.specs.declared.meaning.Meaning.TheVariants.{Injection, Constructor, Interpreted, Foreign}
 
 abbrev pub function_view : Function → model.Hook
 function_view (Two h) = hook_view h
