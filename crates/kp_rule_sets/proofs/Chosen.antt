@@ -11,27 +11,27 @@ use Rattle.kp_rule_sets.specs.Turns.{is_mine, AreInTurn, with_first, rules_among
 abbrev pub times : ℕ → List ℕ → ℕ
 times i = count_by (λ j. j == i)
 
-times_cons : (i x : ℕ) (xs : List ℕ) (b : Bool) → (x == i) ≡ b → times i (x ∷ xs) ≡ cond b 1 0 + times i xs
+pub times_cons : (i x : ℕ) (xs : List ℕ) (b : Bool) → (x == i) ≡ b → times i (x ∷ xs) ≡ cond b 1 0 + times i xs
 times_cons i x xs b e = sum_by-cons (λ j. cond (j == i) 1 0) x xs ∙ ap (λ c. cond c 1 0 + times i xs) e
 
 -- it stands further on where it isn't the first
-times_on : (i x : ℕ) (xs : List ℕ) → (x == i) ≡ false → times i (x ∷ xs) ≢ 0 → times i xs ≢ 0
+pub times_on : (i x : ℕ) (xs : List ℕ) → (x == i) ≡ false → times i (x ∷ xs) ≢ 0 → times i xs ≢ 0
 times_on i x xs e h z = h (times_cons i x xs false e ∙ (let none : 0 + times i xs ≡ 0 = omega arith in none))
 
-times_more : (i x : ℕ) (xs : List ℕ) → times i xs ≤ times i (x ∷ xs)
+pub times_more : (i x : ℕ) (xs : List ℕ) → times i xs ≤ times i (x ∷ xs)
 times_more i x xs = by (x == i) refl
   where
     by : (b : Bool) → (x == i) ≡ b → times i xs ≤ times i (x ∷ xs)
     by true e = let more : times i (x ∷ xs) ≡ 1 + times i xs = times_cons i x xs true e in omega arith
     by false e = let same : times i (x ∷ xs) ≡ 0 + times i xs = times_cons i x xs false e in omega arith
 
-times_here : (i : ℕ) (xs : List ℕ) → times i (i ∷ xs) ≡ 1 + times i xs
+pub times_here : (i : ℕ) (xs : List ℕ) → times i (i ∷ xs) ≡ 1 + times i xs
 times_here i xs = times_cons i i xs true ((Decides-eqb i i).1 refl)
 
-some_none : {r : Rule} → Some r ≡ None → ⊥
+pub some_none : {r : Rule} → Some r ≡ None → ⊥
 some_none e = absurd (cc)
 
-first_same : {r q : Rule} → Some r ≡ Some q → r ≡ q
+pub first_same : {r q : Rule} → Some r ≡ Some q → r ≡ q
 first_same {r} {q} e = ap (λ o. of o) e
   where
     of : Option Rule → Rule

@@ -10,15 +10,18 @@ use Rattle.std.proofs.Math.Seq.{get_or-append_seam}
 use Rattle.kp_kore.specs.Syntax.{Text}
 use Rattle.kp_rule_sets.specs.Tops.{Top, number, truth_value, some_token, constructor_named, tops_same}
 use Rattle.kp_rule_sets.specs.Rows.{row_of, IsFilled}
+use Rattle.kp_rule_sets.specs.declared.places.Ranked.{Ranked}
 
 -- ---- no places yet
 
-abbrev pub four_rows : List (List ℕ)
+abbrev pub four_rows : List (List Ranked)
 four_rows = [] ∷ [] ∷ [] ∷ [] ∷ []
 
-pub none_filled : (wants : Top → ℕ → Bool) (f : Text → Option ℕ) (rows : List (List ℕ)) → ((c : Text) → f c ≡ None) → rows ≡ four_rows → IsFilled wants f rows []
-none_filled wants f rows none is = record {
+pub none_filled : (own : Top → ℕ → Bool) (all : ℕ → Bool) (f : Text → Option ℕ) (rows : List (List Ranked)) (any : List Ranked) → ((c : Text) → f c ≡ None) → rows ≡ four_rows → any ≡ [] → IsFilled own all f rows any []
+none_filled own all f rows any none is free = record {
   told = λ h. ap (λ l. get_or l (row_of f h) []) is ∙ by_row h;
+  shared = free;
+  empty = ap (λ l. get_or l 0 []) is;
   literals = subst (λ l. 4 ≤ length l) (sym is) (omega arith);
   low = λ c n e. absurd (never c n e);
   high = λ c n e. absurd (never c n e);
@@ -40,19 +43,19 @@ none_filled wants f rows none is = record {
 -- ---- rows of heads
 
 -- the row of each head is one of the rows
-pub within : (wants : Top → ℕ → Bool) (f : Text → Option ℕ) (rows : List (List ℕ)) (seen : List ℕ) → IsFilled wants f rows seen → (h : Top) → row_of f h < length rows
-within wants f rows seen is number = let four : 4 ≤ length rows = is.literals in omega arith
-within wants f rows seen is truth_value = let four : 4 ≤ length rows = is.literals in omega arith
-within wants f rows seen is some_token = let four : 4 ≤ length rows = is.literals in omega arith
-within wants f rows seen is (constructor_named c) = by (f c) refl
+pub within : (own : Top → ℕ → Bool) (all : ℕ → Bool) (f : Text → Option ℕ) (rows : List (List Ranked)) (any seen : List Ranked) → IsFilled own all f rows any seen → (h : Top) → row_of f h < length rows
+within own all f rows any seen is number = let four : 4 ≤ length rows = is.literals in omega arith
+within own all f rows any seen is truth_value = let four : 4 ≤ length rows = is.literals in omega arith
+within own all f rows any seen is some_token = let four : 4 ≤ length rows = is.literals in omega arith
+within own all f rows any seen is (constructor_named c) = by (f c) refl
   where
     by : (o : Option ℕ) → f c ≡ o → unwrap_or o 0 < length rows
     by None e = let four : 4 ≤ length rows = is.literals in omega arith
     by (Some n) e = is.high c n e
 
 -- a constructor's row is 0 or beyond those of literals
-beyond : (wants : Top → ℕ → Bool) (f : Text → Option ℕ) (rows : List (List ℕ)) (seen : List ℕ) → IsFilled wants f rows seen → (c : Text) → (unwrap_or (f c) 0 ≡ 0) ⊎ (4 ≤ unwrap_or (f c) 0)
-beyond wants f rows seen is c = by (f c) refl
+beyond : (own : Top → ℕ → Bool) (all : ℕ → Bool) (f : Text → Option ℕ) (rows : List (List Ranked)) (any seen : List Ranked) → IsFilled own all f rows any seen → (c : Text) → (unwrap_or (f c) 0 ≡ 0) ⊎ (4 ≤ unwrap_or (f c) 0)
+beyond own all f rows any seen is c = by (f c) refl
   where
     by : (o : Option ℕ) → f c ≡ o → (unwrap_or o 0 ≡ 0) ⊎ (4 ≤ unwrap_or o 0)
     by None e = inl refl
@@ -63,23 +66,23 @@ not_literal n k (inl z) below same far = far (sym same ∙ z)
 not_literal n k (inr four) below same far = omega arith
 
 -- two heads of one row that isn't 0 are the same
-same_head : (wants : Top → ℕ → Bool) (f : Text → Option ℕ) (rows : List (List ℕ)) (seen : List ℕ) → IsFilled wants f rows seen → (g h : Top) → row_of f g ≢ 0 → row_of f h ≡ row_of f g → tops_same g h ≡ true
-same_head wants f rows seen is number number far same = refl
-same_head wants f rows seen is truth_value truth_value far same = refl
-same_head wants f rows seen is some_token some_token far same = refl
-same_head wants f rows seen is number truth_value far same = absurd (cc)
-same_head wants f rows seen is number some_token far same = absurd (cc)
-same_head wants f rows seen is truth_value number far same = absurd (cc)
-same_head wants f rows seen is truth_value some_token far same = absurd (cc)
-same_head wants f rows seen is some_token number far same = absurd (cc)
-same_head wants f rows seen is some_token truth_value far same = absurd (cc)
-same_head wants f rows seen is number (constructor_named c) far same = absurd (not_literal (unwrap_or (f c) 0) 1 (beyond wants f rows seen is c) (omega arith) same far)
-same_head wants f rows seen is truth_value (constructor_named c) far same = absurd (not_literal (unwrap_or (f c) 0) 2 (beyond wants f rows seen is c) (omega arith) same far)
-same_head wants f rows seen is some_token (constructor_named c) far same = absurd (not_literal (unwrap_or (f c) 0) 3 (beyond wants f rows seen is c) (omega arith) same far)
-same_head wants f rows seen is (constructor_named c) number far same = absurd (not_literal (unwrap_or (f c) 0) 1 (beyond wants f rows seen is c) (omega arith) (sym same) (λ e. far (sym same ∙ e)))
-same_head wants f rows seen is (constructor_named c) truth_value far same = absurd (not_literal (unwrap_or (f c) 0) 2 (beyond wants f rows seen is c) (omega arith) (sym same) (λ e. far (sym same ∙ e)))
-same_head wants f rows seen is (constructor_named c) some_token far same = absurd (not_literal (unwrap_or (f c) 0) 3 (beyond wants f rows seen is c) (omega arith) (sym same) (λ e. far (sym same ∙ e)))
-same_head wants f rows seen is (constructor_named c) (constructor_named d) far same = by (f c) (f d) refl refl far same
+same_head : (own : Top → ℕ → Bool) (all : ℕ → Bool) (f : Text → Option ℕ) (rows : List (List Ranked)) (any seen : List Ranked) → IsFilled own all f rows any seen → (g h : Top) → row_of f g ≢ 0 → row_of f h ≡ row_of f g → tops_same g h ≡ true
+same_head own all f rows any seen is number number far same = refl
+same_head own all f rows any seen is truth_value truth_value far same = refl
+same_head own all f rows any seen is some_token some_token far same = refl
+same_head own all f rows any seen is number truth_value far same = absurd (cc)
+same_head own all f rows any seen is number some_token far same = absurd (cc)
+same_head own all f rows any seen is truth_value number far same = absurd (cc)
+same_head own all f rows any seen is truth_value some_token far same = absurd (cc)
+same_head own all f rows any seen is some_token number far same = absurd (cc)
+same_head own all f rows any seen is some_token truth_value far same = absurd (cc)
+same_head own all f rows any seen is number (constructor_named c) far same = absurd (not_literal (unwrap_or (f c) 0) 1 (beyond own all f rows any seen is c) (omega arith) same far)
+same_head own all f rows any seen is truth_value (constructor_named c) far same = absurd (not_literal (unwrap_or (f c) 0) 2 (beyond own all f rows any seen is c) (omega arith) same far)
+same_head own all f rows any seen is some_token (constructor_named c) far same = absurd (not_literal (unwrap_or (f c) 0) 3 (beyond own all f rows any seen is c) (omega arith) same far)
+same_head own all f rows any seen is (constructor_named c) number far same = absurd (not_literal (unwrap_or (f c) 0) 1 (beyond own all f rows any seen is c) (omega arith) (sym same) (λ e. far (sym same ∙ e)))
+same_head own all f rows any seen is (constructor_named c) truth_value far same = absurd (not_literal (unwrap_or (f c) 0) 2 (beyond own all f rows any seen is c) (omega arith) (sym same) (λ e. far (sym same ∙ e)))
+same_head own all f rows any seen is (constructor_named c) some_token far same = absurd (not_literal (unwrap_or (f c) 0) 3 (beyond own all f rows any seen is c) (omega arith) (sym same) (λ e. far (sym same ∙ e)))
+same_head own all f rows any seen is (constructor_named c) (constructor_named d) far same = by (f c) (f d) refl refl far same
   where
     by : (o p : Option ℕ) → f c ≡ o → f d ≡ p → unwrap_or o 0 ≢ 0 → unwrap_or p 0 ≡ unwrap_or o 0 → bytes_eq c d ≡ true
     by None p e k far same = absurd (far refl)
@@ -88,48 +91,50 @@ same_head wants f rows seen is (constructor_named c) (constructor_named d) far s
 
 -- ---- one more place
 
-one_more : (p : ℕ → Bool) (seen : List ℕ) (i : ℕ) → filter p (seen ++ i ∷ []) ≡ filter p seen ++ cond (p i) (i ∷ []) []
+one_more : (p : Ranked → Bool) (seen : List Ranked) (i : Ranked) → filter p (seen ++ i ∷ []) ≡ filter p seen ++ cond (p i) (i ∷ []) []
 one_more p seen i = filter-append p seen (i ∷ [])
 
--- in each row
-pub to_all : (wants : Top → ℕ → Bool) (f : Text → Option ℕ) (rows new : List (List ℕ)) (seen : List ℕ) (i : ℕ) → IsFilled wants f rows seen →
-    new ≡ map (λ row. row ++ i ∷ []) rows → ((h : Top) → wants h i ≡ true) → IsFilled wants f new (seen ++ i ∷ [])
-to_all wants f rows new seen i is e all = record {
-  told = λ h.
-      ap (λ l. get_or l (row_of f h) []) e
-      ∙ get_or-map (λ row. row ++ i ∷ []) rows (row_of f h) [] [] (within wants f rows seen is h)
-      ∙ ap (λ l. l ++ i ∷ []) (is.told h)
-      ∙ ap (λ b. filter (wants h) seen ++ cond b (i ∷ []) []) (sym (all h))
-      ∙ sym (one_more (wants h) seen i);
-  literals = subst (λ n. 4 ≤ n) (sym as_many) is.literals;
-  low = is.low;
-  high = λ c n k. subst (λ m. n < m) (sym as_many) (is.high c n k);
-  apart = is.apart;
-}
-  where
-    as_many : length new ≡ length rows
-    as_many = ap length e ∙ length-map rows (λ (row : List ℕ). row ++ i ∷ [])
+-- it isn't among those that are wanted
+stays : (p : Ranked → Bool) (seen old : List Ranked) (i : Ranked) → old ≡ filter p seen → p i ≡ false → old ≡ filter p (seen ++ i ∷ [])
+stays p seen old i is isnt = is ∙ sym (append-nil (filter p seen)) ∙ ap (λ b. filter p seen ++ cond b (i ∷ []) []) (sym isnt) ∙ sym (one_more p seen i)
 
--- in none
-pub to_none : (wants : Top → ℕ → Bool) (f : Text → Option ℕ) (rows : List (List ℕ)) (seen : List ℕ) (i : ℕ) → IsFilled wants f rows seen →
-    ((h : Top) → wants h i ≡ false) → IsFilled wants f rows (seen ++ i ∷ [])
-to_none wants f rows seen i is isnt = record {
-  told = λ h.
-      is.told h
-      ∙ sym (append-nil (filter (wants h) seen))
-      ∙ ap (λ b. filter (wants h) seen ++ cond b (i ∷ []) []) (sym (isnt h))
-      ∙ sym (one_more (wants h) seen i);
+-- it is
+grows : (p : Ranked → Bool) (seen old : List Ranked) (i : Ranked) → old ≡ filter p seen → p i ≡ true → old ++ i ∷ [] ≡ filter p (seen ++ i ∷ [])
+grows p seen old i is wanted = ap (λ l. l ++ i ∷ []) is ∙ ap (λ b. filter p seen ++ cond b (i ∷ []) []) (sym wanted) ∙ sym (one_more p seen i)
+
+-- of all heads
+pub to_all : (own : Top → ℕ → Bool) (all : ℕ → Bool) (f : Text → Option ℕ) (rows : List (List Ranked)) (any new seen : List Ranked) (i : Ranked) → IsFilled own all f rows any seen →
+    new ≡ any ++ i ∷ [] → ((h : Top) → own h i.place ≡ false) → all i.place ≡ true → IsFilled own all f rows new (seen ++ i ∷ [])
+to_all own all f rows any new seen i is e none wanted = record {
+  told = λ h. stays (λ t. own h t.place) seen (get_or rows (row_of f h) []) i (is.told h) (none h);
+  shared = e ∙ grows (λ t. all t.place) seen any i is.shared wanted;
+  empty = is.empty;
   literals = is.literals;
   low = is.low;
   high = is.high;
   apart = is.apart;
 }
 
--- in the row of one head
-pub to_one : (wants : Top → ℕ → Bool) (f : Text → Option ℕ) (rows new : List (List ℕ)) (seen : List ℕ) (i : ℕ) (g : Top) → IsFilled wants f rows seen → row_of f g ≢ 0 →
-    new ≡ set rows (row_of f g) (get_or rows (row_of f g) [] ++ i ∷ []) → ((h : Top) → wants h i ≡ tops_same g h) → IsFilled wants f new (seen ++ i ∷ [])
-to_one wants f rows new seen i g is far e tells = record {
-  told = λ h. ap (λ l. get_or l (row_of f h) []) e ∙ by h (row_of f h == row_of f g) refl ∙ sym (one_more (wants h) seen i);
+-- of none
+pub to_none : (own : Top → ℕ → Bool) (all : ℕ → Bool) (f : Text → Option ℕ) (rows : List (List Ranked)) (any seen : List Ranked) (i : Ranked) → IsFilled own all f rows any seen →
+    ((h : Top) → own h i.place ≡ false) → all i.place ≡ false → IsFilled own all f rows any (seen ++ i ∷ [])
+to_none own all f rows any seen i is none isnt = record {
+  told = λ h. stays (λ t. own h t.place) seen (get_or rows (row_of f h) []) i (is.told h) (none h);
+  shared = stays (λ t. all t.place) seen any i is.shared isnt;
+  empty = is.empty;
+  literals = is.literals;
+  low = is.low;
+  high = is.high;
+  apart = is.apart;
+}
+
+-- of one head
+pub to_one : (own : Top → ℕ → Bool) (all : ℕ → Bool) (f : Text → Option ℕ) (rows new : List (List Ranked)) (any seen : List Ranked) (i : Ranked) (g : Top) → IsFilled own all f rows any seen → row_of f g ≢ 0 →
+    new ≡ set rows (row_of f g) (get_or rows (row_of f g) [] ++ i ∷ []) → ((h : Top) → own h i.place ≡ tops_same g h) → all i.place ≡ false → IsFilled own all f new any (seen ++ i ∷ [])
+to_one own all f rows new any seen i g is far e tells isnt = record {
+  told = λ h. ap (λ l. get_or l (row_of f h) []) e ∙ by h (row_of f h == row_of f g) refl;
+  shared = stays (λ t. all t.place) seen any i is.shared isnt;
+  empty = ap (λ l. get_or l 0 []) e ∙ get_or-set_other rows (row_of f g) 0 (get_or rows (row_of f g) [] ++ i ∷ []) [] (λ z. far (sym z)) ∙ is.empty;
   literals = subst (λ n. 4 ≤ n) (sym as_many) is.literals;
   low = is.low;
   high = λ c n k. subst (λ m. n < m) (sym as_many) (is.high c n k);
@@ -139,19 +144,16 @@ to_one wants f rows new seen i g is far e tells = record {
     as_many : length new ≡ length rows
     as_many = ap length e ∙ length-set rows (row_of f g) (get_or rows (row_of f g) [] ++ i ∷ [])
 
-    by : (h : Top) (b : Bool) → (row_of f h == row_of f g) ≡ b → get_or (set rows (row_of f g) (get_or rows (row_of f g) [] ++ i ∷ [])) (row_of f h) [] ≡ filter (wants h) seen ++ cond (wants h i) (i ∷ []) []
+    by : (h : Top) (b : Bool) → (row_of f h == row_of f g) ≡ b → get_or (set rows (row_of f g) (get_or rows (row_of f g) [] ++ i ∷ [])) (row_of f h) [] ≡ filter (λ t. own h t.place) (seen ++ i ∷ [])
     by h true q =
         let same : row_of f h ≡ row_of f g = (Decides-eqb (row_of f h) (row_of f g)).0 q in
         ap (λ n. get_or (set rows (row_of f g) (get_or rows (row_of f g) [] ++ i ∷ [])) n []) same
-        ∙ get_or-set_same rows (row_of f g) (get_or rows (row_of f g) [] ++ i ∷ []) [] (within wants f rows seen is g)
+        ∙ get_or-set_same rows (row_of f g) (get_or rows (row_of f g) [] ++ i ∷ []) [] (within own all f rows any seen is g)
         ∙ ap (λ n. get_or rows n [] ++ i ∷ []) (sym same)
-        ∙ ap (λ l. l ++ i ∷ []) (is.told h)
-        ∙ ap (λ b. filter (wants h) seen ++ cond b (i ∷ []) []) (sym (tells h ∙ same_head wants f rows seen is g h far same))
+        ∙ grows (λ t. own h t.place) seen (get_or rows (row_of f h) []) i (is.told h) (tells h ∙ same_head own all f rows any seen is g h far same)
     by h false q =
         get_or-set_other rows (row_of f g) (row_of f h) (get_or rows (row_of f g) [] ++ i ∷ []) [] (λ same. yes_no ((Decides-eqb (row_of f h) (row_of f g)).1 same) q)
-        ∙ is.told h
-        ∙ sym (append-nil (filter (wants h) seen))
-        ∙ ap (λ b. filter (wants h) seen ++ cond b (i ∷ []) []) (sym (tells h ∙ other g h q))
+        ∙ stays (λ t. own h t.place) seen (get_or rows (row_of f h) []) i (is.told h) (tells h ∙ other g h q)
       where
         yes_no : {b : Bool} → b ≡ true → b ≡ false → ⊥
         yes_no y n = absurd (cc)
@@ -180,10 +182,12 @@ to_one wants f rows new seen i g is far e tells = record {
 
 -- ---- one more row
 
-pub one_row_more : (wants : Top → ℕ → Bool) (f g : Text → Option ℕ) (rows new : List (List ℕ)) (seen : List ℕ) (c : Text) → IsFilled wants f rows seen → is_some (f c) ≡ false →
-    new ≡ rows ++ get_or rows 0 [] ∷ [] → ((d : Text) → g d ≡ cond (bytes_eq c d) (Some (length rows)) (f d)) → IsFilled wants g new seen
-one_row_more wants f g rows new seen c is fresh e after = record {
+pub one_row_more : (own : Top → ℕ → Bool) (all : ℕ → Bool) (f g : Text → Option ℕ) (rows new : List (List Ranked)) (any seen : List Ranked) (c : Text) → IsFilled own all f rows any seen → is_some (f c) ≡ false →
+    new ≡ rows ++ [] ∷ [] → ((d : Text) → g d ≡ cond (bytes_eq c d) (Some (length rows)) (f d)) → IsFilled own all g new any seen
+one_row_more own all f g rows new any seen c is fresh e after = record {
   told = λ h. ap (λ l. get_or l (row_of g h) []) e ∙ by h;
+  shared = is.shared;
+  empty = ap (λ l. get_or l 0 []) e ∙ get_or_append_left rows ([] ∷ []) [] 0 (let four : 4 ≤ length rows = is.literals in omega arith) ∙ is.empty;
   literals = let four : 4 ≤ length rows = is.literals in let n : length new ≡ suc (length rows) = as_many in omega arith;
   low = λ d n k. low d n (bytes_eq c d) refl k;
   high = λ d n k. high d n (bytes_eq c d) refl k;
@@ -192,7 +196,7 @@ one_row_more wants f g rows new seen c is fresh e after = record {
   where
     as_many : length new ≡ suc (length rows)
     as_many =
-        let plus : length (rows ++ get_or rows 0 [] ∷ []) ≡ length rows + 1 = length-append rows (get_or rows 0 [] ∷ []) in
+        let plus : length (rows ++ [] ∷ []) ≡ length rows + 1 = length-append rows ([] ∷ []) in
         ap length e ∙ plus ∙ (let one : length rows + 1 ≡ suc (length rows) = omega arith in one)
 
     at : (d : Text) (b : Bool) → bytes_eq c d ≡ b → g d ≡ cond b (Some (length rows)) (f d)
@@ -235,28 +239,29 @@ one_row_more wants f g rows new seen c is fresh e after = record {
         absurd (omega arith)
 
     before : (h : Top) → row_of f h < length rows
-    before h = within wants f rows seen is h
+    before h = within own all f rows any seen is h
 
-    old_row : (h : Top) → row_of g h ≡ row_of f h → get_or (rows ++ get_or rows 0 [] ∷ []) (row_of g h) [] ≡ filter (wants h) seen
-    old_row h same = ap (λ n. get_or (rows ++ get_or rows 0 [] ∷ []) n []) same ∙ get_or_append_left rows (get_or rows 0 [] ∷ []) [] (row_of f h) (before h) ∙ is.told h
+    old_row : (h : Top) → row_of g h ≡ row_of f h → get_or (rows ++ [] ∷ []) (row_of g h) [] ≡ filter (λ t. own h t.place) seen
+    old_row h same = ap (λ n. get_or (rows ++ [] ∷ []) n []) same ∙ get_or_append_left rows ([] ∷ []) [] (row_of f h) (before h) ∙ is.told h
 
-    by : (h : Top) → get_or (rows ++ get_or rows 0 [] ∷ []) (row_of g h) [] ≡ filter (wants h) seen
+    by : (h : Top) → get_or (rows ++ [] ∷ []) (row_of g h) [] ≡ filter (λ t. own h t.place) seen
     by number = old_row number refl
     by truth_value = old_row truth_value refl
     by some_token = old_row some_token refl
     by (constructor_named d) = named (bytes_eq c d) refl
       where
-        named : (b : Bool) → bytes_eq c d ≡ b → get_or (rows ++ get_or rows 0 [] ∷ []) (unwrap_or (g d) 0) [] ≡ filter (wants (constructor_named d)) seen
+        named : (b : Bool) → bytes_eq c d ≡ b → get_or (rows ++ [] ∷ []) (unwrap_or (g d) 0) [] ≡ filter (λ t. own (constructor_named d) t.place) seen
         named false q = old_row (constructor_named d) (ap (λ o. unwrap_or o 0) (at d false q))
         named true q =
-            ap (λ o. get_or (rows ++ get_or rows 0 [] ∷ []) (unwrap_or o 0) []) (at d true q)
-            ∙ get_or-append_seam rows (get_or rows 0 []) [] []
+            ap (λ o. get_or (rows ++ [] ∷ []) (unwrap_or o 0) []) (at d true q)
+            ∙ get_or-append_seam rows [] [] []
+            ∙ sym is.empty
             ∙ ap (λ o. get_or rows (unwrap_or o 0) []) (sym (ap f (sym ((bytes_eq-Decides c d).0 q)) ∙ none_here))
             ∙ is.told (constructor_named d)
 
 -- the row that was added isn't that of the others
-pub row_found : (wants : Top → ℕ → Bool) (f : Text → Option ℕ) (rows : List (List ℕ)) (seen : List ℕ) (c : Text) → IsFilled wants f rows seen → is_some (f c) ≡ true → row_of f (constructor_named c) ≢ 0
-row_found wants f rows seen c is there = by (f c) refl there
+pub row_found : (own : Top → ℕ → Bool) (all : ℕ → Bool) (f : Text → Option ℕ) (rows : List (List Ranked)) (any seen : List Ranked) (c : Text) → IsFilled own all f rows any seen → is_some (f c) ≡ true → row_of f (constructor_named c) ≢ 0
+row_found own all f rows any seen c is there = by (f c) refl there
   where
     by : (o : Option ℕ) → f c ≡ o → is_some o ≡ true → unwrap_or o 0 ≢ 0
     by None e h z = absurd (cc)

@@ -4,11 +4,7 @@ use Rattle.std.specs.List.{filter, list_all}
 use Rattle.std.proofs.lemmas.Bool.Decides.{Decides-eqb}
 use Rattle.std.proofs.lemmas.List.Sums.{sum_by-cons}
 use Rattle.kp_rules.specs.declared.rule.Rule.{Rule}
-use Rattle.kp_rule_sets.specs.Tops.{Top, may_have}
 use Rattle.kp_rule_sets.specs.Turns.{is_mine, goes_before, are_ordered, AreInTurn}
-use Rattle.kp_rule_sets.specs.Rows.{row_of, IsFilled}
-use Rattle.kp_kore.specs.Syntax.{Text}
-use Rattle.std.proofs.Common.{get_or}
 
 plus_none : (m : ℕ) → 0 + m ≡ m
 plus_none m = omega arith
@@ -73,8 +69,3 @@ kept_in_turn rules mine order is = record {
         of : (b : Bool) → ◌≡◌ {A = ℕ} (cond b 1 0) (cond b 1 0)
         of b = refl
     by None = refl
-
--- what the rows of all places say
-pub row_in_turn : (rules : List Rule) (order : List ℕ) (f : Text → Option ℕ) (rows : List (List ℕ)) (h : Top) → AreInTurn rules (λ _. true) order →
-    IsFilled (λ g i. is_mine (may_have g) (slice_get rules i)) f rows order → AreInTurn rules (may_have h) (get_or rows (row_of f h) [])
-row_in_turn rules order f rows h is fills = subst (AreInTurn rules (may_have h)) (sym (fills.told h)) (kept_in_turn rules (may_have h) order is)

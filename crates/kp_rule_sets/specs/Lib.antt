@@ -1,5 +1,6 @@
 pub mod HeadView
 pub mod Keys
+pub mod Merged
 pub mod Rows
 pub mod RuleSets
 pub mod Tops

@@ -42,6 +42,18 @@ allow any_top h = true
 allow no_top h = false
 allow (only_top t) h = tops_same t h
 
+-- the one thing is this head
+abbrev pub is_only : Tops → Top → Bool
+is_only any_top h = false
+is_only no_top h = false
+is_only (only_top t) h = tops_same t h
+
+-- anything may stand there
+abbrev pub is_any : Tops → Bool
+is_any any_top = true
+is_any no_top = false
+is_any (only_top t) = false
+
 -- of a left term that is read: inj is seen through, and a variable may stand for any value
 abbrev pub left_tops : LeftTerm → Tops
 left_tops (left_bound x) = any_top
@@ -64,3 +76,11 @@ body_tops (Foreign k) = form_tops (skeleton_view k)
 -- a rule may have a head where its left term, without inj, is a variable or has that head
 abbrev pub may_have : Top → Rule → Bool
 may_have h r = allow (body_tops r.body.value) h
+
+-- a rule has a head where its left term, without inj, has it
+abbrev pub has : Top → Rule → Bool
+has h r = is_only (body_tops r.body.value) h
+
+-- a rule may have any head where its left term is a variable
+abbrev pub has_any : Rule → Bool
+has_any r = is_any (body_tops r.body.value)

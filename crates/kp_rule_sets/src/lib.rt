@@ -4,9 +4,11 @@
 pub mod head;
 mod index;
 pub mod laws;
+pub mod places;
 pub mod rule_set;
 mod tops;
 mod turn;
 
 pub use head::{Head, head_of};
+pub use places::Places;
 pub use rule_set::RuleSet;

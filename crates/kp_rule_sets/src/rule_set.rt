@@ -1,13 +1,15 @@
 // The rules of a definition with their turns.
-ghost use Rattle.std.specs.Prelude.{◌≡◌, IfOk, true};
+ghost use Rattle.std.specs.Prelude.{◌≡◌, IfOk, option_map, slice_get, true};
 ghost use Rattle.std.proofs.Props.{props};
 ghost use Rattle.kp_rule_sets.specs.HeadView.{head_view};
+ghost use Rattle.kp_rule_sets.specs.Merged.{left_of};
 ghost use Rattle.kp_rule_sets.specs.Rows.{places_at};
 ghost use Rattle.kp_rule_sets.specs.Tops.{Top, may_have};
 ghost use Rattle.kp_rule_sets.specs.Turns.{AreInTurn};
 
 use crate::head::Head;
 use crate::index::{Index, index_of};
+use crate::places::Places;
 use crate::turn::turn_order;
 use kp_rules::Rule;
 use kp_signature::Signature;
@@ -46,6 +48,13 @@ impl RuleSet {
         })
     }
 
+    /// The rule at a place.
+    pub fn rule_at(&self, place: usize) -> Option<&Rule>
+        ensures { option_map (λ r. r.now) result ≡ slice_get self.now.rules.items place }
+    {
+        self.rules.get(place)
+    }
+
     /// The places of all rules, by priority number, and of one number in order.
     pub fn in_turn(&self) -> &[usize]
         ensures { AreInTurn self.now.rules.items (λ _. true) result.now }
@@ -55,8 +64,8 @@ impl RuleSet {
 
     /// The places of exactly the rules that may have the head: those whose left term, without `inj`, has it or is a
     /// variable. They come by turn, and are found without memory.
-    pub fn rules_at(&self, head: &Head<'_>) -> &[usize]
-        ensures { AreInTurn self.now.rules.items (may_have (head_view head.now)) result.now }
+    pub fn rules_at(&self, head: &Head<'_>) -> Places<'_>
+        ensures { AreInTurn self.now.rules.items (may_have (head_view head.now)) (left_of result) }
     {
         self.index.places(head)
     }

@@ -20,12 +20,12 @@ updated c =
     (hash_map_updates_text (string_bytes c.in_ok-name.name) c.args.self.now.names c.insert.new.self (Some c.in_ok-row.row) c.in_ok-insert.ensures.updates))
 
 pub returns-clause-filled : goal.returns-clause-filled
-returns-clause-filled c = λ wants seen is.
-    one_row_more wants (get_by_text c.args.self.now.names) (get_by_text c.insert.new.self) (rows_view c.args.self.now.rows.items) (rows_view c.add_row.new.rows.items) seen c.args.name.now is
+returns-clause-filled c = λ own all seen is.
+    one_row_more own all (get_by_text c.args.self.now.names) (get_by_text c.insert.new.self) (rows_view c.args.self.now.rows.items) (rows_view c.add_row.new.rows.items) c.args.self.now.any.items seen c.args.name.now is
     (sym c.contains_key.ensures ∙ c.if-contains_key.false)
     c.in_ok-row.ensures.added
     (updated c)
 
 pub returns-clause-noted : goal.returns-clause-noted
-returns-clause-noted c = λ wants seen is.
+returns-clause-noted c = λ own all seen is.
     row_made (get_by_text c.args.self.now.names) (get_by_text c.insert.new.self) (length (rows_view c.args.self.now.rows.items)) c.args.name.now (updated c) is.literals

@@ -5,5 +5,5 @@ use Rattle.kp_rule_sets.specs.Rows.{row_of}
 use Rattle.kp_rule_sets.proofs.index.Index.prepare.Goals as goal
 
 pub returns-in-Constructor-clause-prepared : goal.returns-in-Constructor-clause-prepared
-returns-in-Constructor-clause-prepared c = λ wants seen is.
-    subst (λ h. OnOk c.note.result (row_of (get_by_text c.note.new.self.names) (head_view h) ≢ 0)) (sym c.in-Constructor.is) (c.note.ensures.noted wants seen is)
+returns-in-Constructor-clause-prepared c = λ own all seen is.
+    subst (λ h. OnOk c.note.result (row_of (get_by_text c.note.new.self.names) (head_view h) ≢ 0)) (sym c.in-Constructor.is) (c.note.ensures.noted own all seen is)
