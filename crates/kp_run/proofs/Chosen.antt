@@ -132,7 +132,7 @@ two_at P (w ∷ rules) zero (suc l) r q is it p h far = inl (subst P (sym (first
 two_at P (w ∷ rules) (suc k) zero r q is it p h far = inl (subst P (sym (first_same it)) h, any_at P rules k r is p)
 two_at P (w ∷ rules) (suc k) (suc l) r q is it p h far = inr (two_at P rules k l r q is it p h (λ e. far (ap suc e)))
 
-at_most_once : (rules : List Rule) (mine : Rule → Bool) (places : List ℕ) → AreInTurn rules mine places → (i : ℕ) → times i places ≤ 1
+pub at_most_once : (rules : List Rule) (mine : Rule → Bool) (places : List ℕ) → AreInTurn rules mine places → (i : ℕ) → times i places ≤ 1
 at_most_once rules mine places turn i = by (is_mine mine (slice_get rules i)) (turn.exact i)
   where
     by : (b : Bool) → times i places ≡ cond b 1 0 → times i places ≤ 1

@@ -7,5 +7,6 @@ pub mod Open
 pub mod Runs
 pub mod Shallow
 pub mod States
+pub mod Taking
 pub mod Theories
 pub mod Turning

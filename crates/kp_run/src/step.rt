@@ -15,7 +15,7 @@ ghost use Rattle.kp_ground.specs.Terms.{term_value};
 ghost use Rattle.kp_ground.specs.TermView.{term_view};
 ghost use Rattle.kp_ground.specs.View.{value_view};
 ghost use Rattle.kp_rule_sets.specs.RuleSets.{RunsAs};
-ghost use Rattle.kp_rule_sets.specs.Turns.{rules_among, with_first};
+ghost use Rattle.kp_rule_sets.specs.Turns.{with_first};
 ghost use Rattle.kp_run.specs.Causes.{TwoAmong, IsWrittenAt, IsNotStepped, StopsUntold};
 ghost use Rattle.kp_run.specs.Runs.{IsNext, IsWrittenNext, written_of};
 ghost use Rattle.kp_run.specs.Shallow.{IsShallow, IsShallowNext, IsMatchOf};
@@ -111,32 +111,16 @@ fn told_with<'a>(
     value: &Value,
     first: Option<&'a Rule>,
 ) -> Result<Option<&'a Rule>, AllocError>
-    ensures { (before : List Rule) → IsSorted (signature_view rules.now.signature.value) (value_view value.now) → TellsForeign (signature_view rules.now.signature.value) (value_view value.now) before first.entry →
-        IfOk result (TellsForeign (signature_view rules.now.signature.value) (value_view value.now) (before ++ with_first (slice_get rules.now.rules.items place) [])) }
+    ensures { IsSorted (signature_view rules.now.signature.value) (value_view value.now) →
+        IfOk result (λ next. (before : List Rule) → TellsForeign (signature_view rules.now.signature.value) (value_view value.now) before first.entry → TellsForeign (signature_view rules.now.signature.value) (value_view value.now) (before ++ with_first (slice_get rules.now.rules.items place) []) next) }
 {
-    match rules.rules.get(place) {
+    match rules.rule_at(place) {
         Some(rule) => {
             let might = might_rewrite(alloc, &rules.signature, &rule.body, value)?;
             Ok(told_after(first, rule, might))
         }
         None => Ok(first),
     }
-}
-
-/// The foreign rule that is told of those at these places.
-fn foreign_among<'a>(
-    alloc: Global,
-    rules: &'a RuleSet,
-    places: &[usize],
-    value: &Value,
-) -> Result<Option<&'a Rule>, AllocError>
-    ensures { IsSorted (signature_view rules.now.signature.value) (value_view value.now) → IfOk result (TellsForeign (signature_view rules.now.signature.value) (value_view value.now) (rules_among rules.now.rules.items places.now)) }
-{
-    let mut first = None;
-    for i in 0..places.len() {
-        first = told_with(alloc, rules, places[i], value, first)?;
-    }
-    Ok(first)
 }
 
 /// The foreign rule that is told of those that might rewrite the value: of the smallest priority number the first. Rules
@@ -148,8 +132,11 @@ pub fn foreign_on<'a>(
 ) -> Result<Option<&'a Rule>, AllocError>
     ensures { IsSorted (signature_view rules.now.signature.value) (value_view value.now) → IfOk result (TellsForeign (signature_view rules.now.signature.value) (value_view value.now) rules.now.rules.items) }
 {
-    let places = rules.rules_at(&head_of(value));
-    let first = foreign_among(alloc, rules, places, value)?;
+    let mut places = rules.rules_at(&head_of(value));
+    let mut first = None;
+    while let Some(place) = places.next() {
+        first = told_with(alloc, rules, place, value, first)?;
+    }
     Ok(first)
 }
 
@@ -230,37 +217,18 @@ fn turn_with<'a>(
     value: &Value,
     turn: Turn<'a>,
 ) -> Result<Turn<'a>, RunError>
-    ensures turn { (before : List Rule) → IsTurn (signature_view rules.now.signature.value) (value_view value.now) before turn.entry → IfOk result (λ next. IsTurn (signature_view rules.now.signature.value) (value_view value.now) (before ++ with_first (slice_get rules.now.rules.items place) []) next) }
-    ensures wide { IfErr result (λ e. e ≡ NotAnswered → AnyByRecursion (λ r. BodyIsWide (signature_view rules.now.signature.value) (value_view value.now) r.body.value) (with_first (slice_get rules.now.rules.items place) [])) }
+    ensures turn { IfOk result (λ next. (before : List Rule) → IsTurn (signature_view rules.now.signature.value) (value_view value.now) before turn.entry → IsTurn (signature_view rules.now.signature.value) (value_view value.now) (before ++ with_first (slice_get rules.now.rules.items place) []) next) }
+    ensures wide { IfErr result (λ e. e ≡ NotAnswered → AnyByRecursion (λ r. BodyIsWide (signature_view rules.now.signature.value) (value_view value.now) r.body.value) rules.now.rules.items) }
     ensures narrow { IfOk result (λ _. AllByRecursion (λ r. ¬ BodyIsWide (signature_view rules.now.signature.value) (value_view value.now) r.body.value) (with_first (slice_get rules.now.rules.items place) [])) }
-    ensures unbound { IfErr result (λ e. e ≡ Unbound → SomeOpen (with_first (slice_get rules.now.rules.items place) [])) }
+    ensures unbound { IfErr result (λ e. e ≡ Unbound → SomeOpen rules.now.rules.items) }
 {
-    match rules.rules.get(place) {
+    match rules.rule_at(place) {
         Some(rule) => {
             let firing = firing_of(alloc, &rules.signature, rule, value)?;
             Ok(turn_after(turn, firing))
         }
         None => Ok(turn),
     }
-}
-
-/// Of the rules at these places those that have their turn on a value.
-fn turn_among<'a>(
-    alloc: Global,
-    rules: &'a RuleSet,
-    places: &[usize],
-    value: &Value,
-) -> Result<Turn<'a>, RunError>
-    ensures turn { IfOk result (λ turn. IsTurn (signature_view rules.now.signature.value) (value_view value.now) (rules_among rules.now.rules.items places.now) turn) }
-    ensures wide { IfErr result (λ e. e ≡ NotAnswered → AnyByRecursion (λ r. BodyIsWide (signature_view rules.now.signature.value) (value_view value.now) r.body.value) (rules_among rules.now.rules.items places.now)) }
-    ensures narrow { IfOk result (λ _. AllByRecursion (λ r. ¬ BodyIsWide (signature_view rules.now.signature.value) (value_view value.now) r.body.value) (rules_among rules.now.rules.items places.now)) }
-    ensures unbound { IfErr result (λ e. e ≡ Unbound → SomeOpen (rules_among rules.now.rules.items places.now)) }
-{
-    let mut turn = Turn::Nobody;
-    for i in 0..places.len() {
-        turn = turn_with(alloc, rules, places[i], value, turn)?;
-    }
-    Ok(turn)
 }
 
 /// The rules that have their turn on a value. Rules of other heads aren't looked at.
@@ -270,8 +238,12 @@ fn turn_on<'a>(alloc: Global, rules: &'a RuleSet, value: &Value) -> Result<Turn<
     ensures narrow { IfOk result (λ _. AllByRecursion (λ r. ¬ BodyIsWide (signature_view rules.now.signature.value) (value_view value.now) r.body.value) rules.now.rules.items) }
     ensures unbound { IfErr result (λ e. e ≡ Unbound → SomeOpen rules.now.rules.items) }
 {
-    let places = rules.rules_at(&head_of(value));
-    turn_among(alloc, rules, places, value)
+    let mut places = rules.rules_at(&head_of(value));
+    let mut turn = Turn::Nobody;
+    while let Some(place) = places.next() {
+        turn = turn_with(alloc, rules, place, value, turn)?;
+    }
+    Ok(turn)
 }
 
 /// The sort that a rule's right side is written at: the state's, where the rule's own is it or below it.
