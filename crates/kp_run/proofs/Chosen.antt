@@ -205,10 +205,10 @@ between_at P Q S (q ∷ rules) (suc k) r is p before after = inr (before 0 q ref
 
 -- an earlier rule that has no turn before another one has a greater number
 greater : (rules : List Rule) (i k : ℕ) (q r : Rule) → slice_get rules i ≡ Some q → slice_get rules k ≡ Some r → not (goes_before rules i k) ≡ true → i < k → r.priority ≤ q.priority → r.priority < q.priority
-greater rules i k q r is it no lt le = by (q.priority == r.priority) refl (nat_lt i k) refl (nat_lt q.priority r.priority) refl
+greater rules i k q r is it unless lt le = by (q.priority == r.priority) refl (nat_lt i k) refl (nat_lt q.priority r.priority) refl
   where
     seen : not (nat_lt q.priority r.priority || (q.priority == r.priority && nat_lt i k)) ≡ true
-    seen = ap (λ o. not (nat_lt (number_of o) r.priority || (number_of o == r.priority && nat_lt i k))) (sym is) ∙ ap (λ o. not (nat_lt (number_of (slice_get rules i)) (number_of o) || (number_of (slice_get rules i) == number_of o && nat_lt i k))) (sym it) ∙ no
+    seen = ap (λ o. not (nat_lt (number_of o) r.priority || (number_of o == r.priority && nat_lt i k))) (sym is) ∙ ap (λ o. not (nat_lt (number_of (slice_get rules i)) (number_of o) || (number_of (slice_get rules i) == number_of o && nat_lt i k))) (sym it) ∙ unless
 
     apart_now : (q.priority == r.priority) ≡ false → r.priority < q.priority
     apart_now e = less (λ s. yes_and_no ((Decides-eqb q.priority r.priority).1 s) e)

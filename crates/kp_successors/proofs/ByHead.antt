@@ -209,7 +209,7 @@ absent x (y ∷ ys) h = by (absent x ys) (y == x) refl
 
 -- of one number, what has no turn before another place stands behind it
 behind : (x j a b : ℕ) → b ≡ a → not (nat_lt b a || (b == a && nat_lt j x)) ≡ true → not (x == j) ≡ true → x < j
-behind x j a b same no far = by (at_most_or_beyond j x) (at_most_or_beyond x j)
+behind x j a b same unless far = by (at_most_or_beyond j x) (at_most_or_beyond x j)
   where
     apart : x ≡ j → ⊥
     apart e = contra (sym (ap not ((Decides-eqb x j).1 e)) ∙ far)
@@ -218,7 +218,7 @@ behind x j a b same no far = by (at_most_or_beyond j x) (at_most_or_beyond x j)
         contra w = absurd (cc)
 
     goes : nat_lt j x ≡ true → not (nat_lt b a || (true && true)) ≡ true
-    goes lt = sym (ap (λ d. not (nat_lt b a || (d && nat_lt j x))) ((Decides-eqb b a).1 same) ∙ ap (λ d. not (nat_lt b a || (true && d))) lt) ∙ no
+    goes lt = sym (ap (λ d. not (nat_lt b a || (d && nat_lt j x))) ((Decides-eqb b a).1 same) ∙ ap (λ d. not (nat_lt b a || (true && d))) lt) ∙ unless
 
     wrong : (c : Bool) → not (c || (true && true)) ≡ true → ⊥
     wrong true w = absurd (cc)
