@@ -14,8 +14,8 @@ loop-place-init c = λ sorted.
     let g = signature_view c.args.rules.now.signature.value in
     let u = value_view c.args.value.now in
     let rules = c.args.rules.now.rules.items in
-    sets_out rules (may_have (top_of u)) (λ before. TellsForeign g u (rules_among rules before) None) (left_of c.rules_at.result)
-    (subst (λ (h : Top). AreInTurn rules (may_have h) (left_of c.rules_at.result)) c.head_of.ensures c.rules_at.ensures) tt
+    sets_out rules (may_have (top_of u)) (λ before. TellsForeign g u (rules_among rules before) None) (left_of c.rules_at-places.result)
+    (subst (λ (h : Top). AreInTurn rules (may_have h) (left_of c.rules_at-places.result)) c.head_of.ensures c.rules_at-places.ensures) tt
 
 pub loop-place-preserved : goal.loop-place-preserved
 loop-place-preserved c = λ sorted.
@@ -33,6 +33,6 @@ returns c = λ sorted.
     let g = signature_view c.args.rules.now.signature.value in
     let u = value_view c.args.value.now in
     let rules = c.args.rules.now.rules.items in
-    let ended : left_of c.loop-place.places ≡ [] = subst (λ o. MatchOption o (left_of c.loop-place.places ≡ []) (λ p. left_of c.loop-place.places ≡ p ∷ left_of c.next.new.self)) c.in-None.is c.next.ensures in
+    let ended : left_of c.loop-place.places ≡ [] = subst (λ o. MatchOption o (left_of c.loop-place.places ≡ []) (λ p. left_of c.loop-place.places ≡ p ∷ left_of c.next.new.self)) c.in_default.is c.next.ensures in
     let there = arrives rules (may_have (top_of u)) (λ before. TellsForeign g u (rules_among rules before) c.loop-place.first) (left_of c.loop-place.places) ended (c.loop-place.invariant sorted) in
     tells_back g u rules there.all c.loop-place.first there.turn there.holds

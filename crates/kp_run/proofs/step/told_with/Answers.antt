@@ -11,8 +11,8 @@ returns-in_ok-might-in-Some c = λ sorted before tells.
     let u = value_view c.args.value.now in
     let rules = c.args.rules.now.rules.items in
     let found : Some c.in-Some.rule.now ≡ slice_get rules c.args.place = subst (λ o. option_map (λ r. r.now) o ≡ slice_get rules c.args.place) c.in-Some.is c.rule_at.ensures in
-    one_at_next (λ rs. TellsForeign g u rs c.told_after-in-Some.result) before (slice_get rules c.args.place) c.in-Some.rule.now found
-    (c.told_after-in-Some.ensures g u before tells ((rw (c.deref.ensures, c.deref-in-Some.ensures) at c.in_ok-might-in-Some.ensures) sorted))
+    one_at_next (λ rs. TellsForeign g u rs c.told_after.result) before (slice_get rules c.args.place) c.in-Some.rule.now found
+    (c.told_after.ensures g u before tells ((rw (c.deref.ensures, c.deref-in-Some.ensures) at c.in_ok-might-in-Some.ensures) sorted))
 
 pub returns-in-None : goal.returns-in-None
 returns-in-None c = λ sorted before tells.

@@ -14,8 +14,8 @@ returns-in_ok-firing-in-Some-clause-turn c = λ before turn.
     let rules = c.args.rules.now.rules.items in
     let found : Some c.in-Some.rule.now ≡ slice_get rules c.args.place = subst (λ o. option_map (λ r. r.now) o ≡ slice_get rules c.args.place) c.in-Some.is c.rule_at.ensures in
     let r = c.in-Some.rule.now in
-    one_at_next (λ rs. IsTurn g u rs c.turn_after-in-Some.result) before (slice_get rules c.args.place) r found
-    (c.turn_after-in-Some.ensures g u before r turn
+    one_at_next (λ rs. IsTurn g u rs c.turn_after.result) before (slice_get rules c.args.place) r found
+    (c.turn_after.ensures g u before r turn
     (subst (λ s. MatchOption c.in_ok-firing-in-Some.firing (¬ BodyFires (signature_view s) u r.body.value) (λ f. IsFiring (signature_view s) u f r)) c.deref.ensures c.in_ok-firing-in-Some.ensures.firing))
 
 pub returns-in_ok-firing-in-Some-clause-narrow : goal.returns-in_ok-firing-in-Some-clause-narrow
@@ -32,7 +32,7 @@ returns-in_err-firing-in-Some-clause-wide c =
     let u = value_view c.args.value.now in
     let rules = c.args.rules.now.rules.items in
     let found : Some c.in-Some.rule.now ≡ slice_get rules c.args.place = subst (λ o. option_map (λ r. r.now) o ≡ slice_get rules c.args.place) c.in-Some.is c.rule_at.ensures in
-    let p = err_from_is_err_and c.from_residual-in_err-firing-in-Some.result c.from_residual-in_err-firing-in-Some.ensures.1 in
+    let p = err_from_is_err_and c.from_residual.result c.from_residual.ensures.1 in
     rw (p.1, p.2) (λ is. some_at (λ r. BodyIsWide g u r.body.value) rules c.args.place c.in-Some.rule.now found (subst (λ s. BodyIsWide (signature_view s) u c.in-Some.rule.now.body.value) c.deref.ensures (c.in_err-firing-in-Some.ensures.wide is)))
 
 pub returns-in_err-firing-in-Some-clause-unbound : goal.returns-in_err-firing-in-Some-clause-unbound
@@ -41,7 +41,7 @@ returns-in_err-firing-in-Some-clause-unbound c =
     let u = value_view c.args.value.now in
     let rules = c.args.rules.now.rules.items in
     let found : Some c.in-Some.rule.now ≡ slice_get rules c.args.place = subst (λ o. option_map (λ r. r.now) o ≡ slice_get rules c.args.place) c.in-Some.is c.rule_at.ensures in
-    let p = err_from_is_err_and c.from_residual-in_err-firing-in-Some.result c.from_residual-in_err-firing-in-Some.ensures.1 in
+    let p = err_from_is_err_and c.from_residual.result c.from_residual.ensures.1 in
     rw (p.1, p.2) (λ is. some_at (λ r. IsOpen r.body.value) rules c.args.place c.in-Some.rule.now found (c.in_err-firing-in-Some.ensures.unbound is))
 
 pub returns-in-None-clause-turn : goal.returns-in-None-clause-turn

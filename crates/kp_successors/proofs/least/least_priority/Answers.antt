@@ -19,8 +19,8 @@ loop-place-init c =
     let g = signature_view c.args.rules.now.signature.value in
     let u = value_view c.args.value.now in
     let rules = c.args.rules.now.rules.items in
-    sets_out rules (may_have (top_of u)) (λ before. IsLeast g u (rules_among rules before) None × AllByRecursion (λ r. ¬ BodyIsWide g u r.body.value) (rules_among rules before)) (left_of c.rules_at.result)
-    (subst (λ (h : Top). AreInTurn rules (may_have h) (left_of c.rules_at.result)) c.head_of.ensures c.rules_at.ensures) (tt, tt)
+    sets_out rules (may_have (top_of u)) (λ before. IsLeast g u (rules_among rules before) None × AllByRecursion (λ r. ¬ BodyIsWide g u r.body.value) (rules_among rules before)) (left_of c.rules_at-places.result)
+    (subst (λ (h : Top). AreInTurn rules (may_have h) (left_of c.rules_at-places.result)) c.head_of.ensures c.rules_at-places.ensures) (tt, tt)
 
 pub loop-place-preserved : goal.loop-place-preserved
 loop-place-preserved c =
@@ -42,7 +42,7 @@ returns-clause-least c =
     let g = signature_view c.args.rules.now.signature.value in
     let u = value_view c.args.value.now in
     let rules = c.args.rules.now.rules.items in
-    let ended : left_of c.loop-place.places ≡ [] = subst (λ o. MatchOption o (left_of c.loop-place.places ≡ []) (λ p. left_of c.loop-place.places ≡ p ∷ left_of c.next.new.self)) c.in-None.is c.next.ensures in
+    let ended : left_of c.loop-place.places ≡ [] = subst (λ o. MatchOption o (left_of c.loop-place.places ≡ []) (λ p. left_of c.loop-place.places ≡ p ∷ left_of c.next.new.self)) c.in_default.is c.next.ensures in
     let there = arrives rules (may_have (top_of u)) (λ before. IsLeast g u (rules_among rules before) c.loop-place.least × AllByRecursion (λ r. ¬ BodyIsWide g u r.body.value) (rules_among rules before)) (left_of c.loop-place.places) ended c.loop-place.invariant in
     least_back g u rules there.all c.loop-place.least there.turn there.holds.0
 
@@ -51,7 +51,7 @@ returns-clause-narrow c =
     let g = signature_view c.args.rules.now.signature.value in
     let u = value_view c.args.value.now in
     let rules = c.args.rules.now.rules.items in
-    let ended : left_of c.loop-place.places ≡ [] = subst (λ o. MatchOption o (left_of c.loop-place.places ≡ []) (λ p. left_of c.loop-place.places ≡ p ∷ left_of c.next.new.self)) c.in-None.is c.next.ensures in
+    let ended : left_of c.loop-place.places ≡ [] = subst (λ o. MatchOption o (left_of c.loop-place.places ≡ []) (λ p. left_of c.loop-place.places ≡ p ∷ left_of c.next.new.self)) c.in_default.is c.next.ensures in
     let there = arrives rules (may_have (top_of u)) (λ before. IsLeast g u (rules_among rules before) c.loop-place.least × AllByRecursion (λ r. ¬ BodyIsWide g u r.body.value) (rules_among rules before)) (left_of c.loop-place.places) ended c.loop-place.invariant in
     narrow_back g u rules there.all there.turn there.holds.1
 

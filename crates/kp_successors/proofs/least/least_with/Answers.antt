@@ -18,8 +18,8 @@ returns-in_ok-fires-in-Some-clause-least c = λ before least.
     let rules = c.args.rules.now.rules.items in
     let found : Some c.in-Some.rule.now ≡ slice_get rules c.args.place = subst (λ o. option_map (λ r. r.now) o ≡ slice_get rules c.args.place) c.in-Some.is c.rule_at.ensures in
     let r = c.in-Some.rule.now in
-    one_at_next (λ rs. IsLeast g u rs c.least_after-in-Some.result) before (slice_get rules c.args.place) r found
-    (c.least_after-in-Some.ensures g u before r least refl (subst (λ s. IsTrue c.in_ok-fires-in-Some.fires ↔ BodyFires (signature_view s) u r.body.value) c.deref.ensures c.in_ok-fires-in-Some.ensures.fires))
+    one_at_next (λ rs. IsLeast g u rs c.least_after.result) before (slice_get rules c.args.place) r found
+    (c.least_after.ensures g u before r least refl (subst (λ s. IsTrue c.in_ok-fires-in-Some.fires ↔ BodyFires (signature_view s) u r.body.value) c.deref.ensures c.in_ok-fires-in-Some.ensures.fires))
 
 pub returns-in_ok-fires-in-Some-clause-narrow : goal.returns-in_ok-fires-in-Some-clause-narrow
 returns-in_ok-fires-in-Some-clause-narrow c =
@@ -36,7 +36,7 @@ returns-in_err-fires-in-Some-clause-refused c =
     let rules = c.args.rules.now.rules.items in
     let found : Some c.in-Some.rule.now ≡ slice_get rules c.args.place = subst (λ o. option_map (λ r. r.now) o ≡ slice_get rules c.args.place) c.in-Some.is c.rule_at.ensures in
     let r = c.in-Some.rule.now in
-    let p = err_from_is_err_and c.from_residual-in_err-fires-in-Some.result c.from_residual-in_err-fires-in-Some.ensures.1 in
+    let p = err_from_is_err_and c.from_residual.result c.from_residual.ensures.1 in
     rw (p.1, p.2) (caused_by g (BodyIsWide g u r.body.value) _ c.in_err-fires-in-Some.field-0.0 (λ w. some_at (λ q. BodyIsWide g u q.body.value) rules c.args.place r found w)
     (subst (λ s. IsCausedBy (signature_view s) (BodyIsWide (signature_view s) u r.body.value) c.in_err-fires-in-Some.field-0.0) c.deref.ensures c.in_err-fires-in-Some.ensures.refused))
 
@@ -47,7 +47,7 @@ returns-in_err-fires-in-Some-clause-unbound c =
     let rules = c.args.rules.now.rules.items in
     let found : Some c.in-Some.rule.now ≡ slice_get rules c.args.place = subst (λ o. option_map (λ r. r.now) o ≡ slice_get rules c.args.place) c.in-Some.is c.rule_at.ensures in
     let r = c.in-Some.rule.now in
-    let p = err_from_is_err_and c.from_residual-in_err-fires-in-Some.result c.from_residual-in_err-fires-in-Some.ensures.1 in
+    let p = err_from_is_err_and c.from_residual.result c.from_residual.ensures.1 in
     rw (p.1, p.2) (λ is. some_at (λ q. LeavesOpen g q.body.value) rules c.args.place r found (subst (λ s. LeavesOpen (signature_view s) r.body.value) c.deref.ensures (c.in_err-fires-in-Some.ensures.unbound is)))
 
 pub returns-in-None-clause-least : goal.returns-in-None-clause-least

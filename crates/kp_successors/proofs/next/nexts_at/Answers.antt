@@ -19,8 +19,8 @@ loop-place-init c =
     let u = value_view c.args.value.now in
     let n = c.args.priority in
     let rules = c.args.rules.now.rules.items in
-    sets_out rules (may_have (top_of u)) (λ before. AreNexts g u n (rules_among rules before) (map view c.new.result.items) × AllByRecursion (λ r. ¬ IsWideAt g u n r) (rules_among rules before)) (left_of c.rules_at.result)
-    (subst (λ (h : Top). AreInTurn rules (may_have h) (left_of c.rules_at.result)) c.head_of.ensures c.rules_at.ensures) (subst (λ ps. map view ps ≡ []) (sym c.new.ensures.items) refl, tt)
+    sets_out rules (may_have (top_of u)) (λ before. AreNexts g u n (rules_among rules before) (map view c.new.result.items) × AllByRecursion (λ r. ¬ IsWideAt g u n r) (rules_among rules before)) (left_of c.rules_at-places.result)
+    (subst (λ (h : Top). AreInTurn rules (may_have h) (left_of c.rules_at-places.result)) c.head_of.ensures c.rules_at-places.ensures) (subst (λ ps. map view ps ≡ []) (sym c.new.ensures.items) refl, tt)
 
 pub loop-place-preserved : goal.loop-place-preserved
 loop-place-preserved c =
@@ -46,7 +46,7 @@ returns-clause-nexts c =
     let n = c.args.priority in
     let rules = c.args.rules.now.rules.items in
     let narrow : Rule → Type 0 = λ r. ¬ IsWideAt g u n r in
-    let ended : left_of c.loop-place.places ≡ [] = subst (λ o. MatchOption o (left_of c.loop-place.places ≡ []) (λ p. left_of c.loop-place.places ≡ p ∷ left_of c.next.new.self)) c.in-None.is c.next.ensures in
+    let ended : left_of c.loop-place.places ≡ [] = subst (λ o. MatchOption o (left_of c.loop-place.places ≡ []) (λ p. left_of c.loop-place.places ≡ p ∷ left_of c.next.new.self)) c.in_default.is c.next.ensures in
     let there = arrives rules (may_have (top_of u)) (λ before. AreNexts g u n (rules_among rules before) (map view c.loop-place.found.items) × AllByRecursion narrow (rules_among rules before)) (left_of c.loop-place.places) ended c.loop-place.invariant in
     nexts_back g u n rules there.all (map view c.loop-place.found.items) there.turn there.holds.0
 
@@ -57,7 +57,7 @@ returns-clause-narrow c =
     let n = c.args.priority in
     let rules = c.args.rules.now.rules.items in
     let narrow : Rule → Type 0 = λ r. ¬ IsWideAt g u n r in
-    let ended : left_of c.loop-place.places ≡ [] = subst (λ o. MatchOption o (left_of c.loop-place.places ≡ []) (λ p. left_of c.loop-place.places ≡ p ∷ left_of c.next.new.self)) c.in-None.is c.next.ensures in
+    let ended : left_of c.loop-place.places ≡ [] = subst (λ o. MatchOption o (left_of c.loop-place.places ≡ []) (λ p. left_of c.loop-place.places ≡ p ∷ left_of c.next.new.self)) c.in_default.is c.next.ensures in
     let there = arrives rules (may_have (top_of u)) (λ before. AreNexts g u n (rules_among rules before) (map view c.loop-place.found.items) × AllByRecursion narrow (rules_among rules before)) (left_of c.loop-place.places) ended c.loop-place.invariant in
     right_back g u n rules there.all there.turn there.holds.1
 
