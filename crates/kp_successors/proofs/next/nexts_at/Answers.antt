@@ -19,8 +19,8 @@ loop-place-init c =
     let u = value_view c.args.value.now in
     let n = c.args.priority in
     let rules = c.args.rules.now.rules.items in
-    sets_out rules (may_have (top_of u)) (λ before. AreNexts g u n (rules_among rules before) (map view c.new.result.items) × AllByRecursion (λ r. ¬ IsWideAt g u n r) (rules_among rules before)) (left_of c.rules_at-places.result)
-    (subst (λ (h : Top). AreInTurn rules (may_have h) (left_of c.rules_at-places.result)) c.head_of.ensures c.rules_at-places.ensures) (subst (λ ps. map view ps ≡ []) (sym c.new.ensures.items) refl, tt)
+    sets_out rules (may_have (top_of u)) (λ before. AreNexts g u n (rules_among rules before) (map view c.new-found.result.items) × AllByRecursion (λ r. ¬ IsWideAt g u n r) (rules_among rules before)) (left_of c.rules_at-places.result)
+    (subst (λ (h : Top). AreInTurn rules (may_have h) (left_of c.rules_at-places.result)) c.head_of.ensures c.rules_at-places.ensures) (subst (λ ps. map view ps ≡ []) (sym c.new-found.ensures.items) refl, tt)
 
 pub loop-place-preserved : goal.loop-place-preserved
 loop-place-preserved c =
