@@ -158,10 +158,12 @@ in_order g u n [] (y ∷ ys) (p ∷ ps) a s rest = absurd (some_none (sym s.0.is
 in_order g u n (r ∷ rules) [] ps a s rest = inl (rest 0 r refl refl, in_order g u n rules [] ps tt s (λ i q is none. rest (suc i) q is refl))
 in_order g u n (r ∷ rules) (zero ∷ ys) [] a s rest = absurd s
 in_order g u n (r ∷ rules) (zero ∷ ys) (p ∷ ps) a s rest = inr (
-      subst (FiresAt g u n) (sym (first_same s.0.is)) s.0.fires,
-      (subst (λ (q : Rule). Follows g u q.body.value p) (sym (first_same s.0.is)) s.0.follows,
-      in_order g u n rules (down ys) ps (ascend_down ys above a.1) (stand_down g u n r rules ys ps above s.1) (λ i q is none. rest (suc i) q is (far i none))),
-    )
+  subst (FiresAt g u n) (sym (first_same s.0.is)) s.0.fires,
+  (
+    subst (λ (q : Rule). Follows g u q.body.value p) (sym (first_same s.0.is)) s.0.follows,
+    in_order g u n rules (down ys) ps (ascend_down ys above a.1) (stand_down g u n r rules ys ps above s.1) (λ i q is none. rest (suc i) q is (far i none)),
+  ),
+)
   where
     above : ArePositive ys
     above = all_positive 0 ys a.0
@@ -169,9 +171,9 @@ in_order g u n (r ∷ rules) (zero ∷ ys) (p ∷ ps) a s rest = inr (
     far : (i : ℕ) → times i (down ys) ≡ 0 → times (suc i) (zero ∷ ys) ≡ 0
     far i none = times_cons (suc i) zero ys false (zero_up i) ∙ (let same : times (suc i) ys ≡ 0 = sym (times_down i ys above) ∙ none in let z : 0 + times (suc i) ys ≡ 0 = omega arith in z)
 in_order g u n (r ∷ rules) (suc y ∷ ys) ps a s rest = inl (
-      rest 0 r refl (none_at_zero (suc y ∷ ys) above),
-      in_order g u n rules (down (suc y ∷ ys)) ps (ascend_down (suc y ∷ ys) above a) (stand_down g u n r rules (suc y ∷ ys) ps above s) (λ i q is none. rest (suc i) q is (sym (times_down i (suc y ∷ ys) above) ∙ none)),
-    )
+  rest 0 r refl (none_at_zero (suc y ∷ ys) above),
+  in_order g u n rules (down (suc y ∷ ys)) ps (ascend_down (suc y ∷ ys) above a) (stand_down g u n r rules (suc y ∷ ys) ps above s) (λ i q is none. rest (suc i) q is (sym (times_down i (suc y ∷ ys) above) ∙ none)),
+)
   where
     above : ArePositive (suc y ∷ ys)
     above = (positive y, all_positive (suc y) ys a.0)

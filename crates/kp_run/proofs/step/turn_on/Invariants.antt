@@ -13,7 +13,7 @@ abbrev pub invariant-loop-place : goal.invariant-loop-place
 invariant-loop-place l =
     IsOnTheWay l.rules.rules.items (may_have (top_of (value_view l.value)))
     (λ before. IsTurn (signature_view l.rules.signature.value) (value_view l.value) (rules_among l.rules.rules.items before) l.turn
-        × AllByRecursion (λ r. ¬ BodyIsWide (signature_view l.rules.signature.value) (value_view l.value) r.body.value) (rules_among l.rules.rules.items before)) (left_of l.places)
+    × AllByRecursion (λ r. ¬ BodyIsWide (signature_view l.rules.signature.value) (value_view l.value) r.body.value) (rules_among l.rules.rules.items before)) (left_of l.places)
 
 abbrev pub decreases-loop-place : goal.decreases-loop-place
 decreases-loop-place l = length (left_of l.places)

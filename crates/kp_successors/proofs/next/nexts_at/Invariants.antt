@@ -14,7 +14,7 @@ abbrev pub invariant-loop-place : goal.invariant-loop-place
 invariant-loop-place l =
     IsOnTheWay l.rules.rules.items (may_have (top_of (value_view l.value)))
     (λ before. AreNexts (signature_view l.rules.signature.value) (value_view l.value) l.priority (rules_among l.rules.rules.items before) (map view l.found.items)
-        × AllByRecursion (λ r. ¬ IsWideAt (signature_view l.rules.signature.value) (value_view l.value) l.priority r) (rules_among l.rules.rules.items before)) (left_of l.places)
+    × AllByRecursion (λ r. ¬ IsWideAt (signature_view l.rules.signature.value) (value_view l.value) l.priority r) (rules_among l.rules.rules.items before)) (left_of l.places)
 
 abbrev pub decreases-loop-place : goal.decreases-loop-place
 decreases-loop-place l = length (left_of l.places)
