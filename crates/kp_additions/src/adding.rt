@@ -11,6 +11,7 @@ ghost use Rattle.kp_book.specs.Books.{Opening, Registration, extended as extende
 ghost use Rattle.kp_extensions.specs.Extending.{AreSetsOf, ExtendFault, IsAddable, extend_fault};
 ghost use Rattle.kp_modules.specs.Made.{IsSetOf};
 ghost use Rattle.kp_modules.specs.Tables.{rule_set_of};
+ghost use Rattle.kp_registry.specs.Legal.{id_of as stated_id};
 ghost use Rattle.kp_registry.specs.Passes.{IsPass, IsReady};
 ghost use Rattle.kp_registry.specs.Refusals.{IsRefused};
 ghost use Rattle.kp_replies.specs.Failures.{Failure, bad_module};
@@ -43,6 +44,7 @@ pub fn add_module(
     requires pass { IsPass pass.old }
     ensures pass { IsPass pass.new }
     ensures left { OnErr result (pass.new ≡ pass.old) }
+    ensures id { IfOk result (λ id. id ≡ stated_id text.items) }
     ensures added { IfOk result (λ id. AtEachBookSeen registry.now pass.old (λ o book. IsEntered o book text.items name_as_id id registry.now pass.new)) }
     ensures refused { IfErr result (λ e. AtEachBookSeen registry.now pass.old (λ o book. TellsRefusal o book text.items name_as_id e)) }
 {
@@ -97,6 +99,7 @@ fn ready_of(
     requires pass { IsPass pass.old }
     ensures pass { pass.new ≡ pass.old }
     ensures ready { IfOk result IsReady }
+    ensures id { IfOk result (λ ready. ready.entry.id ≡ stated_id text.items) }
     ensures entry { IfOk result (λ ready. AtEachBookSeen registry.now pass.old (λ o book. IsReadied o book text.items name_as_id ready.entry)) }
     ensures err { IfErr result (λ e. AtEachBookSeen registry.now pass.old (λ o book. TellsRefusal o book text.items name_as_id e)) }
 {

@@ -101,7 +101,7 @@ later_at s e end h =
     }
 
 -- where a run ends, and which rule it tells
-ends_at : (t : Theory) (c : Value) (bound : ℕ) (end : Executed) → IsRunOf t c bound end → EndsAt t bound end.depth (value_view end.state.value)
+pub ends_at : (t : Theory) (c : Value) (bound : ℕ) (end : Executed) → IsRunOf t c bound end → EndsAt t bound end.depth (value_view end.state.value)
 ends_at t c bound end run = by_stop end.stop refl
   where
     by_stop : (stop : Stop) → end.stop ≡ stop → EndsAt t bound end.depth (value_view end.state.value)
@@ -110,7 +110,7 @@ ends_at t c bound end run = by_stop end.stop refl
     by_stop (ForeignRule id) is = let k = run.foreign id is in
         inr (k.0, inl (between_any _ _ _ (λ (r : RewriteRule). IsUnknownBy t.signature r.body (value_view end.state.value)) (λ r u. u.unknown) t.rules k.1.1))
 
-tells_first : (t : Theory) (c : Value) (bound : ℕ) (end : Executed) → IsRunOf t c bound end → TellsFirst t (ending_of end.stop) (value_view end.state.value)
+pub tells_first : (t : Theory) (c : Value) (bound : ℕ) (end : Executed) → IsRunOf t c bound end → TellsFirst t (ending_of end.stop) (value_view end.state.value)
 tells_first t c bound end run = by_stop end.stop refl
   where
     by_stop : (stop : Stop) → end.stop ≡ stop → TellsFirst t (ending_of stop) (value_view end.state.value)
@@ -131,10 +131,10 @@ some_valuation : Valuation
 some_valuation x = truth true
 
 -- the value of a ground state is the only one that it has under every valuation
-same_value : (g : KoreSignature) (p : KorePattern) (c d : Value) → ((v : Valuation) → instance g v p ≡ c) → ((v : Valuation) → instance g v p ≡ d) → c ≡ d
+pub same_value : (g : KoreSignature) (p : KorePattern) (c d : Value) → ((v : Valuation) → instance g v p ≡ c) → ((v : Valuation) → instance g v p ≡ d) → c ≡ d
 same_value g p c d one two = sym (one some_valuation) ∙ two some_valuation
 
-both_empty : (xs ys : List Text) → xs ≡ [] → ys ≡ [] → xs ++ ys ≡ []
+pub both_empty : (xs ys : List Text) → xs ≡ [] → ys ≡ [] → xs ++ ys ≡ []
 both_empty [] [] a b = refl
 both_empty [] (y ∷ ys) a b = absurd (cc b)
 both_empty (x ∷ xs) ys a b = absurd (cc a)
@@ -150,10 +150,10 @@ is_told s e end h (no_run c means stops) =
     h.told (subst (λ (k : KoreSort). StopsUntold s.theory (record { value = value_view h.start.value; sort = k }) (bound_of (options_of e))) (sym st.is_state.sort_is) at_value)
 
 -- the end of a run as a reply of three reasons, and its result as one of seven
-abbrev ended : Executed → KorePattern → three.Executed
+abbrev pub ended : Executed → KorePattern → three.Executed
 ended end p = record { depth = end.depth; reason = reason_of end.stop; state = p }
 
-reason_meant : (stop : Stop) → IsReasonOf (ending_of stop) [] (reason_among_seven (reason_of stop))
+pub reason_meant : (stop : Stop) → IsReasonOf (ending_of stop) [] (reason_among_seven (reason_of stop))
 reason_meant Stuck = (refl, refl)
 reason_meant DepthBound = (refl, refl)
 reason_meant (ForeignRule id) = (refl, refl)
@@ -243,7 +243,7 @@ pub t2_failure : (s : Setting) (e : Execute) (state : State) (is : IsStateOf s.t
 t2_failure s e state is reached why f t2 =
     (is.is_pattern.tree, is.is_pattern.has, subst (λ (x : RequestError). IsStateError s (options_of e) is.is_pattern.tree x) (sym t2) (left_out s e state is reached (inl why)))
 
-not_empty : (xs ys : List Text) → ¬ (xs ≡ []) ⊎ ¬ (ys ≡ []) → ¬ (xs ++ ys ≡ [])
+pub not_empty : (xs ys : List Text) → ¬ (xs ≡ []) ⊎ ¬ (ys ≡ []) → ¬ (xs ++ ys ≡ [])
 not_empty [] ys (inl x) e = x refl
 not_empty [] ys (inr y) e = y e
 not_empty (x ∷ xs) ys h e = absurd (cc e)

@@ -72,7 +72,7 @@ fn reason_of(stop: &Stop) -> Result<Reason, AllocError>
 }
 
 /// The result of a run whose last state is spelled so.
-fn result_of(alloc: Global, end: &Executed, term: Pattern) -> Result<Written, AllocError>
+pub fn result_of(alloc: Global, end: &Executed, term: Pattern) -> Result<Written, AllocError>
     ensures { IfOk result (λ x. executed_view x ≡ end_result end.now (view term)) }
 {
     let reason = reason_of(&end.stop)?;

@@ -51,7 +51,7 @@ fn result_line(alloc: Global, request: &Implies, sort: &Option<Sort>) -> Result<
 }
 
 /// The result: valid at a sort, or not.
-fn implied_at(alloc: Global, sort: &Option<Sort>) -> Result<Implied, AllocError>
+pub fn implied_at(alloc: Global, sort: &Option<Sort>) -> Result<Implied, AllocError>
     ensures { IfOk result (λ r. implied_view r ≡ result_at (option_map sort_view sort.now)) }
 {
     match sort {

@@ -10,5 +10,9 @@ mod asked;
 mod failure;
 mod untold;
 
+pub use answer_execute::result_of;
+pub use answer_implies::implied_at;
 pub use answering::answer;
 pub use asked::rules_of;
+pub use failure::{Failure, no_module, verify_failure};
+pub use untold::{compared_sides, ground_state, not_answered, side_state};

@@ -1,17 +1,12 @@
 -- What answering a frame does to the book.
-use Rattle.std.proofs.Common.{refl, sym, ap, ◌∙◌, ℕ, List, [], ◌∷◌, ◌++◌, Option, append-nil, append_assoc}
+use Rattle.std.proofs.Common.{refl, ℕ, List, [], ◌∷◌, ◌++◌, Option}
 use Rattle.serde_json.specs.Data.{Data}
 use Rattle.kp_requests.specs.Requests.{Asked, asks, refused, execute, implies, simplify, add_module, Call}
 use Rattle.kp_book.specs.Books.{Opening, Registration, Grows}
 use Rattle.kp_registry.specs.Legal.{IsLegal}
 use Rattle.kp_registry.proofs.LegalLemmas.{stays_legal}
+use Rattle.kp_conn.proofs.Conversing.{grows_none, grows_on}
 use Rattle.kp_service.specs.Answers.{Adds, IsMember, told, added, silent, added_silently, AreMembers, none, next, IsAnswer, refusal, alone, together, IsBegun, not_begun, begun_alone, begun_together}
-
-grows_none : (seen : List Registration) → Grows seen seen
-grows_none seen = ([], sym (append-nil seen))
-
-grows_on : (before between after : List Registration) → Grows before between → Grows between after → Grows before after
-grows_on before between after p q = (p.0 ++ q.0, q.1 ∙ ap (λ x. x ++ q.0) p.1 ∙ append_assoc before p.0 q.0)
 
 member_grows : (o : Opening) (before after : List Registration) (call : Call) (reply : Option Data) → IsMember o before call reply after → Grows before after
 member_grows o before after call reply (told id d e p) = grows_none before

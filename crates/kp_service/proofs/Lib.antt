@@ -1,1 +1,7 @@
+pub mod Adding
+pub mod Batching
+pub mod Executing
 pub mod Growing
+pub mod Implying
+pub mod Serving
+pub mod Talking

@@ -1,3 +1,5 @@
 pub mod Answered
 pub mod Answers
+pub mod Batches
 pub mod Meant
+pub mod Told

@@ -1,0 +1,142 @@
+-- The module that is asked, and what is served of it; calls that leave the book.
+use Rattle.std.proofs.Common.{◌≡◌, refl, sym, ap, subst, ℕ, List, [], ◌∷◌, Option, Some, None, Result, Ok, Err, Vec, ◌⊎◌, inl, inr, string_bytes}
+use Rattle.std.specs.Option.{option_map, IsSome, IfSome}
+use Rattle.std.proofs.lemmas.Result.{IfOk-weaker}
+use Rattle.std.specs.Result.{IfOk, OnErr, OnOk}
+use Rattle.std.specs.declared.alloc.Global.{Global}
+use Rattle.std.specs.Prelude.{String}
+use Rattle.serde_json.specs.Data.{Data}
+use Rattle.kp_kore.specs.Syntax.{Text}
+use Rattle.kp_rule_sets.specs.RuleSets.{RunsAs}
+use Rattle.kp_rule_sets.specs.declared.rule_set.RuleSet.{RuleSet}
+use Rattle.kp_rpc.specs.Request.{RequestId}
+use Rattle.kp_rpc.specs.Reply.{error_reply, no_module, reply_bytes}
+use Rattle.kp_requests.specs.Requests.{Asked}
+use Rattle.kp_book.specs.Books.{Opening, Registration, first_of, rules_bound}
+use Rattle.kp_modules.specs.Made.{IsSetOf}
+use Rattle.kp_modules.specs.Openings.{IsTableOf}
+use Rattle.kp_modules.specs.Tables.{rule_set_of}
+use Rattle.kp_registry.specs.Passes.{MeansAt}
+use Rattle.kp_registry.specs.declared.book.Registry.{Registry}
+use Rattle.kp_registry.specs.declared.seen.Pass.{Pass}
+use Rattle.kp_conn.proofs.Conversing.{sees_same}
+use Rattle.kp_server.specs.Setting.{IsElsewhere, Setting}
+use Rattle.kp_service.specs.Answered.{IsReplyIn, no_such_module, in_module}
+use Rattle.kp_service.specs.Answers.{AddsNothing, IsReplyTo}
+use Rattle.kp_service.specs.Batches.{FromEachBookSeen, IsEffect, adds_nothing, IsReplyLine, line_told, MayHaveDone, did_nothing}
+use Rattle.kp_service.specs.Meant.{IsServedAt, module_asked}
+use Rattle.kp_additions.specs.Served.{HasSeenAt}
+use Rattle.kp_service.specs.Told.{IsLineOf}
+
+-- ---- the module that is asked
+
+-- main means the rule set of the table
+pub main_means : (o : Opening) (book : List Registration) (registry : Registry) → IsTableOf o registry.table → (rules : RuleSet) → rules ≡ rule_set_of registry.table → MeansAt o book o.main (Some rules)
+main_means o book registry t rules is = (t.axioms, ap (λ m. first_of m (rules_bound book o.main)) t.bound, subst (IsSetOf o.signature t.axioms) (sym is) t.rules)
+
+-- what is served where a module is asked that means this rule set
+pub record Serves (o : Opening) (book : List Registration) (asked : Option Text) (rules : RuleSet) : Type 0 where
+  pub setting : Setting
+  pub served : IsServedAt o book asked setting
+  pub runs : RunsAs setting.theory rules
+  pub here : ¬ IsElsewhere setting.main asked
+
+not_elsewhere : (o : Opening) (asked : Option Text) → ¬ IsElsewhere (module_asked o asked) asked
+not_elsewhere o None e = e
+not_elsewhere o (Some name) e = e refl
+
+pub serves : (o : Opening) (book : List Registration) (asked : Option Text) (rules : RuleSet) → MeansAt o book (module_asked o asked) (Some rules) → Serves o book asked rules
+serves o book asked rules m = record {
+  setting = record { theory = record { signature = o.signature; rules = m.2.made.meant }; main = module_asked o asked; names = module_asked o asked ∷ [] };
+  served = record { axioms = m.0; bound = m.1; means = record { signature = refl; rules = m.2.made.are_rules }; main_is = refl; names_are = refl };
+  runs = record { signature = m.2.signature; each = m.2.made.are_code };
+  here = not_elsewhere o asked;
+}
+
+-- ---- lines
+
+-- the line that is right over what is served
+pub in_module_line : (o : Opening) (book : List Registration) (asked : Option Text) (id : RequestId) (RightOver : Setting → Data → Type 0) (s : Setting) → IsServedAt o book asked s →
+    (line : List ℕ) → IsLineOf (RightOver s) line → IsLineOf (IsReplyIn o book asked id RightOver) line
+in_module_line o book asked id RightOver s served line l = (l.0, in_module s l.0 served l.1, l.2)
+
+-- the line with code 3, where the name that is asked means nothing
+pub no_module_line : (o : Opening) (book : List Registration) (asked : Option (String Global)) (id : RequestId) (RightOver : Setting → Data → Type 0) → IsSome asked → MeansAt o book (module_asked o (option_map string_bytes asked)) None →
+    (line : List ℕ) → IfSome asked (λ name. line ≡ reply_bytes (error_reply id (no_module (string_bytes name)))) → IsLineOf (IsReplyIn o book (option_map string_bytes asked) id RightOver) line
+no_module_line o book None id RightOver some means line l = absurd (cc some)
+no_module_line o book (Some name) id RightOver some means line l = (error_reply id (no_module (string_bytes name)), no_such_module (string_bytes name) (refl, means), l)
+
+-- rules are there, or a name was asked; so a name was asked where no rules are there
+pub was_asked : {X Y : Type 0} (rules : Option X) (asked : Option Y) → rules ≡ None → IsSome rules ⊎ IsSome asked → IsSome asked
+was_asked None asked is (inl some) = absurd (cc some)
+was_asked None asked is (inr some) = some
+was_asked (Some r) asked is either = absurd (cc is)
+
+-- ---- for all that was seen
+
+-- what an outcome has for each book it has for all of them
+pub for_all : {T E : Type 0} (r : Result T E) (Seen : Opening → List Registration → Type 0) (Holds : Opening → List Registration → T → Type 0) →
+    ((o : Opening) (book : List Registration) → Seen o book → IfOk r (Holds o book)) → IfOk r (λ x. (o : Opening) (book : List Registration) → Seen o book → Holds o book x)
+for_all (Ok x) Seen Holds h = h
+for_all (Err e) Seen Holds h = tt
+
+pub for_any : {T E : Type 0} (r : Result T E) (Holds : T → Type 0) → ((x : T) → Holds x) → IfOk r Holds
+for_any (Ok x) Holds h = h x
+for_any (Err e) Holds h = tt
+
+-- ---- what was seen stays
+
+-- the pass is the one before, and this holds of what it has seen
+pub stays : (registry : Registry) (before after : Pass) (Holds : Opening → List Registration → List Registration → Type 0) → after ≡ before →
+    ((o : Opening) (book : List Registration) → HasSeenAt registry before o book → Holds o book book) → FromEachBookSeen registry before after Holds
+stays registry before after Holds same h o book seen = sees_same (HasSeenAt registry after o) (Holds o book) book (subst (λ p. HasSeenAt registry p o book) (sym same) seen) (h o book seen)
+
+-- the same of what is asked, by another name
+pub lines_of : (registry : Registry) (before after : Pass) (id : RequestId) (x y : Asked) (line : List ℕ) → x ≡ y → FromEachBookSeen registry before after (λ o book. IsReplyLine o book id y line) →
+    FromEachBookSeen registry before after (λ o book. IsReplyLine o book id x line)
+lines_of registry before after id x y line is h = subst (λ z. FromEachBookSeen registry before after (λ o book. IsReplyLine o book id z line)) (sym is) h
+
+pub begun_of : {T E : Type 0} (r : Result T E) (registry : Registry) (before after : Pass) (x y : Asked) → x ≡ y → OnErr r (FromEachBookSeen registry before after (λ o book. MayHaveDone o book y)) →
+    OnErr r (FromEachBookSeen registry before after (λ o book. MayHaveDone o book x))
+begun_of r registry before after x y is h = subst (λ z. OnErr r (FromEachBookSeen registry before after (λ o book. MayHaveDone o book z))) (sym is) h
+
+pub effect_of : {T E : Type 0} (r : Result T E) (registry : Registry) (before after : Pass) (x y : Asked) → x ≡ y → OnOk r (FromEachBookSeen registry before after (λ o book. IsEffect o book y)) →
+    OnOk r (FromEachBookSeen registry before after (λ o book. IsEffect o book x))
+effect_of r registry before after x y is h = subst (λ z. OnOk r (FromEachBookSeen registry before after (λ o book. IsEffect o book z))) (sym is) h
+
+pub no_effect : (registry : Registry) (pass : Pass) (x y : Asked) → x ≡ y → ((o : Opening) (book : List Registration) → AddsNothing o book y) → FromEachBookSeen registry pass pass (λ o book. IsEffect o book x)
+no_effect registry pass x y is h = stays registry pass pass (λ o book. IsEffect o book x) refl (λ o book seen. subst (λ z. IsEffect o book z book) (sym is) (adds_nothing (h o book)))
+
+pub nothing_done : (registry : Registry) (before after : Pass) (asked : Asked) → after ≡ before → FromEachBookSeen registry before after (λ o book. MayHaveDone o book asked)
+nothing_done registry before after asked same = stays registry before after (λ o book. MayHaveDone o book asked) same (λ o book seen. did_nothing)
+
+-- a line that is right, of a call that leaves the book
+pub line_stays : (registry : Registry) (before after : Pass) (id : RequestId) (asked : Asked) (line : List ℕ) → after ≡ before →
+    ((o : Opening) (book : List Registration) → HasSeenAt registry before o book → IsLineOf (IsReplyTo o book id asked) line) → FromEachBookSeen registry before after (λ o book. IsReplyLine o book id asked line)
+line_stays registry before after id asked line same h = stays registry before after (λ o book. IsReplyLine o book id asked line) same (λ o book seen. let l = h o book seen in line_told l.0 l.1 l.2)
+
+-- ---- what a call of a method is answered
+
+-- the line over the module that is asked
+pub served_line : {E : Type 0} (r : Result (Vec ℕ Global) E) (registry : Registry) (pass : Pass) (asked : Option Text) (found : Option RuleSet) (rules : RuleSet) (id : RequestId) (RightOver : Setting → Data → Type 0) → found ≡ Some rules →
+    ((o : Opening) (book : List Registration) → HasSeenAt registry pass o book → MeansAt o book (module_asked o asked) found) →
+    ((s : Setting) → RunsAs s.theory rules → ¬ IsElsewhere s.main asked → IfOk r (λ line. IsLineOf (RightOver s) line.items)) →
+    IfOk r (λ line. (o : Opening) (book : List Registration) → HasSeenAt registry pass o book → IsLineOf (IsReplyIn o book asked id RightOver) line.items)
+served_line r registry pass asked found rules id RightOver is means right =
+    for_all r (HasSeenAt registry pass) (λ o book line. IsLineOf (IsReplyIn o book asked id RightOver) line.items)
+    (λ o book seen. let s = serves o book asked rules (subst (MeansAt o book (module_asked o asked)) is (means o book seen)) in
+    IfOk-weaker r _ _ (λ line l. in_module_line o book asked id RightOver s.setting s.served line.items l) (right s.setting s.runs s.here))
+
+-- the line where no such module is there
+pub unserved_line : {E : Type 0} (r : Result (Vec ℕ Global) E) (registry : Registry) (pass : Pass) (asked : Option (String Global)) (found : Option RuleSet) (id : RequestId) (RightOver : Setting → Data → Type 0) → found ≡ None → IsSome asked →
+    ((o : Opening) (book : List Registration) → HasSeenAt registry pass o book → MeansAt o book (module_asked o (option_map string_bytes asked)) found) →
+    IfOk r (λ line. IfSome asked (λ name. line.items ≡ reply_bytes (error_reply id (no_module (string_bytes name))))) →
+    IfOk r (λ line. (o : Opening) (book : List Registration) → HasSeenAt registry pass o book → IsLineOf (IsReplyIn o book (option_map string_bytes asked) id RightOver) line.items)
+unserved_line r registry pass asked found id RightOver is some means told =
+    for_all r (HasSeenAt registry pass) (λ o book line. IsLineOf (IsReplyIn o book (option_map string_bytes asked) id RightOver) line.items)
+    (λ o book seen. IfOk-weaker r _ _ (λ line l. no_module_line o book asked id RightOver some (subst (MeansAt o book (module_asked o (option_map string_bytes asked))) is (means o book seen)) line.items l) told)
+
+-- the name that is asked means what it means
+pub asked_means : (o : Opening) (book : List Registration) (asked : Option (String Global)) (name : String Global) (text : Text) (rules : Option RuleSet) → asked ≡ Some name → text ≡ string_bytes name → MeansAt o book text rules →
+    MeansAt o book (module_asked o (option_map string_bytes asked)) rules
+asked_means o book asked name text rules is same m = subst (λ a. MeansAt o book (module_asked o (option_map string_bytes a)) rules) (sym is) (subst (λ t. MeansAt o book t rules) same m)

@@ -1,0 +1,72 @@
+// The calls of a batch, whose replies stand in one array.
+ghost use Rattle.std.specs.Prelude.{◌≡◌, ◌∷◌, [], IfOk, OnErr, OnOk, option_map};
+ghost use Rattle.kp_requests.specs.View.{call_view, calls_view};
+ghost use Rattle.kp_registry.specs.Passes.{IsPass};
+ghost use Rattle.kp_service.specs.Answers.{IsFront};
+ghost use Rattle.kp_service.specs.Batches.{FromEachBookSeen, AreMembersText, IsNextTold, text_closed, text_with};
+
+use crate::member::answered;
+use kp_registry::{Pass, Registry};
+use kp_requests::Call;
+use std::alloc::{AllocError, Global};
+
+/// The text of the replies to a batch's calls in order, as one array; none where none of them has a reply.
+pub fn answered_batch(
+    alloc: Global,
+    registry: &Registry,
+    pass: &mut Pass,
+    calls: Vec<Call>,
+) -> Result<Option<Vec<u8>>, AllocError>
+    requires pass { IsPass pass.old }
+    ensures pass { IsPass pass.new }
+    ensures told { IfOk result (λ array. FromEachBookSeen registry.now pass.old pass.new (λ o book. AreMembersText o book (calls_view calls.items) (option_map (λ text. text.items) array))) }
+    ensures begun { OnErr result (FromEachBookSeen registry.now pass.old pass.new (λ o book. IsFront o book (calls_view calls.items))) }
+{
+    let mut replies = Vec::new(alloc);
+    for call in calls {
+        answer_next(alloc, registry, pass, call, &mut replies)?;
+    }
+    closed(replies)
+}
+
+/// Answers one more call, and adds its reply, where it has one.
+fn answer_next(
+    alloc: Global,
+    registry: &Registry,
+    pass: &mut Pass,
+    call: Call,
+    replies: &mut Vec<u8>,
+) -> Result<(), AllocError>
+    requires pass { IsPass pass.old }
+    ensures pass { IsPass pass.new }
+    ensures told { OnOk result (FromEachBookSeen registry.now pass.old pass.new (λ o book. IsNextTold o book (call_view call) replies.old.items replies.new.items)) }
+    ensures begun { OnErr result (FromEachBookSeen registry.now pass.old pass.new (λ o book. IsFront o book (call_view call ∷ []))) }
+{
+    let told = answered(alloc, registry, pass, call)?;
+    match told {
+        Some(reply) => add_reply(replies, &reply),
+        None => Ok(()),
+    }
+}
+
+/// Adds a reply behind a bracket, or behind a comma and the replies before.
+fn add_reply(replies: &mut Vec<u8>, reply: &[u8]) -> Result<(), AllocError>
+    ensures { OnOk result (replies.new.items ≡ text_with replies.old.items reply.now) }
+{
+    let mark = if replies.is_empty() { b'[' } else { b',' };
+    replies.push(mark)?;
+    replies.extend_from_slice(reply)?;
+    Ok(())
+}
+
+/// The array of replies, where there are any.
+fn closed(replies: Vec<u8>) -> Result<Option<Vec<u8>>, AllocError>
+    ensures { IfOk result (λ array. option_map (λ text. text.items) array ≡ text_closed replies.items) }
+{
+    if replies.is_empty() {
+        return Ok(None);
+    }
+    let mut array = replies;
+    array.push(b']')?;
+    Ok(Some(array))
+}

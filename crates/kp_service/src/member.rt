@@ -1,0 +1,270 @@
+// One call, alone or in a batch.
+ghost use Rattle.std.specs.Prelude.{◌≡◌, ◌⊎◌, ◌∷◌, ◌++◌, [], ℕ, List, Some, None, IfOk, IfSome, IsSome, OnErr, OnOk, option_map, string_bytes};
+ghost use Rattle.kp_rpc.specs.Reply.{error_reply, no_module, reply_bytes};
+ghost use Rattle.kp_rpc.specs.View.{id_view, name_view, options_view};
+ghost use Rattle.kp_requests.specs.Requests as requests;
+ghost use Rattle.kp_requests.specs.View.{asked_view, call_view, reading_view, request_view};
+ghost use Rattle.kp_registry.specs.Passes.{IsPass, MeansAt};
+ghost use Rattle.kp_service.specs.Answered.{IsExecutedAs, IsImpliedAs, IsReplyIn, IsSimplifiedAs};
+ghost use Rattle.kp_service.specs.Answers.{IsFront};
+ghost use Rattle.kp_service.specs.Batches.{FromEachBookSeen, call_of, IsEffect, IsMemberText, IsReplyLine, MayHaveDone};
+ghost use Rattle.kp_service.specs.Meant.{module_asked};
+ghost use Rattle.kp_additions.specs.Served.{AtEachBookSeen};
+ghost use Rattle.kp_service.specs.Told.{IsLineOf};
+
+use crate::added::{add_silently, added_line};
+use crate::executed::executed_line;
+use crate::implied::implied_line;
+use crate::simplified::simplified_line;
+use kp_registry::{Pass, Registry};
+use kp_requests::{Asked, Call, Reading, Request};
+use kp_rpc::{Id, Options, StateFault, fault_text, refusal_text};
+use kp_rule_sets::RuleSet;
+use std::alloc::{AllocError, Global};
+use std::sync::Arc;
+
+/// The text of the reply to a call; none to a notification, which takes effect.
+pub fn answered(
+    alloc: Global,
+    registry: &Registry,
+    pass: &mut Pass,
+    call: Call,
+) -> Result<Option<Vec<u8>>, AllocError>
+    requires pass { IsPass pass.old }
+    ensures pass { IsPass pass.new }
+    ensures told { IfOk result (λ reply. FromEachBookSeen registry.now pass.old pass.new (λ o book. IsMemberText o book (call_view call) (option_map (λ text. text.items) reply))) }
+    ensures begun { OnErr result (FromEachBookSeen registry.now pass.old pass.new (λ o book. IsFront o book (call_view call ∷ []))) }
+{
+    let Call { id, asked } = call;
+    match id {
+        Some(id) => reply_text(alloc, registry, pass, &id, asked),
+        None => no_text(alloc, registry, pass, asked),
+    }
+}
+
+/// The text of the reply with this id.
+fn reply_text(
+    alloc: Global,
+    registry: &Registry,
+    pass: &mut Pass,
+    id: &Id,
+    asked: Asked,
+) -> Result<Option<Vec<u8>>, AllocError>
+    requires pass { IsPass pass.old }
+    ensures pass { IsPass pass.new }
+    ensures told { IfOk result (λ reply. FromEachBookSeen registry.now pass.old pass.new (λ o book. IsMemberText o book (call_of (Some (id_view id.now)) (asked_view asked)) (option_map (λ text. text.items) reply))) }
+    ensures begun { OnErr result (FromEachBookSeen registry.now pass.old pass.new (λ o book. IsFront o book (call_of (Some (id_view id.now)) (asked_view asked) ∷ []))) }
+{
+    let line = reply_line(alloc, registry, pass, id, asked)?;
+    Ok(Some(text_of(line)))
+}
+
+/// None: a notification has no reply.
+fn no_text(
+    alloc: Global,
+    registry: &Registry,
+    pass: &mut Pass,
+    asked: Asked,
+) -> Result<Option<Vec<u8>>, AllocError>
+    requires pass { IsPass pass.old }
+    ensures pass { IsPass pass.new }
+    ensures told { IfOk result (λ reply. FromEachBookSeen registry.now pass.old pass.new (λ o book. IsMemberText o book (call_of None (asked_view asked)) (option_map (λ text. text.items) reply))) }
+    ensures begun { OnErr result (FromEachBookSeen registry.now pass.old pass.new (λ o book. IsFront o book (call_of None (asked_view asked) ∷ []))) }
+{
+    take_effect(alloc, registry, pass, asked)?;
+    Ok(None)
+}
+
+/// A line without its line feed.
+pub fn text_of(line: Vec<u8>) -> Vec<u8>
+    ensures { (text : List ℕ) → line.items ≡ text ++ 10 ∷ [] → result.items ≡ text }
+{
+    let mut text = line;
+    let _line_feed = text.pop();
+    text
+}
+
+/// What a notification does.
+fn take_effect(
+    alloc: Global,
+    registry: &Registry,
+    pass: &mut Pass,
+    asked: Asked,
+) -> Result<(), AllocError>
+    requires pass { IsPass pass.old }
+    ensures pass { IsPass pass.new }
+    ensures done { OnOk result (FromEachBookSeen registry.now pass.old pass.new (λ o book. IsEffect o book (asked_view asked))) }
+    ensures begun { OnErr result (FromEachBookSeen registry.now pass.old pass.new (λ o book. MayHaveDone o book (asked_view asked))) }
+{
+    match asked {
+        Asked::Request(request) => request_effect(alloc, registry, pass, request),
+        Asked::Refused(_refusal) => Ok(()),
+    }
+}
+
+/// What a notification of a method does: add-module adds its module, the others do nothing.
+fn request_effect(
+    alloc: Global,
+    registry: &Registry,
+    pass: &mut Pass,
+    request: Request,
+) -> Result<(), AllocError>
+    requires pass { IsPass pass.old }
+    ensures pass { IsPass pass.new }
+    ensures done { OnOk result (FromEachBookSeen registry.now pass.old pass.new (λ o book. IsEffect o book (requests.asks (request_view request)))) }
+    ensures begun { OnErr result (FromEachBookSeen registry.now pass.old pass.new (λ o book. MayHaveDone o book (requests.asks (request_view request)))) }
+{
+    match request {
+        Request::AddModule { text, name_as_id } => {
+            add_silently(alloc, registry, pass, text, name_as_id)
+        }
+        Request::Execute { .. } => Ok(()),
+        Request::Implies { .. } => Ok(()),
+        Request::Simplify { .. } => Ok(()),
+    }
+}
+
+/// The reply to what is asked, as a line.
+fn reply_line(
+    alloc: Global,
+    registry: &Registry,
+    pass: &mut Pass,
+    id: &Id,
+    asked: Asked,
+) -> Result<Vec<u8>, AllocError>
+    requires pass { IsPass pass.old }
+    ensures pass { IsPass pass.new }
+    ensures told { IfOk result (λ line. FromEachBookSeen registry.now pass.old pass.new (λ o book. IsReplyLine o book (id_view id.now) (asked_view asked) line.items)) }
+    ensures begun { OnErr result (FromEachBookSeen registry.now pass.old pass.new (λ o book. MayHaveDone o book (asked_view asked))) }
+{
+    match asked {
+        Asked::Request(request) => request_line(alloc, registry, pass, id, request),
+        Asked::Refused(refusal) => refusal_text(alloc, id, refusal),
+    }
+}
+
+/// The reply to a request of a method.
+fn request_line(
+    alloc: Global,
+    registry: &Registry,
+    pass: &mut Pass,
+    id: &Id,
+    request: Request,
+) -> Result<Vec<u8>, AllocError>
+    requires pass { IsPass pass.old }
+    ensures pass { IsPass pass.new }
+    ensures told { IfOk result (λ line. FromEachBookSeen registry.now pass.old pass.new (λ o book. IsReplyLine o book (id_view id.now) (requests.asks (request_view request)) line.items)) }
+    ensures begun { OnErr result (FromEachBookSeen registry.now pass.old pass.new (λ o book. MayHaveDone o book (requests.asks (request_view request)))) }
+{
+    match request {
+        Request::Execute { state, options } => {
+            execute_line(alloc, registry, pass, id, state, options)
+        }
+        Request::Implies {
+            antecedent,
+            consequent,
+            module_name,
+        } => implies_line(
+            alloc,
+            registry,
+            pass,
+            id,
+            antecedent,
+            consequent,
+            module_name,
+        ),
+        Request::Simplify { state, module_name } => {
+            simplify_line(alloc, registry, pass, id, state, module_name)
+        }
+        Request::AddModule { text, name_as_id } => {
+            added_line(alloc, registry, pass, id, text, name_as_id)
+        }
+    }
+}
+
+/// The reply to a request of execute.
+fn execute_line(
+    alloc: Global,
+    registry: &Registry,
+    pass: &mut Pass,
+    id: &Id,
+    state: Reading,
+    options: Options,
+) -> Result<Vec<u8>, AllocError>
+    requires pass { IsPass pass.old }
+    ensures pass { pass.new ≡ pass.old }
+    ensures line { IfOk result (λ line. AtEachBookSeen registry.now pass.old (λ o book. IsLineOf (IsReplyIn o book (options_view options).module_name (id_view id.now) (λ s. IsExecutedAs s (id_view id.now) (options_view options) (reading_view state))) line.items)) }
+{
+    match rules_at(alloc, registry, pass, &options.module_name)? {
+        Some(rules) => executed_line(alloc, &rules, id, state, &options),
+        None => no_module_line(alloc, id, options.module_name),
+    }
+}
+
+/// The reply to a request of implies.
+fn implies_line(
+    alloc: Global,
+    registry: &Registry,
+    pass: &mut Pass,
+    id: &Id,
+    antecedent: Reading,
+    consequent: Reading,
+    module_name: Option<String>,
+) -> Result<Vec<u8>, AllocError>
+    requires pass { IsPass pass.old }
+    ensures pass { pass.new ≡ pass.old }
+    ensures line { IfOk result (λ line. AtEachBookSeen registry.now pass.old (λ o book. IsLineOf (IsReplyIn o book (name_view module_name) (id_view id.now) (λ s. IsImpliedAs s (id_view id.now) (name_view module_name) (reading_view antecedent) (reading_view consequent))) line.items)) }
+{
+    match rules_at(alloc, registry, pass, &module_name)? {
+        Some(rules) => implied_line(alloc, &rules, id, antecedent, consequent),
+        None => no_module_line(alloc, id, module_name),
+    }
+}
+
+/// The reply to a request of simplify.
+fn simplify_line(
+    alloc: Global,
+    registry: &Registry,
+    pass: &mut Pass,
+    id: &Id,
+    state: Reading,
+    module_name: Option<String>,
+) -> Result<Vec<u8>, AllocError>
+    requires pass { IsPass pass.old }
+    ensures pass { pass.new ≡ pass.old }
+    ensures line { IfOk result (λ line. AtEachBookSeen registry.now pass.old (λ o book. IsLineOf (IsReplyIn o book (name_view module_name) (id_view id.now) (λ s. IsSimplifiedAs s (id_view id.now) (reading_view state))) line.items)) }
+{
+    match rules_at(alloc, registry, pass, &module_name)? {
+        Some(rules) => simplified_line(alloc, &rules, id, state),
+        None => no_module_line(alloc, id, module_name),
+    }
+}
+
+/// The rules of the module that is asked, of main where none is named.
+fn rules_at(
+    alloc: Global,
+    registry: &Registry,
+    pass: &mut Pass,
+    asked: &Option<String>,
+) -> Result<Option<Arc<RuleSet>>, AllocError>
+    requires pass { IsPass pass.old }
+    ensures pass { pass.new ≡ pass.old }
+    ensures means { IfOk result (λ rules. AtEachBookSeen registry.now pass.old (λ o book. MeansAt o book (module_asked o (name_view asked.now)) (option_map (λ r. r.value) rules))) }
+    ensures named { IfOk result (λ rules. IsSome rules ⊎ IsSome asked.now) }
+{
+    match asked {
+        Some(name) => registry.look(alloc, pass, name.as_str()),
+        None => Ok(Some(registry.table().shared()?)),
+    }
+}
+
+/// The reply with code 3.
+fn no_module_line(alloc: Global, id: &Id, asked: Option<String>) -> Result<Vec<u8>, AllocError>
+    requires named { IsSome asked }
+    ensures { IfOk result (λ line. IfSome asked (λ name. line.items ≡ reply_bytes (error_reply (id_view id.now) (no_module (string_bytes name))))) }
+{
+    match asked {
+        Some(name) => fault_text(alloc, id, &StateFault::NoModule { name }),
+        None => unreachable!(),
+    }
+}

@@ -1,0 +1,66 @@
+// The service.
+ghost use Rattle.kp_registry.specs.Passes.{IsPass};
+ghost use Rattle.kp_service.specs.Answers.{IsAnswer, IsBegun};
+ghost use Rattle.kp_additions.specs.Served.{HasSeenAt};
+
+use crate::batch::answered_batch;
+use crate::member::{answered, text_of};
+use kp_conn::Answerer;
+use kp_modules::Table;
+use kp_registry::{Pass, Registry};
+use kp_requests::{Parsed, request_of};
+use kp_rpc::{Id, refusal_text};
+use std::alloc::{AllocError, Global};
+
+/// Answers frames over a book of modules: each call at the book that the pass has seen, which grows by the modules that
+/// calls add.
+#[derive(Drop)]
+pub struct Service {
+    pub registry: Registry,
+}
+
+impl Service {
+    ghost use Rattle.std.specs.Prelude.{◌≤◌, [], IfOk};
+    ghost use Rattle.kp_book.specs.Books.{Opening};
+    ghost use Rattle.kp_modules.specs.Openings.{IsTableOf};
+    ghost use Rattle.kp_registry.specs.Passes.{IsPass};
+    ghost use Rattle.kp_additions.specs.Served.{HasSeenAt};
+
+    /// A service over a table's modules, with a pass that has seen no added ones.
+    pub fn begin(alloc: Global, table: Table, seats: usize) -> Result<(Service, Pass), AllocError>
+        requires seats { (1 ≤ seats) × (seats ≤ 64) }
+        ensures pass { IfOk result (λ out. IsPass out.1) }
+        ensures seen { (o : Opening) → IsTableOf o table → IfOk result (λ out. HasSeenAt out.0.registry out.1 o []) }
+    {
+        let (registry, pass) = Registry::begin(alloc, table, seats)?;
+        Ok((Service { registry }, pass))
+    }
+}
+
+impl Answerer for Service {
+    type Pass = Pass;
+
+    ghost has_seen = { λ s pass o book. HasSeenAt s.registry pass o book };
+
+    ghost is_pass = { λ s pass. IsPass pass };
+
+    ghost answers = { λ s o before frame reply after. IsAnswer o before frame reply after };
+
+    ghost begins = { λ s o before frame after. IsBegun o before frame after };
+
+    fn answer(
+        &self,
+        alloc: Global,
+        pass: &mut Pass,
+        frame: &[u8],
+    ) -> Result<Option<Vec<u8>>, AllocError> {
+        match request_of(alloc, frame)? {
+            Parsed::Single(call) => answered(alloc, &self.registry, pass, call),
+            Parsed::Batch(calls) => answered_batch(alloc, &self.registry, pass, calls),
+            Parsed::Refused(refusal) => {
+                let line = refusal_text(alloc, &Id::Null, refusal)?;
+                Ok(Some(text_of(line)))
+            }
+        }
+    }
+}

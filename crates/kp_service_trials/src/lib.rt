@@ -1,0 +1,5 @@
+// Tests of the service over whole connections.
+#![tactic(auto)]
+
+#[cfg(test)]
+mod connections;
