@@ -304,8 +304,8 @@ fn add_often(
     requires pass { IsPass pass.old }
     ensures pass { IsPass pass.new }
 {
-    for _i in 0..times {
-        let _told = add(alloc, registry, pass, asked)?;
+    for i in 0..times {
+        let _told = (i, add(alloc, registry, pass, asked)?);
     }
     Ok(())
 }

@@ -317,7 +317,7 @@ fn truth_form<'a>(signature: &Signature, holds: bool, term: &'a Term) -> Option<
 }
 
 /// The truth value that a term is, if it is one.
-fn truth_of(term: &Term) -> Option<bool>
+pub fn truth_of(term: &Term) -> Option<bool>
     ensures { result ≡ truth_known (term_view term.now) }
 {
     match term {

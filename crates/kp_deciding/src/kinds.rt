@@ -72,7 +72,7 @@ fn has_tokens_alone(signature: &Signature, sort: &Sort) -> bool
 }
 
 /// Whether whole numbers are values of the sort.
-fn has_numbers(signature: &Signature, sort: &Sort) -> bool
+pub fn has_numbers(signature: &Signature, sort: &Sort) -> bool
     ensures { result ≡ is_head (signature_view signature.now) (sort_view sort.now) head.integers }
 {
     has_numbers_by(signature, signature.subsorts(), sort)
@@ -86,7 +86,7 @@ fn has_numbers_by(signature: &Signature, pairs: &[Subsort], sort: &Sort) -> bool
 }
 
 /// Whether truth values are values of the sort.
-fn has_truths(signature: &Signature, sort: &Sort) -> bool
+pub fn has_truths(signature: &Signature, sort: &Sort) -> bool
     ensures { result ≡ is_head (signature_view signature.now) (sort_view sort.now) head.booleans }
 {
     has_truths_by(signature, signature.subsorts(), sort)
@@ -239,21 +239,21 @@ fn makes_values(signature: &Signature, declaration: &SymbolSentence, sort: &Sort
 }
 
 /// Whether the tokens of a sort are values of this one.
-fn has_tokens_of(signature: &Signature, tokens: &Sort, sort: &Sort) -> bool
+pub fn has_tokens_of(signature: &Signature, tokens: &Sort, sort: &Sort) -> bool
     ensures { result ≡ is_head (signature_view signature.now) (sort_view sort.now) (head.tokens (sort_view tokens.now)) }
 {
     signature.is_token_sort(tokens) && lies_below(signature, tokens, sort)
 }
 
 /// Whether two sorts are one.
-fn is_same(first: &Sort, second: &Sort) -> bool
+pub fn is_same(first: &Sort, second: &Sort) -> bool
     ensures { result ≡ sorts_equal (sort_view first.now) (sort_view second.now) }
 {
     first.equal(second)
 }
 
 /// Whether a sort is another or lies below it.
-fn lies_below(signature: &Signature, lower: &Sort, upper: &Sort) -> bool
+pub fn lies_below(signature: &Signature, lower: &Sort, upper: &Sort) -> bool
     ensures { result ≡ is_below (signature_view signature.now).subsorts (sort_view lower.now) (sort_view upper.now) }
 {
     signature.subsort(lower, upper)

@@ -5,7 +5,7 @@
 
 pub mod bounds;
 pub mod form;
-mod kinds;
+pub mod kinds;
 pub mod reading;
 
 pub use form::{Asked, Form, TokenPart, WholePart, form_of};

@@ -54,6 +54,10 @@ text_of_line text = ap (λ n. take n (text ++ 10 ∷ [])) (ap (λ n. n - 1) (lin
 
 -- ---- calls
 
+pub none_left : {X : Type 0} (xs : List X) → length xs ≡ 0 → xs ≡ []
+none_left [] e = refl
+none_left (x ∷ xs) e = absurd (omega arith)
+
 pub members_more : (o : Opening) (before between after : List Registration) (calls : List Call) (replies : List Data) (call : Call) (reply : Option Data) →
     AreMembers o before calls replies between → IsMember o between call reply after → AreMembers o before (calls ++ call ∷ []) (replies ++ with_reply reply []) after
 members_more o before between after calls replies call reply (none seen) m = next before after after call reply [] [] m (none after)

@@ -1,11 +1,11 @@
-use Rattle.std.proofs.Common.{rules, ◌≡◌, ap, sym, subst, []}
+use Rattle.std.proofs.Common.{rules, ◌≡◌, ◌∙◌, ap, sym, subst, []}
 use Rattle.std.proofs.lemmas.Result.{IfOk-weaker}
 use Rattle.std.specs.Option.{option_map}
 use Rattle.kp_conn.proofs.Conversing.{at_err, sees_same}
 use Rattle.kp_requests.specs.View.{call_view, calls_view}
 use Rattle.kp_additions.specs.Served.{HasSeenAt}
 use Rattle.kp_service.specs.Batches.{AreFirstTold, FromEachBookSeen}
-use Rattle.kp_service.proofs.Batching.{none_told, then_broken, then_next, told_whole, whole_broken}
+use Rattle.kp_service.proofs.Batching.{none_left, none_told, then_broken, then_next, told_whole, whole_broken}
 use Rattle.kp_service.proofs.batch.answered_batch.Goals as goal
 
 pub loop-call-init : goal.loop-call-init
@@ -38,13 +38,13 @@ returns-in_err-answer_next-clause-begun c =
 pub returns-clause-told : goal.returns-clause-told
 returns-clause-told c =
     let calls = calls_view c.args.calls.items in
-    let over : c.loop-call.call-iterator.rest.items ≡ [] = search rules in
+    let over : c.loop-call.call-iterator.rest.items ≡ [] = none_left _ (sym c.loop-call.call-iterator.rest.ok.0 ∙ c.in-None.ensures.steps.0) in
     let so_far = subst (λ l. FromEachBookSeen c.args.registry.now c.args.pass.now c.loop-call.pass (λ o book. AreFirstTold o book calls c.loop-call.replies.items (calls_view l))) over c.loop-call.invariant.told in
     IfOk-weaker c.closed.result _ _ (λ array is. told_whole c.args.registry.now c.args.pass.now c.loop-call.pass calls c.loop-call.replies.items (option_map (λ text. text.items) array) is so_far) c.closed.ensures
 
 pub returns-clause-begun : goal.returns-clause-begun
 returns-clause-begun c =
     let calls = calls_view c.args.calls.items in
-    let over : c.loop-call.call-iterator.rest.items ≡ [] = search rules in
+    let over : c.loop-call.call-iterator.rest.items ≡ [] = none_left _ (sym c.loop-call.call-iterator.rest.ok.0 ∙ c.in-None.ensures.steps.0) in
     let so_far = subst (λ l. FromEachBookSeen c.args.registry.now c.args.pass.now c.loop-call.pass (λ o book. AreFirstTold o book calls c.loop-call.replies.items (calls_view l))) over c.loop-call.invariant.told in
     at_err c.closed.result _ (whole_broken c.args.registry.now c.args.pass.now c.loop-call.pass calls c.loop-call.replies.items so_far)

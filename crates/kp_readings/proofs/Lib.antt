@@ -1,0 +1,4 @@
+pub mod CallLemmas
+pub mod NameLemmas
+pub mod ReadLemmas
+pub mod ResultSorts

@@ -1,0 +1,4 @@
+pub mod Each
+pub mod Equations
+pub mod Names
+pub mod Own

@@ -1,0 +1,10 @@
+// The heads of a sort in the order of the definition, and those of them that some value has: one by one, without
+// memory.
+#![tactic(auto)]
+
+mod head;
+mod left;
+mod sequence;
+
+pub use head::{Head, is_head};
+pub use sequence::{HeadsLeft, heads};
