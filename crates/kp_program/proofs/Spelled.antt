@@ -75,10 +75,10 @@ begins_serving names left left_after held held_after Same words name main spelle
 begins_serving names left left_after held held_after Same words name main spelled (inr broken) = inr (inl (name, main, spelled, broken))
 
 -- of a report a front was written
-pub begins_proving : (names : Option Names) (left left_after held held_after : Option (List ℕ)) (Same : Type 0) (words : List (List ℕ)) (c : ProveWords) → SpellsProve words c →
-    Same ⊎ ((status : ℕ) × Proved names (GainsFront held held_after) c status) → Same ⊎ BeginsWords names left left_after held held_after words
-begins_proving names left left_after held held_after Same words c spelled (inl same) = inl same
-begins_proving names left left_after held held_after Same words c spelled (inr (status, proved)) = inr (inr (status, (c, spelled, proved)))
+pub begins_proving : (names : Option Names) (left left_after held held_after : Option (List ℕ)) (words : List (List ℕ)) (c : ProveWords) → SpellsProve words c → left_after ≡ left →
+    (held_after ≡ held) ⊎ ((status : ℕ) × Proved names (GainsFront held held_after) c status) → ((left_after ≡ left) × (held_after ≡ held)) ⊎ BeginsWords names left left_after held held_after words
+begins_proving names left left_after held held_after words c spelled unread (inl same) = inl (unread, same)
+begins_proving names left left_after held held_after words c spelled unread (inr (status, proved)) = inr (inr (status, (c, spelled, proved)))
 
 -- no count but those that a proof has to do with
 pub without_input : (a b c : Type 0) → a ⊎ c → a ⊎ (b ⊎ c)

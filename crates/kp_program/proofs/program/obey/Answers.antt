@@ -1,4 +1,4 @@
-use Rattle.std.proofs.Common.{inl, subst}
+use Rattle.std.proofs.Common.{inl, refl, subst}
 use Rattle.std.proofs.lemmas.Result.{IfErr-weaker, on_err_weaker}
 use Rattle.kp_program.specs.Commands.{IsCommand, prove_view}
 use Rattle.kp_program.specs.declared.command.Command.{Command}
@@ -21,5 +21,5 @@ returns-in-Prove-clause-cause g c = λ words is.
 pub returns-in-Prove-clause-front : goal.returns-in-Prove-clause-front
 returns-in-Prove-clause-front g c = λ words is.
     on_err_weaker c.prove_file.result (λ front.
-    begins_proving (g.H.Shelf.names c.args.shelf.now) _ _ (g.O.Sink.held c.args.out.now) _ _ words (prove_view c.in-Prove.prove)
-    (subst (λ (x : Command). IsCommand words x) c.in-Prove.is is) front) c.prove_file.ensures.front
+    begins_proving (g.H.Shelf.names c.args.shelf.now) (g.I.Source.left c.args.input.now) _ (g.O.Sink.held c.args.out.now) _ words (prove_view c.in-Prove.prove)
+    (subst (λ (x : Command). IsCommand words x) c.in-Prove.is is) refl front) c.prove_file.ensures.front
