@@ -16,7 +16,7 @@ use Rattle.kp_additions.specs.Served.{HasSeenAt}
 use Rattle.kp_additions.specs.Told.{IsEntered, TellsRefusal, failure_told}
 use Rattle.kp_additions.specs.declared.error.AdditionError.{AdditionError}
 use Rattle.kp_conn.specs.Conversations.{Sees}
-use Rattle.kp_service.specs.Batches.{FromEachBookSeen, IsAddFailure, IsReplyLine, line_told, line_added, IsEffect, adds_nothing, adds, MayHaveDone, did_nothing, did_add}
+use Rattle.kp_service.specs.Batches.{FromEachBookSeen, IsAddFailure, IsReplyLine, line_told, line_added, IsEffect, adds_nothing, adds, MayHaveDone, did_add}
 use Rattle.kp_service.proofs.Serving.{stays}
 
 -- ---- what was entered

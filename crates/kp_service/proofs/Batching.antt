@@ -8,11 +8,11 @@ use Rattle.kp_requests.specs.Frames.{Asks}
 use Rattle.kp_requests.specs.Requests.{Asked, Call, single, batch, refused_whole}
 use Rattle.kp_book.specs.Books.{Opening, Registration}
 use Rattle.kp_conn.proofs.Conversing.{sees_behind, sees_more}
-use Rattle.kp_service.specs.Answers.{Adds, IsMember, told, added, silent, added_silently, with_reply, AreMembers, none, next, items_of, batch_reply, IsFront, IsAnswer, refusal, alone, together}
+use Rattle.kp_service.specs.Answers.{IsMember, told, added, silent, added_silently, with_reply, AreMembers, none, next, items_of, batch_reply, IsFront, IsAnswer, refusal, alone, together}
 use Rattle.kp_conn.specs.Conversations.{Sees}
 use Rattle.kp_registry.specs.declared.book.Registry.{Registry}
 use Rattle.kp_registry.specs.declared.seen.Pass.{Pass}
-use Rattle.kp_service.specs.Batches.{FromEachBookSeen, call_of, IsReplyLine, line_told, line_added, IsEffect, adds_nothing, adds, MayHaveDone, did_nothing, did_add, IsMemberText, texts_behind, batch_front, AreTold, text_with, text_then, text_closed, IsNextTold, AreFirstTold, AreMembersText}
+use Rattle.kp_service.specs.Batches.{FromEachBookSeen, call_of, IsReplyLine, line_told, line_added, IsEffect, adds_nothing, adds, MayHaveDone, did_nothing, did_add, IsMemberText, texts_behind, batch_front, text_with, text_then, text_closed, IsNextTold, AreFirstTold, AreMembersText}
 use Rattle.kp_additions.specs.Served.{HasSeenAt}
 
 -- ---- texts

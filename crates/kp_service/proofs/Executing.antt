@@ -1,27 +1,26 @@
 -- From what was read of a state, and the end of its run, to the reply to execute.
-use Rattle.std.proofs.Common.{◌≡◌, ◌⊎◌, ℕ, false, List, [], ◌∷◌, ◌++◌, Option, Some, None, Vec, refl, sym, ap, subst, ◌∙◌, inl, inr}
+use Rattle.std.proofs.Common.{◌≡◌, ℕ, false, List, Option, Some, Vec, refl, sym, ap, subst, ◌∙◌, inl, inr}
 use Rattle.std.specs.Option.{option_map}
 use Rattle.std.specs.declared.alloc.Global.{Global}
 use Rattle.serde_json.specs.Data.{Data}
-use Rattle.kp_kore.specs.Syntax.{Text, KoreSort, KorePattern}
+use Rattle.kp_kore.specs.Syntax.{KoreSort, KorePattern}
 use Rattle.kp_kore.specs.Signature.{KoreSignature, injection, meaning_of}
 use Rattle.kp_kore.specs.View.{sort_view}
 use Rattle.kp_ground.specs.View.{value_view}
-use Rattle.kp_json.specs.Faults.{Reading, read, fault, TreeFault}
-use Rattle.kp_semantics.specs.Value.{Value, HasSort}
+use Rattle.kp_json.specs.Faults.{Reading, read}
+use Rattle.kp_semantics.specs.Value.{HasSort}
 use Rattle.kp_semantics.specs.Foreign.{none_within}
 use Rattle.kp_semantics.specs.Replies as three
 use Rattle.kp_semantics.specs.Ground.{executed_of}
-use Rattle.kp_semantics.specs.Theory.{Theory}
 use Rattle.kp_semantics.proofs.GroundReplies.{ground_is_right}
 use Rattle.kp_signature.specs.Verify.{VerifiesAs}
-use Rattle.kp_states.specs.Spelled.{IsOtherShape, IsSpellingOf, spelling, has_two_sorts, first_foreign, injection_name}
+use Rattle.kp_states.specs.Spelled.{IsOtherShape, IsSpellingOf, spelling, has_two_sorts, injection_name}
 use Rattle.kp_states.specs.declared.state.State.{State}
 use Rattle.kp_run.specs.Causes.{IsStateIn, StopsUntold}
 use Rattle.kp_run.specs.Runs.{written_of}
 use Rattle.kp_run.specs.declared.run.Executed.{Executed}
-use Rattle.kp_rpc.specs.Request.{RequestId, ExecuteOptions, ExecuteRequest, bound_of}
-use Rattle.kp_rpc.specs.Reply.{RequestError, VerifyFault, not_verified, other_shape, error_reply, result_reply, reply_bytes}
+use Rattle.kp_rpc.specs.Request.{RequestId, ExecuteOptions, bound_of}
+use Rattle.kp_rpc.specs.Reply.{not_verified, other_shape, error_reply, result_reply, reply_bytes}
 use Rattle.kp_rpc.specs.View.{pattern_fault_view, state_fault_view}
 use Rattle.kp_rpc.specs.declared.fault.StateFault.{StateFault}
 use Rattle.kp_rpc.specs.declared.fault.StateFault.TheVariants as state
@@ -32,7 +31,6 @@ use Rattle.kp_server.proofs.Ended.{both_empty, ended, ends_at, has_tree_of, not_
 use Rattle.kp_server.proofs.Runs.{run_is_right}
 use Rattle.kp_server.specs.Ends.{IsListing, IsStateAt, IsWrongPattern, result_of}
 use Rattle.kp_server.specs.Normal.{IsLater, HasNoSpelling}
-use Rattle.kp_server.specs.Right.{IsPatternFault}
 use Rattle.kp_server.specs.Setting.{IsElsewhere, Setting}
 use Rattle.kp_server.specs.Untold.{IsLeftOut, IsUntold, elsewhere, stops_at_rules, no_state, no_run}
 use Rattle.kp_server.specs.declared.failure.Failure.{Failure}
@@ -154,7 +152,7 @@ pub unspelled_line : (s : Setting) (id : RequestId) (options : ExecuteOptions) (
     (f : StateFault) → state_fault_view f ≡ not_verified other_shape → (line : List ℕ) → line ≡ reply_bytes (error_reply id (state_fault_view f)) → IsLineOf (IsExecutedAs s id options x) line
 unspelled_line s id options x end h none injects f t2 line l =
     let out : HasNoSpelling s.theory h.is_start.pattern h.is_start.is_of.sort (bound_of options) =
-        record { steps = end.depth; later = written_of end.state; is_later = later_at s options x end h; ends = ends_at s.theory (value_view h.start.value) (bound_of options) end h.run; injects = injects; none = none } in
+    record { steps = end.depth; later = written_of end.state; is_later = later_at s options x end h; ends = ends_at s.theory (value_view h.start.value) (bound_of options) end h.run; injects = injects; none = none } in
     (error_reply id (not_verified other_shape), bad_state x (not_verified other_shape) (left_out s options x h.start h.is_start (inr out)), l ∙ ap (λ e. reply_bytes (error_reply id e)) t2)
 
 -- with a failure

@@ -5,13 +5,12 @@ use Rattle.std.specs.declared.alloc.Global.{Global}
 use Rattle.serde_json.specs.Data.{Data}
 use Rattle.kp_kore.specs.Syntax.{Text, KoreSort, KorePattern}
 use Rattle.kp_kore.specs.Signature.{KoreSignature}
-use Rattle.kp_kore.specs.View.{sort_view}
-use Rattle.kp_json.specs.Faults.{Reading, read, fault, TreeFault}
+use Rattle.kp_json.specs.Faults.{Reading, read}
 use Rattle.kp_semantics.specs.Implied.{Implied}
 use Rattle.kp_signature.specs.Verify.{VerifiesAs}
 use Rattle.kp_states.specs.declared.state.State.{State}
 use Rattle.kp_rpc.specs.Request.{RequestId, ExecuteOptions}
-use Rattle.kp_rpc.specs.Reply.{RequestError, VerifyFault, unknown_sort, unknown_symbol, other_number, sorts_differ, wide_number, deep_term, no_literal, foreign_symbol, no_pattern, not_verified, other_shape, error_reply, result_reply, reply_bytes}
+use Rattle.kp_rpc.specs.Reply.{VerifyFault, unknown_sort, unknown_symbol, other_number, sorts_differ, wide_number, deep_term, no_literal, foreign_symbol, not_verified, other_shape, error_reply, result_reply, reply_bytes}
 use Rattle.kp_rpc.specs.View.{pattern_fault_view, state_fault_view}
 use Rattle.kp_rpc.specs.declared.fault.StateFault.{StateFault}
 use Rattle.kp_rpc.specs.declared.fault.StateFault.TheVariants as state
@@ -26,7 +25,7 @@ use Rattle.kp_server.specs.Untold.{IsImpliesUntold, IsLeftOut, no_antecedent, no
 use Rattle.kp_server.specs.declared.failure.Failure.{Failure}
 use Rattle.kp_server.specs.declared.failure.Failure.TheVariants as failure
 use Rattle.kp_service.specs.Answered.{AllLeftOut, IsImpliesError, in_antecedent, in_consequent, untold, IsImpliedAs, bad_sides, implied, IsSimplifiedAs, IsSimplifyError}
-use Rattle.kp_service.specs.Told.{IsFaultLine, IsImpliedLine, IsImpliedOf, IsLineOf, IsSideOf, IsSideRead, IsSidesFailure, IsSimplifyFailure, IsStateOf, IsTreeFailure}
+use Rattle.kp_service.specs.Told.{IsFaultLine, IsImpliedLine, IsImpliedOf, IsLineOf, IsSideOf, IsSidesFailure, IsSimplifyFailure, IsStateOf, IsTreeFailure}
 
 -- ---- failures
 
@@ -120,9 +119,12 @@ implied_at s id asked here p q (Some a) (Some c) o x y k tree w =
 
 pub implied_line_is_right : (g : KoreSignature) (s : Setting) → g ≡ s.theory.signature → (id : RequestId) (asked : Option Text) → ¬ IsElsewhere s.main asked → (a c : Reading KorePattern) (o : Option KoreSort) → IsImpliedOf g a c o →
     (line : List ℕ) → IsImpliedLine id o line → IsLineOf (IsImpliedAs s id asked a c) line
-implied_line_is_right g s same id asked here a c o h line l =
-    (result_reply id l.0, subst (λ x. IsImpliedAs s id asked x c (result_reply id l.0)) (sym h.is_left.is_read) (subst (λ x. IsImpliedAs s id asked (read h.is_left.pattern) x (result_reply id l.0)) (sym h.is_right.is_read)
-    (implied_at s id asked here h.is_left.pattern h.is_right.pattern h.left h.right o (subst (λ k. IsSideOf k h.is_left.pattern h.left) same h.is_left.is_of) (subst (λ k. IsSideOf k h.is_right.pattern h.right) same h.is_right.is_of) h.compared l.0 l.1)), l.2)
+implied_line_is_right g s same id asked here a c o h line l = (
+  result_reply id l.0,
+  subst (λ x. IsImpliedAs s id asked x c (result_reply id l.0)) (sym h.is_left.is_read) (subst (λ x. IsImpliedAs s id asked (read h.is_left.pattern) x (result_reply id l.0)) (sym h.is_right.is_read)
+      (implied_at s id asked here h.is_left.pattern h.is_right.pattern h.left h.right o (subst (λ k. IsSideOf k h.is_left.pattern h.left) same h.is_left.is_of) (subst (λ k. IsSideOf k h.is_right.pattern h.right) same h.is_right.is_of) h.compared l.0 l.1)),
+  l.2,
+)
 
 pub sides_line_is_right : (s : Setting) (id : RequestId) (asked : Option Text) (a c : Reading KorePattern) (f : Failure) → IsSidesFailure s asked a c f → (line : List ℕ) → IsFaultLine id f line → IsLineOf (IsImpliedAs s id asked a c) line
 sides_line_is_right s id asked a c failure.Memory w line l = absurd l

@@ -1,5 +1,5 @@
 -- The module that is asked, and what is served of it; calls that leave the book.
-use Rattle.std.proofs.Common.{◌≡◌, refl, sym, ap, subst, ◌∙◌, ℕ, List, [], ◌∷◌, Option, Some, None, Result, Ok, Err, Vec, ◌⊎◌, inl, inr, string_bytes}
+use Rattle.std.proofs.Common.{◌≡◌, refl, sym, ap, subst, ℕ, List, [], ◌∷◌, Option, Some, None, Result, Ok, Err, Vec, ◌⊎◌, inl, inr, string_bytes}
 use Rattle.std.specs.Option.{option_map, IsSome, IfSome}
 use Rattle.std.proofs.lemmas.Result.{IfOk-weaker}
 use Rattle.std.specs.Result.{IfOk, OnErr, OnOk}
@@ -7,7 +7,6 @@ use Rattle.std.specs.declared.alloc.Global.{Global}
 use Rattle.std.specs.Prelude.{String}
 use Rattle.serde_json.specs.Data.{Data}
 use Rattle.kp_kore.specs.Syntax.{Text}
-use Rattle.kp_signature.specs.View.{signature_view}
 use Rattle.kp_rules.specs.Bodies.{RunsAs}
 use Rattle.kp_rules.specs.declared.rule.RuleSet.{RuleSet}
 use Rattle.kp_rpc.specs.Request.{RequestId}
@@ -126,7 +125,7 @@ pub served_line : {E : Type 0} (r : Result (Vec ℕ Global) E) (registry : Regis
 served_line r registry pass asked found rules id RightOver is means right =
     for_all r (HasSeenAt registry pass) (λ o book line. IsLineOf (IsReplyIn o book asked id RightOver) line.items)
     (λ o book seen. let s = serves o book asked rules (subst (MeansAt o book (module_asked o asked)) is (means o book seen)) in
-        IfOk-weaker r _ _ (λ line l. in_module_line o book asked id RightOver s.setting s.served line.items l) (right s.setting s.runs s.here))
+    IfOk-weaker r _ _ (λ line l. in_module_line o book asked id RightOver s.setting s.served line.items l) (right s.setting s.runs s.here))
 
 -- the line where no such module is there
 pub unserved_line : {E : Type 0} (r : Result (Vec ℕ Global) E) (registry : Registry) (pass : Pass) (asked : Option (String Global)) (found : Option RuleSet) (id : RequestId) (RightOver : Setting → Data → Type 0) → found ≡ None → IsSome asked →

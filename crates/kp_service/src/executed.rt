@@ -53,12 +53,7 @@ pub fn failure_line(alloc: Global, id: &Id, failure: Failure) -> Result<Vec<u8>,
 }
 
 /// The reply with the end of a run; T2 where the signature can't spell it.
-fn end_line(
-    alloc: Global,
-    rules: &RuleSet,
-    id: &Id,
-    end: &Executed,
-) -> Result<Vec<u8>, AllocError>
+fn end_line(alloc: Global, rules: &RuleSet, id: &Id, end: &Executed) -> Result<Vec<u8>, AllocError>
     ensures { (s : Setting) (options : ExecuteOptions) (state : faults.Reading KorePattern) → RunsAs s.theory rules.now → ¬ IsElsewhere s.main options.module_name → IsEndOf s.theory options state end.now →
         IfOk result (λ line. IsLineOf (IsExecutedAs s (id_view id.now) options state) line.items) }
 {

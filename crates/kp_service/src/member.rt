@@ -164,7 +164,15 @@ fn request_line(
             antecedent,
             consequent,
             module_name,
-        } => implies_line(alloc, registry, pass, id, antecedent, consequent, module_name),
+        } => implies_line(
+            alloc,
+            registry,
+            pass,
+            id,
+            antecedent,
+            consequent,
+            module_name,
+        ),
         Request::Simplify { state, module_name } => {
             simplify_line(alloc, registry, pass, id, state, module_name)
         }

@@ -13,7 +13,7 @@ returns-in-Some-clause-told c =
     let told = option_map (λ text. text.items) c.in_ok-told.told in
     when_ok c.add_reply.result _ _ c.add_reply.ensures
     (λ then. weaker c.args.registry.now c.args.pass.now c.answered.new.pass (λ o book. IsMemberText o book call told) (λ o book. IsNextTold o book call c.args.replies.now.items c.add_reply.new.replies.items)
-        (λ o book after h. next_some o book after call c.args.replies.now.items c.add_reply.new.replies.items c.in-Some.reply.items told (ap (option_map (λ text. text.items)) c.in-Some.is) (then ∙ ap (text_with c.args.replies.now.items) c.deref.ensures.value) h) c.in_ok-told.ensures.told)
+    (λ o book after h. next_some o book after call c.args.replies.now.items c.add_reply.new.replies.items c.in-Some.reply.items told (ap (option_map (λ text. text.items)) c.in-Some.is) (then ∙ ap (text_with c.args.replies.now.items) c.deref.ensures.value) h) c.in_ok-told.ensures.told)
 
 pub returns-in-Some-clause-begun : goal.returns-in-Some-clause-begun
 returns-in-Some-clause-begun c =
@@ -26,4 +26,4 @@ returns-in-None-clause-told c =
     let call = call_view c.args.call in
     let told = option_map (λ text. text.items) c.in_ok-told.told in
     weaker c.args.registry.now c.args.pass.now c.answered.new.pass (λ o book. IsMemberText o book call told) (λ o book. IsNextTold o book call c.args.replies.now.items c.args.replies.now.items)
-        (λ o book after h. next_none o book after call c.args.replies.now.items told (ap (option_map (λ text. text.items)) c.in-None.is) h) c.in_ok-told.ensures.told
+    (λ o book after h. next_none o book after call c.args.replies.now.items told (ap (option_map (λ text. text.items)) c.in-None.is) h) c.in_ok-told.ensures.told

@@ -1,5 +1,4 @@
 use Rattle.std.proofs.Common.{subst, ◌≢◌, None, sym}
-use Rattle.kp_kore.specs.View.{view}
 use Rattle.kp_results.specs.View.{executed_view}
 use Rattle.kp_results.specs.Results.{ExecutedParts}
 use Rattle.kp_replies.specs.Written.{executed_tree}

@@ -1,4 +1,4 @@
-use Rattle.std.proofs.Common.{ap, sym, ◌∙◌}
+use Rattle.std.proofs.Common.{ap, ◌∙◌}
 use Rattle.std.specs.Option.{option_map}
 use Rattle.kp_signature.specs.View.{signature_view}
 use Rattle.kp_rpc.specs.View.{id_view, name_view}

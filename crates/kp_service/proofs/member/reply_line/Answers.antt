@@ -20,7 +20,7 @@ returns-in-Refused-clause-told c =
     let id = id_view c.args.id.now in
     let e = refusal_view c.in-Refused.refusal in
     IfOk-weaker c.refusal_text.result _ _ (λ line l. lines_of c.args.registry.now c.args.pass.now c.args.pass.now id (asked_view c.args.asked) (refused e) line.items (ap asked_view c.in-Refused.is)
-        (line_stays c.args.registry.now c.args.pass.now c.args.pass.now id (refused e) line.items refl (λ o book seen. (error_reply id e, refl, l)))) c.refusal_text.ensures
+    (line_stays c.args.registry.now c.args.pass.now c.args.pass.now id (refused e) line.items refl (λ o book seen. (error_reply id e, refl, l)))) c.refusal_text.ensures
 
 pub returns-in-Refused-clause-begun : goal.returns-in-Refused-clause-begun
 returns-in-Refused-clause-begun c = at_err c.refusal_text.result _ (nothing_done c.args.registry.now c.args.pass.now c.args.pass.now (asked_view c.args.asked) refl)

@@ -12,7 +12,7 @@ returns-in-Execute-clause-told c =
     let id = id_view c.args.id.now in
     let asked = asks (execute (reading_view c.in-Execute.state) (options_view c.in-Execute.options)) in
     IfOk-weaker c.execute_line.result _ _ (λ line l. lines_of c.args.registry.now c.args.pass.now c.execute_line.new.pass id (asks (request_view c.args.request)) asked line.items (ap (λ r. asks (request_view r)) c.in-Execute.is)
-        (line_stays c.args.registry.now c.args.pass.now c.execute_line.new.pass id asked line.items c.execute_line.ensures.pass l)) c.execute_line.ensures.line
+    (line_stays c.args.registry.now c.args.pass.now c.execute_line.new.pass id asked line.items c.execute_line.ensures.pass l)) c.execute_line.ensures.line
 
 pub returns-in-Execute-clause-begun : goal.returns-in-Execute-clause-begun
 returns-in-Execute-clause-begun c = at_err c.execute_line.result _ (nothing_done c.args.registry.now c.args.pass.now c.execute_line.new.pass (asks (request_view c.args.request)) c.execute_line.ensures.pass)
@@ -22,7 +22,7 @@ returns-in-Implies-clause-told c =
     let id = id_view c.args.id.now in
     let asked = asks (implies (reading_view c.in-Implies.antecedent) (reading_view c.in-Implies.consequent) (name_view c.in-Implies.module_name)) in
     IfOk-weaker c.implies_line.result _ _ (λ line l. lines_of c.args.registry.now c.args.pass.now c.implies_line.new.pass id (asks (request_view c.args.request)) asked line.items (ap (λ r. asks (request_view r)) c.in-Implies.is)
-        (line_stays c.args.registry.now c.args.pass.now c.implies_line.new.pass id asked line.items c.implies_line.ensures.pass l)) c.implies_line.ensures.line
+    (line_stays c.args.registry.now c.args.pass.now c.implies_line.new.pass id asked line.items c.implies_line.ensures.pass l)) c.implies_line.ensures.line
 
 pub returns-in-Implies-clause-begun : goal.returns-in-Implies-clause-begun
 returns-in-Implies-clause-begun c = at_err c.implies_line.result _ (nothing_done c.args.registry.now c.args.pass.now c.implies_line.new.pass (asks (request_view c.args.request)) c.implies_line.ensures.pass)
@@ -32,7 +32,7 @@ returns-in-Simplify-clause-told c =
     let id = id_view c.args.id.now in
     let asked = asks (simplify (reading_view c.in-Simplify.state) (name_view c.in-Simplify.module_name)) in
     IfOk-weaker c.simplify_line.result _ _ (λ line l. lines_of c.args.registry.now c.args.pass.now c.simplify_line.new.pass id (asks (request_view c.args.request)) asked line.items (ap (λ r. asks (request_view r)) c.in-Simplify.is)
-        (line_stays c.args.registry.now c.args.pass.now c.simplify_line.new.pass id asked line.items c.simplify_line.ensures.pass l)) c.simplify_line.ensures.line
+    (line_stays c.args.registry.now c.args.pass.now c.simplify_line.new.pass id asked line.items c.simplify_line.ensures.pass l)) c.simplify_line.ensures.line
 
 pub returns-in-Simplify-clause-begun : goal.returns-in-Simplify-clause-begun
 returns-in-Simplify-clause-begun c = at_err c.simplify_line.result _ (nothing_done c.args.registry.now c.args.pass.now c.simplify_line.new.pass (asks (request_view c.args.request)) c.simplify_line.ensures.pass)

@@ -1,11 +1,11 @@
-use Rattle.std.proofs.Common.{Some, inl, inr, refl, subst, sym, ap, ◌∙◌, string_bytes}
+use Rattle.std.proofs.Common.{inr, refl, subst, sym}
 use Rattle.std.proofs.lemmas.Result.{IfOk-weaker}
 use Rattle.std.specs.Option.{IsSome, option_map}
 use Rattle.kp_additions.specs.Served.{HasSeenAt}
 use Rattle.kp_registry.specs.Passes.{MeansAt}
 use Rattle.kp_rpc.specs.View.{name_view}
 use Rattle.kp_service.specs.Meant.{module_asked}
-use Rattle.kp_service.proofs.Serving.{asked_means, for_all, for_any, main_means}
+use Rattle.kp_service.proofs.Serving.{asked_means, for_all, for_any}
 use Rattle.kp_service.proofs.member.rules_at.Goals as goal
 
 pub returns-in-Some-clause-means : goal.returns-in-Some-clause-means

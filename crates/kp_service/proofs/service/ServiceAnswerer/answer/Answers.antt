@@ -1,4 +1,4 @@
-use Rattle.std.proofs.Common.{ap, subst, refl, Some, ◌∷◌, []}
+use Rattle.std.proofs.Common.{subst, Some, ◌∷◌, []}
 use Rattle.std.proofs.lemmas.Result.{IfOk-weaker}
 use Rattle.std.specs.Option.{option_map}
 use Rattle.kp_additions.specs.Served.{HasSeenAt}
@@ -22,28 +22,28 @@ returns-in-Single-clause-answered c =
     let call = call_view c.in-Single.call in
     let asked = subst (λ x. Asks c.args.frame.now (parsed_view x)) c.in-Single.is c.in_ok-call.ensures in
     IfOk-weaker c.answered.result _ _ (λ reply h. weaker c.args.self.now.registry c.args.pass.now c.answered.new.pass (λ o book. IsMemberText o book call (option_map (λ text. text.items) reply)) (λ o book. IsAnswer o book c.args.frame.now (option_map (λ text. text.items) reply))
-        (λ o book after m. answer_alone o book after c.args.frame.now call (option_map (λ text. text.items) reply) asked m) h) c.answered.ensures.told
+    (λ o book after m. answer_alone o book after c.args.frame.now call (option_map (λ text. text.items) reply) asked m) h) c.answered.ensures.told
 
 pub returns-in-Single-clause-begun : goal.returns-in-Single-clause-begun
 returns-in-Single-clause-begun c =
     let call = call_view c.in-Single.call in
     let asked = subst (λ x. Asks c.args.frame.now (parsed_view x)) c.in-Single.is c.in_ok-call.ensures in
     when_err c.answered.result _ _ c.answered.ensures.begun (λ h. weaker c.args.self.now.registry c.args.pass.now c.answered.new.pass (λ o book. IsFront o book (call ∷ [])) (λ o book. IsBegun o book c.args.frame.now)
-        (λ o book after f. begun_alone call after asked f) h)
+    (λ o book after f. begun_alone call after asked f) h)
 
 pub returns-in-Batch-clause-answered : goal.returns-in-Batch-clause-answered
 returns-in-Batch-clause-answered c =
     let calls = calls_view c.in-Batch.calls.items in
     let asked = subst (λ x. Asks c.args.frame.now (parsed_view x)) c.in-Batch.is c.in_ok-call.ensures in
     IfOk-weaker c.answered_batch.result _ _ (λ reply h. weaker c.args.self.now.registry c.args.pass.now c.answered_batch.new.pass (λ o book. AreMembersText o book calls (option_map (λ text. text.items) reply)) (λ o book. IsAnswer o book c.args.frame.now (option_map (λ text. text.items) reply))
-        (λ o book after m. answer_together o book after c.args.frame.now calls (option_map (λ text. text.items) reply) asked m) h) c.answered_batch.ensures.told
+    (λ o book after m. answer_together o book after c.args.frame.now calls (option_map (λ text. text.items) reply) asked m) h) c.answered_batch.ensures.told
 
 pub returns-in-Batch-clause-begun : goal.returns-in-Batch-clause-begun
 returns-in-Batch-clause-begun c =
     let calls = calls_view c.in-Batch.calls.items in
     let asked = subst (λ x. Asks c.args.frame.now (parsed_view x)) c.in-Batch.is c.in_ok-call.ensures in
     when_err c.answered_batch.result _ _ c.answered_batch.ensures.begun (λ h. weaker c.args.self.now.registry c.args.pass.now c.answered_batch.new.pass (λ o book. IsFront o book calls) (λ o book. IsBegun o book c.args.frame.now)
-        (λ o book after f. begun_together calls after asked f) h)
+    (λ o book after f. begun_together calls after asked f) h)
 
 pub returns-in_ok-line-in-Refused-clause-answered : goal.returns-in_ok-line-in-Refused-clause-answered
 returns-in_ok-line-in-Refused-clause-answered c =
