@@ -4,7 +4,7 @@
     make.py KIND NUMBER [FILE]
 
 KIND is one of: rules, sorts, modules, chain, arguments, deep-sort, deep-pattern, deep-and, deep-fold, wide-fold,
-deep-attribute, labels, subsorts, injections, sort-chain, beside, beside-request. NUMBER is how many. The text goes to FILE, or to standard output.
+deep-attribute, labels, subsorts, injections, sort-chain, beside, beside-request, counting-request, ring, ring-request, any-head. NUMBER is how many. The text goes to FILE, or to standard output.
 """
 import json
 import sys
@@ -116,6 +116,37 @@ def wide_fold(n):
 
 def deep_attribute(n):
     return axiom("\\top{SortS{}}()", "a{}(" * n + ")" * n)
+
+
+def ring(n):
+    """n rules of one head, of which one fires on each state."""
+    lines = ["  symbol Lblring{}(SortInt{}) : SortS{} [constructor{}()]\n"]
+    for i in range(n):
+        lines.append(f"  axiom{{}} \\rewrites{{SortS{{}}}}(Lblring{{}}(\\dv{{SortInt{{}}}}(\"{i}\")), Lblring{{}}(\\dv{{SortInt{{}}}}(\"{(i + 1) % n}\"))) [label{{}}(\"at{i}\")]\n")
+    return "[]\n" + module(HEAD + "".join(lines))
+
+
+def any_head(n):
+    """n heads with a rule each, and n rules with a variable at the top, which come after those."""
+    lines = [f"  axiom{{}} \\rewrites{{SortS{{}}}}(X:SortS{{}}, X:SortS{{}}) [label{{}}(\"any{i}\"), priority{{}}(\"200\")]\n" for i in range(n)]
+    return rules(n).replace("endmodule []\n", "".join(lines) + "endmodule []\n")
+
+
+def execute(name, number, steps):
+    """The request of so many steps from a constructor of one number."""
+    value = {"tag": "DV", "sort": {"tag": "SortApp", "name": "SortInt", "args": []}, "value": str(number)}
+    term = {"tag": "App", "name": name, "sorts": [], "args": [value]}
+    state = {"format": "KORE", "version": 1, "term": term}
+    return json.dumps({"jsonrpc": "2.0", "id": 1, "method": "execute", "params": {"state": state, "max-depth": steps}})
+
+
+def counting_request(n):
+    """n steps of the counter: over `rules` they stand beside rules of other heads."""
+    return execute("Lblcount", n + 1, n)
+
+
+def ring_request(n):
+    return execute("Lblring", 0, n)
 
 
 def beside(n):

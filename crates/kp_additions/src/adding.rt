@@ -25,7 +25,7 @@ use kp_kore::{Module, Name};
 use kp_modules::Table;
 use kp_registry::{Id, Pass, Ready, RegisterFault, Registry, id_of, prepare};
 use kp_replies::AdditionFault;
-use kp_rules::RuleSet;
+use kp_rule_sets::RuleSet;
 use kp_text::{ReadError, read_module};
 use std::alloc::Global;
 use std::sync::Arc;

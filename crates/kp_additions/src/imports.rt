@@ -11,7 +11,7 @@ use kp_imports::imports::import_of;
 use kp_kore::{Name, Sentence};
 use kp_registry::{Pass, Registry};
 use kp_replies::AdditionFault;
-use kp_rules::RuleSet;
+use kp_rule_sets::RuleSet;
 use std::alloc::Global;
 use std::sync::Arc;
 

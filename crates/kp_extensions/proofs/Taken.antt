@@ -8,7 +8,7 @@ use Rattle.kp_semantics.specs.Rules.{RewriteRule, priority_of, usual_priority, m
 use Rattle.kp_semantics.specs.Theory.{NumberedAxiom, IsRuleOf, label_of, labels_of, rule_id}
 use Rattle.kp_rules.specs.Bodies.{IsBodyOf, IsCodeOf, IsReadAs}
 use Rattle.kp_rules.specs.declared.rule.Rule.{Rule}
-use Rattle.kp_rules.specs.declared.rule.RuleSet.{RuleSet}
+use Rattle.kp_rule_sets.specs.declared.rule_set.RuleSet.{RuleSet}
 use Rattle.kp_extensions.specs.Extending.{IsTakenFrom}
 use Rattle.kp_modules.specs.Made.{IsMadeOf, AreMadeOf, IsSetOf}
 use Rattle.kp_modules.specs.Sources.{IsSourceOf}

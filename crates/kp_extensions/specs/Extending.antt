@@ -16,7 +16,7 @@ use Rattle.kp_semantics.specs.Theory.{NumberedAxiom, rewrite_axioms_from}
 use Rattle.kp_rules.specs.Bodies.{IsBodyOf, IsFaulty}
 use Rattle.kp_rules.specs.declared.rule.Rule.{Rule}
 use Rattle.kp_rules.specs.declared.rule.RuleBody.TheVariants.{Rewrite, Foreign}
-use Rattle.kp_rules.specs.declared.rule.RuleSet.{RuleSet}
+use Rattle.kp_rule_sets.specs.declared.rule_set.RuleSet.{RuleSet}
 use Rattle.kp_rules.specs.declared.rule.Rewrite as code
 use Rattle.kp_rules.specs.declared.skeleton.Skeleton.{Skeleton}
 use Rattle.kp_book.specs.Books.{each_axiom_once}

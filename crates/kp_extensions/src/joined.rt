@@ -13,7 +13,8 @@ ghost use Rattle.kp_modules.specs.Made.{IsMadeOf, AreMadeOf, IsSetOf};
 use indexmap::IndexMap;
 use kp_imports::repeated::{Met, meet};
 use kp_modules::labels::{Labels, add_label, rule_id};
-use kp_rules::{Rule, RuleSet};
+use kp_rule_sets::RuleSet;
+use kp_rules::Rule;
 use kp_signature::Signature;
 use std::alloc::{AllocError, Global};
 use std::sync::Arc;
@@ -42,10 +43,8 @@ pub fn called(
     ensures { (axioms : List NumberedAxiom) → AreTakenFrom (signature_view signature.now.value) axioms rules.now → IfOk result (IsSetOf (signature_view signature.now.value) axioms) }
 {
     let labels = labels_in(alloc, rules)?;
-    Ok(RuleSet {
-        signature: signature.clone()?,
-        rules: all_named(alloc, &labels, rules)?,
-    })
+    let named = all_named(alloc, &labels, rules)?;
+    RuleSet::new(alloc, signature.clone()?, named)
 }
 
 /// The rules of these rule sets, in order and each once.

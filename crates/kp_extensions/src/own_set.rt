@@ -13,7 +13,8 @@ ghost use Rattle.kp_extensions.specs.OwnSets.{MeansRules};
 
 use crate::joined::{add_own, called};
 use kp_modules::Table;
-use kp_rules::{Rule, RuleSet};
+use kp_rule_sets::RuleSet;
+use kp_rules::Rule;
 use std::alloc::{AllocError, Global};
 use std::sync::Arc;
 

@@ -13,7 +13,7 @@ use Rattle.kp_semantics.specs.Rules.{is_rewriting, priority_of, usual_priority}
 use Rattle.kp_semantics.specs.Theory.{NumberedAxiom, rewrite_axioms_from, rewrite_axioms, labels_of, rule_id}
 use Rattle.kp_rules.specs.Bodies.{IsReadAs}
 use Rattle.kp_rules.specs.declared.rule.Rule.{Rule}
-use Rattle.kp_rules.specs.declared.rule.RuleSet.{RuleSet}
+use Rattle.kp_rule_sets.specs.declared.rule_set.RuleSet.{RuleSet}
 use Rattle.kp_modules.specs.Axioms.{axiom_view, axioms_view}
 use Rattle.kp_modules.specs.Sources.{IsSourceOf}
 use Rattle.kp_modules.specs.Made.{IsMadeOf, AreMadeOf, AreRewriting, IsRunOf}

@@ -6,9 +6,10 @@ use Rattle.kp_kore.specs.Signature.{KoreSignature, signature_of}
 use Rattle.kp_signature.specs.View.{signature_view}
 use Rattle.kp_semantics.specs.Rules.{RewriteRule, is_rewriting}
 use Rattle.kp_semantics.specs.Theory.{Theory, NumberedAxiom, rewrite_axioms, labels_of, IsRuleOf}
-use Rattle.kp_rules.specs.Bodies.{IsCodeOf, RunsAs}
+use Rattle.kp_rules.specs.Bodies.{IsCodeOf}
+use Rattle.kp_rule_sets.specs.RuleSets.{RunsAs}
 use Rattle.kp_rules.specs.declared.rule.Rule.{Rule}
-use Rattle.kp_rules.specs.declared.rule.RuleSet.{RuleSet}
+use Rattle.kp_rule_sets.specs.declared.rule_set.RuleSet.{RuleSet}
 use Rattle.kp_modules.specs.Sources.{IsSourceOf}
 
 -- the code's rule is the one that the axiom makes

@@ -4,8 +4,8 @@ use Rattle.std.specs.Option.{is_some}
 use Rattle.indexmap.specs.IndexMap.{get_by_text}
 use Rattle.kp_kore.specs.Syntax.{Text}
 use Rattle.kp_semantics.specs.Theory.{Theory}
-use Rattle.kp_rules.specs.Bodies.{RunsAs}
-use Rattle.kp_rules.specs.declared.rule.RuleSet.{RuleSet}
+use Rattle.kp_rule_sets.specs.RuleSets.{RunsAs}
+use Rattle.kp_rule_sets.specs.declared.rule_set.RuleSet.{RuleSet}
 use Rattle.kp_modules.specs.declared.table.Table.{Table}
 
 -- what `rule_set` answers

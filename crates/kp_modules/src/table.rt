@@ -20,7 +20,7 @@ use indexmap::IndexMap;
 use kp_imports::duplicates::{check_sorts, check_symbols};
 use kp_imports::fault::LoadError;
 use kp_kore::{Definition, Module, Name};
-use kp_rules::RuleSet;
+use kp_rule_sets::RuleSet;
 use kp_signature::Signature;
 use std::alloc::{AllocError, Global};
 use std::sync::Arc;
@@ -99,7 +99,8 @@ fn rule_set(alloc: Global, modules: &[&Module]) -> Result<RuleSet, LoadError>
     let signature = Signature::new(alloc, modules)?;
     let rules = rules_of(alloc, &signature, modules)?;
     let signature = Arc::new(alloc, signature)?;
-    Ok(RuleSet { signature, rules })
+    let set = RuleSet::new(alloc, signature, rules)?;
+    Ok(set)
 }
 
 /// The modules' names.

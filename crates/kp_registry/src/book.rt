@@ -13,7 +13,7 @@ use crate::seen::{Entry, Pass, Ready};
 use kp_extensions::rules_of;
 use kp_kore::{Module, Name};
 use kp_modules::Table;
-use kp_rules::RuleSet;
+use kp_rule_sets::RuleSet;
 use std::alloc::{AllocError, Global};
 use std::sync::Arc;
 

@@ -7,7 +7,7 @@ ghost use Rattle.kp_registry.specs.declared.seen.Bound.{Bound};
 
 use crate::seen::{Bound, Entry, Pass};
 use kp_kore::Name;
-use kp_rules::RuleSet;
+use kp_rule_sets::RuleSet;
 use std::alloc::{AllocError, Global};
 use std::cmp::Ordering;
 use std::sync::Arc;

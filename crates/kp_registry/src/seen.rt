@@ -1,6 +1,6 @@
 use crate::id::Id;
 use kp_kore::Name;
-use kp_rules::RuleSet;
+use kp_rule_sets::RuleSet;
 use std::sync::Arc;
 
 /// A registered module.

@@ -5,7 +5,7 @@ use crate::extensions::toys;
 use kp_extensions::extend;
 use kp_modules::Table;
 use kp_registry::{Pass, Ready, RegisterFault, Registry, prepare};
-use kp_rules::RuleSet;
+use kp_rule_sets::RuleSet;
 use kp_text::read_module;
 use std::alloc::Global;
 use std::sync::Arc;

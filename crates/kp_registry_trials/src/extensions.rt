@@ -1,6 +1,6 @@
 use kp_extensions::{ExtendError, extend};
 use kp_modules::{Table, load};
-use kp_rules::RuleSet;
+use kp_rule_sets::RuleSet;
 use kp_text::{read_definition, read_module};
 use std::alloc::Global;
 use std::sync::Arc;

@@ -2,7 +2,7 @@
 use crate::texts::pattern;
 use kp_kore::Pattern;
 use kp_modules::load;
-use kp_rules::RuleSet;
+use kp_rule_sets::RuleSet;
 use kp_successors::{GroundError, ground_step};
 use kp_text::read_definition;
 use std::alloc::Global;

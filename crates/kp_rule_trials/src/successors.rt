@@ -141,3 +141,54 @@ fn the_example_counts_chooses_and_stops(rt: HostRuntime) -> Result<(), Fail> {
     assert!(rt; are_told(rt.alloc(), TOYS, "TOYS", &TOYS_ROWS)?);
     Ok(())
 }
+
+/// Rules of one head, of a head under `inj`, and of any head, in mixed order.
+const HEADS: &str = r#"[]
+module HEADS
+  sort SortE{} []
+  sort SortS{} []
+  symbol inj{From, To}(From) : To [sortInjection{}()]
+  axiom{R} \top{R}() [subsort{SortE{}, SortS{}}()]
+  symbol Lbla{}() : SortE{} [constructor{}()]
+  symbol Lblb{}() : SortE{} [constructor{}()]
+  symbol Lblc{}() : SortS{} [constructor{}()]
+  axiom{} \rewrites{SortS{}}(Lblc{}(), inj{SortE{}, SortS{}}(Lbla{}())) [label{}("one")]
+  axiom{} \rewrites{SortS{}}(X:SortS{}, Lblc{}()) [label{}("any")]
+  axiom{} \rewrites{SortS{}}(Lblc{}(), inj{SortE{}, SortS{}}(Lblb{}())) [label{}("three")]
+  axiom{} \rewrites{SortS{}}(inj{SortE{}, SortS{}}(Lbla{}()), inj{SortE{}, SortS{}}(Lblb{}())) [label{}("under")]
+  axiom{} \rewrites{SortS{}}(inj{SortE{}, SortS{}}(Y:SortE{}), inj{SortE{}, SortS{}}(Y:SortE{})) [label{}("lower")]
+  axiom{} \rewrites{SortS{}}(Lblc{}(), Lblc{}()) [label{}("late"), priority{}("60")]
+endmodule []
+"#;
+
+const HEADS_ROWS: [(&str, &[&str], &str); 3] = [
+    (
+        r#"Lblc{}()"#,
+        &[
+            r#"inj{SortE{}, SortS{}}(Lbla{}())"#,
+            r#"Lblc{}()"#,
+            r#"inj{SortE{}, SortS{}}(Lblb{}())"#,
+        ],
+        "",
+    ),
+    (
+        r#"inj{SortE{}, SortS{}}(Lbla{}())"#,
+        &[
+            r#"Lblc{}()"#,
+            r#"inj{SortE{}, SortS{}}(Lblb{}())"#,
+            r#"inj{SortE{}, SortS{}}(Lbla{}())"#,
+        ],
+        "",
+    ),
+    (
+        r#"inj{SortE{}, SortS{}}(Lblb{}())"#,
+        &[r#"Lblc{}()"#, r#"inj{SortE{}, SortS{}}(Lblb{}())"#],
+        "",
+    ),
+];
+
+#[test]
+fn rules_of_a_head_and_of_any_head_come_in_one_order(rt: HostRuntime) -> Result<(), Fail> {
+    assert!(rt; are_told(rt.alloc(), HEADS, "HEADS", &HEADS_ROWS)?);
+    Ok(())
+}

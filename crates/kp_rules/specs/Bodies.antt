@@ -1,13 +1,12 @@
 -- Which rules of a theory the code's rules are.
 use Rattle.std.specs.Prelude.{◌≡◌, ◌↔◌, ℕ, Bool, true, false, not, min, [], map, Option, Some, None, unwrap_or, IsTrue, string_bytes, ◌⊎◌, ⊤}
 use Rattle.std.specs.Bool.{Decides}
-use Rattle.std.specs.List.{AllByRecursion, AllZip, list_any}
+use Rattle.std.specs.List.{AllByRecursion, list_any}
 use Rattle.kp_kore.specs.Syntax.{KoreSort, KorePattern, top, conjunction, Statement}
 use Rattle.kp_kore.specs.Parts.{is_term, free_variables}
 use Rattle.kp_kore.specs.Signature.{KoreSignature}
 use Rattle.kp_kore.specs.Sorting.{sort_of_term}
 use Rattle.kp_kore.specs.View.{view, sort_view, sorted_variable_view}
-use Rattle.kp_signature.specs.View.{signature_view}
 use Rattle.kp_signature.specs.Places.{Place}
 use Rattle.kp_signature.specs.Verify.{first_fault, VerifyFault, FailsWith}
 use Rattle.kp_semantics.specs.Value.{Value, HasSort}
@@ -16,7 +15,6 @@ use Rattle.kp_semantics.specs.Instance.{Valuation, instance, IsTrueUnder, GivesS
 use Rattle.kp_semantics.specs.Rules as model
 use Rattle.kp_semantics.specs.Foreign.{none_within, has_foreign_head, applies_undeclared, has_interpreted_head, IsRead, Reads, IsSkeletonInstance}
 use Rattle.kp_semantics.specs.Numbers.{computes_wide}
-use Rattle.kp_semantics.specs.Theory.{Theory}
 use Rattle.kp_ground.specs.Conditions.{condition_holds, condition_narrow as is_condition_narrow}
 use Rattle.kp_ground.specs.ConditionView.{condition_view}
 use Rattle.kp_compile.specs.Exact.{IsLeftOf, IsTermOf, IsNarrowAs}
@@ -26,7 +24,6 @@ use Rattle.kp_rules.specs.Skeletons.{IsAdmitted}
 use Rattle.kp_rules.specs.declared.rule.Rule.{Rule}
 use Rattle.kp_rules.specs.declared.rule.RuleBody.{RuleBody}
 use Rattle.kp_rules.specs.declared.rule.RuleBody.TheVariants.{Rewrite, Foreign}
-use Rattle.kp_rules.specs.declared.rule.RuleSet.{RuleSet}
 use Rattle.kp_rules.specs.declared.rule.Rewrite as code
 use Rattle.kp_rules.specs.declared.rule.RightSide.{RightSide}
 use Rattle.kp_rules.specs.declared.skeleton.Skeleton.{Skeleton}
@@ -124,8 +121,3 @@ pub record IsCodeOf (g : KoreSignature) (m : model.RewriteRule) (r : Rule) : Typ
   pub is_body : IsBodyOf g m.body r.body.value
   pub is_priority : (w : code.Rewrite) → r.body.value ≡ Rewrite w → m.priority ≡ r.priority
   pub is_foreign_priority : (k : Skeleton) → r.body.value ≡ Foreign k → min m.priority model.most_priority ≡ r.priority
-
--- the code's rule set is the theory, rule by rule
-pub record RunsAs (t : Theory) (rules : RuleSet) : Type 0 where
-  pub signature : signature_view rules.signature.value ≡ t.signature
-  pub each : AllZip (IsCodeOf t.signature) t.rules rules.rules.items

@@ -10,6 +10,6 @@ pub mod shape;
 pub mod skeleton;
 mod values;
 
-pub use rule::{Rewrite, RightSide, Rule, RuleBody, RuleSet, RuleSource, SortTest};
+pub use rule::{Rewrite, RightSide, Rule, RuleBody, RuleSource, SortTest};
 pub use skeleton::Skeleton;
 pub use values::has_sort;

@@ -1,7 +1,6 @@
 use crate::skeleton::Skeleton;
 use kp_ground::{Condition, Left, Term};
 use kp_kore::{Name, Pattern, Sort, SortedVariable};
-use kp_signature::Signature;
 use std::sync::Arc;
 
 /// A rule of a rule set. A smaller priority number goes first. Rule sets share all but the priority.
@@ -63,11 +62,4 @@ pub struct RightSide {
 pub struct SortTest {
     pub name: String,
     pub sort: Sort,
-}
-
-/// The rules of a definition in the order of its modules, and its signature.
-#[derive(Drop)]
-pub struct RuleSet {
-    pub signature: Arc<Signature>,
-    pub rules: Vec<Rule>,
 }

@@ -2,9 +2,11 @@ pub mod Above
 pub mod Among
 pub mod Answered
 pub mod Causes
+pub mod Chosen
 pub mod Open
 pub mod Runs
 pub mod Shallow
 pub mod States
+pub mod Taking
 pub mod Theories
 pub mod Turning

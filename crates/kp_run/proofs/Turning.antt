@@ -1,17 +1,15 @@
 -- One more rule that fires, or doesn't.
-use Rattle.std.proofs.Common.{◌≡◌, refl, sym, subst, ℕ, zero, suc, ◌<◌, ◌≤◌, List, [], ◌∷◌, ◌++◌, take, length, get_or, ◌+◌, ◌∙◌, ap, Bool, true, false, ◌↔◌, Option, Some, None, Bor, inl, inr, arith}
+use Rattle.std.proofs.Common.{◌≡◌, refl, sym, subst, ℕ, zero, suc, ◌<◌, ◌≤◌, List, [], ◌∷◌, ◌++◌, ◌+◌, ◌∙◌, Bool, true, false, ◌↔◌, Option, Some, None, Bor, inl, inr, arith}
 use Rattle.std.specs.Prelude.{◌⊎◌, IsTrue}
 use Rattle.std.specs.List.{AllByRecursion}
-use Rattle.std.proofs.lemmas.List.{take_more}
 use Rattle.kp_kore.specs.Signature.{KoreSignature}
 use Rattle.kp_semantics.specs.Value.{Value}
-use Rattle.kp_semantics.specs.Steps.{AnyByRecursion}
 use Rattle.kp_rules.specs.declared.rule.Rule.{Rule}
 use Rattle.kp_run.specs.declared.step.Firing.{Firing}
 use Rattle.kp_run.specs.declared.step.Turn.{Turn}
 use Rattle.kp_run.specs.declared.step.Turn.TheVariants.{Nobody, One, Several}
 use Rattle.kp_run.specs.Causes.{TwoAmong}
-use Rattle.kp_run.specs.Turns.{BodyFires, BodyIsWide, MightRewrite, NoneMight, IsFirstForeign, TellsForeign, GoesAfter, FiresAt, IsFiring, OneAmong, IsTurn}
+use Rattle.kp_run.specs.Turns.{BodyFires, MightRewrite, NoneMight, IsFirstForeign, TellsForeign, GoesAfter, FiresAt, IsFiring, OneAmong, IsTurn}
 use Rattle.kp_run.proofs.Among.{all_along, all_and_last, one_all, one_any, one_and_last, last_is_the_one, two_and_last, two_and_more, between_all, between_and_last, last_between}
 
 -- no rule so far has a smaller number
@@ -76,15 +74,6 @@ turn_stays g u (Several n) rules r is isnt = (all_and_last (λ q. BodyFires g u 
 
 -- ---- one item further in the loops
 
-turn_on_next : (g : KoreSignature) (u : Value) (rules : List Rule) (i : ℕ) (r : Rule) (turn : Turn) → i < length rules → r ≡ get_or rules i r → IsTurn g u (take i rules ++ r ∷ []) turn → IsTurn g u (take (i + 1) rules) turn
-turn_on_next g u rules i r turn lt is h =
-    subst (λ rs. IsTurn g u rs turn) (sym (take_more rules i r lt ∙ ap (λ q. take i rules ++ q ∷ []) (sym is))) h
-
-pub turn_on_more : (g : KoreSignature) (u : Value) (rules items : List Rule) (i : ℕ) (r : Rule) (turn : Turn) → items ≡ rules → i < length items → r ≡ get_or items i r →
-    IsTurn g u (take i rules ++ r ∷ []) turn → IsTurn g u (take (i + 1) rules) turn
-turn_on_more g u rules items i r turn e lt is h =
-    turn_on_next g u rules i r turn (subst (λ rs. i < length rs) e lt) (subst (λ rs. r ≡ get_or rs i r) e is) h
-
 -- ---- foreign rules
 
 -- one more rule that might rewrite the value
@@ -114,23 +103,6 @@ told_past g u None r rules none isnt = all_and_last (λ q. ¬ MightRewrite g u q
 told_past g u (Some f) r rules is isnt =
     between_and_last (λ q. (q ≡ f.now) × MightRewrite g u q.body.value) (λ q. MightRewrite g u q.body.value → f.now.priority < q.priority) (λ q. MightRewrite g u q.body.value → f.now.priority ≤ q.priority) rules r is (λ m. absurd (isnt m))
 
-pub told_more : (g : KoreSignature) (u : Value) (rules items : List Rule) (i : ℕ) (r : Rule) (first : Option (Bor Rule)) → items ≡ rules → i < length items → r ≡ get_or items i r →
-    TellsForeign g u (take i rules ++ r ∷ []) first → TellsForeign g u (take (i + 1) rules) first
-told_more g u rules items i r first e lt is h =
-    let inside : i < length rules = subst (λ rs. i < length rs) e lt in
-    let it : r ≡ get_or rules i r = subst (λ rs. r ≡ get_or rs i r) e is in
-    subst (λ rs. TellsForeign g u rs first) (sym (take_more rules i r inside ∙ ap (λ q. take i rules ++ q ∷ []) (sym it))) h
-
--- a rule of the list
-among : (P : Rule → Type 0) (rules : List Rule) (i : ℕ) (r : Rule) → i < length rules → r ≡ get_or rules i r → P r → AnyByRecursion P rules
-among P [] i r lt is h = absurd (omega arith)
-among P (q ∷ rules) zero r lt is h = inl (subst P is h)
-among P (q ∷ rules) (suc i) r lt is h = inr (among P rules i r (omega arith) is h)
-
-pub here_among : (P : Rule → Type 0) (rules items : List Rule) (i : ℕ) (r : Rule) → items ≡ rules → i < length items → r ≡ get_or items i r → P r → AnyByRecursion P rules
-here_among P rules items i r e lt is h =
-    among P rules i r (subst (λ rs. i < length rs) e lt) (subst (λ rs. r ≡ get_or rs i r) e is) h
-
 -- a number that isn't at most n, as the code found
 pub at_most_or_beyond : (d n : ℕ) → (d ≤ n) ⊎ (n < d)
 at_most_or_beyond zero n = inl (omega arith)
@@ -147,11 +119,3 @@ is_beyond d n b isnt told = by_order (at_most_or_beyond d n)
     by_order : (d ≤ n) ⊎ (n < d) → n < d
     by_order (inl le) = let yes : b ≡ true = told.1 le in absurd (cc)
     by_order (inr lt) = lt
-
-pub narrow_more : (g : KoreSignature) (u : Value) (rules items : List Rule) (i : ℕ) (r : Rule) → items ≡ rules → i < length items → r ≡ get_or items i r →
-    AllByRecursion (λ q. ¬ BodyIsWide g u q.body.value) (take i rules) → ¬ BodyIsWide g u r.body.value → AllByRecursion (λ q. ¬ BodyIsWide g u q.body.value) (take (i + 1) rules)
-narrow_more g u rules items i r e lt is h isnt =
-    let inside : i < length rules = subst (λ rs. i < length rs) e lt in
-    let it : r ≡ get_or rules i r = subst (λ rs. r ≡ get_or rs i r) e is in
-    subst (λ rs. AllByRecursion (λ q. ¬ BodyIsWide g u q.body.value) rs) (sym (take_more rules i r inside ∙ ap (λ q. take i rules ++ q ∷ []) (sym it)))
-    (all_and_last (λ q. ¬ BodyIsWide g u q.body.value) (take i rules) r h isnt)

@@ -1,7 +1,7 @@
 ghost use Rattle.std.specs.Prelude.{◌≡◌, ◌<◌, ◌≤◌, IfOk, IfErr, String};
 ghost use Rattle.kp_semantics.specs.Theory.{Theory};
 ghost use Rattle.kp_ground.specs.View.{value_view};
-ghost use Rattle.kp_rules.specs.Bodies.{RunsAs};
+ghost use Rattle.kp_rule_sets.specs.RuleSets.{RunsAs};
 ghost use Rattle.kp_run.specs.Causes.{IsStateIn, StopsUntold};
 ghost use Rattle.kp_run.specs.Runs.{IsAt, IsRunOf, written_of};
 ghost use Rattle.kp_run.specs.Turns.{SomeOpen};
@@ -10,7 +10,7 @@ ghost use Rattle.kp_run.specs.declared.run.Stop.TheVariants.{Stuck, DepthBound, 
 
 use crate::error::RunError;
 use crate::step::{Next, next_of};
-use kp_rules::RuleSet;
+use kp_rule_sets::RuleSet;
 use kp_states::State;
 use std::alloc::Global;
 

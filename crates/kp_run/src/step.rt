@@ -1,4 +1,4 @@
-ghost use Rattle.std.specs.Prelude.{◌≡◌, ◌↔◌, ◌++◌, ◌≤◌, List, [], ◌∷◌, IfOk, IfErr, IsTrue, MatchOption, false};
+ghost use Rattle.std.specs.Prelude.{◌≡◌, ◌↔◌, ◌++◌, ◌≤◌, List, [], ◌∷◌, IfOk, IfErr, IsTrue, MatchOption, false, slice_get};
 ghost use Rattle.std.specs.List.{AllByRecursion};
 ghost use Rattle.kp_kore.specs.Syntax.{KoreSort};
 ghost use Rattle.kp_kore.specs.Signature.{KoreSignature};
@@ -14,7 +14,8 @@ ghost use Rattle.kp_ground.specs.Solves.{Solves};
 ghost use Rattle.kp_ground.specs.Terms.{term_value};
 ghost use Rattle.kp_ground.specs.TermView.{term_view};
 ghost use Rattle.kp_ground.specs.View.{value_view};
-ghost use Rattle.kp_rules.specs.Bodies.{RunsAs};
+ghost use Rattle.kp_rule_sets.specs.RuleSets.{RunsAs};
+ghost use Rattle.kp_rule_sets.specs.Turns.{with_first};
 ghost use Rattle.kp_run.specs.Causes.{TwoAmong, IsWrittenAt, IsNotStepped, StopsUntold};
 ghost use Rattle.kp_run.specs.Runs.{IsNext, IsWrittenNext, written_of};
 ghost use Rattle.kp_run.specs.Shallow.{IsShallow, IsShallowNext, IsMatchOf};
@@ -25,7 +26,8 @@ ghost use Rattle.kp_run.specs.declared.error.RunError.TheVariants.{NotAnswered, 
 use crate::error::RunError;
 use kp_ground::{Binding, Value};
 use kp_kore::Sort;
-use kp_rules::{Rewrite, Rule, RuleBody, RuleSet};
+use kp_rule_sets::{RuleSet, head_of};
+use kp_rules::{Rewrite, Rule, RuleBody};
 use kp_signature::Signature;
 use kp_states::{Matched, State, is_right_within, is_within_written};
 use std::alloc::{AllocError, Global};
@@ -101,7 +103,28 @@ fn told_after<'a>(first: Option<&'a Rule>, rule: &'a Rule, might: bool) -> Optio
     first
 }
 
-/// The foreign rule that is told of those that might rewrite the value: of the smallest priority number the first.
+/// The foreign rule that is told, when the rule at one more place is asked.
+fn told_with<'a>(
+    alloc: Global,
+    rules: &'a RuleSet,
+    place: usize,
+    value: &Value,
+    first: Option<&'a Rule>,
+) -> Result<Option<&'a Rule>, AllocError>
+    ensures { IsSorted (signature_view rules.now.signature.value) (value_view value.now) →
+        IfOk result (λ next. (before : List Rule) → TellsForeign (signature_view rules.now.signature.value) (value_view value.now) before first.entry → TellsForeign (signature_view rules.now.signature.value) (value_view value.now) (before ++ with_first (slice_get rules.now.rules.items place) []) next) }
+{
+    match rules.rule_at(place) {
+        Some(rule) => {
+            let might = might_rewrite(alloc, &rules.signature, &rule.body, value)?;
+            Ok(told_after(first, rule, might))
+        }
+        None => Ok(first),
+    }
+}
+
+/// The foreign rule that is told of those that might rewrite the value: of the smallest priority number the first. Rules
+/// of other heads aren't looked at.
 pub fn foreign_on<'a>(
     alloc: Global,
     rules: &'a RuleSet,
@@ -109,10 +132,10 @@ pub fn foreign_on<'a>(
 ) -> Result<Option<&'a Rule>, AllocError>
     ensures { IsSorted (signature_view rules.now.signature.value) (value_view value.now) → IfOk result (TellsForeign (signature_view rules.now.signature.value) (value_view value.now) rules.now.rules.items) }
 {
+    let mut places = rules.rules_at(&head_of(value));
     let mut first = None;
-    for rule in &rules.rules {
-        let might = might_rewrite(alloc, &rules.signature, &rule.body, value)?;
-        first = told_after(first, rule, might);
+    while let Some(place) = places.next() {
+        first = told_with(alloc, rules, place, value, first)?;
     }
     Ok(first)
 }
@@ -186,17 +209,39 @@ fn turn_after<'a>(turn: Turn<'a>, firing: Option<Firing<'a>>) -> Turn<'a>
     }
 }
 
-/// The rules that have their turn on a value.
+/// Who has the turn when the rule at one more place is asked.
+fn turn_with<'a>(
+    alloc: Global,
+    rules: &'a RuleSet,
+    place: usize,
+    value: &Value,
+    turn: Turn<'a>,
+) -> Result<Turn<'a>, RunError>
+    ensures turn { IfOk result (λ next. (before : List Rule) → IsTurn (signature_view rules.now.signature.value) (value_view value.now) before turn.entry → IsTurn (signature_view rules.now.signature.value) (value_view value.now) (before ++ with_first (slice_get rules.now.rules.items place) []) next) }
+    ensures wide { IfErr result (λ e. e ≡ NotAnswered → AnyByRecursion (λ r. BodyIsWide (signature_view rules.now.signature.value) (value_view value.now) r.body.value) rules.now.rules.items) }
+    ensures narrow { IfOk result (λ _. AllByRecursion (λ r. ¬ BodyIsWide (signature_view rules.now.signature.value) (value_view value.now) r.body.value) (with_first (slice_get rules.now.rules.items place) [])) }
+    ensures unbound { IfErr result (λ e. e ≡ Unbound → SomeOpen rules.now.rules.items) }
+{
+    match rules.rule_at(place) {
+        Some(rule) => {
+            let firing = firing_of(alloc, &rules.signature, rule, value)?;
+            Ok(turn_after(turn, firing))
+        }
+        None => Ok(turn),
+    }
+}
+
+/// The rules that have their turn on a value. Rules of other heads aren't looked at.
 fn turn_on<'a>(alloc: Global, rules: &'a RuleSet, value: &Value) -> Result<Turn<'a>, RunError>
     ensures turn { IfOk result (λ turn. IsTurn (signature_view rules.now.signature.value) (value_view value.now) rules.now.rules.items turn) }
     ensures wide { IfErr result (λ e. e ≡ NotAnswered → AnyByRecursion (λ r. BodyIsWide (signature_view rules.now.signature.value) (value_view value.now) r.body.value) rules.now.rules.items) }
     ensures narrow { IfOk result (λ _. AllByRecursion (λ r. ¬ BodyIsWide (signature_view rules.now.signature.value) (value_view value.now) r.body.value) rules.now.rules.items) }
     ensures unbound { IfErr result (λ e. e ≡ Unbound → SomeOpen rules.now.rules.items) }
 {
+    let mut places = rules.rules_at(&head_of(value));
     let mut turn = Turn::Nobody;
-    for rule in &rules.rules {
-        let firing = firing_of(alloc, &rules.signature, rule, value)?;
-        turn = turn_after(turn, firing);
+    while let Some(place) = places.next() {
+        turn = turn_with(alloc, rules, place, value, turn)?;
     }
     Ok(turn)
 }

@@ -2,13 +2,13 @@
 ghost use Rattle.std.specs.Prelude.{◌↔◌, IfErr, IsTrue, OnOk};
 ghost use Rattle.kp_modules.specs.Tables.{main_of};
 ghost use Rattle.kp_rpc.specs.View.{name_view};
-ghost use Rattle.kp_rules.specs.Bodies.{RunsAs};
+ghost use Rattle.kp_rule_sets.specs.RuleSets.{RunsAs};
 ghost use Rattle.kp_server.specs.Setting.{IsSettingOf, IsElsewhere, IsModuleReached, Setting};
 ghost use Rattle.kp_server.specs.Sides.{IsUnreached};
 
 use crate::failure::{Failure, no_module};
 use kp_modules::Table;
-use kp_rules::RuleSet;
+use kp_rule_sets::RuleSet;
 
 /// The rules of a table.
 pub fn rules_of(table: &Table) -> &RuleSet

@@ -7,8 +7,8 @@ use Rattle.std.specs.declared.alloc.Global.{Global}
 use Rattle.std.specs.Prelude.{String}
 use Rattle.serde_json.specs.Data.{Data}
 use Rattle.kp_kore.specs.Syntax.{Text}
-use Rattle.kp_rules.specs.Bodies.{RunsAs}
-use Rattle.kp_rules.specs.declared.rule.RuleSet.{RuleSet}
+use Rattle.kp_rule_sets.specs.RuleSets.{RunsAs}
+use Rattle.kp_rule_sets.specs.declared.rule_set.RuleSet.{RuleSet}
 use Rattle.kp_rpc.specs.Request.{RequestId}
 use Rattle.kp_rpc.specs.Reply.{error_reply, no_module, reply_bytes}
 use Rattle.kp_requests.specs.Requests.{Asked}

@@ -17,7 +17,7 @@ use kp_kore::{Pattern, Sort};
 use kp_replies::implied_text;
 use kp_requests::Reading;
 use kp_rpc::{Id, StateFault};
-use kp_rules::RuleSet;
+use kp_rule_sets::RuleSet;
 use kp_server::{Failure, compared_sides, implied_at, side_state, verify_failure};
 use kp_signature::{Signature, verify};
 use kp_states::State;

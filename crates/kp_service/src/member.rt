@@ -19,7 +19,7 @@ use crate::simplified::simplified_line;
 use kp_registry::{Pass, Registry};
 use kp_requests::{Asked, Call, Reading, Request};
 use kp_rpc::{Id, Options, StateFault, fault_text, refusal_text};
-use kp_rules::RuleSet;
+use kp_rule_sets::RuleSet;
 use std::alloc::{AllocError, Global};
 use std::sync::Arc;
 

@@ -13,7 +13,7 @@ use crate::executed::{failure_line, verified_state};
 use kp_kore::Pattern;
 use kp_requests::Reading;
 use kp_rpc::{Id, StateFault};
-use kp_rules::RuleSet;
+use kp_rule_sets::RuleSet;
 use kp_server::{Failure, not_answered};
 use std::alloc::{AllocError, Global};
 

@@ -9,11 +9,12 @@ use Rattle.kp_semantics.specs.Sorted.{IsSorted}
 use Rattle.kp_semantics.specs.Rules as model
 use Rattle.kp_semantics.specs.Theory.{Theory}
 use Rattle.kp_semantics.specs.Steps.{AnyByRecursion, Fires, NoneBefore, HasTurn, IsUnknown}
-use Rattle.kp_rules.specs.Bodies.{IsCodeOf, RunsAs}
+use Rattle.kp_rules.specs.Bodies.{IsCodeOf}
+use Rattle.kp_rule_sets.specs.RuleSets.{RunsAs}
 use Rattle.kp_rules.specs.declared.rule.Rule.{Rule}
 use Rattle.kp_rules.specs.declared.rule.RuleBody.{RuleBody}
 use Rattle.kp_rules.specs.declared.rule.RuleBody.TheVariants.{Rewrite, Foreign}
-use Rattle.kp_rules.specs.declared.rule.RuleSet.{RuleSet}
+use Rattle.kp_rule_sets.specs.declared.rule_set.RuleSet.{RuleSet}
 use Rattle.kp_run.specs.Causes.{HasWideCondition}
 use Rattle.kp_run.specs.Turns.{BodyFires, BodyIsWide, FiresAt}
 use Rattle.kp_run.proofs.Among.{of_some, zip_all, zip_any}

@@ -1,5 +1,6 @@
 pub mod Answered
 pub mod Asking
+pub mod ByHead
 pub mod ChosenSteps
 pub mod Constraints
 pub mod Finding
@@ -11,5 +12,4 @@ pub mod PutIn
 pub mod Refused
 pub mod Spelling
 pub mod Stepping
-pub mod Taken
 pub mod Wide

@@ -12,8 +12,8 @@ use Rattle.kp_semantics.specs.Numbers.{computes_wide}
 use Rattle.kp_semantics.specs.Theory.{Theory}
 use Rattle.kp_semantics.specs.Steps.{AnyByRecursion, HasTurn, IsUnknown}
 use Rattle.kp_compile.specs.Verified.{IsVerifiedTerm}
-use Rattle.kp_rules.specs.Bodies.{RunsAs}
-use Rattle.kp_rules.specs.declared.rule.RuleSet.{RuleSet}
+use Rattle.kp_rule_sets.specs.RuleSets.{RunsAs}
+use Rattle.kp_rule_sets.specs.declared.rule_set.RuleSet.{RuleSet}
 use Rattle.kp_states.specs.Spelled.{IsGroundState}
 use Rattle.kp_run.specs.Causes.{HasWideCondition}
 use Rattle.kp_run.specs.Runs.{IsFirstUnknown}

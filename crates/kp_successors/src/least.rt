@@ -1,5 +1,5 @@
 // The least priority number of the rules that fire.
-ghost use Rattle.std.specs.Prelude.{◌≡◌, ◌↔◌, ◌++◌, ◌∷◌, [], ◌≤◌, List, IsTrue, IfOk, OnOk, IfErr};
+ghost use Rattle.std.specs.Prelude.{◌≡◌, ◌↔◌, ◌++◌, ◌∷◌, [], ◌≤◌, List, IsTrue, IfOk, OnOk, IfErr, slice_get};
 ghost use Rattle.std.specs.List.{AllByRecursion};
 ghost use Rattle.kp_kore.specs.Signature.{KoreSignature};
 ghost use Rattle.kp_signature.specs.View.{signature_view};
@@ -7,6 +7,7 @@ ghost use Rattle.kp_semantics.specs.Value as model;
 ghost use Rattle.kp_semantics.specs.Steps.{AnyByRecursion};
 ghost use Rattle.kp_ground.specs.View.{value_view};
 ghost use Rattle.kp_rules.specs.declared.rule.Rule.{Rule};
+ghost use Rattle.kp_rule_sets.specs.Turns.{with_first};
 ghost use Rattle.kp_successors.specs.Errors.{IsCausedBy};
 ghost use Rattle.kp_run.specs.Turns.{BodyFires, BodyIsWide};
 ghost use Rattle.kp_successors.specs.Turns.{IsLeast};
@@ -15,7 +16,8 @@ ghost use Rattle.kp_successors.specs.declared.error.GroundError.TheVariants.{Unb
 
 use crate::error::GroundError;
 use kp_ground::Value;
-use kp_rules::{Rule, RuleBody, RuleSet};
+use kp_rule_sets::{RuleSet, head_of};
+use kp_rules::{Rule, RuleBody};
 use kp_signature::Signature;
 use std::alloc::Global;
 
@@ -56,7 +58,30 @@ fn least_after(least: Option<u32>, priority: u32, fires: bool) -> Option<u32>
     }
 }
 
-/// The least priority number of the rules that fire on the value.
+/// The least priority number when the rule at one more place is asked.
+fn least_with(
+    alloc: Global,
+    rules: &RuleSet,
+    place: usize,
+    value: &Value,
+    least: Option<u32>,
+) -> Result<Option<u32>, GroundError>
+    ensures least { IfOk result (λ next. (before : List Rule) → IsLeast (signature_view rules.now.signature.value) (value_view value.now) before least →
+        IsLeast (signature_view rules.now.signature.value) (value_view value.now) (before ++ with_first (slice_get rules.now.rules.items place) []) next) }
+    ensures narrow { OnOk result (AllByRecursion (λ r. ¬ BodyIsWide (signature_view rules.now.signature.value) (value_view value.now) r.body.value) (with_first (slice_get rules.now.rules.items place) [])) }
+    ensures refused { IfErr result (IsCausedBy (signature_view rules.now.signature.value) (AnyByRecursion (λ r. BodyIsWide (signature_view rules.now.signature.value) (value_view value.now) r.body.value) rules.now.rules.items)) }
+    ensures unbound { IfErr result (λ e. e ≡ Unbound → SomeLeavesOpen rules.now) }
+{
+    match rules.rule_at(place) {
+        Some(rule) => {
+            let fires = fires(alloc, &rules.signature, rule, value)?;
+            Ok(least_after(least, rule.priority, fires))
+        }
+        None => Ok(least),
+    }
+}
+
+/// The least priority number of the rules that fire on the value. Rules of other heads aren't looked at.
 pub fn least_priority(
     alloc: Global,
     rules: &RuleSet,
@@ -67,10 +92,10 @@ pub fn least_priority(
     ensures refused { IfErr result (IsCausedBy (signature_view rules.now.signature.value) (AnyByRecursion (λ r. BodyIsWide (signature_view rules.now.signature.value) (value_view value.now) r.body.value) rules.now.rules.items)) }
     ensures unbound { IfErr result (λ e. e ≡ Unbound → SomeLeavesOpen rules.now) }
 {
+    let mut places = rules.rules_at(&head_of(value));
     let mut least = None;
-    for rule in &rules.rules {
-        let fires = fires(alloc, &rules.signature, rule, value)?;
-        least = least_after(least, rule.priority, fires);
+    while let Some(place) = places.next() {
+        least = least_with(alloc, rules, place, value, least)?;
     }
     Ok(least)
 }

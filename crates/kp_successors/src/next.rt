@@ -1,6 +1,7 @@
 // The pattern of one rule that has its turn.
-ghost use Rattle.std.specs.Prelude.{◌≡◌, ◌⊎◌, ◌++◌, true, false, IfOk, OnOk, IfErr, MatchOption, map};
+ghost use Rattle.std.specs.Prelude.{◌≡◌, ◌⊎◌, ◌++◌, [], true, false, List, IfOk, OnOk, IfErr, MatchOption, map, slice_get};
 ghost use Rattle.std.specs.List.{AllByRecursion};
+ghost use Rattle.kp_kore.specs.Syntax.{KorePattern};
 ghost use Rattle.kp_kore.specs.View.{view};
 ghost use Rattle.kp_signature.specs.View.{signature_view};
 ghost use Rattle.kp_semantics.specs.Instance.{Valuation};
@@ -11,7 +12,9 @@ ghost use Rattle.kp_successors.specs.Errors.{IsCausedBy};
 ghost use Rattle.kp_successors.specs.Nexts.{PlainBy, ChosenBy, IsNextOf, is_right_narrow, left_of, new_of};
 ghost use Rattle.kp_successors.specs.WideParts.{part_computes_wide};
 ghost use Rattle.kp_rules.specs.Heads.{FiresAs};
+ghost use Rattle.kp_rules.specs.declared.rule.Rule.{Rule};
 ghost use Rattle.kp_rules.specs.declared.rule.RuleBody.TheVariants as body;
+ghost use Rattle.kp_rule_sets.specs.Turns.{with_first};
 ghost use Rattle.kp_run.specs.Turns.{BodyIsWide, FiresAt};
 ghost use Rattle.kp_successors.specs.Turns.{RightIsWide, IsWideAt, Follows, AreNexts, next_list};
 ghost use Rattle.kp_ground.specs.Terms.{stays_narrow, lacks};
@@ -27,7 +30,8 @@ use crate::narrow::narrow;
 use crate::put_in::put_in;
 use kp_ground::{Binding, Value};
 use kp_kore::{Pattern, Sort};
-use kp_rules::{Rewrite, RightSide, Rule, RuleBody, RuleSet};
+use kp_rule_sets::{RuleSet, head_of};
+use kp_rules::{Rewrite, RightSide, Rule, RuleBody};
 use kp_signature::Signature;
 use kp_states::spelled;
 use std::alloc::{AllocError, Global};
@@ -129,7 +133,28 @@ fn next_at(
     }
 }
 
-/// The patterns of the rules that fire on the value and have this priority number, in order.
+/// The pattern of the rule at a place, where it fires on the value and has this priority number.
+fn next_with(
+    alloc: Global,
+    rules: &RuleSet,
+    place: usize,
+    value: &Value,
+    priority: u32,
+) -> Result<Option<Pattern>, GroundError>
+    ensures next { IfOk result (λ o. (before : List Rule) (ps : List KorePattern) → AreNexts (signature_view rules.now.signature.value) (value_view value.now) priority before ps →
+        AreNexts (signature_view rules.now.signature.value) (value_view value.now) priority (before ++ with_first (slice_get rules.now.rules.items place) []) (ps ++ next_list o)) }
+    ensures narrow { OnOk result (AllByRecursion (λ r. ¬ IsWideAt (signature_view rules.now.signature.value) (value_view value.now) priority r) (with_first (slice_get rules.now.rules.items place) [])) }
+    ensures refused { IfErr result (IsCausedBy (signature_view rules.now.signature.value) (AnyByRecursion (λ r. BodyIsWide (signature_view rules.now.signature.value) (value_view value.now) r.body.value ⊎ IsWideAt (signature_view rules.now.signature.value) (value_view value.now) priority r) rules.now.rules.items)) }
+    ensures unbound { IfErr result (λ e. e ≡ Unbound → SomeLeavesOpen rules.now) }
+{
+    match rules.rule_at(place) {
+        Some(rule) => next_at(alloc, &rules.signature, rule, value, priority),
+        None => Ok(None),
+    }
+}
+
+/// The patterns of the rules that fire on the value and have this priority number, in order. Rules of other heads aren't
+/// looked at.
 pub fn nexts_at(
     alloc: Global,
     rules: &RuleSet,
@@ -141,9 +166,10 @@ pub fn nexts_at(
     ensures refused { IfErr result (IsCausedBy (signature_view rules.now.signature.value) (AnyByRecursion (λ r. BodyIsWide (signature_view rules.now.signature.value) (value_view value.now) r.body.value ⊎ IsWideAt (signature_view rules.now.signature.value) (value_view value.now) priority r) rules.now.rules.items)) }
     ensures unbound { IfErr result (λ e. e ≡ Unbound → SomeLeavesOpen rules.now) }
 {
+    let mut places = rules.rules_at(&head_of(value));
     let mut found = Vec::new(alloc);
-    for rule in &rules.rules {
-        let next = next_at(alloc, &rules.signature, rule, value, priority)?;
+    while let Some(place) = places.next() {
+        let next = next_with(alloc, rules, place, value, priority)?;
         add_next(&mut found, next)?;
     }
     Ok(found)

@@ -8,7 +8,7 @@ ghost use Rattle.kp_semantics.specs.Sorted.{IsSorted};
 ghost use Rattle.kp_semantics.specs.Theory.{Theory};
 ghost use Rattle.kp_semantics.specs.Steps.{IsUnknown};
 ghost use Rattle.kp_ground.specs.View.{value_view};
-ghost use Rattle.kp_rules.specs.Bodies.{RunsAs};
+ghost use Rattle.kp_rule_sets.specs.RuleSets.{RunsAs};
 ghost use Rattle.kp_states.specs.Spelled.{IsGroundState};
 ghost use Rattle.kp_successors.specs.Errors.{IsCausedBy, IsForeignBy};
 ghost use Rattle.kp_successors.specs.Successors.{AreSuccessors, IsTooWide};
@@ -22,7 +22,8 @@ use crate::next::nexts_at;
 use crate::value::value_of;
 use kp_ground::Value;
 use kp_kore::Pattern;
-use kp_rules::{Rule, RuleSet};
+use kp_rule_sets::RuleSet;
+use kp_rules::Rule;
 use kp_run::foreign_on;
 use std::alloc::{AllocError, Global};
 

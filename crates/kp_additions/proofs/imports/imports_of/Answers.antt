@@ -1,7 +1,7 @@
 use Rattle.std.proofs.Common.{rules, ◌≡◌, ◌≤◌, ◌+◌, sym, subst, ◌∙◌, List, [], ◌∷◌, get_or, length, map, string_bytes, take, Global}
 use Rattle.std.specs.declared.sync.Arc.{Arc}
 use Rattle.kp_kore.specs.View.{sentence_view}
-use Rattle.kp_rules.specs.declared.rule.RuleSet.{RuleSet}
+use Rattle.kp_rule_sets.specs.declared.rule_set.RuleSet.{RuleSet}
 use Rattle.kp_semantics.specs.Theory.{imports_in}
 use Rattle.kp_book.specs.Books.{Opening, Registration}
 use Rattle.kp_additions.specs.Served.{HasSeenAt}

@@ -18,11 +18,12 @@ returns-in_err-rules-clause-err c =
 pub returns-clause-ok : goal.returns-clause-ok
 returns-clause-ok c =
     let ms = map (λ m. module_view m.now) c.args.modules.now in
-    let shared : signature_view c.in_ok-signature-2.signature.value ≡ signature_view c.in_ok-signature.signature = ap signature_view c.in_ok-signature-2.ensures.ok in
-    runs ms
-    (record { signature = c.in_ok-signature-2.signature; rules = c.in_ok-rules.rules })
+    let set = c.in_ok-set.set in
+    let shared : signature_view set.signature.value ≡ signature_view c.in_ok-signature.signature = ap (λ s. signature_view s.value) c.in_ok-set.ensures.signature ∙ ap signature_view c.in_ok-signature-2.ensures.ok in
+    runs ms set
     (shared ∙ c.in_ok-signature.ensures ∙ ap signature_of (sentences_seen c.args.modules.now))
-    (subst (λ g. AreMadeOf g (labels_of (rewrite_axioms ms)) (rewrite_axioms ms) c.in_ok-rules.rules.items) (sym shared) c.in_ok-rules.ensures.ok)
+    (subst (λ rs. AreMadeOf (signature_view set.signature.value) (labels_of (rewrite_axioms ms)) (rewrite_axioms ms) rs.items) (sym c.in_ok-set.ensures.rules)
+    (subst (λ g. AreMadeOf g (labels_of (rewrite_axioms ms)) (rewrite_axioms ms) c.in_ok-rules.rules.items) (sym shared) c.in_ok-rules.ensures.ok))
 
 pub returns-clause-sound : goal.returns-clause-sound
 returns-clause-sound c = subst (λ g. AreSound g (rewrite_axioms (map (λ m. module_view m.now) c.args.modules.now))) c.in_ok-signature.ensures c.in_ok-rules.ensures.sound

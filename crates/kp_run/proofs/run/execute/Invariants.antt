@@ -2,7 +2,7 @@ use Rattle.std.specs.Prelude.{IsTrue}
 use Rattle.kp_signature.specs.View.{signature_view}
 use Rattle.kp_semantics.specs.Theory.{Theory}
 use Rattle.kp_ground.specs.View.{value_view}
-use Rattle.kp_rules.specs.Bodies.{RunsAs}
+use Rattle.kp_rule_sets.specs.RuleSets.{RunsAs}
 use Rattle.kp_run.specs.Causes.{IsStateIn, StopsUntold}
 use Rattle.kp_run.specs.Runs.{IsAt, GoesOnlyIn, written_of}
 use Rattle.kp_run.specs.Shallow.{IsShallow}

@@ -1,33 +1,65 @@
-use Rattle.std.proofs.Common.{subst, take}
-use Rattle.std.specs.Option.{MatchOption}
+use Rattle.std.proofs.Common.{◌≡◌, ◌∷◌, [], subst, MatchOption, slice_get}
+use Rattle.std.specs.List.{AllByRecursion}
+use Rattle.std.proofs.lemmas.Result.{err_from_is_err_and}
+use Rattle.kp_rules.specs.declared.rule.Rule.{Rule}
 use Rattle.kp_signature.specs.View.{signature_view}
 use Rattle.kp_ground.specs.View.{value_view}
-use Rattle.std.proofs.lemmas.Result.{err_from_is_err_and}
-use Rattle.kp_run.specs.Turns.{BodyFires, BodyIsWide, IsFiring, IsOpen}
-use Rattle.kp_run.proofs.Turning.{turn_on_more, here_among, narrow_more}
+use Rattle.kp_rule_sets.specs.Merged.{left_of}
+use Rattle.kp_rule_sets.specs.Tops.{Top, may_have, top_of}
+use Rattle.kp_rule_sets.specs.Turns.{AreInTurn, rules_among}
+use Rattle.kp_run.specs.Turns.{BodyIsWide, IsTurn}
+use Rattle.kp_run.specs.declared.step.Turn.TheVariants.{Nobody}
+use Rattle.kp_run.proofs.Chosen.{turn_back, narrow_back}
+use Rattle.kp_run.proofs.Taking.{sets_out, goes_on, arrives, among_next, all_at_next}
 use Rattle.kp_run.proofs.step.turn_on.Goals as goal
 
-pub loop-rule-preserved : goal.loop-rule-preserved
-loop-rule-preserved c =
+pub loop-place-init : goal.loop-place-init
+loop-place-init c =
     let g = signature_view c.args.rules.now.signature.value in
     let u = value_view c.args.value.now in
     let rules = c.args.rules.now.rules.items in
-    record {
-      turn = turn_on_more g u rules c.deref-rule-items.result.now c.loop-rule.rule-index c.rule-item.result c.turn_after-turn.result c.deref-rule-items.ensures.value c.loop-rule-test.true c.rule-item.is
-          (c.turn_after-turn.ensures g u (take c.loop-rule.rule-index rules) c.rule-item.result c.loop-rule.invariant.turn
-          (subst (λ s. MatchOption c.in_ok-firing.firing (¬ BodyFires (signature_view s) u c.rule-item.result.body.value) (λ f. IsFiring (signature_view s) u f c.rule-item.result)) c.deref.ensures c.in_ok-firing.ensures.firing));
-      narrow = narrow_more g u rules c.deref-rule-items.result.now c.loop-rule.rule-index c.rule-item.result c.deref-rule-items.ensures.value c.loop-rule-test.true c.rule-item.is
-          c.loop-rule.invariant.narrow (subst (λ s. ¬ BodyIsWide (signature_view s) u c.rule-item.result.body.value) c.deref.ensures c.in_ok-firing.ensures.narrow);
-    }
+    sets_out rules (may_have (top_of u)) (λ before. IsTurn g u (rules_among rules before) Nobody × AllByRecursion (λ r. ¬ BodyIsWide g u r.body.value) (rules_among rules before)) (left_of c.rules_at-places.result)
+    (subst (λ (h : Top). AreInTurn rules (may_have h) (left_of c.rules_at-places.result)) c.head_of.ensures c.rules_at-places.ensures) (tt, tt)
 
-pub returns-in_err-firing-clause-wide : goal.returns-in_err-firing-clause-wide
-returns-in_err-firing-clause-wide c =
-    let p = err_from_is_err_and c.from_residual.result c.from_residual.ensures.1 in
-    rw (p.1, p.2) (λ is. here_among (λ r. BodyIsWide (signature_view c.args.rules.now.signature.value) (value_view c.args.value.now) r.body.value) c.args.rules.now.rules.items c.deref-rule-items.result.now c.loop-rule.rule-index c.rule-item.result
-    c.deref-rule-items.ensures.value c.loop-rule-test.true c.rule-item.is (subst (λ s. BodyIsWide (signature_view s) (value_view c.args.value.now) c.rule-item.result.body.value) c.deref.ensures (c.in_err-firing.ensures.wide is)))
+pub loop-place-preserved : goal.loop-place-preserved
+loop-place-preserved c =
+    let g = signature_view c.args.rules.now.signature.value in
+    let u = value_view c.args.value.now in
+    let rules = c.args.rules.now.rules.items in
+    let place = c.in-Some.place in
+    let narrow : Rule → Type 0 = λ r. ¬ BodyIsWide g u r.body.value in
+    let taken : left_of c.loop-place.places ≡ place ∷ left_of c.next.new.self = subst (λ o. MatchOption o (left_of c.loop-place.places ≡ []) (λ p. left_of c.loop-place.places ≡ p ∷ left_of c.next.new.self)) c.in-Some.is c.next.ensures in
+    goes_on rules (may_have (top_of u)) (λ before. IsTurn g u (rules_among rules before) c.loop-place.turn × AllByRecursion narrow (rules_among rules before)) (λ before. IsTurn g u (rules_among rules before) c.in_ok-turn.turn × AllByRecursion narrow (rules_among rules before)) place (left_of c.loop-place.places) (left_of c.next.new.self) taken
+    (λ before held. (
+      among_next (λ rs. IsTurn g u rs c.in_ok-turn.turn) rules before place (c.in_ok-turn.ensures.turn (rules_among rules before) held.0),
+      among_next (AllByRecursion narrow) rules before place (all_at_next narrow (rules_among rules before) (slice_get rules place) held.1 c.in_ok-turn.ensures.narrow),
+    ))
+    c.loop-place.invariant
 
-pub returns-in_err-firing-clause-unbound : goal.returns-in_err-firing-clause-unbound
-returns-in_err-firing-clause-unbound c =
+pub returns-clause-turn : goal.returns-clause-turn
+returns-clause-turn c =
+    let g = signature_view c.args.rules.now.signature.value in
+    let u = value_view c.args.value.now in
+    let rules = c.args.rules.now.rules.items in
+    let ended : left_of c.loop-place.places ≡ [] = subst (λ o. MatchOption o (left_of c.loop-place.places ≡ []) (λ p. left_of c.loop-place.places ≡ p ∷ left_of c.next.new.self)) c.in_default.is c.next.ensures in
+    let there = arrives rules (may_have (top_of u)) (λ before. IsTurn g u (rules_among rules before) c.loop-place.turn × AllByRecursion (λ r. ¬ BodyIsWide g u r.body.value) (rules_among rules before)) (left_of c.loop-place.places) ended c.loop-place.invariant in
+    turn_back g u rules there.all c.loop-place.turn there.turn there.holds.0
+
+pub returns-clause-narrow : goal.returns-clause-narrow
+returns-clause-narrow c =
+    let g = signature_view c.args.rules.now.signature.value in
+    let u = value_view c.args.value.now in
+    let rules = c.args.rules.now.rules.items in
+    let ended : left_of c.loop-place.places ≡ [] = subst (λ o. MatchOption o (left_of c.loop-place.places ≡ []) (λ p. left_of c.loop-place.places ≡ p ∷ left_of c.next.new.self)) c.in_default.is c.next.ensures in
+    let there = arrives rules (may_have (top_of u)) (λ before. IsTurn g u (rules_among rules before) c.loop-place.turn × AllByRecursion (λ r. ¬ BodyIsWide g u r.body.value) (rules_among rules before)) (left_of c.loop-place.places) ended c.loop-place.invariant in
+    narrow_back g u rules there.all there.turn there.holds.1
+
+pub returns-in_err-turn-clause-wide : goal.returns-in_err-turn-clause-wide
+returns-in_err-turn-clause-wide c =
     let p = err_from_is_err_and c.from_residual.result c.from_residual.ensures.1 in
-    rw (p.1, p.2) (λ is. here_among (λ r. IsOpen r.body.value) c.args.rules.now.rules.items c.deref-rule-items.result.now c.loop-rule.rule-index c.rule-item.result
-    c.deref-rule-items.ensures.value c.loop-rule-test.true c.rule-item.is (c.in_err-firing.ensures.unbound is))
+    rw (p.1, p.2) c.in_err-turn.ensures.wide
+
+pub returns-in_err-turn-clause-unbound : goal.returns-in_err-turn-clause-unbound
+returns-in_err-turn-clause-unbound c =
+    let p = err_from_is_err_and c.from_residual.result c.from_residual.ensures.1 in
+    rw (p.1, p.2) c.in_err-turn.ensures.unbound

@@ -1,5 +1,5 @@
 use Rattle.std.proofs.Common.{subst, sym}
-use Rattle.kp_rules.specs.Bodies.{RunsAs}
+use Rattle.kp_rule_sets.specs.RuleSets.{RunsAs}
 use Rattle.kp_server.proofs.asked.rules_of.Goals as goal
 
 pub returns : goal.returns

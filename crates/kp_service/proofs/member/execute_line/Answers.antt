@@ -1,6 +1,6 @@
 use Rattle.std.proofs.Common.{ap, subst, sym}
 use Rattle.std.specs.Option.{option_map}
-use Rattle.kp_rules.specs.Bodies.{RunsAs}
+use Rattle.kp_rule_sets.specs.RuleSets.{RunsAs}
 use Rattle.kp_rpc.specs.View.{id_view, options_view}
 use Rattle.kp_requests.specs.View.{reading_view}
 use Rattle.kp_service.specs.Answered.{IsExecutedAs}

@@ -1,43 +1,66 @@
-use Rattle.std.proofs.Common.{IsTrue, refl, subst, ◌↔◌, take}
+use Rattle.std.proofs.Common.{◌≡◌, ◌∷◌, [], subst, MatchOption, None, slice_get}
 use Rattle.std.specs.List.{AllByRecursion}
 use Rattle.std.proofs.lemmas.Result.{err_from_is_err_and}
+use Rattle.kp_rules.specs.declared.rule.Rule.{Rule}
 use Rattle.kp_signature.specs.View.{signature_view}
 use Rattle.kp_ground.specs.View.{value_view}
-use Rattle.kp_run.specs.Turns.{BodyFires, BodyIsWide}
-use Rattle.kp_successors.specs.Errors.{IsCausedBy}
+use Rattle.kp_rule_sets.specs.Merged.{left_of}
+use Rattle.kp_rule_sets.specs.Tops.{Top, may_have, top_of}
+use Rattle.kp_rule_sets.specs.Turns.{AreInTurn, rules_among}
+use Rattle.kp_run.specs.Turns.{BodyIsWide}
+use Rattle.kp_run.proofs.Chosen.{narrow_back}
+use Rattle.kp_run.proofs.Taking.{sets_out, goes_on, arrives, among_next, all_at_next}
 use Rattle.kp_successors.specs.Turns.{IsLeast}
-use Rattle.kp_run.proofs.Among.{all_and_last}
-use Rattle.kp_successors.proofs.Taken.{next_taken, some_member}
-use Rattle.kp_successors.proofs.Refused.{caused_by}
-use Rattle.kp_successors.specs.Open.{LeavesOpen}
+use Rattle.kp_successors.proofs.ByHead.{least_back}
 use Rattle.kp_successors.proofs.least.least_priority.Goals as goal
 
-pub loop-rule-preserved : goal.loop-rule-preserved
-loop-rule-preserved c =
+pub loop-place-init : goal.loop-place-init
+loop-place-init c =
     let g = signature_view c.args.rules.now.signature.value in
     let u = value_view c.args.value.now in
     let rules = c.args.rules.now.rules.items in
-    let i = c.loop-rule.rule-index in
-    let r = c.rule-item.result in (
-      next_taken (λ rs. IsLeast g u rs c.least_after-least.result) rules c.deref-rule-items.result.now i r c.deref-rule-items.ensures.value c.loop-rule-test.true c.rule-item.is
-          (c.least_after-least.ensures g u (take i rules) r c.loop-rule.invariant.0 refl
-          (subst (λ s. IsTrue c.in_ok-fires.fires ↔ BodyFires (signature_view s) u r.body.value) c.deref.ensures c.in_ok-fires.ensures.fires)),
-      next_taken (AllByRecursion (λ r. ¬ BodyIsWide g u r.body.value)) rules c.deref-rule-items.result.now i r c.deref-rule-items.ensures.value c.loop-rule-test.true c.rule-item.is
-          (all_and_last (λ r. ¬ BodyIsWide g u r.body.value) (take i rules) r c.loop-rule.invariant.1 (subst (λ s. ¬ BodyIsWide (signature_view s) u r.body.value) c.deref.ensures c.in_ok-fires.ensures.narrow)),
-    )
+    sets_out rules (may_have (top_of u)) (λ before. IsLeast g u (rules_among rules before) None × AllByRecursion (λ r. ¬ BodyIsWide g u r.body.value) (rules_among rules before)) (left_of c.rules_at-places.result)
+    (subst (λ (h : Top). AreInTurn rules (may_have h) (left_of c.rules_at-places.result)) c.head_of.ensures c.rules_at-places.ensures) (tt, tt)
 
-pub returns-in_err-fires-clause-refused : goal.returns-in_err-fires-clause-refused
-returns-in_err-fires-clause-refused c =
+pub loop-place-preserved : goal.loop-place-preserved
+loop-place-preserved c =
     let g = signature_view c.args.rules.now.signature.value in
     let u = value_view c.args.value.now in
     let rules = c.args.rules.now.rules.items in
-    let p = err_from_is_err_and c.from_residual.result c.from_residual.ensures.1 in
-    rw (p.1, p.2) (caused_by g (BodyIsWide g u c.rule-item.result.body.value) _ c.in_err-fires.field-0.0
-    (λ w. some_member (λ r. BodyIsWide g u r.body.value) rules c.deref-rule-items.result.now c.loop-rule.rule-index c.rule-item.result c.deref-rule-items.ensures.value c.loop-rule-test.true c.rule-item.is w)
-    (subst (λ s. IsCausedBy (signature_view s) (BodyIsWide (signature_view s) u c.rule-item.result.body.value) c.in_err-fires.field-0.0) c.deref.ensures c.in_err-fires.ensures.refused))
+    let place = c.in-Some.place in
+    let narrow : Rule → Type 0 = λ r. ¬ BodyIsWide g u r.body.value in
+    let taken : left_of c.loop-place.places ≡ place ∷ left_of c.next.new.self = subst (λ o. MatchOption o (left_of c.loop-place.places ≡ []) (λ p. left_of c.loop-place.places ≡ p ∷ left_of c.next.new.self)) c.in-Some.is c.next.ensures in
+    goes_on rules (may_have (top_of u)) (λ before. IsLeast g u (rules_among rules before) c.loop-place.least × AllByRecursion narrow (rules_among rules before)) (λ before. IsLeast g u (rules_among rules before) c.in_ok-least.least × AllByRecursion narrow (rules_among rules before)) place (left_of c.loop-place.places) (left_of c.next.new.self) taken
+    (λ before held. (
+      among_next (λ rs. IsLeast g u rs c.in_ok-least.least) rules before place (c.in_ok-least.ensures.least (rules_among rules before) held.0),
+      among_next (AllByRecursion narrow) rules before place (all_at_next narrow (rules_among rules before) (slice_get rules place) held.1 c.in_ok-least.ensures.narrow),
+    ))
+    c.loop-place.invariant
 
-pub returns-in_err-fires-clause-unbound : goal.returns-in_err-fires-clause-unbound
-returns-in_err-fires-clause-unbound c =
+pub returns-clause-least : goal.returns-clause-least
+returns-clause-least c =
+    let g = signature_view c.args.rules.now.signature.value in
+    let u = value_view c.args.value.now in
+    let rules = c.args.rules.now.rules.items in
+    let ended : left_of c.loop-place.places ≡ [] = subst (λ o. MatchOption o (left_of c.loop-place.places ≡ []) (λ p. left_of c.loop-place.places ≡ p ∷ left_of c.next.new.self)) c.in_default.is c.next.ensures in
+    let there = arrives rules (may_have (top_of u)) (λ before. IsLeast g u (rules_among rules before) c.loop-place.least × AllByRecursion (λ r. ¬ BodyIsWide g u r.body.value) (rules_among rules before)) (left_of c.loop-place.places) ended c.loop-place.invariant in
+    least_back g u rules there.all c.loop-place.least there.turn there.holds.0
+
+pub returns-clause-narrow : goal.returns-clause-narrow
+returns-clause-narrow c =
+    let g = signature_view c.args.rules.now.signature.value in
+    let u = value_view c.args.value.now in
+    let rules = c.args.rules.now.rules.items in
+    let ended : left_of c.loop-place.places ≡ [] = subst (λ o. MatchOption o (left_of c.loop-place.places ≡ []) (λ p. left_of c.loop-place.places ≡ p ∷ left_of c.next.new.self)) c.in_default.is c.next.ensures in
+    let there = arrives rules (may_have (top_of u)) (λ before. IsLeast g u (rules_among rules before) c.loop-place.least × AllByRecursion (λ r. ¬ BodyIsWide g u r.body.value) (rules_among rules before)) (left_of c.loop-place.places) ended c.loop-place.invariant in
+    narrow_back g u rules there.all there.turn there.holds.1
+
+pub returns-in_err-least-clause-refused : goal.returns-in_err-least-clause-refused
+returns-in_err-least-clause-refused c =
     let p = err_from_is_err_and c.from_residual.result c.from_residual.ensures.1 in
-    rw (p.1, p.2) (λ is. some_member (λ r. LeavesOpen (signature_view c.args.rules.now.signature.value) r.body.value) c.args.rules.now.rules.items c.deref-rule-items.result.now c.loop-rule.rule-index c.rule-item.result
-    c.deref-rule-items.ensures.value c.loop-rule-test.true c.rule-item.is (subst (λ s. LeavesOpen (signature_view s) c.rule-item.result.body.value) c.deref.ensures (c.in_err-fires.ensures.unbound is)))
+    rw (p.1, p.2) c.in_err-least.ensures.refused
+
+pub returns-in_err-least-clause-unbound : goal.returns-in_err-least-clause-unbound
+returns-in_err-least-clause-unbound c =
+    let p = err_from_is_err_and c.from_residual.result c.from_residual.ensures.1 in
+    rw (p.1, p.2) c.in_err-least.ensures.unbound

@@ -1,12 +1,20 @@
-use Rattle.std.proofs.Common.{take}
+use Rattle.std.proofs.Common.{length}
 use Rattle.std.specs.List.{AllByRecursion}
 use Rattle.kp_signature.specs.View.{signature_view}
 use Rattle.kp_ground.specs.View.{value_view}
+use Rattle.kp_rule_sets.specs.Merged.{left_of}
+use Rattle.kp_rule_sets.specs.Tops.{may_have, top_of}
+use Rattle.kp_rule_sets.specs.Turns.{rules_among}
+use Rattle.kp_run.proofs.Taking.{IsOnTheWay}
 use Rattle.kp_run.specs.Turns.{BodyIsWide}
 use Rattle.kp_successors.specs.Turns.{IsLeast}
 use Rattle.kp_successors.proofs.least.least_priority.Given as goal
 
-abbrev pub invariant-loop-rule : goal.invariant-loop-rule
-invariant-loop-rule l =
-    IsLeast (signature_view l.rules.signature.value) (value_view l.value) (take l.rule-index l.rules.rules.items) l.least
-    × AllByRecursion (λ r. ¬ BodyIsWide (signature_view l.rules.signature.value) (value_view l.value) r.body.value) (take l.rule-index l.rules.rules.items)
+abbrev pub invariant-loop-place : goal.invariant-loop-place
+invariant-loop-place l =
+    IsOnTheWay l.rules.rules.items (may_have (top_of (value_view l.value)))
+    (λ before. IsLeast (signature_view l.rules.signature.value) (value_view l.value) (rules_among l.rules.rules.items before) l.least
+    × AllByRecursion (λ r. ¬ BodyIsWide (signature_view l.rules.signature.value) (value_view l.value) r.body.value) (rules_among l.rules.rules.items before)) (left_of l.places)
+
+abbrev pub decreases-loop-place : goal.decreases-loop-place
+decreases-loop-place l = length (left_of l.places)

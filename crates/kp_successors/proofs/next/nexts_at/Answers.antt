@@ -1,50 +1,72 @@
-use Rattle.std.proofs.Common.{subst, take, map, ◌⊎◌}
-use Rattle.std.specs.Prelude.{MatchOption}
+use Rattle.std.proofs.Common.{◌≡◌, ◌∷◌, ◌++◌, [], refl, subst, sym, map, MatchOption, slice_get}
 use Rattle.std.specs.List.{AllByRecursion}
 use Rattle.std.proofs.lemmas.Result.{err_from_is_err_and}
 use Rattle.kp_kore.specs.View.{view}
+use Rattle.kp_rules.specs.declared.rule.Rule.{Rule}
 use Rattle.kp_signature.specs.View.{signature_view}
 use Rattle.kp_ground.specs.View.{value_view}
-use Rattle.kp_run.specs.Turns.{BodyIsWide, FiresAt}
-use Rattle.kp_run.proofs.Among.{all_and_last}
-use Rattle.kp_successors.specs.Errors.{IsCausedBy}
-use Rattle.kp_successors.specs.Turns.{AreNexts, Follows, IsWideAt}
-use Rattle.kp_successors.proofs.Asking.{nexts_after}
-use Rattle.kp_successors.proofs.Taken.{next_taken, some_member}
-use Rattle.kp_successors.proofs.Refused.{caused_by}
-use Rattle.kp_successors.specs.Open.{LeavesOpen}
+use Rattle.kp_rule_sets.specs.Merged.{left_of}
+use Rattle.kp_rule_sets.specs.Tops.{Top, may_have, top_of}
+use Rattle.kp_rule_sets.specs.Turns.{AreInTurn, rules_among, with_first}
+use Rattle.kp_run.proofs.Taking.{sets_out, goes_on, arrives, among_next, all_at_next}
+use Rattle.kp_successors.specs.Turns.{AreNexts, IsWideAt}
+use Rattle.kp_successors.proofs.ByHead.{nexts_back, right_back}
 use Rattle.kp_successors.proofs.next.nexts_at.Goals as goal
 
-pub loop-rule-preserved : goal.loop-rule-preserved
-loop-rule-preserved c =
+pub loop-place-init : goal.loop-place-init
+loop-place-init c =
     let g = signature_view c.args.rules.now.signature.value in
     let u = value_view c.args.value.now in
     let n = c.args.priority in
     let rules = c.args.rules.now.rules.items in
-    let i = c.loop-rule.rule-index in
-    let r = c.rule-item.result in
-    let found = map view c.add_next.new.found.items in (
-      next_taken (λ rs. AreNexts g u n rs found) rules c.deref-rule-items.result.now i r c.deref-rule-items.ensures.value c.loop-rule-test.true c.rule-item.is
-          (nexts_after g u n (take i rules) r (map view c.loop-rule.found.items) found c.in_ok-next.next c.loop-rule.invariant.0
-          (subst (λ s. MatchOption c.in_ok-next.next (¬ FiresAt (signature_view s) u n r) (λ p. FiresAt (signature_view s) u n r × Follows (signature_view s) u r.body.value (view p))) c.deref.ensures c.in_ok-next.ensures.next)
-          c.in_ok-add_next.ensures),
-      next_taken (AllByRecursion (λ r. ¬ IsWideAt g u n r)) rules c.deref-rule-items.result.now i r c.deref-rule-items.ensures.value c.loop-rule-test.true c.rule-item.is
-          (all_and_last (λ r. ¬ IsWideAt g u n r) (take i rules) r c.loop-rule.invariant.1 (subst (λ s. ¬ IsWideAt (signature_view s) u n r) c.deref.ensures c.in_ok-next.ensures.narrow)),
-    )
+    sets_out rules (may_have (top_of u)) (λ before. AreNexts g u n (rules_among rules before) (map view c.new-found.result.items) × AllByRecursion (λ r. ¬ IsWideAt g u n r) (rules_among rules before)) (left_of c.rules_at-places.result)
+    (subst (λ (h : Top). AreInTurn rules (may_have h) (left_of c.rules_at-places.result)) c.head_of.ensures c.rules_at-places.ensures) (subst (λ ps. map view ps ≡ []) (sym c.new-found.ensures.items) refl, tt)
 
-pub returns-in_err-next-clause-refused : goal.returns-in_err-next-clause-refused
-returns-in_err-next-clause-refused c =
+pub loop-place-preserved : goal.loop-place-preserved
+loop-place-preserved c =
     let g = signature_view c.args.rules.now.signature.value in
     let u = value_view c.args.value.now in
     let n = c.args.priority in
+    let rules = c.args.rules.now.rules.items in
+    let place = c.in-Some.place in
+    let found = c.add_next.new.found.items in
+    let narrow : Rule → Type 0 = λ r. ¬ IsWideAt g u n r in
+    let taken : left_of c.loop-place.places ≡ place ∷ left_of c.next.new.self = subst (λ o. MatchOption o (left_of c.loop-place.places ≡ []) (λ p. left_of c.loop-place.places ≡ p ∷ left_of c.next.new.self)) c.in-Some.is c.next.ensures in
+    goes_on rules (may_have (top_of u)) (λ before. AreNexts g u n (rules_among rules before) (map view c.loop-place.found.items) × AllByRecursion narrow (rules_among rules before)) (λ before. AreNexts g u n (rules_among rules before) (map view found) × AllByRecursion narrow (rules_among rules before)) place (left_of c.loop-place.places) (left_of c.next.new.self) taken
+    (λ before held. (
+      among_next (λ rs. AreNexts g u n rs (map view found)) rules before place (subst (λ ps. AreNexts g u n (rules_among rules before ++ with_first (slice_get rules place) []) ps) (sym c.in_ok-add_next.ensures) (c.in_ok-next.ensures.next (rules_among rules before) (map view c.loop-place.found.items) held.0)),
+      among_next (AllByRecursion narrow) rules before place (all_at_next narrow (rules_among rules before) (slice_get rules place) held.1 c.in_ok-next.ensures.narrow),
+    ))
+    c.loop-place.invariant
+
+pub returns-clause-nexts : goal.returns-clause-nexts
+returns-clause-nexts c =
+    let g = signature_view c.args.rules.now.signature.value in
+    let u = value_view c.args.value.now in
+    let n = c.args.priority in
+    let rules = c.args.rules.now.rules.items in
+    let narrow : Rule → Type 0 = λ r. ¬ IsWideAt g u n r in
+    let ended : left_of c.loop-place.places ≡ [] = subst (λ o. MatchOption o (left_of c.loop-place.places ≡ []) (λ p. left_of c.loop-place.places ≡ p ∷ left_of c.next.new.self)) c.in_default.is c.next.ensures in
+    let there = arrives rules (may_have (top_of u)) (λ before. AreNexts g u n (rules_among rules before) (map view c.loop-place.found.items) × AllByRecursion narrow (rules_among rules before)) (left_of c.loop-place.places) ended c.loop-place.invariant in
+    nexts_back g u n rules there.all (map view c.loop-place.found.items) there.turn there.holds.0
+
+pub returns-clause-narrow : goal.returns-clause-narrow
+returns-clause-narrow c =
+    let g = signature_view c.args.rules.now.signature.value in
+    let u = value_view c.args.value.now in
+    let n = c.args.priority in
+    let rules = c.args.rules.now.rules.items in
+    let narrow : Rule → Type 0 = λ r. ¬ IsWideAt g u n r in
+    let ended : left_of c.loop-place.places ≡ [] = subst (λ o. MatchOption o (left_of c.loop-place.places ≡ []) (λ p. left_of c.loop-place.places ≡ p ∷ left_of c.next.new.self)) c.in_default.is c.next.ensures in
+    let there = arrives rules (may_have (top_of u)) (λ before. AreNexts g u n (rules_among rules before) (map view c.loop-place.found.items) × AllByRecursion narrow (rules_among rules before)) (left_of c.loop-place.places) ended c.loop-place.invariant in
+    right_back g u n rules there.all there.turn there.holds.1
+
+pub returns-in_err-next-clause-refused : goal.returns-in_err-next-clause-refused
+returns-in_err-next-clause-refused c =
     let p = err_from_is_err_and c.from_residual.result c.from_residual.ensures.1 in
-    rw (p.1, p.2) (caused_by g _ _ c.in_err-next.field-0.0
-    (λ w. some_member (λ r. BodyIsWide g u r.body.value ⊎ IsWideAt g u n r) c.args.rules.now.rules.items c.deref-rule-items.result.now c.loop-rule.rule-index c.rule-item.result
-    c.deref-rule-items.ensures.value c.loop-rule-test.true c.rule-item.is w)
-    (subst (λ s. IsCausedBy (signature_view s) (BodyIsWide (signature_view s) u c.rule-item.result.body.value ⊎ IsWideAt (signature_view s) u n c.rule-item.result) c.in_err-next.field-0.0) c.deref.ensures c.in_err-next.ensures.refused))
+    rw (p.1, p.2) c.in_err-next.ensures.refused
 
 pub returns-in_err-next-clause-unbound : goal.returns-in_err-next-clause-unbound
 returns-in_err-next-clause-unbound c =
     let p = err_from_is_err_and c.from_residual.result c.from_residual.ensures.1 in
-    rw (p.1, p.2) (λ is. some_member (λ r. LeavesOpen (signature_view c.args.rules.now.signature.value) r.body.value) c.args.rules.now.rules.items c.deref-rule-items.result.now c.loop-rule.rule-index c.rule-item.result
-    c.deref-rule-items.ensures.value c.loop-rule-test.true c.rule-item.is (subst (λ s. LeavesOpen (signature_view s) c.rule-item.result.body.value) c.deref.ensures (c.in_err-next.ensures.unbound is)))
+    rw (p.1, p.2) c.in_err-next.ensures.unbound

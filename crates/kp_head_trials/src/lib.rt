@@ -1,0 +1,5 @@
+// Tests of the heads of sorts, by values from outside.
+#![tactic(auto)]
+
+#[cfg(test)]
+mod order;
