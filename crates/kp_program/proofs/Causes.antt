@@ -16,6 +16,7 @@ use Rattle.kp_program.specs.declared.trouble.Trouble.TheVariants as trouble
 use Rattle.kp_semantics.specs.Theory.{Theory, IsTheoryOf, modules_reached}
 use Rattle.kp_imports.specs.Names.{names_of}
 use Rattle.kp_imports.specs.Reaching.{has}
+use Rattle.kp_modules.specs.Openings as openings
 use Rattle.kp_modules.specs.Tables.{RunsTable, does_reach, main_of}
 use Rattle.kp_modules.specs.declared.table.Table.{Table}
 use Rattle.kp_program.specs.Inputs.{IsTableOf}
@@ -33,14 +34,15 @@ faultless_file file main d fits spells none (in_modules f) at =
     none f (subst (λ (x : KoreDefinition). IsFirstFault x main f) (one_definition file at.1 d at.2 spells) at.3).is_fault
 
 pub table_is : (file main : List ℕ) (d : KoreDefinition) (table : Table) → length file ≤ load_limit → SpellsDefinition file d → ((t : Theory) × IsTheoryOf d main t × RunsTable t table) → main_of table ≡ main
-    → ((n : Text) → does_reach table n ≡ has n (names_of (modules_reached d main))) → HasNoFault d main → IsTableOf file main table
-table_is file main d table fits spells theory main_is reaches none = record {
+    → ((n : Text) → does_reach table n ≡ has n (names_of (modules_reached d main))) → openings.IsTableOf (openings.opening_of d main) table → HasNoFault d main → IsTableOf file main table
+table_is file main d table fits spells theory main_is reaches opens none = record {
   faultless = faultless_file file main d fits spells none;
   definition = d;
   spells = spells;
   setting = record { theory = theory.0; main = main; names = names_of (modules_reached d main) };
   is_setting = record { means = theory.1; main_is = refl; names_are = refl };
   is_table = record { runs = theory.2; main_is = main_is; reaches = reaches };
+  opens = opens;
 }
 
 pub faulty_cause : (names : Option Names) (words : List (List ℕ)) (failed : Type 0) (name main file : List ℕ) (t : Trouble) →

@@ -137,8 +137,8 @@ proved_holds names before after c status old gained label one p b a has =
       holds = f.holds;
     }
 
-pub passed_holds : (names : Option Names) (left : Option (List ℕ)) (before after : Option (List ℕ)) (words : List Text) (status : ℕ) → AreToldInOneLine →
-    DoesWords names left (Appends before after) words status → PassedHolds names words before after
-passed_holds names left before after words status one (inl (serves, zero)) prove old gained label b a has = absurd (not_both words _ _ prove.0 serves.2 prove.1)
-passed_holds names left before after words status one (inr (c, spelled, proved)) prove old gained label b a has =
+pub passed_holds : (names : Option Names) (left left_after before after : Option (List ℕ)) (words : List Text) (status : ℕ) → AreToldInOneLine →
+    DoesWords names left left_after before after words status → PassedHolds names words before after
+passed_holds names left left_after before after words status one (inl (serves, zero)) prove old gained label b a has = absurd (not_both words _ _ prove.0 serves.2 prove.1)
+passed_holds names left left_after before after words status one (inr (c, spelled, proved)) prove old gained label b a has =
     (c, spelled, proved_holds names before after c status old gained label one proved b a has)

@@ -1,80 +1,77 @@
--- From the parts of one answer to what is served.
-use Rattle.std.proofs.Common.{◌≡◌, ◌⊎◌, zero, suc, ◌<◌, ◌≤◌, ℕ, List, [], ◌∷◌, length, Option, Some, None, IfNone, IfSome, IfOk, IsErrOf, Result, Ok, Err, Vec, refl, sym, subst, inl, inr, arith}
-use Rattle.std.proofs.lemmas.List.{append-nil}
-use Rattle.std.specs.Io.KnownBytes.{Appends}
-use Rattle.std.specs.declared.alloc.Global.{Global}
-use Rattle.serde_json.specs.Data.{Data}
+-- From the end of a connection to what is served.
+use Rattle.std.proofs.Common.{◌≡◌, ◌⊎◌, zero, suc, ◌<◌, ℕ, List, [], ◌∷◌, length, Option, Some, IfSome, subst, inl, inr, arith}
 use Rattle.kp_io.specs.Outside.{Names}
-use Rattle.kp_io.specs.declared.fault.LoadFault.{LoadFault}
-use Rattle.kp_io.specs.declared.fault.LoadFault.TheVariants as load
+use Rattle.kp_book.specs.Books.{Opening, Registration}
+use Rattle.kp_modules.specs.Openings.{opening_of}
 use Rattle.kp_modules.specs.declared.table.Table.{Table}
-use Rattle.kp_rpc.specs.Frame.{IsFrame, IsWhite, most_frame}
-use Rattle.kp_rpc.specs.Request.{id_null}
-use Rattle.kp_rpc.specs.Reply.{error_reply, parse_error, reply_bytes}
-use Rattle.kp_program.specs.Inputs.{AnswersInput, IsTableOf, IsReplyToRead, written}
-use Rattle.kp_program.specs.Served.{ServesFile}
-use Rattle.kp_server.specs.Right.{IsSilence, Answers, IsLine}
-use Rattle.kp_server.specs.Setting.{Setting}
-
--- what isn't white, or is longer than a frame, and is no frame, is answered with a parse error
-no_frame : (t : Setting) (taken gained : List ℕ) → ¬ IsSilence taken → ((d : Data) → ¬ IsFrame taken d) → gained ≡ reply_bytes (error_reply id_null parse_error) → Answers t taken gained
-no_frame t taken gained heard none is =
-    inr (heard, error_reply id_null parse_error, inl (record { id = id_null; error = parse_error; because = (none, refl); reply_is = refl }), is)
-
-too_long : (t : Setting) (taken gained : List ℕ) → most_frame < length taken → gained ≡ reply_bytes (error_reply id_null parse_error) → Answers t taken gained
-too_long t taken gained long is = no_frame t taken gained (λ s. let a = s.1 in absurd (omega arith)) (λ d f. let a = f.fits in absurd (omega arith)) is
+use Rattle.kp_registry.specs.declared.book.Registry.{Registry}
+use Rattle.kp_registry.specs.declared.seen.Pass.{Pass}
+use Rattle.kp_additions.specs.Served.{HasSeenAt}
+use Rattle.kp_conn.specs.Conversations.{IsBroken, IsServed, Sees, ended, truncated, too_long, spent, not_read, not_written, out_of_memory}
+use Rattle.kp_conn.specs.declared.served.Served.{Served}
+use Rattle.kp_conn.specs.declared.served.Served.TheVariants as served
+use Rattle.kp_service.specs.Answers.{IsAnswer, IsBegun}
+use Rattle.kp_program.specs.Inputs.{IsTableOf}
+use Rattle.kp_program.specs.Served.{BreaksFile, BreaksOff, IsWhole, OverFile, ServesInput}
+use Rattle.kp_program.specs.Troubles.{IsLate}
+use Rattle.kp_program.specs.declared.trouble.Trouble.{Trouble}
+use Rattle.kp_program.specs.declared.trouble.Trouble.TheVariants as trouble
 
 -- bytes that are longer stand for those that aren't told
 pub some_longer : (n : ℕ) → (xs : List ℕ) × (n < length xs)
 some_longer zero = (0 ∷ [], omega arith)
 some_longer (suc n) = let r = some_longer n in let l : n < length r.0 = r.1 in (0 ∷ r.0, omega arith)
 
--- the input that was read, with what was gained of its answer
-long_input : (t : Setting) (left : Option (List ℕ)) (answer : List ℕ) (Gains : List ℕ → Type 0) → IfSome left (λ bytes. most_frame < length bytes) → answer ≡ reply_bytes (error_reply id_null parse_error) → Gains answer → AnswersInput t left Gains
-long_input t None answer Gains long is gains = let r = some_longer most_frame in record { taken = r.0; answer = answer; taken_is = tt; gains = gains; answers = too_long t r.0 answer r.1 is }
-long_input t (Some bytes) answer Gains long is gains = record { taken = bytes; answer = answer; taken_is = refl; gains = gains; answers = too_long t bytes answer long is }
+-- ---- the input
 
-pub input_of : (t : Setting) (left : Option (List ℕ)) (r : Result (Vec ℕ Global) LoadFault) (reply : Option (Vec ℕ Global)) (Gains : List ℕ → Type 0) →
-    IfOk r (λ bytes. IfSome left (λ l. bytes.items ≡ l)) → IfOk r (λ bytes. length bytes.items ≤ most_frame) →
-    (IsErrOf r load.TooLong → IfSome left (λ l. most_frame < length l)) → IsReplyToRead t r reply → Gains (written reply) → AnswersInput t left Gains
-input_of t left (Ok bytes) None Gains whole within long h gains = record { taken = bytes.items; answer = []; taken_is = whole; gains = gains; answers = inl ((h, within), refl) }
-input_of t left (Ok bytes) (Some line) Gains whole within long h gains = record { taken = bytes.items; answer = line.items; taken_is = whole; gains = gains; answers = inr ((λ s. h.0 s.0), h.1.0, h.1.1, h.1.2) }
-input_of t left (Err load.TooLong) None Gains whole within long h gains = absurd h
-input_of t left (Err load.TooLong) (Some line) Gains whole within long h gains = long_input t left line.items Gains (long refl) h gains
-input_of t left (Err load.Failed) reply Gains whole within long h gains = absurd h
-input_of t left (Err load.Memory) reply Gains whole within long h gains = absurd h
+-- how a connection breaks off
+abbrev pub IsCut : Served → Type 0
+IsCut end = (end ≡ served.ReadFault) ⊎ ((end ≡ served.WriteFault) ⊎ (end ≡ served.Memory))
 
-pub serves : (names : Option Names) (left : Option (List ℕ)) (Gains : List ℕ → Type 0) (name main file : List ℕ) (table : Table) →
-    IfSome names (λ held. held name ≡ Some file) → (is : IsTableOf file main table) → AnswersInput is.setting left Gains → ServesFile names left Gains name main
-serves names left Gains name main file table there is input = record {
-  file = file;
-  taken = input.taken;
-  answer = input.answer;
-  file_is = there;
-  taken_is = input.taken_is;
-  gains = input.gains;
-  is_served = record { faultless = is.faultless; definition = is.definition; spells = is.spells; setting = is.setting; is_setting = is.is_setting; answers = input.answers };
-}
+not_both : (end : Served) → IsWhole end → IsCut end → ⊥
+not_both end whole (inl e) = subst IsWhole e whole
+not_both end whole (inr (inl e)) = subst IsWhole e whole
+not_both end whole (inr (inr e)) = subst IsWhole e whole
 
-pub serves_front : (names : Option Names) (left : Option (List ℕ)) (Same : Type 0) (Gains : List ℕ → Type 0) (name main file : List ℕ) (table : Table) →
-    IfSome names (λ held. held name ≡ Some file) → (is : IsTableOf file main table) → Same ⊎ AnswersInput is.setting left Gains → Same ⊎ ServesFile names left Gains name main
-serves_front names left Same Gains name main file table there is (inl same) = inl same
-serves_front names left Same Gains name main file table there is (inr input) = inr (serves names left Gains name main file table there is input)
+-- what a pass of a registry sees behind an empty book
+abbrev pub SeesServed : Registry → Pass → Opening → Option (List ℕ) → Option (List ℕ) → Option (List ℕ) → Option (List ℕ) → Served → Type 0
+SeesServed registry pass o left left_after held held_after end = Sees (HasSeenAt registry pass o) [] (λ after. IsServed (IsAnswer o) (IsBegun o) [] left left_after held held_after after end)
 
--- nothing is gained by writing nothing
-pub gains_nothing : (held : Option (List ℕ)) → Appends held held []
-gains_nothing None = tt
-gains_nothing (Some xs) = sym (append-nil xs)
+pub serves_input : (registry : Registry) (pass : Pass) (o : Opening) (left left_after held held_after : Option (List ℕ)) (end : Served) → IsWhole end →
+    SeesServed registry pass o left left_after held held_after end → ServesInput o left left_after held held_after
+serves_input registry pass o left left_after held held_after end whole s = record { end = end; whole = whole; book = s.after; legal = s.seen.legal; served = s.holds }
 
--- ---- the reply to what was read
+is_broken : (o : Opening) (left left_after held held_after : Option (List ℕ)) (book : List Registration) (end : Served) → IsCut end →
+    IsServed (IsAnswer o) (IsBegun o) [] left left_after held held_after book end → IsBroken (IsAnswer o) (IsBegun o) [] left left_after held held_after book
+is_broken o left left_after held held_after book end cut (ended n h) = absurd (not_both end tt cut)
+is_broken o left left_after held held_after book end cut (truncated h) = absurd (not_both end tt cut)
+is_broken o left left_after held held_after book end cut (too_long h) = absurd (not_both end tt cut)
+is_broken o left left_after held held_after book end cut (spent h) = absurd (not_both end tt cut)
+is_broken o left left_after held held_after book end cut (not_read b) = b
+is_broken o left left_after held held_after book end cut (not_written b) = b
+is_broken o left left_after held held_after book end cut (out_of_memory b) = b
 
-pub read_reply : (s : Setting) (bytes : Vec ℕ Global) (reply : Option (Vec ℕ Global)) → IfNone reply (IsWhite bytes.items) → IfSome reply (λ _. ¬ IsWhite bytes.items) → IfSome reply (λ line. IsLine s bytes.items line.items)
-    → IsReplyToRead s (Ok bytes) reply
-read_reply s bytes None white seen line = white
-read_reply s bytes (Some l) white seen line = (seen, line)
+pub breaks_off : (registry : Registry) (pass : Pass) (o : Opening) (left left_after held held_after : Option (List ℕ)) (end : Served) → IsCut end →
+    SeesServed registry pass o left left_after held held_after end → BreaksOff o left left_after held held_after
+breaks_off registry pass o left left_after held held_after end cut s =
+    record { book = s.after; legal = s.seen.legal; broken = is_broken o left left_after held held_after s.after end cut s.holds }
 
-pub read_reply_at : (s : Setting) (r : Result (Vec ℕ Global) LoadFault) (bytes : Vec ℕ Global) (read : List ℕ) (reply : Option (Vec ℕ Global)) → r ≡ Ok bytes → read ≡ bytes.items
-    → IfNone reply (IsWhite read) → IfSome reply (λ _. ¬ IsWhite read) → IfSome reply (λ line. IsLine s read line.items) → IsReplyToRead s r reply
-read_reply_at s r bytes read reply is same white seen line =
-    subst (λ (x : Result (Vec ℕ Global) LoadFault). IsReplyToRead s x reply) (sym is)
-    (read_reply s bytes reply (subst (λ (x : List ℕ). IfNone reply (IsWhite x)) same white) (subst (λ (x : List ℕ). IfSome reply (λ _. ¬ IsWhite x)) same seen) (subst (λ (x : List ℕ). IfSome reply (λ line. IsLine s x line.items)) same line))
+-- a fault of the connection is one of the input or of the output
+pub late_end : (end : Served) (a b : Type 0) (t : Trouble) → (end ≡ served.ReadFault → a) → (end ≡ served.WriteFault → b) → IsLate ((end ≡ served.ReadFault) ⊎ (end ≡ served.WriteFault)) t → IsLate (a ⊎ b) t
+late_end end a b (trouble.File n f) read write late = late
+late_end end a b (trouble.NoFile n) read write late = late
+late_end end a b trouble.Outside read write (inl e) = inl (read e)
+late_end end a b trouble.Outside read write (inr e) = inr (write e)
+late_end end a b trouble.Memory read write late = tt
+
+-- ---- the file
+
+pub over_file : (names : Option Names) (name main file : List ℕ) (table : Table) (Holds : Opening → Type 0) →
+    IfSome names (λ held. held name ≡ Some file) → (is : IsTableOf file main table) → Holds (opening_of is.definition main) → OverFile names name main Holds
+over_file names name main file table Holds there is holds = record { file = file; there = there; faultless = is.faultless; definition = is.definition; spells = is.spells; holds = holds }
+
+pub breaks_file : (names : Option Names) (left left_after held held_after : Option (List ℕ)) (Same : Type 0) (name main file : List ℕ) (table : Table) →
+    IfSome names (λ held. held name ≡ Some file) → (is : IsTableOf file main table) → Same ⊎ BreaksOff (opening_of is.definition main) left left_after held held_after →
+    Same ⊎ BreaksFile names left left_after held held_after name main
+breaks_file names left left_after held held_after Same name main file table there is (inl same) = inl same
+breaks_file names left left_after held held_after Same name main file table there is (inr broken) = inr (over_file names name main file table (λ o. BreaksOff o left left_after held held_after) there is broken)

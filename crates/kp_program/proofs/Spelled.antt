@@ -8,7 +8,8 @@ use Rattle.kp_text.specs.Spelling.{SpellsDefinition}
 use Rattle.kp_text.proofs.CompleteModules.{one_definition}
 use Rattle.kp_program.specs.Commands.{IsCommand, prove_view}
 use Rattle.kp_program.specs.Does.{BeginsWords}
-use Rattle.kp_program.specs.Served.{ServesFile}
+use Rattle.kp_program.specs.Proofs.{Proved}
+use Rattle.kp_program.specs.Served.{BreaksFile, GainsFront}
 use Rattle.kp_program.specs.declared.command.Command.{Command}
 use Rattle.kp_program.specs.declared.command.Command.TheVariants as command
 use Rattle.kp_program.specs.Faults.{FileFault, IsFileFault, IsClaimsFault}
@@ -67,11 +68,17 @@ pub command_spells : (words : List (List ℕ)) (c : Command) → IsCommand words
 command_spells words (command.Stdio c) is = inl (c.definition.now, c.module_name.now, is)
 command_spells words (command.Prove c) is = inr (prove_view c, is)
 
--- what was served of the input's answer is what the words say
-pub begins_serving : (names : Option Names) (left : Option (List ℕ)) (Same : Type 0) (Gains : List ℕ → Type 0) (words : List (List ℕ)) (name main : List ℕ) → SpellsStdio words name main →
-    Same ⊎ ServesFile names left Gains name main → Same ⊎ BeginsWords names left Gains words
-begins_serving names left Same Gains words name main spelled (inl same) = inl same
-begins_serving names left Same Gains words name main spelled (inr served) = inr (0, inl ((name, main, spelled, served), refl))
+-- what was served in part is what the words say in part
+pub begins_serving : (names : Option Names) (left left_after held held_after : Option (List ℕ)) (Same : Type 0) (words : List (List ℕ)) (name main : List ℕ) → SpellsStdio words name main →
+    Same ⊎ BreaksFile names left left_after held held_after name main → Same ⊎ BeginsWords names left left_after held held_after words
+begins_serving names left left_after held held_after Same words name main spelled (inl same) = inl same
+begins_serving names left left_after held held_after Same words name main spelled (inr broken) = inr (inl (name, main, spelled, broken))
+
+-- of a report a front was written
+pub begins_proving : (names : Option Names) (left left_after held held_after : Option (List ℕ)) (words : List (List ℕ)) (c : ProveWords) → SpellsProve words c → left_after ≡ left →
+    (held_after ≡ held) ⊎ ((status : ℕ) × Proved names (GainsFront held held_after) c status) → ((left_after ≡ left) × (held_after ≡ held)) ⊎ BeginsWords names left left_after held held_after words
+begins_proving names left left_after held held_after words c spelled unread (inl same) = inl (unread, same)
+begins_proving names left left_after held held_after words c spelled unread (inr (status, proved)) = inr (inr (status, (c, spelled, proved)))
 
 -- no count but those that a proof has to do with
 pub without_input : (a b c : Type 0) → a ⊎ c → a ⊎ (b ⊎ c)

@@ -1,14 +1,17 @@
 -- What a command does: it serves its input, or proves its claims.
 use Rattle.std.specs.Prelude.{◌≡◌, ◌⊎◌, ℕ, List, Option}
+use Rattle.std.specs.Io.KnownBytes.{Appends}
 use Rattle.kp_kore.specs.Syntax.{Text}
 use Rattle.kp_io.specs.Outside.{Names}
 use Rattle.kp_program.specs.Proofs.{ProvedWords}
-use Rattle.kp_program.specs.Served.{ServesWords}
+use Rattle.kp_program.specs.Served.{BreaksWords, GainsFront, ServesWords}
 
--- with this status
-abbrev pub DoesWords : Option Names → Option (List ℕ) → (List ℕ → Type 0) → List Text → ℕ → Type 0
-DoesWords names left Gains words status = (ServesWords names left Gains words × (status ≡ 0)) ⊎ ProvedWords names Gains words status
+-- with this status, from what the input had left and the output held to what they have then
+abbrev pub DoesWords : Option Names → Option (List ℕ) → Option (List ℕ) → Option (List ℕ) → Option (List ℕ) → List Text → ℕ → Type 0
+DoesWords names left left_after held held_after words status =
+    (ServesWords names left left_after held held_after words × (status ≡ 0)) ⊎ ProvedWords names (Appends held held_after) words status
 
--- the same of a front of what is written, whatever the status was to be
-abbrev pub BeginsWords : Option Names → Option (List ℕ) → (List ℕ → Type 0) → List Text → Type 0
-BeginsWords names left Gains words = (status : ℕ) × DoesWords names left Gains words status
+-- a front of it, whatever the status was to be
+abbrev pub BeginsWords : Option Names → Option (List ℕ) → Option (List ℕ) → Option (List ℕ) → Option (List ℕ) → List Text → Type 0
+BeginsWords names left left_after held held_after words =
+    BreaksWords names left left_after held held_after words ⊎ ((status : ℕ) × ProvedWords names (GainsFront held held_after) words status)

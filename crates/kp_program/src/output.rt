@@ -2,25 +2,11 @@
 ghost use Rattle.std.specs.Prelude.{◌≤◌, IfErr, OnErr, OnOk};
 ghost use Rattle.std.specs.Io.KnownBytes.{Appends};
 ghost use Rattle.kp_io.specs.Outside.{Rose};
-ghost use Rattle.kp_program.specs.Inputs.{written};
 ghost use Rattle.kp_program.specs.Served.{GainsFront};
 ghost use Rattle.kp_program.specs.Troubles.{IsLate};
 
 use crate::trouble::Trouble;
 use kp_io::{OutsideFault, Sink, put_all};
-
-/// Writes a reply, where there is one.
-pub fn put_reply<O: Sink>(out: &mut O, reply: &Option<Vec<u8>>) -> Result<(), Trouble>
-    ensures gained { OnOk result (Appends (O.held out.old) (O.held out.new) (written reply.now)) }
-    ensures front { OnErr result (GainsFront (O.held out.old) (O.held out.new) (written reply.now)) }
-    ensures late { IfErr result (IsLate (Rose (O.fault_count out.old) (O.fault_count out.new))) }
-    ensures count { O.fault_count out.old ≤ O.fault_count out.new }
-{
-    match reply {
-        Some(line) => put_line(out, line),
-        None => Ok(()),
-    }
-}
 
 /// Writes a line.
 pub fn put_line<O: Sink>(out: &mut O, line: &[u8]) -> Result<(), Trouble>

@@ -1,29 +1,25 @@
-ghost use Rattle.std.specs.Prelude.{◌≡◌, ◌≤◌, ◌↔◌, ◌⊎◌, ℕ, IfErr, IfOk, IfSome, IsErrOf, List, OnErr, OnOk, map, string_bytes};
-ghost use Rattle.std.specs.Io.KnownBytes.{Appends};
+ghost use Rattle.std.specs.Prelude.{◌≡◌, ◌≤◌, ◌↔◌, ◌⊎◌, ℕ, IfErr, IfOk, IfSome, List, OnErr, OnOk, map, string_bytes};
 ghost use Rattle.kp_io.specs.Outside.{Rose};
+ghost use Rattle.kp_book.specs.Books.{Opening};
+ghost use Rattle.kp_modules.specs.Openings.{IsTableOf};
+ghost use Rattle.kp_conn.specs.declared.served.Served.TheVariants.{ReadFault, WriteFault, Memory as OutOfMemory};
 ghost use Rattle.kp_program.specs.Commands.{IsCommand};
 ghost use Rattle.kp_program.specs.Does.{BeginsWords, DoesWords};
 ghost use Rattle.kp_program.specs.Headline.{PassedHolds};
-ghost use Rattle.kp_program.specs.Inputs.{AnswersInput, IsReplyToRead};
-ghost use Rattle.kp_server.specs.Setting.{IsSettingOf, Setting};
-ghost use Rattle.kp_program.specs.Served.{GainsFront, ServesFile};
+ghost use Rattle.kp_program.specs.Served.{BreaksFile, BreaksOff, IsWhole, ServesFile, ServesInput};
 ghost use Rattle.kp_program.specs.Statuses.{IsCause, IsEnded, IsPossible, exit_status};
 ghost use Rattle.kp_program.specs.Troubles.{IsLate, ending_of};
 ghost use Rattle.kp_program.specs.Words.{NamesDefinition, ProveWords, SpellsProve, SpellsSome};
 
 use crate::command::{Command, Stdio, command_of};
 use crate::definition::load_table;
-use crate::output::put_reply;
 use crate::prover::prove_file;
 use crate::trouble::{Trouble, ended, told};
-use kp_io::{LoadFault, Shelf, Sink, Source, read_all};
+use kp_conn::{Served, serve};
+use kp_io::{Shelf, Sink, Source};
 use kp_modules::Table;
-use kp_rpc::{Id, Refusal, refusal_text};
-use kp_server::answer;
+use kp_service::Service;
 use std::alloc::Global;
-
-/// The most bytes of a frame.
-const FRAME_LIMIT: usize = 4_194_304;
 
 /// Does all that the program does, and answers its status: 0 where the input was served, or where each claim passed, 1
 /// where a claim failed, 2 where none failed and some are pending or refused, 3 where the words spell no
@@ -38,7 +34,7 @@ pub fn run<H: Shelf, I: Source, O: Sink, E: Sink>(
     err: &mut E,
 ) -> u8
     // what the command says
-    ensures done { result ≤ 2 → DoesWords (H.names shelf.old) (I.left input.old) (Appends (O.held out.old) (O.held out.new)) (map string_bytes words.now) result }
+    ensures done { result ≤ 2 → DoesWords (H.names shelf.old) (I.left input.old) (I.left input.new) (O.held out.old) (O.held out.new) (map string_bytes words.now) result }
     // each line that tells a claim as passed is of a claim that holds
     ensures headline { result ≤ 2 → PassedHolds (H.names shelf.old) (map string_bytes words.now) (O.held out.old) (O.held out.new) }
     // why it is another status, and what standard error got
@@ -48,7 +44,7 @@ pub fn run<H: Shelf, I: Source, O: Sink, E: Sink>(
     ensures untold { result ≤ 2 → E.held err.new ≡ E.held err.old }
     ensures untouched { 3 ≤ result → result ≤ 5 → (I.left input.new ≡ I.left input.old) × (O.held out.new ≡ O.held out.old) }
     ensures unread { (c : ProveWords) → SpellsProve (map string_bytes words.now) c → I.left input.new ≡ I.left input.old }
-    ensures front { 3 ≤ result → (O.held out.new ≡ O.held out.old) ⊎ BeginsWords (H.names shelf.old) (I.left input.old) (GainsFront (O.held out.old) (O.held out.new)) (map string_bytes words.now) }
+    ensures front { 3 ≤ result → ((I.left input.new ≡ I.left input.old) × (O.held out.new ≡ O.held out.old)) ⊎ BeginsWords (H.names shelf.old) (I.left input.old) (I.left input.new) (O.held out.old) (O.held out.new) (map string_bytes words.now) }
     ensures files_kept { H.names shelf.new ≡ H.names shelf.old }
     ensures counts { (H.fault_count shelf.old ≤ H.fault_count shelf.new) × (I.fault_count input.old ≤ I.fault_count input.new) × (O.fault_count out.old ≤ O.fault_count out.new) × (E.fault_count err.old ≤ E.fault_count err.new) }
 {
@@ -69,18 +65,18 @@ fn obey<H: Shelf, I: Source, O: Sink>(
     input: &mut I,
     out: &mut O,
 ) -> Result<u8, Trouble>
-    ensures done { (words : List (List ℕ)) → IsCommand words command.now → IfOk result (λ status. (status ≤ 2) × DoesWords (H.names shelf.old) (I.left input.old) (Appends (O.held out.old) (O.held out.new)) words status) }
+    ensures done { (words : List (List ℕ)) → IsCommand words command.now → IfOk result (λ status. (status ≤ 2) × DoesWords (H.names shelf.old) (I.left input.old) (I.left input.new) (O.held out.old) (O.held out.new) words status) }
     ensures cause { (words : List (List ℕ)) → IsCommand words command.now → IfErr result (λ trouble. IsCause (H.names shelf.old) words (Rose (H.fault_count shelf.old) (H.fault_count shelf.new) ⊎ (Rose (I.fault_count input.old) (I.fault_count input.new) ⊎ Rose (O.fault_count out.old) (O.fault_count out.new))) (ending_of trouble)) }
     ensures untouched { IfErr result (λ trouble. exit_status (ending_of trouble) ≤ 5 → (I.left input.new ≡ I.left input.old) × (O.held out.new ≡ O.held out.old)) }
     ensures unread { (words : List (List ℕ)) (c : ProveWords) → IsCommand words command.now → SpellsProve words c → I.left input.new ≡ I.left input.old }
-    ensures front { (words : List (List ℕ)) → IsCommand words command.now → OnErr result ((O.held out.new ≡ O.held out.old) ⊎ BeginsWords (H.names shelf.old) (I.left input.old) (GainsFront (O.held out.old) (O.held out.new)) words) }
+    ensures front { (words : List (List ℕ)) → IsCommand words command.now → OnErr result (((I.left input.new ≡ I.left input.old) × (O.held out.new ≡ O.held out.old)) ⊎ BeginsWords (H.names shelf.old) (I.left input.old) (I.left input.new) (O.held out.old) (O.held out.new) words) }
     ensures files_kept { H.names shelf.new ≡ H.names shelf.old }
     ensures shelf_count { H.fault_count shelf.old ≤ H.fault_count shelf.new }
     ensures input_count { I.fault_count input.old ≤ I.fault_count input.new }
     ensures out_count { O.fault_count out.old ≤ O.fault_count out.new }
 {
     match command {
-        Command::Stdio(stdio) => match serve_frame(alloc, stdio, shelf, input, out) {
+        Command::Stdio(stdio) => match serve_input(alloc, stdio, shelf, input, out) {
             Ok(()) => Ok(0),
             Err(trouble) => Err(trouble),
         },
@@ -88,60 +84,60 @@ fn obey<H: Shelf, I: Source, O: Sink>(
     }
 }
 
-/// Reads the input as one frame and writes its reply, after the definition is loaded.
-fn serve_frame<H: Shelf, I: Source, O: Sink>(
+/// Serves the input over the modules of a definition.
+fn serve_input<H: Shelf, I: Source, O: Sink>(
     alloc: Global,
     command: &Stdio,
     shelf: &mut H,
     input: &mut I,
     out: &mut O,
 ) -> Result<(), Trouble>
-    ensures served { OnOk result (ServesFile (H.names shelf.old) (I.left input.old) (Appends (O.held out.old) (O.held out.new)) command.now.definition.now command.now.module_name.now) }
+    ensures served { OnOk result (ServesFile (H.names shelf.old) (I.left input.old) (I.left input.new) (O.held out.old) (O.held out.new) command.now.definition.now command.now.module_name.now) }
     ensures cause { (words : List (List ℕ)) → NamesDefinition words command.now.definition.now command.now.module_name.now → IfErr result (λ trouble. IsCause (H.names shelf.old) words (Rose (H.fault_count shelf.old) (H.fault_count shelf.new) ⊎ (Rose (I.fault_count input.old) (I.fault_count input.new) ⊎ Rose (O.fault_count out.old) (O.fault_count out.new))) (ending_of trouble)) }
     ensures untouched { IfErr result (λ trouble. exit_status (ending_of trouble) ≤ 5 → (I.left input.new ≡ I.left input.old) × (O.held out.new ≡ O.held out.old)) }
-    ensures front { OnErr result ((O.held out.new ≡ O.held out.old) ⊎ ServesFile (H.names shelf.old) (I.left input.old) (GainsFront (O.held out.old) (O.held out.new)) command.now.definition.now command.now.module_name.now) }
+    ensures front { OnErr result (((I.left input.new ≡ I.left input.old) × (O.held out.new ≡ O.held out.old)) ⊎ BreaksFile (H.names shelf.old) (I.left input.old) (I.left input.new) (O.held out.old) (O.held out.new) command.now.definition.now command.now.module_name.now) }
     ensures files_kept { H.names shelf.new ≡ H.names shelf.old }
     ensures shelf_count { H.fault_count shelf.old ≤ H.fault_count shelf.new }
     ensures input_count { I.fault_count input.old ≤ I.fault_count input.new }
     ensures out_count { O.fault_count out.old ≤ O.fault_count out.new }
 {
     match load_table(alloc, shelf, command.definition, command.module_name) {
-        Ok(table) => serve_table(alloc, &table, input, out),
+        Ok(table) => serve_table(alloc, table, input, out),
         Err(trouble) => Err(trouble),
     }
 }
 
-/// Reads the input as one frame and writes a table's reply.
+/// Serves the input over the modules of a table, and those that it adds.
 fn serve_table<I: Source, O: Sink>(
     alloc: Global,
-    table: &Table,
+    table: Table,
     input: &mut I,
     out: &mut O,
 ) -> Result<(), Trouble>
-    ensures served { (s : Setting) → IsSettingOf s table.now → OnOk result (AnswersInput s (I.left input.old) (Appends (O.held out.old) (O.held out.new))) }
+    ensures served { (o : Opening) → IsTableOf o table → OnOk result (ServesInput o (I.left input.old) (I.left input.new) (O.held out.old) (O.held out.new)) }
     ensures late { IfErr result (IsLate (Rose (I.fault_count input.old) (I.fault_count input.new) ⊎ Rose (O.fault_count out.old) (O.fault_count out.new))) }
-    ensures front { (s : Setting) → IsSettingOf s table.now → OnErr result ((O.held out.new ≡ O.held out.old) ⊎ AnswersInput s (I.left input.old) (GainsFront (O.held out.old) (O.held out.new))) }
+    ensures front { (o : Opening) → IsTableOf o table → OnErr result (((I.left input.new ≡ I.left input.old) × (O.held out.new ≡ O.held out.old)) ⊎ BreaksOff o (I.left input.old) (I.left input.new) (O.held out.old) (O.held out.new)) }
     ensures input_count { I.fault_count input.old ≤ I.fault_count input.new }
     ensures out_count { O.fault_count out.old ≤ O.fault_count out.new }
 {
-    let bytes = read_all(alloc, input, FRAME_LIMIT);
-    let reply = reply_to(alloc, table, bytes)?;
-    put_reply(out, &reply)
+    let (service, pass) = Service::begin(alloc, table, 1)?;
+    let mut seen = pass;
+    outcome(serve(alloc, &service, &mut seen, input, out))
 }
 
-/// The reply to the input: more than a frame may have is no frame.
-fn reply_to(
-    alloc: Global,
-    table: &Table,
-    bytes: Result<Vec<u8>, LoadFault>,
-) -> Result<Option<Vec<u8>>, Trouble>
-    ensures reply { (s : Setting) → IsSettingOf s table.now → IfOk result (IsReplyToRead s bytes) }
-    ensures late { IfErr result (IsLate (IsErrOf bytes LoadFault.Failed)) }
+/// What the end of a connection comes to.
+fn outcome(end: Served) -> Result<(), Trouble>
+    ensures whole { OnOk result (IsWhole end) }
+    ensures broken { OnErr result ((end ≡ ReadFault) ⊎ (end ≡ WriteFault) ⊎ (end ≡ OutOfMemory)) }
+    ensures late { IfErr result (IsLate ((end ≡ ReadFault) ⊎ (end ≡ WriteFault))) }
 {
-    match bytes {
-        Ok(bytes) => Ok(answer(alloc, table, &bytes)?),
-        Err(LoadFault::TooLong) => Ok(Some(refusal_text(alloc, &Id::Null, Refusal::ParseError)?)),
-        Err(LoadFault::Failed) => Err(Trouble::Outside),
-        Err(LoadFault::Memory) => Err(Trouble::Memory),
+    match end {
+        Served::ReadFault => Err(Trouble::Outside),
+        Served::WriteFault => Err(Trouble::Outside),
+        Served::Memory => Err(Trouble::Memory),
+        Served::Truncated => Ok(()),
+        Served::TooLong => Ok(()),
+        Served::Spent => Ok(()),
+        Served::Ended { .. } => Ok(()),
     }
 }

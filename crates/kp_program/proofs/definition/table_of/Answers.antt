@@ -9,4 +9,4 @@ returns-clause-fault c = λ fits.
 pub returns-in-Ok-load-clause-table : goal.returns-in-Ok-load-clause-table
 returns-in-Ok-load-clause-table c = λ fits.
     let is = c.in-Ok-load.ensures in
-    table_is c.args.bytes.now c.args.main.now (definition_view c.in-Ok.definition) c.in-Ok-load.table fits c.in-Ok.ensures.found is.loaded is.main is.reaches is.none
+    table_is c.args.bytes.now c.args.main.now (definition_view c.in-Ok.definition) c.in-Ok-load.table fits c.in-Ok.ensures.found is.loaded is.main is.reaches is.opening is.none

@@ -25,7 +25,7 @@ pub returns-in-Ok-clause-done : goal.returns-in-Ok-clause-done
 returns-in-Ok-clause-done g c = λ low. (c.in-Ok.ensures.done _ c.in-Some.ensures.found).1
 
 pub returns-in-Ok-clause-headline : goal.returns-in-Ok-clause-headline
-returns-in-Ok-clause-headline g c = λ low. passed_holds _ _ _ _ _ c.in-Ok.status each_in_one_line (c.in-Ok.ensures.done _ c.in-Some.ensures.found).1
+returns-in-Ok-clause-headline g c = λ low. passed_holds _ _ _ _ _ _ c.in-Ok.status each_in_one_line (c.in-Ok.ensures.done _ c.in-Some.ensures.found).1
 
 pub returns-in-Ok-clause-ended : goal.returns-in-Ok-clause-ended
 returns-in-Ok-clause-ended g c = λ high. let low : c.in-Ok.status ≤ 2 = (c.in-Ok.ensures.done _ c.in-Some.ensures.found).0 in absurd (omega arith)

@@ -1,18 +1,17 @@
 use Rattle.std.proofs.Common.{inr}
-use Rattle.std.proofs.lemmas.Result.{on_err_weaker, on_ok_weaker}
-use Rattle.kp_program.proofs.Served.{input_of}
+use Rattle.std.proofs.lemmas.Result.{IfErr-weaker, on_err_weaker, on_ok_weaker}
+use Rattle.kp_program.proofs.Served.{breaks_off, late_end, serves_input}
 use Rattle.kp_program.proofs.program.serve_table.Goals as goal
 
 pub returns-clause-served : goal.returns-clause-served
-returns-clause-served g c = λ s is.
-    on_ok_weaker c.put_reply.result (λ gained.
-    input_of s (g.I.Source.left c.args.input.now) c.read_all-bytes.result c.in_ok-reply.reply _
-    c.read_all-bytes.ensures.whole c.read_all-bytes.ensures.within c.read_all-bytes.ensures.too_long (c.in_ok-reply.ensures.reply s is) gained)
-    c.put_reply.ensures.gained
+returns-clause-served g c = λ o is.
+    on_ok_weaker c.outcome.result (λ whole. serves_input c.in_ok-service.field-0.0.registry c.serve.new.pass o (g.I.Source.left c.args.input.now) (g.I.Source.left c.serve.new.source) (g.O.Sink.held c.args.out.now) (g.O.Sink.held c.serve.new.sink) c.serve.result whole
+    (c.serve.ensures.served o _ (c.in_ok-service.ensures.seen o is))) c.outcome.ensures.whole
 
 pub returns-clause-front : goal.returns-clause-front
-returns-clause-front g c = λ s is.
-    on_err_weaker c.put_reply.result (λ gained. inr (
-    input_of s (g.I.Source.left c.args.input.now) c.read_all-bytes.result c.in_ok-reply.reply _
-    c.read_all-bytes.ensures.whole c.read_all-bytes.ensures.within c.read_all-bytes.ensures.too_long (c.in_ok-reply.ensures.reply s is) gained))
-    c.put_reply.ensures.front
+returns-clause-front g c = λ o is.
+    on_err_weaker c.outcome.result (λ cut. inr (breaks_off c.in_ok-service.field-0.0.registry c.serve.new.pass o (g.I.Source.left c.args.input.now) (g.I.Source.left c.serve.new.source) (g.O.Sink.held c.args.out.now) (g.O.Sink.held c.serve.new.sink) c.serve.result cut
+    (c.serve.ensures.served o _ (c.in_ok-service.ensures.seen o is)))) c.outcome.ensures.broken
+
+pub returns-clause-late : goal.returns-clause-late
+returns-clause-late g c = IfErr-weaker c.outcome.result _ _ (λ t late. late_end c.serve.result _ _ t c.serve.ensures.read.rose c.serve.ensures.rose late) c.outcome.ensures.late

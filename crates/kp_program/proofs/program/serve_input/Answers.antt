@@ -1,23 +1,27 @@
 use Rattle.std.proofs.Common.{inl, inr}
 use Rattle.std.proofs.lemmas.Result.{IfErr-weaker, on_err_weaker, on_ok_weaker}
+use Rattle.kp_modules.specs.Openings.{opening_of}
+use Rattle.kp_program.specs.Served.{ServesInput}
 use Rattle.kp_program.proofs.Causes.{late_cause, late_status}
-use Rattle.kp_program.proofs.Served.{serves, serves_front}
+use Rattle.kp_program.proofs.Served.{breaks_file, over_file}
 use Rattle.kp_program.proofs.Spelled.{cause_weaker}
-use Rattle.kp_program.proofs.program.serve_frame.Goals as goal
+use Rattle.kp_program.proofs.program.serve_input.Goals as goal
 
 pub returns-in-Ok-clause-served : goal.returns-in-Ok-clause-served
 returns-in-Ok-clause-served g c =
     let x = c.in-Ok.ensures.loaded in
-    on_ok_weaker c.serve_table.result (λ input.
-    serves (g.H.Shelf.names c.args.shelf.now) (g.I.Source.left c.args.input.now) _ c.args.command.now.definition.now c.args.command.now.module_name.now x.0 c.in-Ok.table x.1 x.2 input)
-    (c.serve_table.ensures.served x.2.setting x.2.is_table)
+    on_ok_weaker c.serve_table.result (λ served.
+    over_file (g.H.Shelf.names c.args.shelf.now) c.args.command.now.definition.now c.args.command.now.module_name.now x.0 c.in-Ok.table
+    (λ o. ServesInput o (g.I.Source.left c.args.input.now) (g.I.Source.left c.serve_table.new.input) (g.O.Sink.held c.args.out.now) (g.O.Sink.held c.serve_table.new.out)) x.1 x.2 served)
+    (c.serve_table.ensures.served (opening_of x.2.definition c.args.command.now.module_name.now) x.2.opens)
 
 pub returns-in-Ok-clause-front : goal.returns-in-Ok-clause-front
 returns-in-Ok-clause-front g c =
     let x = c.in-Ok.ensures.loaded in
     on_err_weaker c.serve_table.result (λ front.
-    serves_front (g.H.Shelf.names c.args.shelf.now) (g.I.Source.left c.args.input.now) _ _ c.args.command.now.definition.now c.args.command.now.module_name.now x.0 c.in-Ok.table x.1 x.2 front)
-    (c.serve_table.ensures.front x.2.setting x.2.is_table)
+    breaks_file (g.H.Shelf.names c.args.shelf.now) (g.I.Source.left c.args.input.now) (g.I.Source.left c.serve_table.new.input) (g.O.Sink.held c.args.out.now) (g.O.Sink.held c.serve_table.new.out) _
+    c.args.command.now.definition.now c.args.command.now.module_name.now x.0 c.in-Ok.table x.1 x.2 front)
+    (c.serve_table.ensures.front (opening_of x.2.definition c.args.command.now.module_name.now) x.2.opens)
 
 pub returns-in-Ok-clause-cause : goal.returns-in-Ok-clause-cause
 returns-in-Ok-clause-cause g c = λ words spelled.
