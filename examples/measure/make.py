@@ -4,7 +4,8 @@
     make.py KIND NUMBER [FILE]
 
 KIND is one of: rules, sorts, modules, chain, arguments, deep-sort, deep-pattern, deep-and, deep-fold, wide-fold,
-deep-attribute, labels, subsorts, injections, sort-chain, beside, beside-request, counting-request, ring, ring-request, any-head. NUMBER is how many. The text goes to FILE, or to standard output.
+deep-attribute, labels, subsorts, injections, sort-chain, beside, beside-request, counting-request, ring, ring-request,
+any-head, variables, variables-request, doubling, doubling-request, push, push-request. NUMBER is how many. The text goes to FILE, or to standard output.
 """
 import json
 import sys
@@ -173,6 +174,92 @@ def beside_request(n):
     number = {"tag": "DV", "sort": {"tag": "SortApp", "name": "SortInt", "args": []}, "value": "10000"}
     term = {"format": "KORE", "version": 1, "term": applied("Lbltop", [number, tree(n)])}
     return json.dumps({"jsonrpc": "2.0", "id": 1, "method": "execute", "params": {"state": term}})
+
+
+def groups(n):
+    return [min(60, n - first) for first in range(0, n, 60)]
+
+
+def variables(n):
+    """A counter beside n numbers, which the one rule takes along; variables-request is the request."""
+    sizes = groups(n)
+    body = HEAD + "  sort SortTop{} []\n  sort SortRow{} []\n"
+    for place, size in enumerate(sizes):
+        body += f"  symbol Lblrow{place}{{}}({', '.join(['SortInt{}'] * size)}) : SortRow{{}} [constructor{{}}()]\n"
+    body += f"  symbol Lbltop{{}}({', '.join(['SortInt{}'] + ['SortRow{}'] * len(sizes))}) : SortTop{{}} [constructor{{}}()]\n"
+    rows = [f"Lblrow{place}{{}}({', '.join(f'X{place}x{i}:SortInt{{}}' for i in range(size))})" for place, size in enumerate(sizes)]
+    left = f"Lbltop{{}}({', '.join(['N:SortInt{}'] + rows)})"
+    less = 'Lblsub{}(N:SortInt{}, \\dv{SortInt{}}("1"))'
+    right = f"Lbltop{{}}({', '.join([less] + rows)})"
+    body += f"  axiom{{}} \\rewrites{{SortTop{{}}}}({left}, {right}) [label{{}}(\"top\")]\n"
+    return "[]\n" + module(body)
+
+
+def variables_request(n, steps=1000):
+    def applied(name, arguments):
+        return {"tag": "App", "name": name, "sorts": [], "args": arguments}
+
+    number = {"tag": "DV", "sort": {"tag": "SortApp", "name": "SortInt", "args": []}, "value": "7"}
+    rows = [applied(f"Lblrow{place}", [number] * size) for place, size in enumerate(groups(n))]
+    term = {"format": "KORE", "version": 1, "term": applied("Lbltop", [number] + rows)}
+    return json.dumps({"jsonrpc": "2.0", "id": 1, "method": "execute", "params": {"max-depth": steps, "state": term}})
+
+
+def doubling(n):
+    """A counter beside a tree that each step doubles by sharing it, and a rule that forgets the tree at 0."""
+    body = HEAD + """  sort SortT{} []
+  symbol Lbld{}() : SortT{} [constructor{}()]
+  symbol Lblp{}(SortT{}, SortT{}) : SortT{} [constructor{}()]
+  symbol Lblgrow{}(SortInt{}, SortT{}) : SortS{} [constructor{}()]
+  axiom{} \\rewrites{SortS{}}(\\and{SortS{}}(Lblgrow{}(N:SortInt{}, X:SortT{}), \\equals{SortBool{}, SortS{}}(Lblgt{}(N:SortInt{}, \\dv{SortInt{}}("0")), \\dv{SortBool{}}("true"))), Lblgrow{}(Lblsub{}(N:SortInt{}, \\dv{SortInt{}}("1")), Lblp{}(X:SortT{}, X:SortT{}))) [label{}("grow")]
+  axiom{} \\rewrites{SortS{}}(Lblgrow{}(\\dv{SortInt{}}("0"), X:SortT{}), Lbldone{}()) [label{}("forget")]
+"""
+    return "[]\n" + module(body)
+
+
+def doubling_request(n):
+    """N doublings and the step that forgets the tree."""
+    state = application("Lblgrow", [literal("SortInt", n), application("Lbld", [])])
+    return execution(state, n + 1)
+
+
+def push(n):
+    """A rest that one rule takes a level down and another a level up."""
+    body = HEAD + """  sort SortT{} []
+  symbol Lbld{}() : SortT{} [constructor{}()]
+  symbol Lblp{}(SortT{}, SortT{}) : SortT{} [constructor{}()]
+  symbol Lbls{}(SortT{}) : SortT{} [constructor{}()]
+  symbol Lbla{}(SortT{}) : SortS{} [constructor{}()]
+  symbol Lblb{}(SortT{}) : SortS{} [constructor{}()]
+  axiom{} \\rewrites{SortS{}}(Lbla{}(X:SortT{}), Lblb{}(Lbls{}(X:SortT{}))) [label{}("push")]
+  axiom{} \\rewrites{SortS{}}(Lblb{}(Lbls{}(X:SortT{})), Lbla{}(X:SortT{})) [label{}("pop")]
+"""
+    return "[]\n" + module(body)
+
+
+def push_request(n):
+    """10,000 steps over an untouched rest of n nodes."""
+    def tree(size):
+        if size < 3:
+            return application("Lbld", [])
+        half = (size - 1) // 2
+        return application("Lblp", [tree(half), tree(size - 1 - half)])
+
+    return execution(application("Lbla", [tree(n)]), 10000)
+
+
+def application(name, arguments):
+    return {"tag": "App", "name": name, "sorts": [], "args": arguments}
+
+
+def literal(sort, value):
+    return {"tag": "DV", "sort": {"tag": "SortApp", "name": sort, "args": []}, "value": str(value)}
+
+
+def execution(state, steps):
+    """The request of so many steps from a state."""
+    term = {"format": "KORE", "version": 1, "term": state}
+    return json.dumps({"jsonrpc": "2.0", "id": 1, "method": "execute", "params": {"max-depth": steps, "state": term}})
 
 
 def main():

@@ -1,7 +1,8 @@
 pub mod Arity
 pub mod Compiled
 pub mod Literals
+pub mod NameLemmas
 pub mod Narrow
+pub mod Reading
 pub mod Taken
-pub mod Variables
 pub mod VerifiedParts

@@ -17,9 +17,9 @@ use Rattle.kp_signature.proofs.Applied.{of_profile}
 use Rattle.kp_signature.proofs.KnownSorts.{number_of_sorts}
 use Rattle.kp_sorts.proofs.FaultLemmas.{no_fault_unless}
 use Rattle.kp_sorts.proofs.MeaningLemmas.{an_interpretation, it_fits}
-use Rattle.kp_ground.specs.HookView.{hook_view}
-use Rattle.kp_ground.specs.declared.hook.Hook as code
-use Rattle.kp_ground.specs.declared.hook.Hook.TheVariants as hook
+use Rattle.kp_hooks.specs.HookView.{hook_view}
+use Rattle.kp_hooks.specs.declared.hook.Hook as code
+use Rattle.kp_hooks.specs.declared.hook.Hook.TheVariants as hook
 use Rattle.kp_compile.specs.Verified.{misapplies_injection, is_injection_meaning, IsVerifiedTerm, IsVerifiedLeftTerm}
 use Rattle.kp_compile.proofs.VerifiedParts.{no_symbol_fault}
 

@@ -1,7 +1,7 @@
 -- What compiled terms, left terms and conditions have to do with their patterns.
-use Rattle.std.specs.Prelude.{◌≡◌, Bool, true, not, List}
+use Rattle.std.specs.Prelude.{◌≡◌, ℕ, Bool, true, not, List, [], ◌∷◌, map}
 use Rattle.std.specs.Bool.{Decides}
-use Rattle.std.specs.List.{AllZip, list_any}
+use Rattle.std.specs.List.{AllZip, list_all}
 use Rattle.kp_kore.specs.Syntax.{Text, KoreSort, KorePattern, conjunction, no_patterns, next_pattern}
 use Rattle.kp_kore.specs.Parts.{is_term, SortedName, free_variables}
 use Rattle.kp_kore.specs.Signature.{KoreSignature}
@@ -9,7 +9,8 @@ use Rattle.kp_kore.specs.View.{view}
 use Rattle.kp_kore.specs.declared.pattern.Pattern.{Pattern}
 use Rattle.kp_semantics.specs.Instance.{Valuation, instance, IsTrueUnder}
 use Rattle.kp_semantics.specs.Numbers.{computes_wide}
-use Rattle.kp_ground.specs.Terms.{term_value, left_value, stays_narrow, is_one_of, lacks}
+use Rattle.kp_ground.specs.Slots.{Place, is_one_of, stands_at, left_places, term_reads, condition_reads}
+use Rattle.kp_ground.specs.Terms.{term_value, left_value, stays_narrow}
 use Rattle.kp_ground.specs.TermView.{term_view}
 use Rattle.kp_ground.specs.LeftView.{left_view}
 use Rattle.kp_ground.specs.Conditions.{condition_holds, condition_narrow}
@@ -26,13 +27,17 @@ IsTermOf g p t = (v : Valuation) → term_value v (term_view t) ≡ instance g v
 abbrev pub IsNarrowAs : KoreSignature → KorePattern → Term → Type 0
 IsNarrowAs g p t = (v : Valuation) → stays_narrow v (term_view t) ≡ not (computes_wide g v p)
 
--- some of the variables isn't among these names
-abbrev pub some_unnamed : List Text → List SortedName → Bool
-some_unnamed xs vs = list_any (λ x. not (is_one_of x.name xs)) vs
+-- each of the variables is one of these names
+abbrev pub are_named : List Text → List SortedName → Bool
+are_named xs vs = list_all (λ x. is_one_of x.name xs) vs
 
--- the variables of the term are those of the pattern
-abbrev pub HasVariablesOf : KorePattern → Term → Type 0
-HasVariablesOf p t = (xs : List Text) → lacks xs (term_view t) ≡ some_unnamed xs (free_variables p)
+-- where the pattern's variables are among these names, the term tells the number of each
+abbrev pub ReadsAs : List Text → KorePattern → Term → Type 0
+ReadsAs xs p t = are_named xs (free_variables p) ≡ true → term_reads xs t ≡ true
+
+-- the same of a condition
+abbrev pub ConditionReadsAs : List Text → KorePattern → Condition → Type 0
+ConditionReadsAs xs p c = are_named xs (free_variables p) ≡ true → condition_reads xs c ≡ true
 
 -- the numbers beyond 128 bits that the condition computes are those of the predicate's calls
 abbrev pub IsConditionNarrowAs : KoreSignature → KorePattern → Condition → Type 0
@@ -41,6 +46,14 @@ IsConditionNarrowAs g p c = (v : Valuation) → condition_narrow v (condition_vi
 -- under every valuation the left term has the pattern's instance
 abbrev pub IsLeftOf : KoreSignature → KorePattern → Left → Type 0
 IsLeftOf g p l = (v : Valuation) → left_value v (left_view l) ≡ instance g v p
+
+-- the left term's variables are the pattern's, place by place
+abbrev pub HasPlacesOf : KorePattern → Left → Type 0
+HasPlacesOf p l = map (λ x. x.name) (left_places l) ≡ map (λ x. x.name) (free_variables p)
+
+-- one place of this name, with its number among the names
+abbrev pub IsPlaceOf : Text → List Text → List Place → Type 0
+IsPlaceOf x xs places = (slot : ℕ) × (places ≡ record { name = x; slot = slot } ∷ []) × (stands_at xs x slot ≡ true)
 
 -- the condition holds under exactly those valuations under which the predicate is true
 abbrev pub IsConditionOf : KoreSignature → KorePattern → Condition → Type 0
@@ -59,8 +72,11 @@ AreConditionsOf g = AllZip (λ p c. IsConditionOf g (view p) c)
 abbrev pub AreTermsNarrowAs : KoreSignature → List Pattern → List Term → Type 0
 AreTermsNarrowAs g = AllZip (λ p t. IsNarrowAs g (view p) t)
 
-abbrev pub HaveVariablesOf : List Pattern → List Term → Type 0
-HaveVariablesOf = AllZip (λ p t. HasVariablesOf (view p) t)
+abbrev pub ReadAllAs : List Text → List Pattern → List Term → Type 0
+ReadAllAs xs = AllZip (λ p t. ReadsAs xs (view p) t)
+
+abbrev pub ConditionsReadAs : List Text → List Pattern → List Condition → Type 0
+ConditionsReadAs xs = AllZip (λ p c. ConditionReadsAs xs (view p) c)
 
 abbrev pub AreConditionsNarrowAs : KoreSignature → List Pattern → List Condition → Type 0
 AreConditionsNarrowAs g = AllZip (λ p c. IsConditionNarrowAs g (view p) c)

@@ -1,6 +1,6 @@
 use kp_conditions::{Part, comparison_ways};
 use kp_demands::Demand;
-use kp_ground::Comparison;
+use kp_hooks::Comparison;
 use std::alloc::{AllocError, Global};
 use std::test::Fail;
 

@@ -2,7 +2,7 @@
 use Rattle.std.specs.Prelude.{Bool, Option, Some, None, string_bytes}
 use Rattle.std.specs.Option.{option_map}
 use Rattle.kp_kore.specs.View.{sort_view}
-use Rattle.kp_ground.specs.HookView.{comparison_view}
+use Rattle.kp_hooks.specs.HookView.{comparison_view}
 use Rattle.kp_ground.specs.View.{value_view}
 use Rattle.kp_semantics.specs.Value.{Value, whole, truth, token}
 use Rattle.kp_symbolic.specs.Terms.{SymbolicTerm, known}

@@ -2,7 +2,7 @@
 ghost use Rattle.std.specs.Prelude.{◌≡◌, true, map};
 ghost use Rattle.std.specs.Option.{option_map};
 ghost use Rattle.kp_signature.specs.Meanings.{meaning_view};
-ghost use Rattle.kp_ground.specs.HookView.{comparison_view};
+ghost use Rattle.kp_hooks.specs.HookView.{comparison_view};
 ghost use Rattle.kp_ground.specs.View.{value_view};
 ghost use Rattle.kp_signature.specs.View.{signature_view};
 ghost use Rattle.kp_symbolic.specs.Plain as model;
@@ -11,7 +11,8 @@ ghost use Rattle.kp_terms.specs.View.{variable_view, term_view, terms_of, litera
 ghost use Rattle.kp_deciding.specs.Forms.{whole_part_view, token_part_view, form_view, number_said, token_said, truth_known};
 
 use crate::kinds::{has_only_numbers, has_only_tokens, has_only_truths};
-use kp_ground::{Comparison, Hook, Value};
+use kp_ground::Value;
+use kp_hooks::{Comparison, Hook};
 use kp_kore::Sort;
 use kp_signature::{Function, Meaning, Signature, meaning_of};
 use kp_terms::{Atom, Literal, Term, Variable};

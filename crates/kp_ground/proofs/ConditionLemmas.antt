@@ -2,15 +2,13 @@
 use Rattle.std.proofs.Common.{◌≡◌, refl, ◌∙◌, ap, ◌&&◌, ◌||◌, List, [], ◌∷◌, map}
 use Rattle.std.specs.Prelude.{Err}
 use Rattle.std.specs.List.{list_all, list_any}
-use Rattle.kp_kore.specs.Syntax.{Text}
 use Rattle.kp_semantics.specs.Instance.{Valuation}
-use Rattle.kp_ground.specs.Solves.{bound_names}
-use Rattle.kp_ground.specs.Conditions.{all_of, any_of, condition_holds, condition_narrow, all_hold, any_holds, all_narrow, condition_lacks, some_condition_lacks}
+use Rattle.kp_ground.specs.Conditions.{all_of, any_of, condition_holds, condition_narrow, all_hold, any_holds, all_narrow}
 use Rattle.kp_ground.specs.ConditionView.{condition_view, conditions_of, GivesTruth, GivesAllTruth, GivesAnyTruth}
 use Rattle.kp_ground.specs.declared.binding.Binding.{Binding}
 use Rattle.kp_ground.specs.declared.condition.Condition.{Condition}
 use Rattle.kp_ground.specs.declared.evaluate.EvaluationError.{EvaluationError}
-use Rattle.kp_ground.specs.declared.evaluate.EvaluationError.TheVariants.{Memory, Number, Unbound}
+use Rattle.kp_ground.specs.declared.evaluate.EvaluationError.TheVariants.{Memory, Number}
 
 pub all_hold-conditions_of : (v : Valuation) (cs : List Condition) → all_hold v (conditions_of (map condition_view cs)) ≡ list_all (λ c. condition_holds v (condition_view c)) cs
 all_hold-conditions_of v [] = refl
@@ -24,17 +22,11 @@ pub all_narrow-conditions_of : (v : Valuation) (cs : List Condition) → all_nar
 all_narrow-conditions_of v [] = refl
 all_narrow-conditions_of v (c ∷ cs) = ap (λ b. condition_narrow v (condition_view c) && b) (all_narrow-conditions_of v cs)
 
-pub some_condition_lacks-conditions_of : (xs : List Text) (cs : List Condition) → some_condition_lacks xs (conditions_of (map condition_view cs)) ≡ list_any (λ c. condition_lacks xs (condition_view c)) cs
-some_condition_lacks-conditions_of xs [] = refl
-some_condition_lacks-conditions_of xs (c ∷ cs) = ap (λ b. condition_lacks xs (condition_view c) || b) (some_condition_lacks-conditions_of xs cs)
-
 -- what a failed list says of the condition
 pub err_of_all : (e : EvaluationError) (bindings : List Binding) (cs : List Condition) → GivesAllTruth (Err e) bindings cs → GivesTruth (Err e) bindings (all_of (conditions_of (map condition_view cs)))
 err_of_all Memory bindings cs g = tt
 err_of_all Number bindings cs g = λ v s. all_narrow-conditions_of v cs ∙ g v s
-err_of_all Unbound bindings cs g = some_condition_lacks-conditions_of (bound_names bindings) cs ∙ g
 
 pub err_of_any : (e : EvaluationError) (bindings : List Binding) (cs : List Condition) → GivesAnyTruth (Err e) bindings cs → GivesTruth (Err e) bindings (any_of (conditions_of (map condition_view cs)))
 err_of_any Memory bindings cs g = tt
 err_of_any Number bindings cs g = λ v s. all_narrow-conditions_of v cs ∙ g v s
-err_of_any Unbound bindings cs g = some_condition_lacks-conditions_of (bound_names bindings) cs ∙ g

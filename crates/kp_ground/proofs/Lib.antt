@@ -1,5 +1,5 @@
-pub mod Bound
 pub mod ConditionLemmas
 pub mod MatchLemmas
+pub mod SlotLemmas
 pub mod TermLemmas
 pub mod ValueLists

@@ -1,12 +1,11 @@
 -- What bindings allow, and what matches answer.
 use Rattle.std.proofs.Common.{◌≡◌, refl, sym, ◌∙◌, subst, ap, ap₂, ◌↔◌, ℕ, zero, suc, ◌<◌, ◌≤◌, List, [], ◌∷◌, ◌++◌, map, take, length, get_or, ◌+◌, add-one, arith}
-use Rattle.std.specs.Prelude.{All, ◌≢◌, Bool, true, false, string_bytes, MatchOption, Option, Some, None, Ok, Vec}
+use Rattle.std.specs.Prelude.{◌≢◌, Bool, true, false, string_bytes, MatchOption, Option, Some, None, Ok, Vec}
 use Rattle.std.specs.declared.alloc.Global.{Global}
 use Rattle.std.specs.declared.alloc.AllocError.{AllocError}
 use Rattle.std.specs.List.{AllByRecursion}
 use Rattle.std.specs.Str.{bytes_eq}
 use Rattle.std.proofs.lemmas.Slice.Eq.{bytes_eq-Decides}
-use Rattle.std.proofs.lemmas.List.Elements.{recursion_from_All}
 use Rattle.kp_semantics.specs.Value as model
 use Rattle.kp_semantics.specs.Instance.{Valuation, assigned}
 use Rattle.kp_ground.specs.Solves.{Solves}
@@ -132,15 +131,15 @@ assigned_elsewhere x y u v false e h = rw e refl
 pub assigned_there : (x : Text) (u : model.Value) (v : Valuation) → assigned v x u x ≡ u
 assigned_there x u v = rw ((bytes_eq-Decides x x).1 refl) refl
 
-pub solved_elsewhere : (x : Text) (u : model.Value) (v : Valuation) (bs : List Binding) → AllByRecursion (λ b. string_bytes b.name ≢ x) bs → Solves v bs → Solves (assigned v x u) bs
+pub solved_elsewhere : (x : Text) (u : model.Value) (v : Valuation) (bs : List Binding) → AllByRecursion (λ b. string_bytes b.name.value ≢ x) bs → Solves v bs → Solves (assigned v x u) bs
 solved_elsewhere x u v [] h s = tt
-solved_elsewhere x u v (b ∷ bs) h s = (assigned_elsewhere x (string_bytes b.name) u v (bytes_eq x (string_bytes b.name)) refl h.0 ∙ s.0, solved_elsewhere x u v bs h.1 s.1)
+solved_elsewhere x u v (b ∷ bs) h s = (assigned_elsewhere x (string_bytes b.name.value) u v (bytes_eq x (string_bytes b.name.value)) refl h.0 ∙ s.0, solved_elsewhere x u v bs h.1 s.1)
 
 -- where the new bindings are the old ones and x at u, they are solvable with the old
-pub solvable_with : (x : Text) (u : model.Value) (old new : List Binding) → All (λ b. string_bytes b.name ≢ x) old →
+pub solvable_with : (x : Text) (u : model.Value) (old new : List Binding) → AllByRecursion (λ b. string_bytes b.name.value ≢ x) old →
     ((v : Valuation) → Solves v new ↔ (Solves v old × (v x ≡ u))) → IsSolvable old → IsSolvable new
 solvable_with x u old new none same h =
-    (assigned h.0 x u, (same (assigned h.0 x u)).1 (solved_elsewhere x u h.0 old (recursion_from_All _ old none) h.1, assigned_there x u h.0))
+    (assigned h.0 x u, (same (assigned h.0 x u)).1 (solved_elsewhere x u h.0 old none h.1, assigned_there x u h.0))
 
 -- a test that keeps the bindings
 pub kept_solvable : (r : Option (Vec Binding Global)) (old : List Binding) (P Q : Type 0) → MatchOption r P (λ kept. (kept.items ≡ old) × Q) → StaysSolvable {E = AllocError} (Ok r) old

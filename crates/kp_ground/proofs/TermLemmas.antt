@@ -1,18 +1,17 @@
 -- Values of lists of terms.
-use Rattle.std.proofs.Common.{◌≡◌, refl, ◌∙◌, ap, ◌&&◌, ◌||◌, List, [], ◌∷◌, map}
-use Rattle.std.specs.List.{list_all, list_any}
+use Rattle.std.proofs.Common.{◌≡◌, refl, ◌∙◌, ap, ◌&&◌, List, [], ◌∷◌, map}
+use Rattle.std.specs.List.{list_all}
 use Rattle.kp_semantics.specs.Value.{next_value}
 use Rattle.kp_semantics.specs.Instance.{Valuation}
-use Rattle.kp_ground.specs.Terms.{built, term_value, term_values, stays_narrow, all_stay_narrow, lacks, some_lack}
+use Rattle.kp_ground.specs.Terms.{built, term_value, term_values, stays_narrow, all_stay_narrow}
 use Rattle.kp_ground.specs.TermView.{term_view, terms_of}
 use Rattle.kp_ground.specs.View.{values_of}
 use Rattle.std.specs.Prelude.{Err}
 use Rattle.kp_kore.specs.Syntax.{Text}
-use Rattle.kp_ground.specs.Solves.{bound_names}
 use Rattle.kp_ground.specs.Outcomes.{Gives, GiveAll}
 use Rattle.kp_ground.specs.declared.binding.Binding.{Binding}
 use Rattle.kp_ground.specs.declared.evaluate.EvaluationError.{EvaluationError}
-use Rattle.kp_ground.specs.declared.evaluate.EvaluationError.TheVariants.{Memory, Number, Unbound}
+use Rattle.kp_ground.specs.declared.evaluate.EvaluationError.TheVariants.{Memory, Number}
 use Rattle.kp_ground.specs.declared.term.Term.{Term}
 
 pub term_values-terms_of : (v : Valuation) (ts : List Term) → term_values v (terms_of (map term_view ts)) ≡ values_of (map (λ t. term_value v (term_view t)) ts)
@@ -23,12 +22,7 @@ pub all_stay_narrow-terms_of : (v : Valuation) (ts : List Term) → all_stay_nar
 all_stay_narrow-terms_of v [] = refl
 all_stay_narrow-terms_of v (t ∷ ts) = ap (λ b. stays_narrow v (term_view t) && b) (all_stay_narrow-terms_of v ts)
 
-pub some_lack-terms_of : (xs : List Text) (ts : List Term) → some_lack xs (terms_of (map term_view ts)) ≡ list_any (λ t. lacks xs (term_view t)) ts
-some_lack-terms_of xs [] = refl
-some_lack-terms_of xs (t ∷ ts) = ap (λ b. lacks xs (term_view t) || b) (some_lack-terms_of xs ts)
-
 -- what a failed list of arguments says of the term
 pub err_of_arguments : (e : EvaluationError) (bindings : List Binding) (c : Text) (ts : List Term) → GiveAll (Err e) bindings ts → Gives (Err e) bindings (built c (terms_of (map term_view ts)))
 err_of_arguments Memory bindings c ts g = tt
 err_of_arguments Number bindings c ts g = λ v s. all_stay_narrow-terms_of v ts ∙ g v s
-err_of_arguments Unbound bindings c ts g = some_lack-terms_of (bound_names bindings) ts ∙ g

@@ -2,12 +2,12 @@
 use Rattle.std.specs.Prelude.{◌≡◌, true, false, Bool, Result, Ok, Err, List, [], ◌∷◌}
 use Rattle.std.specs.List.{list_all, list_any}
 use Rattle.kp_semantics.specs.Instance.{Valuation}
-use Rattle.kp_ground.specs.Conditions.{RuleCondition, always, never, denial, all_of, any_of, implied, equivalent, same, RuleConditions, no_conditions, next_condition, condition_holds, condition_narrow, condition_lacks}
+use Rattle.kp_ground.specs.Conditions.{RuleCondition, always, never, denial, all_of, any_of, implied, equivalent, same, RuleConditions, no_conditions, next_condition, condition_holds, condition_narrow}
 use Rattle.kp_ground.specs.TermView.{term_view}
-use Rattle.kp_ground.specs.Solves.{Solves, bound_names}
+use Rattle.kp_ground.specs.Solves.{Solves}
 use Rattle.kp_ground.specs.declared.binding.Binding.{Binding}
 use Rattle.kp_ground.specs.declared.evaluate.EvaluationError.{EvaluationError}
-use Rattle.kp_ground.specs.declared.evaluate.EvaluationError.TheVariants.{Memory, Number, Unbound}
+use Rattle.kp_ground.specs.declared.evaluate.EvaluationError.TheVariants.{Memory, Number}
 use Rattle.kp_ground.specs.declared.condition.Condition.{Condition, fold-Condition}
 use Rattle.kp_ground.specs.declared.condition.Condition.TheOpen.{Condition-F}
 
@@ -29,13 +29,11 @@ condition_step (Condition-F.Same t s) = same (term_view t) (term_view s)
 abbrev pub condition_view : Condition → RuleCondition
 condition_view = fold-Condition RuleCondition condition_step
 
--- a condition: whether it holds under each valuation that the bindings allow, or Number where some call in it is beyond;
--- Unbound only where some variable of it isn't bound
+-- a condition: whether it holds under each valuation that the bindings allow, or Number where some call in it is beyond
 abbrev pub GivesTruth : Result Bool EvaluationError → List Binding → RuleCondition → Type 0
 GivesTruth (Ok b) bindings c = (v : Valuation) → Solves v bindings → (b ≡ condition_holds v c) × (condition_narrow v c ≡ true)
 GivesTruth (Err Number) bindings c = (v : Valuation) → Solves v bindings → condition_narrow v c ≡ false
 GivesTruth (Err Memory) bindings c = Unit {0}
-GivesTruth (Err Unbound) bindings c = condition_lacks (bound_names bindings) c ≡ true
 
 -- the same of lists: whether all hold, and whether some does
 abbrev pub GivesAllTruth : Result Bool EvaluationError → List Binding → List Condition → Type 0
@@ -43,11 +41,9 @@ GivesAllTruth (Ok b) bindings cs = (v : Valuation) → Solves v bindings →
     (b ≡ list_all (λ c. condition_holds v (condition_view c)) cs) × (list_all (λ c. condition_narrow v (condition_view c)) cs ≡ true)
 GivesAllTruth (Err Number) bindings cs = (v : Valuation) → Solves v bindings → list_all (λ c. condition_narrow v (condition_view c)) cs ≡ false
 GivesAllTruth (Err Memory) bindings cs = Unit {0}
-GivesAllTruth (Err Unbound) bindings cs = list_any (λ c. condition_lacks (bound_names bindings) (condition_view c)) cs ≡ true
 
 abbrev pub GivesAnyTruth : Result Bool EvaluationError → List Binding → List Condition → Type 0
 GivesAnyTruth (Ok b) bindings cs = (v : Valuation) → Solves v bindings →
     (b ≡ list_any (λ c. condition_holds v (condition_view c)) cs) × (list_all (λ c. condition_narrow v (condition_view c)) cs ≡ true)
 GivesAnyTruth (Err Number) bindings cs = (v : Valuation) → Solves v bindings → list_all (λ c. condition_narrow v (condition_view c)) cs ≡ false
 GivesAnyTruth (Err Memory) bindings cs = Unit {0}
-GivesAnyTruth (Err Unbound) bindings cs = list_any (λ c. condition_lacks (bound_names bindings) (condition_view c)) cs ≡ true

@@ -1,10 +1,9 @@
 -- Conditions of rules as the code keeps them: predicates without quantifiers over the rule's terms.
-use Rattle.std.specs.Prelude.{Bool, true, false, not, ◌&&◌, ◌||◌, List}
+use Rattle.std.specs.Prelude.{Bool, true, false, not, ◌&&◌, ◌||◌}
 use Rattle.std.specs.Bool.{beq}
-use Rattle.kp_kore.specs.Syntax.{Text}
 use Rattle.kp_semantics.specs.Value.{values_same}
 use Rattle.kp_semantics.specs.Instance.{Valuation}
-use Rattle.kp_ground.specs.Terms.{RuleTerm, term_value, stays_narrow, lacks}
+use Rattle.kp_ground.specs.Terms.{RuleTerm, term_value, stays_narrow}
 
 mutual
   pub data RuleCondition : Type 0 where
@@ -57,19 +56,3 @@ abbrev mutual
   pub all_narrow : Valuation → RuleConditions → Bool
   all_narrow v no_conditions = true
   all_narrow v (next_condition c cs) = condition_narrow v c && all_narrow v cs
-
--- some variable of the condition isn't among these names
-abbrev mutual
-  pub condition_lacks : List Text → RuleCondition → Bool
-  condition_lacks xs always = false
-  condition_lacks xs never = false
-  condition_lacks xs (denial c) = condition_lacks xs c
-  condition_lacks xs (all_of cs) = some_condition_lacks xs cs
-  condition_lacks xs (any_of cs) = some_condition_lacks xs cs
-  condition_lacks xs (implied c d) = condition_lacks xs c || condition_lacks xs d
-  condition_lacks xs (equivalent c d) = condition_lacks xs c || condition_lacks xs d
-  condition_lacks xs (same t s) = lacks xs t || lacks xs s
-
-  pub some_condition_lacks : List Text → RuleConditions → Bool
-  some_condition_lacks xs no_conditions = false
-  some_condition_lacks xs (next_condition c cs) = condition_lacks xs c || some_condition_lacks xs cs

@@ -11,7 +11,7 @@ lefts_of (t ∷ ts) = next_left t (lefts_of ts)
 
 -- one level, with each argument already seen as its left term
 abbrev pub left_step : Left-F LeftTerm → LeftTerm
-left_step (Left-F.Variable x) = left_bound (string_bytes x)
+left_step (Left-F.Variable x i) = left_bound (string_bytes x.value)
 left_step (Left-F.Fixed u) = left_fixed (value_view u)
 left_step (Left-F.Built c ts) = left_built (string_bytes c.value) (lefts_of ts.items)
 

@@ -7,7 +7,8 @@ use Rattle.kp_semantics.specs.Instance.{Valuation}
 use Rattle.kp_ground.specs.Terms.{LeftTerm, left_value}
 use Rattle.kp_ground.specs.LeftView.{left_view}
 use Rattle.kp_ground.specs.View.{value_view}
-use Rattle.kp_ground.specs.Solves.{Solves}
+use Rattle.kp_ground.specs.Slots.{Place, names_after}
+use Rattle.kp_ground.specs.Solves.{Solves, bound_names}
 use Rattle.kp_ground.specs.declared.binding.Binding.{Binding}
 use Rattle.kp_ground.specs.declared.left.Left.{Left}
 use Rattle.kp_ground.specs.declared.value.Value.{Value}
@@ -26,6 +27,12 @@ abbrev pub StaysSolvable : {E : Type 0} → Result (Option (Vec Binding Global))
 StaysSolvable (Ok (Some new)) old = IsSolvable old → IsSolvable new.items
 StaysSolvable (Ok None) old = Unit {0}
 StaysSolvable (Err e) old = Unit {0}
+
+-- the new bindings are those of the old names and of these places, by slot
+abbrev pub BindsNames : {E : Type 0} → Result (Option (Vec Binding Global)) E → List Binding → List Place → Type 0
+BindsNames (Ok (Some new)) old places = bound_names new.items ≡ names_after (bound_names old) places
+BindsNames (Ok None) old places = Unit {0}
+BindsNames (Err e) old places = Unit {0}
 
 -- the left term's instance is the value
 abbrev pub IsSame : LeftTerm → model.Value → Valuation → Type 0

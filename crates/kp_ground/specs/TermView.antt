@@ -2,7 +2,7 @@
 use Rattle.std.specs.Prelude.{List, [], ◌∷◌, string_bytes}
 use Rattle.kp_ground.specs.Terms.{RuleTerm, bound, fixed, built, call, opposite, RuleTerms, no_terms, next_term}
 use Rattle.kp_ground.specs.View.{value_view}
-use Rattle.kp_ground.specs.HookView.{hook_view}
+use Rattle.kp_hooks.specs.HookView.{hook_view}
 use Rattle.kp_ground.specs.declared.term.Term.{Term, fold-Term}
 use Rattle.kp_ground.specs.declared.term.Term.TheOpen.{Term-F}
 
@@ -12,7 +12,7 @@ terms_of (t ∷ ts) = next_term t (terms_of ts)
 
 -- one level, with each argument already seen as its term
 abbrev pub term_step : Term-F RuleTerm → RuleTerm
-term_step (Term-F.Variable x) = bound (string_bytes x)
+term_step (Term-F.Variable x i) = bound (string_bytes x)
 term_step (Term-F.Fixed u) = fixed (value_view u)
 term_step (Term-F.Built c ts) = built (string_bytes c.value) (terms_of ts.items)
 term_step (Term-F.Call h t s) = call (hook_view h) t.value s.value

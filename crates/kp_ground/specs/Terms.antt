@@ -1,8 +1,6 @@
 -- Terms of rules as the code keeps them: inj is seen through, symbols have their meaning, what doesn't depend on the
 -- valuation is a value.
-use Rattle.std.specs.Prelude.{Bool, true, false, not, ◌&&◌, ◌||◌, List, [], ◌∷◌, ◌++◌}
-use Rattle.std.specs.List.{list_any}
-use Rattle.std.specs.Str.{bytes_eq}
+use Rattle.std.specs.Prelude.{Bool, true, ◌&&◌}
 use Rattle.kp_kore.specs.Syntax.{Text}
 use Rattle.kp_kore.specs.Hooks.{Hook, truth_negation}
 use Rattle.kp_semantics.specs.Value.{Value, whole, constructed, Values, no_values, next_value}
@@ -55,23 +53,6 @@ abbrev mutual
   all_stay_narrow v no_terms = true
   all_stay_narrow v (next_term t ts) = stays_narrow v t && all_stay_narrow v ts
 
--- the name is one of these
-abbrev pub is_one_of : Text → List Text → Bool
-is_one_of x xs = list_any (λ y. bytes_eq y x) xs
-
--- some variable of the term isn't among these names
-abbrev mutual
-  pub lacks : List Text → RuleTerm → Bool
-  lacks xs (bound x) = not (is_one_of x xs)
-  lacks xs (fixed u) = false
-  lacks xs (built c ts) = some_lack xs ts
-  lacks xs (call h t s) = lacks xs t || lacks xs s
-  lacks xs (opposite t) = lacks xs t
-
-  pub some_lack : List Text → RuleTerms → Bool
-  some_lack xs no_terms = false
-  some_lack xs (next_term t ts) = lacks xs t || some_lack xs ts
-
 -- ---- left terms: they have no calls
 
 mutual
@@ -93,14 +74,3 @@ abbrev mutual
   pub left_values : Valuation → LeftTerms → Values
   left_values v no_lefts = no_values
   left_values v (next_left t ts) = next_value (left_value v t) (left_values v ts)
-
--- the names of its variables
-abbrev mutual
-  pub left_names : LeftTerm → List Text
-  left_names (left_bound x) = x ∷ []
-  left_names (left_fixed u) = []
-  left_names (left_built c ts) = all_left_names ts
-
-  pub all_left_names : LeftTerms → List Text
-  all_left_names no_lefts = []
-  all_left_names (next_left t ts) = left_names t ++ all_left_names ts

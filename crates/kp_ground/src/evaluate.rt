@@ -1,20 +1,22 @@
 ghost use Rattle.std.specs.Prelude.{◌≡◌, map, true, false, string_bytes, IfOk};
+ghost use Rattle.std.specs.List.{list_all};
 ghost use Rattle.kp_semantics.specs.Instance.{Valuation};
 ghost use Rattle.kp_semantics.specs.Interpretation.{interpreted};
 ghost use Rattle.kp_kore.specs.Hooks.{whole_arithmetic, whole_comparison, truth_connective, truth_negation};
 ghost use Rattle.kp_semantics.specs.Value.{truth, constructed, no_values, next_value};
 ghost use Rattle.kp_semantics.specs.Forms.{two};
-ghost use Rattle.kp_ground.specs.HookView.{hook_view, arithmetic_view, comparison_view, connective_view};
+ghost use Rattle.kp_hooks.specs.HookView.{hook_view, arithmetic_view, comparison_view, connective_view};
 ghost use Rattle.kp_ground.specs.Terms.{is_narrow, stays_narrow, all_stay_narrow, term_value, term_values};
 ghost use Rattle.kp_ground.specs.TermView.{term_view, terms_of};
 ghost use Rattle.kp_ground.specs.View.{value_view, values_of};
-ghost use Rattle.kp_ground.specs.Solves.{Solves};
+ghost use Rattle.kp_ground.specs.Slots.{term_reads};
+ghost use Rattle.kp_ground.specs.Solves.{Solves, bound_names};
 ghost use Rattle.kp_ground.specs.Outcomes.{Gives, GivesCall, GiveAll};
 
-use crate::binding::{Binding, find_binding};
-use crate::hook::{Arithmetic, Comparison, Connective, Hook};
+use crate::binding::{Binding, bound_at};
 use crate::term::Term;
 use crate::value::Value;
+use kp_hooks::{Arithmetic, Comparison, Connective, Hook};
 use std::alloc::{AllocError, AllocFailed, Global};
 use std::sync::Arc;
 
@@ -24,8 +26,6 @@ pub enum EvaluationError {
     Memory,
     /// A call computes a number beyond signed 128 bits.
     Number,
-    /// A variable has no binding.
-    Unbound,
 }
 
 impl From<AllocError> for EvaluationError {
@@ -149,16 +149,14 @@ pub fn call_of_two(hook: Hook, left: &Value, right: &Value) -> Result<Value, Eva
 }
 
 impl Term {
-    /// The term's value under the bindings.
+    /// The term's value under the bindings of its variables.
     #[cycle(evaluate)]
     pub fn evaluate(&self, alloc: Global, bindings: &[Binding]) -> Result<Value, EvaluationError>
+        requires { term_reads (bound_names bindings.now) self.now ≡ true }
         ensures { Gives result bindings.now (term_view self.now) }
     {
         match self {
-            Term::Variable { name } => match find_binding(bindings, name) {
-                Some(value) => Ok(value.share(alloc)?),
-                None => Err(EvaluationError::Unbound),
-            },
+            Term::Variable { slot, .. } => Ok(bound_at(bindings, *slot).share(alloc)?),
             Term::Fixed { value } => Ok(value.share(alloc)?),
             Term::Built {
                 constructor,
@@ -188,6 +186,7 @@ impl Term {
         terms: &[Term],
         bindings: &[Binding],
     ) -> Result<Vec<Value>, EvaluationError>
+        requires { list_all (term_reads (bound_names bindings.now)) terms.now ≡ true }
         ensures { GiveAll result bindings.now terms.now }
     {
         let mut values = Vec::new(alloc);

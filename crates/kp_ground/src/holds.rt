@@ -1,5 +1,8 @@
-ghost use Rattle.std.specs.Prelude.{◌≡◌};
+ghost use Rattle.std.specs.Prelude.{◌≡◌, true};
+ghost use Rattle.std.specs.List.{list_all};
 ghost use Rattle.kp_semantics.specs.Value.{values_same};
+ghost use Rattle.kp_ground.specs.Slots.{condition_reads};
+ghost use Rattle.kp_ground.specs.Solves.{bound_names};
 ghost use Rattle.kp_ground.specs.View.{value_view};
 ghost use Rattle.kp_ground.specs.ConditionView.{condition_view, GivesTruth, GivesAllTruth, GivesAnyTruth};
 
@@ -17,10 +20,11 @@ fn same_value(left: &Value, right: &Value) -> bool
 }
 
 impl Condition {
-    /// Whether the condition holds under the bindings. All of it is evaluated, so that a number beyond 128 bits is
-    /// told wherever it stands.
+    /// Whether the condition holds under the bindings of its variables. All of it is evaluated, so that a number beyond
+    /// 128 bits is told wherever it stands.
     #[cycle(holding)]
     pub fn holds(&self, alloc: Global, bindings: &[Binding]) -> Result<bool, EvaluationError>
+        requires { condition_reads (bound_names bindings.now) self.now ≡ true }
         ensures { GivesTruth result bindings.now (condition_view self.now) }
     {
         match self {
@@ -54,6 +58,7 @@ impl Condition {
         conditions: &[Condition],
         bindings: &[Binding],
     ) -> Result<bool, EvaluationError>
+        requires { list_all (condition_reads (bound_names bindings.now)) conditions.now ≡ true }
         ensures { GivesAllTruth result bindings.now conditions.now }
     {
         let mut all = true;
@@ -71,6 +76,7 @@ impl Condition {
         conditions: &[Condition],
         bindings: &[Binding],
     ) -> Result<bool, EvaluationError>
+        requires { list_all (condition_reads (bound_names bindings.now)) conditions.now ≡ true }
         ensures { GivesAnyTruth result bindings.now conditions.now }
     {
         let mut any = false;

@@ -1,12 +1,14 @@
-use crate::hook::Hook;
 use crate::value::Value;
+use kp_hooks::Hook;
 use std::sync::Arc;
 
 /// A term of a rule. `term_view` in specs/TermView.antt says which term of specs/Terms.antt it is.
 #[derive(Drop)]
 pub enum Term {
+    /// The value is found by the slot.
     Variable {
         name: String,
+        slot: usize,
     },
     /// What is the same under every valuation.
     Fixed {

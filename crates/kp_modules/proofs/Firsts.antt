@@ -1,5 +1,5 @@
 -- Which fault comes first.
-use Rattle.std.proofs.Common.{◌≡◌, refl, sym, ap, subst, ◌∙◌, ℕ, zero, suc, ◌+◌, ◌<◌, ◌≤◌, count_by, List, [], ◌∷◌, ◌++◌, length, map, take, drop, get_or, None, Contains, arith}
+use Rattle.std.proofs.Common.{◌≡◌, refl, sym, ap, subst, Result, Ok, Err, IfErr, OnOk, ◌∙◌, ℕ, zero, suc, ◌+◌, ◌<◌, ◌≤◌, count_by, List, [], ◌∷◌, ◌++◌, length, map, take, drop, get_or, None, Contains, arith}
 use Rattle.std.specs.Borrow.{Bor}
 use Rattle.std.specs.List.{flat_map}
 use Rattle.std.specs.Str.{bytes_eq}
@@ -12,13 +12,29 @@ use Rattle.kp_signature.specs.Table.{sort_names, symbol_names}
 use Rattle.kp_signature.specs.View.{sentences_of}
 use Rattle.kp_rules.specs.Bodies.{IsFaulty}
 use Rattle.kp_modules.specs.Axioms.{axiom_view, axioms_view}
-use Rattle.kp_imports.specs.Faults.{Fault, unknown_import, import_cycle, duplicate_sort, duplicate_symbol, duplicate_module, rule_fault, no_main_module, rank, IsUnknown, IsCyclic, IsImportFault, IsFaultOf, IsFaultyAmong, IsFirstFaulty, IsFirstFault, AreSound, HasNoFault, signature_reached, axioms_reached}
+use Rattle.kp_imports.specs.Faults.{Fault, unknown_import, import_cycle, duplicate_sort, duplicate_symbol, duplicate_module, rule_fault, no_main_module, rank, IsUnknown, IsCyclic, IsImportFault, IsFaultOf, IsFaultyAmong, IsFirstFaulty, IsFirstFault, AreSound, HasNoFault, signature_reached, axioms_reached, TellsAxiom}
+use Rattle.kp_imports.specs.declared.fault.LoadError.{LoadError}
+use Rattle.kp_imports.specs.declared.fault.LoadError.TheVariants.{Memory}
 use Rattle.kp_imports.specs.Names.{names_of, IsFirstRepeated, AreOnce}
 use Rattle.kp_modules.specs.declared.axioms.RewriteAxiom.{RewriteAxiom}
 use Rattle.kp_imports.proofs.Collect.{all_append}
 use Rattle.kp_modules.proofs.Ruled.{axioms_more, sentences_seen}
 use Rattle.kp_imports.proofs.Seen.{all_at}
 use Rattle.kp_imports.proofs.Twice.{stands_twice}
+
+-- ---- the rule of an axiom
+
+memory_alone : (g : KoreSignature) (a : NumberedAxiom) (e : LoadError) → e ≡ Memory → TellsAxiom g a e
+memory_alone g a e is = subst (TellsAxiom g a) (sym is) (λ f told. absurd (cc))
+
+-- want of memory tells no axiom
+pub no_axiom : {T : Type 0} (g : KoreSignature) (a : NumberedAxiom) (r : Result T LoadError) → IfErr r (λ e. e ≡ Memory) → IfErr r (TellsAxiom g a)
+no_axiom g a (Ok x) h = tt
+no_axiom g a (Err e) h = memory_alone g a e h
+
+pub on_value : {T E : Type 0} (P : Type 0) (r : Result T E) → P → OnOk r P
+on_value P (Ok x) p = p
+on_value P (Err e) p = tt
 
 -- ---- rewrite axioms
 

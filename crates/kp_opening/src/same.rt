@@ -1,7 +1,7 @@
 // An equality at a sort, and a Boolean expression, opened with a sign: members of constructors and the arguments of the
 // Boolean functions are opened in turn.
 ghost use Rattle.std.specs.Prelude.{◌≡◌, ℕ, ◌<◌, ◌≤◌, [], not, Bool, if◌then◌else◌, IfOk, map, string_bytes};
-ghost use Rattle.kp_ground.specs.HookView.{hook_view, connective_view};
+ghost use Rattle.kp_hooks.specs.HookView.{hook_view, connective_view};
 ghost use Rattle.kp_ground.specs.View.{value_view};
 ghost use Rattle.kp_kore.specs.Attributes.{sorts_equal};
 ghost use Rattle.kp_kore.specs.Hooks.{truth_negation};
@@ -21,7 +21,8 @@ use crate::sides::{
     are_same, compared_at_once, constructor_of, fixed_or, is_never, keeps_truth, members_of,
     places_of, truth_known, unconstructed,
 };
-use kp_ground::{Connective, Hook, Value};
+use kp_ground::Value;
+use kp_hooks::{Connective, Hook};
 use kp_kore::{Name, Sort};
 use kp_signature::{Function, Meaning, Signature, meaning_of};
 use kp_terms::{Atom, Literal, Term};

@@ -1,7 +1,7 @@
 // What the sides of an equality are: their constructors and members, and when they are never equal.
 ghost use Rattle.std.specs.Prelude.{◌≡◌, ◌&&◌, IfOk, map, string_bytes};
 ghost use Rattle.std.specs.Option.{option_map};
-ghost use Rattle.kp_ground.specs.HookView.{comparison_view};
+ghost use Rattle.kp_hooks.specs.HookView.{comparison_view};
 ghost use Rattle.kp_ground.specs.View.{value_view};
 ghost use Rattle.kp_signature.specs.View.{signature_view};
 ghost use Rattle.kp_kore.specs.View.{sorts_view};
@@ -19,7 +19,8 @@ ghost use Rattle.kp_opening.specs.Seen.{constructor_seen, truth_known as truth_r
 ghost use Rattle.kp_opening.specs.View.{formula_view};
 
 use crate::formula::{Formula, kept_fact, make_fixed};
-use kp_ground::{Comparison, Value};
+use kp_ground::Value;
+use kp_hooks::Comparison;
 use kp_kore::Sort;
 use kp_signature::{Meaning, Signature, meaning_of};
 use kp_terms::sum::{Sum, sum_of};

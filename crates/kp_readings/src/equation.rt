@@ -20,7 +20,8 @@ ghost use Rattle.kp_readings.specs.Equations.{equation_view, equates_if, of_equa
 
 use kp_deciding::form::truth_of;
 use kp_deciding::kinds::{has_numbers, has_truths, is_same, lies_below};
-use kp_ground::{Comparison, Hook, Value};
+use kp_ground::Value;
+use kp_hooks::{Comparison, Hook};
 use kp_kore::Sort;
 use kp_signature::{Function, Meaning, Signature, meaning_of};
 use kp_terms::language::is_before;

@@ -1,7 +1,9 @@
+pub mod Bindings
 pub mod Constrained
 pub mod Declared
 pub mod LeftTerms
 pub mod NameSets
+pub mod Named
 pub mod NewVariables
 pub mod Numbers
 pub mod PlainRules

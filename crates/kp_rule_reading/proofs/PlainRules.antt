@@ -89,7 +89,7 @@ second_empty (x ∷ xs) ys h = absurd (cc)
 named : KorePattern → SortedName → Bool
 named left x = is_named x.name (free_variables left)
 
-no_binder : (p : KorePattern) → not (is_binder p) ≡ true → top_binders p ≡ []
+pub no_binder : (p : KorePattern) → not (is_binder p) ≡ true → top_binders p ≡ []
 no_binder p h = by (is_binder p) h (binders p)
   where
     by : (b : Bool) → not b ≡ true → MatchBool b (top_binders p ≡ [] → ⊥) (top_binders p ≡ []) → top_binders p ≡ []

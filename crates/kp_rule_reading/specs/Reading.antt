@@ -103,3 +103,9 @@ pub record IsReadBody (g : KoreSignature) (a : Statement) (body : RuleBody) : Ty
 abbrev pub rule_error : Option VerifyFault → RuleError
 rule_error (Some f) = Fault
 rule_error None = Memory
+
+-- a right side that isn't bound at its top has only variables of the left term where its one term has
+abbrev pub RightPasses : KorePattern → KorePattern → KorePattern → Type 0
+RightPasses left right term =
+    is_binder right ≡ false → list_all (λ x. is_named x.name (free_variables left)) (free_variables right) ≡ true →
+    list_all (λ x. is_named x.name (free_variables left)) (free_variables term) ≡ true

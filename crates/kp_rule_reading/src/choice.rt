@@ -5,10 +5,13 @@ ghost use Rattle.indexmap.specs.IndexSet.{contains_text};
 ghost use Rattle.kp_kore.specs.Parts.{free_variables};
 ghost use Rattle.kp_kore.specs.View.{view, sort_view, sorted_variable_view};
 ghost use Rattle.kp_semantics.specs.Rules.{top_binders};
+ghost use Rattle.kp_compile.specs.Names.{names_seen};
+ghost use Rattle.kp_rules.specs.Bound.{names_of_choice};
 ghost use Rattle.kp_rules.specs.Bodies.{IsSideOf, IsChoiceOf};
 ghost use Rattle.kp_rules.specs.Shapes.{seen, variables_seen, rewrite_seen};
 
-use crate::names::{NameSet, names_of};
+use crate::names::names_of;
+use kp_compile::NameSet;
 use kp_kore::{Pattern, SortedVariable};
 use kp_rules::rule::RightSide;
 use kp_rules::shape::{Binder, Shape, under_binders};
@@ -19,19 +22,27 @@ pub fn choice_of(
     alloc: Global,
     shape: &Shape<'_>,
     right: &Pattern,
+    names: NameSet,
     chooses: bool,
 ) -> Result<Option<RightSide>, AllocError>
-    ensures { IfOk result (IsChoiceOf (rewrite_seen (view right.now) shape.now) chooses) }
+    ensures names { IfOk result (λ o. names_of_choice (names_seen names) o ≡ names_seen names) }
+    ensures choice { IfOk result (IsChoiceOf (rewrite_seen (view right.now) shape.now) chooses) }
 {
     if !chooses {
         return Ok(None);
     }
-    Ok(Some(right_side(alloc, shape, right)?))
+    Ok(Some(right_side(alloc, shape, right, names)?))
 }
 
 /// The right side with its ensured condition and its new variables.
-fn right_side(alloc: Global, shape: &Shape<'_>, right: &Pattern) -> Result<RightSide, AllocError>
-    ensures { IfOk result (IsSideOf (rewrite_seen (view right.now) shape.now)) }
+fn right_side(
+    alloc: Global,
+    shape: &Shape<'_>,
+    right: &Pattern,
+    left_names: NameSet,
+) -> Result<RightSide, AllocError>
+    ensures names { IfOk result (λ s. names_seen s.left_names ≡ names_seen left_names) }
+    ensures side { IfOk result (IsSideOf (rewrite_seen (view right.now) shape.now)) }
 {
     let left_variables = shape.left.term.free_vars(alloc)?;
     let names = names_of(alloc, &left_variables)?;
@@ -40,6 +51,7 @@ fn right_side(alloc: Global, shape: &Shape<'_>, right: &Pattern) -> Result<Right
         ensured: copies(alloc, &shape.right.predicates)?,
         new_variables: new_variables(alloc, right, &names)?,
         left_variables,
+        left_names,
     })
 }
 

@@ -9,12 +9,10 @@ ghost use Rattle.kp_signature.specs.View.{signature_view};
 ghost use Rattle.kp_rule_reading.specs.Reading.{Names};
 
 use indexmap::IndexSet;
-use kp_kore::{Name, SortedVariable};
+use kp_compile::NameSet;
+use kp_kore::SortedVariable;
 use kp_signature::Signature;
 use std::alloc::{AllocError, Global};
-
-/// Names, each once.
-pub type NameSet = IndexSet<Name>;
 
 /// The names of these variables.
 pub fn names_of(alloc: Global, variables: &[SortedVariable]) -> Result<NameSet, AllocError>

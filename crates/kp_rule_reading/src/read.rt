@@ -1,8 +1,8 @@
 // From a rewrite axiom to its rule.
 ghost use Rattle.std.specs.Prelude.{◌≡◌, ℕ, not, true, false, min, Some, None, Ok, Option, unwrap_or, IfOk, IfErr, OnOk, MatchBool, IsTrue};
-ghost use Rattle.std.specs.List.{list_all};
+ghost use Rattle.std.specs.List.{list_all, AllByRecursion};
 ghost use Rattle.indexmap.specs.IndexSet.{contains_text};
-ghost use Rattle.kp_kore.specs.Syntax.{KoreSort, KorePattern, rewriting};
+ghost use Rattle.kp_kore.specs.Syntax.{KoreSort, rewriting};
 ghost use Rattle.kp_kore.specs.Parts.{free_variables};
 ghost use Rattle.kp_kore.specs.View.{view, sort_view, axiom_sentence_view};
 ghost use Rattle.kp_semantics.specs.Instance.{is_named};
@@ -14,23 +14,25 @@ ghost use Rattle.kp_signature.specs.Verify.{first_fault};
 ghost use Rattle.kp_signature.specs.View.{signature_view};
 ghost use Rattle.kp_compile.specs.Verified.{misapplies_injection};
 ghost use Rattle.kp_compile.specs.declared.error.CompileError.TheVariants as compiling;
-ghost use Rattle.kp_rules.specs.Bodies.{IsReadAs, IsBodyOf, IsChoiceOf, HasFault, IsFaulty};
+ghost use Rattle.kp_rules.specs.Bodies.{IsReadAs, IsBodyOf, HasFault, IsFaulty};
 ghost use Rattle.kp_sort_index.specs.Index.{IsIndexOf};
 ghost use Rattle.kp_rule_reading.specs.Priorities.{Tells};
-ghost use Rattle.kp_rule_reading.specs.Reading.{IsStatementRead, rule_error, IsReadBody, IsMadeOf, IsSound, IsShapeRead, is_left_read, is_predicate_read, is_side_read, is_binder as binder_test, is_top_pattern, is_plain_by};
+ghost use Rattle.kp_rule_reading.specs.Reading.{IsStatementRead, rule_error, IsReadBody, IsMadeOf, IsSound, IsShapeRead, is_left_read, is_predicate_read, is_side_read, RightPasses, is_binder as binder_test, is_top_pattern, is_plain_by};
 ghost use Rattle.kp_rules.specs.Shapes.{seen, rewrite_seen};
 ghost use Rattle.kp_rule_reading.specs.declared.read.RuleError.TheVariants.{Memory, Fault};
 ghost use Rattle.kp_rules.specs.declared.rule.RuleBody.TheVariants as body;
 ghost use Rattle.kp_rules.specs.declared.skeleton.Skeleton.TheVariants as skeleton;
 
 use crate::choice::choice_of;
-use crate::names::{NameSet, are_named, names_of, repeats_literals_only};
+use crate::names::{are_named, names_of, repeats_literals_only};
 use crate::parts_read::{
     all_split, are_condition_parts, are_declared, are_read_parts, are_uninterpreted, inject_one,
 };
 use crate::priority::{Priority, USUAL_PRIORITY, priority_of};
 use crate::sort_test::sort_tests;
-use kp_compile::{CompileError, compile_condition, compile_left, compile_term, subpatterns};
+use kp_compile::{
+    CompileError, NameSet, compile_condition, compile_left, compile_term, subpatterns,
+};
 use kp_kore::{AxiomSentence, Pattern, Sort};
 use kp_rules::rule::{Rewrite, RightSide, RuleBody};
 use kp_rules::shape::{Shape, Side, shape_of};
@@ -305,14 +307,15 @@ fn rewrite_from(
     shape: &Shape<'_>,
     right: &Pattern,
 ) -> Result<Rewrite, RuleError>
+    requires condition { AllByRecursion (λ p. list_all (λ x. is_named x.name (free_variables (view shape.now.left.term.now))) (free_variables p) ≡ true) (seen shape.now.left.predicates.items) }
+    requires right { RightPasses (view shape.now.left.term.now) (view right.now) (view shape.now.right.term.now) }
     ensures made { let g = signature_view signature.now in let sort' = sort_view sort.now in let term' = view shape.now.left.term.now in let right' = view right.now in IfOk result (λ w. IsMadeOf g sort' (rewrite_seen right' shape.now) w × (w.chooses ≡ not (is_plain_by (λ y. is_named y (free_variables term')) right' (seen shape.now.right.predicates.items)))) }
     ensures sound { IfErr result (λ e. IsSound (signature_view signature.now) (rewrite_seen (view right.now) shape.now) → e ≡ Memory) }
 {
     let variables = shape.left.term.free_vars(alloc)?;
     let names = names_of(alloc, &variables)?;
     let chooses = chooses(alloc, &shape.right.predicates, right, &names)?;
-    let choice = choice_of(alloc, shape, right, chooses)?;
-    match compiled(alloc, signature, sort, shape, chooses, choice) {
+    match compiled(alloc, signature, sort, shape, right, chooses) {
         Ok(rewrite) => Ok(rewrite),
         Err(error) => Err(refused(&error)),
     }
@@ -385,21 +388,24 @@ fn compiled(
     signature: &Signature,
     sort: &Sort,
     shape: &Shape<'_>,
+    right: &Pattern,
     chooses: bool,
-    choice: Option<RightSide>,
 ) -> Result<Rewrite, CompileError>
-    ensures made { (r : KorePattern) → let the_rewrite_seen = rewrite_seen r shape.now in let g = signature_view signature.now in IsChoiceOf the_rewrite_seen chooses choice → IfOk result (λ w. IsMadeOf g (sort_view sort.now) the_rewrite_seen w × (w.chooses ≡ chooses)) }
-    ensures sound { (r : KorePattern) → IfErr result (λ e. IsSound (signature_view signature.now) (rewrite_seen r shape.now) → e ≡ compiling.Memory) }
+    requires condition { AllByRecursion (λ p. list_all (λ x. is_named x.name (free_variables (view shape.now.left.term.now))) (free_variables p) ≡ true) (seen shape.now.left.predicates.items) }
+    requires right { chooses ≡ false → list_all (λ x. is_named x.name (free_variables (view shape.now.left.term.now))) (free_variables (view shape.now.right.term.now)) ≡ true }
+    ensures made { let the_rewrite_seen = rewrite_seen (view right.now) shape.now in let g = signature_view signature.now in IfOk result (λ w. IsMadeOf g (sort_view sort.now) the_rewrite_seen w × (w.chooses ≡ chooses)) }
+    ensures sound { IfErr result (λ e. IsSound (signature_view signature.now) (rewrite_seen (view right.now) shape.now) → e ≡ compiling.Memory) }
 {
-    let left = compile_left(alloc, signature, shape.left.term)?;
-    let tests = sort_tests(alloc, signature, shape.left.term)?;
-    let condition = compile_condition(alloc, signature, &shape.left.predicates)?;
-    let right = compile_term(alloc, signature, shape.right.term)?;
+    let (left, names) = compile_left(alloc, signature, shape.left.term)?;
+    let tests = sort_tests(alloc, signature, &names, shape.left.term)?;
+    let condition = compile_condition(alloc, signature, &names, &shape.left.predicates)?;
+    let term = compile_term(alloc, signature, &names, shape.right.term)?;
+    let choice = choice_of(alloc, shape, right, names, chooses)?;
     Ok(Rewrite {
         left,
         tests,
         condition,
-        right,
+        right: term,
         right_sort: sort.copy(alloc)?,
         chooses,
         choice,

@@ -9,13 +9,17 @@ ghost use Rattle.kp_signature.specs.View.{signature_view};
 ghost use Rattle.kp_semantics.specs.Value.{Value, HasSort, HaveSorts};
 ghost use Rattle.kp_semantics.specs.Sorted.{IsSorted};
 ghost use Rattle.kp_semantics.specs.Instance.{Valuation, instance, instances, applied, GivesSorts};
+ghost use Rattle.kp_ground.specs.Slots.{is_one_of};
+ghost use Rattle.kp_compile.specs.Exact.{are_named};
+ghost use Rattle.kp_compile.specs.Names.{names_seen};
 ghost use Rattle.kp_compile.specs.Verified.{IsVerifiedLeftTerm};
 ghost use Rattle.kp_compile.specs.declared.error.CompileError.TheVariants.{Memory};
 ghost use Rattle.kp_rules.specs.Bodies.{IsVerifiedLeft};
+ghost use Rattle.kp_rules.specs.Bound.{tests_read};
 ghost use Rattle.kp_rules.specs.Heads.{HasHead};
-ghost use Rattle.kp_rule_reading.specs.Tests.{IsGiven, Adds};
+ghost use Rattle.kp_rule_reading.specs.Tests.{IsGiven, Adds, ReadMore};
 
-use kp_compile::CompileError;
+use kp_compile::{CompileError, NameSet, slot_of};
 use kp_kore::{Name, Pattern, Sort};
 use kp_rules::rule::SortTest;
 use kp_signature::{Meaning, Signature, meaning_of};
@@ -26,13 +30,15 @@ use std::alloc::{AllocError, Global};
 pub fn sort_tests(
     alloc: Global,
     signature: &Signature,
+    names: &NameSet,
     left: &Pattern,
 ) -> Result<Vec<SortTest>, CompileError>
     ensures tests { let g = signature_view signature.now in IfOk result (λ tests. IsVerifiedLeft g (view left.now) → (v : Valuation) → IsSorted g (instance g v (view left.now)) → AllByRecursion (HasHead g v) tests.items ↔ GivesSorts g v (free_variables (view left.now))) }
+    ensures reads { IfOk result (λ tests. are_named (names_seen names.now) (free_variables (view left.now)) ≡ true → tests_read (names_seen names.now) tests.items ≡ true) }
     ensures refused { IfErr result (λ e. IsVerifiedLeftTerm (signature_view signature.now) (view left.now) → e ≡ Memory) }
 {
     let mut tests = Vec::new(alloc);
-    add_tests(left, alloc, signature, None, &mut tests)?;
+    add_tests(left, alloc, signature, None, names, &mut tests)?;
     Ok(tests)
 }
 
@@ -43,19 +49,21 @@ fn add_tests(
     alloc: Global,
     signature: &Signature,
     given: Option<&Sort>,
+    names: &NameSet,
     tests: &mut Vec<SortTest>,
 ) -> Result<(), CompileError>
     ensures tests { let g = signature_view signature.now in let pattern' = view pattern.now in OnOk result ((v : Valuation) → IsGiven g given.entry (instance g v pattern') → Adds g v tests.old.items tests.new.items (free_variables pattern')) }
+    ensures reads { OnOk result (ReadMore (names_seen names.now) (free_variables (view pattern.now)) tests.old.items tests.new.items) }
     ensures refused { IfErr result (λ e. IsVerifiedLeftTerm (signature_view signature.now) (view pattern.now) → e ≡ Memory) }
 {
     match pattern {
-        Pattern::Variable { name, sort } => Ok(add_test(alloc, name, sort, given, tests)?),
+        Pattern::Variable { name, sort } => Ok(add_test(alloc, name, sort, given, names, tests)?),
         Pattern::Literal { .. } => Ok(()),
         Pattern::Application {
             symbol,
             arguments,
             ..
-        } => add_tests_of_applied(arguments, alloc, signature, symbol, tests),
+        } => add_tests_of_applied(arguments, alloc, signature, symbol, names, tests),
         _ => Err(CompileError::Shape),
     }
 }
@@ -67,19 +75,21 @@ fn add_tests_of_applied(
     alloc: Global,
     signature: &Signature,
     symbol: &Name,
+    names: &NameSet,
     tests: &mut Vec<SortTest>,
 ) -> Result<(), CompileError>
     ensures tests { let g = signature_view signature.now in let arguments' = patterns_view arguments.now in let the_string_bytes = string_bytes symbol.now in OnOk result ((v : Valuation) → IsSorted g (applied (meaning_named g the_string_bytes) the_string_bytes (instances g v arguments')) → Adds g v tests.old.items tests.new.items (all_free_variables arguments')) }
+    ensures reads { OnOk result (ReadMore (names_seen names.now) (all_free_variables (patterns_view arguments.now)) tests.old.items tests.new.items) }
     ensures refused { let g = signature_view signature.now in let arguments' = patterns_view arguments.now in IfErr result (λ e. (ss : KoreSorts) → IsVerifiedLeftTerm g (application (string_bytes symbol.now) ss arguments') → e ≡ Memory) }
 {
     match meaning_of(signature, symbol) {
         Meaning::Injection => match arguments {
-            [argument] => add_tests(argument, alloc, signature, None, tests),
+            [argument] => add_tests(argument, alloc, signature, None, names, tests),
             _ => Err(CompileError::Shape),
         },
         Meaning::Constructor => match signature.symbol(symbol) {
             Some(found) => {
-                add_tests_of_arguments(arguments, alloc, signature, &found.arguments, tests)
+                add_tests_of_arguments(arguments, alloc, signature, &found.arguments, names, tests)
             }
             None => Err(CompileError::Shape),
         },
@@ -95,16 +105,25 @@ fn add_tests_of_arguments(
     alloc: Global,
     signature: &Signature,
     places: &[Sort],
+    names: &NameSet,
     tests: &mut Vec<SortTest>,
 ) -> Result<(), CompileError>
     ensures tests { let g = signature_view signature.now in let patterns' = patterns_view patterns.now in let places' = sorts_view places.now in OnOk result ((v : Valuation) → HaveSorts g places' (instances g v patterns') → Adds g v tests.old.items tests.new.items (all_free_variables patterns')) }
+    ensures reads { OnOk result (ReadMore (names_seen names.now) (all_free_variables (patterns_view patterns.now)) tests.old.items tests.new.items) }
     ensures refused { let g = signature_view signature.now in IfErr result (λ e. length patterns.now ≡ length places.now → AllByRecursion (λ p. IsVerifiedLeftTerm g (view p)) patterns.now → e ≡ Memory) }
 {
     if patterns.len() != places.len() {
         return Err(CompileError::Shape);
     }
     for i in 0..patterns.len() {
-        add_tests(&patterns[i], alloc, signature, Some(&places[i]), tests)?;
+        add_tests(
+            &patterns[i],
+            alloc,
+            signature,
+            Some(&places[i]),
+            names,
+            tests,
+        )?;
     }
     Ok(())
 }
@@ -125,15 +144,18 @@ fn add_test(
     name: &Name,
     sort: &Sort,
     given: Option<&Sort>,
+    names: &NameSet,
     tests: &mut Vec<SortTest>,
 ) -> Result<(), AllocError>
-    ensures { OnOk result ((g : KoreSignature) (v : Valuation) → IsGiven g given.entry (v (string_bytes name.now)) → Adds g v tests.old.items tests.new.items (record { name = string_bytes name.now; sort = sort_view sort.now } ∷ [])) }
+    ensures reads { OnOk result (is_one_of (string_bytes name.now) (names_seen names.now) ≡ true → tests_read (names_seen names.now) tests.old.items ≡ true → tests_read (names_seen names.now) tests.new.items ≡ true) }
+    ensures tests { OnOk result ((g : KoreSignature) (v : Valuation) → IsGiven g given.entry (v (string_bytes name.now)) → Adds g v tests.old.items tests.new.items (record { name = string_bytes name.now; sort = sort_view sort.now } ∷ [])) }
 {
     if gives(given, sort) {
         return Ok(());
     }
     tests.push(SortTest {
         name: name.clone()?,
+        slot: slot_of(names, name.as_str()),
         sort: sort.copy(alloc)?,
     })?;
     Ok(())

@@ -1,5 +1,5 @@
 use crate::texts::{pattern, signature};
-use kp_compile::{CompileError, compile_condition, compile_left, compile_term};
+use kp_compile::{CompileError, compile_condition, compile_left, compile_term, no_names};
 use kp_ground::Value;
 use kp_kore::Pattern;
 use kp_signature::Signature;
@@ -22,7 +22,7 @@ endmodule []
 fn are_refused(alloc: Global, text: &str) -> Result<(bool, bool), Fail> {
     let signature = signature(alloc, SMALL)?;
     let pattern = pattern(alloc, text)?;
-    let term = compile_term(alloc, &signature, &pattern);
+    let term = compile_term(alloc, &signature, &no_names(alloc), &pattern);
     let left = compile_left(alloc, &signature, &pattern);
     Ok((
         matches!(term, Err(CompileError::Shape)),
@@ -52,7 +52,7 @@ fn terms_are_compiled_or_refused(rt: HostRuntime) -> Result<(), Fail> {
 
 /// The value of a closed term.
 fn value_of(alloc: Global, signature: &Signature, pattern: &Pattern) -> Result<Value, Fail> {
-    let term = compile_term(alloc, signature, pattern).map_err(|_| "no term")?;
+    let term = compile_term(alloc, signature, &no_names(alloc), pattern).map_err(|_| "no term")?;
     Ok(term.evaluate(alloc, &[]).map_err(|_| "no value")?)
 }
 
@@ -67,7 +67,10 @@ fn value(alloc: Global, text: &str) -> Result<Value, Fail> {
 fn holds(alloc: Global, text: &str) -> Result<bool, Fail> {
     let signature = signature(alloc, SMALL)?;
     let pattern = pattern(alloc, text)?;
-    let condition = compile_condition(alloc, &signature, &[&pattern]).map_err(|_| "no condition")?;
+    let names = no_names(alloc);
+    let condition = compile_condition(alloc, &signature, &names, &[&pattern]).map_err(
+        |_| "no condition",
+    )?;
     Ok(condition.holds(alloc, &[]).map_err(|_| "no truth")?)
 }
 

@@ -1,5 +1,5 @@
 use crate::texts::{axiom, pattern, signature};
-use kp_compile::compile_term;
+use kp_compile::{compile_term, no_names};
 use kp_ground::Value;
 use kp_kore::{Pattern, Sort};
 use kp_rule_reading::{RuleError, label_of, read_rule};
@@ -60,7 +60,7 @@ endmodule []
 /// The value of a closed term's text.
 fn value(alloc: Global, signature: &Signature, text: &str) -> Result<Value, Fail> {
     let pattern = pattern(alloc, text)?;
-    let term = compile_term(alloc, signature, &pattern).map_err(|_| "no term")?;
+    let term = compile_term(alloc, signature, &no_names(alloc), &pattern).map_err(|_| "no term")?;
     Ok(term.evaluate(alloc, &[]).map_err(|_| "no value")?)
 }
 

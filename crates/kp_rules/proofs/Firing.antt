@@ -1,27 +1,24 @@
 -- Where a rule fires, from its match, its tests and its condition.
-use Rattle.std.proofs.Common.{◌≡◌, refl, sym, subst, ◌∙◌, ℕ, ◌+◌, ◌<◌, Bool, true, false, not, ◌↔◌, List, [], ◌∷◌, length, get_or, drop, string_bytes}
-use Rattle.std.specs.Prelude.{⊤, Option, Some, None, Ok, Err, Vec, MatchOption}
+use Rattle.std.proofs.Common.{◌≡◌, refl, sym, ap, subst, ◌∙◌, ℕ, ◌+◌, ◌<◌, Bool, true, false, ◌↔◌, List, [], length, get_or, drop}
+use Rattle.std.specs.Prelude.{⊤, Option, Some, None, Ok, Err, Vec, MatchOption, IfSome}
 use Rattle.std.specs.declared.alloc.Global.{Global}
 use Rattle.std.specs.List.{AllByRecursion}
 use Rattle.std.proofs.lemmas.List.{drop_more}
-use Rattle.std.proofs.lemmas.List.Folds.{list_any_at}
-use Rattle.kp_kore.specs.Syntax.{Text}
 use Rattle.kp_kore.specs.Signature.{KoreSignature}
 use Rattle.kp_semantics.specs.Value as model
 use Rattle.kp_semantics.specs.Instance.{Valuation}
+use Rattle.kp_ground.specs.Slots.{left_variables}
 use Rattle.kp_ground.specs.Solves.{Solves, bound_names}
-use Rattle.kp_ground.specs.Terms.{bound, left_names, is_one_of}
-use Rattle.kp_ground.specs.LeftView.{left_view}
-use Rattle.kp_ground.proofs.Bound.{bound_by_match, lacks_fewer, condition_lacks_fewer, by_left, by_right, either_of}
 use Rattle.kp_ground.specs.Matches.{IsSolvable}
-use Rattle.kp_ground.specs.Conditions.{condition_holds, condition_narrow, condition_lacks}
+use Rattle.kp_ground.specs.Conditions.{condition_holds, condition_narrow}
 use Rattle.kp_ground.specs.ConditionView.{condition_view, GivesTruth}
 use Rattle.kp_ground.specs.declared.binding.Binding.{Binding}
+use Rattle.kp_ground.specs.declared.left.Left.{Left}
 use Rattle.kp_ground.specs.declared.evaluate.EvaluationError.{EvaluationError}
-use Rattle.kp_ground.specs.declared.evaluate.EvaluationError.TheVariants.{Memory, Number, Unbound}
+use Rattle.kp_ground.specs.declared.evaluate.EvaluationError.TheVariants.{Memory, Number}
 use Rattle.kp_rules.specs.declared.rule.Rewrite.{Rewrite}
 use Rattle.kp_rules.specs.declared.rule.SortTest.{SortTest}
-use Rattle.kp_rules.specs.Heads.{HasHead, FiresAs, Meets, FindsFiring, IsWide, Binds, PassAs, tests_lack, is_side_open}
+use Rattle.kp_rules.specs.Heads.{HasHead, FiresAs, Meets, FindsFiring, IsWide, Binds, PassAs}
 
 -- all of a list pass exactly where what is left of it does
 abbrev pub Rests : KoreSignature → List Binding → List SortTest → ℕ → Type 0
@@ -76,29 +73,16 @@ fires_kept g r bindings u passed holds (Some kept) e gives so binds pass = λ v.
   (λ f. subst (Solves v) (sym so.0) ((binds v).1 f.0.matches)),
 )
 
--- ---- variables that the left term hasn't
-
-tests_lack_fewer : (xs ys : List Text) → ((x : Text) → is_one_of x xs ≡ true → is_one_of x ys ≡ true) → (ts : List SortTest) → tests_lack ys ts ≡ true → tests_lack xs ts ≡ true
-tests_lack_fewer xs ys all [] h = h
-tests_lack_fewer xs ys all (t ∷ ts) h =
-    either_of (not (is_one_of (string_bytes t.name) ys)) (tests_lack ys ts) (not (is_one_of (string_bytes t.name) xs)) (tests_lack xs ts)
-    (lacks_fewer xs ys all (bound (string_bytes t.name))) (tests_lack_fewer xs ys all ts) h
-
-pub open_test : (r : Rewrite) (bindings : List Binding) (u : model.Value) → Binds r bindings u → IsSolvable bindings → tests_lack (bound_names bindings) r.tests.items ≡ true → is_side_open r ≡ true
-open_test r bindings u binds solvable h =
-    by_left (tests_lack (left_names (left_view r.left)) r.tests.items) (condition_lacks (left_names (left_view r.left)) (condition_view r.condition))
-    (tests_lack_fewer (left_names (left_view r.left)) (bound_names bindings) (bound_by_match (left_view r.left) bindings u (λ v s. (binds v).0 s) solvable) r.tests.items h)
-
-pub one_lacks : (xs : List Text) (tests : List SortTest) (i : ℕ) (t : SortTest) → i < length tests → t ≡ get_or tests i t → not (is_one_of (string_bytes t.name) xs) ≡ true → tests_lack xs tests ≡ true
-one_lacks xs tests i t h e lacks = list_any_at (λ t. not (is_one_of (string_bytes t.name) xs)) tests i t h (subst (λ t. not (is_one_of (string_bytes t.name) xs) ≡ true) e lacks)
-
 pub fires_not_told : (g : KoreSignature) (r : Rewrite) (bindings : List Binding) (u : model.Value) (e : EvaluationError) →
-    GivesTruth (Err e) bindings (condition_view r.condition) → Binds r bindings u → IsSolvable bindings → FindsFiring (Err e) g r u
-fires_not_told g r bindings u Memory gives binds solvable = tt
-fires_not_told g r bindings u Number gives binds solvable = λ v m. gives v ((binds v).1 m.matches)
-fires_not_told g r bindings u Unbound gives binds solvable =
-    by_right (tests_lack (left_names (left_view r.left)) r.tests.items) (condition_lacks (left_names (left_view r.left)) (condition_view r.condition))
-    (condition_lacks_fewer (left_names (left_view r.left)) (bound_names bindings) (bound_by_match (left_view r.left) bindings u (λ v s. (binds v).0 s) solvable) (condition_view r.condition) gives)
+    GivesTruth (Err e) bindings (condition_view r.condition) → Binds r bindings u → FindsFiring (Err e) g r u
+fires_not_told g r bindings u Memory gives binds = tt
+fires_not_told g r bindings u Number gives binds = λ v m. gives v ((binds v).1 m.matches)
+
+-- what is kept has the names of the bindings
+pub kept_bound : (l : Left) (bindings : List Binding) (holds : Bool) (o : Option (Vec Binding Global)) → MatchOption o (holds ≡ false) (λ kept. (kept.items ≡ bindings) × (holds ≡ true)) →
+    bound_names bindings ≡ left_variables l → IfSome o (λ new. bound_names new.items ≡ left_variables l)
+kept_bound l bindings holds None kept e = tt
+kept_bound l bindings holds (Some new) kept e = ap bound_names kept.0 ∙ e
 
 -- ---- numbers beyond 128 bits
 

@@ -97,13 +97,13 @@ assigned_there : (v : Valuation) (x y : Text) (u : Value) (b : Bool) → bytes_e
 assigned_there v x y u true e n = let h : x ≡ y = (bytes_eq-Decides x y).0 e in absurd (n (sym h))
 assigned_there v x y u false e n = rw e refl
 
-fresh_solves : (v : Valuation) (x : Text) (u : Value) (bs : List Binding) → AllByRecursion (λ b. string_bytes b.name ≢ x) bs → Solves v bs → Solves (assigned v x u) bs
+fresh_solves : (v : Valuation) (x : Text) (u : Value) (bs : List Binding) → AllByRecursion (λ b. string_bytes b.name.value ≢ x) bs → Solves v bs → Solves (assigned v x u) bs
 fresh_solves v x u [] n s = tt
-fresh_solves v x u (b ∷ bs) n s = (assigned_there v x (string_bytes b.name) u _ refl n.0 ∙ s.0, fresh_solves v x u bs n.1 s.1)
+fresh_solves v x u (b ∷ bs) n s = (assigned_there v x (string_bytes b.name.value) u _ refl n.0 ∙ s.0, fresh_solves v x u bs n.1 s.1)
 
-pub fresh_solvable : (x : Text) (u : Value) (old new : List Binding) → All (λ b. string_bytes b.name ≢ x) old → ((v : Valuation) → Solves v new ↔ (Solves v old × (v x ≡ u))) → IsSolvable old → IsSolvable new
+pub fresh_solvable : (x : Text) (u : Value) (old new : List Binding) → All (λ b. string_bytes b.name.value ≢ x) old → ((v : Valuation) → Solves v new ↔ (Solves v old × (v x ≡ u))) → IsSolvable old → IsSolvable new
 fresh_solvable x u old new n same s =
-    (assigned s.0 x u, (same (assigned s.0 x u)).1 (fresh_solves s.0 x u old (recursion_from_All (λ b. string_bytes b.name ≢ x) old n) s.1, assigned_here s.0 x u _ refl))
+    (assigned s.0 x u, (same (assigned s.0 x u)).1 (fresh_solves s.0 x u old (recursion_from_All (λ b. string_bytes b.name.value ≢ x) old n) s.1, assigned_here s.0 x u _ refl))
 
 -- ---- lists, by what is left of them
 

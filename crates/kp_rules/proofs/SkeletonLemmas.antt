@@ -4,7 +4,8 @@ use Rattle.std.specs.Prelude.{Option, Some, None, MatchBool, unwrap_or}
 use Rattle.std.specs.Option.{option_map}
 use Rattle.std.specs.List.{AllZip}
 use Rattle.kp_kore.specs.Syntax.{Text, KoreSort, sort_of, sort_variable, KoreSorts, KorePattern, variable, set_variable, application, string_literal, literal, top, bottom, negation, next, conjunction, disjunction, implication, equivalence, rewriting, exists, forall, ceil, floor, equals, membership, mu, nu}
-use Rattle.kp_kore.specs.Signature.{KoreSignature, meaning_of, construction, injection}
+use Rattle.kp_kore.specs.Hooks.{Hook}
+use Rattle.kp_kore.specs.Signature.{KoreSignature, meaning_of, construction, injection, interpretation, foreign}
 use Rattle.kp_kore.specs.Sorting.{sort_of_term, result_sort}
 use Rattle.kp_kore.specs.View.{view, patterns_view}
 use Rattle.kp_kore.specs.declared.pattern.Pattern.{Pattern}
@@ -63,6 +64,18 @@ injection_any g n f ss ps k m unsplit e = λ v u.
       (λ a. inr (unsplit, any.0 a)),
       (λ s. elim s [ inl p ↦ absurd (unsplit p.0) | inr q ↦ any.1 q.1 ]),
     )
+
+pub interpreted_any : (g : KoreSignature) (n : ℕ) (f : Text) (ss : KoreSorts) (ps : List Pattern) (k : Form) (h : Hook) → meaning_of g f ≡ interpretation h →
+    k ≡ maybe_form (result_sort g f ss) → StandsFor g (suc n) (application f ss (patterns_view ps)) k
+interpreted_any g n f ss ps k h m e = λ v u.
+    let any : Admits g v (maybe_form (result_sort g f ss)) u ↔ IsAnyOfMaybe g (result_sort g f ss) u = maybe_stands g v (result_sort g f ss) u in
+    rw (e, m) any
+
+pub foreign_any : (g : KoreSignature) (n : ℕ) (f : Text) (ss : KoreSorts) (ps : List Pattern) (k : Form) → meaning_of g f ≡ foreign →
+    k ≡ maybe_form (result_sort g f ss) → StandsFor g (suc n) (application f ss (patterns_view ps)) k
+foreign_any g n f ss ps k m e = λ v u.
+    let any : Admits g v (maybe_form (result_sort g f ss)) u ↔ IsAnyOfMaybe g (result_sort g f ss) u = maybe_stands g v (result_sort g f ss) u in
+    rw (e, m) any
 
 -- ---- lists
 

@@ -1,20 +1,19 @@
 -- Where a rule that is read fires, in the words of its parts.
-use Rattle.std.specs.Prelude.{◌≡◌, Bool, true, not, ◌||◌, List, Option, Some, None, Result, Ok, Err, Vec, string_bytes, ◌↔◌, IsTrue, false}
-use Rattle.std.specs.List.{AllByRecursion, list_any}
+use Rattle.std.specs.Prelude.{◌≡◌, Bool, true, List, Option, Some, None, Result, Ok, Err, Vec, string_bytes, ◌↔◌, IsTrue, false}
+use Rattle.std.specs.List.{AllByRecursion}
 use Rattle.std.specs.declared.alloc.Global.{Global}
-use Rattle.kp_kore.specs.Syntax.{Text}
 use Rattle.kp_kore.specs.Signature.{KoreSignature, IsHeadOf}
 use Rattle.kp_kore.specs.View.{sort_view}
 use Rattle.kp_semantics.specs.Value as model
 use Rattle.kp_semantics.specs.Instance.{Valuation}
-use Rattle.kp_ground.specs.Terms.{left_value, left_names, is_one_of}
+use Rattle.kp_ground.specs.Terms.{left_value}
 use Rattle.kp_ground.specs.LeftView.{left_view}
-use Rattle.kp_ground.specs.Conditions.{condition_holds, condition_narrow, condition_lacks}
+use Rattle.kp_ground.specs.Conditions.{condition_holds, condition_narrow}
 use Rattle.kp_ground.specs.ConditionView.{condition_view}
 use Rattle.kp_ground.specs.Solves.{Solves}
 use Rattle.kp_ground.specs.declared.binding.Binding.{Binding}
 use Rattle.kp_ground.specs.declared.evaluate.EvaluationError.{EvaluationError}
-use Rattle.kp_ground.specs.declared.evaluate.EvaluationError.TheVariants.{Memory, Number, Unbound}
+use Rattle.kp_ground.specs.declared.evaluate.EvaluationError.TheVariants.{Memory, Number}
 use Rattle.kp_rules.specs.declared.rule.SortTest.{SortTest}
 use Rattle.kp_rules.specs.declared.rule.Rewrite.{Rewrite}
 
@@ -45,20 +44,10 @@ pub record IsWide (g : KoreSignature) (r : Rewrite) (u : model.Value) : Type 0 w
   pub meets : Meets g r valuation u
   pub wide : condition_narrow valuation (condition_view r.condition) ≡ false
 
--- some tested variable isn't among these names
-abbrev pub tests_lack : List Text → List SortTest → Bool
-tests_lack xs ts = list_any (λ t. not (is_one_of (string_bytes t.name) xs)) ts
-
--- some tested variable, or one of the condition, doesn't stand in the left term
-abbrev pub is_side_open : Rewrite → Bool
-is_side_open r = tests_lack (left_names (left_view r.left)) r.tests.items || condition_lacks (left_names (left_view r.left)) (condition_view r.condition)
-
 -- bindings are found exactly where a valuation fires, and are solved by exactly those; Number tells that the condition
--- has a number beyond 128 bits under each valuation that meets the left side; Unbound only of a rule whose condition or
--- tests have a variable that its left term hasn't
+-- has a number beyond 128 bits under each valuation that meets the left side
 abbrev pub FindsFiring : Result (Option (Vec Binding Global)) EvaluationError → KoreSignature → Rewrite → model.Value → Type 0
 FindsFiring (Ok (Some bindings)) g r u = (v : Valuation) → Solves v bindings.items ↔ FiresAs g r u v
 FindsFiring (Ok None) g r u = (v : Valuation) → ¬ FiresAs g r u v
 FindsFiring (Err Number) g r u = (v : Valuation) → Meets g r v u → condition_narrow v (condition_view r.condition) ≡ false
 FindsFiring (Err Memory) g r u = Unit {0}
-FindsFiring (Err Unbound) g r u = is_side_open r ≡ true

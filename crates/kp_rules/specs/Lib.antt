@@ -1,4 +1,5 @@
 pub mod Bodies
+pub mod Bound
 pub mod Heads
 pub mod OwnSorts
 pub mod Shapes

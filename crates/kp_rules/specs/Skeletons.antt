@@ -33,7 +33,7 @@ abbrev pub skeleton_step : Skeleton-F Form → Form
 skeleton_step Skeleton-F.Anything = anything
 skeleton_step Skeleton-F.Nothing = nothing
 skeleton_step (Skeleton-F.Any s) = any_of (sort_view s)
-skeleton_step (Skeleton-F.Variable x s) = one_of (string_bytes x) (sort_view s)
+skeleton_step (Skeleton-F.Variable x s) = one_of (string_bytes x.value) (sort_view s)
 skeleton_step (Skeleton-F.Fixed u) = fixed (value_view u)
 skeleton_step (Skeleton-F.Built c ks) = built (string_bytes c.value) (forms_of ks.items)
 

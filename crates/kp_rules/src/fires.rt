@@ -1,5 +1,5 @@
 // Where a rule that is read fires.
-ghost use Rattle.std.specs.Prelude.{◌≡◌, ◌↔◌, not, string_bytes, IfOk, IfErr, IsTrue, IfSome, IfNone, MatchOption, true, false};
+ghost use Rattle.std.specs.Prelude.{◌≡◌, ◌↔◌, string_bytes, IfOk, IfErr, IsTrue, IfSome, MatchOption, true, false};
 ghost use Rattle.std.specs.List.{AllByRecursion};
 ghost use Rattle.kp_kore.specs.Signature.{KoreSignature};
 ghost use Rattle.kp_signature.specs.View.{signature_view};
@@ -7,35 +7,35 @@ ghost use Rattle.kp_semantics.specs.Value as model;
 ghost use Rattle.kp_semantics.specs.Instance.{Valuation};
 ghost use Rattle.kp_ground.specs.Solves.{Solves, bound_names};
 ghost use Rattle.kp_ground.specs.Matches.{IsSolvable};
-ghost use Rattle.kp_ground.specs.Terms.{left_value, is_one_of};
+ghost use Rattle.kp_ground.specs.Slots.{stands_at, left_variables};
+ghost use Rattle.kp_ground.specs.Terms.{left_value};
 ghost use Rattle.kp_ground.specs.LeftView.{left_view};
 ghost use Rattle.kp_ground.specs.View.{value_view};
 ghost use Rattle.kp_ground.specs.Conditions.{condition_narrow};
 ghost use Rattle.kp_ground.specs.ConditionView.{condition_view};
 ghost use Rattle.kp_ground.specs.declared.evaluate.EvaluationError.TheVariants.{Number};
-ghost use Rattle.kp_rules.specs.Heads.{HasHead, Meets, FindsFiring, IsWide, Binds, PassAs, tests_lack};
+ghost use Rattle.kp_rules.specs.Bound.{tests_read};
+ghost use Rattle.kp_rules.specs.Heads.{HasHead, Meets, FindsFiring, IsWide, Binds, PassAs};
 
 use crate::rule::{Rewrite, SortTest};
 use crate::values::has_sort;
-use kp_ground::binding::find_binding;
+use kp_ground::binding::bound_at;
 use kp_ground::{Binding, EvaluationError, Value};
 use kp_signature::Signature;
 use std::alloc::{AllocError, Global};
 
-/// Whether a tested variable is bound to a value of its sort; None where it isn't bound.
+/// Whether a tested variable is bound to a value of its sort.
 fn passes(
     test: &SortTest,
     alloc: Global,
     signature: &Signature,
     bindings: &[Binding],
-) -> Result<Option<bool>, AllocError>
-    ensures passed { IfOk result (λ o. IfSome o (λ b. (v : Valuation) → Solves v bindings.now → IsTrue b ↔ HasHead (signature_view signature.now) v test.now)) }
-    ensures unbound { IfOk result (λ o. IfNone o (not (is_one_of (string_bytes test.now.name) (bound_names bindings.now)) ≡ true)) }
+) -> Result<bool, AllocError>
+    requires { stands_at (bound_names bindings.now) (string_bytes test.now.name) test.now.slot ≡ true }
+    ensures { IfOk result (λ b. (v : Valuation) → Solves v bindings.now → IsTrue b ↔ HasHead (signature_view signature.now) v test.now) }
 {
-    match find_binding(bindings, test.name.as_str()) {
-        Some(value) => Ok(Some(has_sort(alloc, signature, value, &test.sort)?)),
-        None => Ok(None),
-    }
+    let value = bound_at(bindings, test.slot);
+    Ok(has_sort(alloc, signature, value, &test.sort)?)
 }
 
 /// The same of all tested variables.
@@ -44,21 +44,17 @@ fn pass(
     alloc: Global,
     signature: &Signature,
     bindings: &[Binding],
-) -> Result<Option<bool>, AllocError>
-    ensures passed { IfOk result (λ o. IfSome o (λ b. (v : Valuation) → Solves v bindings.now → IsTrue b ↔ AllByRecursion (HasHead (signature_view signature.now) v) tests.now)) }
-    ensures unbound { IfOk result (λ o. IfNone o (tests_lack (bound_names bindings.now) tests.now ≡ true)) }
+) -> Result<bool, AllocError>
+    requires { tests_read (bound_names bindings.now) tests.now ≡ true }
+    ensures { IfOk result (λ b. (v : Valuation) → Solves v bindings.now → IsTrue b ↔ AllByRecursion (HasHead (signature_view signature.now) v) tests.now) }
 {
     for test in tests {
-        match passes(test, alloc, signature, bindings)? {
-            Some(passed) => {
-                if !passed {
-                    return Ok(Some(false));
-                }
-            }
-            None => return Ok(None),
+        let passed = passes(test, alloc, signature, bindings)?;
+        if !passed {
+            return Ok(false);
         }
     }
-    Ok(Some(true))
+    Ok(true)
 }
 
 impl Rewrite {
@@ -72,6 +68,7 @@ impl Rewrite {
     ) -> Result<Option<Vec<Binding>>, EvaluationError>
         ensures firing { FindsFiring result (signature_view signature.now) self.now (value_view value.now) }
         ensures solvable { IfOk result (λ o. IfSome o (λ new. IsSolvable new.items)) }
+        ensures bound { IfOk result (λ o. IfSome o (λ new. bound_names new.items ≡ left_variables self.now.left)) }
         ensures number { IfErr result (λ e. e ≡ Number → IsWide (signature_view signature.now) self.now (value_view value.now)) }
         ensures narrow { IfOk result (λ o. (v : Valuation) → Meets (signature_view signature.now) self.now v (value_view value.now) → condition_narrow v (condition_view self.now.condition) ≡ true) }
     {
@@ -88,15 +85,15 @@ impl Rewrite {
         signature: &Signature,
         bindings: Vec<Binding>,
     ) -> Result<Option<Vec<Binding>>, EvaluationError>
+        requires { bound_names bindings.items ≡ left_variables self.now.left }
+        ensures bound { IfOk result (λ o. IfSome o (λ new. bound_names new.items ≡ left_variables self.now.left)) }
         ensures solvable { IsSolvable bindings.items → IfOk result (λ o. IfSome o (λ new. IsSolvable new.items)) }
         ensures firing { (u : model.Value) → Binds self.now bindings.items u → IsSolvable bindings.items → FindsFiring result (signature_view signature.now) self.now u }
         ensures number { (u : model.Value) → Binds self.now bindings.items u → IsSolvable bindings.items → IfErr result (λ e. e ≡ Number → IsWide (signature_view signature.now) self.now u) }
         ensures narrow { (u : model.Value) → Binds self.now bindings.items u → IfOk result (λ o. (v : Valuation) → Meets (signature_view signature.now) self.now v u → condition_narrow v (condition_view self.now.condition) ≡ true) }
     {
-        match pass(&self.tests, alloc, signature, &bindings)? {
-            Some(passed) => self.fires_where(alloc, passed, bindings),
-            None => Err(EvaluationError::Unbound),
-        }
+        let passed = pass(&self.tests, alloc, signature, &bindings)?;
+        self.fires_where(alloc, passed, bindings)
     }
 
     /// What the rule's variables are bound to, where its condition holds under these bindings.
@@ -106,6 +103,8 @@ impl Rewrite {
         passed: bool,
         bindings: Vec<Binding>,
     ) -> Result<Option<Vec<Binding>>, EvaluationError>
+        requires { bound_names bindings.items ≡ left_variables self.now.left }
+        ensures bound { IfOk result (λ o. IfSome o (λ new. bound_names new.items ≡ left_variables self.now.left)) }
         ensures solvable { IsSolvable bindings.items → IfOk result (λ o. IfSome o (λ new. IsSolvable new.items)) }
         ensures firing { (g : KoreSignature) (u : model.Value) → Binds self.now bindings.items u → PassAs g self.now bindings.items passed → IsSolvable bindings.items → FindsFiring result g self.now u }
         ensures number { (g : KoreSignature) (u : model.Value) → Binds self.now bindings.items u → PassAs g self.now bindings.items passed → IsSolvable bindings.items → IfErr result (λ e. e ≡ Number → IsWide g self.now u) }

@@ -15,7 +15,7 @@ use crate::skeleton::Skeleton;
 use crate::values::has_sort;
 use kp_ground::binding::find_binding;
 use kp_ground::{Binding, Value};
-use kp_kore::{Name, Sort};
+use kp_kore::Sort;
 use kp_signature::Signature;
 use std::alloc::{AllocError, Global};
 use std::sync::Arc;
@@ -132,11 +132,11 @@ fn match_one(
     alloc: Global,
     signature: &Signature,
     value: &Value,
-    name: &Name,
+    name: &Arc<String>,
     sort: &Sort,
     bindings: Vec<Binding>,
 ) -> Result<Option<Vec<Binding>>, AllocError>
-    ensures same { Matches result bindings.items (λ v. (v (string_bytes name.now) ≡ value_view value.now) × IsHeadOf (signature_view signature.now) (sort_view sort.now) (head_of (value_view value.now))) }
+    ensures same { Matches result bindings.items (λ v. (v (string_bytes name.now.value) ≡ value_view value.now) × IsHeadOf (signature_view signature.now) (sort_view sort.now) (head_of (value_view value.now))) }
     ensures solvable { IsSolvable bindings.items → IfOk result (λ o. IfSome o (λ new. IsSolvable new.items)) }
 {
     if has_sort(alloc, signature, value, sort)? {
@@ -148,7 +148,7 @@ fn match_one(
 
 /// Whether the variable is bound to this value; None where it isn't bound.
 fn is_bound_to(bindings: &[Binding], name: &str, value: &Value) -> Option<bool>
-    ensures { MatchOption result (All (λ b. string_bytes b.name ≢ name.now) bindings.now) (λ b. (v : Valuation) → Solves v bindings.now → IsTrue b ↔ (v name.now ≡ value_view value.now)) }
+    ensures { MatchOption result (All (λ b. string_bytes b.name.value ≢ name.now) bindings.now) (λ b. (v : Valuation) → Solves v bindings.now → IsTrue b ↔ (v name.now ≡ value_view value.now)) }
 {
     match find_binding(bindings, name) {
         Some(bound) => Some(bound.equal(value)),
@@ -159,11 +159,11 @@ fn is_bound_to(bindings: &[Binding], name: &str, value: &Value) -> Option<bool>
 /// The bindings with one more.
 fn with_binding(
     alloc: Global,
-    name: &Name,
+    name: &Arc<String>,
     value: &Value,
     mut bindings: Vec<Binding>,
 ) -> Result<Vec<Binding>, AllocError>
-    ensures { IfOk result (λ new. (v : Valuation) → Solves v new.items ↔ (Solves v bindings.items × (v (string_bytes name.now) ≡ value_view value.now))) }
+    ensures { IfOk result (λ new. (v : Valuation) → Solves v new.items ↔ (Solves v bindings.items × (v (string_bytes name.now.value) ≡ value_view value.now))) }
 {
     bindings.push(Binding {
         name: name.clone()?,
@@ -175,11 +175,11 @@ fn with_binding(
 /// Binds a variable to a value, or compares it with what the variable is bound to.
 fn match_variable(
     alloc: Global,
-    name: &Name,
+    name: &Arc<String>,
     value: &Value,
     bindings: Vec<Binding>,
 ) -> Result<Option<Vec<Binding>>, AllocError>
-    ensures same { Matches result bindings.items (λ v. v (string_bytes name.now) ≡ value_view value.now) }
+    ensures same { Matches result bindings.items (λ v. v (string_bytes name.now.value) ≡ value_view value.now) }
     ensures solvable { IsSolvable bindings.items → IfOk result (λ o. IfSome o (λ new. IsSolvable new.items)) }
 {
     match is_bound_to(&bindings, name.as_str(), value) {

@@ -1,4 +1,10 @@
+ghost use Rattle.std.specs.Prelude.{◌≡◌, true};
+ghost use Rattle.std.proofs.Props.{props};
+ghost use Rattle.kp_ground.specs.Slots.{left_variables};
+ghost use Rattle.kp_rules.specs.Bound.{is_left_bound, is_right_bound, names_of_choice};
+
 use crate::skeleton::Skeleton;
+use kp_compile::NameSet;
 use kp_ground::{Condition, Left, Term};
 use kp_kore::{Name, Pattern, Sort, SortedVariable};
 use std::sync::Arc;
@@ -32,7 +38,8 @@ pub enum RuleBody {
     Foreign(Skeleton),
 }
 
-/// A rule that is read: matched by `left` and the sort tests, under `condition`, to `right`.
+/// A rule that is read: matched by `left` and the sort tests, under `condition`, to `right`. A match binds the left term's
+/// variables, and what is tested, the condition and, unless the rule chooses, the right term read no others.
 #[derive(Drop)]
 pub struct Rewrite {
     pub left: Left,
@@ -44,6 +51,9 @@ pub struct Rewrite {
     pub chooses: bool,
     /// The right side of a rule that chooses, as its axiom has it.
     pub choice: Option<RightSide>,
+    pub ghost left_bound: { is_left_bound left tests.items condition ≡ true } by { Prim.hlevel props },
+    pub ghost right_bound: { is_right_bound left chooses choice right ≡ true } by { Prim.hlevel props },
+    pub ghost choice_bound: { names_of_choice (left_variables left) choice ≡ left_variables left } by { Prim.hlevel props },
 }
 
 /// The right side of a rule: a term, what it ensures, and the variables that stand for other values each time.
@@ -55,11 +65,14 @@ pub struct RightSide {
     pub new_variables: Vec<SortedVariable>,
     /// The left term's, which have values when the rule fires.
     pub left_variables: Vec<SortedVariable>,
+    /// Their names, each once, by slot.
+    pub left_names: NameSet,
 }
 
-/// A left variable whose place doesn't give its sort, as under `inj` or alone at the top.
+/// A left variable whose place doesn't give its sort, as under `inj` or alone at the top, with its slot.
 #[derive(Drop)]
 pub struct SortTest {
     pub name: String,
+    pub slot: usize,
     pub sort: Sort,
 }

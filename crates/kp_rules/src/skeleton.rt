@@ -42,7 +42,7 @@ pub enum Skeleton {
     },
     /// One value of a sort with literals, the same wherever the variable stands.
     Variable {
-        name: Name,
+        name: Arc<String>,
         sort: Sort,
     },
     Fixed {
@@ -149,7 +149,7 @@ fn one_value(alloc: Global, name: &Name, sort: &Sort) -> Result<Skeleton, AllocE
     ensures { IfOk result (λ k. skeleton_view k ≡ one_of (string_bytes name.now) (sort_view sort.now)) }
 {
     Ok(Skeleton::Variable {
-        name: name.clone()?,
+        name: Arc::new(alloc, name.clone()?)?,
         sort: sort.copy(alloc)?,
     })
 }

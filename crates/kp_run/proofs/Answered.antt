@@ -24,7 +24,7 @@ use Rattle.kp_rules.specs.declared.rule.RuleBody.TheVariants.{Rewrite, Foreign}
 use Rattle.kp_rule_sets.specs.declared.rule_set.RuleSet.{RuleSet}
 use Rattle.kp_rules.proofs.Fired.{fired_under}
 use Rattle.kp_states.specs.declared.state.State.{State}
-use Rattle.kp_run.specs.declared.step.Firing.{Firing}
+use Rattle.kp_run.specs.declared.firing.Firing.{Firing}
 use Rattle.kp_run.specs.Runs.{IsStuck, written_of}
 use Rattle.kp_states.specs.Spelled.{spelling}
 use Rattle.kp_run.specs.Causes.{HasWideCondition, WideRight, HasWideRight, Chooses, IsWrittenAt, IsWrittenAs, IsWrittenBy, StepsTooDeep, IsNotStepped, wide_condition, several, chooses, wide_right, deep}

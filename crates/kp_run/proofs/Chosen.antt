@@ -4,18 +4,16 @@ use Rattle.std.specs.List.{AllByRecursion, list_all}
 use Rattle.std.proofs.lemmas.Bool.Decides.{Decides-eqb, Decides-ltb}
 use Rattle.kp_kore.specs.Signature.{KoreSignature}
 use Rattle.kp_semantics.specs.Value.{Value}
-use Rattle.kp_semantics.specs.Steps.{AnyByRecursion}
 use Rattle.kp_rules.specs.declared.rule.Rule.{Rule}
 use Rattle.kp_rules.specs.declared.rule.RuleBody.{RuleBody}
 use Rattle.kp_rules.specs.declared.rule.RuleBody.TheVariants.{Rewrite, Foreign}
 use Rattle.kp_rule_sets.specs.Tops.{may_have, top_of}
 use Rattle.kp_rule_sets.specs.Turns.{is_mine, number_of, goes_before, are_ordered, AreInTurn, with_first, rules_among}
-use Rattle.kp_rule_sets.proofs.Chosen.{times, times_on, times_more, times_here, some_none, first_same, each_place, all_places, stands, all_back, any_at, found, any_back}
+use Rattle.kp_rule_sets.proofs.Chosen.{times, times_on, times_more, times_here, some_none, first_same, each_place, all_places, stands, all_back, any_at, found}
 use Rattle.kp_rule_sets.proofs.Topped.{not_met, not_admitted}
 use Rattle.kp_run.specs.Causes.{TwoAmong}
 use Rattle.kp_run.specs.Runs.{OneBetween}
-use Rattle.kp_run.specs.Turns.{BodyFires, BodyIsWide, MightRewrite, NoneMight, IsFirstForeign, TellsForeign, GoesAfter, FiresAt, IsFiring, OneAmong, IsTurn}
-use Rattle.kp_run.specs.declared.step.Firing.{Firing}
+use Rattle.kp_run.specs.Turns.{BodyFires, BodyIsWide, MightRewrite, IsFirstForeign, TellsForeign, GoesAfter, FiresAt, IsFiring, OneAmong, IsTurn}
 use Rattle.kp_run.specs.declared.step.Turn.{Turn}
 use Rattle.kp_run.specs.declared.step.Turn.TheVariants.{Nobody, One, Several}
 

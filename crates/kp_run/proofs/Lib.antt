@@ -1,9 +1,9 @@
 pub mod Above
 pub mod Among
 pub mod Answered
+pub mod Bound
 pub mod Causes
 pub mod Chosen
-pub mod Open
 pub mod Runs
 pub mod Shallow
 pub mod States

@@ -5,7 +5,7 @@ use Rattle.kp_semantics.specs.Value.{Value}
 use Rattle.kp_rules.specs.declared.rule.Rule.{Rule}
 use Rattle.kp_run.specs.Shallow.{IsMatchOf}
 use Rattle.kp_run.specs.Turns.{IsFiring, GoesAfter, OneAmong}
-use Rattle.kp_run.specs.declared.step.Firing.{Firing}
+use Rattle.kp_run.specs.declared.firing.Firing.{Firing}
 
 pub match_of : (g : KoreSignature) (u : Value) (f : Firing) (n : ℕ) (rules : List Rule) → OneAmong (IsFiring g u f) (GoesAfter g u n) rules → IsMatchOf f u
 match_of g u f n [] one = absurd one

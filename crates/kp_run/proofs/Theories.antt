@@ -26,7 +26,7 @@ use Rattle.kp_rules.specs.declared.rule.Rewrite as code
 use Rattle.kp_rule_sets.specs.declared.rule_set.RuleSet.{RuleSet}
 use Rattle.kp_rules.proofs.Fired.{fired_under}
 use Rattle.kp_states.specs.declared.state.State.{State}
-use Rattle.kp_run.specs.declared.step.Firing.{Firing}
+use Rattle.kp_run.specs.declared.firing.Firing.{Firing}
 use Rattle.kp_rules.specs.declared.skeleton.Skeleton.{Skeleton}
 use Rattle.kp_run.specs.Runs.{IsAt, IsStuck, IsUnknownAs, IsFirstUnknown, kept_priority, GoesOnlyTo}
 use Rattle.kp_run.specs.Turns.{BodyFires, MightRewrite, NoneMight, IsFirstForeign, GoesAfter, IsFiring, OneAmong, IsAfterFiring}

@@ -1,11 +1,11 @@
 -- One more rule that fires, or doesn't.
-use Rattle.std.proofs.Common.{◌≡◌, refl, sym, subst, ℕ, zero, suc, ◌<◌, ◌≤◌, List, [], ◌∷◌, ◌++◌, ◌+◌, ◌∙◌, Bool, true, false, ◌↔◌, Option, Some, None, Bor, inl, inr, arith}
+use Rattle.std.proofs.Common.{◌≡◌, refl, sym, subst, ℕ, zero, suc, ◌<◌, ◌≤◌, List, [], ◌∷◌, ◌++◌, ◌∙◌, Bool, true, false, ◌↔◌, Option, Some, None, Bor, inl, inr, arith}
 use Rattle.std.specs.Prelude.{◌⊎◌, IsTrue}
 use Rattle.std.specs.List.{AllByRecursion}
 use Rattle.kp_kore.specs.Signature.{KoreSignature}
 use Rattle.kp_semantics.specs.Value.{Value}
 use Rattle.kp_rules.specs.declared.rule.Rule.{Rule}
-use Rattle.kp_run.specs.declared.step.Firing.{Firing}
+use Rattle.kp_run.specs.declared.firing.Firing.{Firing}
 use Rattle.kp_run.specs.declared.step.Turn.{Turn}
 use Rattle.kp_run.specs.declared.step.Turn.TheVariants.{Nobody, One, Several}
 use Rattle.kp_run.specs.Causes.{TwoAmong}

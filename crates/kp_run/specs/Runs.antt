@@ -59,14 +59,14 @@ GoesOnlyTo t c next = Steps t c next × ((other : Value) → Steps t c other →
 abbrev pub IsNext : Theory → Value → Next → Type 0
 IsNext t c after.Stuck = IsStuck t c
 IsNext t c (after.ForeignRule id) = IsFirstUnknown t c (string_bytes id)
-IsNext t c (after.Stepped s) = GoesOnlyTo t c (value_view s.value) × IsAt t s
+IsNext t c (after.Stepped s ds) = GoesOnlyTo t c (value_view s.value) × IsAt t s
 
 -- a state, and the sort that it is written at
 abbrev pub written_of : State → Written
 written_of s = record { value = value_view s.value; sort = sort_view s.sort }
 
 abbrev pub IsWrittenNext : Theory → Written → Next → Type 0
-IsWrittenNext t s (after.Stepped next) = IsNextState t s (written_of next)
+IsWrittenNext t s (after.Stepped next ds) = IsNextState t s (written_of next)
 IsWrittenNext t s _ = ⊤
 
 -- so many steps on, each of them the only one

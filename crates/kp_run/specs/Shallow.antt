@@ -1,30 +1,22 @@
--- States that are no deeper than a state may be.
--- Source: this project; the bound is the one on a request's state.
-use Rattle.std.specs.Prelude.{◌≡◌, ◌≤◌, ⊤}
-use Rattle.kp_kore.specs.Parts.{term_depth}
+-- What a step goes by: the match of its rule, and the depths of what it keeps.
+-- Source: this project; matching is that of matching logic.
+use Rattle.std.specs.Prelude.{◌≡◌, ⊤}
 use Rattle.kp_kore.specs.Signature.{KoreSignature}
-use Rattle.kp_kore.specs.View.{sort_view}
 use Rattle.kp_semantics.specs.Value.{Value}
-use Rattle.kp_kore.specs.Limits.{most_depth}
 use Rattle.kp_semantics.specs.Instance.{Valuation}
 use Rattle.kp_ground.specs.LeftView.{left_view}
 use Rattle.kp_ground.specs.Solves.{Solves}
 use Rattle.kp_ground.specs.Terms.{left_value}
 use Rattle.kp_ground.specs.View.{value_view}
-use Rattle.kp_states.specs.Spelled.{spelling}
-use Rattle.kp_states.specs.declared.state.State.{State}
-use Rattle.kp_run.specs.declared.step.Firing.{Firing}
+use Rattle.kp_depths.specs.View.{AreDepthsOf}
+use Rattle.kp_run.specs.declared.firing.Firing.{Firing}
 use Rattle.kp_run.specs.declared.step.Next.{Next}
 use Rattle.kp_run.specs.declared.step.Next.TheVariants as after
 
--- its normal spelling is no deeper than a state may be
-abbrev pub IsShallow : KoreSignature → State → Type 0
-IsShallow g s = term_depth (spelling g (sort_view s.sort) (value_view s.value)) ≤ most_depth
-
--- the state that follows is
-abbrev pub IsShallowNext : KoreSignature → Next → Type 0
-IsShallowNext g (after.Stepped s) = IsShallow g s
-IsShallowNext g _ = ⊤
+-- the state that follows stands beside the depths of its value
+abbrev pub HasDepths : KoreSignature → Next → Type 0
+HasDepths g (after.Stepped s ds) = AreDepthsOf g (value_view s.value) ds
+HasDepths g _ = ⊤
 
 -- under every valuation that the bindings allow the left term's instance is the value, and there is such a valuation
 pub record IsMatchOf (f : Firing) (u : Value) : Type 0 where

@@ -9,13 +9,11 @@ use Rattle.kp_kore.specs.View.{sort_view}
 use Rattle.kp_semantics.specs.Value.{Value, HasSort}
 use Rattle.kp_semantics.specs.Instance.{Valuation}
 use Rattle.kp_kore.specs.Limits.{most_depth}
-use Rattle.kp_semantics.specs.Steps.{AnyByRecursion}
 use Rattle.kp_ground.specs.Solves.{Solves}
-use Rattle.kp_ground.specs.LeftView.{left_view}
-use Rattle.kp_ground.specs.Terms.{term_value, stays_narrow, lacks, left_names}
+use Rattle.kp_ground.specs.Terms.{term_value, stays_narrow}
 use Rattle.kp_ground.specs.TermView.{term_view}
 use Rattle.kp_ground.specs.View.{value_view}
-use Rattle.kp_rules.specs.Heads.{FiresAs, IsWide, is_side_open}
+use Rattle.kp_rules.specs.Heads.{FiresAs, IsWide}
 use Rattle.kp_rules.specs.Skeletons.{IsAdmitted}
 use Rattle.kp_rules.specs.declared.rule.Rule.{Rule}
 use Rattle.kp_rules.specs.declared.rule.RuleBody.{RuleBody}
@@ -24,7 +22,7 @@ use Rattle.kp_states.specs.Spelled.{spelling}
 use Rattle.kp_states.specs.declared.state.State.{State}
 use Rattle.kp_run.specs.Causes.{TwoAmong, IsWrittenAt}
 use Rattle.kp_run.specs.Runs.{OneBetween}
-use Rattle.kp_run.specs.declared.step.Firing.{Firing}
+use Rattle.kp_run.specs.declared.firing.Firing.{Firing}
 use Rattle.kp_run.specs.declared.step.Turn.{Turn}
 use Rattle.kp_run.specs.declared.step.Turn.TheVariants.{Nobody, One, Several}
 
@@ -111,13 +109,3 @@ pub data NotFollowed (g : KoreSignature) (f : Firing) (state : KoreSort) : Type 
 pub record IsFollowed (g : KoreSignature) (f : Firing) (next : State) : Type 0 where
   pub narrow : (v : Valuation) → Solves v f.bindings.items → stays_narrow v (term_view f.rewrite.now.right) ≡ true
   pub within : term_depth (spelling g (sort_view next.sort) (value_view next.value)) ≤ most_depth
-
--- some variable of the rule doesn't stand in its left term: a tested one, one of its condition or, where it doesn't
--- choose, one of its right term
-abbrev pub IsOpen : RuleBody → Type 0
-IsOpen (Rewrite r) = (is_side_open r ≡ true) ⊎ (r.chooses ≡ false) × (lacks (left_names (left_view r.left)) (term_view r.right) ≡ true)
-IsOpen (Foreign k) = ⊥
-
--- some rule is open
-abbrev pub SomeOpen : List Rule → Type 0
-SomeOpen rules = AnyByRecursion (λ r. IsOpen r.body.value) rules

@@ -8,8 +8,6 @@ pub enum RunError {
     /// T2: two rules with their turn, a rule that chooses, a number of more than 128 bits, a term deeper than 48, or a
     /// signature over which nothing is run. specs/Causes.antt says each.
     NotAnswered,
-    /// A rule has a variable that its left term hasn't: no rule that is read has one.
-    Unbound,
 }
 
 impl From<AllocError> for RunError {
@@ -28,13 +26,12 @@ impl From<EvaluationError> for RunError {
     ghost use Rattle.kp_ground.specs.declared.evaluate.EvaluationError.TheVariants as evaluating;
     ghost use Rattle.kp_run.specs.declared.error.RunError.TheVariants as running;
 
-    ghost from_gives = { λ x e. (e ≡ running.NotAnswered → x ≡ evaluating.Number) × (e ≡ running.Unbound → x ≡ evaluating.Unbound) };
+    ghost from_gives = { λ x e. e ≡ running.NotAnswered → x ≡ evaluating.Number };
 
     fn from(error: EvaluationError) -> Self {
         match error {
             EvaluationError::Memory => RunError::Memory,
             EvaluationError::Number => RunError::NotAnswered,
-            EvaluationError::Unbound => RunError::Unbound,
         }
     }
 }

@@ -3,6 +3,7 @@
 #![tactic(auto)]
 
 mod error;
+mod firing;
 pub mod laws;
 mod run;
 mod step;

@@ -4,12 +4,12 @@ ghost use Rattle.kp_ground.specs.View.{value_view};
 ghost use Rattle.kp_rule_sets.specs.RuleSets.{RunsAs};
 ghost use Rattle.kp_run.specs.Causes.{IsStateIn, StopsUntold};
 ghost use Rattle.kp_run.specs.Runs.{IsAt, IsRunOf, written_of};
-ghost use Rattle.kp_run.specs.Turns.{SomeOpen};
-ghost use Rattle.kp_run.specs.declared.error.RunError.TheVariants.{NotAnswered, Unbound};
+ghost use Rattle.kp_run.specs.declared.error.RunError.TheVariants.{NotAnswered};
 ghost use Rattle.kp_run.specs.declared.run.Stop.TheVariants.{Stuck, DepthBound, ForeignRule};
 
 use crate::error::RunError;
 use crate::step::{Next, next_of};
+use kp_depths::depths_of;
 use kp_rule_sets::RuleSet;
 use kp_states::State;
 use std::alloc::Global;
@@ -48,15 +48,17 @@ pub fn execute(
     ensures written { (t : Theory) → RunsAs t rules.now → IsAt t state → IfOk result (λ e. IsStateIn t e.depth (written_of state) (written_of e.state)) }
     ensures answered { (t : Theory) → RunsAs t rules.now → IsAt t state → IfOk result (λ _. ¬ StopsUntold t (written_of state) bound) }
     ensures not_answered { (t : Theory) → RunsAs t rules.now → IsAt t state → IfErr result (λ e. e ≡ NotAnswered → StopsUntold t (written_of state) bound) }
-    ensures unbound { IfErr result (λ e. e ≡ Unbound → SomeOpen rules.now.rules.items) }
 {
     let mut state = state;
-    let mut is_counted = false;
+    let mut depths = depths_of(&state.value, alloc, &rules.signature)?;
     for depth in 0..bound {
-        match next_of(alloc, rules, &state, is_counted)? {
-            Next::Stepped { state: next } => {
+        match next_of(alloc, rules, &state, &depths)? {
+            Next::Stepped {
+                state: next,
+                depths: levels,
+            } => {
                 state = next;
-                is_counted = true;
+                depths = levels;
             }
             Next::Stuck => {
                 return Ok(Executed {

@@ -11,29 +11,30 @@ ghost use Rattle.kp_semantics.specs.Theory.{Theory};
 ghost use Rattle.kp_semantics.specs.Steps.{AnyByRecursion, IsUnknown};
 ghost use Rattle.kp_semantics.specs.Instance.{Valuation};
 ghost use Rattle.kp_ground.specs.Solves.{Solves};
-ghost use Rattle.kp_ground.specs.Terms.{term_value};
+ghost use Rattle.kp_ground.specs.LeftView.{left_view};
+ghost use Rattle.kp_ground.specs.Terms.{left_value, term_value};
 ghost use Rattle.kp_ground.specs.TermView.{term_view};
 ghost use Rattle.kp_ground.specs.View.{value_view};
 ghost use Rattle.kp_rule_sets.specs.RuleSets.{RunsAs};
 ghost use Rattle.kp_rule_sets.specs.Turns.{with_first};
 ghost use Rattle.kp_run.specs.Causes.{TwoAmong, IsWrittenAt, IsNotStepped, StopsUntold};
 ghost use Rattle.kp_run.specs.Runs.{IsNext, IsWrittenNext, written_of};
-ghost use Rattle.kp_run.specs.Shallow.{IsShallow, IsShallowNext, IsMatchOf};
-ghost use Rattle.kp_run.specs.Turns.{BodyFires, BodyIsWide, MightRewrite, IsFirstForeign, TellsForeign, GoesAfter, FiresAt, IsFiring, OneAmong, IsTurn, IsAfterFiring, IsFollowed, NotFollowed, IsOpen, SomeOpen};
-ghost use Rattle.kp_rules.specs.declared.rule.RuleBody.TheVariants as body;
-ghost use Rattle.kp_run.specs.declared.error.RunError.TheVariants.{NotAnswered, Unbound};
+ghost use Rattle.kp_run.specs.Shallow.{HasDepths, IsMatchOf};
+ghost use Rattle.kp_run.specs.Turns.{BodyFires, BodyIsWide, MightRewrite, IsFirstForeign, TellsForeign, GoesAfter, FiresAt, IsFiring, OneAmong, IsTurn, IsAfterFiring, IsFollowed, NotFollowed};
+ghost use Rattle.kp_depths.specs.View.{AreDepthsOf};
+ghost use Rattle.kp_run.specs.declared.step.Next.TheVariants.{Stepped};
+ghost use Rattle.kp_run.specs.declared.error.RunError.TheVariants.{NotAnswered};
 
 use crate::error::RunError;
-use kp_ground::{Binding, Value};
+use crate::firing::Firing;
+use kp_depths::{Depths, bound_depths, depths_of, is_shallow_at, right_depths};
+use kp_ground::Value;
 use kp_kore::Sort;
 use kp_rule_sets::{RuleSet, head_of};
-use kp_rules::{Rewrite, Rule, RuleBody};
+use kp_rules::{Rule, RuleBody};
 use kp_signature::Signature;
-use kp_states::{Matched, State, is_right_within, is_within_written};
+use kp_states::State;
 use std::alloc::{AllocError, Global};
-
-/// The deepest term that a state may have.
-const MOST_DEPTH: usize = 48;
 
 /// What comes after a state.
 #[derive(Drop)]
@@ -42,16 +43,8 @@ pub enum Next {
     Stuck,
     /// A foreign rule might rewrite it: the rule's id.
     ForeignRule { id: String },
-    /// The only state that follows.
-    Stepped { state: State },
-}
-
-/// A rule that fires, with its priority and what its left term's variables are bound to.
-#[derive(Drop)]
-struct Firing<'a> {
-    priority: u32,
-    rewrite: &'a Rewrite,
-    bindings: Vec<Binding>,
+    /// The only state that follows, and the depths of its value.
+    Stepped { state: State, depths: Depths },
 }
 
 /// What the rules that fire come to.
@@ -184,7 +177,6 @@ fn firing_of<'a>(
     ensures firing { IfOk result (λ o. MatchOption o (¬ BodyFires (signature_view signature.now) (value_view value.now) rule.now.body.value) (λ f. IsFiring (signature_view signature.now) (value_view value.now) f rule.now)) }
     ensures wide { IfErr result (λ e. e ≡ NotAnswered → BodyIsWide (signature_view signature.now) (value_view value.now) rule.now.body.value) }
     ensures narrow { IfOk result (λ _. ¬ BodyIsWide (signature_view signature.now) (value_view value.now) rule.now.body.value) }
-    ensures unbound { IfErr result (λ e. e ≡ Unbound → IsOpen rule.now.body.value) }
 {
     match &*rule.body {
         RuleBody::Foreign(_) => Ok(None),
@@ -220,7 +212,6 @@ fn turn_with<'a>(
     ensures turn { IfOk result (λ next. (before : List Rule) → IsTurn (signature_view rules.now.signature.value) (value_view value.now) before turn.entry → IsTurn (signature_view rules.now.signature.value) (value_view value.now) (before ++ with_first (slice_get rules.now.rules.items place) []) next) }
     ensures wide { IfErr result (λ e. e ≡ NotAnswered → AnyByRecursion (λ r. BodyIsWide (signature_view rules.now.signature.value) (value_view value.now) r.body.value) rules.now.rules.items) }
     ensures narrow { IfOk result (λ _. AllByRecursion (λ r. ¬ BodyIsWide (signature_view rules.now.signature.value) (value_view value.now) r.body.value) (with_first (slice_get rules.now.rules.items place) [])) }
-    ensures unbound { IfErr result (λ e. e ≡ Unbound → SomeOpen rules.now.rules.items) }
 {
     match rules.rule_at(place) {
         Some(rule) => {
@@ -236,7 +227,6 @@ fn turn_on<'a>(alloc: Global, rules: &'a RuleSet, value: &Value) -> Result<Turn<
     ensures turn { IfOk result (λ turn. IsTurn (signature_view rules.now.signature.value) (value_view value.now) rules.now.rules.items turn) }
     ensures wide { IfErr result (λ e. e ≡ NotAnswered → AnyByRecursion (λ r. BodyIsWide (signature_view rules.now.signature.value) (value_view value.now) r.body.value) rules.now.rules.items) }
     ensures narrow { IfOk result (λ _. AllByRecursion (λ r. ¬ BodyIsWide (signature_view rules.now.signature.value) (value_view value.now) r.body.value) rules.now.rules.items) }
-    ensures unbound { IfErr result (λ e. e ≡ Unbound → SomeOpen rules.now.rules.items) }
 {
     let mut places = rules.rules_at(&head_of(value));
     let mut turn = Turn::Nobody;
@@ -271,32 +261,30 @@ pub fn next_state(alloc: Global, rules: &RuleSet, state: &State) -> Result<Next,
     ensures written { (t : Theory) → RunsAs t rules.now → IsSorted t.signature (value_view state.now.value) → IfOk result (IsWrittenNext t (written_of state.now)) }
     ensures answered { (t : Theory) → RunsAs t rules.now → IsSorted t.signature (value_view state.now.value) → IfOk result (λ _. ¬ StopsUntold t (written_of state.now) 1) }
     ensures not_answered { (t : Theory) → RunsAs t rules.now → IsSorted t.signature (value_view state.now.value) → IfErr result (λ e. e ≡ NotAnswered → StopsUntold t (written_of state.now) 1) }
-    ensures unbound { IfErr result (λ e. e ≡ Unbound → SomeOpen rules.now.rules.items) }
 {
-    next_of(alloc, rules, state, false)
+    let depths = depths_of(&state.value, alloc, &rules.signature)?;
+    next_of(alloc, rules, state, &depths)
 }
 
-/// What comes after a state, which may be known to be no deeper than a state may be: then what a step keeps of it isn't
-/// counted again.
+/// What comes after a state whose value has these depths: what a step keeps of it isn't counted again.
 pub fn next_of(
     alloc: Global,
     rules: &RuleSet,
     state: &State,
-    is_counted: bool,
+    depths: &Depths,
 ) -> Result<Next, RunError>
-    requires counted { IsTrue is_counted → IsShallow (signature_view rules.now.signature.value) state.now }
+    requires counted { AreDepthsOf (signature_view rules.now.signature.value) (value_view state.now.value) depths.now }
     ensures next { (t : Theory) → RunsAs t rules.now → IsSorted t.signature (value_view state.now.value) → IfOk result (IsNext t (value_view state.now.value)) }
     ensures written { (t : Theory) → RunsAs t rules.now → IsSorted t.signature (value_view state.now.value) → IfOk result (IsWrittenNext t (written_of state.now)) }
     ensures answered { (t : Theory) → RunsAs t rules.now → IsSorted t.signature (value_view state.now.value) → IfOk result (λ _. ¬ StopsUntold t (written_of state.now) 1) }
     ensures not_answered { (t : Theory) → RunsAs t rules.now → IsSorted t.signature (value_view state.now.value) → IfErr result (λ e. e ≡ NotAnswered → StopsUntold t (written_of state.now) 1) }
-    ensures unbound { IfErr result (λ e. e ≡ Unbound → SomeOpen rules.now.rules.items) }
-    ensures counted { IfOk result (IsShallowNext (signature_view rules.now.signature.value)) }
+    ensures counted { IfOk result (HasDepths (signature_view rules.now.signature.value)) }
 {
     match foreign_on(alloc, rules, &state.value)? {
         Some(rule) => Ok(Next::ForeignRule {
             id: String::from_str(alloc, rule.id.as_str())?,
         }),
-        None => known_next(alloc, rules, state, is_counted),
+        None => known_next(alloc, rules, state, depths),
     }
 }
 
@@ -305,82 +293,69 @@ fn known_next(
     alloc: Global,
     rules: &RuleSet,
     state: &State,
-    is_counted: bool,
+    depths: &Depths,
 ) -> Result<Next, RunError>
-    requires counted { IsTrue is_counted → IsShallow (signature_view rules.now.signature.value) state.now }
+    requires counted { AreDepthsOf (signature_view rules.now.signature.value) (value_view state.now.value) depths.now }
     ensures next { (t : Theory) → RunsAs t rules.now → IsSorted t.signature (value_view state.now.value) → ¬ IsUnknown t (value_view state.now.value) → IfOk result (IsNext t (value_view state.now.value)) }
     ensures written { (t : Theory) → RunsAs t rules.now → IsSorted t.signature (value_view state.now.value) → ¬ IsUnknown t (value_view state.now.value) → IfOk result (IsWrittenNext t (written_of state.now)) }
     ensures answered { (t : Theory) → RunsAs t rules.now → IsSorted t.signature (value_view state.now.value) → ¬ IsUnknown t (value_view state.now.value) → IfOk result (λ _. ¬ IsNotStepped t (written_of state.now)) }
     ensures not_answered { (t : Theory) → RunsAs t rules.now → IsSorted t.signature (value_view state.now.value) → ¬ IsUnknown t (value_view state.now.value) → IfErr result (λ e. e ≡ NotAnswered → IsNotStepped t (written_of state.now)) }
-    ensures unbound { IfErr result (λ e. e ≡ Unbound → SomeOpen rules.now.rules.items) }
-    ensures counted { IfOk result (IsShallowNext (signature_view rules.now.signature.value)) }
+    ensures counted { IfOk result (HasDepths (signature_view rules.now.signature.value)) }
 {
     match turn_on(alloc, rules, &state.value)? {
         Turn::Nobody => Ok(Next::Stuck),
         Turn::Several(_) => Err(RunError::NotAnswered),
-        Turn::One(firing) => Ok(Next::Stepped {
-            state: after(alloc, &rules.signature, state, &firing, is_counted)?,
-        }),
+        Turn::One(firing) => Ok(stepped(after(alloc, &rules.signature, state, &firing, depths)?)),
     }
 }
 
-/// The state after the step by a rule that has its turn.
+/// That a state follows, of which the depths are at hand.
+fn stepped(after: (State, Depths)) -> Next
+    ensures { result ≡ Stepped after.0 after.1 }
+{
+    let (state, depths) = after;
+    Next::Stepped { state, depths }
+}
+
+/// The state after the step by a rule that has its turn, and the depths of its value.
 fn after(
     alloc: Global,
     signature: &Signature,
     state: &State,
     firing: &Firing,
-    is_counted: bool,
-) -> Result<State, RunError>
-    requires counted { IsTrue is_counted → IsShallow (signature_view signature.now) state.now }
+    depths: &Depths,
+) -> Result<(State, Depths), RunError>
+    requires counted { AreDepthsOf (signature_view signature.now) (value_view state.now.value) depths.now }
     requires matched { IsMatchOf firing.now (value_view state.now.value) }
-    ensures after { IfOk result (λ next. IsAfterFiring (signature_view signature.now) firing.now next) }
-    ensures written { IfOk result (λ next. IsWrittenAt (signature_view signature.now) (sort_view firing.now.rewrite.now.right_sort) (sort_view state.now.sort) (sort_view next.sort)) }
-    ensures followed { IfOk result (λ next. IsFollowed (signature_view signature.now) firing.now next) }
+    ensures after { IfOk result (λ next. IsAfterFiring (signature_view signature.now) firing.now next.0) }
+    ensures written { IfOk result (λ next. IsWrittenAt (signature_view signature.now) (sort_view firing.now.rewrite.now.right_sort) (sort_view state.now.sort) (sort_view next.0.sort)) }
+    ensures followed { IfOk result (λ next. IsFollowed (signature_view signature.now) firing.now next.0) }
     ensures not_followed { IfErr result (λ e. e ≡ NotAnswered → NotFollowed (signature_view signature.now) firing.now (sort_view state.now.sort)) }
-    ensures unbound { IfErr result (λ e. e ≡ Unbound → IsOpen (body.Rewrite firing.now.rewrite.now)) }
+    ensures counted { IfOk result (λ next. AreDepthsOf (signature_view signature.now) (value_view next.0.value) next.1) }
 {
     if firing.rewrite.chooses {
         return Err(RunError::NotAnswered);
     }
     let value = firing.rewrite.right.evaluate(alloc, &firing.bindings)?;
     let sort = written_sort(alloc, signature, &firing.rewrite.right_sort, &state.sort)?;
-    let next = State { value, sort };
-    if !is_shallow_after(signature, state, firing, &next, is_counted) {
+    let next = depths_after(alloc, signature, firing, &value, depths)?;
+    if !is_shallow_at(&value, &next, signature, &sort) {
         return Err(RunError::NotAnswered);
     }
-    Ok(next)
+    Ok((State { value, sort }, next))
 }
 
-/// Whether the state after a step is no deeper than a state may be.
-fn is_shallow_after(
+/// The depths of the value after a step, from those of the value before it.
+fn depths_after(
+    alloc: Global,
     signature: &Signature,
-    state: &State,
     firing: &Firing,
-    next: &State,
-    is_counted: bool,
-) -> bool
-    requires counted { IsTrue is_counted → IsShallow (signature_view signature.now) state.now }
-    requires matched { IsMatchOf firing.now (value_view state.now.value) }
-    requires value { (v : Valuation) → Solves v firing.now.bindings.items → value_view next.now.value ≡ term_value v (term_view firing.now.rewrite.now.right) }
-    ensures { IsTrue result ↔ IsShallow (signature_view signature.now) next.now }
+    value: &Value,
+    depths: &Depths,
+) -> Result<Depths, AllocError>
+    requires plain { firing.now.rewrite.now.chooses ≡ false }
+    ensures { let g = signature_view signature.now in let value' = value_view value.now in IfOk result (λ d. (v : Valuation) → AreDepthsOf g (left_value v (left_view firing.now.rewrite.now.left)) depths.now → value' ≡ term_value v (term_view firing.now.rewrite.now.right) → AreDepthsOf g value' d) }
 {
-    if !is_counted {
-        return is_within_written(&next.value, signature, &next.sort, MOST_DEPTH);
-    }
-    let matched = Matched {
-        left: &firing.rewrite.left,
-        sort: &state.sort,
-        levels: MOST_DEPTH,
-        bindings: &firing.bindings,
-    };
-    let right = &firing.rewrite.right;
-    is_right_within(
-        &next.value,
-        right,
-        signature,
-        &matched,
-        &next.sort,
-        MOST_DEPTH,
-    )
+    let bound = bound_depths(alloc, &firing.rewrite.left, depths)?;
+    right_depths(&firing.rewrite.right, value, alloc, signature, &bound)
 }

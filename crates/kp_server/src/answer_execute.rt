@@ -98,8 +98,7 @@ fn end_line(alloc: Global, request: &Execute, written: &Written) -> Result<Vec<u
     }
 }
 
-/// The end of the run that a request asks for, or the first cause why there is none. That a run lacks a binding, which
-/// no rule that is read brings about, is told as want of memory.
+/// The end of the run that a request asks for, or the first cause why there is none.
 fn executed(alloc: Global, table: &Table, request: &Execute) -> Result<Executed, Failure>
     requires { IsExecuteRead request.now }
     ensures found { (s : Setting) → IsSettingOf s table.now → IfOk result (IsEndOf s request.now) }
@@ -113,7 +112,7 @@ fn executed(alloc: Global, table: &Table, request: &Execute) -> Result<Executed,
     match execute(alloc, rules_of(table), state, bound_of(&request.options)) {
         Ok(end) => Ok(end),
         Err(RunError::NotAnswered) => Err(Failure::Fault(not_answered())),
-        Err(RunError::Memory) | Err(RunError::Unbound) => Err(Failure::Memory),
+        Err(RunError::Memory) => Err(Failure::Memory),
     }
 }
 

@@ -81,8 +81,7 @@ fn written_line(
     }
 }
 
-/// The end of the run that is asked for, or the first cause why there is none. That a run lacks a binding, which no rule
-/// that is read brings about, is told as want of memory.
+/// The end of the run that is asked for, or the first cause why there is none.
 fn executed(
     alloc: Global,
     rules: &RuleSet,
@@ -99,7 +98,7 @@ fn executed(
     match execute(alloc, rules, state, bound_of(options)) {
         Ok(end) => Ok(end),
         Err(RunError::NotAnswered) => Err(Failure::Fault(not_answered())),
-        Err(RunError::Memory) | Err(RunError::Unbound) => Err(Failure::Memory),
+        Err(RunError::Memory) => Err(Failure::Memory),
     }
 }
 

@@ -1,4 +1,4 @@
-use kp_ground::Hook;
+use kp_hooks::Hook;
 
 /// The interpreted functions. `function_view` in specs/Meanings.antt says which hook each is.
 #[derive(Clone, Copy)]

@@ -14,7 +14,7 @@ use crate::kinds::Kinds;
 use crate::meaning::Meaning;
 use crate::signature::Signature;
 use crate::symbols::{is_constructor, is_identity, is_plain};
-use kp_ground::Hook;
+use kp_hooks::Hook;
 use kp_kore::{Sort, SymbolSentence};
 use std::alloc::{AllocError, Global};
 

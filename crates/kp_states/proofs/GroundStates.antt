@@ -1,5 +1,5 @@
 -- Ground states: their sorts, their only instance, their foreign symbols.
-use Rattle.std.proofs.Common.{◌≡◌, refl, sym, ap, subst, ◌∙◌, ℕ, ◌+◌, ◌<◌, Bool, true, false, not, ◌&&◌, List, [], ◌∷◌, length, get_or, drop, Option, Some, None, Bor}
+use Rattle.std.proofs.Common.{◌≡◌, refl, sym, ap, subst, ◌∙◌, ℕ, ◌+◌, ◌<◌, Bool, true, false, not, ◌&&◌, List, [], ◌∷◌, length, get_or, drop, map, nat_eq, Option, Some, None, Bor}
 use Rattle.std.specs.Prelude.{IsTrue, if◌then◌else◌, string_bytes, String, Result, Ok, Err, IfOk, IfErr, OnOk}
 use Rattle.std.specs.Option.{option_map}
 use Rattle.std.specs.declared.alloc.Global.{Global}
@@ -10,11 +10,13 @@ use Rattle.kp_ground.specs.declared.value.Value.{Value as Ground}
 use Rattle.kp_ground.specs.declared.term.Term.{Term}
 use Rattle.kp_compile.specs.Exact.{IsTermOf, IsNarrowAs}
 use Rattle.std.specs.List.{list_all, filter_map, cons_option}
+use Rattle.std.proofs.lemmas.Bool.Decides.{Decides-eqb}
 use Rattle.std.proofs.lemmas.List.{drop_more}
 use Rattle.kp_kore.specs.Syntax.{Text, KoreSort, KorePattern, variable, set_variable, application, string_literal, literal, top, bottom, negation, next, conjunction, disjunction, implication, equivalence, rewriting, exists, forall, ceil, floor, equals, membership, mu, nu}
 use Rattle.kp_kore.specs.Parts.{is_term, free_variables, subpatterns}
 use Rattle.kp_kore.specs.Signature.{KoreSignature, meaning_of}
-use Rattle.kp_kore.specs.View.{view}
+use Rattle.kp_kore.specs.View.{view, sorted_variable_view}
+use Rattle.kp_kore.specs.declared.pattern_free.SortedVariable.{SortedVariable}
 use Rattle.kp_kore.specs.declared.pattern.Pattern.{Pattern}
 use Rattle.kp_signature.specs.Places.{the_top}
 use Rattle.kp_signature.specs.Verify.{VerifiesAs}
@@ -132,3 +134,8 @@ is_ground g p t c n (wide w) =
     let narrow : computes_wide g v p ≡ false = n v in
     let is : computes_wide g v p ≡ true = w v in
     absurd (cc)
+
+-- a list that is empty
+pub no_variables : (b : Bool) (xs : List SortedVariable) → b ≡ nat_eq (length xs) 0 → b ≡ true → map sorted_variable_view xs ≡ []
+no_variables b [] e f = refl
+no_variables b (x ∷ xs) e f = let none : length (x ∷ xs) ≡ 0 = (Decides-eqb (length (x ∷ xs)) 0).0 (sym e ∙ f) in absurd (cc)

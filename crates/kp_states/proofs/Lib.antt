@@ -5,4 +5,3 @@ pub mod GroundStates
 pub mod Injections
 pub mod SpelledParts
 pub mod Depths
-pub mod Kept

@@ -1,3 +1,2 @@
-pub mod Matched
 pub mod Spelled
 pub mod States

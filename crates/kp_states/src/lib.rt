@@ -2,16 +2,13 @@
 #![tactic(auto)]
 
 mod error;
-mod held;
 mod own;
-mod right;
 mod spell;
 mod state;
 mod within;
 
 pub use error::{SpellingError, StateError};
 pub use own::own_sort;
-pub use right::{Matched, is_right_within};
-pub use spell::spelled;
+pub use spell::{places_of, spelled};
 pub use state::{State, first_foreign, state_of};
-pub use within::is_within_written;
+pub use within::{is_home, is_within_written, room_below};

@@ -10,6 +10,7 @@ ghost use Rattle.kp_signature.specs.Verify.{VerifiesAs, first_fault};
 ghost use Rattle.kp_semantics.specs.Instance.{Valuation, instance};
 ghost use Rattle.kp_semantics.specs.Foreign.{none_within, has_foreign_head};
 ghost use Rattle.kp_semantics.specs.Numbers.{computes_wide};
+ghost use Rattle.kp_ground.specs.Slots.{term_reads};
 ghost use Rattle.kp_ground.specs.Terms.{stays_narrow, term_value};
 ghost use Rattle.kp_ground.specs.TermView.{term_view};
 ghost use Rattle.kp_ground.specs.View.{value_view};
@@ -20,7 +21,7 @@ ghost use Rattle.kp_states.specs.Spelled.{IsGroundState, IsOtherShape, first_mem
 ghost use Rattle.kp_states.specs.States.{IsNoForeign, IsTold};
 
 use crate::error::StateError;
-use kp_compile::{CompileError, compile_term, is_term, subpatterns};
+use kp_compile::{CompileError, compile_term, is_term, no_names, subpatterns};
 use kp_ground::{EvaluationError, Term, Value};
 use kp_kore::{Name, Pattern, Sort};
 use kp_signature::{Meaning, Signature, meaning_of};
@@ -112,7 +113,7 @@ fn value_of(alloc: Global, signature: &Signature, pattern: &Pattern) -> Result<V
     if !pattern.free_vars(alloc)?.is_empty() {
         return Err(StateError::OtherShape);
     }
-    match compile_term(alloc, signature, pattern) {
+    match compile_term(alloc, signature, &no_names(alloc), pattern) {
         Ok(term) => evaluated(alloc, &term),
         Err(error) => Err(refused(error)),
     }
@@ -129,8 +130,9 @@ fn refused(error: CompileError) -> StateError
     }
 }
 
-/// The value of a term without variables: so it lacks no binding.
+/// The value of a term without variables.
 fn evaluated(alloc: Global, term: &Term) -> Result<Value, StateError>
+    requires { term_reads [] term.now ≡ true }
     ensures meant { IfOk result (λ u. (v : Valuation) → value_view u ≡ term_value v (term_view term.now)) }
     ensures narrow { OnOk result ((v : Valuation) → stays_narrow v (term_view term.now) ≡ true) }
     ensures refused { IfErr result IsNoForeign }
@@ -139,6 +141,6 @@ fn evaluated(alloc: Global, term: &Term) -> Result<Value, StateError>
     match term.evaluate(alloc, &[]) {
         Ok(value) => Ok(value),
         Err(EvaluationError::Number) => Err(StateError::OtherShape),
-        Err(EvaluationError::Memory | EvaluationError::Unbound) => Err(StateError::Memory),
+        Err(EvaluationError::Memory) => Err(StateError::Memory),
     }
 }

@@ -66,7 +66,7 @@ fn are_within(values: &[Value], signature: &Signature, places: &[Sort], levels: 
 }
 
 /// Whether a value is written at a sort without `inj` around it: its own sort is this one, or it has none.
-fn is_home(value: &Value, signature: &Signature, sort: &Sort) -> bool
+pub fn is_home(value: &Value, signature: &Signature, sort: &Sort) -> bool
     ensures { IsTrue result ↔ (home_of (signature_view signature.now) (sort_view sort.now) (value_view value.now) ≡ sort_view sort.now) }
 {
     match value {

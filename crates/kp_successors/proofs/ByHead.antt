@@ -17,7 +17,7 @@ use Rattle.kp_rule_sets.proofs.Chosen.{times, times_cons, times_on, times_here, 
 use Rattle.kp_run.specs.Turns.{BodyFires, FiresAt}
 use Rattle.kp_run.proofs.Chosen.{others_rest, at_most_once}
 use Rattle.kp_run.proofs.Turning.{at_most_or_beyond}
-use Rattle.kp_successors.specs.Turns.{RightIsWide, Follows, IsWideAt, IsLeast, AreNexts, next_list}
+use Rattle.kp_successors.specs.Turns.{RightIsWide, Follows, IsWideAt, IsLeast, AreNexts}
 
 -- ---- the least priority number, and wide right terms
 

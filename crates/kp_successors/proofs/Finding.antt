@@ -16,7 +16,7 @@ use Rattle.kp_semantics.specs.Numbers.{computes_wide}
 use Rattle.kp_ground.specs.Outcomes.{Gives}
 use Rattle.kp_ground.specs.Solves.{Solves}
 use Rattle.kp_ground.specs.Matches.{IsSolvable}
-use Rattle.kp_ground.specs.Terms.{RuleTerm, stays_narrow, lacks}
+use Rattle.kp_ground.specs.Terms.{RuleTerm, stays_narrow}
 use Rattle.kp_ground.specs.Conditions.{condition_narrow}
 use Rattle.kp_ground.specs.ConditionView.{condition_view}
 use Rattle.kp_ground.specs.declared.binding.Binding.{Binding}
@@ -46,10 +46,9 @@ is_wide a false e f = absurd (cc)
 -- ---- evaluations
 
 -- of the configuration's own term
-pub unvalued : (g : KoreSignature) (p : KorePattern) (t : RuleTerm) (x : EvaluationError) (y : GroundError) → IsFromEvaluation x y → Gives (Err x) [] t → ((v : Valuation) → stays_narrow v t ≡ not (computes_wide g v p)) → lacks [] t ≡ false → IsUnvalued g p y
-unvalued g p t evaluating.Number y from h n none = subst (IsUnvalued g p) (sym from) (λ v. is_wide (stays_narrow v t) (computes_wide g v p) (n v) (h v tt))
-unvalued g p t evaluating.Memory y from h n none = subst (IsUnvalued g p) (sym from) tt
-unvalued g p t evaluating.Unbound y from h n none = absurd (cc)
+pub unvalued : (g : KoreSignature) (p : KorePattern) (t : RuleTerm) (x : EvaluationError) (y : GroundError) → IsFromEvaluation x y → Gives (Err x) [] t → ((v : Valuation) → stays_narrow v t ≡ not (computes_wide g v p)) → IsUnvalued g p y
+unvalued g p t evaluating.Number y from h n = subst (IsUnvalued g p) (sym from) (λ v. is_wide (stays_narrow v t) (computes_wide g v p) (n v) (h v tt))
+unvalued g p t evaluating.Memory y from h n = subst (IsUnvalued g p) (sym from) tt
 
 -- ---- one rule on a value
 
@@ -114,3 +113,9 @@ not_none b (x ∷ xs) e f h = absurd (cc)
 pub is_none : (b : Bool) (xs : List SortedVariable) → b ≡ nat_eq (length xs) 0 → b ≡ true → map sorted_variable_view xs ≡ []
 is_none b [] e f = refl
 is_none b (x ∷ xs) e f = let none : length (x ∷ xs) ≡ 0 = (Decides-eqb (length (x ∷ xs)) 0).0 (sym e ∙ f) in absurd (cc)
+
+-- the last of three, where the second isn't
+pub last_of : (a b c : Bool) → b ≡ false → (a && b) || c ≡ true → c ≡ true
+last_of true true c e h = absurd (cc)
+last_of true false c e h = h
+last_of false b c e h = h

@@ -31,7 +31,6 @@ by_memory g P e h = subst (IsCausedBy g P) (sym h) tt
 pub from_evaluation : (g : KoreSignature) (P : Type 0) (x : EvaluationError) (e : GroundError) → IsFromEvaluation x e → (x ≡ evaluating.Number → P) → IsCausedBy g P e
 from_evaluation g P evaluating.Number e h f = subst (IsCausedBy g P) (sym h) (f refl)
 from_evaluation g P evaluating.Memory e h f = subst (IsCausedBy g P) (sym h) tt
-from_evaluation g P evaluating.Unbound e h f = subst (IsCausedBy g P) (sym h) tt
 
 -- a spelling's error
 pub from_spelling : (g : KoreSignature) (P : Type 0) (x : SpellingError) (e : GroundError) → IsFromSpelling x e → (x ≡ spelling.NoInjection → LacksInjection g) → IsCausedBy g P e
@@ -41,4 +40,3 @@ from_spelling g P spelling.NoInjection e h f = subst (IsCausedBy g P) (sym h) (f
 pub evaluated_wide : (x : EvaluationError) (bindings : List Binding) (t : RuleTerm) → Gives (Err x) bindings t → x ≡ evaluating.Number → (v : Valuation) → Solves v bindings → stays_narrow v t ≡ false
 evaluated_wide evaluating.Number bindings t h e = h
 evaluated_wide evaluating.Memory bindings t h e = absurd (cc)
-evaluated_wide evaluating.Unbound bindings t h e = absurd (cc)

@@ -32,7 +32,6 @@ IsCausedBy g Wide Unbound = ⊤
 abbrev pub IsFromEvaluation : EvaluationError → GroundError → Type 0
 IsFromEvaluation evaluating.Number e = e ≡ Number
 IsFromEvaluation evaluating.Memory e = e ≡ Memory
-IsFromEvaluation evaluating.Unbound e = e ≡ Unbound
 
 -- of a spelling
 abbrev pub IsFromSpelling : SpellingError → GroundError → Type 0

@@ -9,13 +9,9 @@ use Rattle.kp_kore.specs.View.{view}
 use Rattle.kp_signature.specs.View.{signature_view}
 use Rattle.kp_semantics.specs.Instance.{is_named}
 use Rattle.kp_semantics.specs.Steps.{AnyByRecursion}
-use Rattle.kp_ground.specs.LeftView.{left_view}
-use Rattle.kp_ground.specs.TermView.{term_view}
-use Rattle.kp_ground.specs.Terms.{is_one_of, lacks, left_names}
-use Rattle.kp_compile.specs.Exact.{some_unnamed}
+use Rattle.kp_ground.specs.Slots.{is_one_of, left_variables}
+use Rattle.kp_compile.specs.Exact.{are_named}
 use Rattle.kp_compile.specs.Verified.{IsVerifiedTerm}
-use Rattle.kp_rules.specs.Heads.{is_side_open}
-use Rattle.kp_rules.specs.declared.rule.Rewrite as code
 use Rattle.kp_rules.specs.declared.rule.RightSide.{RightSide}
 use Rattle.kp_rules.specs.declared.rule.RuleBody.{RuleBody}
 use Rattle.kp_rules.specs.declared.rule.RuleBody.TheVariants.{Rewrite, Foreign}
@@ -25,7 +21,7 @@ use Rattle.kp_successors.specs.WideParts.{holds_none}
 
 -- the pattern isn't a verified term, or some variable of it isn't among these names
 abbrev pub HasNoValue : KoreSignature → List Text → KorePattern → Type 0
-HasNoValue g xs p = (¬ IsVerifiedTerm g p) ⊎ (some_unnamed xs (free_variables p) ≡ true)
+HasNoValue g xs p = (¬ IsVerifiedTerm g p) ⊎ (are_named xs (free_variables p) ≡ false)
 
 -- and no new variable stands in it
 abbrev pub IsOpenPart : KoreSignature → List Text → RightSide → KorePattern → Type 0
@@ -43,14 +39,13 @@ pub data IsOpenSide (g : KoreSignature) (xs : List Text) (s : RightSide) : Type 
   -- it stands in a part of the right term
   in_part : AnyByRecursion (IsOpenPart g xs s) (subpatterns (view s.term)) → IsOpenSide g xs s
 
-abbrev pub IsRightOpen : KoreSignature → List Text → code.Rewrite → Option RightSide → Type 0
-IsRightOpen g xs r None = lacks xs (term_view r.right) ≡ true
-IsRightOpen g xs r (Some s) = IsOpenSide g xs s
+abbrev pub IsRightOpen : KoreSignature → List Text → Option RightSide → Type 0
+IsRightOpen g xs None = ⊥
+IsRightOpen g xs (Some s) = IsOpenSide g xs s
 
--- some variable of the rule, a tested one, one of its condition or of its right side, has no value where the variables of
--- its left term have theirs
+-- some variable of the right side of the rule, which chooses, has no value where the variables of its left term have theirs
 abbrev pub LeavesOpen : KoreSignature → RuleBody → Type 0
-LeavesOpen g (Rewrite r) = (is_side_open r ≡ true) ⊎ IsRightOpen g (left_names (left_view r.left)) r r.choice
+LeavesOpen g (Rewrite r) = IsRightOpen g (left_variables r.left) r.choice
 LeavesOpen g (Foreign k) = ⊥
 
 -- some rule of the rule set has such a variable

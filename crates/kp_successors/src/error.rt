@@ -38,7 +38,6 @@ impl From<EvaluationError> for GroundError {
         match error {
             EvaluationError::Memory => GroundError::Memory,
             EvaluationError::Number => GroundError::Number,
-            EvaluationError::Unbound => GroundError::Unbound,
         }
     }
 }

@@ -1,6 +1,8 @@
 // Numbers beyond 128 bits in the right term of a rule that chooses.
 ghost use Rattle.std.specs.Prelude.{◌≡◌, ◌&&◌, true, false, not, IfOk, OnOk, IfErr, map};
 ghost use Rattle.std.specs.List.{list_all, list_any};
+ghost use Rattle.kp_compile.specs.Exact.{are_named};
+ghost use Rattle.kp_compile.specs.Names.{names_seen};
 ghost use Rattle.kp_compile.specs.Parts.{seen};
 ghost use Rattle.kp_kore.specs.View.{view, sorted_variable_view};
 ghost use Rattle.kp_signature.specs.View.{signature_view};
@@ -17,7 +19,7 @@ ghost use Rattle.kp_successors.specs.declared.error.GroundError.TheVariants.{Unb
 
 use crate::error::GroundError;
 use crate::member::is_named;
-use kp_compile::{CompileError, compile_term, subpatterns};
+use kp_compile::{CompileError, NameSet, compile_term, has_name, subpatterns};
 use kp_ground::Binding;
 use kp_kore::{Pattern, SortedVariable};
 use kp_rules::RightSide;
@@ -31,6 +33,7 @@ pub fn narrow(
     side: &RightSide,
     bindings: &[Binding],
 ) -> Result<(), GroundError>
+    requires { names_seen side.now.left_names ≡ bound_names bindings.now }
     ensures narrow { OnOk result ((v : Valuation) → Solves v bindings.now → part_computes_wide (signature_view signature.now) v (new_of side.now) (view side.now.term) ≡ false) }
     ensures refused { IfErr result (IsCausedBy (signature_view signature.now) ((v : Valuation) → Solves v bindings.now → part_computes_wide (signature_view signature.now) v (new_of side.now) (view side.now.term) ≡ true)) }
     ensures unbound { IfErr result (λ e. e ≡ Unbound → AnyByRecursion (IsOpenPart (signature_view signature.now) (bound_names bindings.now) side.now) (parts_of (view side.now.term))) }
@@ -47,6 +50,7 @@ fn narrow_parts(
     parts: &[&Pattern],
     bindings: &[Binding],
 ) -> Result<(), GroundError>
+    requires { names_seen side.now.left_names ≡ bound_names bindings.now }
     ensures narrow { OnOk result ((v : Valuation) → Solves v bindings.now → list_any (λ q. holds_none (new_of side.now) q && computes_wide (signature_view signature.now) v q) (seen parts.now) ≡ false) }
     ensures refused { IfErr result (IsCausedBy (signature_view signature.now) ((v : Valuation) → Solves v bindings.now → list_any (λ q. holds_none (new_of side.now) q && computes_wide (signature_view signature.now) v q) (seen parts.now) ≡ true)) }
     ensures unbound { IfErr result (λ e. e ≡ Unbound → AnyByRecursion (IsOpenPart (signature_view signature.now) (bound_names bindings.now) side.now) (seen parts.now)) }
@@ -65,6 +69,7 @@ fn narrow_part(
     part: &Pattern,
     bindings: &[Binding],
 ) -> Result<(), GroundError>
+    requires { names_seen side.now.left_names ≡ bound_names bindings.now }
     ensures narrow { OnOk result ((v : Valuation) → Solves v bindings.now → (holds_none (new_of side.now) (view part.now) && computes_wide (signature_view signature.now) v (view part.now)) ≡ false) }
     ensures refused { IfErr result (IsCausedBy (signature_view signature.now) ((v : Valuation) → Solves v bindings.now → (holds_none (new_of side.now) (view part.now) && computes_wide (signature_view signature.now) v (view part.now)) ≡ true)) }
     ensures unbound { IfErr result (λ e. e ≡ Unbound → IsOpenPart (signature_view signature.now) (bound_names bindings.now) side.now (view part.now)) }
@@ -72,7 +77,7 @@ fn narrow_part(
     if !has_no_new(alloc, side, part)? {
         return Ok(());
     }
-    evaluates(alloc, signature, part, bindings)
+    evaluates(alloc, signature, &side.left_names, part, bindings)
 }
 
 /// Whether no new variable stands in the part.
@@ -95,18 +100,35 @@ fn are_old(variables: &[SortedVariable], new_variables: &[SortedVariable]) -> bo
     true
 }
 
+/// Whether each variable is one of these names.
+fn are_names(names: &NameSet, variables: &[SortedVariable]) -> bool
+    ensures { result ≡ are_named (names_seen names.now) (map sorted_variable_view variables.now) }
+{
+    for variable in variables {
+        if !has_name(names, variable.name.as_str()) {
+            return false;
+        }
+    }
+    true
+}
+
 /// The part has a value under the bindings.
 fn evaluates(
     alloc: Global,
     signature: &Signature,
+    names: &NameSet,
     part: &Pattern,
     bindings: &[Binding],
 ) -> Result<(), GroundError>
+    requires { names_seen names.now ≡ bound_names bindings.now }
     ensures narrow { OnOk result ((v : Valuation) → Solves v bindings.now → computes_wide (signature_view signature.now) v (view part.now) ≡ false) }
     ensures refused { IfErr result (IsCausedBy (signature_view signature.now) ((v : Valuation) → Solves v bindings.now → computes_wide (signature_view signature.now) v (view part.now) ≡ true)) }
     ensures unbound { IfErr result (λ e. e ≡ Unbound → HasNoValue (signature_view signature.now) (bound_names bindings.now) (view part.now)) }
 {
-    match compile_term(alloc, signature, part) {
+    if !are_names(names, &part.free_vars(alloc)?) {
+        return Err(GroundError::Unbound);
+    }
+    match compile_term(alloc, signature, names, part) {
         Ok(term) => {
             let _value = term.evaluate(alloc, bindings)?;
             Ok(())

@@ -17,7 +17,9 @@ ghost use Rattle.kp_rules.specs.declared.rule.RuleBody.TheVariants as body;
 ghost use Rattle.kp_rule_sets.specs.Turns.{with_first};
 ghost use Rattle.kp_run.specs.Turns.{BodyIsWide, FiresAt};
 ghost use Rattle.kp_successors.specs.Turns.{RightIsWide, IsWideAt, Follows, AreNexts, next_list};
-ghost use Rattle.kp_ground.specs.Terms.{stays_narrow, lacks};
+ghost use Rattle.kp_ground.specs.Slots.{left_variables, term_reads};
+ghost use Rattle.kp_ground.specs.Terms.{stays_narrow};
+ghost use Rattle.kp_compile.specs.Names.{names_seen};
 ghost use Rattle.kp_ground.specs.TermView.{term_view};
 ghost use Rattle.kp_kore.specs.View.{sort_view};
 ghost use Rattle.kp_successors.specs.Open.{IsOpenSide, IsRightOpen, LeavesOpen, SomeLeavesOpen};
@@ -43,10 +45,11 @@ fn next_of(
     rewrite: &Rewrite,
     bindings: &[Binding],
 ) -> Result<Pattern, GroundError>
+    requires { bound_names bindings.now ≡ left_variables rewrite.now.left }
     ensures next { IfOk result (λ p. IsNextOf (signature_view signature.now) rewrite.now (λ v. Solves v bindings.now) (view p)) }
     ensures narrow { OnOk result ((v : Valuation) → Solves v bindings.now → is_right_narrow (signature_view signature.now) rewrite.now v ≡ true) }
     ensures refused { IfErr result (IsCausedBy (signature_view signature.now) ((v : Valuation) → Solves v bindings.now → is_right_narrow (signature_view signature.now) rewrite.now v ≡ false)) }
-    ensures unbound { IfErr result (λ e. e ≡ Unbound → IsRightOpen (signature_view signature.now) (bound_names bindings.now) rewrite.now rewrite.now.choice) }
+    ensures unbound { IfErr result (λ e. e ≡ Unbound → IsRightOpen (signature_view signature.now) (bound_names bindings.now) rewrite.now.choice) }
 {
     match &rewrite.choice {
         Some(side) => choosing(alloc, signature, &rewrite.right_sort, side, bindings),
@@ -62,6 +65,7 @@ fn choosing(
     side: &RightSide,
     bindings: &[Binding],
 ) -> Result<Pattern, GroundError>
+    requires { names_seen side.now.left_names ≡ bound_names bindings.now }
     ensures next { IfOk result (λ p. ChosenBy (signature_view signature.now) (sort_view sort.now) side.now (λ v. Solves v bindings.now) (view p)) }
     ensures narrow { OnOk result ((v : Valuation) → Solves v bindings.now → part_computes_wide (signature_view signature.now) v (new_of side.now) (view side.now.term) ≡ false) }
     ensures refused { IfErr result (IsCausedBy (signature_view signature.now) ((v : Valuation) → Solves v bindings.now → part_computes_wide (signature_view signature.now) v (new_of side.now) (view side.now.term) ≡ true)) }
@@ -82,10 +86,11 @@ fn plain(
     rewrite: &Rewrite,
     bindings: &[Binding],
 ) -> Result<Pattern, GroundError>
+    requires { term_reads (bound_names bindings.now) rewrite.now.right ≡ true }
     ensures next { IfOk result (λ p. PlainBy (signature_view signature.now) rewrite.now (λ v. Solves v bindings.now) (view p)) }
     ensures narrow { OnOk result ((v : Valuation) → Solves v bindings.now → stays_narrow v (term_view rewrite.now.right) ≡ true) }
     ensures refused { IfErr result (IsCausedBy (signature_view signature.now) ((v : Valuation) → Solves v bindings.now → stays_narrow v (term_view rewrite.now.right) ≡ false)) }
-    ensures unbound { IfErr result (λ e. e ≡ Unbound → lacks (bound_names bindings.now) (term_view rewrite.now.right) ≡ true) }
+    ensures known { IfErr result (λ e. ¬ (e ≡ Unbound)) }
 {
     let value = rewrite.right.evaluate(alloc, bindings)?;
     Ok(spelled(alloc, signature, &value, &rewrite.right_sort)?)

@@ -5,7 +5,8 @@ ghost use Rattle.kp_signature.specs.View.{signature_view};
 ghost use Rattle.kp_semantics.specs.Value.{HasSort};
 ghost use Rattle.kp_semantics.specs.Instance.{Valuation};
 ghost use Rattle.kp_ground.specs.Solves.{Solves, bound_names};
-ghost use Rattle.kp_ground.specs.Terms.{is_one_of};
+ghost use Rattle.kp_ground.specs.Slots.{is_one_of};
+ghost use Rattle.kp_compile.specs.Names.{names_seen};
 ghost use Rattle.kp_states.specs.Spelled.{IsSpellingOf};
 ghost use Rattle.kp_substitution.specs.Seen.{replacements_view, replacement_view};
 ghost use Rattle.kp_successors.specs.Errors.{IsCausedBy};
@@ -15,8 +16,9 @@ ghost use Rattle.kp_successors.specs.declared.error.GroundError.TheVariants.{Unb
 
 use crate::error::GroundError;
 use crate::member::is_named;
+use kp_compile::{NameSet, has_name, slot_of};
 use kp_ground::Binding;
-use kp_ground::binding::find_binding;
+use kp_ground::binding::bound_at;
 use kp_kore::SortedVariable;
 use kp_rules::RightSide;
 use kp_signature::Signature;
@@ -31,6 +33,7 @@ pub fn put_in(
     side: &RightSide,
     bindings: &[Binding],
 ) -> Result<Vec<Replacement>, GroundError>
+    requires { names_seen side.now.left_names ≡ bound_names bindings.now }
     ensures names { IfOk result (λ rs. AreForLeft side.now (replacements_view rs.items)) }
     ensures spelled { IfOk result (λ rs. Spell (signature_view signature.now) (left_of side.now) (λ v. Solves v bindings.now) (replacements_view rs.items)) }
     ensures refused { IfErr result (IsCausedBy (signature_view signature.now) ⊥) }
@@ -39,7 +42,13 @@ pub fn put_in(
     let mut found = Vec::new(alloc);
     for variable in &side.left_variables {
         if !is_named(variable.name.as_str(), &side.new_variables) {
-            let replacement = replacement_of(alloc, signature, variable, bindings)?;
+            let replacement = replacement_of(
+                alloc,
+                signature,
+                &side.left_names,
+                variable,
+                bindings,
+            )?;
             add(&mut found, replacement)?;
         }
     }
@@ -57,9 +66,11 @@ fn add(found: &mut Vec<Replacement>, replacement: Replacement) -> Result<(), All
 fn replacement_of(
     alloc: Global,
     signature: &Signature,
+    names: &NameSet,
     variable: &SortedVariable,
     bindings: &[Binding],
 ) -> Result<Replacement, GroundError>
+    requires { names_seen names.now ≡ bound_names bindings.now }
     ensures name { IfOk result (λ r. string_bytes r.name ≡ string_bytes variable.now.name) }
     ensures spelled { IfOk result (λ r. (v : Valuation) → Solves v bindings.now →
         HasSort (signature_view signature.now) (sort_view variable.now.sort) (v (string_bytes variable.now.name)) →
@@ -67,11 +78,12 @@ fn replacement_of(
     ensures refused { IfErr result (IsCausedBy (signature_view signature.now) ⊥) }
     ensures unbound { IfErr result (λ e. e ≡ Unbound → not (is_one_of (string_bytes variable.now.name) (bound_names bindings.now)) ≡ true) }
 {
-    match find_binding(bindings, variable.name.as_str()) {
-        Some(value) => Ok(Replacement {
-            name: variable.name.clone()?,
-            term: spelled(alloc, signature, value, &variable.sort)?,
-        }),
-        None => Err(GroundError::Unbound),
+    if !has_name(names, variable.name.as_str()) {
+        return Err(GroundError::Unbound);
     }
+    let value = bound_at(bindings, slot_of(names, variable.name.as_str()));
+    Ok(Replacement {
+        name: variable.name.clone()?,
+        term: spelled(alloc, signature, value, &variable.sort)?,
+    })
 }

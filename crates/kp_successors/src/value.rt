@@ -9,7 +9,7 @@ ghost use Rattle.kp_ground.specs.View.{value_view};
 ghost use Rattle.kp_successors.specs.Errors.{IsUnvalued};
 
 use crate::error::GroundError;
-use kp_compile::{CompileError, compile_term, is_term};
+use kp_compile::{CompileError, compile_term, is_term, no_names};
 use kp_ground::Value;
 use kp_kore::Pattern;
 use kp_signature::Signature;
@@ -33,7 +33,7 @@ pub fn value_of(
     if !pattern.free_vars(alloc)?.is_empty() {
         return Err(GroundError::Unread);
     }
-    match compile_term(alloc, signature, pattern) {
+    match compile_term(alloc, signature, &no_names(alloc), pattern) {
         Ok(term) => Ok(term.evaluate(alloc, &[])?),
         Err(CompileError::Memory) => Err(GroundError::Memory),
         Err(_) => Err(GroundError::Unread),

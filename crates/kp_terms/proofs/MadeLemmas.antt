@@ -6,9 +6,9 @@ use Rattle.kp_semantics.specs.Value as model
 use Rattle.kp_semantics.specs.Value.{whole, truth, no_values, next_value}
 use Rattle.kp_semantics.specs.Interpretation.{interpreted, no_meaning}
 use Rattle.kp_semantics.specs.Replies.{is_wide_value}
-use Rattle.kp_ground.specs.HookView.{hook_view}
-use Rattle.kp_ground.specs.declared.hook.Hook as code
-use Rattle.kp_ground.specs.declared.hook.Hook.TheVariants as code_hook
+use Rattle.kp_hooks.specs.HookView.{hook_view}
+use Rattle.kp_hooks.specs.declared.hook.Hook as code
+use Rattle.kp_hooks.specs.declared.hook.Hook.TheVariants as code_hook
 use Rattle.kp_ground.specs.View.{value_view, values_of}
 use Rattle.kp_ground.specs.declared.value.Value.{Value}
 use Rattle.kp_symbolic.specs.Terms.{known}

@@ -6,8 +6,8 @@ use Rattle.kp_kore.specs.Hooks as arithmetic
 use Rattle.kp_kore.specs.Parts.{SortedName}
 use Rattle.kp_kore.specs.Signature.{KoreSignature, meaning_of}
 use Rattle.kp_semantics.specs.Value.{Value, whole}
-use Rattle.kp_ground.specs.declared.hook.Arithmetic.{Arithmetic}
-use Rattle.kp_ground.specs.declared.hook.Arithmetic.TheVariants.{Addition, Subtraction, Multiplication}
+use Rattle.kp_hooks.specs.declared.hook.Arithmetic.{Arithmetic}
+use Rattle.kp_hooks.specs.declared.hook.Arithmetic.TheVariants.{Addition, Subtraction, Multiplication}
 use Rattle.kp_symbolic.specs.Terms.{SymbolicTerm, unknown, offset, known, SymbolicTerms, no_terms, next_term}
 use Rattle.kp_symbolic.specs.Folding as model
 use Rattle.kp_symbolic.specs.Folding.{can_be_added}

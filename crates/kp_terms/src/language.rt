@@ -4,14 +4,14 @@ ghost use Rattle.std.specs.Option.{option_map};
 ghost use Rattle.std.proofs.Props.{props};
 ghost use Rattle.kp_kore.specs.Hooks.{addition as sum, subtraction as difference, whole_arithmetic};
 ghost use Rattle.kp_kore.specs.Signature.{interpretation};
-ghost use Rattle.kp_ground.specs.HookView.{arithmetic_view};
+ghost use Rattle.kp_hooks.specs.HookView.{arithmetic_view};
 ghost use Rattle.kp_signature.specs.Meanings.{meaning_view};
 ghost use Rattle.kp_kore.specs.View.{symbol_sentence_view};
 ghost use Rattle.kp_signature.specs.View.{signature_view};
 ghost use Rattle.kp_terms.specs.Sums.{least_with};
 ghost use Rattle.kp_symbolic.specs.Folding.{is_text_before, is_arithmetic as arithmetic_test, least_of, least_symbol as least_named};
 
-use kp_ground::{Arithmetic, Hook};
+use kp_hooks::{Arithmetic, Hook};
 use kp_kore::{Name, SymbolSentence};
 use kp_signature::{Function, Meaning, Signature, meaning_of};
 use std::alloc::{AllocError, Global};

@@ -4,7 +4,7 @@ ghost use Rattle.std.specs.Option.{option_map};
 ghost use Rattle.kp_semantics.specs.Value.{truth, constructed};
 ghost use Rattle.kp_semantics.specs.Forms.{two};
 ghost use Rattle.kp_semantics.specs.Interpretation.{interpreted};
-ghost use Rattle.kp_ground.specs.HookView.{hook_view};
+ghost use Rattle.kp_hooks.specs.HookView.{hook_view};
 ghost use Rattle.kp_ground.specs.View.{value_view, values_of};
 ghost use Rattle.kp_signature.specs.Meanings.{function_view};
 ghost use Rattle.kp_symbolic.specs.Terms.{headed, known};
@@ -17,7 +17,8 @@ use crate::language::Language;
 use crate::sum::summed_or;
 use crate::term::Term;
 use kp_ground::evaluate::{call_of_two, negation};
-use kp_ground::{EvaluationError, Hook, Value};
+use kp_ground::{EvaluationError, Value};
+use kp_hooks::Hook;
 use kp_signature::{Function, Meaning, meaning_of};
 use std::alloc::{AllocError, Global};
 use std::sync::Arc;
@@ -74,7 +75,7 @@ fn called_with_two(hook: Hook, left: &Value, right: &Value) -> Result<Option<Val
     match call_of_two(hook, left, right) {
         Ok(value) => Ok(Some(value)),
         Err(EvaluationError::Number) => Ok(None),
-        Err(EvaluationError::Memory | EvaluationError::Unbound) => Err(AllocError),
+        Err(EvaluationError::Memory) => Err(AllocError),
     }
 }
 

@@ -14,7 +14,8 @@ ghost use Rattle.kp_terms.specs.Sums.{sum_view, whole_in, whole_known, pair, con
 use crate::language::Language;
 use crate::term::Term;
 use crate::variable::Variable;
-use kp_ground::{Arithmetic, Hook, Value};
+use kp_ground::Value;
+use kp_hooks::{Arithmetic, Hook};
 use kp_signature::{Function, Signature};
 use std::alloc::AllocError;
 use std::sync::Arc;

@@ -1,4 +1,5 @@
-use kp_ground::{Arithmetic, Binding, EvaluationError, Hook, Left, Term, Value};
+use kp_ground::{Binding, EvaluationError, Left, Term, Value};
+use kp_hooks::{Arithmetic, Hook};
 use kp_kore::{Pattern, Sort};
 use std::alloc::Global;
 use std::sync::Arc;
@@ -8,6 +9,7 @@ use std::test::Fail;
 fn less(alloc: Global, number: i128) -> Result<Term, Fail> {
     let left = Term::Variable {
         name: String::from_str(alloc, "N")?,
+        slot: 0,
     };
     let right = Term::Fixed {
         value: Value::Whole { number },
@@ -23,7 +25,8 @@ fn less(alloc: Global, number: i128) -> Result<Term, Fail> {
 fn of_variable(alloc: Global) -> Result<Left, Fail> {
     let mut arguments = Vec::new(alloc);
     arguments.push(Left::Variable {
-        name: String::from_str(alloc, "N")?,
+        name: Arc::new(alloc, String::from_str(alloc, "N")?)?,
+        slot: 0,
     })?;
     Ok(Left::Built {
         constructor: Arc::new(alloc, String::from_str(alloc, "f")?)?,
@@ -66,7 +69,7 @@ fn a_number_beyond_128_bits_is_told(rt: HostRuntime) -> Result<(), Fail> {
     let alloc = rt.alloc();
     let mut bindings = Vec::new(alloc);
     bindings.push(Binding {
-        name: String::from_str(alloc, "N")?,
+        name: Arc::new(alloc, String::from_str(alloc, "N")?)?,
         value: Value::Whole { number: i128::MIN },
     })?;
     let failed = matches!(

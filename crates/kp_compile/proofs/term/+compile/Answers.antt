@@ -1,4 +1,4 @@
-use Rattle.std.proofs.Common.{rules, ◌≡◌, ◌∙◌, sym, ap, ap₂, subst, take, length, ◌+◌, string_bytes, arith}
+use Rattle.std.proofs.Common.{rules, ◌≡◌, ◌∙◌, sym, ap, ap₂, subst, take, length, ◌+◌, string_bytes, true, arith}
 use Rattle.std.proofs.lemmas.Result.{err_from_is_err_and, IfErr-weaker, IfOk-weaker}
 use Rattle.kp_kore.specs.Hooks.{truth_negation}
 use Rattle.kp_kore.specs.Syntax.{application}
@@ -7,16 +7,17 @@ use Rattle.kp_kore.specs.View.{view, sorts_view, patterns_view}
 use Rattle.kp_kore.specs.Signature.{meaning_of, construction, injection, interpretation}
 use Rattle.kp_kore.specs.declared.pattern.Pattern.{the_lemmas}
 use Rattle.kp_semantics.specs.Value.{constructed}
-use Rattle.kp_ground.specs.HookView.{hook_view}
+use Rattle.kp_hooks.specs.HookView.{hook_view}
 use Rattle.kp_ground.specs.TermView.{term_view}
 use Rattle.kp_signature.specs.View.{signature_view}
-use Rattle.kp_compile.specs.Exact.{IsTermOf, AreTermsOf, IsNarrowAs, AreTermsNarrowAs, HasVariablesOf, HaveVariablesOf, some_unnamed}
+use Rattle.kp_compile.specs.Exact.{IsTermOf, AreTermsOf, IsNarrowAs, AreTermsNarrowAs, ReadsAs, ReadAllAs, are_named}
+use Rattle.kp_compile.specs.Names.{names_seen}
 use Rattle.kp_signature.specs.Meanings.{function_view, meaning_view}
 use Rattle.kp_compile.specs.Verified.{IsVerifiedTerm}
 use Rattle.kp_compile.proofs.Compiled.{zip_push, each_term}
 use Rattle.kp_compile.proofs.Narrow.{built_narrow, call_narrow, opposite_narrow}
 use Rattle.kp_compile.proofs.Taken.{call_takes_two, opposite_takes_one, inj_takes_one}
-use Rattle.kp_compile.proofs.Variables.{each_variable, of_one, of_two}
+use Rattle.kp_compile.proofs.Reading.{both_so, each_reads, one_named, two_named}
 use Rattle.kp_compile.proofs.VerifiedParts.{arguments, at_index}
 use Rattle.kp_compile.proofs.term.+compile.Goals as goal
 use Rattle.kp_compile.proofs.term.+compile.Goals.{compile_applied-in_default-via-then-arguments-lt1, compile_applied-in_default-via-else-arguments-lt1+else-arguments-lt2, compile_applied-in_default-arguments-via-then-arguments-lt2-2, compile_applied-in_default-arguments-via-else-arguments-lt2-2+else-arguments-lt3, compile_applied-in_default-arguments-2-via-then-arguments-lt1-2, compile_applied-in_default-arguments-2-via-else-arguments-lt1-2+else-arguments-lt2-3}
@@ -25,13 +26,13 @@ pub compile_applied-returns-in_ok-terms-in-Constructor-clause-meaning : goal.com
 compile_applied-returns-in_ok-terms-in-Constructor-clause-meaning t c = λ v.
     let means : meaning_of (signature_view c.args.signature.now) (string_bytes c.args.name.now) ≡ construction
     = ap (meaning_of (signature_view c.args.signature.now)) (sym c.deref.ensures) ∙ sym c.meaning_of.ensures ∙ ap meaning_view c.in-Constructor.is in
-    rw (c.make_built.ensures, means) (ap₂ constructed c.in_ok-shared-in-Constructor.ensures (each_term (signature_view c.args.signature.now) v c.args.arguments.now c.in_ok-terms-in-Constructor.terms.items c.in_ok-terms-in-Constructor.ensures.meaning))
+    rw (c.make_built.ensures.seen, means) (ap₂ constructed c.in_ok-shared-in-Constructor.ensures (each_term (signature_view c.args.signature.now) v c.args.arguments.now c.in_ok-terms-in-Constructor.terms.items c.in_ok-terms-in-Constructor.ensures.meaning))
 
 pub compile_applied-returns-in_ok-terms-in-Constructor-clause-narrow : goal.compile_applied-returns-in_ok-terms-in-Constructor-clause-narrow
 compile_applied-returns-in_ok-terms-in-Constructor-clause-narrow t c = λ ss v.
     let g = signature_view c.args.signature.now in
     let means : meaning_of g (string_bytes c.args.name.now) ≡ construction = ap (meaning_of g) (sym c.deref.ensures) ∙ sym c.meaning_of.ensures ∙ ap meaning_view c.in-Constructor.is in
-    rw c.make_built.ensures (built_narrow g v (string_bytes c.args.name.now) ss c.args.arguments.now c.in_ok-terms-in-Constructor.terms.items means c.in_ok-terms-in-Constructor.ensures.narrow)
+    rw c.make_built.ensures.seen (built_narrow g v (string_bytes c.args.name.now) ss c.args.arguments.now c.in_ok-terms-in-Constructor.terms.items means c.in_ok-terms-in-Constructor.ensures.narrow)
 
 pub compile_applied-returns-in_err-terms-in-Constructor-clause-refused : goal.compile_applied-returns-in_err-terms-in-Constructor-clause-refused
 compile_applied-returns-in_err-terms-in-Constructor-clause-refused t c =
@@ -80,7 +81,7 @@ compile_applied-returns-in_ok-make_call-in-len2-clause-narrow t c = λ ss v.
     let g = (signature_view c.args.signature.now) in
     let means : meaning_of g (string_bytes c.args.name.now) ≡ interpretation (hook_view c.in-Interpreted-Two.hook)
     = ap (meaning_of g) (sym c.deref.ensures) ∙ sym c.meaning_of.ensures ∙ ap meaning_view c.in-Interpreted-Two.is ∙ ap (λ f. interpretation (function_view f)) c.in-Interpreted-Two.field-0-is in
-    rw c.in_ok-make_call-in-len2.ensures (call_narrow g v (string_bytes c.args.name.now) ss c.args.arguments.now c.left-item.result c.right-item.result (hook_view c.in-Interpreted-Two.hook)
+    rw c.in_ok-make_call-in-len2.ensures.seen (call_narrow g v (string_bytes c.args.name.now) ss c.args.arguments.now c.left-item.result c.right-item.result (hook_view c.in-Interpreted-Two.hook)
     (term_view c.in_ok-left-in-len2.left) (term_view c.in_ok-right-in-len2.right) (omega arith) c.left-item.is c.right-item.is means
     (c.in_ok-left-in-len2.ensures.meaning v) (c.in_ok-right-in-len2.ensures.meaning v) (c.in_ok-left-in-len2.ensures.narrow v) (c.in_ok-right-in-len2.ensures.narrow v))
 
@@ -97,7 +98,7 @@ compile_applied-returns-in_ok-make_opposite-in-len1-arguments-clause-narrow t c 
     let g = (signature_view c.args.signature.now) in
     let means : meaning_of g (string_bytes c.args.name.now) ≡ interpretation truth_negation
     = ap (meaning_of g) (sym c.deref.ensures) ∙ sym c.meaning_of.ensures ∙ ap meaning_view c.in-Interpreted-Negation.is ∙ ap (λ f. interpretation (function_view f)) c.in-Interpreted-Negation.field-0-is in
-    rw c.in_ok-make_opposite-in-len1-arguments.ensures (opposite_narrow g v (string_bytes c.args.name.now) ss c.args.arguments.now c.argument-item-then-arguments-lt2-3.result
+    rw c.in_ok-make_opposite-in-len1-arguments.ensures.seen (opposite_narrow g v (string_bytes c.args.name.now) ss c.args.arguments.now c.argument-item-then-arguments-lt2-3.result
     (term_view c.in_ok-term-in-len1-arguments.term) (omega arith) c.argument-item-then-arguments-lt2-3.is means (c.in_ok-term-in-len1-arguments.ensures.narrow v))
 
 pub compile_applied-returns-in_default-arguments-2-clause-refused : goal.compile_applied-returns-in_default-arguments-2-clause-refused
@@ -133,32 +134,36 @@ compile_each-loop-pattern-preserved t c = (
   subst (λ xs. AreTermsNarrowAs (signature_view c.args.signature.now) (take (c.loop-pattern.pattern-index + 1) c.args.patterns.now) xs) (sym c.in_ok-push.ensures.items)
       (zip_push (λ p x. IsNarrowAs (signature_view c.args.signature.now) (view p) x) c.loop-pattern.pattern-index c.args.patterns.now c.loop-pattern.terms.items c.pattern-item.result c.in_ok-term_of.field-0
       c.loop-pattern-test.true c.pattern-item.is c.loop-pattern.invariant.1 c.in_ok-term_of.ensures.narrow),
-  subst (λ xs. HaveVariablesOf (take (c.loop-pattern.pattern-index + 1) c.args.patterns.now) xs) (sym c.in_ok-push.ensures.items)
-      (zip_push (λ p x. HasVariablesOf (view p) x) c.loop-pattern.pattern-index c.args.patterns.now c.loop-pattern.terms.items c.pattern-item.result c.in_ok-term_of.field-0
-      c.loop-pattern-test.true c.pattern-item.is c.loop-pattern.invariant.2 c.in_ok-term_of.ensures.variables),
+  subst (λ xs. ReadAllAs (names_seen c.args.names.now) (take (c.loop-pattern.pattern-index + 1) c.args.patterns.now) xs) (sym c.in_ok-push.ensures.items)
+      (zip_push (λ p x. ReadsAs (names_seen c.args.names.now) (view p) x) c.loop-pattern.pattern-index c.args.patterns.now c.loop-pattern.terms.items c.pattern-item.result c.in_ok-term_of.field-0
+      c.loop-pattern-test.true c.pattern-item.is c.loop-pattern.invariant.2 c.in_ok-term_of.ensures.reads),
 )
 
-pub compile_applied-returns-in_ok-terms-in-Constructor-clause-variables : goal.compile_applied-returns-in_ok-terms-in-Constructor-clause-variables
-compile_applied-returns-in_ok-terms-in-Constructor-clause-variables t c = λ xs.
-    rw c.make_built.ensures (each_variable xs c.args.arguments.now c.in_ok-terms-in-Constructor.terms.items c.in_ok-terms-in-Constructor.ensures.variables)
+pub compile_applied-returns-in_ok-terms-in-Constructor-clause-reads : goal.compile_applied-returns-in_ok-terms-in-Constructor-clause-reads
+compile_applied-returns-in_ok-terms-in-Constructor-clause-reads t c = λ named.
+    let xs = names_seen c.args.names.now in
+    c.make_built.ensures.reads xs ∙ each_reads xs c.args.arguments.now c.in_ok-terms-in-Constructor.terms.items c.in_ok-terms-in-Constructor.ensures.reads named
 
-pub compile_applied-returns-in_ok-make_call-in-len2-clause-variables : goal.compile_applied-returns-in_ok-make_call-in-len2-clause-variables
-compile_applied-returns-in_ok-make_call-in-len2-clause-variables t c = λ xs.
-    rw c.in_ok-make_call-in-len2.ensures (of_two xs c.args.arguments.now c.left-item.result c.right-item.result _ _ (omega arith) c.left-item.is c.right-item.is
-    (c.in_ok-left-in-len2.ensures.variables xs) (c.in_ok-right-in-len2.ensures.variables xs))
+pub compile_applied-returns-in_ok-make_call-in-len2-clause-reads : goal.compile_applied-returns-in_ok-make_call-in-len2-clause-reads
+compile_applied-returns-in_ok-make_call-in-len2-clause-reads t c = λ named.
+    let xs = names_seen c.args.names.now in
+    let each = two_named xs c.args.arguments.now c.left-item.result c.right-item.result (omega arith) c.left-item.is c.right-item.is named in
+    c.in_ok-make_call-in-len2.ensures.reads xs ∙ both_so _ _ (c.in_ok-left-in-len2.ensures.reads each.0) (c.in_ok-right-in-len2.ensures.reads each.1)
 
-pub compile_applied-returns-in_ok-make_opposite-in-len1-arguments-clause-variables : goal.compile_applied-returns-in_ok-make_opposite-in-len1-arguments-clause-variables
-compile_applied-returns-in_ok-make_opposite-in-len1-arguments-clause-variables t c = λ xs.
-    rw c.in_ok-make_opposite-in-len1-arguments.ensures (of_one xs c.args.arguments.now c.argument-item-then-arguments-lt2-3.result _ (omega arith) c.argument-item-then-arguments-lt2-3.is
-    (c.in_ok-term-in-len1-arguments.ensures.variables xs))
+pub compile_applied-returns-in_ok-make_opposite-in-len1-arguments-clause-reads : goal.compile_applied-returns-in_ok-make_opposite-in-len1-arguments-clause-reads
+compile_applied-returns-in_ok-make_opposite-in-len1-arguments-clause-reads t c = λ named.
+    let xs = names_seen c.args.names.now in
+    c.in_ok-make_opposite-in-len1-arguments.ensures.reads xs ∙ c.in_ok-term-in-len1-arguments.ensures.reads
+    (one_named xs c.args.arguments.now c.argument-item-then-arguments-lt2-3.result (omega arith) c.argument-item-then-arguments-lt2-3.is named)
 
-pub compile_applied-returns-in-len1-clause-variables : goal.compile_applied-returns-in-len1-clause-variables
-compile_applied-returns-in-len1-clause-variables t c =
-    IfOk-weaker c.term_of.result _ _ (λ x told xs. of_one xs c.args.arguments.now c.argument-item.result _ (omega arith) c.argument-item.is (told xs)) c.term_of.ensures.variables
+pub compile_applied-returns-in-len1-clause-reads : goal.compile_applied-returns-in-len1-clause-reads
+compile_applied-returns-in-len1-clause-reads t c =
+    IfOk-weaker c.term_of.result _ _ (λ x told named. told (one_named (names_seen c.args.names.now) c.args.arguments.now c.argument-item.result (omega arith) c.argument-item.is named)) c.term_of.ensures.reads
 
-pub term_of-returns-in-Application-clause-variables : goal.term_of-returns-in-Application-clause-variables
-term_of-returns-in-Application-clause-variables t c =
+pub term_of-returns-in-Application-clause-reads : goal.term_of-returns-in-Application-clause-reads
+term_of-returns-in-Application-clause-reads t c =
     let is : view c.args.pattern.now ≡ application (string_bytes c.in-Application.symbol) (sorts_view c.in-Application.sorts.items) (patterns_view c.in-Application.arguments.items) = search (rules, the_lemmas) in
     IfOk-weaker c.compile_applied.result _ _
-    (λ x told xs. told xs ∙ ap (λ p. some_unnamed xs (free_variables p)) (sym (is ∙ ap (λ ps. application (string_bytes c.in-Application.symbol) (sorts_view c.in-Application.sorts.items) (patterns_view ps)) (sym c.deref.ensures.value))))
-    c.compile_applied.ensures.variables
+    (λ x told named. told (subst (λ p. are_named (names_seen c.args.names.now) (free_variables p) ≡ true)
+    (is ∙ ap (λ ps. application (string_bytes c.in-Application.symbol) (sorts_view c.in-Application.sorts.items) (patterns_view ps)) (sym c.deref.ensures.value)) named))
+    c.compile_applied.ensures.reads

@@ -1,10 +1,11 @@
 use Rattle.std.proofs.Common.{take}
 use Rattle.kp_signature.specs.View.{signature_view}
-use Rattle.kp_compile.specs.Exact.{AreTermsOf, AreTermsNarrowAs, HaveVariablesOf}
+use Rattle.kp_compile.specs.Exact.{AreTermsOf, AreTermsNarrowAs, ReadAllAs}
+use Rattle.kp_compile.specs.Names.{names_seen}
 use Rattle.kp_compile.proofs.term.+compile.Given as goal
 
 abbrev pub invariant-compile_each-loop-pattern : goal.invariant-compile_each-loop-pattern
 invariant-compile_each-loop-pattern l =
     AreTermsOf (signature_view l.signature) (take l.pattern-index l.patterns) l.terms.items
     × AreTermsNarrowAs (signature_view l.signature) (take l.pattern-index l.patterns) l.terms.items
-    × HaveVariablesOf (take l.pattern-index l.patterns) l.terms.items
+    × ReadAllAs (names_seen l.names) (take l.pattern-index l.patterns) l.terms.items

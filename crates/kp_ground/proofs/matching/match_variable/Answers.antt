@@ -1,22 +1,41 @@
-use Rattle.std.proofs.Common.{◌≡◌, ◌∙◌, sym, ap, subst, string_bytes}
-use Rattle.kp_ground.specs.Solves.{Solves}
-use Rattle.kp_ground.specs.View.{value_view}
+use Rattle.std.proofs.Common.{◌≡◌, ◌∙◌, sym, ap, subst, ◌<◌, ◌≤◌, length, string_bytes, true, arith}
 use Rattle.kp_ground.specs.Matches.{IsSame}
+use Rattle.kp_ground.specs.Slots.{stands_at}
+use Rattle.kp_ground.specs.Solves.{Solves, bound_names}
 use Rattle.kp_ground.specs.Terms.{left_bound}
-use Rattle.kp_ground.proofs.MatchLemmas.{matches_kept, kept_solvable, solvable_with}
+use Rattle.kp_ground.specs.View.{value_view}
+use Rattle.kp_ground.proofs.MatchLemmas.{matches_kept, solvable_with}
+use Rattle.kp_ground.proofs.SlotLemmas.{below_names, past_names, stands_before, with_old, is_new, with_new, others, kept_names}
 use Rattle.kp_ground.proofs.matching.match_variable.Goals as goal
 
-pub returns-in-Some-clause-matches : goal.returns-in-Some-clause-matches
-returns-in-Some-clause-matches c =
-    matches_kept c.keep_if_equal.result c.args.bindings.items (value_view c.in_ok-bound.bound ≡ value_view c.args.value.now) (IsSame (left_bound (string_bytes c.args.name.now)) (value_view c.args.value.now)) c.keep_if_equal.ensures
-    (λ v s.
-    let is : v (string_bytes c.args.name.now) ≡ value_view c.in_ok-bound.bound = ap v (sym (c.as_str.ensures.value)) ∙ c.in-Some.ensures.found v (subst (Solves v) (sym c.deref.ensures.value) s) ∙ sym c.in_ok-bound.ensures in
-    ((λ e. sym is ∙ e), (λ e. is ∙ e)))
+pub returns-then-slot-len-clause-matches : goal.returns-then-slot-len-clause-matches
+returns-then-slot-len-clause-matches c =
+    let x = string_bytes c.args.name.now.value in
+    let old = c.args.bindings.items in
+    let below : c.args.slot < length old = omega arith in
+    let here : stands_at (bound_names old) x c.args.slot ≡ true = stands_before (bound_names old) x c.args.slot (below_names old c.args.slot below) c.requires in
+    let reads : stands_at (bound_names c.deref.result.now) x c.args.slot ≡ true = subst (λ bs. stands_at (bound_names bs) x c.args.slot ≡ true) (sym c.deref.ensures.value) here in
+    matches_kept c.keep_if.result old (c.is_bound_to-is_same.result ≡ true) (IsSame (left_bound x) (value_view c.args.value.now)) c.keep_if.ensures
+    (λ v s. let told = c.is_bound_to-is_same.ensures v x (subst (Solves v) (sym c.deref.ensures.value) s) reads in ((λ e. told.1 e), (λ t. told.0 t)))
 
-pub returns-in-Some-clause-solvable : goal.returns-in-Some-clause-solvable
-returns-in-Some-clause-solvable c = kept_solvable c.keep_if_equal.result c.args.bindings.items _ _ c.keep_if_equal.ensures
+pub returns-then-slot-len-clause-names : goal.returns-then-slot-len-clause-names
+returns-then-slot-len-clause-names c =
+    let x = string_bytes c.args.name.now.value in
+    let old = c.args.bindings.items in
+    let below : c.args.slot < length old = omega arith in
+    kept_names c.keep_if.result old _ _ _ c.keep_if.ensures (with_old (bound_names old) x c.args.slot (below_names old c.args.slot below) c.requires)
 
 pub returns-clause-solvable : goal.returns-clause-solvable
 returns-clause-solvable c =
-    solvable_with (string_bytes c.args.name.now) (value_view c.args.value.now) c.args.bindings.items c.in_ok-with_binding.field-0.items
-    (rw (sym c.deref.ensures.value, sym c.as_str.ensures.value) c.in_default.ensures.none) c.in_ok-with_binding.ensures
+    let x = string_bytes c.args.name.now.value in
+    let old = c.args.bindings.items in
+    let past : length old ≤ c.args.slot = omega arith in
+    solvable_with x (value_view c.args.value.now) old c.in_ok-with_binding.field-0.items
+    (others x old (is_new (bound_names old) x c.args.slot (past_names old c.args.slot past) c.requires)) c.in_ok-with_binding.ensures.same
+
+pub returns-clause-names : goal.returns-clause-names
+returns-clause-names c =
+    let x = string_bytes c.args.name.now.value in
+    let old = c.args.bindings.items in
+    let past : length old ≤ c.args.slot = omega arith in
+    c.in_ok-with_binding.ensures.names ∙ sym (with_new (bound_names old) x c.args.slot (past_names old c.args.slot past) c.requires)

@@ -1,5 +1,5 @@
 use Rattle.std.proofs.Common.{rules, ◌≡◌, ◌∙◌, ◌<◌, ◌≤◌, ◌+◌, ◌++◌, ◌∷◌, sym, ap, ap₂, map, drop, subst, length, IfOk, arith}
-use Rattle.kp_ground.specs.HookView.{hook_view}
+use Rattle.kp_hooks.specs.HookView.{hook_view}
 use Rattle.kp_terms.proofs.MadeLemmas.{not_negation}
 use Rattle.kp_signature.specs.View.{signature_view}
 use Rattle.kp_states.specs.Spelled.{places_of}

@@ -5,8 +5,8 @@ use Rattle.kp_rules.specs.Shapes.{seen}
 use Rattle.kp_rule_reading.proofs.NewVariables.{new_named}
 use Rattle.kp_rule_reading.proofs.choice.right_side.Goals as goal
 
-pub returns : goal.returns
-returns c =
+pub returns-clause-side : goal.returns-clause-side
+returns-clause-side c =
     let left = view c.args.shape.now.left.term.now in
     let names = c.in_ok-names.names in
     let variables = map sorted_variable_view c.in_ok-left_variables.left_variables.items in

@@ -6,9 +6,12 @@ use Rattle.kp_kore.specs.View.{view, sort_view, axiom_sentence_view}
 use Rattle.kp_semantics.specs.Rules.{rewrite_of}
 use Rattle.kp_signature.specs.View.{signature_view}
 use Rattle.kp_rules.specs.Bodies.{IsFaulty}
-use Rattle.kp_rule_reading.specs.Reading.{IsStatementRead}
+use Rattle.kp_kore.specs.Parts.{free_variables}
+use Rattle.kp_semantics.specs.Instance.{is_named}
+use Rattle.kp_rule_reading.specs.Reading.{IsStatementRead, is_left_read}
+use Rattle.kp_rule_reading.proofs.Named.{conditions_named, right_passes}
 use Rattle.kp_rules.specs.Shapes.{rewrite_seen}
-use Rattle.kp_rule_reading.proofs.ReadParts.{statement_read}
+use Rattle.kp_rule_reading.proofs.ReadParts.{statement_read, both_true}
 use Rattle.kp_rule_reading.proofs.ReadBodies.{rewrite_body, foreign_by_statement, foreign_by_shape, shape_told, faulty, sound_where_read, no_fault, not_faulty, unread_by_shape, at_ok}
 use Rattle.kp_sorts.proofs.SortedRules.{rule_left_is_verified, rule_right_is_sorted}
 use Rattle.kp_rule_reading.proofs.read.body_of.Goals as goal
@@ -98,3 +101,22 @@ returns-in-None-clause-unfaulty c =
     let l = view c.args.left.now in
     let r = view c.args.right.now in
     at_ok c.foreign_body-in-None.result (¬ IsFaulty g a) (not_faulty g a (unread_by_shape g a s l r c.in_ok-shape.field-0 c.requires.sides c.in-None.is (c.in_ok-shape.ensures s)))
+
+pub rewrite_from-requires-clause-condition : goal.rewrite_from-requires-clause-condition
+rewrite_from-requires-clause-condition c =
+    let g = signature_view c.args.signature.now in
+    let s = sort_view c.args.sort.now in
+    let l = view c.args.left.now in
+    let r = view c.args.right.now in
+    let told = shape_told g (rewriting s l r) r c.in_ok-shape.field-0 c.in-Some.shape c.in-Some.is (c.in_ok-shape.ensures s) in
+    let m = rewrite_seen r c.in-Some.shape in
+    conditions_named (λ y. is_named y (free_variables m.left)) m.condition (both_true (is_left_read g m.left) _ told.1).1
+
+pub rewrite_from-requires-clause-right : goal.rewrite_from-requires-clause-right
+rewrite_from-requires-clause-right c =
+    let g = signature_view c.args.signature.now in
+    let s = sort_view c.args.sort.now in
+    let l = view c.args.left.now in
+    let r = view c.args.right.now in
+    let told = shape_told g (rewriting s l r) r c.in_ok-shape.field-0 c.in-Some.shape c.in-Some.is (c.in_ok-shape.ensures s) in
+    right_passes s l r (rewrite_seen r c.in-Some.shape) told.0

@@ -1,16 +1,19 @@
-use Rattle.std.proofs.Common.{rules, ◌≡◌, ◌∙◌, sym, ap, subst, length, string_bytes, arith}
+use Rattle.std.proofs.Common.{rules, ◌≡◌, ◌∙◌, sym, ap, subst, length, string_bytes, true, arith}
 use Rattle.std.specs.Prelude.{Some, None}
 use Rattle.std.specs.Option.{option_map}
 use Rattle.std.proofs.lemmas.List.{take_all}
 use Rattle.std.proofs.lemmas.Result.{on_ok_weaker, IfErr-weaker, err_from_is_err_and}
 use Rattle.kp_kore.specs.Syntax.{application}
-use Rattle.kp_kore.specs.Parts.{all_free_variables}
+use Rattle.kp_kore.specs.Parts.{free_variables, all_free_variables}
 use Rattle.kp_kore.specs.Signature.{meaning_of, symbol_declared, injection, construction, interpretation, foreign}
 use Rattle.kp_kore.specs.View.{view, patterns_view, sorts_view, symbol_sentence_view}
 use Rattle.kp_kore.specs.declared.pattern.Pattern.{the_lemmas}
 use Rattle.kp_signature.specs.View.{signature_view}
 use Rattle.kp_signature.specs.Meanings.{function_view, meaning_view}
+use Rattle.kp_compile.specs.Exact.{are_named}
+use Rattle.kp_compile.specs.Names.{names_seen}
 use Rattle.kp_compile.specs.Verified.{IsVerifiedLeftTerm}
+use Rattle.kp_compile.proofs.Reading.{one_named, named_at}
 use Rattle.kp_compile.proofs.Taken.{inj_takes_one, as_many_places, is_declared, not_interpreted, not_foreign}
 use Rattle.kp_compile.proofs.VerifiedParts.{left_arguments, at_index}
 use Rattle.kp_rule_reading.specs.Tests.{Adds}
@@ -45,15 +48,19 @@ add_tests_of_applied-returns-in-Some-clause-tests t c =
     c.add_tests_of_arguments.ensures.tests
 
 pub add_tests_of_arguments-loop-i-preserved : goal.add_tests_of_arguments-loop-i-preserved
-add_tests_of_arguments-loop-i-preserved t c = λ v have.
-    argument_added (signature_view c.args.signature.now) v c.args.places.now c.args.patterns.now c.loop-i.i c.index-places-i.result c.index-patterns-i.result
-    c.args.tests.now.items c.loop-i.tests.items c.add_tests.new.tests.items (omega arith) (omega arith) c.index-places-i.is c.index-patterns-i.is have
-    (c.loop-i.invariant v have) (λ given. c.in_ok-add_tests.ensures.tests v given)
+add_tests_of_arguments-loop-i-preserved t c = record {
+  tests = λ v have.
+      argument_added (signature_view c.args.signature.now) v c.args.places.now c.args.patterns.now c.loop-i.i c.index-places-i.result c.index-patterns-i.result
+      c.args.tests.now.items c.loop-i.tests.items c.add_tests.new.tests.items (omega arith) (omega arith) c.index-places-i.is c.index-patterns-i.is have
+      (c.loop-i.invariant.tests v have) (λ given. c.in_ok-add_tests.ensures.tests v given);
+  reads = λ named old.
+      c.in_ok-add_tests.ensures.reads (named_at (names_seen c.args.names.now) c.args.patterns.now c.loop-i.i c.index-patterns-i.result (omega arith) c.index-patterns-i.is named) (c.loop-i.invariant.reads named old);
+}
 
 pub add_tests_of_arguments-returns-clause-tests : goal.add_tests_of_arguments-returns-clause-tests
 add_tests_of_arguments-returns-clause-tests t c = λ v have.
     subst (λ ps. Adds (signature_view c.args.signature.now) v c.args.tests.now.items c.loop-i.tests.items (all_free_variables (patterns_view ps))) (take_all c.loop-i.i c.args.patterns.now (omega arith))
-    (c.loop-i.invariant v have)
+    (c.loop-i.invariant.tests v have)
 
 pub add_tests-returns-in-Application-clause-refused : goal.add_tests-returns-in-Application-clause-refused
 add_tests-returns-in-Application-clause-refused t c =
@@ -123,3 +130,20 @@ add_tests_of_arguments-returns-in_err-add_tests-clause-refused t c =
     let p = err_from_is_err_and c.from_residual.result c.from_residual.ensures.1 in
     rw (p.1, p.2) (λ many verified. c.in_err-add_tests.ensures.refused
     (at_index (λ q. IsVerifiedLeftTerm g (view q)) c.args.patterns.now c.loop-i.i c.index-patterns-i.result (omega arith) c.index-patterns-i.is verified))
+
+pub add_tests-returns-in-Application-clause-reads : goal.add_tests-returns-in-Application-clause-reads
+add_tests-returns-in-Application-clause-reads t c =
+    let is : view c.args.pattern.now ≡ application (string_bytes c.in-Application.symbol) (sorts_view c.in-Application.sorts.items) (patterns_view c.in-Application.arguments.items) = search (rules, the_lemmas) in
+    on_ok_weaker c.add_tests_of_applied.result
+    (λ more named. more (subst (λ p. are_named (names_seen c.args.names.now) (free_variables p) ≡ true)
+    (is ∙ ap (λ ps. application (string_bytes c.in-Application.symbol) (sorts_view c.in-Application.sorts.items) (patterns_view ps)) (sym c.deref.ensures.value)) named))
+    c.add_tests_of_applied.ensures.reads
+
+pub add_tests_of_applied-returns-in-len1-clause-reads : goal.add_tests_of_applied-returns-in-len1-clause-reads
+add_tests_of_applied-returns-in-len1-clause-reads t c =
+    on_ok_weaker c.add_tests.result
+    (λ more named. more (one_named (names_seen c.args.names.now) c.args.arguments.now c.argument-item.result (omega arith) c.argument-item.is named))
+    c.add_tests.ensures.reads
+
+pub add_tests_of_arguments-returns-clause-reads : goal.add_tests_of_arguments-returns-clause-reads
+add_tests_of_arguments-returns-clause-reads t c = c.loop-i.invariant.reads

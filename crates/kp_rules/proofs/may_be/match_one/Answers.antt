@@ -9,6 +9,6 @@ use Rattle.kp_rules.proofs.may_be.match_one.Goals as goal
 
 pub returns-in_ok-match_variable-clause-same : goal.returns-in_ok-match_variable-clause-same
 returns-in_ok-match_variable-clause-same c =
-    matches_with c.in_ok-match_variable.field-0 c.args.bindings.items (λ v. v (string_bytes c.args.name.now) ≡ value_view c.args.value.now)
+    matches_with c.in_ok-match_variable.field-0 c.args.bindings.items (λ v. v (string_bytes c.args.name.now.value) ≡ value_view c.args.value.now)
     (IsHeadOf (signature_view c.args.signature.now) (sort_view c.args.sort.now) (head_of (value_view c.args.value.now)))
     (c.in_ok-has_sort.ensures.0 c.if-branch.true) c.in_ok-match_variable.ensures.same

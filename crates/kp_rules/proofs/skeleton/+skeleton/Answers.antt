@@ -2,14 +2,14 @@ use Rattle.std.proofs.Common.{rules, ◌≡◌, ◌∙◌, sym, ap, subst, refl,
 use Rattle.std.specs.List.{AllZip}
 use Rattle.kp_kore.specs.Syntax.{variable, literal, application}
 use Rattle.kp_kore.specs.View.{view, sort_view, sorts_view, patterns_view}
-use Rattle.kp_kore.specs.Signature.{meaning_of, construction, injection}
+use Rattle.kp_kore.specs.Signature.{meaning_of, construction, injection, interpretation, foreign}
 use Rattle.kp_kore.specs.declared.pattern.Pattern.{the_lemmas}
 use Rattle.kp_signature.specs.View.{signature_view}
 use Rattle.kp_semantics.specs.Foreign.{InjectionsSplit}
-use Rattle.kp_signature.specs.Meanings.{meaning_view}
+use Rattle.kp_signature.specs.Meanings.{meaning_view, function_view}
 use Rattle.kp_compile.proofs.Compiled.{zip_push, zip_whole}
 use Rattle.kp_rules.specs.Skeletons.{skeleton_view, StandsFor, StandForAll, StandsForFirst}
-use Rattle.kp_rules.proofs.SkeletonLemmas.{of_pattern, at_level, built_stands, injection_seen, injection_any, zip_stands, first_stands, none_stands, is_other, other_stands, chosen_true, chosen_false}
+use Rattle.kp_rules.proofs.SkeletonLemmas.{of_pattern, at_level, built_stands, injection_seen, injection_any, interpreted_any, foreign_any, zip_stands, first_stands, none_stands, is_other, other_stands, chosen_true, chosen_false}
 use Rattle.kp_rules.proofs.skeleton.+skeleton.Goals as goal
 
 pub skeleton_of-returns-in_ok-variable-in-Variable : goal.skeleton_of-returns-in_ok-variable-in-Variable
@@ -72,6 +72,34 @@ skeleton_of-returns-in_ok-any_result-in-Injection t c =
     of_pattern g n c.args.levels (view c.args.pattern.now) _ k (omega arith) is
     (at_level g n (application f ss (patterns_view ps)) k (injection_any g n f ss ps k means (subst (λ p. ¬ InjectionsSplit g p) is unsplit)
     (rw (c.deref-else-branch.ensures, c.deref-else-branch-2.ensures.value) at c.in_ok-any_result-in-Injection.ensures)))
+
+pub skeleton_of-returns-in_ok-any_result-in-Interpreted : goal.skeleton_of-returns-in_ok-any_result-in-Interpreted
+skeleton_of-returns-in_ok-any_result-in-Interpreted t c =
+    let g = signature_view c.args.signature.now in
+    let n = c.args.levels - 1 in
+    let f = string_bytes c.in-Application.symbol in
+    let ss = sorts_view c.in-Application.sorts.items in
+    let ps = c.in-Application.arguments.items in
+    let k = skeleton_view c.in_ok-any_result-in-Interpreted.field-0 in
+    let is : view c.args.pattern.now ≡ application f ss (patterns_view ps) = search (rules, the_lemmas) in
+    let means : meaning_of g f ≡ interpretation (function_view c.in-Interpreted.field-0) = ap (meaning_of g) (sym c.deref.ensures) ∙ sym c.meaning_of.ensures ∙ ap meaning_view c.in-Interpreted.is in
+    of_pattern g n c.args.levels (view c.args.pattern.now) _ k (omega arith) is
+    (at_level g n (application f ss (patterns_view ps)) k (interpreted_any g n f ss ps k (function_view c.in-Interpreted.field-0) means
+    (rw (c.deref-in-Interpreted.ensures, c.deref-in-Interpreted-2.ensures.value) at c.in_ok-any_result-in-Interpreted.ensures)))
+
+pub skeleton_of-returns-in_ok-any_result-in-Foreign : goal.skeleton_of-returns-in_ok-any_result-in-Foreign
+skeleton_of-returns-in_ok-any_result-in-Foreign t c =
+    let g = signature_view c.args.signature.now in
+    let n = c.args.levels - 1 in
+    let f = string_bytes c.in-Application.symbol in
+    let ss = sorts_view c.in-Application.sorts.items in
+    let ps = c.in-Application.arguments.items in
+    let k = skeleton_view c.in_ok-any_result-in-Foreign.field-0 in
+    let is : view c.args.pattern.now ≡ application f ss (patterns_view ps) = search (rules, the_lemmas) in
+    let means : meaning_of g f ≡ foreign = ap (meaning_of g) (sym c.deref.ensures) ∙ sym c.meaning_of.ensures ∙ ap meaning_view c.in-Foreign.is in
+    of_pattern g n c.args.levels (view c.args.pattern.now) _ k (omega arith) is
+    (at_level g n (application f ss (patterns_view ps)) k (foreign_any g n f ss ps k means
+    (rw (c.deref-in-Foreign.ensures, c.deref-in-Foreign-2.ensures.value) at c.in_ok-any_result-in-Foreign.ensures)))
 
 pub skeleton_of-returns-in_ok-any_of_pattern-in_default : goal.skeleton_of-returns-in_ok-any_of_pattern-in_default
 skeleton_of-returns-in_ok-any_of_pattern-in_default t c =

@@ -6,7 +6,7 @@ use Rattle.kp_semantics.specs.Sorted.{IsSorted}
 use Rattle.kp_signature.specs.View.{signature_view}
 use Rattle.kp_ground.specs.View.{value_view}
 use Rattle.kp_run.specs.Runs.{IsAt, IsStuck, IsFirstUnknown, GoesOnlyTo, IsNext, IsWrittenNext, written_of}
-use Rattle.kp_run.specs.Shallow.{IsShallowNext}
+use Rattle.kp_run.specs.Shallow.{HasDepths}
 use Rattle.kp_run.proofs.Runs.{goes_on, not_final, first_is_unknown}
 use Rattle.kp_run.proofs.States.{only_goes_on, states_go_on, told_at, told_more, ends_told, untold_later}
 use Rattle.kp_run.proofs.run.execute.Goals as goal
@@ -32,12 +32,12 @@ loop-depth-preserved c = record {
       let sorted : IsSorted t.signature (value_view c.loop-depth.state.value) = (sort_view c.loop-depth.state.sort, (c.loop-depth.invariant.goes t runs at).1) in
       told_more t c.loop-depth.depth (written_of c.args.state) (written_of c.loop-depth.state) (c.loop-depth.invariant.told t runs at) (c.loop-depth.invariant.only t runs at)
       (told_at t (written_of c.loop-depth.state) (c.in_ok-next.ensures.answered t runs sorted));
-  counted = λ _. subst (IsShallowNext (signature_view c.args.rules.now.signature.value)) c.in-Stepped.is c.in_ok-next.ensures.counted;
+  counted = subst (HasDepths (signature_view c.args.rules.now.signature.value)) c.in-Stepped.is c.in_ok-next.ensures.counted;
 }
 
 pub returns-in_err-next-clause-not_answered : goal.returns-in_err-next-clause-not_answered
 returns-in_err-next-clause-not_answered c = λ t runs at.
-    let p = err_from_is_err_and c.from_residual.result c.from_residual.ensures.1 in
+    let p = err_from_is_err_and c.from_residual-in_err-next.result c.from_residual-in_err-next.ensures.1 in
     rw (p.1, p.2) (λ is. untold_later t c.loop-depth.depth c.args.bound (written_of c.args.state) (written_of c.loop-depth.state) (c.loop-depth.invariant.states t runs at) c.loop-depth-test.true
     (c.in_err-next.ensures.not_answered t runs (sort_view c.loop-depth.state.sort, (c.loop-depth.invariant.goes t runs at).1) is))
 
@@ -75,7 +75,16 @@ returns-in-ForeignRule-clause-is_run c = λ t runs at.
       at_bound = λ e. absurd (cc);
     }
 
-pub returns-in_err-next-clause-unbound : goal.returns-in_err-next-clause-unbound
-returns-in_err-next-clause-unbound c =
-    let p = err_from_is_err_and c.from_residual.result c.from_residual.ensures.1 in
-    rw (p.1, p.2) c.in_err-next.ensures.unbound
+pub returns-in-Stuck-clause-is_run : goal.returns-in-Stuck-clause-is_run
+returns-in-Stuck-clause-is_run c = λ t runs at.
+    let now = value_view c.loop-depth.state.value in
+    let goes = c.loop-depth.invariant.goes t runs at in
+    let sorted : IsSorted t.signature now = (sort_view c.loop-depth.state.sort, goes.1) in
+    let stuck : IsStuck t now = subst (IsNext t now) c.in-Stuck.is (c.in_ok-next.ensures.next t runs sorted) in
+    record {
+      steps = goes.0;
+      sorted = goes.1;
+      stuck = λ e. (c.loop-depth-test.true, stuck);
+      foreign = λ id e. absurd (cc);
+      at_bound = λ e. absurd (cc);
+    }

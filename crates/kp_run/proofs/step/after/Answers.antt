@@ -1,24 +1,22 @@
-use Rattle.std.proofs.Common.{rules, ◌≡◌, subst, true, false}
-use Rattle.std.proofs.lemmas.Result.{err_from_is_err_and}
-use Rattle.std.specs.Prelude.{Ok, Err}
+use Rattle.std.proofs.Common.{rules, ◌≡◌, sym, subst, true, false}
+use Rattle.std.specs.Prelude.{Ok}
 use Rattle.kp_ground.specs.Outcomes.{Gives}
+use Rattle.kp_ground.specs.Slots.{term_reads}
+use Rattle.kp_ground.specs.Solves.{bound_names}
+use Rattle.kp_run.proofs.Bound.{right_reads}
+use Rattle.kp_ground.specs.LeftView.{left_view}
+use Rattle.kp_ground.specs.Terms.{left_value}
 use Rattle.kp_ground.specs.TermView.{term_view}
 use Rattle.kp_ground.specs.View.{value_view}
 use Rattle.kp_kore.specs.Parts.{term_depth}
 use Rattle.kp_kore.specs.View.{sort_view}
 use Rattle.kp_signature.specs.View.{signature_view}
 use Rattle.kp_states.specs.Spelled.{spelling}
+use Rattle.kp_depths.specs.View.{AreDepthsOf}
 use Rattle.kp_run.specs.Turns.{deep}
 use Rattle.kp_states.specs.declared.state.State.{State}
-use Rattle.kp_run.proofs.Open.{open_right}
 use Rattle.kp_run.proofs.Turning.{is_beyond}
 use Rattle.kp_run.proofs.step.after.Goals as goal
-
-pub is_shallow_after-requires-clause-value : goal.is_shallow_after-requires-clause-value
-is_shallow_after-requires-clause-value c =
-    let gives : Gives (Ok c.in_ok-value.value) c.args.firing.now.bindings.items (term_view c.args.firing.now.rewrite.now.right) =
-    subst (λ bs. Gives (Ok c.in_ok-value.value) bs (term_view c.args.firing.now.rewrite.now.right)) c.deref.ensures.value c.in_ok-value.ensures in
-    λ v s. (gives v s).0
 
 pub returns-clause-after : goal.returns-clause-after
 returns-clause-after c =
@@ -30,13 +28,17 @@ returns-clause-after c =
       sort = λ h. c.in_ok-sort.ensures.sort (value_view c.in_ok-value.value) h;
     }
 
-pub returns-then-not-is_shallow_after-clause-not_followed : goal.returns-then-not-is_shallow_after-clause-not_followed
-returns-then-not-is_shallow_after-clause-not_followed c = λ _.
+pub returns-then-not-is_shallow_at-clause-not_followed : goal.returns-then-not-is_shallow_at-clause-not_followed
+returns-then-not-is_shallow_at-clause-not_followed c = λ _.
     let g = signature_view c.args.signature.now in
     let next : State = record { value = c.in_ok-value.value; sort = c.in_ok-sort.sort } in
     let gives : Gives (Ok c.in_ok-value.value) c.args.firing.now.bindings.items (term_view c.args.firing.now.rewrite.now.right) =
     subst (λ bs. Gives (Ok c.in_ok-value.value) bs (term_view c.args.firing.now.rewrite.now.right)) c.deref.ensures.value c.in_ok-value.ensures in
-    let isnt : c.is_shallow_after.result ≡ false = search rules in
+    let v = c.requires.matched.solvable.0 in
+    let held = c.requires.matched.solvable.1 in
+    let before : AreDepthsOf g (left_value v (left_view c.args.firing.now.rewrite.now.left)) c.args.depths.now = subst (λ u. AreDepthsOf g u c.args.depths.now) (sym (c.requires.matched.same v held)) c.requires.counted in
+    let counts : AreDepthsOf g (value_view c.in_ok-value.value) c.in_ok-next.next = c.in_ok-next.ensures v before (gives v held).0 in
+    let isnt : c.is_shallow_at.result ≡ false = search rules in
     deep (record {
       next = next;
       after = record {
@@ -45,23 +47,36 @@ returns-then-not-is_shallow_after-clause-not_followed c = λ _.
         sort = λ h. c.in_ok-sort.ensures.sort (value_view c.in_ok-value.value) h;
       };
       written = c.in_ok-sort.ensures.written;
-      deep = is_beyond (term_depth (spelling g (sort_view c.in_ok-sort.sort) (value_view c.in_ok-value.value))) 48 c.is_shallow_after.result isnt c.is_shallow_after.ensures;
+      deep = is_beyond (term_depth (spelling g (sort_view c.in_ok-sort.sort) (value_view c.in_ok-value.value))) 48 c.is_shallow_at.result isnt (c.is_shallow_at.ensures counts);
     })
 
 pub returns-clause-followed : goal.returns-clause-followed
 returns-clause-followed c =
     let gives : Gives (Ok c.in_ok-value.value) c.args.firing.now.bindings.items (term_view c.args.firing.now.rewrite.now.right) =
     subst (λ bs. Gives (Ok c.in_ok-value.value) bs (term_view c.args.firing.now.rewrite.now.right)) c.deref.ensures.value c.in_ok-value.ensures in
-    let is : c.is_shallow_after.result ≡ true = search rules in
+    let g = signature_view c.args.signature.now in
+    let v = c.requires.matched.solvable.0 in
+    let held = c.requires.matched.solvable.1 in
+    let before : AreDepthsOf g (left_value v (left_view c.args.firing.now.rewrite.now.left)) c.args.depths.now = subst (λ u. AreDepthsOf g u c.args.depths.now) (sym (c.requires.matched.same v held)) c.requires.counted in
+    let counts : AreDepthsOf g (value_view c.in_ok-value.value) c.in_ok-next.next = c.in_ok-next.ensures v before (gives v held).0 in
+    let is : c.is_shallow_at.result ≡ true = search rules in
     record {
       narrow = λ v s. (gives v s).1;
-      within = c.is_shallow_after.ensures.0 is;
+      within = (c.is_shallow_at.ensures counts).0 is;
     }
 
-pub returns-in_err-value-clause-unbound : goal.returns-in_err-value-clause-unbound
-returns-in_err-value-clause-unbound c =
-    let p = err_from_is_err_and c.from_residual.result c.from_residual.ensures.1 in
-    let gives : Gives (Err c.in_err-value.field-0.0) c.args.firing.now.bindings.items (term_view c.args.firing.now.rewrite.now.right) =
-    subst (λ bs. Gives (Err c.in_err-value.field-0.0) bs (term_view c.args.firing.now.rewrite.now.right)) c.deref.ensures.value c.in_err-value.ensures in
+pub evaluate-requires : goal.evaluate-requires
+evaluate-requires c =
     let plain : c.args.firing.now.rewrite.now.chooses ≡ false = search rules in
-    rw p.1 (λ is. open_right c.args.firing.now (value_view c.args.state.now.value) c.in_err-value.field-0.0 c.requires.matched plain gives (p.2.1 is))
+    subst (λ bs. term_reads (bound_names bs) c.args.firing.now.rewrite.now.right ≡ true) (sym c.deref.ensures.value) (right_reads c.args.firing.now plain)
+
+pub returns-clause-counted : goal.returns-clause-counted
+returns-clause-counted c =
+    let g = signature_view c.args.signature.now in
+    let gives : Gives (Ok c.in_ok-value.value) c.args.firing.now.bindings.items (term_view c.args.firing.now.rewrite.now.right) =
+    subst (λ bs. Gives (Ok c.in_ok-value.value) bs (term_view c.args.firing.now.rewrite.now.right)) c.deref.ensures.value c.in_ok-value.ensures in
+    let v = c.requires.matched.solvable.0 in
+    let held = c.requires.matched.solvable.1 in
+    let before : AreDepthsOf g (left_value v (left_view c.args.firing.now.rewrite.now.left)) c.args.depths.now = subst (λ u. AreDepthsOf g u c.args.depths.now) (sym (c.requires.matched.same v held)) c.requires.counted in
+    let counts : AreDepthsOf g (value_view c.in_ok-value.value) c.in_ok-next.next = c.in_ok-next.ensures v before (gives v held).0 in
+    counts

@@ -1,12 +1,9 @@
-use Rattle.std.proofs.Common.{sym, ◌∙◌}
-use Rattle.std.proofs.lemmas.Result.{err_from_is_err_and}
-use Rattle.kp_ground.specs.View.{value_view}
-use Rattle.kp_signature.specs.View.{signature_view}
-use Rattle.kp_run.proofs.Open.{open_side}
+use Rattle.std.proofs.Common.{◌≡◌, subst}
+use Rattle.std.specs.Prelude.{IfSome}
+use Rattle.kp_ground.specs.Slots.{left_variables}
+use Rattle.kp_ground.specs.Solves.{bound_names}
 use Rattle.kp_run.proofs.step.firing_of.Goals as goal
 
-pub returns-in_err-bindings-in-Rewrite-clause-unbound : goal.returns-in_err-bindings-in-Rewrite-clause-unbound
-returns-in_err-bindings-in-Rewrite-clause-unbound c =
-    let p = err_from_is_err_and c.from_residual.result c.from_residual.ensures.1 in
-    rw p.1 (λ is. open_side (signature_view c.args.signature.now) c.args.rule.now.body.value c.in-Rewrite.rewrite (value_view c.args.value.now) c.in_err-bindings-in-Rewrite.field-0.0 (sym c.deref.ensures ∙ c.in-Rewrite.is)
-    c.in_err-bindings-in-Rewrite.ensures.firing (p.2.1 is))
+-- the bindings of a match are those of the left term
+pub invariant_of-result : goal.invariant_of-result
+invariant_of-result c = record { bound = subst (λ o. IfSome o (λ new. bound_names new.items ≡ left_variables c.in-Rewrite.rewrite.left)) c.in-Some.is c.in_ok-bindings-in-Rewrite.ensures.bound }

@@ -1,4 +1,4 @@
-use Rattle.std.proofs.Common.{◌≡◌, subst, option_map, Option, Some, None, slice_get}
+use Rattle.std.proofs.Common.{◌≡◌, subst, option_map, Some, None, slice_get}
 use Rattle.kp_signature.specs.View.{signature_view}
 use Rattle.kp_ground.specs.View.{value_view}
 use Rattle.kp_run.specs.Turns.{TellsForeign}

@@ -58,8 +58,3 @@ pub returns-in_err-turn-clause-wide : goal.returns-in_err-turn-clause-wide
 returns-in_err-turn-clause-wide c =
     let p = err_from_is_err_and c.from_residual.result c.from_residual.ensures.1 in
     rw (p.1, p.2) c.in_err-turn.ensures.wide
-
-pub returns-in_err-turn-clause-unbound : goal.returns-in_err-turn-clause-unbound
-returns-in_err-turn-clause-unbound c =
-    let p = err_from_is_err_and c.from_residual.result c.from_residual.ensures.1 in
-    rw (p.1, p.2) c.in_err-turn.ensures.unbound

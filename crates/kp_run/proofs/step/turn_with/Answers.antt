@@ -1,9 +1,8 @@
-use Rattle.std.proofs.Common.{◌≡◌, subst, option_map, Option, Some, None, slice_get, MatchOption}
+use Rattle.std.proofs.Common.{◌≡◌, subst, option_map, Some, None, slice_get, MatchOption}
 use Rattle.std.proofs.lemmas.Result.{err_from_is_err_and}
-use Rattle.kp_rules.specs.declared.rule.Rule.{Rule}
 use Rattle.kp_signature.specs.View.{signature_view}
 use Rattle.kp_ground.specs.View.{value_view}
-use Rattle.kp_run.specs.Turns.{BodyFires, BodyIsWide, IsFiring, IsOpen, IsTurn}
+use Rattle.kp_run.specs.Turns.{BodyFires, BodyIsWide, IsFiring, IsTurn}
 use Rattle.kp_run.proofs.Taking.{one_at_next, none_at_next, all_of_one, all_of_none, some_at}
 use Rattle.kp_run.proofs.step.turn_with.Goals as goal
 
@@ -34,15 +33,6 @@ returns-in_err-firing-in-Some-clause-wide c =
     let found : Some c.in-Some.rule.now ≡ slice_get rules c.args.place = subst (λ o. option_map (λ r. r.now) o ≡ slice_get rules c.args.place) c.in-Some.is c.rule_at.ensures in
     let p = err_from_is_err_and c.from_residual.result c.from_residual.ensures.1 in
     rw (p.1, p.2) (λ is. some_at (λ r. BodyIsWide g u r.body.value) rules c.args.place c.in-Some.rule.now found (subst (λ s. BodyIsWide (signature_view s) u c.in-Some.rule.now.body.value) c.deref.ensures (c.in_err-firing-in-Some.ensures.wide is)))
-
-pub returns-in_err-firing-in-Some-clause-unbound : goal.returns-in_err-firing-in-Some-clause-unbound
-returns-in_err-firing-in-Some-clause-unbound c =
-    let g = signature_view c.args.rules.now.signature.value in
-    let u = value_view c.args.value.now in
-    let rules = c.args.rules.now.rules.items in
-    let found : Some c.in-Some.rule.now ≡ slice_get rules c.args.place = subst (λ o. option_map (λ r. r.now) o ≡ slice_get rules c.args.place) c.in-Some.is c.rule_at.ensures in
-    let p = err_from_is_err_and c.from_residual.result c.from_residual.ensures.1 in
-    rw (p.1, p.2) (λ is. some_at (λ r. IsOpen r.body.value) rules c.args.place c.in-Some.rule.now found (c.in_err-firing-in-Some.ensures.unbound is))
 
 pub returns-in-None-clause-turn : goal.returns-in-None-clause-turn
 returns-in-None-clause-turn c = λ before turn.

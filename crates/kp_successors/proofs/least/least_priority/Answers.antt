@@ -60,7 +60,7 @@ returns-in_err-least-clause-refused c =
     let p = err_from_is_err_and c.from_residual.result c.from_residual.ensures.1 in
     rw (p.1, p.2) c.in_err-least.ensures.refused
 
-pub returns-in_err-least-clause-unbound : goal.returns-in_err-least-clause-unbound
-returns-in_err-least-clause-unbound c =
+pub returns-in_err-least-clause-known : goal.returns-in_err-least-clause-known
+returns-in_err-least-clause-known c =
     let p = err_from_is_err_and c.from_residual.result c.from_residual.ensures.1 in
-    rw (p.1, p.2) c.in_err-least.ensures.unbound
+    rw (p.1, p.2) c.in_err-least.ensures.known

@@ -1,12 +1,10 @@
-use Rattle.std.proofs.Common.{◌≡◌, ◌↔◌, refl, subst, option_map, Option, Some, None, slice_get, IsTrue}
+use Rattle.std.proofs.Common.{◌≡◌, ◌↔◌, refl, subst, option_map, Some, None, slice_get, IsTrue}
 use Rattle.std.proofs.lemmas.Result.{err_from_is_err_and}
-use Rattle.kp_rules.specs.declared.rule.Rule.{Rule}
 use Rattle.kp_signature.specs.View.{signature_view}
 use Rattle.kp_ground.specs.View.{value_view}
 use Rattle.kp_run.specs.Turns.{BodyFires, BodyIsWide}
 use Rattle.kp_run.proofs.Taking.{one_at_next, none_at_next, all_of_one, all_of_none, some_at}
 use Rattle.kp_successors.specs.Errors.{IsCausedBy}
-use Rattle.kp_successors.specs.Open.{LeavesOpen}
 use Rattle.kp_successors.specs.Turns.{IsLeast}
 use Rattle.kp_successors.proofs.Refused.{caused_by}
 use Rattle.kp_successors.proofs.least.least_with.Goals as goal
@@ -40,15 +38,10 @@ returns-in_err-fires-in-Some-clause-refused c =
     rw (p.1, p.2) (caused_by g (BodyIsWide g u r.body.value) _ c.in_err-fires-in-Some.field-0.0 (λ w. some_at (λ q. BodyIsWide g u q.body.value) rules c.args.place r found w)
     (subst (λ s. IsCausedBy (signature_view s) (BodyIsWide (signature_view s) u r.body.value) c.in_err-fires-in-Some.field-0.0) c.deref.ensures c.in_err-fires-in-Some.ensures.refused))
 
-pub returns-in_err-fires-in-Some-clause-unbound : goal.returns-in_err-fires-in-Some-clause-unbound
-returns-in_err-fires-in-Some-clause-unbound c =
-    let g = signature_view c.args.rules.now.signature.value in
-    let u = value_view c.args.value.now in
-    let rules = c.args.rules.now.rules.items in
-    let found : Some c.in-Some.rule.now ≡ slice_get rules c.args.place = subst (λ o. option_map (λ r. r.now) o ≡ slice_get rules c.args.place) c.in-Some.is c.rule_at.ensures in
-    let r = c.in-Some.rule.now in
+pub returns-in_err-fires-in-Some-clause-known : goal.returns-in_err-fires-in-Some-clause-known
+returns-in_err-fires-in-Some-clause-known c =
     let p = err_from_is_err_and c.from_residual.result c.from_residual.ensures.1 in
-    rw (p.1, p.2) (λ is. some_at (λ q. LeavesOpen g q.body.value) rules c.args.place r found (subst (λ s. LeavesOpen (signature_view s) r.body.value) c.deref.ensures (c.in_err-fires-in-Some.ensures.unbound is)))
+    rw (p.1, p.2) c.in_err-fires-in-Some.ensures.known
 
 pub returns-in-None-clause-least : goal.returns-in-None-clause-least
 returns-in-None-clause-least c = λ before least.

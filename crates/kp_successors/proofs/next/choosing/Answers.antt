@@ -1,4 +1,4 @@
-use Rattle.std.proofs.Common.{rules, ◌≡◌, sym, ◌∙◌, subst, true}
+use Rattle.std.proofs.Common.{rules, ◌≡◌, sym, ◌∙◌, subst, true, false}
 use Rattle.std.proofs.lemmas.Result.{err_from_is_err_and}
 use Rattle.kp_kore.specs.View.{view, sort_view}
 use Rattle.kp_signature.specs.View.{signature_view}
@@ -6,7 +6,6 @@ use Rattle.kp_substitution.specs.Seen.{replacements_view}
 use Rattle.kp_successors.specs.Choices.{chosen_pattern}
 use Rattle.kp_successors.specs.Nexts.{new_of, ensured_of}
 use Rattle.kp_successors.proofs.Refused.{caused_by}
-use Rattle.std.proofs.Common.{false}
 use Rattle.kp_successors.specs.Open.{unknown, unplaced, in_part}
 use Rattle.kp_successors.proofs.next.choosing.Goals as goal
 

@@ -1,4 +1,4 @@
-use Rattle.std.proofs.Common.{◌≡◌, ◌↔◌, sym, subst, Ok, false}
+use Rattle.std.proofs.Common.{◌≡◌, ◌↔◌, ◌∙◌, sym, ap, subst, Ok, false}
 use Rattle.std.specs.Prelude.{IfSome}
 use Rattle.std.proofs.lemmas.Result.{err_from_is_err_and}
 use Rattle.kp_kore.specs.View.{view}
@@ -11,10 +11,10 @@ use Rattle.kp_rules.specs.Heads.{FindsFiring, FiresAs}
 use Rattle.kp_successors.specs.Nexts.{is_right_narrow}
 use Rattle.kp_successors.proofs.Refused.{caused_by}
 use Rattle.kp_successors.proofs.Finding.{next_moved, right_leaves}
-use Rattle.std.proofs.Common.{inl}
 use Rattle.kp_ground.specs.Solves.{bound_names}
 use Rattle.kp_successors.specs.Open.{IsRightOpen}
-use Rattle.kp_successors.proofs.Open.{side_open, right_open}
+use Rattle.kp_ground.specs.Slots.{left_variables}
+use Rattle.kp_successors.proofs.Open.{evaluated_known}
 use Rattle.kp_successors.proofs.next.next_on.Goals as goal
 
 pub returns-in_ok-next_of-in-Some-clause-next : goal.returns-in_ok-next_of-in-Some-clause-next
@@ -43,15 +43,18 @@ returns-in_err-next_of-in-Some-clause-refused c =
 pub returns-in_err-bindings-clause-unbound : goal.returns-in_err-bindings-clause-unbound
 returns-in_err-bindings-clause-unbound c =
     let p = err_from_is_err_and c.from_residual.result c.from_residual.ensures.1 in
-    rw p.1 (λ is. inl (side_open c.in_err-bindings.field-0.0 p.0 (signature_view c.args.signature.now) c.args.rewrite.now (value_view c.args.value.now) p.2 c.in_err-bindings.ensures.firing is))
+    rw p.1 (λ is. absurd (evaluated_known c.in_err-bindings.field-0.0 p.0 p.2 is))
+
+pub next_of-requires : goal.next_of-requires
+next_of-requires c =
+    let names : bound_names c.in-Some.bindings.items ≡ left_variables c.args.rewrite.now.left =
+    subst (λ o. IfSome o (λ new. bound_names new.items ≡ left_variables c.args.rewrite.now.left)) c.in-Some.is c.in_ok-bindings.ensures.bound in
+    ap bound_names c.deref.ensures.value ∙ names
 
 pub returns-in_err-next_of-in-Some-clause-unbound : goal.returns-in_err-next_of-in-Some-clause-unbound
 returns-in_err-next_of-in-Some-clause-unbound c =
     let g = signature_view c.args.signature.now in
     let r = c.args.rewrite.now in
-    let u = value_view c.args.value.now in
-    let solved : (v : Valuation) → Solves v c.in-Some.bindings.items ↔ FiresAs g r u v = subst (λ o. FindsFiring (Ok o) g r u) c.in-Some.is c.in_ok-bindings.ensures.firing in
-    let some : IsSolvable c.in-Some.bindings.items = subst (λ o. IfSome o (λ new. IsSolvable new.items)) c.in-Some.is c.in_ok-bindings.ensures.solvable in
+    let names : bound_names c.in-Some.bindings.items ≡ left_variables r.left = subst (λ o. IfSome o (λ new. bound_names new.items ≡ left_variables r.left)) c.in-Some.is c.in_ok-bindings.ensures.bound in
     let p = err_from_is_err_and c.from_residual-in_err-next_of-in-Some.result c.from_residual-in_err-next_of-in-Some.ensures.1 in
-    rw (p.1, p.2) (λ is. right_open g r u c.in-Some.bindings.items solved some
-    (subst (λ bs. IsRightOpen g (bound_names bs) r r.choice) c.deref.ensures.value (c.in_err-next_of-in-Some.ensures.unbound is)))
+    rw (p.1, p.2) (λ is. subst (λ xs. IsRightOpen g xs r.choice) (ap bound_names c.deref.ensures.value ∙ names) (c.in_err-next_of-in-Some.ensures.unbound is))

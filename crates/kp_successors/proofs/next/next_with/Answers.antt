@@ -1,7 +1,6 @@
-use Rattle.std.proofs.Common.{◌≡◌, ◌++◌, ◌⊎◌, [], refl, subst, map, option_map, Option, Some, None, slice_get, MatchOption}
+use Rattle.std.proofs.Common.{◌≡◌, ◌++◌, ◌⊎◌, [], refl, subst, option_map, Some, None, slice_get, MatchOption}
 use Rattle.std.proofs.lemmas.Result.{IfOk-weaker, IfErr-weaker, on_ok_weaker}
 use Rattle.kp_kore.specs.View.{view}
-use Rattle.kp_rules.specs.declared.rule.Rule.{Rule}
 use Rattle.kp_signature.specs.View.{signature_view}
 use Rattle.kp_ground.specs.View.{value_view}
 use Rattle.kp_rule_sets.specs.Turns.{with_first}

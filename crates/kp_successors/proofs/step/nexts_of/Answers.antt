@@ -45,4 +45,4 @@ returns-in-None-clause-narrow c = λ t runs s.
 pub returns-in_err-priority-clause-unbound : goal.returns-in_err-priority-clause-unbound
 returns-in_err-priority-clause-unbound c =
     let p = err_from_is_err_and c.from_residual.result c.from_residual.ensures.1 in
-    rw (p.1, p.2) c.in_err-priority.ensures.unbound
+    rw (p.1, p.2) (λ is. absurd (c.in_err-priority.ensures.known is))

@@ -1,7 +1,7 @@
 use Rattle.std.proofs.Common.{◌≡◌, ◌≤◌, drop, length, map, string_bytes}
 use Rattle.std.specs.Option.{option_map}
 use Rattle.kp_kore.specs.View.{symbol_sentence_view}
-use Rattle.kp_ground.specs.HookView.{arithmetic_view}
+use Rattle.kp_hooks.specs.HookView.{arithmetic_view}
 use Rattle.kp_signature.specs.View.{signature_view}
 use Rattle.kp_symbolic.specs.Folding.{least_symbol_among}
 use Rattle.kp_terms.proofs.language.least_name.Given as goal

@@ -1,6 +1,6 @@
 use Rattle.std.proofs.Common.{rules, ◌≡◌, ◌∙◌, ap, map, length}
 use Rattle.kp_semantics.specs.Interpretation.{interpreted}
-use Rattle.kp_ground.specs.HookView.{hook_view}
+use Rattle.kp_hooks.specs.HookView.{hook_view}
 use Rattle.kp_ground.specs.View.{value_view, values_of}
 use Rattle.kp_signature.specs.Meanings.{function_view}
 use Rattle.kp_terms.proofs.MadeLemmas.{not_two_values, not_one_value, no_call_of_two, no_call_of_one, not_negation, nothing_called}

@@ -1,7 +1,10 @@
-use Rattle.std.proofs.Common.{rules, ◌≡◌, ◌∙◌, sym, map, true}
+use Rattle.std.proofs.Common.{rules, ◌≡◌, ◌∙◌, sym, subst, map, true, arith}
 use Rattle.std.proofs.lemmas.Result.{err_from_is_err_and}
 use Rattle.std.specs.List.{list_all, list_any}
 use Rattle.kp_ground.specs.Conditions.{all_of, any_of, condition_holds, condition_narrow}
+use Rattle.kp_ground.specs.Slots.{condition_reads}
+use Rattle.kp_ground.specs.Solves.{bound_names}
+use Rattle.kp_ground.proofs.SlotLemmas.{all_pass}
 use Rattle.kp_ground.specs.ConditionView.{condition_view, conditions_of}
 use Rattle.kp_ground.specs.declared.condition.Condition.{the_lemmas}
 use Rattle.kp_ground.proofs.ConditionLemmas.{all_hold-conditions_of, any_holds-conditions_of, all_narrow-conditions_of, err_of_all, err_of_any}
@@ -32,3 +35,19 @@ holds-returns-in_ok-any_holds-in-Any t c = λ v s.
     let each : (c.in_ok-any_holds-in-Any.field-0 ≡ list_any (λ c. condition_holds v (condition_view c)) c.in-Any.conditions.items) × (list_all (λ c. condition_narrow v (condition_view c)) c.in-Any.conditions.items ≡ true)
     = rw c.deref-in-Any.ensures.value at (c.in_ok-any_holds-in-Any.ensures v s) in
     rw is (each.0 ∙ sym (any_holds-conditions_of v c.in-Any.conditions.items), all_narrow-conditions_of v c.in-Any.conditions.items ∙ each.1)
+
+pub holds-all_hold-requires : goal.holds-all_hold-requires
+holds-all_hold-requires t c =
+    let xs = bound_names c.args.bindings.now in
+    let reads : condition_reads xs c.args.self.now ≡ list_all (λ b. b) (map (condition_reads xs) c.in-All.conditions.items) = search (rules, the_lemmas) in (
+      first_of (search (arith, the_lemmas, c.decreases, c.deref-in-All.ensures.value, c.in-All.is), search (rules, the_lemmas)),
+      subst (λ cs. list_all (condition_reads xs) cs ≡ true) (sym c.deref-in-All.ensures.value) (all_pass (condition_reads xs) c.in-All.conditions.items (sym reads ∙ c.requires)),
+    )
+
+pub holds-any_holds-requires : goal.holds-any_holds-requires
+holds-any_holds-requires t c =
+    let xs = bound_names c.args.bindings.now in
+    let reads : condition_reads xs c.args.self.now ≡ list_all (λ b. b) (map (condition_reads xs) c.in-Any.conditions.items) = search (rules, the_lemmas) in (
+      first_of (search (arith, the_lemmas, c.decreases, c.deref-in-Any.ensures.value, c.in-Any.is), search (rules, the_lemmas)),
+      subst (λ cs. list_all (condition_reads xs) cs ≡ true) (sym c.deref-in-Any.ensures.value) (all_pass (condition_reads xs) c.in-Any.conditions.items (sym reads ∙ c.requires)),
+    )

@@ -1,13 +1,15 @@
-use Rattle.std.proofs.Common.{◌≡◌, ◌↔◌, List, [], sym, subst, false}
+use Rattle.std.proofs.Common.{◌≡◌, ◌↔◌, ◌∙◌, List, [], ap, sym, subst, true, false}
 use Rattle.kp_semantics.specs.Value as model
 use Rattle.kp_semantics.specs.Value.{truth}
 use Rattle.kp_semantics.specs.Instance.{Valuation}
 use Rattle.kp_ground.specs.Matches.{IsSolvable}
-use Rattle.kp_ground.specs.Solves.{Solves}
+use Rattle.kp_ground.specs.Slots.{is_numbered, left_places, names_after}
+use Rattle.kp_ground.specs.Solves.{Solves, bound_names}
 use Rattle.kp_ground.specs.Terms.{left_value}
 use Rattle.kp_ground.specs.LeftView.{left_view}
 use Rattle.kp_ground.specs.View.{value_view}
 use Rattle.kp_ground.specs.declared.binding.Binding.{Binding}
+use Rattle.kp_ground.proofs.SlotLemmas.{first_so}
 use Rattle.kp_rules.specs.Heads.{Binds}
 use Rattle.kp_rules.specs.declared.rule.Rewrite.{Rewrite}
 use Rattle.kp_rules.proofs.rule.Rewrite.fires.Goals as goal
@@ -47,3 +49,14 @@ returns-in-Some-clause-firing c =
     let kept = rw c.in-Some.is at c.in_ok-bindings.ensures.solvable in
     c.fires_with.ensures.firing u (first_bound c.args.self.now c.new.result.items c.in-Some.bindings.items u c.new.ensures.items found)
     (kept (subst IsSolvable (sym c.new.ensures.items) ((λ x. truth false), tt)))
+
+-- the left term numbers its variables, and a match binds them all
+pub match_value-requires : goal.match_value-requires
+match_value-requires c =
+    let left = c.args.self.now.left in
+    subst (λ bs. is_numbered (bound_names bs) (left_places left) ≡ true) (sym c.new.ensures.items) (first_so (is_numbered [] (left_places left)) _ c.args.self.now.left_bound)
+
+pub fires_with-requires : goal.fires_with-requires
+fires_with-requires c =
+    let named = rw c.in-Some.is at c.in_ok-bindings.ensures.names in
+    named ∙ ap (λ bs. names_after (bound_names bs) (left_places c.args.self.now.left)) c.new.ensures.items

@@ -1,47 +1,34 @@
-use Rattle.std.proofs.Common.{◌≡◌, ◌↔◌, subst, true}
-use Rattle.std.specs.Prelude.{IfSome, IfNone}
-use Rattle.std.specs.List.{AllByRecursion}
-use Rattle.kp_semantics.specs.Instance.{Valuation}
+use Rattle.std.proofs.Common.{◌≡◌, ◌∙◌, sym, ap, subst, true, []}
+use Rattle.kp_ground.specs.Slots.{is_numbered, left_places, left_variables, condition_reads}
+use Rattle.kp_ground.specs.Solves.{bound_names}
+use Rattle.kp_ground.proofs.SlotLemmas.{first_so, second_so}
 use Rattle.kp_signature.specs.View.{signature_view}
-use Rattle.kp_ground.specs.Solves.{Solves, bound_names}
-use Rattle.kp_rules.specs.Heads.{HasHead, PassAs, tests_lack}
-use Rattle.kp_rules.proofs.Firing.{open_test}
+use Rattle.kp_rules.specs.Bound.{tests_read}
+use Rattle.kp_rules.specs.Heads.{PassAs}
 use Rattle.kp_rules.proofs.rule.Rewrite.fires_with.Goals as goal
 
-pub returns-in-Some-clause-firing : goal.returns-in-Some-clause-firing
-returns-in-Some-clause-firing c = λ u binds solvable.
-    let g = signature_view c.args.signature.now in
-    let o = c.in_ok-passed.field-0 in
-    let tests : IfSome o (λ b. (v : Valuation) → Solves v c.deref-2.result.now → (b ≡ true) ↔ AllByRecursion (HasHead g v) c.args.self.now.tests.items) =
-    subst (λ ts. IfSome o (λ b. (v : Valuation) → Solves v c.deref-2.result.now → (b ≡ true) ↔ AllByRecursion (HasHead g v) ts)) c.deref.ensures.value c.in_ok-passed.ensures.passed in
-    let told : IfSome o (PassAs g c.args.self.now c.args.bindings.items) =
-    subst (λ bs. IfSome o (λ b. (v : Valuation) → Solves v bs → (b ≡ true) ↔ AllByRecursion (HasHead g v) c.args.self.now.tests.items)) c.deref-2.ensures.value tests in
-    c.fires_where.ensures.firing g u binds (subst (λ p. IfSome p (PassAs g c.args.self.now c.args.bindings.items)) c.in-Some.is told) solvable
+pub pass-requires : goal.pass-requires
+pass-requires c =
+    let r = c.args.self.now in
+    let names : left_variables r.left ≡ bound_names c.deref-2.result.now = sym c.requires ∙ ap bound_names (sym c.deref-2.ensures.value) in
+    let reads : tests_read (left_variables r.left) r.tests.items ≡ true
+    = first_so (tests_read (left_variables r.left) r.tests.items) (condition_reads (left_variables r.left) r.condition) (second_so (is_numbered [] (left_places r.left)) _ r.left_bound) in
+    subst (λ ts. tests_read (bound_names c.deref-2.result.now) ts ≡ true) (sym c.deref.ensures.value) (subst (λ xs. tests_read xs r.tests.items ≡ true) names reads)
 
-pub returns-in-Some-clause-number : goal.returns-in-Some-clause-number
-returns-in-Some-clause-number c = λ u binds solvable.
+pub returns-clause-firing : goal.returns-clause-firing
+returns-clause-firing c = λ u binds solvable.
     let g = signature_view c.args.signature.now in
-    let o = c.in_ok-passed.field-0 in
-    let tests : IfSome o (λ b. (v : Valuation) → Solves v c.deref-2.result.now → (b ≡ true) ↔ AllByRecursion (HasHead g v) c.args.self.now.tests.items) =
-    subst (λ ts. IfSome o (λ b. (v : Valuation) → Solves v c.deref-2.result.now → (b ≡ true) ↔ AllByRecursion (HasHead g v) ts)) c.deref.ensures.value c.in_ok-passed.ensures.passed in
-    let told : IfSome o (PassAs g c.args.self.now c.args.bindings.items) =
-    subst (λ bs. IfSome o (λ b. (v : Valuation) → Solves v bs → (b ≡ true) ↔ AllByRecursion (HasHead g v) c.args.self.now.tests.items)) c.deref-2.ensures.value tests in
-    c.fires_where.ensures.number g u binds (subst (λ p. IfSome p (PassAs g c.args.self.now c.args.bindings.items)) c.in-Some.is told) solvable
+    let told : PassAs g c.args.self.now c.args.bindings.items c.in_ok-passed.passed = rw (c.deref.ensures.value, c.deref-2.ensures.value) at c.in_ok-passed.ensures in
+    c.fires_where.ensures.firing g u binds told solvable
 
-pub returns-in-Some-clause-narrow : goal.returns-in-Some-clause-narrow
-returns-in-Some-clause-narrow c = λ u binds.
+pub returns-clause-number : goal.returns-clause-number
+returns-clause-number c = λ u binds solvable.
     let g = signature_view c.args.signature.now in
-    let o = c.in_ok-passed.field-0 in
-    let tests : IfSome o (λ b. (v : Valuation) → Solves v c.deref-2.result.now → (b ≡ true) ↔ AllByRecursion (HasHead g v) c.args.self.now.tests.items) =
-    subst (λ ts. IfSome o (λ b. (v : Valuation) → Solves v c.deref-2.result.now → (b ≡ true) ↔ AllByRecursion (HasHead g v) ts)) c.deref.ensures.value c.in_ok-passed.ensures.passed in
-    let told : IfSome o (PassAs g c.args.self.now c.args.bindings.items) =
-    subst (λ bs. IfSome o (λ b. (v : Valuation) → Solves v bs → (b ≡ true) ↔ AllByRecursion (HasHead g v) c.args.self.now.tests.items)) c.deref-2.ensures.value tests in
-    c.fires_where.ensures.narrow g u binds (subst (λ p. IfSome p (PassAs g c.args.self.now c.args.bindings.items)) c.in-Some.is told)
+    let told : PassAs g c.args.self.now c.args.bindings.items c.in_ok-passed.passed = rw (c.deref.ensures.value, c.deref-2.ensures.value) at c.in_ok-passed.ensures in
+    c.fires_where.ensures.number g u binds told solvable
 
-pub returns-in-None-clause-firing : goal.returns-in-None-clause-firing
-returns-in-None-clause-firing c = λ u binds solvable.
-    let lacks : tests_lack (bound_names c.deref-2.result.now) c.deref.result.now ≡ true =
-    subst (λ o. IfNone o (tests_lack (bound_names c.deref-2.result.now) c.deref.result.now ≡ true)) c.in-None.is c.in_ok-passed.ensures.unbound in
-    open_test c.args.self.now c.args.bindings.items u binds solvable
-    (subst (λ bs. tests_lack (bound_names bs) c.args.self.now.tests.items ≡ true) c.deref-2.ensures.value
-    (subst (λ ts. tests_lack (bound_names c.deref-2.result.now) ts ≡ true) c.deref.ensures.value lacks))
+pub returns-clause-narrow : goal.returns-clause-narrow
+returns-clause-narrow c = λ u binds.
+    let g = signature_view c.args.signature.now in
+    let told : PassAs g c.args.self.now c.args.bindings.items c.in_ok-passed.passed = rw (c.deref.ensures.value, c.deref-2.ensures.value) at c.in_ok-passed.ensures in
+    c.fires_where.ensures.narrow g u binds told

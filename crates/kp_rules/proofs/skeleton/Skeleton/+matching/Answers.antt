@@ -39,8 +39,8 @@ match_value-returns-in_ok-match_sort-in-Any-clause-same t c =
 pub match_value-returns-in_ok-match_one-in-Variable-clause-same : goal.match_value-returns-in_ok-match_one-in-Variable-clause-same
 match_value-returns-in_ok-match_one-in-Variable-clause-same t c =
     let u = value_view c.args.value.now in
-    let is : skeleton_view c.args.self.now ≡ one_of (string_bytes c.in-Variable.name) (sort_view c.in-Variable.sort) = search (rules, the_lemmas) in
-    shown_as (signature_view c.args.signature.now) c.in_ok-match_one-in-Variable.field-0 c.args.bindings.items (skeleton_view c.args.self.now) (one_of (string_bytes c.in-Variable.name) (sort_view c.in-Variable.sort)) u u is refl
+    let is : skeleton_view c.args.self.now ≡ one_of (string_bytes c.in-Variable.name.value) (sort_view c.in-Variable.sort) = search (rules, the_lemmas) in
+    shown_as (signature_view c.args.signature.now) c.in_ok-match_one-in-Variable.field-0 c.args.bindings.items (skeleton_view c.args.self.now) (one_of (string_bytes c.in-Variable.name.value) (sort_view c.in-Variable.sort)) u u is refl
     c.in_ok-match_one-in-Variable.ensures.same
 
 pub match_value-returns-in_ok-match_all-in-Constructed-clause-same : goal.match_value-returns-in_ok-match_all-in-Constructed-clause-same
