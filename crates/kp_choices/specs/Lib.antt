@@ -1,0 +1,5 @@
+pub mod Asking
+pub mod Holding
+pub mod Kinds
+pub mod Numbers
+pub mod Ways
