@@ -1,0 +1,8 @@
+use Rattle.std.proofs.Common.{◌≡◌, List, length}
+use Rattle.kp_kore.specs.Syntax.{Text}
+use Rattle.kp_claims.specs.Labels.{Lists}
+use Rattle.kp_fresh.proofs.FreshLemmas.{Leaves}
+use Rattle.kp_fresh.proofs.fresh.first_free.Given as goal
+
+abbrev pub invariant-loop-before : goal.invariant-loop-before
+invariant-loop-before l = (used : List Text) → Lists used l.names → l.count ≡ length used → Leaves l.count l.before used

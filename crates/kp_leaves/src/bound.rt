@@ -1,0 +1,8 @@
+use kp_kore::{Name, Sort};
+
+/// A variable that a quantifier binds.
+#[derive(Clone, Copy)]
+pub struct Bound<'a> {
+    pub name: &'a Name,
+    pub sort: &'a Sort,
+}
