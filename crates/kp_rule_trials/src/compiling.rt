@@ -1,8 +1,6 @@
-use crate::texts::{pattern, signature};
-use kp_compile::{CompileError, compile_condition, compile_left, compile_term, no_names};
+use crate::texts::{pattern, signature, value};
+use kp_compile::{CompileError, compile_left, compile_term, no_names};
 use kp_ground::Value;
-use kp_kore::Pattern;
-use kp_signature::Signature;
 use std::alloc::Global;
 use std::test::Fail;
 
@@ -50,44 +48,14 @@ fn terms_are_compiled_or_refused(rt: HostRuntime) -> Result<(), Fail> {
     Ok(())
 }
 
-/// The value of a closed term.
-fn value_of(alloc: Global, signature: &Signature, pattern: &Pattern) -> Result<Value, Fail> {
-    let term = compile_term(alloc, signature, &no_names(alloc), pattern).map_err(|_| "no term")?;
-    Ok(term.evaluate(alloc, &[]).map_err(|_| "no value")?)
-}
-
-/// The value of a closed term's text.
-fn value(alloc: Global, text: &str) -> Result<Value, Fail> {
-    let pattern = pattern(alloc, text)?;
-    let signature = signature(alloc, SMALL)?;
-    value_of(alloc, &signature, &pattern)
-}
-
-/// Whether a predicate's text without variables holds.
-fn holds(alloc: Global, text: &str) -> Result<bool, Fail> {
-    let signature = signature(alloc, SMALL)?;
-    let pattern = pattern(alloc, text)?;
-    let names = no_names(alloc);
-    let condition = compile_condition(alloc, &signature, &names, &[&pattern]).map_err(
-        |_| "no condition",
-    )?;
-    Ok(condition.holds(alloc, &[]).map_err(|_| "no truth")?)
-}
-
 #[test]
 fn a_sum_has_its_value(rt: HostRuntime) -> Result<(), Fail> {
-    let sum = value(rt.alloc(), r#"plus{}(\dv{Int{}}("+2"), \dv{Int{}}("-05"))"#)?;
+    let signature = signature(rt.alloc(), SMALL)?;
+    let sum = value(
+        rt.alloc(),
+        &signature,
+        r#"plus{}(\dv{Int{}}("+2"), \dv{Int{}}("-05"))"#,
+    )?;
     assert!(rt; sum.equal(&Value::Whole { number: -3 }));
-    Ok(())
-}
-
-#[test]
-fn a_comparison_holds(rt: HostRuntime) -> Result<(), Fail> {
-    let less =
-        r#"\equals{Bool{}, S{}}(\dv{Bool{}}("true"), less{}(\dv{Int{}}("1"), \dv{Int{}}("2")))"#;
-    let more =
-        r#"\equals{Bool{}, S{}}(\dv{Bool{}}("true"), less{}(\dv{Int{}}("2"), \dv{Int{}}("1")))"#;
-    assert!(rt; holds(rt.alloc(), less)?);
-    assert!(rt; !holds(rt.alloc(), more)?);
     Ok(())
 }

@@ -1,5 +1,4 @@
-use crate::texts::{axiom, pattern, signature};
-use kp_compile::{compile_term, no_names};
+use crate::texts::{axiom, pattern, signature, value};
 use kp_ground::Value;
 use kp_kore::{Pattern, Sort};
 use kp_rule_reading::{RuleError, label_of, read_rule};
@@ -56,13 +55,6 @@ const BOTH: &str = r#"module BOTH
   ) [priority{}("soon")]
 endmodule []
 "#;
-
-/// The value of a closed term's text.
-fn value(alloc: Global, signature: &Signature, text: &str) -> Result<Value, Fail> {
-    let pattern = pattern(alloc, text)?;
-    let term = compile_term(alloc, signature, &no_names(alloc), &pattern).map_err(|_| "no term")?;
-    Ok(term.evaluate(alloc, &[]).map_err(|_| "no value")?)
-}
 
 /// The priority number and the body of the rule of a module's text.
 fn body(alloc: Global, signature: &Signature, text: &str) -> Result<(u32, RuleBody), Fail> {

@@ -1,5 +1,5 @@
-// Tests of the public calls with ample memory, by values from outside: of text that is read and printed, patterns, ground
-// terms, difference constraints and frames. They stand here together, since a crate with tests is proved twice.
+// Tests of the public calls with ample memory, by values from outside: of text that is read and printed, patterns,
+// difference constraints and frames. They stand here together, since a crate with tests is proved twice.
 #![tactic(auto)]
 
 #[cfg(test)]
@@ -7,7 +7,7 @@ mod differences;
 #[cfg(test)]
 mod frames;
 #[cfg(test)]
-mod grounds;
+mod patterns;
 #[cfg(test)]
 mod printing;
 #[cfg(test)]
