@@ -4,4 +4,4 @@ pub mod SpelledLists
 pub mod GroundStates
 pub mod Injections
 pub mod SpelledParts
-pub mod Depths
+pub mod PlainSorts

@@ -9,6 +9,6 @@ mod within;
 
 pub use error::{SpellingError, StateError};
 pub use own::own_sort;
-pub use spell::{places_of, spelled};
+pub use spell::{has_injection, injects, placed_at, places_of, spelled, spelled_at};
 pub use state::{State, first_foreign, state_of};
-pub use within::{is_home, is_within_written, room_below};
+pub use within::is_home;

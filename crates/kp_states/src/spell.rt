@@ -48,7 +48,7 @@ pub fn spelled(
 }
 
 /// Whether the signature has `inj`.
-fn has_injection(signature: &Signature) -> bool
+pub fn has_injection(signature: &Signature) -> bool
     ensures { IsTrue result ↔ (meaning_named (signature_view signature.now) spec.injection_name ≡ injection) }
 {
     match meaning_of(signature, "inj") {
@@ -58,7 +58,7 @@ fn has_injection(signature: &Signature) -> bool
 }
 
 /// Whether a symbol at two sorts stands in the pattern.
-fn injects(alloc: Global, pattern: &Pattern) -> Result<bool, AllocError>
+pub fn injects(alloc: Global, pattern: &Pattern) -> Result<bool, AllocError>
     ensures { IfOk result (λ b. b ≡ not (none_within spec.has_two_sorts (view pattern.now))) }
 {
     let parts = subpatterns(alloc, pattern)?;
@@ -89,7 +89,7 @@ fn has_two_sorts(pattern: &Pattern) -> bool
 
 /// The value as a term at this sort.
 #[cycle(spelling)]
-fn spelled_at(
+pub fn spelled_at(
     value: &Value,
     alloc: Global,
     signature: &Signature,
@@ -173,7 +173,12 @@ pub fn places_of<'a>(signature: &'a Signature, constructor: &str) -> &'a [Sort]
 }
 
 /// `inj{A,B}(p)`, where A isn't B.
-fn placed_at(alloc: Global, own: Sort, sort: &Sort, inner: Pattern) -> Result<Pattern, AllocError>
+pub fn placed_at(
+    alloc: Global,
+    own: Sort,
+    sort: &Sort,
+    inner: Pattern,
+) -> Result<Pattern, AllocError>
     ensures { IfOk result (λ p. view p ≡ placed (sort_view own) (sort_view sort.now) (view inner)) }
 {
     if own.equal(sort) {

@@ -2,7 +2,7 @@
 // that instances and truth are those under the valuation that has the terms' instances for their names.
 #![tactic(auto)]
 
-mod build;
+pub mod build;
 pub mod laws;
 pub mod replace;
 

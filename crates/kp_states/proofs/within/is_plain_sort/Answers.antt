@@ -3,7 +3,7 @@ use Rattle.std.specs.Prelude.{IsTrue}
 use Rattle.kp_kore.specs.Syntax.{sort_of, no_sorts}
 use Rattle.kp_kore.specs.View.{sort_view, sorts_view}
 use Rattle.kp_kore.specs.declared.sort.Sort.{the_lemmas}
-use Rattle.kp_states.proofs.Depths.{not_plain}
+use Rattle.kp_states.proofs.PlainSorts.{not_plain}
 use Rattle.kp_states.proofs.within.is_plain_sort.Goals as goal
 
 pub returns-else-is_empty : goal.returns-else-is_empty
