@@ -94,11 +94,12 @@ fn rule_from(
     ensures fault { IfErr result (λ e. e ≡ Memory) }
     ensures made { (g : KoreSignature) (names : List Text) → let rewriting' = axiom_view rewriting.now in Counts names labels.now → IsReadAs g rewriting'.axiom_of priority body → IfOk result (IsMadeOf g names rewriting') }
 {
+    let body = Arc::new(alloc, body)?;
     let source = source_of(alloc, rewriting)?;
     Ok(Rule {
         id: rule_id(labels, &source)?,
         priority,
-        body: Arc::new(alloc, body)?,
+        body,
         source: Arc::new(alloc, source)?,
     })
 }

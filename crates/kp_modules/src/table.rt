@@ -97,8 +97,8 @@ fn rule_set(alloc: Global, modules: &[&Module]) -> Result<RuleSet, LoadError>
     ensures ok { IfOk result (IsRunOf (map (λ m. module_view m.now) modules.now)) }
 {
     let signature = Signature::new(alloc, modules)?;
-    let rules = rules_of(alloc, &signature, modules)?;
     let signature = Arc::new(alloc, signature)?;
+    let rules = rules_of(alloc, &signature, modules)?;
     let set = RuleSet::new(alloc, signature, rules)?;
     Ok(set)
 }

@@ -1,7 +1,7 @@
 -- Variables of the sides of a rule that are its left term's.
 use Rattle.std.proofs.Common.{◌≡◌, refl, sym, ◌∙◌, ap, subst, Bool, true, false, ◌&&◌, ◌||◌, not, List, [], ◌∷◌, ◌++◌}
 use Rattle.std.specs.Prelude.{Some}
-use Rattle.std.specs.List.{list_all, list_any, AllByRecursion}
+use Rattle.std.specs.List.{list_all, AllByRecursion}
 use Rattle.std.specs.Str.{bytes_eq}
 use Rattle.std.proofs.lemmas.Slice.Eq.{bytes_eq-Decides}
 use Rattle.std.proofs.lemmas.List.Folds.{list_all-append}
@@ -13,7 +13,7 @@ use Rattle.kp_sorts.proofs.RuleSides.{sides_of, no_binders, holds_of_term}
 use Rattle.kp_ground.specs.Slots.{is_one_of}
 use Rattle.kp_compile.specs.Exact.{are_named}
 use Rattle.kp_compile.proofs.Reading.{both_so}
-use Rattle.kp_rule_reading.specs.Reading.{is_binder, is_predicate_read, is_condition_part, RightPasses}
+use Rattle.kp_rule_reading.specs.Reading.{is_binder, is_predicate_read, RightPasses}
 use Rattle.kp_rule_reading.proofs.PlainRules.{no_binder}
 use Rattle.kp_rule_reading.proofs.ReadParts.{both_true}
 

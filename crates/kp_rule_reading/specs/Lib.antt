@@ -1,3 +1,4 @@
+pub mod Compiled
 pub mod Priorities
 pub mod Reading
 pub mod Tests

@@ -8,6 +8,7 @@ mod names;
 mod parts_read;
 pub mod priority;
 mod read;
+mod rewrite_parts;
 mod sort_test;
 
 pub use label::label_of;

@@ -23,18 +23,15 @@ ghost use Rattle.kp_rule_reading.specs.declared.read.RuleError.TheVariants.{Memo
 ghost use Rattle.kp_rules.specs.declared.rule.RuleBody.TheVariants as body;
 ghost use Rattle.kp_rules.specs.declared.skeleton.Skeleton.TheVariants as skeleton;
 
-use crate::choice::choice_of;
 use crate::names::{are_named, names_of, repeats_literals_only};
 use crate::parts_read::{
     all_split, are_condition_parts, are_declared, are_read_parts, are_uninterpreted, inject_one,
 };
 use crate::priority::{Priority, USUAL_PRIORITY, priority_of};
-use crate::sort_test::sort_tests;
-use kp_compile::{
-    CompileError, NameSet, compile_condition, compile_left, compile_term, subpatterns,
-};
+use crate::rewrite_parts::compiled;
+use kp_compile::{CompileError, NameSet, subpatterns};
 use kp_kore::{AxiomSentence, Pattern, Sort};
-use kp_rules::rule::{Rewrite, RightSide, RuleBody};
+use kp_rules::rule::{Rewrite, RuleBody};
 use kp_rules::shape::{Shape, Side, shape_of};
 use kp_rules::skeleton::{Skeleton, skeleton_of_left};
 use kp_signature::{Signature, VerifyError, verify};
@@ -380,34 +377,4 @@ fn are_tops(patterns: &[&Pattern]) -> bool
         }
     }
     true
-}
-
-/// The rule that its parts make.
-fn compiled(
-    alloc: Global,
-    signature: &Signature,
-    sort: &Sort,
-    shape: &Shape<'_>,
-    right: &Pattern,
-    chooses: bool,
-) -> Result<Rewrite, CompileError>
-    requires condition { AllByRecursion (λ p. list_all (λ x. is_named x.name (free_variables (view shape.now.left.term.now))) (free_variables p) ≡ true) (seen shape.now.left.predicates.items) }
-    requires right { chooses ≡ false → list_all (λ x. is_named x.name (free_variables (view shape.now.left.term.now))) (free_variables (view shape.now.right.term.now)) ≡ true }
-    ensures made { let the_rewrite_seen = rewrite_seen (view right.now) shape.now in let g = signature_view signature.now in IfOk result (λ w. IsMadeOf g (sort_view sort.now) the_rewrite_seen w × (w.chooses ≡ chooses)) }
-    ensures sound { IfErr result (λ e. IsSound (signature_view signature.now) (rewrite_seen (view right.now) shape.now) → e ≡ compiling.Memory) }
-{
-    let (left, names) = compile_left(alloc, signature, shape.left.term)?;
-    let tests = sort_tests(alloc, signature, &names, shape.left.term)?;
-    let condition = compile_condition(alloc, signature, &names, &shape.left.predicates)?;
-    let term = compile_term(alloc, signature, &names, shape.right.term)?;
-    let choice = choice_of(alloc, shape, right, names, chooses)?;
-    Ok(Rewrite {
-        left,
-        tests,
-        condition,
-        right: term,
-        right_sort: sort.copy(alloc)?,
-        chooses,
-        choice,
-    })
 }

@@ -18,7 +18,6 @@ use std::sync::Arc;
 
 /// The rules of a definition in the order of its modules, and its signature. In which turn they come, and which of them
 /// may rewrite a value of a head, is noted once.
-#[derive(Drop)]
 pub struct RuleSet {
     pub signature: Arc<Signature>,
     pub rules: Vec<Rule>,
@@ -26,6 +25,18 @@ pub struct RuleSet {
     index: Index,
     ghost in_turn: { AreInTurn rules.items (λ _. true) order.items } by { Prim.hlevel props },
     ghost by_head: { (h : Top) → AreInTurn rules.items (may_have h) (places_at index h) } by { Prim.hlevel props },
+}
+
+// Written out: a derived one is proved again, with those of all that it holds, in each crate that owns a rule set.
+impl Drop for RuleSet {
+    fn drop(self) {
+        let RuleSet {
+            signature: _signature,
+            rules: _rules,
+            order: _order,
+            index: _index,
+        } = self;
+    }
 }
 
 impl RuleSet {
