@@ -5,7 +5,7 @@
 
 KIND is one of: rules, sorts, modules, chain, arguments, deep-sort, deep-pattern, deep-and, deep-fold, wide-fold,
 deep-attribute, labels, subsorts, injections, sort-chain, beside, beside-request, counting-request, ring, ring-request,
-any-head, variables, variables-request, doubling, doubling-request, push, push-request. NUMBER is how many. The text goes to FILE, or to standard output.
+any-head, variables, variables-request, doubling, doubling-request, push, push-request, beside-claim. NUMBER is how many. The text goes to FILE, or to standard output.
 """
 import json
 import sys
@@ -174,6 +174,21 @@ def beside_request(n):
     number = {"tag": "DV", "sort": {"tag": "SortApp", "name": "SortInt", "args": []}, "value": "10000"}
     term = {"format": "KORE", "version": 1, "term": applied("Lbltop", [number, tree(n)])}
     return json.dumps({"jsonrpc": "2.0", "id": 1, "method": "execute", "params": {"state": term}})
+
+
+def beside_claim(n):
+    """One ground claim of 1,000 rounds, over `beside`: the counter from 1,000 to 1, beside a tree of n nodes."""
+    def tree(size):
+        if size < 3:
+            return "Lblleaf{}()"
+        half = (size - 1) // 2
+        return f"Lblnode{{}}({tree(half)}, {tree(size - 1 - half)})"
+
+    def top(number):
+        return f'Lbltop{{}}(\\dv{{SortInt{{}}}}("{number}"), {tree(n)})'
+
+    claim = f"\\implies{{SortTop{{}}}}({top(1000)}, weakAlwaysFinally{{SortTop{{}}}}({top(1)}))"
+    return f'module TOYS-SPEC\n  import TOYS []\n  claim{{}} {claim} [label{{}}("beside")]\nendmodule []\n'
 
 
 def groups(n):

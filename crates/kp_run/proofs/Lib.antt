@@ -4,6 +4,7 @@ pub mod Answered
 pub mod Bound
 pub mod Causes
 pub mod Chosen
+pub mod Fitting
 pub mod Runs
 pub mod Shallow
 pub mod States

@@ -5,6 +5,8 @@ use Rattle.std.specs.List.{AllByRecursion}
 use Rattle.kp_kore.specs.Signature.{KoreSignature}
 use Rattle.kp_semantics.specs.Value.{Value}
 use Rattle.kp_rules.specs.declared.rule.Rule.{Rule}
+use Rattle.kp_rule_sets.specs.Turns.{with_first}
+use Rattle.std.proofs.lemmas.List.{append-nil}
 use Rattle.kp_run.specs.declared.firing.Firing.{Firing}
 use Rattle.kp_run.specs.declared.step.Turn.{Turn}
 use Rattle.kp_run.specs.declared.step.Turn.TheVariants.{Nobody, One, Several}
@@ -71,6 +73,11 @@ pub turn_stays : (g : KoreSignature) (u : Value) (turn : Turn) (rules : List Rul
 turn_stays g u Nobody rules r is isnt = all_and_last (λ q. ¬ BodyFires g u q.body.value) rules r is isnt
 turn_stays g u (One f) rules r is isnt = one_and_last (IsFiring g u f) (GoesAfter g u f.priority) rules r is (λ b. absurd (isnt b))
 turn_stays g u (Several n) rules r is isnt = (all_and_last (λ q. BodyFires g u q.body.value → n ≤ q.priority) rules r is.0 (λ b. absurd (isnt b)), still_two g u n rules r is.1)
+
+-- nor does one at a place, where there is one
+pub turn_stays_at : (g : KoreSignature) (u : Value) (turn : Turn) (rules : List Rule) (o : Option Rule) → IsTurn g u rules turn → AllByRecursion (λ r. ¬ BodyFires g u r.body.value) (with_first o []) → IsTurn g u (rules ++ with_first o []) turn
+turn_stays_at g u turn rules (Some r) is rests = turn_stays g u turn rules r is rests.0
+turn_stays_at g u turn rules None is rests = subst (λ rs. IsTurn g u rs turn) (sym (append-nil rules)) is
 
 -- ---- one item further in the loops
 

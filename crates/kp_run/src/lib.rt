@@ -4,6 +4,7 @@
 
 mod error;
 mod firing;
+mod fit;
 pub mod laws;
 mod run;
 mod step;

@@ -27,6 +27,7 @@ ghost use Rattle.kp_run.specs.declared.error.RunError.TheVariants.{NotAnswered};
 
 use crate::error::RunError;
 use crate::firing::Firing;
+use crate::fit::parts_fit;
 use kp_depths::{Depths, bound_depths, depths_of, is_shallow_at, right_depths};
 use kp_ground::Value;
 use kp_kore::Sort;
@@ -222,7 +223,30 @@ fn turn_with<'a>(
     }
 }
 
-/// The rules that have their turn on a value. Rules of other heads aren't looked at.
+/// Whether a rule may fire on a value: each that fires may, and each whose condition computes a number beyond 128 bits.
+/// No variable is bound.
+fn may_fire(body: &RuleBody, value: &Value) -> bool
+    ensures fires { (g : KoreSignature) → BodyFires g (value_view value.now) body.now → IsTrue result }
+    ensures wide { (g : KoreSignature) → BodyIsWide g (value_view value.now) body.now → IsTrue result }
+{
+    match body {
+        RuleBody::Rewrite(rewrite) => parts_fit(&rewrite.left, value),
+        RuleBody::Foreign(_) => false,
+    }
+}
+
+/// Whether the rule at a place is to be matched.
+fn is_to_match(rules: &RuleSet, place: usize, value: &Value) -> bool
+    ensures rests { (g : KoreSignature) → result ≡ false → AllByRecursion (λ r. ¬ BodyFires g (value_view value.now) r.body.value) (with_first (slice_get rules.now.rules.items place) []) }
+    ensures narrow { (g : KoreSignature) → result ≡ false → AllByRecursion (λ r. ¬ BodyIsWide g (value_view value.now) r.body.value) (with_first (slice_get rules.now.rules.items place) []) }
+{
+    match rules.rule_at(place) {
+        Some(rule) => may_fire(&rule.body, value),
+        None => false,
+    }
+}
+
+/// The rules that have their turn on a value. Rules of other heads aren't looked at, nor matched those of other parts.
 fn turn_on<'a>(alloc: Global, rules: &'a RuleSet, value: &Value) -> Result<Turn<'a>, RunError>
     ensures turn { IfOk result (λ turn. IsTurn (signature_view rules.now.signature.value) (value_view value.now) rules.now.rules.items turn) }
     ensures wide { IfErr result (λ e. e ≡ NotAnswered → AnyByRecursion (λ r. BodyIsWide (signature_view rules.now.signature.value) (value_view value.now) r.body.value) rules.now.rules.items) }
@@ -231,7 +255,9 @@ fn turn_on<'a>(alloc: Global, rules: &'a RuleSet, value: &Value) -> Result<Turn<
     let mut places = rules.rules_at(&head_of(value));
     let mut turn = Turn::Nobody;
     while let Some(place) = places.next() {
-        turn = turn_with(alloc, rules, place, value, turn)?;
+        if is_to_match(rules, place, value) {
+            turn = turn_with(alloc, rules, place, value, turn)?;
+        }
     }
     Ok(turn)
 }

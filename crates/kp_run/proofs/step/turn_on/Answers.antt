@@ -10,6 +10,7 @@ use Rattle.kp_rule_sets.specs.Turns.{AreInTurn, rules_among}
 use Rattle.kp_run.specs.Turns.{BodyIsWide, IsTurn}
 use Rattle.kp_run.specs.declared.step.Turn.TheVariants.{Nobody}
 use Rattle.kp_run.proofs.Chosen.{turn_back, narrow_back}
+use Rattle.kp_run.proofs.Turning.{turn_stays_at}
 use Rattle.kp_run.proofs.Taking.{sets_out, goes_on, arrives, among_next, all_at_next}
 use Rattle.kp_run.proofs.step.turn_on.Goals as goal
 
@@ -21,8 +22,8 @@ loop-place-init c =
     sets_out rules (may_have (top_of u)) (λ before. IsTurn g u (rules_among rules before) Nobody × AllByRecursion (λ r. ¬ BodyIsWide g u r.body.value) (rules_among rules before)) (left_of c.rules_at-places.result)
     (subst (λ (h : Top). AreInTurn rules (may_have h) (left_of c.rules_at-places.result)) c.head_of.ensures c.rules_at-places.ensures) (tt, tt)
 
-pub loop-place-preserved : goal.loop-place-preserved
-loop-place-preserved c =
+pub loop-place-preserved-then-is_to_match : goal.loop-place-preserved-then-is_to_match
+loop-place-preserved-then-is_to_match c =
     let g = signature_view c.args.rules.now.signature.value in
     let u = value_view c.args.value.now in
     let rules = c.args.rules.now.rules.items in
@@ -33,6 +34,22 @@ loop-place-preserved c =
     (λ before held. (
       among_next (λ rs. IsTurn g u rs c.in_ok-turn.turn) rules before place (c.in_ok-turn.ensures.turn (rules_among rules before) held.0),
       among_next (AllByRecursion narrow) rules before place (all_at_next narrow (rules_among rules before) (slice_get rules place) held.1 c.in_ok-turn.ensures.narrow),
+    ))
+    c.loop-place.invariant
+
+pub loop-place-preserved : goal.loop-place-preserved
+loop-place-preserved c =
+    let g = signature_view c.args.rules.now.signature.value in
+    let u = value_view c.args.value.now in
+    let rules = c.args.rules.now.rules.items in
+    let place = c.in-Some.place in
+    let turn = c.loop-place.turn in
+    let narrow : Rule → Type 0 = λ r. ¬ BodyIsWide g u r.body.value in
+    let taken : left_of c.loop-place.places ≡ place ∷ left_of c.next.new.self = subst (λ o. MatchOption o (left_of c.loop-place.places ≡ []) (λ p. left_of c.loop-place.places ≡ p ∷ left_of c.next.new.self)) c.in-Some.is c.next.ensures in
+    goes_on rules (may_have (top_of u)) (λ before. IsTurn g u (rules_among rules before) turn × AllByRecursion narrow (rules_among rules before)) (λ before. IsTurn g u (rules_among rules before) turn × AllByRecursion narrow (rules_among rules before)) place (left_of c.loop-place.places) (left_of c.next.new.self) taken
+    (λ before held. (
+      among_next (λ rs. IsTurn g u rs turn) rules before place (turn_stays_at g u turn (rules_among rules before) (slice_get rules place) held.0 (c.is_to_match.ensures.rests g c.if-is_to_match.false)),
+      among_next (AllByRecursion narrow) rules before place (all_at_next narrow (rules_among rules before) (slice_get rules place) held.1 (c.is_to_match.ensures.narrow g c.if-is_to_match.false)),
     ))
     c.loop-place.invariant
 
