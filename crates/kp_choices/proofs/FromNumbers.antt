@@ -1,5 +1,5 @@
 -- The valuation that numbered values give.
-use Rattle.std.proofs.Common.{arith, ◌≡◌, refl, sym, ap, subst, ◌∙◌, ◌↔◌, ℕ, zero, suc, ◌+◌, ◌<◌, pos, Bool, true, false, cond, List, [], ◌∷◌, ◌++◌, map, length, slice_index_or, Option, Some, None}
+use Rattle.std.proofs.Common.{arith, ◌≡◌, refl, sym, ap, subst, ◌∙◌, ◌↔◌, ℕ, zero, suc, ◌<◌, pos, Bool, true, false, cond, List, [], ◌∷◌, ◌++◌, map, length, slice_index_or, Option, Some, None}
 use Rattle.std.specs.Prelude.{if◌then◌else◌, string_bytes, Vec}
 use Rattle.std.specs.Borrow.{Bor}
 use Rattle.std.specs.List.{AllByRecursion, Contains, find}
@@ -29,7 +29,8 @@ use Rattle.kp_deciding.specs.declared.form.Form.TheVariants.{Compares, Truth, Eq
 use Rattle.kp_deciding.specs.declared.form.TokenPart.{TokenPart}
 use Rattle.kp_deciding.specs.declared.form.TokenPart.TheVariants.{Unknown, Known}
 use Rattle.kp_deciding.specs.declared.reading.ReadLiteral.{ReadLiteral}
-use Rattle.kp_choices.specs.Holding.{if_there, side_variables, token_variables, unknowns_said, unknowns_in, all_unknowns, IsTokenPart, IsSaidOfKind, AreSaidOfKind, CanBeDecided}
+use Rattle.kp_deciding.specs.Unknowns.{if_there, side_variables, token_variables, unknowns_said, unknowns_in, all_unknowns, IsTokenPart, IsSaidOfKind, AreSaidOfKind}
+use Rattle.kp_choices.specs.Holding.{CanBeDecided}
 use Rattle.kp_choices.specs.Kinds.{token_sort, part_sort}
 use Rattle.kp_choices.specs.Numbers.{texts, place_by, parts_same, whole_number}
 use Rattle.kp_choices.specs.Ways.{token_number}

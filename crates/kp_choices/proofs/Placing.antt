@@ -1,5 +1,5 @@
 -- Each unknown of the clauses has its place in the lists of unknowns, and bounds are within the limits.
-use Rattle.std.proofs.Common.{arith, ◌≡◌, refl, sym, ap, subst, ◌∙◌, ℕ, suc, ◌+◌, ◌-◌, ◌<◌, ◌≤◌, ◌^◌, Bool, true, false, ◌||◌, List, [], ◌∷◌, ◌++◌, map, length, Option, Some, None}
+use Rattle.std.proofs.Common.{arith, ◌≡◌, refl, sym, ap, subst, ◌∙◌, ℕ, suc, ◌<◌, ◌≤◌, ◌^◌, Bool, true, false, ◌||◌, List, [], ◌∷◌, ◌++◌, map, length, Option, Some, None}
 use Rattle.std.specs.Prelude.{if◌then◌else◌, ⊤, Vec, unsigned_abs, max}
 use Rattle.std.specs.Bool.{beq, Decides}
 use Rattle.std.specs.List.{AllByRecursion, list_any}

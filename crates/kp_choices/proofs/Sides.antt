@@ -12,7 +12,7 @@ use Rattle.kp_terms.specs.View.{variable_view}
 use Rattle.kp_deciding.specs.Forms.{token_part_view}
 use Rattle.kp_deciding.specs.declared.form.TokenPart.{TokenPart}
 use Rattle.kp_deciding.specs.declared.form.TokenPart.TheVariants.{Unknown, Known}
-use Rattle.kp_choices.specs.Holding.{token_variables, IsTokenValue, IsTokenPart}
+use Rattle.kp_deciding.specs.Unknowns.{token_variables, IsTokenValue, IsTokenPart}
 use Rattle.kp_choices.specs.Kinds.{sort_of_token, part_sort, same_sort, are_alike}
 use Rattle.kp_choices.proofs.TokenSorts.{only_tokens}
 

@@ -1,5 +1,5 @@
 -- The numbered values that a valuation gives.
-use Rattle.std.proofs.Common.{arith, ◌≡◌, refl, sym, ap, subst, ◌∙◌, ◌↔◌, ℕ, zero, suc, ◌+◌, ◌-◌, ◌<◌, ◌≤◌, ℤ, pos, Bool, true, false, List, [], ◌∷◌, ◌++◌, map, length, get_or, Option, Some, None}
+use Rattle.std.proofs.Common.{arith, ◌≡◌, refl, sym, ap, subst, ◌∙◌, ◌↔◌, ℕ, zero, suc, ◌-◌, ◌<◌, ◌≤◌, ℤ, pos, Bool, true, false, List, [], ◌∷◌, ◌++◌, map, length, get_or, Option, Some, None}
 use Rattle.std.specs.Prelude.{if◌then◌else◌, nat_lt, string_bytes, Vec}
 use Rattle.std.specs.List.{AllByRecursion}
 use Rattle.std.specs.Str.{bytes_eq}
@@ -21,7 +21,7 @@ use Rattle.kp_deciding.specs.Forms.{whole_part_view, token_part_view}
 use Rattle.kp_deciding.specs.declared.form.Form.{Form}
 use Rattle.kp_deciding.specs.declared.form.Form.TheVariants.{Compares, Truth, Equates, Asks, Gives}
 use Rattle.kp_deciding.specs.declared.reading.ReadLiteral.{ReadLiteral}
-use Rattle.kp_choices.specs.Holding.{token_variables, unknowns_said, unknowns_in, all_unknowns, IsSaidOfKind, AreSaidOfKind}
+use Rattle.kp_deciding.specs.Unknowns.{token_variables, unknowns_said, unknowns_in, all_unknowns, IsSaidOfKind, AreSaidOfKind}
 use Rattle.kp_choices.specs.Numbers.{texts, place_by, parts_same, is_written, whole_number}
 use Rattle.kp_choices.specs.Ways.{truth_number}
 use Rattle.kp_choices.specs.declared.unknowns.Unknowns.{Unknowns}

@@ -1,7 +1,7 @@
 // Whether some values of the unknowns make one literal of each clause hold.
 ghost use Rattle.std.specs.Prelude.{◌≡◌, IfOk, IsTrue, false};
 ghost use Rattle.kp_signature.specs.View.{signature_view};
-ghost use Rattle.kp_choices.specs.Holding.{CanBeAsked, CanBeDecided};
+ghost use Rattle.kp_choices.specs.Holding.{AreLight, CanBeAsked, CanBeDecided};
 ghost use Rattle.kp_choices.specs.Ways.{HasRoomFor};
 
 use crate::asked::{asked_by, can_all_be_met};
@@ -32,9 +32,9 @@ pub fn can_be_met_together(
     signature: &Signature,
     clauses: &[Vec<ReadLiteral>],
 ) -> Result<bool, AllocError>
-    requires { CanBeDecided (signature_view signature.now) clauses.now }
-    ensures yes { IfOk result (λ b. IsTrue b → CanBeAsked (signature_view signature.now) clauses.now) }
-    ensures no { IfOk result (λ b. b ≡ false → ¬ CanBeAsked (signature_view signature.now) clauses.now) }
+    requires { AreLight clauses.now }
+    ensures yes { let g = signature_view signature.now in IfOk result (λ b. IsTrue b → CanBeDecided g clauses.now → CanBeAsked g clauses.now) }
+    ensures no { let g = signature_view signature.now in IfOk result (λ b. b ≡ false → CanBeDecided g clauses.now → ¬ CanBeAsked g clauses.now) }
 {
     let unknowns = Unknowns::of(alloc, clauses)?;
     let mut asked = asked_by(alloc, signature, &unknowns, clauses)?;

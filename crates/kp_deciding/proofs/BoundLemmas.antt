@@ -2,7 +2,7 @@
 use Rattle.std.proofs.Common.{◌≡◌, refl, sym, ap, ◌∙◌, List, [], ◌∷◌, ◌++◌, Option, Some, None}
 use Rattle.std.specs.List.{flat_map, filter_map}
 use Rattle.kp_symbolic.specs.Plain.{Form, ReadLiteral}
-use Rattle.kp_symbolic.specs.Weights.{DifferenceBound, bounds_of, forms_in, all_bounds}
+use Rattle.kp_symbolic.specs.Weights.{bounds_of, forms_in, all_bounds}
 use Rattle.kp_deciding.specs.Bounds.{said_bounds, clause_bounds}
 
 behind : {X : Type 0} (xs ys zs : List X) → (xs ++ ys) ++ zs ≡ xs ++ (ys ++ zs)

@@ -2,7 +2,7 @@
 use Rattle.std.proofs.Common.{◌≡◌, refl, sym, ap, subst, ◌∙◌, arith, ℕ, zero, suc, ◌+◌, ◌-◌, ◌*◌, ◌<◌, ◌≤◌, ◌^◌, max, Bool, true, false, ◌⊎◌, inl, inr}
 use Rattle.std.specs.Prelude.{nat_le}
 use Rattle.std.proofs.Math.Nat.{le-max_left, le-max_right, max-le, pow-le-pow_right, max-eq_left, max-eq_right, max-zero, zero-max}
-use Rattle.std.proofs.lemmas.Nat.{leading_length, pow_pos}
+use Rattle.std.proofs.lemmas.Nat.{leading_length}
 use Rattle.std.specs.Int.Count.{count_leading_zeros}
 use Rattle.std.proofs.lemmas.Bool.{ltb-true, leb-true}
 use Rattle.kp_symbolic.specs.Weights.{IsBitLength}

@@ -3,3 +3,4 @@ pub mod BoundLemmas
 pub mod FormLemmas
 pub mod KindLemmas
 pub mod LengthLemmas
+pub mod UnknownLemmas

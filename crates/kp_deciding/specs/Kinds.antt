@@ -1,5 +1,5 @@
 -- The heads of a sort, tested one by one.
-use Rattle.std.specs.Prelude.{Bool, true, false, not, ◌&&◌, ◌||◌, List, [], ◌∷◌, map, if◌then◌else◌}
+use Rattle.std.specs.Prelude.{Bool, false, not, ◌&&◌, ◌||◌, List, [], ◌∷◌, map, if◌then◌else◌}
 use Rattle.std.specs.List.{list_all, list_any}
 use Rattle.kp_kore.specs.Syntax.{KoreSort, SymbolDeclaration}
 use Rattle.kp_kore.specs.Attributes.{sorts_equal}

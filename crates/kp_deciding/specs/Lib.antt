@@ -2,3 +2,4 @@ pub mod Bounds
 pub mod Forms
 pub mod Kinds
 pub mod Readings
+pub mod Unknowns

@@ -1,14 +1,17 @@
 // What literals say: comparisons of whole numbers, Boolean variables, equality of tokens.
-ghost use Rattle.std.specs.Prelude.{◌≡◌, true, map};
+ghost use Rattle.std.specs.Prelude.{◌≡◌, true, [], ◌∷◌, ◌++◌, map, IfSome};
 ghost use Rattle.std.specs.Option.{option_map};
+ghost use Rattle.kp_kore.specs.Signature.{KoreSignature};
 ghost use Rattle.kp_signature.specs.Meanings.{meaning_view};
 ghost use Rattle.kp_hooks.specs.HookView.{comparison_view};
 ghost use Rattle.kp_ground.specs.View.{value_view};
 ghost use Rattle.kp_signature.specs.View.{signature_view};
 ghost use Rattle.kp_symbolic.specs.Plain as model;
-ghost use Rattle.kp_symbolic.specs.Terms.{unknown, headed};
+ghost use Rattle.kp_symbolic.specs.States.{atom_variables};
+ghost use Rattle.kp_symbolic.specs.Terms.{unknown, headed, term_variables, all_term_variables};
 ghost use Rattle.kp_terms.specs.View.{variable_view, term_view, terms_of, literal_view};
 ghost use Rattle.kp_deciding.specs.Forms.{whole_part_view, token_part_view, form_view, number_said, token_said, truth_known};
+ghost use Rattle.kp_deciding.specs.Unknowns.{side_variables, token_variables, unknowns_of, AreNumbers, IsTokenPart, IsOfKind, IsSaidOfKind, IsSaidOf};
 
 use crate::kinds::{has_only_numbers, has_only_tokens, has_only_truths};
 use kp_ground::Value;
@@ -101,7 +104,9 @@ fn variable_part<'a>(
     variable: &'a Variable,
     constant: i128,
 ) -> Option<WholePart<'a>>
-    ensures { option_map whole_part_view result ≡ model.whole_part_of (signature_view signature.now) (variable_view variable.now) constant }
+    ensures view { option_map whole_part_view result ≡ model.whole_part_of (signature_view signature.now) (variable_view variable.now) constant }
+    ensures kinds { IfSome result (λ m. AreNumbers (signature_view signature.now) (side_variables m)) }
+    ensures unknowns { IfSome result (λ m. side_variables m ≡ variable_view variable.now ∷ []) }
 {
     if has_only_numbers(signature, &variable.sort) {
         Some(WholePart {
@@ -115,7 +120,9 @@ fn variable_part<'a>(
 
 /// The number that a value is, as a side.
 fn number_part<'a>(value: &Value) -> Option<WholePart<'a>>
-    ensures { option_map whole_part_view result ≡ number_said (value_view value.now) }
+    ensures view { option_map whole_part_view result ≡ number_said (value_view value.now) }
+    ensures kinds { (g : KoreSignature) → IfSome result (λ m. AreNumbers g (side_variables m)) }
+    ensures unknowns { IfSome result (λ m. side_variables m ≡ []) }
 {
     match value {
         Value::Whole { number } => Some(WholePart {
@@ -128,7 +135,9 @@ fn number_part<'a>(value: &Value) -> Option<WholePart<'a>>
 
 /// A whole-number variable, such a variable and a constant, or a number.
 fn whole_part<'a>(signature: &Signature, term: &'a Term) -> Option<WholePart<'a>>
-    ensures { option_map whole_part_view result ≡ model.whole_part (signature_view signature.now) (term_view term.now) }
+    ensures view { option_map whole_part_view result ≡ model.whole_part (signature_view signature.now) (term_view term.now) }
+    ensures kinds { IfSome result (λ m. AreNumbers (signature_view signature.now) (side_variables m)) }
+    ensures unknowns { IfSome result (λ m. side_variables m ≡ term_variables (term_view term.now)) }
 {
     match term {
         Term::Unknown { variable } => variable_part(signature, variable, 0),
@@ -140,7 +149,9 @@ fn whole_part<'a>(signature: &Signature, term: &'a Term) -> Option<WholePart<'a>
 
 /// The variable, where it is of tokens alone.
 fn token_variable<'a>(signature: &Signature, variable: &'a Variable) -> Option<TokenPart<'a>>
-    ensures { option_map token_part_view result ≡ model.token_part (signature_view signature.now) (unknown (variable_view variable.now)) }
+    ensures view { option_map token_part_view result ≡ model.token_part (signature_view signature.now) (unknown (variable_view variable.now)) }
+    ensures kinds { IfSome result (IsTokenPart (signature_view signature.now)) }
+    ensures unknowns { IfSome result (λ p. token_variables p ≡ variable_view variable.now ∷ []) }
 {
     if has_only_tokens(signature, &variable.sort) {
         Some(TokenPart::Unknown { variable })
@@ -151,7 +162,9 @@ fn token_variable<'a>(signature: &Signature, variable: &'a Variable) -> Option<T
 
 /// The token that a value is, as a side.
 fn known_token<'a>(value: &'a Value) -> Option<TokenPart<'a>>
-    ensures { option_map token_part_view result ≡ token_said (value_view value.now) }
+    ensures view { option_map token_part_view result ≡ token_said (value_view value.now) }
+    ensures kinds { (g : KoreSignature) → IfSome result (IsTokenPart g) }
+    ensures unknowns { IfSome result (λ p. token_variables p ≡ []) }
 {
     match value {
         Value::Token { .. } => Some(TokenPart::Known { value }),
@@ -161,7 +174,9 @@ fn known_token<'a>(value: &'a Value) -> Option<TokenPart<'a>>
 
 /// A variable of tokens, or a token.
 fn token_part<'a>(signature: &Signature, term: &'a Term) -> Option<TokenPart<'a>>
-    ensures { option_map token_part_view result ≡ model.token_part (signature_view signature.now) (term_view term.now) }
+    ensures view { option_map token_part_view result ≡ model.token_part (signature_view signature.now) (term_view term.now) }
+    ensures kinds { IfSome result (IsTokenPart (signature_view signature.now)) }
+    ensures unknowns { IfSome result (λ p. token_variables p ≡ term_variables (term_view term.now)) }
 {
     match term {
         Term::Unknown { variable } => token_variable(signature, variable),
@@ -177,7 +192,9 @@ fn comparing<'a>(
     first: WholePart<'a>,
     second: WholePart<'a>,
 ) -> Form<'a>
-    ensures { form_view result ≡ model.compares (model.comparison_if holds (comparison_view comparison)) (whole_part_view first.entry) (whole_part_view second.entry) }
+    ensures view { form_view result ≡ model.compares (model.comparison_if holds (comparison_view comparison)) (whole_part_view first.entry) (whole_part_view second.entry) }
+    ensures kinds { (g : KoreSignature) → AreNumbers g (side_variables first.entry) → AreNumbers g (side_variables second.entry) → IsOfKind g result }
+    ensures unknowns { unknowns_of result ≡ side_variables first.entry ++ side_variables second.entry }
 {
     Form::Compares {
         comparison: comparison_if(holds, comparison),
@@ -194,7 +211,9 @@ fn compared<'a>(
     left: &'a Term,
     right: &'a Term,
 ) -> Option<Form<'a>>
-    ensures { option_map form_view result ≡ model.comparing holds (comparison_view comparison) (model.whole_part (signature_view signature.now) (term_view left.now)) (model.whole_part (signature_view signature.now) (term_view right.now)) }
+    ensures view { option_map form_view result ≡ model.comparing holds (comparison_view comparison) (model.whole_part (signature_view signature.now) (term_view left.now)) (model.whole_part (signature_view signature.now) (term_view right.now)) }
+    ensures kinds { IsSaidOfKind (signature_view signature.now) result }
+    ensures unknowns { IsSaidOf (term_variables (term_view left.now) ++ term_variables (term_view right.now)) result }
 {
     let Some(first) = whole_part(signature, left) else {
         return None;
@@ -212,7 +231,9 @@ fn equated<'a>(
     left: &'a Term,
     right: &'a Term,
 ) -> Option<Form<'a>>
-    ensures { option_map form_view result ≡ model.equating holds (model.token_part (signature_view signature.now) (term_view left.now)) (model.token_part (signature_view signature.now) (term_view right.now)) }
+    ensures view { option_map form_view result ≡ model.equating holds (model.token_part (signature_view signature.now) (term_view left.now)) (model.token_part (signature_view signature.now) (term_view right.now)) }
+    ensures kinds { IsSaidOfKind (signature_view signature.now) result }
+    ensures unknowns { IsSaidOf (term_variables (term_view left.now) ++ term_variables (term_view right.now)) result }
 {
     let Some(first) = token_part(signature, left) else {
         return None;
@@ -234,7 +255,9 @@ fn equality_form<'a>(
     left: &'a Term,
     right: &'a Term,
 ) -> Option<Form<'a>>
-    ensures { option_map form_view result ≡ model.equality_form (signature_view signature.now) holds (term_view left.now) (term_view right.now) }
+    ensures view { option_map form_view result ≡ model.equality_form (signature_view signature.now) holds (term_view left.now) (term_view right.now) }
+    ensures kinds { IsSaidOfKind (signature_view signature.now) result }
+    ensures unknowns { IsSaidOf (term_variables (term_view left.now) ++ term_variables (term_view right.now)) result }
 {
     match compared(signature, holds, Comparison::Equal, left, right) {
         Some(form) => Some(form),
@@ -250,7 +273,9 @@ fn call_form<'a>(
     left: &'a Term,
     right: &'a Term,
 ) -> Option<Form<'a>>
-    ensures { option_map form_view result ≡ model.call_form (signature_view signature.now) holds (meaning_view meaning) (term_view left.now) (term_view right.now) }
+    ensures view { option_map form_view result ≡ model.call_form (signature_view signature.now) holds (meaning_view meaning) (term_view left.now) (term_view right.now) }
+    ensures kinds { IsSaidOfKind (signature_view signature.now) result }
+    ensures unknowns { IsSaidOf (term_variables (term_view left.now) ++ term_variables (term_view right.now)) result }
 {
     match meaning {
         Meaning::Interpreted(Function::Two(Hook::Comparison(comparison))) => {
@@ -276,7 +301,9 @@ fn variable_truth<'a>(
     holds: bool,
     variable: &'a Variable,
 ) -> Option<Form<'a>>
-    ensures { option_map form_view result ≡ model.truth_form (signature_view signature.now) holds (unknown (variable_view variable.now)) }
+    ensures view { option_map form_view result ≡ model.truth_form (signature_view signature.now) holds (unknown (variable_view variable.now)) }
+    ensures kinds { IsSaidOfKind (signature_view signature.now) result }
+    ensures unknowns { IsSaidOf (variable_view variable.now ∷ []) result }
 {
     if has_only_truths(signature, &variable.sort) {
         Some(Form::Truth {
@@ -295,7 +322,9 @@ fn headed_form<'a>(
     symbol: &str,
     arguments: &'a [Term],
 ) -> Option<Form<'a>>
-    ensures { option_map form_view result ≡ model.truth_form (signature_view signature.now) holds (headed symbol.now (terms_of (map term_view arguments.now))) }
+    ensures view { option_map form_view result ≡ model.truth_form (signature_view signature.now) holds (headed symbol.now (terms_of (map term_view arguments.now))) }
+    ensures kinds { IsSaidOfKind (signature_view signature.now) result }
+    ensures unknowns { IsSaidOf (all_term_variables (terms_of (map term_view arguments.now))) result }
 {
     match arguments {
         [left, right] => {
@@ -308,7 +337,9 @@ fn headed_form<'a>(
 
 /// A Boolean expression that is true, or false.
 fn truth_form<'a>(signature: &Signature, holds: bool, term: &'a Term) -> Option<Form<'a>>
-    ensures { option_map form_view result ≡ model.truth_form (signature_view signature.now) holds (term_view term.now) }
+    ensures view { option_map form_view result ≡ model.truth_form (signature_view signature.now) holds (term_view term.now) }
+    ensures kinds { IsSaidOfKind (signature_view signature.now) result }
+    ensures unknowns { IsSaidOf (term_variables (term_view term.now)) result }
 {
     match term {
         Term::Unknown { variable } => variable_truth(signature, holds, variable),
@@ -336,7 +367,9 @@ fn truth_equality<'a>(
     left: &'a Term,
     right: &'a Term,
 ) -> Option<Form<'a>>
-    ensures { option_map form_view result ≡ model.same_form (signature_view signature.now) true holds (term_view left.now) (term_view right.now) }
+    ensures view { option_map form_view result ≡ model.same_form (signature_view signature.now) true holds (term_view left.now) (term_view right.now) }
+    ensures kinds { IsSaidOfKind (signature_view signature.now) result }
+    ensures unknowns { IsSaidOf (term_variables (term_view left.now) ++ term_variables (term_view right.now)) result }
 {
     if let Some(value) = truth_of(right) {
         return truth_form(signature, holds == value, left);
@@ -349,7 +382,9 @@ fn truth_equality<'a>(
 
 /// What a literal says in any clause, where it says what is decided.
 pub fn form_of<'a>(signature: &Signature, literal: &'a Literal) -> Option<Form<'a>>
-    ensures { option_map form_view result ≡ model.form_of (signature_view signature.now) (literal_view literal.now) }
+    ensures view { option_map form_view result ≡ model.form_of (signature_view signature.now) (literal_view literal.now) }
+    ensures kinds { IsSaidOfKind (signature_view signature.now) result }
+    ensures unknowns { IsSaidOf (atom_variables (literal_view literal.now).atom) result }
 {
     match &literal.atom {
         Atom::Same { sort, left, right } => {

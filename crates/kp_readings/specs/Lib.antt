@@ -2,3 +2,4 @@ pub mod Each
 pub mod Equations
 pub mod Names
 pub mod Own
+pub mod Parts

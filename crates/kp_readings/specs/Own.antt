@@ -1,11 +1,13 @@
--- Constructors without arguments, and the questions that they are.
-use Rattle.std.specs.Prelude.{false, Option, Some, None}
+-- Constructors without arguments, the questions that they are, and what is asked of no unknown.
+use Rattle.std.specs.Prelude.{false, Option, Some, None, ⊤}
 use Rattle.kp_kore.specs.Syntax.{Text}
 use Rattle.kp_kore.specs.Parts.{SortedName}
 use Rattle.kp_semantics.specs.Value.{Value, constructed, no_values}
 use Rattle.kp_symbolic.specs.Terms.{SymbolicTerm, known}
 use Rattle.kp_symbolic.specs.States.{one_head}
 use Rattle.kp_symbolic.specs.Plain.{Form, asks}
+use Rattle.kp_deciding.specs.declared.form.Form.{Form as Said}
+use Rattle.kp_deciding.specs.declared.form.Form.TheVariants.{Asks, Gives}
 
 -- the constructor that a value is, where it has no arguments
 abbrev pub constant_said : Value → Option Text
@@ -20,3 +22,10 @@ constant_known _ = None
 abbrev pub asks_constant : SortedName → Option Text → Option Form
 asks_constant x (Some c) = Some (asks x (one_head c) false)
 asks_constant x None = None
+
+-- what is said, if anything, is of a head or a solved equation: it asks for no number, truth value or token
+abbrev pub IsSetApart : Option Said → Type 0
+IsSetApart (Some (Asks x test b)) = ⊤
+IsSetApart (Some (Gives x t)) = ⊤
+IsSetApart (Some f) = ⊥
+IsSetApart None = ⊤

@@ -1,12 +1,15 @@
 // The clauses of a state, read one after another.
 ghost use Rattle.std.specs.Prelude.{◌≡◌, ◌∷◌, ◌++◌, [], IfOk, map};
 ghost use Rattle.std.specs.Option.{option_map};
+ghost use Rattle.kp_kore.specs.Signature.{KoreSignature};
 ghost use Rattle.kp_signature.specs.View.{signature_view};
 ghost use Rattle.kp_symbolic.specs.Plain as model;
+ghost use Rattle.kp_symbolic.specs.States.{atom_variables};
 ghost use Rattle.kp_terms.specs.View.{literal_view, clauses_view, state_view};
 ghost use Rattle.kp_deciding.specs.Forms.{form_view};
 ghost use Rattle.kp_deciding.specs.Readings as reading;
 ghost use Rattle.kp_deciding.specs.Readings.{read_view};
+ghost use Rattle.kp_deciding.specs.Unknowns.{IsSaidAmong, IsReadOfKind, IsClauseOfKind, AreReadOfKind};
 ghost use Rattle.kp_readings.specs.Each.{read_literal};
 
 use crate::own::own_form;
@@ -17,9 +20,18 @@ use std::alloc::{AllocError, Global};
 
 /// A literal with what it says.
 fn read<'a>(literal: &'a Literal, form: Option<Form<'a>>) -> ReadLiteral<'a>
-    ensures { read_view result ≡ read_literal (literal_view literal.now) (option_map form_view form.entry) }
+    ensures view { read_view result ≡ read_literal (literal_view literal.now) (option_map form_view form.entry) }
+    ensures kinds { (g : KoreSignature) → IsSaidAmong g (atom_variables (literal_view literal.now).atom) form.entry → IsReadOfKind g result }
 {
     ReadLiteral { literal, form }
+}
+
+/// A literal with what it says in any clause.
+fn read_in_any<'a>(signature: &Signature, literal: &'a Literal) -> ReadLiteral<'a>
+    ensures view { read_view result ≡ read_literal (literal_view literal.now) (model.form_of (signature_view signature.now) (literal_view literal.now)) }
+    ensures kinds { IsReadOfKind (signature_view signature.now) result }
+{
+    read(literal, form_of(signature, literal))
 }
 
 /// The literals of a clause, each with what it says in any clause.
@@ -28,11 +40,12 @@ fn read_each<'a>(
     signature: &Signature,
     literals: &'a [Literal],
 ) -> Result<Vec<ReadLiteral<'a>>, AllocError>
-    ensures { IfOk result (λ c. map read_view c.items ≡ map (λ l. read_literal l (model.form_of (signature_view signature.now) l)) (map literal_view literals.now)) }
+    ensures view { IfOk result (λ c. map read_view c.items ≡ map (λ l. read_literal l (model.form_of (signature_view signature.now) l)) (map literal_view literals.now)) }
+    ensures kinds { IfOk result (λ c. IsClauseOfKind (signature_view signature.now) c.items) }
 {
     let mut found = Vec::new(alloc);
     for literal in literals {
-        found.push(read(literal, form_of(signature, literal)))?;
+        found.push(read_in_any(signature, literal))?;
     }
     Ok(found)
 }
@@ -46,7 +59,8 @@ fn read_alone<'a>(
     after: &[Clause],
     literal: &'a Literal,
 ) -> Result<Vec<ReadLiteral<'a>>, AllocError>
-    ensures { IfOk result (λ c. map read_view c.items ≡ read_literal (literal_view literal.now) (model.own_form (signature_view signature.now) (state_view state.now) (clauses_view before.now ++ clauses_view after.now) (literal_view literal.now)) ∷ []) }
+    ensures view { IfOk result (λ c. map read_view c.items ≡ read_literal (literal_view literal.now) (model.own_form (signature_view signature.now) (state_view state.now) (clauses_view before.now ++ clauses_view after.now) (literal_view literal.now)) ∷ []) }
+    ensures kinds { IfOk result (λ c. IsClauseOfKind (signature_view signature.now) c.items) }
 {
     let form = own_form(alloc, signature, state, before, after, literal)?;
     let mut found = Vec::new(alloc);
@@ -63,7 +77,8 @@ fn read_clause<'a>(
     after: &[Clause],
     clause: &'a [Literal],
 ) -> Result<Vec<ReadLiteral<'a>>, AllocError>
-    ensures { IfOk result (λ c. map read_view c.items ≡ model.read_clause (signature_view signature.now) (state_view state.now) (clauses_view before.now ++ clauses_view after.now) (map literal_view clause.now)) }
+    ensures view { IfOk result (λ c. map read_view c.items ≡ model.read_clause (signature_view signature.now) (state_view state.now) (clauses_view before.now ++ clauses_view after.now) (map literal_view clause.now)) }
+    ensures kinds { IfOk result (λ c. IsClauseOfKind (signature_view signature.now) c.items) }
 {
     match clause {
         [literal] => read_alone(alloc, signature, state, before, after, literal),
@@ -77,7 +92,8 @@ pub fn read_clauses<'a>(
     signature: &Signature,
     state: &'a State,
 ) -> Result<Vec<Vec<ReadLiteral<'a>>>, AllocError>
-    ensures { IfOk result (λ cs. reading.clauses_view cs.items ≡ model.read_clauses (signature_view signature.now) (state_view state.now)) }
+    ensures view { IfOk result (λ cs. reading.clauses_view cs.items ≡ model.read_clauses (signature_view signature.now) (state_view state.now)) }
+    ensures kinds { IfOk result (λ cs. AreReadOfKind (signature_view signature.now) cs.items) }
 {
     let clauses = state.clauses.as_slice();
     let mut found = Vec::new(alloc);

@@ -83,7 +83,7 @@ fn term_lies_below(signature: &Signature, term: &Term, sort: &Sort) -> bool
 }
 
 /// Whether the variable may be solved for by the term.
-fn is_solved_by(signature: &Signature, variable: &Variable, term: &Term) -> bool
+pub fn is_solved_by(signature: &Signature, variable: &Variable, term: &Term) -> bool
     ensures { result ≡ writing.is_solved_by (signature_view signature.now) (variable_view variable.now) (term_view term.now) }
 {
     !term.has_name(&variable.name) && term_lies_below(signature, term, &variable.sort)

@@ -51,7 +51,7 @@ fn atom_has_name(alloc: Global, atom: &Atom, name: &str) -> Result<bool, AllocEr
 }
 
 /// Whether a variable of the name stands in one of the literals.
-fn some_has_name(alloc: Global, literals: &[Literal], name: &str) -> Result<bool, AllocError>
+pub fn some_has_name(alloc: Global, literals: &[Literal], name: &str) -> Result<bool, AllocError>
     ensures { IfOk result (λ b. b ≡ is_named name.now (clause_variables (map literal_view literals.now))) }
 {
     for literal in literals {

@@ -3,12 +3,14 @@ ghost use Rattle.std.specs.Prelude.{◌≡◌, ◌++◌, IfOk, Some, map};
 ghost use Rattle.std.specs.Option.{option_map};
 ghost use Rattle.kp_signature.specs.View.{signature_view};
 ghost use Rattle.kp_symbolic.specs.Plain as model;
+ghost use Rattle.kp_symbolic.specs.States.{atom_variables};
 ghost use Rattle.kp_terms.specs.View.{variable_view, term_view, test_view, literal_view, clauses_view, state_view};
 ghost use Rattle.kp_deciding.specs.Forms.{asked_view, form_view};
+ghost use Rattle.kp_deciding.specs.Unknowns.{IsSaidAmong};
 ghost use Rattle.kp_readings.specs.Equations.{equation_view};
 ghost use Rattle.kp_ground.specs.View.{value_view, values_of};
 ghost use Rattle.kp_semantics.specs.Value.{constructed};
-ghost use Rattle.kp_readings.specs.Own.{constant_said, constant_known, asks_constant};
+ghost use Rattle.kp_readings.specs.Own.{constant_said, constant_known, asks_constant, IsSetApart};
 
 use crate::equation::{Equation, equation_of};
 use crate::names::stands_alone;
@@ -64,7 +66,8 @@ fn constant_of(term: &Term) -> Option<&str>
 
 /// That the variable's head isn't the constructor, if there is one.
 fn asks_for<'a>(variable: &'a Variable, constant: Option<&'a str>) -> Option<Form<'a>>
-    ensures { option_map form_view result ≡ asks_constant (variable_view variable.now) (option_map (λ c. c.now) constant.entry) }
+    ensures view { option_map form_view result ≡ asks_constant (variable_view variable.now) (option_map (λ c. c.now) constant.entry) }
+    ensures apart { IsSetApart result }
 {
     match constant {
         Some(symbol) => Some(Form::Asks {
@@ -78,7 +81,8 @@ fn asks_for<'a>(variable: &'a Variable, constant: Option<&'a str>) -> Option<For
 
 /// That a variable and a constructor without arguments differ, if the terms are such.
 fn constant_form<'a>(left: &'a Term, right: &'a Term) -> Option<Form<'a>>
-    ensures { option_map form_view result ≡ model.constant_form (term_view left.now) (term_view right.now) }
+    ensures view { option_map form_view result ≡ model.constant_form (term_view left.now) (term_view right.now) }
+    ensures apart { IsSetApart result }
 {
     if let Term::Unknown { variable } = left {
         return asks_for(variable, constant_of(right));
@@ -91,7 +95,8 @@ fn constant_form<'a>(left: &'a Term, right: &'a Term) -> Option<Form<'a>>
 
 /// What a literal says of the head of a variable, if it does.
 fn head_form(literal: &Literal) -> Option<Form<'_>>
-    ensures { option_map form_view result ≡ model.head_form (literal_view literal.now) }
+    ensures view { option_map form_view result ≡ model.head_form (literal_view literal.now) }
+    ensures apart { IsSetApart result }
 {
     match &literal.atom {
         Atom::Head { variable, test } => Some(Form::Asks {
@@ -119,7 +124,8 @@ fn solved_if<'a>(
     after: &[Clause],
     equation: Equation<'a>,
 ) -> Result<Option<Form<'a>>, AllocError>
-    ensures { IfOk result (λ f. option_map form_view f ≡ model.solved_form (signature_view signature.now) (state_view state.now) (clauses_view before.now ++ clauses_view after.now) (Some (equation_view equation.entry))) }
+    ensures view { IfOk result (λ f. option_map form_view f ≡ model.solved_form (signature_view signature.now) (state_view state.now) (clauses_view before.now ++ clauses_view after.now) (Some (equation_view equation.entry))) }
+    ensures apart { IfOk result IsSetApart }
 {
     if has_only_numbers(signature, &equation.variable.sort) {
         return Ok(None);
@@ -142,7 +148,8 @@ pub fn own_form<'a>(
     after: &[Clause],
     literal: &'a Literal,
 ) -> Result<Option<Form<'a>>, AllocError>
-    ensures { IfOk result (λ f. option_map form_view f ≡ model.own_form (signature_view signature.now) (state_view state.now) (clauses_view before.now ++ clauses_view after.now) (literal_view literal.now)) }
+    ensures view { IfOk result (λ f. option_map form_view f ≡ model.own_form (signature_view signature.now) (state_view state.now) (clauses_view before.now ++ clauses_view after.now) (literal_view literal.now)) }
+    ensures kinds { IfOk result (IsSaidAmong (signature_view signature.now) (atom_variables (literal_view literal.now).atom)) }
 {
     if let Some(form) = form_of(signature, literal) {
         return Ok(Some(form));

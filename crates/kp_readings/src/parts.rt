@@ -4,6 +4,7 @@ ghost use Rattle.std.specs.List.{list_any, list_all, filter};
 ghost use Rattle.kp_symbolic.specs.Plain as model;
 ghost use Rattle.kp_terms.specs.View as terms;
 ghost use Rattle.kp_deciding.specs.Readings.{read_view, clauses_view};
+ghost use Rattle.kp_readings.specs.Parts.{clauses_of, is_plain_read};
 
 use kp_deciding::ReadLiteral;
 use kp_terms::{Clause, Literal};
@@ -58,7 +59,8 @@ fn same_clause<'a>(
     alloc: Global,
     clause: &[ReadLiteral<'a>],
 ) -> Result<Vec<ReadLiteral<'a>>, AllocError>
-    ensures { IfOk result (λ c. map read_view c.items ≡ map read_view clause.now) }
+    ensures view { IfOk result (λ c. map read_view c.items ≡ map read_view clause.now) }
+    ensures same { IfOk result (λ c. c.items ≡ clause.now) }
 {
     let mut same = Vec::new(alloc);
     for literal in clause {
@@ -73,7 +75,8 @@ fn add_plain<'a>(
     alloc: Global,
     clause: &[ReadLiteral<'a>],
 ) -> Result<(), AllocError>
-    ensures { OnOk result (clauses_view plain.new.items ≡ clauses_view plain.old.items ++ filter model.is_plain_clause (map read_view clause.now ∷ [])) }
+    ensures view { OnOk result (clauses_view plain.new.items ≡ clauses_view plain.old.items ++ filter model.is_plain_clause (map read_view clause.now ∷ [])) }
+    ensures same { OnOk result (clauses_of plain.new.items ≡ clauses_of plain.old.items ++ filter is_plain_read (clause.now ∷ [])) }
 {
     if is_plain(clause) {
         plain.push(same_clause(alloc, clause)?)?;
@@ -86,7 +89,8 @@ pub fn plain_clauses<'a>(
     alloc: Global,
     clauses: &[Vec<ReadLiteral<'a>>],
 ) -> Result<Vec<Vec<ReadLiteral<'a>>>, AllocError>
-    ensures { IfOk result (λ cs. clauses_view cs.items ≡ filter model.is_plain_clause (clauses_view clauses.now)) }
+    ensures view { IfOk result (λ cs. clauses_view cs.items ≡ filter model.is_plain_clause (clauses_view clauses.now)) }
+    ensures same { IfOk result (λ cs. clauses_of cs.items ≡ filter is_plain_read (clauses_of clauses.now)) }
 {
     let mut plain = Vec::new(alloc);
     for clause in clauses {

@@ -3,7 +3,7 @@ use Rattle.kp_choices.proofs.Together.{are_near, ready, if_ok, yes_where_met, no
 use Rattle.kp_choices.proofs.choices.can_be_met_together.Goals as goal
 
 pub asked_by-requires : goal.asked_by-requires
-asked_by-requires c = are_near (signature_view c.args.signature.now) c.args.clauses.now c.in_ok-unknowns.unknowns c.requires c.in_ok-unknowns.ensures
+asked_by-requires c = are_near c.args.clauses.now c.in_ok-unknowns.unknowns c.requires c.in_ok-unknowns.ensures
 
 pub can_all_be_met-requires : goal.can_all_be_met-requires
 can_all_be_met-requires c =
@@ -12,11 +12,11 @@ can_all_be_met-requires c =
 pub returns-clause-yes : goal.returns-clause-yes
 returns-clause-yes c =
     if_ok c.can_all_be_met.result _ _
-    (yes_where_met (signature_view c.args.signature.now) c.args.clauses.now c.in_ok-unknowns.unknowns c.in_ok-asked.asked c.requires c.in_ok-tables.tables.fixed c.in_ok-unknowns.ensures c.in_ok-asked.ensures.met c.in_ok-tables.ensures.fixed)
+    (yes_where_met (signature_view c.args.signature.now) c.args.clauses.now c.in_ok-unknowns.unknowns c.in_ok-asked.asked c.in_ok-tables.tables.fixed c.in_ok-unknowns.ensures c.in_ok-asked.ensures.met c.in_ok-tables.ensures.fixed)
     c.can_all_be_met.ensures.yes
 
 pub returns-clause-no : goal.returns-clause-no
 returns-clause-no c =
     if_ok c.can_all_be_met.result _ _
-    (no_where_not (signature_view c.args.signature.now) c.args.clauses.now c.in_ok-unknowns.unknowns c.in_ok-asked.asked c.requires c.in_ok-tables.tables.fixed c.in_ok-unknowns.ensures c.in_ok-asked.ensures.met c.in_ok-tables.ensures.fixed)
+    (no_where_not (signature_view c.args.signature.now) c.args.clauses.now c.in_ok-unknowns.unknowns c.in_ok-asked.asked c.in_ok-tables.tables.fixed c.in_ok-unknowns.ensures c.in_ok-asked.ensures.met c.in_ok-tables.ensures.fixed)
     c.can_all_be_met.ensures.no

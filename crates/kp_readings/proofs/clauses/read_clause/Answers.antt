@@ -7,9 +7,9 @@ use Rattle.kp_readings.proofs.ReadLemmas.{not_alone}
 use Rattle.kp_readings.proofs.clauses.read_clause.Goals as goal
 use Rattle.kp_readings.proofs.clauses.read_clause.Goals.{in_default-via-then-clause-lt1, in_default-via-else-clause-lt1+else-clause-lt2}
 
-pub returns-in_default : goal.returns-in_default
-returns-in_default c =
+pub returns-in_default-clause-view : goal.returns-in_default-clause-view
+returns-in_default-clause-view c =
     let other : length c.args.clause.now ≡ 1 → ⊥ = λ e. elim c.in_default.branch [ in_default-via-then-clause-lt1 w ↦ search rules | in_default-via-else-clause-lt1+else-clause-lt2 w ↦ search rules ] in
     subst (λ (ms : List model.ReadLiteral). IfOk c.read_each.result (λ found. map read_view found.items ≡ ms))
     (not_alone (signature_view c.args.signature.now) (state_view c.args.state.now) (clauses_view c.args.before.now ++ clauses_view c.args.after.now) c.args.clause.now other)
-    c.read_each.ensures
+    c.read_each.ensures.view

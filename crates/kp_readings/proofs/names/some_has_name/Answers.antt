@@ -1,4 +1,4 @@
-use Rattle.std.proofs.Common.{rules, ◌≡◌, sym, ap, ◌∙◌, ◌+◌, ◌||◌, Bool, true, false, map, drop}
+use Rattle.std.proofs.Common.{rules, ◌≡◌, sym, ap, ◌∙◌, ◌+◌, ◌||◌, true, false, map, drop}
 use Rattle.std.specs.List.{flat_map}
 use Rattle.kp_semantics.specs.Instance.{is_named}
 use Rattle.kp_symbolic.specs.States.{Literal, atom_variables}

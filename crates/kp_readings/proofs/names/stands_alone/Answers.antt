@@ -1,4 +1,4 @@
-use Rattle.std.proofs.Common.{rules, ◌≡◌, refl, sym, ap, ◌∙◌, not, ◌&&◌, ◌||◌, true, false}
+use Rattle.std.proofs.Common.{rules, ◌≡◌, refl, sym, true, false}
 use Rattle.kp_semantics.specs.Instance.{is_named}
 use Rattle.kp_symbolic.specs.Terms.{term_variables}
 use Rattle.kp_terms.specs.View.{clauses_view, state_view, term_view}

@@ -2,7 +2,10 @@ use Rattle.std.proofs.Common.{◌≡◌, ◌++◌, drop}
 use Rattle.std.specs.List.{filter}
 use Rattle.kp_symbolic.specs.Plain.{is_plain_clause}
 use Rattle.kp_deciding.specs.Readings.{clauses_view}
+use Rattle.kp_readings.specs.Parts.{clauses_of, is_plain_read}
 use Rattle.kp_readings.proofs.parts.plain_clauses.Given as goal
 
 abbrev pub invariant-loop-clause : goal.invariant-loop-clause
-invariant-loop-clause l = clauses_view l.plain.items ++ filter is_plain_clause (clauses_view (drop l.clause-index l.clauses)) ≡ filter is_plain_clause (clauses_view l.clauses)
+invariant-loop-clause l =
+    (clauses_view l.plain.items ++ filter is_plain_clause (clauses_view (drop l.clause-index l.clauses)) ≡ filter is_plain_clause (clauses_view l.clauses))
+    × (clauses_of l.plain.items ++ filter is_plain_read (clauses_of (drop l.clause-index l.clauses)) ≡ filter is_plain_read (clauses_of l.clauses))
