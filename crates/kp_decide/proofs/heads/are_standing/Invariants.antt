@@ -1,0 +1,9 @@
+use Rattle.std.proofs.Common.{map, take}
+use Rattle.std.specs.List.{AllByRecursion}
+use Rattle.kp_signature.specs.View.{signature_view}
+use Rattle.kp_deciding.specs.Readings.{read_view, clauses_view}
+use Rattle.kp_decide.specs.Heads.{IsStanding}
+use Rattle.kp_decide.proofs.heads.are_standing.Given as goal
+
+abbrev pub invariant-loop-literal : goal.invariant-loop-literal
+invariant-loop-literal l = AllByRecursion (λ r. IsStanding (signature_view l.signature) (clauses_view l.clauses) r.form) (map read_view (take l.literal-index l.clause))

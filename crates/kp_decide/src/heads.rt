@@ -1,0 +1,168 @@
+// Whether each variable whose head is asked for may have a head that is as all clauses ask.
+ghost use Rattle.std.specs.Prelude.{◌≡◌, ◌↔◌, IsTrue, map, string_bytes};
+ghost use Rattle.std.specs.Option.{option_map};
+ghost use Rattle.std.specs.List.{AllByRecursion};
+ghost use Rattle.std.specs.Str.{bytes_eq};
+ghost use Rattle.kp_signature.specs.View.{signature_view};
+ghost use Rattle.kp_symbolic.specs.Heads.{is_constructor_head, passes_head};
+ghost use Rattle.kp_heads.specs.Made.{IsHeadTableOf};
+ghost use Rattle.kp_sort_heads.specs.Views.{head_view};
+ghost use Rattle.kp_terms.specs.View.{variable_view};
+ghost use Rattle.kp_deciding.specs.Forms.{asked_view, form_view};
+ghost use Rattle.kp_deciding.specs.Readings.{read_view, clauses_view};
+ghost use Rattle.kp_decide.specs.Heads as spec;
+
+use kp_deciding::{Asked, Form, ReadLiteral};
+use kp_heads::HeadTable;
+use kp_signature::Signature;
+use kp_sort_heads::{Head, heads, is_head};
+use kp_terms::Variable;
+
+/// Whether the head is the constructor of this name.
+fn is_named(head: &Head, name: &str) -> bool
+    ensures { result ≡ is_constructor_head name.now (head_view head.now) }
+{
+    match head {
+        Head::Constructor { declaration } => declaration.name.as_str() == name,
+        Head::Integers | Head::Booleans | Head::Tokens { .. } => false,
+    }
+}
+
+/// Whether the head passes the test.
+fn passes(signature: &Signature, head: &Head, test: Asked) -> bool
+    ensures { result ≡ passes_head (signature_view signature.now) (asked_view test.entry) (head_view head.now) }
+{
+    match test {
+        Asked::Constructor { symbol } => is_named(head, symbol),
+        Asked::Sort { sort } => is_head(signature, sort, head),
+    }
+}
+
+/// Whether two variables have one name.
+fn is_same_name(variable: &Variable, other: &Variable) -> bool
+    ensures { result ≡ bytes_eq (string_bytes variable.now.name) (string_bytes other.now.name) }
+{
+    variable.name.as_str() == other.name.as_str()
+}
+
+/// Whether the head is as the literal asks, where it asks for that of the variable.
+fn agrees(signature: &Signature, head: &Head, variable: &Variable, form: Option<Form>) -> bool
+    ensures { result ≡ spec.head_agrees (signature_view signature.now) (head_view head.now) (string_bytes variable.now.name) (option_map form_view form.entry) }
+{
+    match form {
+        Some(
+            Form::Asks {
+                variable: asked,
+                test,
+                passes: holds,
+            },
+        ) => !is_same_name(asked, variable) || passes(signature, head, test) == holds,
+        Some(
+            Form::Compares { .. } | Form::Truth { .. } | Form::Equates { .. } | Form::Gives { .. },
+        ) => true,
+        None => true,
+    }
+}
+
+/// Whether the head is as one of the literals asks.
+fn agrees_with_one(
+    signature: &Signature,
+    head: &Head,
+    variable: &Variable,
+    clause: &[ReadLiteral],
+) -> bool
+    ensures { result ≡ spec.agrees_with_one (signature_view signature.now) (head_view head.now) (string_bytes variable.now.name) (map read_view clause.now) }
+{
+    for literal in clause {
+        if agrees(signature, head, variable, literal.form) {
+            return true;
+        }
+    }
+    false
+}
+
+/// Whether the head is as all clauses ask.
+fn agrees_with_all(
+    signature: &Signature,
+    head: &Head,
+    variable: &Variable,
+    clauses: &[Vec<ReadLiteral>],
+) -> bool
+    ensures { result ≡ spec.agrees_with_all (signature_view signature.now) (head_view head.now) (string_bytes variable.now.name) (clauses_view clauses.now) }
+{
+    for clause in clauses {
+        if !agrees_with_one(signature, head, variable, clause) {
+            return false;
+        }
+    }
+    true
+}
+
+/// Whether some head that values have may be the variable's.
+fn has_head(
+    signature: &Signature,
+    table: &HeadTable,
+    variable: &Variable,
+    clauses: &[Vec<ReadLiteral>],
+) -> bool
+    requires { IsHeadTableOf (signature_view signature.now) table.now }
+    ensures { IsTrue result ↔ spec.HasHead (signature_view signature.now) (clauses_view clauses.now) (variable_view variable.now) }
+{
+    let mut left = heads(signature, &variable.sort);
+    while let Some(head) = left.next_live(table) {
+        if agrees_with_all(signature, &head, variable, clauses) {
+            return true;
+        }
+    }
+    false
+}
+
+/// Whether some head may be the variable's, where the literal asks for one.
+fn is_standing(
+    signature: &Signature,
+    table: &HeadTable,
+    form: Option<Form>,
+    clauses: &[Vec<ReadLiteral>],
+) -> bool
+    requires { IsHeadTableOf (signature_view signature.now) table.now }
+    ensures { IsTrue result ↔ spec.IsStanding (signature_view signature.now) (clauses_view clauses.now) (option_map form_view form.entry) }
+{
+    match form {
+        Some(Form::Asks { variable, .. }) => has_head(signature, table, variable, clauses),
+        Some(
+            Form::Compares { .. } | Form::Truth { .. } | Form::Equates { .. } | Form::Gives { .. },
+        ) => true,
+        None => true,
+    }
+}
+
+/// Whether some head may be that of each variable that the literals ask for.
+fn are_standing(
+    signature: &Signature,
+    table: &HeadTable,
+    clause: &[ReadLiteral],
+    clauses: &[Vec<ReadLiteral>],
+) -> bool
+    requires { IsHeadTableOf (signature_view signature.now) table.now }
+    ensures { IsTrue result ↔ AllByRecursion (λ l. spec.IsStanding (signature_view signature.now) (clauses_view clauses.now) l.form) (map read_view clause.now) }
+{
+    for literal in clause {
+        if !is_standing(signature, table, literal.form, clauses) {
+            return false;
+        }
+    }
+    true
+}
+
+/// Whether some head may be that of each variable whose head is asked for.
+pub fn heads_stand(signature: &Signature, table: &HeadTable, clauses: &[Vec<ReadLiteral>]) -> bool
+    requires { IsHeadTableOf (signature_view signature.now) table.now }
+    ensures { IsTrue result ↔ spec.AreStanding (signature_view signature.now) (clauses_view clauses.now) }
+{
+    for clause in clauses {
+        if !are_standing(signature, table, clause, clauses) {
+            return false;
+        }
+    }
+    true
+}
