@@ -1,0 +1,3 @@
+pub mod ConjunctLemmas
+pub mod StateLemmas
+pub mod VariableLemmas

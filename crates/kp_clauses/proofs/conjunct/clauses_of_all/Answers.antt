@@ -1,0 +1,10 @@
+use Rattle.std.proofs.Common.{map}
+use Rattle.kp_terms.specs.Languages.{language_view}
+use Rattle.kp_terms.specs.View.{clauses_view, replaced_view}
+use Rattle.kp_clauses.proofs.ConjunctLemmas.{next_conjunct}
+use Rattle.kp_clauses.proofs.conjunct.clauses_of_all.Goals as goal
+
+pub loop-i-preserved : goal.loop-i-preserved
+loop-i-preserved c = next_conjunct (language_view c.args.language.now) (map replaced_view c.args.replaced.now) c.loop-i.so_far c.in_ok-so_far.so_far
+    (clauses_view c.loop-i.found.items) (clauses_view c.add_conjunct.new.found.items) _ c.args.predicates.now c.loop-i.i c.index-predicates-i.result
+    c.loop-i.invariant.1 c.loop-i-test.true c.index-predicates-i.is c.in_ok-so_far.ensures.clauses c.in_ok-so_far.ensures.literals c.loop-i.invariant.0

@@ -1,0 +1,2 @@
+pub mod ClauseLemmas
+pub mod StateLemmas

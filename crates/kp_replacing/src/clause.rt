@@ -1,0 +1,68 @@
+// A clause with terms in the place of variables, opened again.
+ghost use Rattle.std.specs.Prelude.{◌≡◌, IfOk, map};
+ghost use Rattle.kp_symbolic.specs.Solving.{is_single};
+ghost use Rattle.kp_terms.specs.Languages.{language_view};
+ghost use Rattle.kp_terms.specs.View.{clause_view, literal_view, replaced_view};
+ghost use Rattle.kp_distribution.specs.Distribution.{distribution_of, distributions_of};
+ghost use Rattle.kp_distribution.specs.View.{distributed_view};
+ghost use Rattle.kp_replacing.specs.Replacing as model;
+
+use crate::atom::open_under;
+use kp_compile::CompileError;
+use kp_distribution::distributed::one_of;
+use kp_distribution::{Distributed, distribute};
+use kp_terms::{Clause, Language, Literal, Replaced};
+use std::alloc::Global;
+
+/// Whether this is a clause's only literal.
+fn is_alone(literals: &[Literal]) -> bool
+    ensures { result ≡ is_single (map literal_view literals.now) }
+{
+    literals.len() == 1
+}
+
+/// What is kept of the clauses of a literal with terms in the place of variables.
+fn open_literal(
+    alloc: Global,
+    language: &Language,
+    by: &[Replaced],
+    alone: bool,
+    literal: &Literal,
+) -> Result<Distributed, CompileError>
+    ensures { IfOk result (λ d. distributed_view d ≡ distribution_of (model.opened_under (language_view language.now) (map replaced_view by.now) alone (literal_view literal.now).holds (literal_view literal.now).atom)) }
+{
+    let formula = open_under(alloc, language, by, alone, literal)?;
+    Ok(distribute(&formula, alloc)?)
+}
+
+/// What is kept of the clauses of each literal with terms in the place of variables.
+fn open_literals(
+    alloc: Global,
+    language: &Language,
+    by: &[Replaced],
+    literals: &[Literal],
+) -> Result<Vec<Distributed>, CompileError>
+    ensures { IfOk result (λ ds. map distributed_view ds.items ≡ distributions_of (model.all_opened_under (language_view language.now) (map replaced_view by.now) (is_single (map literal_view literals.now)) (map literal_view literals.now))) }
+{
+    let alone = is_alone(literals);
+    let mut found = Vec::new(alloc);
+    for literal in literals {
+        found.push(open_literal(alloc, language, by, alone, literal)?)?;
+    }
+    Ok(found)
+}
+
+/// What is kept of the clauses of a clause with terms in the place of variables. Refused where a sum in it can't be
+/// written, or for want of memory.
+#[tactic(auto, using(crate::proofs::ClauseLemmas::one_of_literals))]
+pub fn open_clause(
+    alloc: Global,
+    language: &Language,
+    by: &[Replaced],
+    clause: &Clause,
+) -> Result<Distributed, CompileError>
+    ensures { IfOk result (λ d. distributed_view d ≡ distribution_of (model.clause_under (language_view language.now) (map replaced_view by.now) (clause_view clause.now))) }
+{
+    let parts = open_literals(alloc, language, by, &clause.literals)?;
+    Ok(one_of(alloc, &parts)?)
+}
