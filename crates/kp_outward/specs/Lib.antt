@@ -1,0 +1,6 @@
+pub mod Arranged
+pub mod Errors
+pub mod Joined
+pub mod Order
+pub mod Turned
+pub mod View

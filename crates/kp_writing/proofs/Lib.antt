@@ -1,0 +1,5 @@
+pub mod BoundLemmas
+pub mod FaultlessLemmas
+pub mod NamesLemmas
+pub mod SumLemmas
+pub mod TermLists
