@@ -1,0 +1,37 @@
+-- What is written for each literal is written for the clause, and what for several is told by their number.
+use Rattle.std.proofs.Common.{◌≡◌, refl, ap, ◌∙◌, ℕ, ◌≤◌, List, [], ◌∷◌, length, map, take, arith}
+use Rattle.std.proofs.lemmas.List.{take_all}
+use Rattle.kp_kore.specs.Syntax.{KoreSort, KorePattern, KorePatterns, no_patterns, next_pattern, disjunction}
+use Rattle.kp_kore.specs.Signature.{KoreSignature}
+use Rattle.kp_kore.specs.View.{view, patterns_view}
+use Rattle.kp_kore.specs.declared.pattern.Pattern.{Pattern}
+use Rattle.kp_symbolic.specs.Writing.{written_literal, written_literals, written_clause}
+use Rattle.kp_terms.specs.View.{literal_view}
+use Rattle.kp_terms.specs.declared.clause.Literal.{Literal}
+
+abbrev listed : List KorePattern → KorePatterns
+listed [] = no_patterns
+listed (p ∷ ps) = next_pattern p (listed ps)
+
+as_listed : (ps : List Pattern) → patterns_view ps ≡ listed (map view ps)
+as_listed [] = refl
+as_listed (p ∷ ps) = ap (next_pattern (view p)) (as_listed ps)
+
+-- patterns that are those of the members so far, where these are all
+whole : {A : Type 0} (f : A → KorePattern) (ps : List Pattern) (xs : List A) (i : ℕ) → map view ps ≡ map f (take i xs) → length xs ≤ i → patterns_view ps ≡ listed (map f xs)
+whole f ps xs i e h = as_listed ps ∙ ap listed (e ∙ ap (map f) (take_all i xs h))
+
+-- ---- literals
+
+each_literal : (g : KoreSignature) (sort : KoreSort) (ls : List Literal) → listed (map (λ l. written_literal g sort (literal_view l)) ls) ≡ written_literals g sort (map literal_view ls)
+each_literal g sort [] = refl
+each_literal g sort (l ∷ ls) = ap (next_pattern (written_literal g sort (literal_view l))) (each_literal g sort ls)
+
+pub all_literals : (g : KoreSignature) (sort : KoreSort) (ps : List Pattern) (ls : List Literal) (i : ℕ) → map view ps ≡ map (λ l. written_literal g sort (literal_view l)) (take i ls) → length ls ≤ i → patterns_view ps ≡ written_literals g sort (map literal_view ls)
+all_literals g sort ps ls i e h = whole (λ l. written_literal g sort (literal_view l)) ps ls i e h ∙ each_literal g sort ls
+
+-- a clause of several literals
+pub several : (g : KoreSignature) (sort : KoreSort) (ls : List Literal) → 2 ≤ length ls → disjunction sort (written_literals g sort (map literal_view ls)) ≡ written_clause g sort (map literal_view ls)
+several g sort [] h = absurd (omega arith)
+several g sort (l ∷ []) h = absurd (omega arith)
+several g sort (l ∷ k ∷ ls) h = refl

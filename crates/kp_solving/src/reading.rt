@@ -1,0 +1,57 @@
+// A pattern read as a symbolic state: opened, and its equations solved.
+ghost use Rattle.std.specs.Prelude.{◌≡◌, None, Option, IfErr, IfOk, OnOk};
+ghost use Rattle.kp_clauses.specs.Faults.{StateFault, state_fault};
+ghost use Rattle.kp_clauses.specs.View.{IsToldOf};
+ghost use Rattle.kp_kore.specs.View.{view, sort_view};
+ghost use Rattle.kp_signature.specs.Verify.{VerifiesAs};
+ghost use Rattle.kp_symbolic.specs.Solving.{Solving, IsReadAs};
+ghost use Rattle.kp_terms.specs.Languages.{language_view};
+ghost use Rattle.kp_terms.specs.View.{state_view};
+
+use crate::solving::settle;
+use kp_clauses::{TermFault, open_state};
+use kp_compile::CompileError;
+use kp_kore::{Pattern, Sort};
+use kp_terms::{Language, State};
+use std::alloc::Global;
+
+/// What is told where the equations aren't solved: nothing of the pattern's shape.
+fn unsolved(error: CompileError) -> TermFault
+    ensures { (first : Option StateFault) → IsToldOf first result }
+{
+    match error {
+        CompileError::Memory => TermFault::Memory,
+        CompileError::Shape => TermFault::Unread,
+    }
+}
+
+/// The state that was opened, its equations solved.
+fn solved(alloc: Global, language: &Language, opened: State) -> Result<State, TermFault>
+    ensures solving { IfOk result (λ s. Solving (language_view language.now) (state_view opened) (state_view s)) }
+    ensures refused { (first : Option StateFault) → IfErr result (IsToldOf first) }
+{
+    match settle(alloc, language, opened) {
+        Ok(state) => Ok(state),
+        Err(error) => Err(unsolved(error)),
+    }
+}
+
+/// The state that a verified pattern of this sort is read as.
+///
+/// # Errors
+/// T1 or T2 of the first thing from the left that can't stand in a state.
+pub fn inward(
+    alloc: Global,
+    language: &Language,
+    pattern: &Pattern,
+    sort: Sort,
+) -> Result<State, TermFault>
+    ensures read { VerifiesAs (language_view language.now) (view pattern.now) (sort_view sort) → IfOk result (λ s. IsReadAs (language_view language.now) (view pattern.now) (state_view s)) }
+    ensures clear { OnOk result (state_fault (language_view language.now) (view pattern.now) ≡ None) }
+    ensures refused { IfErr result (IsToldOf (state_fault (language_view language.now) (view pattern.now))) }
+{
+    match open_state(alloc, language, pattern, sort) {
+        Ok(opened) => solved(alloc, language, opened),
+        Err(error) => Err(error),
+    }
+}

@@ -1,0 +1,106 @@
+// A state in which one equation is solved.
+ghost use Rattle.std.specs.Prelude.{◌≡◌, ◌+◌, min, Some, IfOk, map};
+ghost use Rattle.kp_kore.specs.View.{sort_view};
+ghost use Rattle.kp_symbolic.specs.Solving as model;
+ghost use Rattle.kp_terms.specs.Languages.{language_view};
+ghost use Rattle.kp_terms.specs.View.{clause_view, clauses_view, replaced_view, state_view};
+ghost use Rattle.kp_distribution.specs.Distribution.{most_counted};
+ghost use Rattle.kp_readings.specs.Equations.{equation_view};
+ghost use Rattle.kp_solving.specs.Solvables.{solved_or_kept, solvable_of};
+
+use crate::clause::{clause_alone, replacement, solve_clause};
+use crate::first::literals_in;
+use kp_compile::CompileError;
+use kp_distribution::count::at_most;
+use kp_distribution::joined::kept_once;
+use kp_kore::Sort;
+use kp_readings::equation::Equation;
+use kp_terms::state::share_variables;
+use kp_terms::{Clause, Language, Replaced, State};
+use std::alloc::Global;
+use std::sync::Arc;
+
+/// The literals of clauses behind so many, up to one more than a state may have.
+fn with_literals(so_far: u64, clauses: &[Clause]) -> u64
+    ensures { result ≡ min (so_far + model.literals_in (clauses_view clauses.now)) most_counted }
+{
+    at_most(so_far.saturating_add(literals_in(clauses) as u64))
+}
+
+/// The equation's own clause as it stands, and another with the equation solved in it, behind so many literals.
+fn solve_or_keep(
+    alloc: Global,
+    language: &Language,
+    sort: &Sort,
+    equation: &Equation<'_>,
+    by: &Arc<Vec<Replaced>>,
+    so_far: u64,
+    own: bool,
+    clause: &Clause,
+) -> Result<Vec<Clause>, CompileError>
+    requires { map replaced_view by.now.value.items ≡ model.replacement (equation_view equation.now) }
+    ensures { let e = equation_view equation.now in let solved = solved_or_kept (language_view language.now) (sort_view sort.now) e so_far own (clause_view clause.now) in IfOk result (λ cs. clauses_view cs.items ≡ solved) }
+{
+    if own {
+        return Ok(clause_alone(alloc, clause)?);
+    }
+    solve_clause(alloc, language, sort, equation, by, so_far, clause)
+}
+
+/// The clauses with the equation of the one at this place solved in the others.
+fn solve_clauses(
+    alloc: Global,
+    language: &Language,
+    sort: &Sort,
+    equation: &Equation<'_>,
+    by: &Arc<Vec<Replaced>>,
+    place: usize,
+    clauses: &[Clause],
+) -> Result<Vec<Clause>, CompileError>
+    requires { map replaced_view by.now.value.items ≡ model.replacement (equation_view equation.now) }
+    ensures { let e = equation_view equation.now in let solved = model.solved_clauses (language_view language.now) (sort_view sort.now) e 0 (Some place) (clauses_view clauses.now) in IfOk result (λ cs. clauses_view cs.items ≡ solved) }
+{
+    let mut found = Vec::new(alloc);
+    let mut so_far: u64 = 0;
+    for i in 0..clauses.len() {
+        let own = i == place;
+        let mut solved = solve_or_keep(
+            alloc,
+            language,
+            sort,
+            equation,
+            by,
+            so_far,
+            own,
+            &clauses[i],
+        )?;
+        so_far = with_literals(so_far, &solved);
+        found.append(&mut solved)?;
+    }
+    Ok(found)
+}
+
+/// The state with the equation of the clause at this place solved: the term stands in the variable's place in its term and
+/// in the other clauses. Refused where a sum can't be written, or for want of memory.
+pub fn solve_at(
+    alloc: Global,
+    language: &Language,
+    state: &State,
+    place: usize,
+    equation: &Equation<'_>,
+) -> Result<State, CompileError>
+    ensures { let o = solvable_of place (equation_view equation.now) in IfOk result (λ s. state_view s ≡ model.solved_at (language_view language.now) o (state_view state.now)) }
+{
+    let by = replacement(alloc, equation)?;
+    let sort = state.sort.clone()?;
+    let clauses = solve_clauses(alloc, language, &sort, equation, &by, place, &state.clauses)?;
+    let clauses = kept_once(alloc, clauses)?;
+    let variables = share_variables(alloc, &state.variables)?;
+    let term = state.term.replaced(alloc, language, &by)?;
+    Ok(State {
+        term,
+        sort,
+        clauses,
+        variables,
+    })
+}
