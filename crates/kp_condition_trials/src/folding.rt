@@ -1,9 +1,7 @@
+use crate::texts::{folded, pattern, signature};
 use kp_compile::CompileError;
-use kp_kore::Pattern;
-use kp_signature::Signature;
 use kp_terms::{Language, Replaced, Term, term_under};
-use kp_text::{read_module, read_pattern};
-use std::alloc::Global;
+use std::alloc::{AllocError, Global};
 use std::sync::Arc;
 use std::test::Fail;
 
@@ -20,178 +18,179 @@ const SMALL: &str = r#"module SMALL
 endmodule []
 "#;
 
-/// The pattern of a text.
-fn pattern(alloc: Global, text: &str) -> Result<Pattern, Fail> {
-    Ok(read_pattern(alloc, text.as_bytes()).map_err(|_| "no pattern")?)
+/// What came of a text that was folded.
+fn kind_of(term: &Result<Term, CompileError>) -> &'static str {
+    match term {
+        Ok(
+            Term::Headed {
+                symbol: _,
+                arguments: _,
+            },
+        ) => "left as it stands",
+        Ok(_) => "folded",
+        Err(CompileError::Shape) => "refused as a shape",
+        Err(CompileError::Memory) => "no memory",
+    }
 }
 
-/// The signature of a module's text.
-fn signature(alloc: Global, text: &str) -> Result<Signature, Fail> {
-    let module = read_module(alloc, text.as_bytes()).map_err(|_| "no module")?;
-    Ok(Signature::new(alloc, &[&module])?)
-}
-
-/// The term of a text.
-fn folded(
-    alloc: Global,
-    language: &Language,
-    replaced: &[Replaced],
-    text: &str,
-) -> Result<Term, Fail> {
+/// What comes of a text that is folded.
+fn kind(alloc: Global, language: &Language, text: &str) -> Result<&'static str, Fail> {
     let pattern = pattern(alloc, text)?;
-    Ok(term_under(&pattern, alloc, language, replaced).map_err(|_| "no term")?)
-}
-
-/// Whether both texts are folded to one term over a signature.
-fn are_same_over(
-    alloc: Global,
-    signature: &Signature,
-    left: &str,
-    right: &str,
-) -> Result<bool, Fail> {
-    let language = Language::new(alloc, signature)?;
-    let left = folded(alloc, &language, &[], left)?;
-    let right = folded(alloc, &language, &[], right)?;
-    Ok(left.same(&right))
+    let term = term_under(&pattern, alloc, language, &[]);
+    Ok(kind_of(&term))
 }
 
 /// Whether both texts are folded to one term.
-fn are_same(alloc: Global, left: &str, right: &str) -> Result<bool, Fail> {
-    let signature = signature(alloc, SMALL)?;
-    are_same_over(alloc, &signature, left, right)
+fn are_same(alloc: Global, language: &Language, left: &str, right: &str) -> Result<bool, Fail> {
+    let left = folded(alloc, language, &[], left)?;
+    let right = folded(alloc, language, &[], right)?;
+    Ok(left.same(&right))
 }
 
-#[test]
-fn sums_and_calls_are_folded(rt: HostRuntime) -> Result<(), Fail> {
-    let rows = [
-        (r#"plus{}(X:Int{}, \dv{Int{}}("0"))"#, "X:Int{}", true),
-        (
-            r#"minus{}(plus{}(\dv{Int{}}("5"), X:Int{}), \dv{Int{}}("3"))"#,
-            r#"plus{}(X:Int{}, \dv{Int{}}("2"))"#,
-            true,
-        ),
-        (
-            r#"plus{}(X:Int{}, \dv{Int{}}("1"))"#,
-            r#"plus{}(X:Int{}, \dv{Int{}}("2"))"#,
-            false,
-        ),
-        (
-            r#"f{}(plus{}(\dv{Int{}}("1"), \dv{Int{}}("2")))"#,
-            r#"f{}(\dv{Int{}}("3"))"#,
-            true,
-        ),
-        (
-            r#"less{}(\dv{Int{}}("1"), \dv{Int{}}("2"))"#,
-            r#"\dv{Bool{}}("true")"#,
-            true,
-        ),
-        (r#"inj{Int{}, S{}}(X:Int{})"#, "X:Int{}", true),
-    ];
-    for (left, right, same) in rows {
-        assert_eq!(rt; are_same(rt.alloc(), left, right)?, same);
-    }
-    Ok(())
-}
-
-/// Whether the text's call is left as it stands.
-fn is_left(alloc: Global, text: &str) -> Result<bool, Fail> {
-    let signature = signature(alloc, SMALL)?;
-    let language = Language::new(alloc, &signature)?;
-    let term = folded(alloc, &language, &[], text)?;
-    Ok(matches!(term, Term::Headed { .. }))
-}
-
-#[test]
-fn a_call_beyond_128_bits_is_left(rt: HostRuntime) -> Result<(), Fail> {
-    let most = r#"\dv{Int{}}("170141183460469231731687303715884105727")"#;
-    let wide = r#"plus{}(\dv{Int{}}("170141183460469231731687303715884105727"), \dv{Int{}}("1"))"#;
-    assert!(rt; !is_left(rt.alloc(), most)?);
-    assert!(rt; is_left(rt.alloc(), wide)?);
-    Ok(())
-}
-
-/// Whether the text is refused as a Shape.
-fn is_refused(alloc: Global, text: &str) -> Result<bool, Fail> {
-    let pattern = pattern(alloc, text)?;
-    let signature = signature(alloc, SMALL)?;
-    let language = Language::new(alloc, &signature)?;
-    let term = term_under(&pattern, alloc, &language, &[]);
-    Ok(matches!(term, Err(CompileError::Shape)))
-}
-
-#[test]
-fn a_number_that_cannot_be_read_is_refused(rt: HostRuntime) -> Result<(), Fail> {
-    assert!(rt; is_refused(rt.alloc(), r#"f{}(\dv{Int{}}("one"))"#)?);
-    assert!(rt; !is_refused(rt.alloc(), r#"f{}(\dv{Int{}}("1"))"#)?);
-    Ok(())
-}
-
-/// The text's term in the place of X.
-fn in_place(alloc: Global, language: &Language, text: &str) -> Result<Replaced, Fail> {
-    let term = folded(alloc, language, &[], text)?;
+/// A term in the place of X.
+fn in_place(alloc: Global, term: Term) -> Result<Replaced, AllocError> {
     let name = String::from_str(alloc, "X")?;
-    Ok(Replaced {
-        name: Arc::new(alloc, name)?,
-        term,
-    })
+    let name = Arc::new(alloc, name)?;
+    Ok(Replaced { name, term })
 }
 
-/// Whether a text with a term in the place of X is folded to another's term, over a signature.
-fn becomes_over(
+/// The text's term, with another's in the place of X.
+fn replaced(alloc: Global, language: &Language, text: &str, put: &str) -> Result<Term, Fail> {
+    let put = folded(alloc, language, &[], put)?;
+    let replaced = [in_place(alloc, put)?];
+    folded(alloc, language, &replaced, text)
+}
+
+/// Whether a text with a term in the place of X is folded to another's term.
+fn becomes(
     alloc: Global,
-    signature: &Signature,
+    language: &Language,
     text: &str,
     put: &str,
     wanted: &str,
 ) -> Result<bool, Fail> {
-    let language = Language::new(alloc, signature)?;
-    let replaced = [in_place(alloc, &language, put)?];
-    let term = folded(alloc, &language, &replaced, text)?;
-    let wanted = folded(alloc, &language, &[], wanted)?;
+    let term = replaced(alloc, language, text, put)?;
+    let wanted = folded(alloc, language, &[], wanted)?;
     Ok(term.same(&wanted))
 }
 
-/// Whether a text with a term in the place of X is folded to another's term.
-fn becomes(alloc: Global, text: &str, put: &str, wanted: &str) -> Result<bool, Fail> {
-    let signature = signature(alloc, SMALL)?;
-    becomes_over(alloc, &signature, text, put, wanted)
-}
-
-#[test]
-fn a_term_is_put_in_the_place_of_a_variable(rt: HostRuntime) -> Result<(), Fail> {
-    let text = r#"f{}(plus{}(X:Int{}, \dv{Int{}}("2")))"#;
-    let sum = r#"plus{}(Y:Int{}, \dv{Int{}}("1"))"#;
-    assert!(rt;
-        becomes(
-            rt.alloc(),
-            text,
-            sum,
-            r#"f{}(plus{}(Y:Int{}, \dv{Int{}}("3")))"#
-        )?
-    );
-    assert!(rt;
-        becomes(
-            rt.alloc(),
-            text,
-            r#"\dv{Int{}}("1")"#,
-            r#"f{}(\dv{Int{}}("3"))"#
-        )?
-    );
-    Ok(())
-}
-
 /// Whether a folded text and what shares it are one term.
-fn shares(alloc: Global, text: &str) -> Result<bool, Fail> {
-    let signature = signature(alloc, SMALL)?;
-    let language = Language::new(alloc, &signature)?;
-    let term = folded(alloc, &language, &[], text)?;
+fn shares(alloc: Global, language: &Language, text: &str) -> Result<bool, Fail> {
+    let term = folded(alloc, language, &[], text)?;
     let shared = term.share(alloc)?;
     Ok(shared.same(&term))
 }
 
+/// What is asked of texts.
+#[derive(Clone, Copy)]
+enum Row {
+    /// What comes of a text that is folded.
+    Kind(&'static str, &'static str),
+    /// Two texts are folded to one term.
+    Same(&'static str, &'static str),
+    /// Two texts are folded to two terms.
+    Apart(&'static str, &'static str),
+    /// With the second in the place of X, the first is folded to the third's term.
+    Becomes(&'static str, &'static str, &'static str),
+    /// What shares a folded text is its term.
+    Shares(&'static str),
+}
+
+/// Whether it holds.
+fn holds(alloc: Global, language: &Language, row: Row) -> Result<bool, Fail> {
+    match row {
+        Row::Kind(text, wanted) => Ok(kind(alloc, language, text)? == wanted),
+        Row::Same(left, right) => are_same(alloc, language, left, right),
+        Row::Apart(left, right) => Ok(!are_same(alloc, language, left, right)?),
+        Row::Becomes(text, put, wanted) => becomes(alloc, language, text, put, wanted),
+        Row::Shares(text) => shares(alloc, language, text),
+    }
+}
+
+const SUM: &str = r#"f{}(plus{}(X:Int{}, \dv{Int{}}("2")))"#;
+
+/// What is said, and of which texts.
+static ROWS: [(&str, Row); 14] = [
+    (
+        "the most number is a value",
+        Row::Kind(
+            r#"\dv{Int{}}("170141183460469231731687303715884105727")"#,
+            "folded",
+        ),
+    ),
+    (
+        "a call beyond 128 bits is left",
+        Row::Kind(
+            r#"plus{}(\dv{Int{}}("170141183460469231731687303715884105727"), \dv{Int{}}("1"))"#,
+            "left as it stands",
+        ),
+    ),
+    (
+        "a number that can't be read is refused",
+        Row::Kind(r#"f{}(\dv{Int{}}("one"))"#, "refused as a shape"),
+    ),
+    (
+        "a number that can be read isn't",
+        Row::Kind(r#"f{}(\dv{Int{}}("1"))"#, "folded"),
+    ),
+    (
+        "zero is left out of a sum",
+        Row::Same(r#"plus{}(X:Int{}, \dv{Int{}}("0"))"#, "X:Int{}"),
+    ),
+    (
+        "constants of a sum are one",
+        Row::Same(
+            r#"minus{}(plus{}(\dv{Int{}}("5"), X:Int{}), \dv{Int{}}("3"))"#,
+            r#"plus{}(X:Int{}, \dv{Int{}}("2"))"#,
+        ),
+    ),
+    (
+        "sums of other constants differ",
+        Row::Apart(
+            r#"plus{}(X:Int{}, \dv{Int{}}("1"))"#,
+            r#"plus{}(X:Int{}, \dv{Int{}}("2"))"#,
+        ),
+    ),
+    (
+        "a call of numbers is its value",
+        Row::Same(
+            r#"f{}(plus{}(\dv{Int{}}("1"), \dv{Int{}}("2")))"#,
+            r#"f{}(\dv{Int{}}("3"))"#,
+        ),
+    ),
+    (
+        "a comparison of numbers is its value",
+        Row::Same(
+            r#"less{}(\dv{Int{}}("1"), \dv{Int{}}("2"))"#,
+            r#"\dv{Bool{}}("true")"#,
+        ),
+    ),
+    (
+        "inj is left out",
+        Row::Same(r#"inj{Int{}, S{}}(X:Int{})"#, "X:Int{}"),
+    ),
+    (
+        "a sum in a sum is one",
+        Row::Becomes(
+            SUM,
+            r#"plus{}(Y:Int{}, \dv{Int{}}("1"))"#,
+            r#"f{}(plus{}(Y:Int{}, \dv{Int{}}("3")))"#,
+        ),
+    ),
+    (
+        "a number in a sum is a number",
+        Row::Becomes(SUM, r#"\dv{Int{}}("1")"#, r#"f{}(\dv{Int{}}("3"))"#),
+    ),
+    ("a constructor is shared", Row::Shares(SUM)),
+    ("a value is shared", Row::Shares(r#"\dv{Bool{}}("true")"#)),
+];
+
 #[test]
-fn what_shares_a_term_is_the_term(rt: HostRuntime) -> Result<(), Fail> {
-    assert!(rt; shares(rt.alloc(), r#"f{}(plus{}(X:Int{}, \dv{Int{}}("2")))"#)?);
-    assert!(rt; shares(rt.alloc(), r#"\dv{Bool{}}("true")"#)?);
+fn texts_are_folded(rt: HostRuntime) -> Result<(), Fail> {
+    let signature = signature(rt.alloc(), SMALL)?;
+    let language = Language::new(rt.alloc(), &signature)?;
+    for (said, row) in &ROWS {
+        assert!(rt; holds(rt.alloc(), &language, *row)?, "{said}");
+    }
     Ok(())
 }

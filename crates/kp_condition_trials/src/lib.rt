@@ -10,3 +10,5 @@ mod demands;
 mod folding;
 #[cfg(test)]
 mod opening;
+#[cfg(test)]
+mod texts;

@@ -1,9 +1,8 @@
-use kp_kore::{Pattern, Sort};
+use crate::texts::{folded, signature};
+use kp_kore::Sort;
 use kp_opening::{Formula, open_same, open_truth};
-use kp_signature::Signature;
-use kp_terms::{Atom, Language, Literal, Term, term_under};
-use kp_text::{read_module, read_pattern};
-use std::alloc::Global;
+use kp_terms::{Atom, Language, Literal, Term};
+use std::alloc::{AllocError, Global};
 use std::test::Fail;
 
 /// Numbers with sums, truth values with their functions, and three constructors of S.
@@ -26,28 +25,11 @@ const SMALL: &str = r#"module SMALL
 endmodule []
 "#;
 
-/// The signature of the module.
-pub(crate) fn signature(alloc: Global) -> Result<Signature, Fail> {
-    let module = read_module(alloc, SMALL.as_bytes()).map_err(|_| "no module")?;
-    Ok(Signature::new(alloc, &[&module])?)
-}
-
-/// The pattern of a text.
-pub(crate) fn pattern(alloc: Global, text: &str) -> Result<Pattern, Fail> {
-    Ok(read_pattern(alloc, text.as_bytes()).map_err(|_| "no pattern")?)
-}
-
-/// The term of a text.
-fn folded(alloc: Global, signature: &Signature, text: &str) -> Result<Term, Fail> {
-    let pattern = pattern(alloc, text)?;
-    let language = Language::new(alloc, signature)?;
-    Ok(term_under(&pattern, alloc, &language, &[]).map_err(|_| "no term")?)
-}
-
 /// A sort without arguments.
-fn sort(alloc: Global, name: &str) -> Result<Sort, Fail> {
+fn sort(alloc: Global, name: &str) -> Result<Sort, AllocError> {
+    let name = String::from_str(alloc, name)?;
     Ok(Sort::App {
-        name: String::from_str(alloc, name)?,
+        name,
         arguments: Vec::new(alloc),
     })
 }
@@ -64,7 +46,7 @@ fn kind(literal: &Literal) -> &'static str {
 /// Adds the formula's form: facts by their signs and kinds, what is under 'all of' in round brackets, under 'one of' in
 /// square ones.
 #[cycle(form)]
-fn add_form(formula: &Formula, form: &mut String) -> Result<(), Fail> {
+fn add_form(formula: &Formula, form: &mut String) -> Result<(), AllocError> {
     match formula {
         Formula::Fact { literal } => {
             form.push_str(if literal.holds { "+" } else { "-" })?;
@@ -86,149 +68,204 @@ fn add_form(formula: &Formula, form: &mut String) -> Result<(), Fail> {
 
 /// The same of each part.
 #[cycle(form)]
-fn add_forms(formulas: &[Formula], form: &mut String) -> Result<(), Fail> {
+fn add_forms(formulas: &[Formula], form: &mut String) -> Result<(), AllocError> {
     for formula in formulas {
         add_form(formula, form)?;
     }
     Ok(())
 }
 
-/// Whether the formula has this form.
-pub(crate) fn has_form(alloc: Global, formula: &Formula, wanted: &str) -> Result<bool, Fail> {
+/// The formula's form.
+fn form(alloc: Global, formula: &Formula) -> Result<String, AllocError> {
     let mut form = String::new(alloc);
     add_form(formula, &mut form)?;
-    Ok(form.as_str() == wanted)
+    Ok(form)
 }
 
-/// An equality of two texts at a sort, opened over a signature.
-fn opened_over(
+/// The form that an equality opens to.
+fn equality(
     alloc: Global,
-    signature: &Signature,
+    language: &Language,
     sort: &Sort,
     sign: bool,
-    left: &str,
-    right: &str,
-) -> Result<Formula, Fail> {
-    let left = folded(alloc, signature, left)?;
-    let right = folded(alloc, signature, right)?;
-    Ok(open_same(alloc, signature, true, sign, sort, &left, &right)?)
+    left: &Term,
+    right: &Term,
+) -> Result<String, AllocError> {
+    let formula = open_same(alloc, language.signature, true, sign, sort, left, right)?;
+    form(alloc, &formula)
 }
 
-/// Whether an equality at a sort opens to this form.
-fn opens_to(
+/// The form that an equality of two texts at a sort opens to.
+fn equality_opened(
     alloc: Global,
+    language: &Language,
     name: &str,
     sign: bool,
     left: &str,
     right: &str,
-    wanted: &str,
-) -> Result<bool, Fail> {
+) -> Result<String, Fail> {
     let sort = sort(alloc, name)?;
-    let signature = signature(alloc)?;
-    let formula = opened_over(alloc, &signature, &sort, sign, left, right)?;
-    has_form(alloc, &formula, wanted)
+    let left = folded(alloc, language, &[], left)?;
+    let right = folded(alloc, language, &[], right)?;
+    Ok(equality(alloc, language, &sort, sign, &left, &right)?)
 }
 
-#[test]
-fn constructors_are_opened_member_by_member(rt: HostRuntime) -> Result<(), Fail> {
-    let rows = [
-        ("f{}(X:Int{})", "f{}(Y:Int{})", true, "(+)"),
-        ("f{}(X:Int{})", "f{}(Y:Int{})", false, "[-]"),
-        ("f{}(X:Int{})", "g{}(Y:S{})", true, "[]"),
-        ("f{}(X:Int{})", "g{}(Y:S{})", false, "()"),
-        (
-            "pair{}(X:Int{}, g{}(Y:S{}))",
-            "pair{}(Z:Int{}, g{}(f{}(X:Int{})))",
-            true,
-            "(+(+))",
-        ),
-        (
-            r#"pair{}(\dv{Int{}}("1"), Y:S{})"#,
-            r#"pair{}(\dv{Int{}}("2"), Y:S{})"#,
-            true,
-            "([]())",
-        ),
-        ("Y:S{}", "g{}(pair{}(X:Int{}, Y:S{}))", true, "[]"),
-        ("Y:S{}", "g{}(Y:S{})", false, "()"),
-        ("Y:S{}", "g{}(Z:S{})", true, "+"),
-        ("Y:S{}", "Y:S{}", true, "()"),
-    ];
-    for (left, right, sign, wanted) in rows {
-        assert!(rt; opens_to(rt.alloc(), "S", sign, left, right, wanted)?);
-    }
-    Ok(())
-}
-
-#[test]
-fn sums_of_one_variable_are_compared(rt: HostRuntime) -> Result<(), Fail> {
-    let one = r#"plus{}(X:Int{}, \dv{Int{}}("1"))"#;
-    let two = r#"plus{}(X:Int{}, \dv{Int{}}("2"))"#;
-    assert!(rt; opens_to(rt.alloc(), "Int", true, one, two, "[]")?);
-    assert!(rt; opens_to(rt.alloc(), "Int", false, one, two, "()")?);
-    assert!(rt; opens_to(rt.alloc(), "Int", true, one, "Y:Int{}", "+")?);
-    Ok(())
-}
-
-/// A Boolean expression, opened over a signature.
-fn truth_over(
+/// The form that a truth value opens to.
+fn truth(
     alloc: Global,
-    signature: &Signature,
+    language: &Language,
+    sign: bool,
+    term: &Term,
+) -> Result<String, AllocError> {
+    let formula = open_truth(alloc, language.signature, true, sign, term)?;
+    form(alloc, &formula)
+}
+
+/// The form that a Boolean expression opens to.
+fn truth_opened(
+    alloc: Global,
+    language: &Language,
     sign: bool,
     text: &str,
-) -> Result<Formula, Fail> {
-    let term = folded(alloc, signature, text)?;
-    Ok(open_truth(alloc, signature, true, sign, &term)?)
+) -> Result<String, Fail> {
+    let term = folded(alloc, language, &[], text)?;
+    Ok(truth(alloc, language, sign, &term)?)
 }
 
-/// Whether a Boolean expression opens to this form.
-fn truth_opens_to(alloc: Global, sign: bool, text: &str, wanted: &str) -> Result<bool, Fail> {
-    let signature = signature(alloc)?;
-    let formula = truth_over(alloc, &signature, sign, text)?;
-    has_form(alloc, &formula, wanted)
+/// What is opened.
+#[derive(Clone, Copy)]
+enum Opened {
+    /// An equality at a sort, with a sign, of two texts.
+    Equality(&'static str, bool, &'static str, &'static str),
+    /// A Boolean expression with a sign.
+    Truth(bool, &'static str),
 }
 
-#[test]
-fn the_boolean_functions_are_opened(rt: HostRuntime) -> Result<(), Fail> {
-    let rows = [
-        ("B:Bool{}", true, "+"),
-        ("not{}(B:Bool{})", true, "-"),
-        ("and{}(B:Bool{}, C:Bool{})", true, "(++)"),
-        ("and{}(B:Bool{}, C:Bool{})", false, "[--]"),
-        ("or{}(B:Bool{}, not{}(C:Bool{}))", true, "[+-]"),
-        ("implies{}(B:Bool{}, C:Bool{})", true, "[-+]"),
-        ("implies{}(B:Bool{}, C:Bool{})", false, "(+-)"),
-        ("less{}(X:Int{}, Y:Int{})", false, "-"),
-        (
-            r#"less{}(plus{}(X:Int{}, \dv{Int{}}("1")), plus{}(X:Int{}, \dv{Int{}}("2")))"#,
-            true,
-            "()",
-        ),
-        ("same{}(f{}(X:Int{}), f{}(Y:Int{}))", true, "(+)"),
-        ("differ{}(f{}(X:Int{}), f{}(Y:Int{}))", true, "[-]"),
-    ];
-    for (text, sign, wanted) in rows {
-        assert!(rt; truth_opens_to(rt.alloc(), sign, text, wanted)?);
+/// The form that it opens to.
+fn form_of(alloc: Global, language: &Language, opened: Opened) -> Result<String, Fail> {
+    match opened {
+        Opened::Equality(name, sign, left, right) => {
+            equality_opened(alloc, language, name, sign, left, right)
+        }
+        Opened::Truth(sign, text) => truth_opened(alloc, language, sign, text),
     }
-    Ok(())
 }
 
+/// Its text; of an equality the left side.
+fn text_of(opened: Opened) -> &'static str {
+    match opened {
+        Opened::Equality(_, _, left, _) => left,
+        Opened::Truth(_, text) => text,
+    }
+}
+
+const ONE_MORE: &str = r#"plus{}(X:Int{}, \dv{Int{}}("1"))"#;
+
+const TWO_MORE: &str = r#"plus{}(X:Int{}, \dv{Int{}}("2"))"#;
+
+const BOTH: &str = "and{}(B:Bool{}, C:Bool{})";
+
+/// What is opened, and the form that it opens to.
+static ROWS: [(Opened, &str); 28] = [
+    // constructors are opened member by member
+    (
+        Opened::Equality("S", true, "f{}(X:Int{})", "f{}(Y:Int{})"),
+        "(+)",
+    ),
+    (
+        Opened::Equality("S", false, "f{}(X:Int{})", "f{}(Y:Int{})"),
+        "[-]",
+    ),
+    (
+        Opened::Equality("S", true, "f{}(X:Int{})", "g{}(Y:S{})"),
+        "[]",
+    ),
+    (
+        Opened::Equality("S", false, "f{}(X:Int{})", "g{}(Y:S{})"),
+        "()",
+    ),
+    (
+        Opened::Equality(
+            "S",
+            true,
+            "pair{}(X:Int{}, g{}(Y:S{}))",
+            "pair{}(Z:Int{}, g{}(f{}(X:Int{})))",
+        ),
+        "(+(+))",
+    ),
+    (
+        Opened::Equality(
+            "S",
+            true,
+            r#"pair{}(\dv{Int{}}("1"), Y:S{})"#,
+            r#"pair{}(\dv{Int{}}("2"), Y:S{})"#,
+        ),
+        "([]())",
+    ),
+    (
+        Opened::Equality("S", true, "Y:S{}", "g{}(pair{}(X:Int{}, Y:S{}))"),
+        "[]",
+    ),
+    (Opened::Equality("S", false, "Y:S{}", "g{}(Y:S{})"), "()"),
+    (Opened::Equality("S", true, "Y:S{}", "g{}(Z:S{})"), "+"),
+    (Opened::Equality("S", true, "Y:S{}", "Y:S{}"), "()"),
+    // sums of one variable are compared
+    (Opened::Equality("Int", true, ONE_MORE, TWO_MORE), "[]"),
+    (Opened::Equality("Int", false, ONE_MORE, TWO_MORE), "()"),
+    (Opened::Equality("Int", true, ONE_MORE, "Y:Int{}"), "+"),
+    // equalities of truth values are opened
+    (
+        Opened::Equality("Bool", true, BOTH, r#"\dv{Bool{}}("true")"#),
+        "(++)",
+    ),
+    (
+        Opened::Equality("Bool", true, r#"\dv{Bool{}}("false")"#, BOTH),
+        "[--]",
+    ),
+    (Opened::Equality("Bool", true, "D:Bool{}", BOTH), "+"),
+    (
+        Opened::Equality("Bool", false, "D:Bool{}", "C:Bool{}"),
+        "([--][++])",
+    ),
+    // Boolean functions are opened
+    (Opened::Truth(true, "B:Bool{}"), "+"),
+    (Opened::Truth(true, "not{}(B:Bool{})"), "-"),
+    (Opened::Truth(true, "and{}(B:Bool{}, C:Bool{})"), "(++)"),
+    (Opened::Truth(false, "and{}(B:Bool{}, C:Bool{})"), "[--]"),
+    (
+        Opened::Truth(true, "or{}(B:Bool{}, not{}(C:Bool{}))"),
+        "[+-]",
+    ),
+    (Opened::Truth(true, "implies{}(B:Bool{}, C:Bool{})"), "[-+]"),
+    (
+        Opened::Truth(false, "implies{}(B:Bool{}, C:Bool{})"),
+        "(+-)",
+    ),
+    (Opened::Truth(false, "less{}(X:Int{}, Y:Int{})"), "-"),
+    (
+        Opened::Truth(
+            true,
+            r#"less{}(plus{}(X:Int{}, \dv{Int{}}("1")), plus{}(X:Int{}, \dv{Int{}}("2")))"#,
+        ),
+        "()",
+    ),
+    (
+        Opened::Truth(true, "same{}(f{}(X:Int{}), f{}(Y:Int{}))"),
+        "(+)",
+    ),
+    (
+        Opened::Truth(true, "differ{}(f{}(X:Int{}), f{}(Y:Int{}))"),
+        "[-]",
+    ),
+];
+
 #[test]
-fn equalities_of_truth_values_are_opened(rt: HostRuntime) -> Result<(), Fail> {
-    let both = "and{}(B:Bool{}, C:Bool{})";
-    let yes = r#"\dv{Bool{}}("true")"#;
-    let no = r#"\dv{Bool{}}("false")"#;
-    assert!(rt; opens_to(rt.alloc(), "Bool", true, both, yes, "(++)")?);
-    assert!(rt; opens_to(rt.alloc(), "Bool", true, no, both, "[--]")?);
-    assert!(rt; opens_to(rt.alloc(), "Bool", true, "D:Bool{}", both, "+")?);
-    assert!(rt;
-        opens_to(
-            rt.alloc(),
-            "Bool",
-            false,
-            "D:Bool{}",
-            "C:Bool{}",
-            "([--][++])"
-        )?
-    );
+fn predicates_are_opened(rt: HostRuntime) -> Result<(), Fail> {
+    let signature = signature(rt.alloc(), SMALL)?;
+    let language = Language::new(rt.alloc(), &signature)?;
+    for (opened, wanted) in &ROWS {
+        let form = form_of(rt.alloc(), &language, *opened)?;
+        assert_eq!(rt; form.as_str(), *wanted, "{}", text_of(*opened));
+    }
     Ok(())
 }

@@ -1,3 +1,4 @@
+use crate::running::{spelled, told};
 use kp_io::{Files, Shelf, SureBytes, SureDrain};
 use kp_program::run;
 use std::alloc::Global;
@@ -50,30 +51,6 @@ const ONE_PATH: &str = r#"module TOYS-SPEC
 endmodule []
 "#;
 
-/// Proves claims in the file `c.kore` over the module TOYS of the file `d.kore`, with more words: the status as a digit,
-/// what was written, and what standard error got.
-fn proved(alloc: Global, definition: &str, claims: &str, more: &[&str]) -> Result<Vec<u8>, Fail> {
-    let mut files = Files::new(alloc, Vec::new(alloc));
-    files.store("d.kore", definition.as_bytes())?;
-    files.store("c.kore", claims.as_bytes())?;
-    let mut words = Vec::new(alloc);
-    for word in ["kprove", "prove", "d.kore", "--module", "TOYS", "--claims"] {
-        words.push(String::from_str(alloc, word)?)?;
-    }
-    for word in more {
-        words.push(String::from_str(alloc, *word)?)?;
-    }
-    let mut input = SureBytes::new(b"left alone".to_vec(alloc)?);
-    let mut out = SureDrain::new(alloc);
-    let mut err = SureDrain::new(alloc);
-    let status = run(alloc, &words, &mut files, &mut input, &mut out, &mut err);
-    let mut told = Vec::new(alloc);
-    told.push(status)?;
-    told.extend_from_slice(out.bytes())?;
-    told.extend_from_slice(err.bytes())?;
-    Ok(told)
-}
-
 /// A foreign rule whose label has a line feed and then what a line of a report may say: it is no id.
 const FORGING: &str = r#"[]
 module TOYS
@@ -90,77 +67,138 @@ const ODD: &str = r#"module TOYS-SPEC
 endmodule []
 "#;
 
-#[test]
-fn a_rules_label_makes_no_line_of_a_report(rt: HostRuntime) -> Result<(), Fail> {
-    let told = proved(rt.alloc(), FORGING, ODD, &["c.kore"])?;
-    assert_eq!(rt;
-        told.as_slice(),
-        b"\x02pending T.odd node 1 foreign TOYS#1\n".as_slice()
-    );
-    Ok(())
+/// A shelf with the files `d.kore` and `c.kore`.
+fn shelf(alloc: Global, definition: &str, claims: &str) -> Result<Files, Fail> {
+    let mut files = Files::new(alloc, Vec::new(alloc));
+    files.store("d.kore", definition.as_bytes())?;
+    files.store("c.kore", claims.as_bytes())?;
+    Ok(files)
 }
 
-#[test]
-fn claims_pass_fail_and_stay_pending_in_the_order_of_the_file(rt: HostRuntime) -> Result<(), Fail> {
-    let alloc = rt.alloc();
-    let told = proved(alloc, TOYS, CLAIMS, &["c.kore"])?;
-    assert_eq!(rt;
-        told.as_slice(),
-        b"\x02passed T.two\npending T.odd node 1 foreign TOYS.odd\nrefused T.chosen code 2\npassed T.mid\n".as_slice()
-    );
-    let told = proved(alloc, TOYS, CLAIMS, &["c.kore", "--max-depth", "2"])?;
-    assert_eq!(rt;
-        told.as_slice(),
-        b"\x01passed T.two\npending T.odd node 1 foreign TOYS.odd\nrefused T.chosen code 2\nfailed T.mid node 3\n".as_slice()
-    );
-    Ok(())
+/// What the program tells with these words over a shelf; its input is left alone.
+fn ran(alloc: Global, words: &[String], files: &mut Files) -> Result<Vec<u8>, Fail> {
+    let mut input = SureBytes::new(b"left alone".to_vec(alloc)?);
+    let mut out = SureDrain::new(alloc);
+    let mut err = SureDrain::new(alloc);
+    let status = run(alloc, words, files, &mut input, &mut out, &mut err);
+    Ok(told(alloc, status, out.bytes(), err.bytes())?)
 }
 
-#[test]
-fn a_claim_that_goes_round_uses_its_rounds(rt: HostRuntime) -> Result<(), Fail> {
-    let alloc = rt.alloc();
-    let told = proved(alloc, TOYS, SPIN, &["c.kore", "--max-depth", "+01"])?;
-    assert_eq!(rt;
-        told.as_slice(),
-        b"\x02pending T.spin node 1001 rounds\n".as_slice()
-    );
-    Ok(())
+const PROVE: [&str; 6] = ["kprove", "prove", "d.kore", "--module", "TOYS", "--claims"];
+
+/// What is told of claims in the file `c.kore` over the module TOYS of the file `d.kore`, with more words.
+fn proved(alloc: Global, definition: &str, claims: &str, more: &[&str]) -> Result<Vec<u8>, Fail> {
+    let mut files = shelf(alloc, definition, claims)?;
+    let words = spelled(alloc, &PROVE, more)?;
+    ran(alloc, &words, &mut files)
 }
 
-#[test]
-fn the_definition_is_read_before_the_claims(rt: HostRuntime) -> Result<(), Fail> {
-    let alloc = rt.alloc();
-    assert_eq!(rt;
-        proved(alloc, TOYS, ONE_PATH, &["c.kore"])?.as_slice(),
-        b"\x04kprove: c.kore: C1\n".as_slice()
-    );
-    assert_eq!(rt;
-        proved(alloc, "[", ONE_PATH, &["c.kore"])?.as_slice(),
-        b"\x04kprove: d.kore: text 5 at 1\n".as_slice()
-    );
-    assert_eq!(rt;
-        proved(alloc, TOYS, "module", &["c.kore"])?.as_slice(),
-        b"\x04kprove: c.kore: text 5 at 6\n".as_slice()
-    );
-    assert_eq!(rt;
-        proved(alloc, TOYS, SPIN, &["x.kore"])?.as_slice(),
-        b"\x05kprove: no file x.kore\n".as_slice()
-    );
-    Ok(())
-}
+/// A definition, claims, more words, and what is told.
+static ROWS: [(&str, &str, &[&str], &str); 15] = [
+    // a rule's label makes no line of a report
+    (
+        FORGING,
+        ODD,
+        &["c.kore"],
+        "pending T.odd node 1 foreign TOYS#1\nstatus 2: ",
+    ),
+    // claims pass, fail and stay pending in the order of the file
+    (
+        TOYS,
+        CLAIMS,
+        &["c.kore"],
+        "passed T.two\npending T.odd node 1 foreign TOYS.odd\nrefused T.chosen code 2\npassed T.mid\nstatus 2: ",
+    ),
+    (
+        TOYS,
+        CLAIMS,
+        &["c.kore", "--max-depth", "2"],
+        "passed T.two\npending T.odd node 1 foreign TOYS.odd\nrefused T.chosen code 2\nfailed T.mid node 3\nstatus 1: ",
+    ),
+    // a claim that goes round uses its rounds
+    (
+        TOYS,
+        SPIN,
+        &["c.kore", "--max-depth", "+01"],
+        "pending T.spin node 1001 rounds\nstatus 2: ",
+    ),
+    // the definition is read before the claims
+    (
+        TOYS,
+        ONE_PATH,
+        &["c.kore"],
+        "status 4: kprove: c.kore: C1\n",
+    ),
+    (
+        "[",
+        ONE_PATH,
+        &["c.kore"],
+        "status 4: kprove: d.kore: text 5 at 1\n",
+    ),
+    (
+        TOYS,
+        "module",
+        &["c.kore"],
+        "status 4: kprove: c.kore: text 5 at 6\n",
+    ),
+    (
+        TOYS,
+        SPIN,
+        &["x.kore"],
+        "status 5: kprove: no file x.kore\n",
+    ),
+    // a number of steps is from 1 to 10000
+    (
+        TOYS,
+        SPIN,
+        &["c.kore", "--max-depth", "0"],
+        "status 3: kprove: usage\n",
+    ),
+    (
+        TOYS,
+        SPIN,
+        &["c.kore", "--max-depth", "10001"],
+        "status 3: kprove: usage\n",
+    ),
+    (
+        TOYS,
+        SPIN,
+        &["c.kore", "--max-depth", "+"],
+        "status 3: kprove: usage\n",
+    ),
+    (
+        TOYS,
+        SPIN,
+        &["c.kore", "--max-depth", ""],
+        "status 3: kprove: usage\n",
+    ),
+    (
+        TOYS,
+        SPIN,
+        &["c.kore", "--max-depth", "-1"],
+        "status 3: kprove: usage\n",
+    ),
+    (
+        TOYS,
+        SPIN,
+        &["c.kore", "--max-depth", "1 "],
+        "status 3: kprove: usage\n",
+    ),
+    (
+        TOYS,
+        CLAIMS,
+        &["c.kore", "--max-depth", "10000"],
+        "passed T.two\npending T.odd node 1 foreign TOYS.odd\nrefused T.chosen code 2\nfailed T.mid node 2\nstatus 1: ",
+    ),
+];
 
 #[test]
-fn a_number_of_steps_is_from_1_to_10000(rt: HostRuntime) -> Result<(), Fail> {
-    let alloc = rt.alloc();
-    for word in ["0", "10001", "+", "", "-1", "1 "] {
+fn claims_are_told(rt: HostRuntime) -> Result<(), Fail> {
+    for (definition, claims, more, wanted) in &ROWS {
         assert_eq!(rt;
-            proved(alloc, TOYS, SPIN, &["c.kore", "--max-depth", word])?.as_slice(),
-            b"\x03kprove: usage\n".as_slice()
+            proved(rt.alloc(), definition, claims, more)?.as_slice(),
+            wanted.as_bytes()
         );
     }
-    assert_eq!(rt;
-        proved(alloc, TOYS, CLAIMS, &["c.kore", "--max-depth", "10000"])?.as_slice(),
-        b"\x01passed T.two\npending T.odd node 1 foreign TOYS.odd\nrefused T.chosen code 2\nfailed T.mid node 2\n".as_slice()
-    );
     Ok(())
 }

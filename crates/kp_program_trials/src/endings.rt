@@ -1,3 +1,4 @@
+use crate::running::{spelled, told};
 use kp_io::{Bytes, Drain, Files, Shelf};
 use kp_program::run;
 use std::alloc::{AllocError, Global};
@@ -5,96 +6,64 @@ use std::test::Fail;
 
 const EMPTY: &str = "[] module M endmodule []";
 
-/// Serves `[]` over a definition, where these calls on the shelf (the first is the store), on the input and on the output
-/// fail: the status as a byte, what was written, and what standard error got.
-fn served(
-    alloc: Global,
-    definition: &[u8],
-    shelf: Vec<u64>,
-    input: Vec<u64>,
-    output: Vec<u64>,
-) -> Result<Vec<u8>, Fail> {
-    let mut files = Files::new(alloc, shelf);
-    files.store("d.kore", definition)?;
-    let mut words = Vec::new(alloc);
-    for word in ["kprove", "stdio", "d.kore", "--module", "M"] {
-        words.push(String::from_str(alloc, word)?)?;
-    }
-    let mut source = Bytes::new(b"[]".to_vec(alloc)?, input);
-    let mut out = Drain::new(alloc, output);
-    let mut err = Drain::new(alloc, Vec::new(alloc));
-    let status = run(alloc, &words, &mut files, &mut source, &mut out, &mut err);
-    let mut told = Vec::new(alloc);
-    told.push(status)?;
-    told.extend_from_slice(out.bytes())?;
-    told.extend_from_slice(err.bytes())?;
-    Ok(told)
-}
-
-/// One call.
-fn one(alloc: Global, call: u64) -> Result<Vec<u64>, AllocError> {
+/// The number of one call, 0 for none.
+fn calls(alloc: Global, call: u64) -> Result<Vec<u64>, AllocError> {
     let mut calls = Vec::new(alloc);
-    calls.push(call)?;
+    if 0 < call {
+        calls.push(call)?;
+    }
     Ok(calls)
 }
 
-const FAULT: &[u8] = b"\x06kprove: fault\n";
+/// A shelf with the file `d.kore`, of whose calls this one fails (the first is the store).
+fn shelf(alloc: Global, definition: &[u8], call: u64) -> Result<Files, Fail> {
+    let mut files = Files::new(alloc, calls(alloc, call)?);
+    files.store("d.kore", definition)?;
+    Ok(files)
+}
+
+const SERVE: [&str; 5] = ["kprove", "stdio", "d.kore", "--module", "M"];
+
+/// What the program tells that serves `[]` over a shelf, where one call on the input and one on the output fail.
+fn ran(alloc: Global, files: &mut Files, input: u64, output: u64) -> Result<Vec<u8>, AllocError> {
+    let words = spelled(alloc, &SERVE, &[])?;
+    let mut source = Bytes::new(b"[]".to_vec(alloc)?, calls(alloc, input)?);
+    let mut out = Drain::new(alloc, calls(alloc, output)?);
+    let mut err = Drain::new(alloc, Vec::new(alloc));
+    let status = run(alloc, &words, files, &mut source, &mut out, &mut err);
+    told(alloc, status, out.bytes(), err.bytes())
+}
+
+/// What the program tells that serves `[]` over a definition, where one call on the shelf, the input and the output fails.
+fn served(
+    alloc: Global,
+    definition: &[u8],
+    store: u64,
+    input: u64,
+    output: u64,
+) -> Result<Vec<u8>, Fail> {
+    let mut files = shelf(alloc, definition, store)?;
+    Ok(ran(alloc, &mut files, input, output)?)
+}
 
 #[test]
 fn a_fault_of_the_outside_is_told(rt: HostRuntime) -> Result<(), Fail> {
-    let alloc = rt.alloc();
-    let definition = EMPTY.as_bytes();
-    assert_eq!(rt;
-        served(
-            alloc,
-            definition,
-            one(alloc, 2)?,
-            Vec::new(alloc),
-            Vec::new(alloc)
-        )?
-        .as_slice(),
-        FAULT
-    );
-    assert_eq!(rt;
-        served(
-            alloc,
-            definition,
-            Vec::new(alloc),
-            one(alloc, 1)?,
-            Vec::new(alloc)
-        )?
-        .as_slice(),
-        FAULT
-    );
-    assert_eq!(rt;
-        served(
-            alloc,
-            definition,
-            Vec::new(alloc),
-            Vec::new(alloc),
-            one(alloc, 1)?
-        )?
-        .as_slice(),
-        FAULT
-    );
+    for (store, input, output) in [(2, 0, 0), (0, 1, 0), (0, 0, 1)] {
+        assert_eq!(rt;
+            served(rt.alloc(), EMPTY.as_bytes(), store, input, output)?.as_slice(),
+            b"status 6: kprove: fault\n".as_slice()
+        );
+    }
     Ok(())
 }
 
 #[test]
 fn a_file_over_the_limit_is_too_long(rt: HostRuntime) -> Result<(), Fail> {
-    let alloc = rt.alloc();
-    let mut definition = EMPTY.as_bytes().to_vec(alloc)?;
+    let mut definition = EMPTY.as_bytes().to_vec(rt.alloc())?;
     definition.resize(16_777_217, b' ')?;
-    let told = served(
-        alloc,
-        &definition,
-        Vec::new(alloc),
-        Vec::new(alloc),
-        Vec::new(alloc),
-    )?;
     assert_eq!(rt;
-        told.as_slice(),
-        b"\x04kprove: d.kore: too long\n".as_slice()
+        served(rt.alloc(), &definition, 0, 0, 0)?.as_slice(),
+        b"status 4: kprove: d.kore: too long\n".as_slice()
     );
     Ok(())
 }

@@ -8,3 +8,5 @@ mod claims;
 mod endings;
 #[cfg(test)]
 mod requests;
+#[cfg(test)]
+mod running;

@@ -1,3 +1,4 @@
+use crate::running::{joined, spelled, told};
 use kp_io::{Files, Shelf, SureBytes, SureDrain};
 use kp_program::run;
 use std::alloc::{AllocError, Global};
@@ -39,63 +40,39 @@ module COUNTING
 endmodule []
 "#;
 
-/// What the program answers: its status, and what it wrote.
-#[derive(Drop)]
-struct Answered {
-    status: u8,
-    out: SureDrain,
-    err: SureDrain,
-}
-
-/// Runs the program with these words, over a file `d.kore`, on an input.
-fn ran(alloc: Global, words: &[&str], definition: &str, input: &str) -> Result<Answered, Fail> {
+/// A shelf with a file `d.kore`.
+fn shelf(alloc: Global, definition: &str) -> Result<Files, Fail> {
     let mut files = Files::new(alloc, Vec::new(alloc));
     files.store("d.kore", definition.as_bytes())?;
-    let mut spelled = Vec::new(alloc);
-    for word in words {
-        spelled.push(String::from_str(alloc, *word)?)?;
-    }
+    Ok(files)
+}
+
+/// What the program tells with these words, over a shelf, on an input.
+fn ran(alloc: Global, words: &[String], files: &mut Files, input: &str) -> Result<Vec<u8>, Fail> {
     let mut source = SureBytes::new(input.as_bytes().to_vec(alloc)?);
     let mut out = SureDrain::new(alloc);
     let mut err = SureDrain::new(alloc);
-    let status = run(alloc, &spelled, &mut files, &mut source, &mut out, &mut err);
-    Ok(Answered { status, out, err })
+    let status = run(alloc, words, files, &mut source, &mut out, &mut err);
+    Ok(told(alloc, status, out.bytes(), err.bytes())?)
 }
 
-/// Serves an input over the module COUNTING.
-fn served(alloc: Global, input: &str) -> Result<Answered, Fail> {
-    let words = ["kprove", "stdio", "d.kore", "--module", "COUNTING"];
-    ran(alloc, &words, COUNTING, input)
+const SERVE: [&str; 5] = ["kprove", "stdio", "d.kore", "--module", "COUNTING"];
+
+/// What the program tells that serves an input over the module COUNTING.
+fn served(alloc: Global, input: &str) -> Result<Vec<u8>, Fail> {
+    let mut files = shelf(alloc, COUNTING)?;
+    let words = spelled(alloc, &SERVE, &[])?;
+    ran(alloc, &words, &mut files, input)
 }
 
-fn joined(alloc: Global, parts: &[&str]) -> Result<String, AllocError> {
-    let mut text = String::new(alloc);
-    for part in parts {
-        text.push_str(*part)?;
-    }
-    Ok(text)
-}
-
-/// A whole number as a Kore JSON term.
-fn number(alloc: Global, text: &str) -> Result<String, AllocError> {
+/// A symbol applied to a whole number, as a Kore JSON term.
+fn applied(alloc: Global, symbol: &str, number: &str) -> Result<String, AllocError> {
     joined(
         alloc,
         &[
-            r#"{"sort":{"args":[],"name":"SortInt","tag":"SortApp"},"tag":"DV","value":""#,
-            text,
-            r#""}"#,
-        ],
-    )
-}
-
-/// A symbol applied to one term.
-fn applied(alloc: Global, symbol: &str, argument: &str) -> Result<String, AllocError> {
-    joined(
-        alloc,
-        &[
-            r#"{"args":["#,
-            argument,
-            r#"],"name":""#,
+            r#"{"args":[{"sort":{"args":[],"name":"SortInt","tag":"SortApp"},"tag":"DV","value":""#,
+            number,
+            r#""}],"name":""#,
             symbol,
             r#"","sorts":[],"tag":"App"}"#,
         ],
@@ -116,25 +93,16 @@ fn request(alloc: Global, term: &str, members: &str) -> Result<String, AllocErro
     )
 }
 
-/// The request whether one term implies another, with more members of its params.
-fn question(
-    alloc: Global,
-    antecedent: &str,
-    consequent: &str,
-    members: &str,
-) -> Result<String, AllocError> {
-    joined(
-        alloc,
-        &[
-            r#"{"jsonrpc":"2.0","id":1,"method":"implies","params":{"antecedent":{"format":"KORE","version":1,"term":"#,
-            antecedent,
-            r#"},"consequent":{"format":"KORE","version":1,"term":"#,
-            consequent,
-            "}",
-            members,
-            "}}",
-        ],
-    )
+/// What is told to who asks to run a term, with more members of the params.
+fn run_told(alloc: Global, term: &str, members: &str) -> Result<Vec<u8>, Fail> {
+    let asked = request(alloc, term, members)?;
+    served(alloc, &asked)
+}
+
+/// The same of a symbol applied to a number.
+fn run_of(alloc: Global, symbol: &str, number: &str, members: &str) -> Result<Vec<u8>, Fail> {
+    let term = applied(alloc, symbol, number)?;
+    run_told(alloc, &term, members)
 }
 
 /// The reply of a run that ended so.
@@ -166,184 +134,134 @@ fn error(alloc: Global, told: &str, id: &str) -> Result<String, AllocError> {
     )
 }
 
-#[test]
-fn runs_end_as_they_are_told(rt: HostRuntime) -> Result<(), Fail> {
-    let alloc = rt.alloc();
-    let widest = "170141183460469231731687303715884105727";
-    let aborted = r#""depth":0,"foreign-rule":"odd","reason":"aborted""#;
-    let rows = [
-        (
-            "Lblcount",
-            "+2",
-            "",
-            r#""depth":2,"reason":"stuck""#,
-            "Lblcount",
-            "0",
-        ),
-        (
-            "Lblcount",
-            "002",
-            "",
-            r#""depth":2,"reason":"stuck""#,
-            "Lblcount",
-            "0",
-        ),
-        (
-            "Lblpicked",
-            "+5",
-            "",
-            r#""depth":0,"reason":"stuck""#,
-            "Lblpicked",
-            "5",
-        ),
-        (
-            "Lblpick",
-            "9",
-            "",
-            r#""depth":1,"reason":"stuck""#,
-            "Lblpicked",
-            "1",
-        ),
-        (
-            "Lblpick",
-            "4",
-            "",
-            r#""depth":1,"reason":"stuck""#,
-            "Lblpicked",
-            "2",
-        ),
-        (
-            "Lblpick",
-            "0",
-            "",
-            r#""depth":1,"reason":"stuck""#,
-            "Lblpicked",
-            "3",
-        ),
-        (
-            "Lblcount",
-            "2",
-            r#","max-depth":0"#,
-            r#""depth":0,"reason":"depth-bound""#,
-            "Lblcount",
-            "2",
-        ),
-        (
-            "Lblcount",
-            "0",
-            r#","max-depth":0"#,
-            r#""depth":0,"reason":"depth-bound""#,
-            "Lblcount",
-            "0",
-        ),
-        (
-            "Lblcount",
-            "2",
-            r#","max-depth":1"#,
-            r#""depth":1,"reason":"depth-bound""#,
-            "Lblcount",
-            "1",
-        ),
-        (
-            "Lblcount",
-            "2",
-            r#","max-depth":3"#,
-            r#""depth":2,"reason":"stuck""#,
-            "Lblcount",
-            "0",
-        ),
-        (
-            "Lblcount",
-            "2",
-            r#","max-depth":null"#,
-            r#""depth":2,"reason":"stuck""#,
-            "Lblcount",
-            "0",
-        ),
-        (
-            "Lblcount",
-            "2",
-            r#","module":"COUNTING""#,
-            r#""depth":2,"reason":"stuck""#,
-            "Lblcount",
-            "0",
-        ),
-        ("Lblodd", "1", "", aborted, "Lblodd", "1"),
-        ("Lblodd", widest, "", aborted, "Lblodd", widest),
-    ];
-    for (symbol, text, members, told, end, last) in &rows {
-        let state = applied(alloc, *symbol, &number(alloc, *text)?)?;
-        let reached = applied(alloc, *end, &number(alloc, *last)?)?;
-        let answered = served(alloc, &request(alloc, &state, *members)?)?;
-        assert_eq!(rt; answered.status, 0);
-        assert_eq!(rt;
-            answered.out.bytes(),
-            result(alloc, *told, &reached)?.as_bytes()
-        );
-        assert_eq!(rt; answered.err.bytes().len(), 0);
-    }
-    Ok(())
+/// The reply of a run that ended so, at a symbol applied to a number.
+fn result_at(alloc: Global, told: &str, symbol: &str, number: &str) -> Result<String, AllocError> {
+    let term = applied(alloc, symbol, number)?;
+    result(alloc, told, &term)
 }
 
+const WIDEST: &str = "170141183460469231731687303715884105727";
+
+const ABORTED: &str = r#""depth":0,"foreign-rule":"odd","reason":"aborted""#;
+
+/// A symbol and the number that it is applied to, more members of the params, how the run ends, and where.
+static RUNS: [(&str, &str, &str, &str, &str, &str); 15] = [
+    (
+        "Lblcount",
+        "+2",
+        "",
+        r#""depth":2,"reason":"stuck""#,
+        "Lblcount",
+        "0",
+    ),
+    (
+        "Lblcount",
+        "002",
+        "",
+        r#""depth":2,"reason":"stuck""#,
+        "Lblcount",
+        "0",
+    ),
+    (
+        "Lblpicked",
+        "+5",
+        "",
+        r#""depth":0,"reason":"stuck""#,
+        "Lblpicked",
+        "5",
+    ),
+    (
+        "Lblpick",
+        "9",
+        "",
+        r#""depth":1,"reason":"stuck""#,
+        "Lblpicked",
+        "1",
+    ),
+    (
+        "Lblpick",
+        "4",
+        "",
+        r#""depth":1,"reason":"stuck""#,
+        "Lblpicked",
+        "2",
+    ),
+    (
+        "Lblpick",
+        "0",
+        "",
+        r#""depth":1,"reason":"stuck""#,
+        "Lblpicked",
+        "3",
+    ),
+    (
+        "Lblcount",
+        "2",
+        r#","max-depth":0"#,
+        r#""depth":0,"reason":"depth-bound""#,
+        "Lblcount",
+        "2",
+    ),
+    (
+        "Lblcount",
+        "0",
+        r#","max-depth":0"#,
+        r#""depth":0,"reason":"depth-bound""#,
+        "Lblcount",
+        "0",
+    ),
+    (
+        "Lblcount",
+        "2",
+        r#","max-depth":1"#,
+        r#""depth":1,"reason":"depth-bound""#,
+        "Lblcount",
+        "1",
+    ),
+    (
+        "Lblcount",
+        "2",
+        r#","max-depth":3"#,
+        r#""depth":2,"reason":"stuck""#,
+        "Lblcount",
+        "0",
+    ),
+    (
+        "Lblcount",
+        "2",
+        r#","max-depth":null"#,
+        r#""depth":2,"reason":"stuck""#,
+        "Lblcount",
+        "0",
+    ),
+    (
+        "Lblcount",
+        "2",
+        r#","module":"COUNTING""#,
+        r#""depth":2,"reason":"stuck""#,
+        "Lblcount",
+        "0",
+    ),
+    ("Lblodd", "1", "", ABORTED, "Lblodd", "1"),
+    ("Lblodd", WIDEST, "", ABORTED, "Lblodd", WIDEST),
+    (
+        "Lblcount",
+        "1",
+        r#","module":"BASE""#,
+        r#""depth":1,"reason":"stuck""#,
+        "Lblcount",
+        "0",
+    ),
+];
+
 #[test]
-fn other_inputs_have_their_replies(rt: HostRuntime) -> Result<(), Fail> {
-    let alloc = rt.alloc();
-    let one = number(alloc, "1")?;
-    let counted = applied(alloc, "Lblcount", &one)?;
-    let foreign = applied(alloc, "Lblcount", &applied(alloc, "Lblother", &one)?)?;
-    let parse = r#""code":-32700,"message":"Parse error""#;
-    let params = r#""code":-32602,"message":"Invalid params""#;
-    let t1 =
-        r#""code":2,"data":{"kind":"T1","name":"Lblother"},"message":"Could not verify pattern""#;
-    let t2 = r#""code":2,"data":{"kind":"T2"},"message":"Could not verify pattern""#;
-    let no_module = r#""code":3,"data":{"name":"NOPE"},"message":"Could not find module""#;
-    let get_model = r#"{"jsonrpc":"2.0","id":1,"method":"get-model","params":{}}"#;
-    let rows = [
-        (request(alloc, &foreign, "")?, error(alloc, t1, "1")?),
-        (
-            request(alloc, &foreign, r#","module":"NOPE""#)?,
-            error(alloc, no_module, "1")?,
-        ),
-        (
-            request(alloc, &counted, r#","module":"BASE""#)?,
-            result(
-                alloc,
-                r#""depth":1,"reason":"stuck""#,
-                &applied(alloc, "Lblcount", &number(alloc, "0")?)?,
-            )?,
-        ),
-        (
-            request(alloc, &counted, r#","terminal-rules":["dec"]"#)?,
-            error(alloc, t2, "1")?,
-        ),
-        (
-            request(alloc, &counted, r#","max-depth":-1"#)?,
-            error(alloc, params, "1")?,
-        ),
-        (
-            joined(alloc, &[get_model])?,
-            error(alloc, r#""code":-32601,"message":"Method not found""#, "1")?,
-        ),
-        (
-            joined(alloc, &["[]"])?,
-            error(
-                alloc,
-                r#""code":-32600,"message":"Invalid Request""#,
-                "null",
-            )?,
-        ),
-        (nested(alloc, 128)?, error(alloc, parse, "null")?),
-        (
-            joined(alloc, &[r#"{"jsonrpc":"2.0","method":"exec"#])?,
-            error(alloc, parse, "null")?,
-        ),
-        (joined(alloc, &[" \n"])?, String::new(alloc)),
-    ];
-    for (input, reply) in &rows {
-        let answered = served(alloc, input)?;
-        assert_eq!(rt; answered.status, 0);
-        assert_eq!(rt; answered.out.bytes(), reply.as_bytes());
-        assert_eq!(rt; answered.err.bytes().len(), 0);
+fn runs_end_as_they_are_told(rt: HostRuntime) -> Result<(), Fail> {
+    for (symbol, number, members, told, end, last) in &RUNS {
+        let wanted = result_at(rt.alloc(), told, end, last)?;
+        assert_eq!(rt;
+            run_of(rt.alloc(), symbol, number, members)?.as_slice(),
+            wanted.as_bytes()
+        );
     }
     Ok(())
 }
@@ -379,75 +297,61 @@ const VALID: &str =
 const NOT_VALID: &str = r#"{"id":1,"jsonrpc":"2.0","result":{"valid":false}}
 "#;
 
-/// Whether the program replies so to the question whether one term implies another.
-fn is_replied(
-    alloc: Global,
-    antecedent: &str,
-    consequent: &str,
-    members: &str,
-    reply: &str,
-) -> Result<bool, Fail> {
-    let asked = question(alloc, antecedent, consequent, members)?;
-    let answered = served(alloc, &asked)?;
-    if answered.status != 0 {
-        return Ok(false);
-    }
-    Ok(answered.out.bytes() == reply.as_bytes())
-}
+/// The count of one.
+const COUNTED: &str =
+    r#"{"args":[{"sort":{"args":[],"name":"SortInt","tag":"SortApp"},"tag":"DV","value":"1"}],"name":"Lblcount","sorts":[],"tag":"App"}"#;
+
+const T1: &str =
+    r#""code":2,"data":{"kind":"T1","name":"Lblother"},"message":"Could not verify pattern""#;
+
+const T2: &str = r#""code":2,"data":{"kind":"T2"},"message":"Could not verify pattern""#;
+
+const V2: &str =
+    r#""code":2,"data":{"kind":"V2","name":"Lblnope"},"message":"Could not verify pattern""#;
+
+const J1: &str =
+    r#""code":1,"data":{"kind":"J1","name":"Nope"},"message":"Could not parse pattern""#;
+
+const NO_MODULE: &str = r#""code":3,"data":{"name":"NOPE"},"message":"Could not find module""#;
+
+const PARAMS: &str = r#""code":-32602,"message":"Invalid params""#;
+
+/// A term, more members of the params, and the error that is told.
+static REFUSED: [(&str, &str, &str); 4] = [
+    (FOREIGN, "", T1),
+    (FOREIGN, r#","module":"NOPE""#, NO_MODULE),
+    (COUNTED, r#","terminal-rules":["dec"]"#, T2),
+    (COUNTED, r#","max-depth":-1"#, PARAMS),
+];
 
 #[test]
-fn a_term_implies_those_of_its_value(rt: HostRuntime) -> Result<(), Fail> {
-    let rows = [
-        (DONE, DONE, "", VALID),
-        (DONE, DONE, r#","module":"COUNTING""#, VALID),
-        (DONE, DONE, r#","module":"BASE""#, VALID),
-        (DONE, GOAL, "", NOT_VALID),
-        (COMPUTED, TWO, "", VALID),
-        (TWO, COMPUTED, "", VALID),
-        (TWO, THREE, "", NOT_VALID),
-    ];
-    for (antecedent, consequent, members, reply) in rows {
-        assert!(rt; is_replied(rt.alloc(), antecedent, consequent, members, reply)?);
-    }
-    Ok(())
-}
-
-#[test]
-fn faults_of_implications_are_told_in_order(rt: HostRuntime) -> Result<(), Fail> {
-    let t1 =
-        r#""code":2,"data":{"kind":"T1","name":"Lblother"},"message":"Could not verify pattern""#;
-    let t2 = r#""code":2,"data":{"kind":"T2"},"message":"Could not verify pattern""#;
-    let v2 =
-        r#""code":2,"data":{"kind":"V2","name":"Lblnope"},"message":"Could not verify pattern""#;
-    let j1 = r#""code":1,"data":{"kind":"J1","name":"Nope"},"message":"Could not parse pattern""#;
-    let rows = [
-        (DONE, NOPE, "", v2),
-        (NOPE, NO_TAG, "", j1),
-        (NO_TAG, NOPE, "", j1),
-        (DONE, FOREIGN, "", t1),
-        (OPEN, NOPE, "", v2),
-        (OPEN, DONE, "", t2),
-        (DONE, ONE, "", t2),
-        (
-            NOPE,
-            DONE,
-            r#","module":"NOPE""#,
-            r#""code":3,"data":{"name":"NOPE"},"message":"Could not find module""#,
-        ),
-        (NOPE, FOREIGN, "", v2),
-        (
-            DONE,
-            DONE,
-            r#","module":7"#,
-            r#""code":-32602,"message":"Invalid params""#,
-        ),
-    ];
-    for (antecedent, consequent, members, told) in rows {
+fn runs_are_refused(rt: HostRuntime) -> Result<(), Fail> {
+    for (term, members, told) in &REFUSED {
         let reply = error(rt.alloc(), told, "1")?;
-        assert!(rt; is_replied(rt.alloc(), antecedent, consequent, members, &reply)?);
+        assert_eq!(rt;
+            run_told(rt.alloc(), term, members)?.as_slice(),
+            reply.as_bytes()
+        );
     }
     Ok(())
 }
+
+const PARSE: &str =
+    "{\"error\":{\"code\":-32700,\"message\":\"Parse error\"},\"id\":null,\"jsonrpc\":\"2.0\"}\n";
+
+/// Other inputs, and their replies.
+static INPUTS: [(&str, &str); 4] = [
+    (
+        r#"{"jsonrpc":"2.0","id":1,"method":"get-model","params":{}}"#,
+        "{\"error\":{\"code\":-32601,\"message\":\"Method not found\"},\"id\":1,\"jsonrpc\":\"2.0\"}\n",
+    ),
+    (
+        "[]",
+        "{\"error\":{\"code\":-32600,\"message\":\"Invalid Request\"},\"id\":null,\"jsonrpc\":\"2.0\"}\n",
+    ),
+    (r#"{"jsonrpc":"2.0","method":"exec"#, PARSE),
+    (" \n", ""),
+];
 
 /// So many `[` and as many `]`.
 fn nested(alloc: Global, depth: usize) -> Result<String, AllocError> {
@@ -462,56 +366,168 @@ fn nested(alloc: Global, depth: usize) -> Result<String, AllocError> {
 }
 
 #[test]
+fn other_inputs_have_their_replies(rt: HostRuntime) -> Result<(), Fail> {
+    for (input, reply) in &INPUTS {
+        assert_eq!(rt; served(rt.alloc(), input)?.as_slice(), reply.as_bytes());
+    }
+    let deep = nested(rt.alloc(), 128)?;
+    assert_eq!(rt; served(rt.alloc(), &deep)?.as_slice(), PARSE.as_bytes());
+    Ok(())
+}
+
+/// The request whether one term implies another, with more members of its params.
+fn question(
+    alloc: Global,
+    antecedent: &str,
+    consequent: &str,
+    members: &str,
+) -> Result<String, AllocError> {
+    joined(
+        alloc,
+        &[
+            r#"{"jsonrpc":"2.0","id":1,"method":"implies","params":{"antecedent":{"format":"KORE","version":1,"term":"#,
+            antecedent,
+            r#"},"consequent":{"format":"KORE","version":1,"term":"#,
+            consequent,
+            "}",
+            members,
+            "}}",
+        ],
+    )
+}
+
+/// What is told to who asks whether one term implies another, with more members of the params.
+fn implied(
+    alloc: Global,
+    antecedent: &str,
+    consequent: &str,
+    members: &str,
+) -> Result<Vec<u8>, Fail> {
+    let asked = question(alloc, antecedent, consequent, members)?;
+    served(alloc, &asked)
+}
+
+/// Two terms, more members of the params, and the reply whether the first implies the second.
+static IMPLICATIONS: [(&str, &str, &str, &str); 7] = [
+    (DONE, DONE, "", VALID),
+    (DONE, DONE, r#","module":"COUNTING""#, VALID),
+    (DONE, DONE, r#","module":"BASE""#, VALID),
+    (DONE, GOAL, "", NOT_VALID),
+    (COMPUTED, TWO, "", VALID),
+    (TWO, COMPUTED, "", VALID),
+    (TWO, THREE, "", NOT_VALID),
+];
+
+#[test]
+fn a_term_implies_those_of_its_value(rt: HostRuntime) -> Result<(), Fail> {
+    for (antecedent, consequent, members, reply) in &IMPLICATIONS {
+        assert_eq!(rt;
+            implied(rt.alloc(), antecedent, consequent, members)?.as_slice(),
+            reply.as_bytes()
+        );
+    }
+    Ok(())
+}
+
+/// Two terms, more members of the params, and the error that is told.
+static FAULTY_IMPLICATIONS: [(&str, &str, &str, &str); 10] = [
+    (DONE, NOPE, "", V2),
+    (NOPE, NO_TAG, "", J1),
+    (NO_TAG, NOPE, "", J1),
+    (DONE, FOREIGN, "", T1),
+    (OPEN, NOPE, "", V2),
+    (OPEN, DONE, "", T2),
+    (DONE, ONE, "", T2),
+    (NOPE, DONE, r#","module":"NOPE""#, NO_MODULE),
+    (NOPE, FOREIGN, "", V2),
+    (DONE, DONE, r#","module":7"#, PARAMS),
+];
+
+#[test]
+fn faults_of_implications_are_told_in_order(rt: HostRuntime) -> Result<(), Fail> {
+    for (antecedent, consequent, members, told) in &FAULTY_IMPLICATIONS {
+        let reply = error(rt.alloc(), told, "1")?;
+        assert_eq!(rt;
+            implied(rt.alloc(), antecedent, consequent, members)?.as_slice(),
+            reply.as_bytes()
+        );
+    }
+    Ok(())
+}
+
+/// A command and its file, what the file `d.kore` has, and what is told.
+static ENDINGS: [(&str, &str, &str, &str); 10] = [
+    (
+        "stdio",
+        "x.kore",
+        "[]",
+        "status 5: kprove: no file x.kore\n",
+    ),
+    (
+        "stdio",
+        "d.kore",
+        "[] module M import NOPE [] endmodule []",
+        "status 4: kprove: d.kore: M1\n",
+    ),
+    (
+        "stdio",
+        "d.kore",
+        "[] module M import M [] endmodule []",
+        "status 4: kprove: d.kore: M2\n",
+    ),
+    (
+        "stdio",
+        "d.kore",
+        "[] module M sort S{} [] sort S{} [] endmodule []",
+        "status 4: kprove: d.kore: M3\n",
+    ),
+    (
+        "stdio",
+        "d.kore",
+        "[] module M sort S{} [] symbol a{}() : S{} [] symbol a{}() : S{} [] endmodule []",
+        "status 4: kprove: d.kore: M4\n",
+    ),
+    (
+        "stdio",
+        "d.kore",
+        "[] module M endmodule [] module M endmodule []",
+        "status 4: kprove: d.kore: M5\n",
+    ),
+    (
+        "stdio",
+        "d.kore",
+        "[] module M sort S{} [] symbol a{}() : S{} [constructor{}()] axiom{} \\rewrites{S{}}(a{}(), b{}()) [] endmodule []",
+        "status 4: kprove: d.kore: M6\n",
+    ),
+    (
+        "stdio",
+        "d.kore",
+        "[] module A endmodule []",
+        "status 4: kprove: d.kore: M8\n",
+    ),
+    (
+        "stdio",
+        "d.kore",
+        "[] modul",
+        "status 4: kprove: d.kore: text 2 at 3\n",
+    ),
+    ("prove", "d.kore", "[]", "status 3: kprove: usage\n"),
+];
+
+/// What a command of a file and the module M tells, over a definition.
+fn ending(alloc: Global, command: &str, name: &str, definition: &str) -> Result<Vec<u8>, Fail> {
+    let mut files = shelf(alloc, definition)?;
+    let words = spelled(alloc, &["kprove", command, name], &["--module", "M"])?;
+    ran(alloc, &words, &mut files, "")
+}
+
+#[test]
 fn other_endings_are_told(rt: HostRuntime) -> Result<(), Fail> {
-    let alloc = rt.alloc();
-    let importing = "[] module M import NOPE [] endmodule []";
-    let sorts = "[] module M sort S{} [] sort S{} [] endmodule []";
-    let symbols =
-        "[] module M sort S{} [] symbol a{}() : S{} [] symbol a{}() : S{} [] endmodule []";
-    let undeclared =
-        "[] module M sort S{} [] symbol a{}() : S{} [constructor{}()] axiom{} \\rewrites{S{}}(a{}(), b{}()) [] endmodule []";
-    let rows = [
-        ("stdio", "x.kore", "[]", 5, "kprove: no file x.kore\n"),
-        ("stdio", "d.kore", importing, 4, "kprove: d.kore: M1\n"),
-        (
-            "stdio",
-            "d.kore",
-            "[] module M import M [] endmodule []",
-            4,
-            "kprove: d.kore: M2\n",
-        ),
-        ("stdio", "d.kore", sorts, 4, "kprove: d.kore: M3\n"),
-        ("stdio", "d.kore", symbols, 4, "kprove: d.kore: M4\n"),
-        (
-            "stdio",
-            "d.kore",
-            "[] module M endmodule [] module M endmodule []",
-            4,
-            "kprove: d.kore: M5\n",
-        ),
-        ("stdio", "d.kore", undeclared, 4, "kprove: d.kore: M6\n"),
-        (
-            "stdio",
-            "d.kore",
-            "[] module A endmodule []",
-            4,
-            "kprove: d.kore: M8\n",
-        ),
-        (
-            "stdio",
-            "d.kore",
-            "[] modul",
-            4,
-            "kprove: d.kore: text 2 at 3\n",
-        ),
-        ("prove", "d.kore", "[]", 3, "kprove: usage\n"),
-    ];
-    for (command, name, definition, status, line) in &rows {
-        let words = ["kprove", *command, *name, "--module", "M"];
-        let answered = ran(alloc, &words, *definition, "")?;
-        assert_eq!(rt; answered.status, *status);
-        assert_eq!(rt; answered.out.bytes().len(), 0);
-        assert_eq!(rt; answered.err.bytes(), line.as_bytes());
+    for (command, name, definition, line) in &ENDINGS {
+        assert_eq!(rt;
+            ending(rt.alloc(), command, name, definition)?.as_slice(),
+            line.as_bytes()
+        );
     }
     Ok(())
 }

@@ -1,91 +1,112 @@
+use kp_json::pattern_of;
 use kp_kore::Pattern;
 use kp_replies::{
     AdditionFault, Failure, Method, ServerReply, SidesFault, added_text, executed_text,
     failure_text, is_rule_id, reply_of, simplified_text,
 };
-use kp_results::{Executed, Limit, Undecided, Weight};
+use kp_results::{Executed, Limit, NextState, Undecided, Weight};
 use kp_rpc::Id;
 use serde_json::Value;
 use std::alloc::Global;
 use std::test::Fail;
 
-/// The result of execute that a line tells.
-fn told(alloc: Global, line: &str) -> Result<Executed, Fail> {
-    match reply_of(alloc, Method::Execute, line.as_bytes())?.ok_or("no reply")? {
-        ServerReply::Executed(executed) => Ok(executed),
-        ServerReply::Implied(_)
-        | ServerReply::Simplified(_)
-        | ServerReply::Added(_)
-        | ServerReply::Failed { code: _ } => Err(Fail::from("another reply")),
+/// The line of a result.
+fn written(alloc: Global, executed: &Executed) -> Result<Vec<u8>, Fail> {
+    Ok(executed_text(alloc, &Id::Unsigned(1), executed)?.ok_or("no tree")?)
+}
+
+/// A result of execute is written again, a module's id and a code are told, of another reply its kind.
+fn reply_text(alloc: Global, reply: &ServerReply) -> Result<Vec<u8>, Fail> {
+    match reply {
+        ServerReply::Executed(executed) => written(alloc, executed),
+        ServerReply::Implied(_) => Ok(Vec::from_slice(alloc, b"implied")?),
+        ServerReply::Simplified(_) => Ok(Vec::from_slice(alloc, b"simplified")?),
+        ServerReply::Added(id) => Ok(Vec::from_slice(alloc, id.as_bytes())?),
+        ServerReply::Failed { code } => {
+            let text = format!(in alloc; "failed {code}")?;
+            Ok(Vec::from_slice(alloc, text.as_bytes())?)
+        }
     }
 }
 
-/// The line that is written of the result that a line tells.
-fn written_again(alloc: Global, line: &str) -> Result<Vec<u8>, Fail> {
-    let executed = told(alloc, line)?;
-    Ok(executed_text(alloc, &Id::Unsigned(1), &executed)?.ok_or("no tree")?)
+/// What a line tells who asked for this method.
+fn told(alloc: Global, method: Method, line: &str) -> Result<Vec<u8>, Fail> {
+    let reply = reply_of(alloc, method, line.as_bytes())?;
+    match &reply {
+        Some(reply) => reply_text(alloc, reply),
+        None => Ok(Vec::from_slice(alloc, b"none")?),
+    }
 }
 
-/// The pattern of a tree of Kore JSON.
-fn pattern(alloc: Global, tree: &str) -> Result<Pattern, Fail> {
-    let value = Value::from_slice(alloc, tree.as_bytes())?;
-    match kp_json::pattern_of(alloc, &value) {
-        Ok(pattern) => Ok(pattern),
-        Err(_) => Err(Fail::from("no pattern")),
+/// A run with no next state behind its cut point.
+const NO_NEXT_STATE: &str =
+    r#"{"id":1,"jsonrpc":"2.0","result":{"depth":2,"next-states":[],"reason":"cut-point-rule","rule":"TOYS.stop","state":{"term":{"format":"KORE","term":{"args":[],"name":"Lbldone","sorts":[],"tag":"App"},"version":1}}}}
+"#;
+
+/// A rule's id of two lines.
+const TWO_LINES: &str =
+    r#"{"id":1,"jsonrpc":"2.0","result":{"depth":0,"foreign-rule":"a\nb","reason":"aborted","state":{"term":{"format":"KORE","term":{"args":[],"name":"Lbldone","sorts":[],"tag":"App"},"version":1}}}}
+"#;
+
+/// What is asked for, a line, and what it tells.
+const TOLD: [(Method, &str, &str); 10] = [
+    (Method::Execute, BRANCHING, BRANCHING),
+    (Method::Execute, CUT_POINT, CUT_POINT),
+    (Method::Execute, TERMINAL, TERMINAL),
+    (Method::Execute, VACUOUS, VACUOUS),
+    (Method::Execute, ABORTED, ABORTED),
+    (Method::Execute, NO_NEXT_STATE, "none"),
+    (Method::Execute, TWO_LINES, "none"),
+    (Method::AddModule, ADDED, MODULE),
+    (Method::Simplify, SIMPLIFIED, "simplified"),
+    (Method::Implies, UNKNOWN, "failed 5"),
+];
+
+#[test]
+fn replies_are_told(rt: HostRuntime) -> Result<(), Fail> {
+    for (method, line, wanted) in TOLD {
+        assert_eq!(rt;
+            told(rt.alloc(), method, line)?.as_slice(),
+            wanted.as_bytes()
+        );
+    }
+    Ok(())
+}
+
+/// The id of the rule that leads to a state.
+fn rule_name(next: &NextState) -> &str {
+    match &next.rule {
+        Some(id) => id.as_str(),
+        None => "none",
+    }
+}
+
+/// The depth of a result, and the rules that lead to its next states.
+fn rules(alloc: Global, executed: &Executed) -> Result<String, Fail> {
+    let depth = executed.depth;
+    let mut text = format!(in alloc; "{depth}:")?;
+    for next in &executed.next_states {
+        text.push_str(" ")?;
+        text.push_str(rule_name(next))?;
+    }
+    Ok(text)
+}
+
+/// The depth and the rules that a reply to execute tells.
+fn rules_told(alloc: Global, line: &str) -> Result<String, Fail> {
+    let reply = reply_of(alloc, Method::Execute, line.as_bytes())?;
+    match &reply {
+        Some(ServerReply::Executed(executed)) => rules(alloc, executed),
+        Some(_) | None => Ok(String::from_str(alloc, "another reply")?),
     }
 }
 
 #[test]
 fn three_next_states_are_told(rt: HostRuntime) -> Result<(), Fail> {
-    let executed = told(rt.alloc(), BRANCHING)?;
-    assert_eq!(rt; executed.depth, 0);
-    assert_eq!(rt; executed.next_states.len(), 3);
-    assert!(rt; matches!(&executed.next_states[0].rule, Some(id) if id.as_str() == "TOYS.dec"));
-    assert!(rt; executed.next_states[2].rule.is_none());
-    Ok(())
-}
-
-#[test]
-fn three_next_states_are_written_as_they_are_read(rt: HostRuntime) -> Result<(), Fail> {
-    let line = written_again(rt.alloc(), BRANCHING)?;
-    assert_eq!(rt; line.as_slice(), BRANCHING.as_bytes());
-    Ok(())
-}
-
-#[test]
-fn a_cut_point_is_written_as_it_is_read(rt: HostRuntime) -> Result<(), Fail> {
-    let line = written_again(rt.alloc(), CUT_POINT)?;
-    assert_eq!(rt; line.as_slice(), CUT_POINT.as_bytes());
-    Ok(())
-}
-
-#[test]
-fn a_terminal_rule_is_written_as_it_is_read(rt: HostRuntime) -> Result<(), Fail> {
-    let line = written_again(rt.alloc(), TERMINAL)?;
-    assert_eq!(rt; line.as_slice(), TERMINAL.as_bytes());
-    Ok(())
-}
-
-#[test]
-fn a_vacuous_state_is_written_as_it_is_read(rt: HostRuntime) -> Result<(), Fail> {
-    let line = written_again(rt.alloc(), VACUOUS)?;
-    assert_eq!(rt; line.as_slice(), VACUOUS.as_bytes());
-    Ok(())
-}
-
-#[test]
-fn an_aborted_run_is_written_as_it_is_read(rt: HostRuntime) -> Result<(), Fail> {
-    let line = written_again(rt.alloc(), ABORTED)?;
-    assert_eq!(rt; line.as_slice(), ABORTED.as_bytes());
-    Ok(())
-}
-
-#[test]
-fn a_cut_point_has_one_next_state(rt: HostRuntime) -> Result<(), Fail> {
-    let line =
-        r#"{"id":1,"jsonrpc":"2.0","result":{"depth":2,"next-states":[],"reason":"cut-point-rule","rule":"TOYS.stop","state":{"term":{"format":"KORE","term":{"args":[],"name":"Lbldone","sorts":[],"tag":"App"},"version":1}}}}
-"#;
-    assert!(rt; reply_of(rt.alloc(), Method::Execute, line.as_bytes())?.is_none());
+    assert_eq!(rt;
+        rules_told(rt.alloc(), BRANCHING)?.as_str(),
+        "0: TOYS.dec TOYS.stop none"
+    );
     Ok(())
 }
 
@@ -98,139 +119,156 @@ fn a_rule_is_one_word(rt: HostRuntime) -> Result<(), Fail> {
     Ok(())
 }
 
-#[test]
-fn a_rule_of_two_lines_is_not_read(rt: HostRuntime) -> Result<(), Fail> {
-    let line =
-        r#"{"id":1,"jsonrpc":"2.0","result":{"depth":0,"foreign-rule":"a\nb","reason":"aborted","state":{"term":{"format":"KORE","term":{"args":[],"name":"Lbldone","sorts":[],"tag":"App"},"version":1}}}}
-"#;
-    assert!(rt; reply_of(rt.alloc(), Method::Execute, line.as_bytes())?.is_none());
-    Ok(())
+/// The pattern of a tree of Kore JSON.
+fn pattern(alloc: Global, tree: &str) -> Result<Pattern, Fail> {
+    let value = Value::from_slice(alloc, tree.as_bytes())?;
+    match pattern_of(alloc, &value) {
+        Ok(pattern) => Ok(pattern),
+        Err(_) => Err(Fail::from("no pattern")),
+    }
 }
 
-#[test]
-fn a_predicate_over_a_weight_is_told(rt: HostRuntime) -> Result<(), Fail> {
-    let alloc = rt.alloc();
+/// The line of a failure.
+fn failure_line(alloc: Global, failure: &Failure) -> Result<Vec<u8>, Fail> {
+    Ok(failure_text(alloc, &Id::Unsigned(1), failure)?.ok_or("no tree")?)
+}
+
+/// The line that a predicate wasn't decided, maybe since its bits are more than these.
+fn unknown(alloc: Global, bits: Option<u64>) -> Result<Vec<u8>, Fail> {
     let predicate = pattern(alloc, PREDICATE)?;
-    let limit = Some(Limit::Weighed {
-        weight: Weight::Bits,
-        number: 130,
-    });
-    let failure = Failure::Undecided(Undecided::Predicate { predicate, limit });
-    let line = failure_text(alloc, &Id::Unsigned(1), &failure)?.ok_or("no tree")?;
-    assert_eq!(rt; line.as_slice(), UNKNOWN.as_bytes());
-    Ok(())
-}
-
-#[test]
-fn a_predicate_is_told(rt: HostRuntime) -> Result<(), Fail> {
-    let alloc = rt.alloc();
-    let predicate = pattern(alloc, PREDICATE)?;
-    let failure = Failure::Undecided(Undecided::Predicate {
-        predicate,
-        limit: None,
-    });
-    let line = failure_text(alloc, &Id::Unsigned(1), &failure)?.ok_or("no tree")?;
-    assert_eq!(rt; line.as_slice(), UNKNOWN_ALONE.as_bytes());
-    Ok(())
-}
-
-#[test]
-fn a_wide_call_is_told(rt: HostRuntime) -> Result<(), Fail> {
-    let alloc = rt.alloc();
-    let limit = Limit::Number {
-        first: String::from_str(alloc, "170141183460469231731687303715884105727")?,
-        second: String::from_str(alloc, "1")?,
-        symbol: String::from_str(alloc, "Lbladd")?,
+    let limit = match bits {
+        Some(number) => Some(Limit::Weighed {
+            weight: Weight::Bits,
+            number,
+        }),
+        None => None,
     };
-    let failure = Failure::Undecided(Undecided::Limit { limit });
-    let line = failure_text(alloc, &Id::Unsigned(1), &failure)?.ok_or("no tree")?;
-    assert_eq!(rt;
-        line.as_slice(),
-        b"{\"error\":{\"code\":5,\"data\":{\"limit\":{\"first\":\"170141183460469231731687303715884105727\",\"name\":\"number\",\"second\":\"1\",\"symbol\":\"Lbladd\"}},\"message\":\"Undecided\"},\"id\":1,\"jsonrpc\":\"2.0\"}\n".as_slice()
-    );
-    Ok(())
-}
-
-#[test]
-fn a_variable_in_no_term_is_told(rt: HostRuntime) -> Result<(), Fail> {
-    let alloc = rt.alloc();
-    let name = String::from_str(alloc, "Y")?;
-    let failure = Failure::BadSides(SidesFault::NotInATerm { name });
-    let line = failure_text(alloc, &Id::Unsigned(1), &failure)?.ok_or("no tree")?;
-    assert_eq!(rt;
-        line.as_slice(),
-        b"{\"error\":{\"code\":4,\"data\":{\"kind\":\"I1\",\"name\":\"Y\"},\"message\":\"Implication check error\"},\"id\":1,\"jsonrpc\":\"2.0\"}\n".as_slice()
-    );
-    Ok(())
-}
-
-#[test]
-fn a_sentence_of_another_kind_is_told(rt: HostRuntime) -> Result<(), Fail> {
-    let alloc = rt.alloc();
-    let failure = Failure::BadModule(AdditionFault::BadSentence { number: 2 });
-    let line = failure_text(alloc, &Id::Unsigned(1), &failure)?.ok_or("no tree")?;
-    assert_eq!(rt;
-        line.as_slice(),
-        b"{\"error\":{\"code\":8,\"data\":{\"kind\":\"M7\",\"sentence\":2},\"message\":\"Invalid module\"},\"id\":1,\"jsonrpc\":\"2.0\"}\n".as_slice()
-    );
-    Ok(())
-}
-
-#[test]
-fn a_bound_name_is_told(rt: HostRuntime) -> Result<(), Fail> {
-    let alloc = rt.alloc();
-    let name = String::from_str(alloc, "EXTRA")?;
-    let failure = Failure::Duplicate { entry: 1, name };
-    let line = failure_text(alloc, &Id::Unsigned(1), &failure)?.ok_or("no tree")?;
-    assert_eq!(rt;
-        line.as_slice(),
-        b"{\"error\":{\"code\":9,\"data\":{\"entry\":1,\"name\":\"EXTRA\"},\"message\":\"Duplicate module\"},\"id\":1,\"jsonrpc\":\"2.0\"}\n".as_slice()
-    );
-    Ok(())
-}
-
-#[test]
-fn an_added_module_is_told(rt: HostRuntime) -> Result<(), Fail> {
-    let alloc = rt.alloc();
-    let line = added_text(
+    failure_line(
         alloc,
-        &Id::Unsigned(1),
-        "mba7816bf8f01cfea414140de5dae2223b00361a396177a9cb410ff61f20015ad",
-    )?;
-    assert_eq!(rt;
-        line.as_slice(),
-        b"{\"id\":1,\"jsonrpc\":\"2.0\",\"result\":{\"module\":\"mba7816bf8f01cfea414140de5dae2223b00361a396177a9cb410ff61f20015ad\"}}\n".as_slice()
-    );
-    let told = reply_of(alloc, Method::AddModule, line.as_slice())?;
-    assert!(rt;
-        matches!(&told, Some(ServerReply::Added(id)) if id.as_str() == "mba7816bf8f01cfea414140de5dae2223b00361a396177a9cb410ff61f20015ad")
-    );
-    Ok(())
+        &Failure::Undecided(Undecided::Predicate { predicate, limit }),
+    )
 }
 
-#[test]
-fn an_id_of_another_form_is_not_read(rt: HostRuntime) -> Result<(), Fail> {
-    let alloc = rt.alloc();
+/// The line that a sum is wider than 128 bits.
+fn wide_sum(alloc: Global) -> Result<Vec<u8>, Fail> {
+    let first = String::from_str(alloc, "170141183460469231731687303715884105727")?;
+    let second = String::from_str(alloc, "1")?;
+    let symbol = String::from_str(alloc, "Lbladd")?;
+    let limit = Limit::Number {
+        first,
+        second,
+        symbol,
+    };
+    failure_line(alloc, &Failure::Undecided(Undecided::Limit { limit }))
+}
+
+/// The line that a variable stands in no term.
+fn in_no_term(alloc: Global) -> Result<Vec<u8>, Fail> {
+    let name = String::from_str(alloc, "Y")?;
+    failure_line(alloc, &Failure::BadSides(SidesFault::NotInATerm { name }))
+}
+
+/// The line that a sentence is of another kind.
+fn other_sentence(alloc: Global) -> Result<Vec<u8>, Fail> {
+    failure_line(
+        alloc,
+        &Failure::BadModule(AdditionFault::BadSentence { number: 2 }),
+    )
+}
+
+/// The line that a name is bound already.
+fn bound_name(alloc: Global) -> Result<Vec<u8>, Fail> {
+    let name = String::from_str(alloc, "EXTRA")?;
+    failure_line(alloc, &Failure::Duplicate { entry: 1, name })
+}
+
+/// The id of a module that was added.
+const MODULE: &str = "mba7816bf8f01cfea414140de5dae2223b00361a396177a9cb410ff61f20015ad";
+
+/// The reply that this module was added.
+const ADDED: &str =
+    r#"{"id":1,"jsonrpc":"2.0","result":{"module":"mba7816bf8f01cfea414140de5dae2223b00361a396177a9cb410ff61f20015ad"}}
+"#;
+
+/// Whether what is written of an id that has another form isn't read.
+fn another_id_is_not_read(alloc: Global) -> Result<bool, Fail> {
     let line = added_text(alloc, &Id::Unsigned(1), "mba78")?;
-    assert!(rt; reply_of(alloc, Method::AddModule, line.as_slice())?.is_none());
-    Ok(())
+    let reply = reply_of(alloc, Method::AddModule, &line)?;
+    Ok(reply.is_none())
 }
 
 #[test]
-fn a_simplified_state_is_told(rt: HostRuntime) -> Result<(), Fail> {
-    let alloc = rt.alloc();
+fn an_added_module_has_an_id(rt: HostRuntime) -> Result<(), Fail> {
+    assert!(rt; another_id_is_not_read(rt.alloc())?);
+    Ok(())
+}
+
+/// The line of a state that is simplified.
+fn simplified(alloc: Global) -> Result<Vec<u8>, Fail> {
     let state = pattern(alloc, PREDICATE)?;
-    let line = simplified_text(alloc, &Id::Unsigned(1), &state)?.ok_or("no tree")?;
-    assert_eq!(rt; line.as_slice(), SIMPLIFIED.as_bytes());
-    let told = reply_of(alloc, Method::Simplify, line.as_slice())?;
-    assert!(rt; matches!(told, Some(ServerReply::Simplified(_))));
-    Ok(())
+    Ok(simplified_text(alloc, &Id::Unsigned(1), &state)?.ok_or("no tree")?)
 }
 
+/// A line that is written.
+#[derive(Clone, Copy)]
+enum Line {
+    Weighed,
+    Unknown,
+    WideSum,
+    InNoTerm,
+    OtherSentence,
+    BoundName,
+    Added,
+    Simplified,
+}
+
+/// The bytes of a line.
+fn bytes_of(alloc: Global, line: Line) -> Result<Vec<u8>, Fail> {
+    match line {
+        Line::Weighed => unknown(alloc, Some(130)),
+        Line::Unknown => unknown(alloc, None),
+        Line::WideSum => wide_sum(alloc),
+        Line::InNoTerm => in_no_term(alloc),
+        Line::OtherSentence => other_sentence(alloc),
+        Line::BoundName => bound_name(alloc),
+        Line::Added => Ok(added_text(alloc, &Id::Unsigned(1), MODULE)?),
+        Line::Simplified => simplified(alloc),
+    }
+}
+
+/// Failures and results, and their lines.
+const LINES: [(Line, &str); 8] = [
+    (Line::Weighed, UNKNOWN),
+    (Line::Unknown, UNKNOWN_ALONE),
+    (
+        Line::WideSum,
+        "{\"error\":{\"code\":5,\"data\":{\"limit\":{\"first\":\"170141183460469231731687303715884105727\",\"name\":\"number\",\"second\":\"1\",\"symbol\":\"Lbladd\"}},\"message\":\"Undecided\"},\"id\":1,\"jsonrpc\":\"2.0\"}\n",
+    ),
+    (
+        Line::InNoTerm,
+        "{\"error\":{\"code\":4,\"data\":{\"kind\":\"I1\",\"name\":\"Y\"},\"message\":\"Implication check error\"},\"id\":1,\"jsonrpc\":\"2.0\"}\n",
+    ),
+    (
+        Line::OtherSentence,
+        "{\"error\":{\"code\":8,\"data\":{\"kind\":\"M7\",\"sentence\":2},\"message\":\"Invalid module\"},\"id\":1,\"jsonrpc\":\"2.0\"}\n",
+    ),
+    (
+        Line::BoundName,
+        "{\"error\":{\"code\":9,\"data\":{\"entry\":1,\"name\":\"EXTRA\"},\"message\":\"Duplicate module\"},\"id\":1,\"jsonrpc\":\"2.0\"}\n",
+    ),
+    (Line::Added, ADDED),
+    (Line::Simplified, SIMPLIFIED),
+];
+
 #[test]
-fn a_failure_tells_its_code(rt: HostRuntime) -> Result<(), Fail> {
-    let told = reply_of(rt.alloc(), Method::Implies, UNKNOWN.as_bytes())?;
-    assert!(rt; matches!(told, Some(ServerReply::Failed { code: 5 })));
+fn failures_and_results_are_written(rt: HostRuntime) -> Result<(), Fail> {
+    for (which, wanted) in LINES {
+        assert_eq!(rt;
+            bytes_of(rt.alloc(), which)?.as_slice(),
+            wanted.as_bytes(),
+            "{wanted}"
+        );
+    }
     Ok(())
 }
 

@@ -1,29 +1,33 @@
 use kp_frames::Cutter;
 use kp_requests::{Asked, Call, Parsed, Reading, Request, request_of};
 use kp_rpc::{Id, Refusal, StateFault, fault_text, refusal_text};
-use std::alloc::Global;
-use std::test::Fail;
+use std::alloc::{AllocError, Global};
 
 /// The most bytes of a frame.
 const LIMIT: usize = 4_194_304;
 
 /// What stands for the reply to a request that was read whole.
-pub const READ: &[u8] = b"read\n";
+const READ: &str = "read\n";
 
 /// The first example's request.
-pub const FIRST: &[u8] =
-    br#"{"jsonrpc":"2.0","id":1,"method":"execute","params":{"state":{"format":"KORE","version":1,"term":{"tag":"App","name":"Lblcount","sorts":[],"args":[{"tag":"DV","sort":{"tag":"SortApp","name":"SortInt","args":[]},"value":"2"}]}}}}"#;
+pub const FIRST: &str =
+    r#"{"jsonrpc":"2.0","id":1,"method":"execute","params":{"state":{"format":"KORE","version":1,"term":{"tag":"App","name":"Lblcount","sorts":[],"args":[{"tag":"DV","sort":{"tag":"SortApp","name":"SortInt","args":[]},"value":"2"}]}}}}"#;
+
+/// What stands for the reply to a request that was read.
+fn read_line(alloc: Global) -> Result<Vec<u8>, AllocError> {
+    Ok(Vec::from_slice(alloc, READ.as_bytes())?)
+}
 
 /// The reply to a request of one state.
-fn of_state(alloc: Global, id: &Id, state: Reading) -> Result<Vec<u8>, Fail> {
+fn of_state(alloc: Global, id: &Id, state: Reading) -> Result<Vec<u8>, AllocError> {
     match state {
-        Reading::Pattern(_) => Ok(Vec::from_slice(alloc, READ)?),
-        Reading::Fault(fault) => Ok(fault_text(alloc, id, &StateFault::Json(fault))?),
+        Reading::Pattern(_) => read_line(alloc),
+        Reading::Fault(fault) => fault_text(alloc, id, &StateFault::Json(fault)),
     }
 }
 
 /// The reply to a request.
-fn of_request(alloc: Global, id: &Id, request: Request) -> Result<Vec<u8>, Fail> {
+fn of_request(alloc: Global, id: &Id, request: Request) -> Result<Vec<u8>, AllocError> {
     match request {
         Request::Execute { state, options: _ } => of_state(alloc, id, state),
         Request::Implies {
@@ -38,20 +42,20 @@ fn of_request(alloc: Global, id: &Id, request: Request) -> Result<Vec<u8>, Fail>
         Request::AddModule {
             text: _,
             name_as_id: _,
-        } => Ok(Vec::from_slice(alloc, READ)?),
+        } => read_line(alloc),
     }
 }
 
 /// The reply to what is asked.
-fn of_asked(alloc: Global, id: &Id, asked: Asked) -> Result<Vec<u8>, Fail> {
+fn of_asked(alloc: Global, id: &Id, asked: Asked) -> Result<Vec<u8>, AllocError> {
     match asked {
         Asked::Request(request) => of_request(alloc, id, request),
-        Asked::Refused(refusal) => Ok(refusal_text(alloc, id, refusal)?),
+        Asked::Refused(refusal) => refusal_text(alloc, id, refusal),
     }
 }
 
 /// The reply to a call, none for a notification.
-fn of_call(alloc: Global, call: Call) -> Result<Option<Vec<u8>>, Fail> {
+fn of_call(alloc: Global, call: Call) -> Result<Option<Vec<u8>>, AllocError> {
     let Call { id, asked } = call;
     match id {
         Some(id) => Ok(Some(of_asked(alloc, &id, asked)?)),
@@ -60,7 +64,7 @@ fn of_call(alloc: Global, call: Call) -> Result<Option<Vec<u8>>, Fail> {
 }
 
 /// Adds the reply to a call.
-fn add_call(alloc: Global, call: Call, out: &mut Vec<u8>) -> Result<(), Fail> {
+fn add_call(alloc: Global, call: Call, out: &mut Vec<u8>) -> Result<(), AllocError> {
     match of_call(alloc, call)? {
         Some(line) => out.extend_from_slice(&line)?,
         None => {}
@@ -69,7 +73,7 @@ fn add_call(alloc: Global, call: Call, out: &mut Vec<u8>) -> Result<(), Fail> {
 }
 
 /// Adds the replies to the calls of a batch, between lines of brackets.
-fn add_batch(alloc: Global, calls: Vec<Call>, out: &mut Vec<u8>) -> Result<(), Fail> {
+fn add_batch(alloc: Global, calls: Vec<Call>, out: &mut Vec<u8>) -> Result<(), AllocError> {
     out.extend_from_slice(b"[\n")?;
     for call in calls {
         add_call(alloc, call, out)?;
@@ -78,7 +82,7 @@ fn add_batch(alloc: Global, calls: Vec<Call>, out: &mut Vec<u8>) -> Result<(), F
 }
 
 /// Adds the reply to a frame.
-pub fn add_frame(alloc: Global, frame: &[u8], out: &mut Vec<u8>) -> Result<(), Fail> {
+pub fn add_frame(alloc: Global, frame: &[u8], out: &mut Vec<u8>) -> Result<(), AllocError> {
     match request_of(alloc, frame)? {
         Parsed::Single(call) => add_call(alloc, call, out),
         Parsed::Batch(calls) => add_batch(alloc, calls, out),
@@ -90,7 +94,12 @@ pub fn add_frame(alloc: Global, frame: &[u8], out: &mut Vec<u8>) -> Result<(), F
 }
 
 /// Feeds a piece, and adds the replies to the frames that it ends.
-fn feed(alloc: Global, cutter: &mut Cutter, piece: &[u8], out: &mut Vec<u8>) -> Result<(), Fail> {
+fn feed(
+    alloc: Global,
+    cutter: &mut Cutter,
+    piece: &[u8],
+    out: &mut Vec<u8>,
+) -> Result<(), AllocError> {
     for frame in cutter.feed(alloc, piece)? {
         add_frame(alloc, &frame, out)?;
     }
@@ -98,7 +107,7 @@ fn feed(alloc: Global, cutter: &mut Cutter, piece: &[u8], out: &mut Vec<u8>) -> 
 }
 
 /// Adds the reply to what is left at the end of a stream.
-fn finish(alloc: Global, cutter: Cutter, out: &mut Vec<u8>) -> Result<(), Fail> {
+fn finish(alloc: Global, cutter: Cutter, out: &mut Vec<u8>) -> Result<(), AllocError> {
     let rest = cutter.finish();
     if rest.is_empty() {
         return Ok(());
@@ -108,7 +117,7 @@ fn finish(alloc: Global, cutter: Cutter, out: &mut Vec<u8>) -> Result<(), Fail> 
 }
 
 /// The replies to a stream that comes in two pieces.
-pub fn in_two(alloc: Global, first: &[u8], second: &[u8]) -> Result<Vec<u8>, Fail> {
+pub fn in_two(alloc: Global, first: &[u8], second: &[u8]) -> Result<Vec<u8>, AllocError> {
     let mut out = Vec::new(alloc);
     let mut cutter = Cutter::new(alloc, LIMIT);
     feed(alloc, &mut cutter, first, &mut out)?;
@@ -117,15 +126,8 @@ pub fn in_two(alloc: Global, first: &[u8], second: &[u8]) -> Result<Vec<u8>, Fai
     Ok(out)
 }
 
-/// One text behind another.
-fn joined(alloc: Global, first: &[u8], second: &[u8]) -> Result<Vec<u8>, Fail> {
-    let mut text = Vec::from_slice(alloc, first)?;
-    text.extend_from_slice(second)?;
-    Ok(text)
-}
-
 /// Whether a stream has these replies, however it is cut in two.
-fn are_replies(alloc: Global, stream: &[u8], replies: &[u8]) -> Result<bool, Fail> {
+fn are_replies(alloc: Global, stream: &[u8], replies: &[u8]) -> Result<bool, AllocError> {
     for at in 0..=stream.len() {
         let out = in_two(alloc, &stream[..at], &stream[at..])?;
         if out.as_slice() != replies {
@@ -135,9 +137,29 @@ fn are_replies(alloc: Global, stream: &[u8], replies: &[u8]) -> Result<bool, Fai
     Ok(true)
 }
 
+/// A text and another behind it.
+fn joined(alloc: Global, first: &[u8], second: &str) -> Result<Vec<u8>, AllocError> {
+    let mut text = Vec::from_slice(alloc, first)?;
+    text.extend_from_slice(second.as_bytes())?;
+    Ok(text)
+}
+
 /// Whether a frame has this reply, and the first example's request behind it is read, cut after each byte.
-pub fn is_row(alloc: Global, frame: &[u8], reply: &[u8]) -> Result<bool, Fail> {
+pub fn is_row(alloc: Global, frame: &[u8], reply: &str) -> Result<bool, AllocError> {
     let stream = joined(alloc, frame, FIRST)?;
-    let replies = joined(alloc, reply, READ)?;
+    let replies = joined(alloc, reply.as_bytes(), READ)?;
     are_replies(alloc, &stream, &replies)
+}
+
+/// The first frame of which this doesn't hold.
+pub fn failing<'a>(
+    alloc: Global,
+    rows: &'a [(&'a str, &'a str)],
+) -> Result<Option<&'a str>, AllocError> {
+    for (frame, reply) in rows {
+        if !is_row(alloc, frame.as_bytes(), reply)? {
+            return Ok(Some(*frame));
+        }
+    }
+    Ok(None)
 }

@@ -1,10 +1,8 @@
 // Definitions in which a hook, or `inj`, isn't over the sorts that it is read over: its symbol is foreign, and rules
 // without it run.
-use crate::stepping::are_told;
-use std::test::Fail;
 
 /// A constructor makes a value of the whole-number sort: no hook over it is read.
-const NUMBERS: &str = r#"[]
+pub const NUMBERS: &str = r#"[]
 module NUMBERS
   hooked-sort SortBool{} [hook{}("BOOL.Bool")]
   hooked-sort SortInt{} [hook{}("INT.Int")]
@@ -24,7 +22,7 @@ module NUMBERS
 endmodule []
 "#;
 
-const NUMBER_ROWS: [(&str, &[&str], &str); 6] = [
+pub const NUMBER_ROWS: [(&str, &[&str], &str); 6] = [
     (
         r#"Lblheld{}(\dv{SortInt{}}("2"))"#,
         &[r#"Lblcount{}(\dv{SortInt{}}("2"))"#],
@@ -50,7 +48,7 @@ const NUMBER_ROWS: [(&str, &[&str], &str); 6] = [
 ];
 
 /// A sort with a constructor lies below the truth sort: no hook over that is read, and those over whole numbers are.
-const TRUTHS: &str = r#"[]
+pub const TRUTHS: &str = r#"[]
 module TRUTHS
   hooked-sort SortBool{} [hook{}("BOOL.Bool")]
   hooked-sort SortInt{} [hook{}("INT.Int")]
@@ -71,7 +69,7 @@ module TRUTHS
 endmodule []
 "#;
 
-const TRUTH_ROWS: [(&str, &[&str], &str); 3] = [
+pub const TRUTH_ROWS: [(&str, &[&str], &str); 3] = [
     (
         r#"Lblcount{}(\dv{SortInt{}}("2"))"#,
         &[r#"Lblcount{}(\dv{SortInt{}}("3"))"#],
@@ -86,7 +84,7 @@ const TRUTH_ROWS: [(&str, &[&str], &str); 3] = [
 ];
 
 /// `inj` takes two arguments: it isn't the identity on values.
-const INJECTIONS: &str = r#"[]
+pub const INJECTIONS: &str = r#"[]
 module INJECTIONS
   hooked-sort SortInt{} [hook{}("INT.Int")]
   sort SortE{} []
@@ -101,7 +99,7 @@ module INJECTIONS
 endmodule []
 "#;
 
-const INJECTION_ROWS: [(&str, &[&str], &str); 3] = [
+pub const INJECTION_ROWS: [(&str, &[&str], &str); 3] = [
     (r#"Lblcount{}(\dv{SortInt{}}("2"))"#, &[], "hold"),
     (
         r#"Lblheld{}(inj{SortInt{}, SortE{}}(\dv{SortInt{}}("2"), \dv{SortInt{}}("2")))"#,
@@ -110,21 +108,3 @@ const INJECTION_ROWS: [(&str, &[&str], &str); 3] = [
     ),
     (r#"Lbldone{}()"#, &[], ""),
 ];
-
-#[test]
-fn no_hook_is_read_over_numbers_with_a_constructor(rt: HostRuntime) -> Result<(), Fail> {
-    assert!(rt; are_told(rt.alloc(), NUMBERS, "NUMBERS", &NUMBER_ROWS)?);
-    Ok(())
-}
-
-#[test]
-fn no_hook_is_read_over_truth_values_above_other_values(rt: HostRuntime) -> Result<(), Fail> {
-    assert!(rt; are_told(rt.alloc(), TRUTHS, "TRUTHS", &TRUTH_ROWS)?);
-    Ok(())
-}
-
-#[test]
-fn an_inj_of_two_arguments_is_foreign(rt: HostRuntime) -> Result<(), Fail> {
-    assert!(rt; are_told(rt.alloc(), INJECTIONS, "INJECTIONS", &INJECTION_ROWS)?);
-    Ok(())
-}

@@ -1,6 +1,6 @@
-use crate::texts::{axiom, pattern, signature, value};
+use crate::texts::{module, pattern, signature, sort, value};
 use kp_ground::Value;
-use kp_kore::{Pattern, Sort};
+use kp_kore::{AxiomSentence, Module, Sentence};
 use kp_rule_reading::{RuleError, label_of, read_rule};
 use kp_rules::RuleBody;
 use kp_rules::skeleton::skeleton_of_left;
@@ -56,162 +56,186 @@ const BOTH: &str = r#"module BOTH
 endmodule []
 "#;
 
-/// The priority number and the body of the rule of a module's text.
-fn body(alloc: Global, signature: &Signature, text: &str) -> Result<(u32, RuleBody), Fail> {
-    let index = SortIndex::new(alloc, signature)?;
-    let axiom = axiom(alloc, text)?;
-    Ok(read_rule(alloc, signature, &index, &axiom)?)
-}
-
-/// Whether a body rewrites a value, or, where it is foreign, may be a rule for it.
-fn is_for(
+/// A rule's priority and whether it rewrites a value; of a foreign one whether it may be a rule for it.
+fn body_text(
     alloc: Global,
     signature: &Signature,
+    priority: u32,
     body: &RuleBody,
     value: &Value,
-) -> Result<bool, Fail> {
+) -> Result<String, Fail> {
     match body {
-        RuleBody::Rewrite(rule) => Ok(rule.fires(alloc, signature, value)?.is_some()),
-        RuleBody::Foreign(skeleton) => Ok(skeleton.may_be(alloc, signature, value)?),
+        RuleBody::Rewrite(rule) => {
+            let fires = rule.fires(alloc, signature, value)?.is_some();
+            Ok(format!(in alloc; "priority {priority}, fires: {fires}")?)
+        }
+        RuleBody::Foreign(skeleton) => {
+            let may_be = skeleton.may_be(alloc, signature, value)?;
+            Ok(format!(in alloc; "foreign, may be: {may_be}")?)
+        }
     }
 }
 
-/// The same of the text of a rule.
-fn is_rule_for(
+/// The same of a rule that is read, or that it is refused.
+fn rule_text(
     alloc: Global,
     signature: &Signature,
-    rule: &str,
+    axiom: &AxiomSentence,
     value: &Value,
-) -> Result<bool, Fail> {
-    let (_, body) = body(alloc, signature, rule)?;
-    is_for(alloc, signature, &body, value)
-}
-
-/// The same of the text of a value, too.
-fn fires_over(alloc: Global, signature: &Signature, rule: &str, text: &str) -> Result<bool, Fail> {
-    let value = value(alloc, signature, text)?;
-    is_rule_for(alloc, signature, rule, &value)
-}
-
-fn fires(alloc: Global, rule: &str, text: &str) -> Result<bool, Fail> {
-    let signature = signature(alloc, SMALL)?;
-    fires_over(alloc, &signature, rule, text)
-}
-
-/// The priority number of a rule's text that is read, None where it is foreign.
-fn priority_over(alloc: Global, signature: &Signature, text: &str) -> Result<Option<u32>, Fail> {
-    let (priority, body) = body(alloc, signature, text)?;
-    match body {
-        RuleBody::Rewrite(_) => Ok(Some(priority)),
-        RuleBody::Foreign(_) => Ok(None),
-    }
-}
-
-fn read_priority(alloc: Global, text: &str) -> Result<Option<u32>, Fail> {
-    let signature = signature(alloc, SMALL)?;
-    priority_over(alloc, &signature, text)
-}
-
-/// Whether a rule's text is refused.
-fn is_faulty_over(alloc: Global, signature: &Signature, text: &str) -> Result<bool, Fail> {
+) -> Result<String, Fail> {
     let index = SortIndex::new(alloc, signature)?;
-    let axiom = axiom(alloc, text)?;
-    match read_rule(alloc, signature, &index, &axiom) {
-        Ok(_) => Ok(false),
-        Err(RuleError::Fault) => Ok(true),
+    match read_rule(alloc, signature, &index, axiom) {
+        Ok((priority, body)) => body_text(alloc, signature, priority, &body, value),
+        Err(RuleError::Fault) => Ok(String::from_str(alloc, "refused")?),
         Err(RuleError::Memory) => Err(Fail::from("memory")),
     }
 }
 
-fn is_faulty(alloc: Global, text: &str) -> Result<bool, Fail> {
-    let signature = signature(alloc, SMALL)?;
-    is_faulty_over(alloc, &signature, text)
-}
-
-#[test]
-fn a_rule_that_applies_an_undeclared_name_is_refused(rt: HostRuntime) -> Result<(), Fail> {
-    assert_eq!(rt; is_faulty(rt.alloc(), UNDECLARED)?, true);
-    assert_eq!(rt; is_faulty(rt.alloc(), FOREIGN)?, false);
-    assert_eq!(rt; is_faulty(rt.alloc(), BOTH)?, false);
-    Ok(())
-}
-
-#[test]
-fn a_rule_has_its_label_and_priority(rt: HostRuntime) -> Result<(), Fail> {
-    let axiom = axiom(rt.alloc(), PLAIN)?;
-    assert_eq!(rt; label_of(&axiom), Some("SMALL.rule"));
-    assert_eq!(rt; read_priority(rt.alloc(), PLAIN)?, Some(40));
-    assert_eq!(rt; read_priority(rt.alloc(), FOREIGN)?, None);
-    Ok(())
-}
-
-/// With a function of no meaning on the right, two equal numbers may be rewritten, whatever they are.
-#[test]
-fn a_rule_fires_where_its_condition_holds(rt: HostRuntime) -> Result<(), Fail> {
-    let rows = [
-        (PLAIN, r#"pair{}(\dv{Int{}}("4"), \dv{Int{}}("4"))"#, true),
-        (PLAIN, r#"pair{}(\dv{Int{}}("5"), \dv{Int{}}("5"))"#, false),
-        (PLAIN, r#"pair{}(\dv{Int{}}("4"), \dv{Int{}}("3"))"#, false),
-        (FOREIGN, r#"pair{}(\dv{Int{}}("9"), \dv{Int{}}("9"))"#, true),
-        (
-            FOREIGN,
-            r#"pair{}(\dv{Int{}}("9"), \dv{Int{}}("8"))"#,
-            false,
-        ),
-    ];
-    for (rule, text, wanted) in rows {
-        assert_eq!(rt; fires(rt.alloc(), rule, text)?, wanted);
+/// The last sentence of a module, an axiom.
+fn last_axiom(module: &Module) -> Option<&AxiomSentence> {
+    match module.sentences.last() {
+        Some(Sentence::Axiom(axiom)) => Some(axiom),
+        _ => None,
     }
-    Ok(())
 }
 
-/// Whether a left side's skeleton may be a value.
-fn may_be_over(
-    alloc: Global,
-    signature: &Signature,
-    left: &Pattern,
-    text: &str,
-) -> Result<bool, Fail> {
+/// What is told of a rule and a value, by their texts.
+fn told(alloc: Global, signature: &Signature, rule: &str, text: &str) -> Result<String, Fail> {
+    let module = module(alloc, rule)?;
     let value = value(alloc, signature, text)?;
-    skeleton_may_be(alloc, signature, left, &value)
+    match last_axiom(&module) {
+        Some(axiom) => rule_text(alloc, signature, axiom, &value),
+        None => Err(Fail::from("no axiom")),
+    }
 }
 
-fn may_be(alloc: Global, left: &str, text: &str) -> Result<bool, Fail> {
-    let left = pattern(alloc, left)?;
-    let signature = signature(alloc, SMALL)?;
-    may_be_over(alloc, &signature, &left, text)
+const FOUR: &str = r#"pair{}(\dv{Int{}}("4"), \dv{Int{}}("4"))"#;
+
+const NINE: &str = r#"pair{}(\dv{Int{}}("9"), \dv{Int{}}("9"))"#;
+
+/// The label of a module's last sentence.
+fn label(module: &Module) -> Option<&str> {
+    match last_axiom(module) {
+        Some(axiom) => label_of(axiom),
+        None => None,
+    }
 }
 
-fn skeleton_may_be(
-    alloc: Global,
-    signature: &Signature,
-    left: &Pattern,
-    value: &Value,
-) -> Result<bool, Fail> {
-    let index = SortIndex::new(alloc, signature)?;
-    let sort = Sort::App {
-        name: String::from_str(alloc, "E")?,
-        arguments: Vec::new(alloc),
-    };
-    let skeleton = skeleton_of_left(alloc, signature, &index, &sort, left)?;
-    Ok(skeleton.may_be(alloc, signature, value)?)
+#[test]
+fn a_rule_has_its_label(rt: HostRuntime) -> Result<(), Fail> {
+    let module = module(rt.alloc(), PLAIN)?;
+    assert_eq!(rt; label(&module), Some("SMALL.rule"));
+    Ok(())
 }
 
 /// In a foreign rule's left side pair("7", "seven"), the first is 7, and the second, which writes no number, any number.
+const LEFT: &str = r#"pair{}(\dv{Int{}}("7"), \dv{Int{}}("seven"))"#;
+
+/// Whether the skeleton of the left side may be a value.
+fn skeleton_may_be(alloc: Global, signature: &Signature, value: &Value) -> Result<bool, Fail> {
+    let index = SortIndex::new(alloc, signature)?;
+    let sort = sort(alloc, "E")?;
+    let left = pattern(alloc, LEFT)?;
+    let skeleton = skeleton_of_left(alloc, signature, &index, &sort, &left)?;
+    Ok(skeleton.may_be(alloc, signature, value)?)
+}
+
+/// The same of a text's value.
+fn may_be(alloc: Global, signature: &Signature, text: &str) -> Result<bool, Fail> {
+    let value = value(alloc, signature, text)?;
+    skeleton_may_be(alloc, signature, &value)
+}
+
+/// What is said of a term's text.
+#[derive(Clone, Copy)]
+enum Row {
+    /// What is told of it and a rule.
+    Rule(&'static str, &'static str, &'static str),
+    /// Whether the left side's skeleton may be its value.
+    MayBe(&'static str, bool),
+}
+
+/// Whether it holds.
+fn holds(alloc: Global, signature: &Signature, row: Row) -> Result<bool, Fail> {
+    match row {
+        Row::Rule(rule, text, wanted) => {
+            let told = told(alloc, signature, rule, text)?;
+            Ok(told.as_str() == wanted)
+        }
+        Row::MayBe(text, wanted) => Ok(may_be(alloc, signature, text)? == wanted),
+    }
+}
+
+/// What is said.
+static ROWS: [(&str, Row); 9] = [
+    (
+        "a rule fires where its condition holds",
+        Row::Rule(PLAIN, FOUR, "priority 40, fires: true"),
+    ),
+    (
+        "it doesn't where that fails",
+        Row::Rule(
+            PLAIN,
+            r#"pair{}(\dv{Int{}}("5"), \dv{Int{}}("5"))"#,
+            "priority 40, fires: false",
+        ),
+    ),
+    (
+        "it doesn't where a variable has two values",
+        Row::Rule(
+            PLAIN,
+            r#"pair{}(\dv{Int{}}("4"), \dv{Int{}}("3"))"#,
+            "priority 40, fires: false",
+        ),
+    ),
+    (
+        "with a function of no meaning on the right, two equal numbers may be rewritten",
+        Row::Rule(FOREIGN, NINE, "foreign, may be: true"),
+    ),
+    (
+        "two others may not",
+        Row::Rule(
+            FOREIGN,
+            r#"pair{}(\dv{Int{}}("9"), \dv{Int{}}("8"))"#,
+            "foreign, may be: false",
+        ),
+    ),
+    (
+        "a rule that applies an undeclared name is refused",
+        Row::Rule(UNDECLARED, NINE, "refused"),
+    ),
+    (
+        "one that is foreign for another reason isn't",
+        Row::Rule(BOTH, NINE, "foreign, may be: true"),
+    ),
+    (
+        "a literal that writes no number is any number",
+        Row::MayBe(r#"pair{}(\dv{Int{}}("7"), \dv{Int{}}("9"))"#, true),
+    ),
+    (
+        "a literal that writes one is that number",
+        Row::MayBe(r#"pair{}(\dv{Int{}}("8"), \dv{Int{}}("9"))"#, false),
+    ),
+];
+
+/// What is said first and doesn't hold.
+fn failing_over(alloc: Global, signature: &Signature) -> Result<Option<&'static str>, Fail> {
+    for (said, row) in &ROWS {
+        if !holds(alloc, signature, *row)? {
+            return Ok(Some(*said));
+        }
+    }
+    Ok(None)
+}
+
+/// The same over the module.
+fn failing(alloc: Global) -> Result<Option<&'static str>, Fail> {
+    let signature = signature(alloc, SMALL)?;
+    failing_over(alloc, &signature)
+}
+
 #[test]
-fn a_literal_that_writes_no_value_is_any_value(rt: HostRuntime) -> Result<(), Fail> {
-    let left = r#"pair{}(\dv{Int{}}("7"), \dv{Int{}}("seven"))"#;
-    let seven = may_be(
-        rt.alloc(),
-        left,
-        r#"pair{}(\dv{Int{}}("7"), \dv{Int{}}("9"))"#,
-    )?;
-    let eight = may_be(
-        rt.alloc(),
-        left,
-        r#"pair{}(\dv{Int{}}("8"), \dv{Int{}}("9"))"#,
-    )?;
-    assert!(rt; seven);
-    assert!(rt; !eight);
+fn rules_are_read_and_fire(rt: HostRuntime) -> Result<(), Fail> {
+    assert_eq!(rt; failing(rt.alloc())?, None);
     Ok(())
 }

@@ -1,6 +1,6 @@
 // Rows of terms, with the patterns that follow them.
 use crate::texts::pattern;
-use kp_kore::Pattern;
+use kp_kore::{Definition, Pattern};
 use kp_modules::load;
 use kp_rule_sets::RuleSet;
 use kp_successors::{GroundError, ground_step};
@@ -18,21 +18,40 @@ fn told(error: &GroundError) -> &str {
     }
 }
 
+/// Whether the pattern is the one that a text spells.
+fn is_spelled(alloc: Global, found: &Pattern, text: &str) -> Result<bool, Fail> {
+    let wanted = pattern(alloc, text)?;
+    Ok(found.equal(&wanted))
+}
+
 /// Whether the patterns are those that these texts spell.
 fn are_spelled(alloc: Global, patterns: &[Pattern], texts: &[&str]) -> Result<bool, Fail> {
     if patterns.len() != texts.len() {
         return Ok(false);
     }
     for i in 0..patterns.len().min(texts.len()) {
-        let wanted = pattern(alloc, texts[i])?;
-        if !patterns[i].equal(&wanted) {
+        if !is_spelled(alloc, &patterns[i], texts[i])? {
             return Ok(false);
         }
     }
     Ok(true)
 }
 
-/// Whether the text's term has these successors, or this refusal.
+/// Whether the term has these successors, or this refusal.
+fn is_stepped(
+    alloc: Global,
+    rules: &RuleSet,
+    term: &Pattern,
+    wanted: &[&str],
+    refusal: &str,
+) -> Result<bool, Fail> {
+    match ground_step(alloc, rules, term) {
+        Ok(patterns) => Ok(refusal.is_empty() && are_spelled(alloc, &patterns, wanted)?),
+        Err(error) => Ok(told(&error) == refusal),
+    }
+}
+
+/// The same of a text's term.
 fn is_told(
     alloc: Global,
     rules: &RuleSet,
@@ -41,30 +60,45 @@ fn is_told(
     refusal: &str,
 ) -> Result<bool, Fail> {
     let term = pattern(alloc, text)?;
-    match ground_step(alloc, rules, &term) {
-        Ok(patterns) => {
-            if !refusal.is_empty() {
-                return Ok(false);
-            }
-            are_spelled(alloc, &patterns, wanted)
+    is_stepped(alloc, rules, &term, wanted, refusal)
+}
+
+/// The first term of which the same doesn't hold.
+fn failing_over<'a>(
+    alloc: Global,
+    rules: &RuleSet,
+    rows: &'a [(&'a str, &'a [&'a str], &'a str)],
+) -> Result<Option<&'a str>, Fail> {
+    for (text, wanted, refusal) in rows {
+        if !is_told(alloc, rules, text, wanted, refusal)? {
+            return Ok(Some(*text));
         }
-        Err(error) => Ok(told(&error) == refusal),
+    }
+    Ok(None)
+}
+
+/// The same over a module of a definition.
+fn failing_in<'a>(
+    alloc: Global,
+    definition: &Definition,
+    module: &str,
+    rows: &'a [(&'a str, &'a [&'a str], &'a str)],
+) -> Result<Option<&'a str>, Fail> {
+    match load(alloc, definition, module) {
+        Ok(table) => failing_over(alloc, table.rule_set(), rows),
+        Err(_) => Err(Fail::from("not loaded")),
     }
 }
 
-/// The same of each row, over a definition.
-pub fn are_told(
+/// The same over a module of a definition's text.
+pub fn failing<'a>(
     alloc: Global,
     definition: &str,
     module: &str,
-    rows: &[(&str, &[&str], &str)],
-) -> Result<bool, Fail> {
-    let definition = read_definition(alloc, definition.as_bytes()).map_err(|_| "definition")?;
-    let table = load(alloc, &definition, module).map_err(|_| "load")?;
-    for (text, wanted, refusal) in rows {
-        if !is_told(alloc, table.rule_set(), text, wanted, refusal)? {
-            return Ok(false);
-        }
+    rows: &'a [(&'a str, &'a [&'a str], &'a str)],
+) -> Result<Option<&'a str>, Fail> {
+    match read_definition(alloc, definition.as_bytes()) {
+        Ok(definition) => failing_in(alloc, &definition, module, rows),
+        Err(_) => Err(Fail::from("no definition")),
     }
-    Ok(true)
 }

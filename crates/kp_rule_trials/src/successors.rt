@@ -1,4 +1,5 @@
-use crate::stepping::are_told;
+use crate::hooks::{INJECTION_ROWS, INJECTIONS, NUMBER_ROWS, NUMBERS, TRUTH_ROWS, TRUTHS};
+use crate::stepping::failing;
 use std::test::Fail;
 
 /// Rules with new variables, ensured conditions, equal priorities, wide numbers and foreign symbols.
@@ -130,18 +131,6 @@ const TOYS_ROWS: [(&str, &[&str], &str); 5] = [
     (r#"Lblodd{}(\dv{SortInt{}}("1"))"#, &[], "TOYS.odd"),
 ];
 
-#[test]
-fn successors_are_given_in_the_order_of_the_rules(rt: HostRuntime) -> Result<(), Fail> {
-    assert!(rt; are_told(rt.alloc(), CHOOSING, "CHOOSING", &ROWS)?);
-    Ok(())
-}
-
-#[test]
-fn the_example_counts_chooses_and_stops(rt: HostRuntime) -> Result<(), Fail> {
-    assert!(rt; are_told(rt.alloc(), TOYS, "TOYS", &TOYS_ROWS)?);
-    Ok(())
-}
-
 /// Rules of one head, of a head under `inj`, and of any head, in mixed order.
 const HEADS: &str = r#"[]
 module HEADS
@@ -187,8 +176,25 @@ const HEADS_ROWS: [(&str, &[&str], &str); 3] = [
     ),
 ];
 
+/// The definitions: their module, their text, and their rows.
+const DEFINITIONS: [(&str, &str, &[(&str, &[&str], &str)]); 6] = [
+    ("CHOOSING", CHOOSING, &ROWS),
+    ("TOYS", TOYS, &TOYS_ROWS),
+    ("HEADS", HEADS, &HEADS_ROWS),
+    // a hook, or `inj`, that is not over the sorts that it is read over
+    ("NUMBERS", NUMBERS, &NUMBER_ROWS),
+    ("TRUTHS", TRUTHS, &TRUTH_ROWS),
+    ("INJECTIONS", INJECTIONS, &INJECTION_ROWS),
+];
+
 #[test]
-fn rules_of_a_head_and_of_any_head_come_in_one_order(rt: HostRuntime) -> Result<(), Fail> {
-    assert!(rt; are_told(rt.alloc(), HEADS, "HEADS", &HEADS_ROWS)?);
+fn successors_are_given_in_the_order_of_the_rules(rt: HostRuntime) -> Result<(), Fail> {
+    for (module, definition, rows) in &DEFINITIONS {
+        assert_eq!(rt;
+            failing(rt.alloc(), definition, module, rows)?,
+            None,
+            "{module}"
+        );
+    }
     Ok(())
 }

@@ -1,36 +1,39 @@
 // What texts spell.
 use kp_ground::Value;
-use kp_kore::{AxiomSentence, Pattern, Sentence, Sort};
+use kp_kore::{Module, Pattern, Sort};
 use kp_signature::Signature;
 use kp_states::{State, state_of};
 use kp_text::{read_module, read_pattern};
-use std::alloc::Global;
+use std::alloc::{AllocError, Global};
 use std::test::Fail;
 
 /// The pattern of a text.
 pub(crate) fn pattern(alloc: Global, text: &str) -> Result<Pattern, Fail> {
-    Ok(read_pattern(alloc, text.as_bytes()).map_err(|_| "no pattern")?)
+    match read_pattern(alloc, text.as_bytes()) {
+        Ok(pattern) => Ok(pattern),
+        Err(_) => Err(Fail::from("no pattern")),
+    }
+}
+
+/// The module of a text.
+pub(crate) fn module(alloc: Global, text: &str) -> Result<Module, Fail> {
+    match read_module(alloc, text.as_bytes()) {
+        Ok(module) => Ok(module),
+        Err(_) => Err(Fail::from("no module")),
+    }
 }
 
 /// The signature of a module's text.
 pub(crate) fn signature(alloc: Global, text: &str) -> Result<Signature, Fail> {
-    let module = read_module(alloc, text.as_bytes()).map_err(|_| "no module")?;
+    let module = module(alloc, text)?;
     Ok(Signature::new(alloc, &[&module])?)
 }
 
-/// The last sentence of a module's text, an axiom.
-pub(crate) fn axiom(alloc: Global, text: &str) -> Result<AxiomSentence, Fail> {
-    let module = read_module(alloc, text.as_bytes()).map_err(|_| "no module")?;
-    match module.sentences.last() {
-        Some(Sentence::Axiom(axiom)) => Ok(axiom.copy(alloc)?),
-        _ => Err(Fail::from("no axiom")),
-    }
-}
-
-/// A sort of the name S, without arguments.
-fn sort(alloc: Global) -> Result<Sort, Fail> {
+/// A sort of this name, without arguments.
+pub(crate) fn sort(alloc: Global, name: &str) -> Result<Sort, AllocError> {
+    let name = String::from_str(alloc, name)?;
     Ok(Sort::App {
-        name: String::from_str(alloc, "S")?,
+        name,
         arguments: Vec::new(alloc),
     })
 }
@@ -38,8 +41,11 @@ fn sort(alloc: Global) -> Result<Sort, Fail> {
 /// The value of a closed term's text; its sort isn't asked.
 pub(crate) fn value(alloc: Global, signature: &Signature, text: &str) -> Result<Value, Fail> {
     let pattern = pattern(alloc, text)?;
-    let sort = sort(alloc)?;
-    let state = state_of(alloc, signature, &pattern, sort).map_err(|_| "no value")?;
-    let State { value, .. } = state;
-    Ok(value)
+    match state_of(alloc, signature, &pattern, sort(alloc, "S")?) {
+        Ok(state) => {
+            let State { value, .. } = state;
+            Ok(value)
+        }
+        Err(_) => Err(Fail::from("no value")),
+    }
 }
