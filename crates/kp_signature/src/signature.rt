@@ -14,11 +14,20 @@ use kp_subsorts::order::SortOrder;
 use std::alloc::{AllocError, Global};
 
 /// The signature of a definition: what the sentences of its modules declare, and what each declared symbol means.
-#[derive(Drop)]
 pub struct Signature {
     pub(crate) kinds: Kinds,
     pub(crate) meanings: Vec<Meaning>,
     ghost meanings_told: { map meaning_view meanings.items ≡ map (symbol_meaning (table_view kinds.declarations.table)) (table_view kinds.declarations.table).symbols } by { Prim.hlevel props },
+}
+
+// Written out: a derived one is proved again, with those of all that it holds, in each crate that owns a signature.
+impl Drop for Signature {
+    fn drop(self) {
+        let Signature {
+            kinds: _kinds,
+            meanings: _meanings,
+        } = self;
+    }
 }
 
 impl Signature {
