@@ -1,10 +1,11 @@
 -- When results that may be undecided are right: of a run, an implication, a simplified state; and which states must not be
 -- left undecided.
 -- Source: the K Haskell backend's JSON-RPC documentation (execute and its reasons, implies, simplify); this project.
-use Rattle.std.specs.Prelude.{◌≡◌, ℕ, suc, ◌<◌, ◌≤◌, Bool, true, false, not, ◌&&◌, ◌||◌, List, [], ◌∷◌, ◌++◌, map, Option, Some, None, IsTrue, ⊤, length, if◌then◌else◌}
+use Rattle.std.specs.Prelude.{◌≡◌, ℕ, suc, ◌<◌, ◌≤◌, Bool, true, false, not, ◌&&◌, ◌||◌, List, [], ◌∷◌, ◌++◌, map, Option, Some, None, IsTrue, ⊤, length, min, if◌then◌else◌}
 use Rattle.std.specs.List.{AllByRecursion, Contains, flat_map, filter, list_any, list_all}
+use Rattle.std.specs.List.Sorted.{IsPermutation}
 use Rattle.std.specs.Str.{bytes_eq}
-use Rattle.kp_kore.specs.Syntax.{KorePattern}
+use Rattle.kp_kore.specs.Syntax.{KoreSort, KorePattern}
 use Rattle.kp_kore.specs.Parts.{SortedName, free_variables, subpatterns}
 use Rattle.kp_kore.specs.Signature.{KoreSignature, meaning_of, has_only_numbers}
 use Rattle.kp_semantics.specs.Instance.{Valuation, conjoined_predicates, conjoined_terms, is_named}
@@ -18,15 +19,17 @@ use Rattle.kp_semantics.specs.Onward.{Leads, Passes}
 use Rattle.kp_semantics.specs.Executions.{Options, listed_in, Reason, depth_bound, RunsTo, IsRightReason}
 use Rattle.kp_semantics.specs.Implied.{Implied, IsRightImplied, Simplified, IsRightSimplified}
 use Rattle.kp_symbolic.specs.Terms.{SymbolicTerm, unknown, headed, SymbolicTerms, no_terms, next_term, term_instance, term_variables, Replaced, replacement_for}
-use Rattle.kp_symbolic.specs.States.{SymbolicState}
+use Rattle.kp_symbolic.specs.States.{Literal, SymbolicState}
 use Rattle.kp_symbolic.specs.Folding.{folded}
 use Rattle.kp_symbolic.specs.Heads.{is_construction}
 use Rattle.kp_symbolic.specs.Clauses.{clauses_of_conjuncts}
 use Rattle.kp_symbolic.specs.Solving.{Equation, equation_of, IsReadAs}
-use Rattle.kp_symbolic.specs.Plain.{has_only_tokens, IsPlainState, rough_clauses}
-use Rattle.kp_symbolic.specs.Weights.{IsWithinLimits}
+use Rattle.kp_symbolic.specs.Writing.{written_clause, written_predicate}
+use Rattle.kp_symbolic.specs.Plain.{has_only_tokens, IsPlainState, read_clauses, rough_clauses}
+use Rattle.kp_symbolic.specs.Weights.{IsOver, IsWithinLimits}
+use Rattle.kp_symbolic.specs.Verdicts.{IsOpen}
 use Rattle.kp_symbolic.specs.Sources.{SymbolicRule, rule_beside, TermsMeet, IsMatch}
-use Rattle.kp_symbolic.specs.Shown.{Situation, question_of, is_rough, IsMetButRough, shown_clauses, RuleShape, IsEasy, Undecided, IsShown, IsLimitOfTerms}
+use Rattle.kp_symbolic.specs.Shown.{Situation, AreDifferent, question_of, is_rough, IsMetButRough, RuleShape, IsEasy, Undecided, unknown_clauses, weight_passed, most_told, IsShown, IsLimitOfTerms}
 
 -- ---- rules that meet a state
 
@@ -254,19 +257,30 @@ pub record IsEasyImplication (g : KoreSignature) (a c : KorePattern) : Type 0 wh
 
 -- ---- simplify
 
--- exactly the clauses of the state that aren't plain
-pub record AreRoughAlone (g : KoreSignature) (s : SymbolicState) (p : KorePattern) : Type 0 where
-  pub some : ¬ (rough_clauses g s ≡ [])
-  pub shown : shown_clauses g p ≡ rough_clauses g s
+-- The predicate is what is written for these clauses in some order, each with its literals in some order; of clauses that
+-- are written alike it has one.
+pub record IsPredicateOf (g : KoreSignature) (sort : KoreSort) (cs : List (List Literal)) (p : KorePattern) : Type 0 where
+  pub ordered : List (List Literal)
+  pub written : written_predicate g sort ordered ≡ Some p
+  pub from_these : (d : List Literal) → Contains ordered d → (c : List Literal) × Contains cs c × IsPermutation c d
+  pub all_of_these : (c : List Literal) → Contains cs c → (d : List Literal) × IsPermutation c d × Contains (map (written_clause g sort) ordered) (written_clause g sort d)
+  pub once : AreDifferent (map (written_clause g sort) ordered)
 
 abbrev pub simplify_situation : KorePattern → SymbolicState → Situation
 simplify_situation p s = record { hand = p ∷ []; state = s; rules = []; put = []; not_given = []; lefts = [] }
+
+-- Exactly the clauses of the state that aren't plain, where the plain ones can be true and don't decide; or all clauses, with
+-- a weight of them that is over its limit; or a limit of its terms.
+abbrev pub IsShownAlone : KoreSignature → KorePattern → SymbolicState → Undecided → Type 0
+IsShownAlone g p s (unknown_clauses q) = IsOpen g s (rough_clauses g s) × (¬ (rough_clauses g s ≡ []) × IsPredicateOf g s.sort (rough_clauses g s) q)
+IsShownAlone g p s (weight_passed q w n) = (m : ℕ) × IsOver w (read_clauses g s) m × ((n ≡ min m most_told) × IsPredicateOf g s.sort s.clauses q)
+IsShownAlone g p s cause = IsShown g (simplify_situation p s) [] (λ v. ⊥) cause
 
 -- what is shown of a state that is simplified: no rule stands beside it, and no variable is replaced
 pub record IsShownOfState (g : KoreSignature) (p : KorePattern) (cause : Undecided) : Type 0 where
   pub state : SymbolicState
   pub read : IsReadAs g p state
-  pub shown : IsShown g (simplify_situation p state) [] (λ v. ⊥) cause
+  pub shown : IsShownAlone g p state cause
 
 -- a state that simplify doesn't leave undecided
 pub record IsEasyAlone (g : KoreSignature) (p : KorePattern) : Type 0 where

@@ -1,5 +1,6 @@
 -- States over the example definition, of which the laws tell what is plain and how much it weighs.
 use Rattle.std.specs.Prelude.{ℕ, ℤ, pos, Bool, true, map, List, [], ◌∷◌, Option, Some, None, codes}
+use Rattle.std.specs.Fmt.{decimal}
 use Rattle.kp_kore.specs.Syntax.{Text, KorePattern, conjunction}
 use Rattle.kp_semantics.specs.Value.{whole, constructed, no_values}
 use Rattle.kp_toys.specs.Toys.{sort_s, sort_p, sort_e, patterns, integer}
@@ -108,3 +109,7 @@ done_where p = conjunction sort_s (patterns (done ∷ p ∷ []))
 
 abbrev pub wide_predicate : KorePattern
 wide_predicate = test (codes "Lblle") x (integer (codes "85070591730234615865843651857942052864"))
+
+-- it, as it is written
+abbrev pub wide_shown : KorePattern
+wide_shown = test (codes "Lblle") x (integer (decimal 85070591730234615865843651857942052864))

@@ -8,7 +8,7 @@ ghost use Rattle.kp_symbolic.specs.Weights.{bits};
 ghost use Rattle.kp_symbolic.specs.Shown.{unknown_clauses, weight_passed, question_of, IsMetButRough};
 ghost use Rattle.kp_symbolic.specs.Endings.{IsShownOfState};
 ghost use Rattle.kp_symbolic.specs.Examples.{x_name, alone};
-ghost use Rattle.kp_symbolic.specs.Weighing.{rule_name, squared_below, square_below, below_turned, sq_state, sq_beside, sq_put, sq_situation, square_predicate, done_where, wide_predicate};
+ghost use Rattle.kp_symbolic.specs.Weighing.{rule_name, squared_below, square_below, below_turned, sq_state, sq_beside, sq_put, sq_situation, square_predicate, done_where, wide_predicate, wide_shown};
 
 /// The rule from sq(N) beside sq(X): its literal is sourced with X in the place of N, not with N itself, and not what means
 /// the same.
@@ -23,6 +23,6 @@ pub fn a_rules_literal_is_sourced_under_the_match()
 /// done with X * X < 0 is left undecided, and the predicate is shown; with X <= 2 ^ 126, and its weight is.
 pub fn simplified_states_show_their_predicates()
     ensures square { IsShownOfState toys_signature (done_where square_predicate) (unknown_clauses square_predicate) }
-    ensures wide { IsShownOfState toys_signature (done_where wide_predicate) (weight_passed wide_predicate bits 128) }
-    ensures not_less { ¬ IsShownOfState toys_signature (done_where wide_predicate) (weight_passed wide_predicate bits 127) }
+    ensures wide { IsShownOfState toys_signature (done_where wide_predicate) (weight_passed wide_shown bits 128) }
+    ensures not_less { ¬ IsShownOfState toys_signature (done_where wide_predicate) (weight_passed wide_shown bits 127) }
 {}
