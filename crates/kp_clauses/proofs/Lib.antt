@@ -1,3 +1,4 @@
 pub mod ConjunctLemmas
+pub mod FaultlessLemmas
 pub mod StateLemmas
 pub mod VariableLemmas

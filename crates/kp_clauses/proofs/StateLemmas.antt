@@ -214,6 +214,12 @@ has_instances g p s o ms same e h is =
       instances = λ v u k. opened_instances g the_top p o v u h.0 (none_of_all g p c.meant) c.predicates is k;
     }
 
+-- where nothing is misplaced, no foreign symbol stands in the pattern, and its other members are predicates
+pub nothing_misplaced : (g : KoreSignature) (p : KorePattern) → state_fault g p ≡ None → (none_within (has_foreign_head g) p ≡ true) × AllByRecursion (λ q. is_predicate q ≡ true) (conjoined_predicates p)
+nothing_misplaced g p e =
+    let c = clear g (conjuncts p) false e in
+    (none_of_all g p c.meant, c.predicates)
+
 -- ---- behind the members
 
 pub at_end : (g : KoreSignature) (seen_term : Bool) (ms : List (Bor Pattern)) (i : ℕ) (o : Option StateFault) → length ms ≤ i → o ≡ members_fault g seen_term (seen (drop i ms)) → o ≡ members_fault g seen_term []

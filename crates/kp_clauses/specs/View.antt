@@ -16,3 +16,7 @@ IsToldOf first error.Memory = ⊤
 IsToldOf first error.Unread = ⊤
 IsToldOf first (error.ForeignSymbol n) = first ≡ Some (foreign_symbol (string_bytes n))
 IsToldOf first error.OtherShape = first ≡ Some other_shape
+
+-- a literal in the pattern can't be read
+abbrev pub IsUnread : TermFault → Type 0
+IsUnread e = e ≡ error.Unread

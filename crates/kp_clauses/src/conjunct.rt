@@ -1,7 +1,10 @@
 // The clauses of a predicate: each conjunct is opened and distributed, unless that makes too many literals.
-ghost use Rattle.std.specs.Prelude.{◌≡◌, ℕ, true, [], ◌∷◌, ◌+◌, min, ◌++◌, IfOk, OnOk, map};
+ghost use Rattle.std.specs.Prelude.{◌≡◌, ℕ, true, [], ◌∷◌, ◌+◌, min, ◌++◌, IfOk, IfErr, OnOk, map};
+ghost use Rattle.std.specs.List.{AllByRecursion};
+ghost use Rattle.kp_compile.specs.declared.error.CompileError.TheVariants.{Memory};
 ghost use Rattle.kp_kore.specs.View.{view};
 ghost use Rattle.kp_symbolic.specs.Clauses as model;
+ghost use Rattle.kp_terms.specs.Faultless.{IsFaultless};
 ghost use Rattle.kp_terms.specs.Languages.{language_view};
 ghost use Rattle.kp_terms.specs.View.{clauses_view, literal_view, replaced_view};
 ghost use Rattle.kp_compile.specs.Parts.{seen};
@@ -59,6 +62,7 @@ fn add_conjunct(
 ) -> Result<u64, CompileError>
     ensures clauses { (n : ℕ) → so_far ≡ min n most_counted → OnOk result (clauses_view found.new.items ≡ clauses_view found.old.items ++ model.clauses_of_conjunct (language_view language.now) (map replaced_view replaced.now) n (view pattern.now)) }
     ensures literals { (n : ℕ) → so_far ≡ min n most_counted → IfOk result (λ m. m ≡ min (n + model.literals_of_conjunct (language_view language.now) (map replaced_view replaced.now) n (view pattern.now)) most_counted) }
+    ensures refused { IfErr result (λ e. IsFaultless (language_view language.now) (view pattern.now) → e ≡ Memory) }
 {
     let mut opened = open_predicate(alloc, language, replaced, pattern)?;
     let literals = so_far.saturating_add(opened.count.literals);
@@ -70,15 +74,16 @@ fn add_conjunct(
     Ok(at_most(so_far.saturating_add(1)))
 }
 
-/// The clauses of predicates together, with terms in the place of variables. Refused where a literal in them can't be read, or
-/// for want of memory.
+/// The clauses of predicates together, with terms in the place of variables. Predicates without verify faults are refused for
+/// want of memory alone, others also where a literal in them can't be read.
 pub fn clauses_of_all(
     alloc: Global,
     language: &Language,
     replaced: &[Replaced],
     predicates: &[&Pattern],
 ) -> Result<Vec<Clause>, CompileError>
-    ensures { let g = language_view language.now in let rs = map replaced_view replaced.now in IfOk result (λ cs. clauses_view cs.items ≡ model.without_repeats (model.clauses_of_conjuncts g rs 0 (seen predicates.now))) }
+    ensures made { let g = language_view language.now in let rs = map replaced_view replaced.now in IfOk result (λ cs. clauses_view cs.items ≡ model.without_repeats (model.clauses_of_conjuncts g rs 0 (seen predicates.now))) }
+    ensures refused { IfErr result (λ e. AllByRecursion (IsFaultless (language_view language.now)) (seen predicates.now) → e ≡ Memory) }
 {
     let mut found = Vec::new(alloc);
     let mut so_far = 0;
@@ -88,15 +93,16 @@ pub fn clauses_of_all(
     Ok(kept_once(alloc, found)?)
 }
 
-/// The clauses of a predicate, with terms in the place of variables. Refused where a literal in it can't be read, or for want
-/// of memory.
+/// The clauses of a predicate, with terms in the place of variables. A predicate without verify faults is refused for want of
+/// memory alone, another also where a literal in it can't be read.
 pub fn clauses_of(
     alloc: Global,
     language: &Language,
     replaced: &[Replaced],
     pattern: &Pattern,
 ) -> Result<Vec<Clause>, CompileError>
-    ensures { IfOk result (λ cs. clauses_view cs.items ≡ model.clauses_of (language_view language.now) (map replaced_view replaced.now) (view pattern.now)) }
+    ensures made { IfOk result (λ cs. clauses_view cs.items ≡ model.clauses_of (language_view language.now) (map replaced_view replaced.now) (view pattern.now)) }
+    ensures refused { IfErr result (λ e. IsFaultless (language_view language.now) (view pattern.now) → e ≡ Memory) }
 {
     let predicates = conjuncts(alloc, pattern)?;
     clauses_of_all(alloc, language, replaced, &predicates)

@@ -1,6 +1,6 @@
 // A pattern read as a symbolic state, before its equations are solved.
 ghost use Rattle.std.specs.Prelude.{◌≡◌, not, false, Option, Some, None, IfOk, IfErr, OnOk, map};
-ghost use Rattle.std.specs.List.{filter, find};
+ghost use Rattle.std.specs.List.{AllByRecursion, filter, find};
 ghost use Rattle.std.specs.Option.{option_map};
 ghost use Rattle.kp_kore.specs.Parts.{is_term as term_test, free_variables};
 ghost use Rattle.kp_kore.specs.Syntax.{KorePattern};
@@ -9,12 +9,14 @@ ghost use Rattle.kp_signature.specs.Verify.{VerifiesAs};
 ghost use Rattle.kp_signature.specs.View.{signature_view};
 ghost use Rattle.kp_symbolic.specs.Solving.{opened_state};
 ghost use Rattle.kp_symbolic.specs.States.{HasInstancesOf};
+ghost use Rattle.kp_terms.specs.Faultless.{IsFaultless};
 ghost use Rattle.kp_terms.specs.Languages.{language_view};
 ghost use Rattle.kp_terms.specs.View.{state_view, variable_view, variables_view};
 ghost use Rattle.kp_compile.specs.Parts.{seen};
+ghost use Rattle.kp_compile.specs.declared.error.CompileError.TheVariants.{Memory};
 ghost use Rattle.kp_clauses.specs.Faults as model;
 ghost use Rattle.kp_clauses.specs.Opened.{opened_of};
-ghost use Rattle.kp_clauses.specs.View.{IsToldOf, misplaced_view};
+ghost use Rattle.kp_clauses.specs.View.{IsToldOf, IsUnread, misplaced_view};
 
 use crate::conjunct::clauses_of_all;
 use crate::fault::{Misplaced, members_fault};
@@ -51,7 +53,8 @@ impl From<AllocError> for TermFault {
 
 /// What is told of a fault.
 fn told(fault: Misplaced<'_>) -> TermFault
-    ensures { IsToldOf (Some (misplaced_view fault.entry)) result }
+    ensures told { IsToldOf (Some (misplaced_view fault.entry)) result }
+    ensures read { ¬ IsUnread result }
 {
     match fault {
         Misplaced::OtherShape => TermFault::OtherShape,
@@ -64,7 +67,8 @@ fn told(fault: Misplaced<'_>) -> TermFault
 
 /// What is told where the parts of a state aren't opened: nothing of its shape.
 fn refused(error: CompileError) -> TermFault
-    ensures { (first : Option model.StateFault) → IsToldOf first result }
+    ensures told { (first : Option model.StateFault) → IsToldOf first result }
+    ensures read { error ≡ Memory → ¬ IsUnread result }
 {
     match error {
         CompileError::Memory => TermFault::Memory,
@@ -80,6 +84,7 @@ fn check_members(
 ) -> Result<(), TermFault>
     ensures clear { OnOk result (model.members_fault (signature_view signature.now) false (seen members.now) ≡ None) }
     ensures refused { IfErr result (IsToldOf (model.members_fault (signature_view signature.now) false (seen members.now))) }
+    ensures read { IfErr result (λ e. ¬ IsUnread e) }
 {
     match members_fault(alloc, signature, members)? {
         Some(fault) => Err(told(fault)),
@@ -154,7 +159,8 @@ fn open_term(
     term: &Pattern,
     predicates: &[&Pattern],
 ) -> Result<State, CompileError>
-    ensures { IfOk result (λ s. state_view s ≡ opened_of (language_view language.now) (view pattern.now) (sort_view sort) (view term.now) (seen predicates.now)) }
+    ensures opened { IfOk result (λ s. state_view s ≡ opened_of (language_view language.now) (view pattern.now) (sort_view sort) (view term.now) (seen predicates.now)) }
+    ensures refused { IfErr result (λ e. IsFaultless (language_view language.now) (view term.now) → AllByRecursion (IsFaultless (language_view language.now)) (seen predicates.now) → e ≡ Memory) }
 {
     let sort = Arc::new(alloc, sort)?;
     let variables = variables_of(alloc, pattern)?;
@@ -176,7 +182,8 @@ fn open_members(
     sort: Sort,
     members: &[&Pattern],
 ) -> Result<State, CompileError>
-    ensures { let predicates = filter (λ p. not (term_test p)) (seen members.now) in IfOk result (λ s. (t : KorePattern) → find term_test (seen members.now) ≡ Some t → state_view s ≡ opened_of (language_view language.now) (view pattern.now) (sort_view sort) t predicates) }
+    ensures opened { let predicates = filter (λ p. not (term_test p)) (seen members.now) in IfOk result (λ s. (t : KorePattern) → find term_test (seen members.now) ≡ Some t → state_view s ≡ opened_of (language_view language.now) (view pattern.now) (sort_view sort) t predicates) }
+    ensures refused { IfErr result (λ e. (t : KorePattern) → find term_test (seen members.now) ≡ Some t → AllByRecursion (IsFaultless (language_view language.now)) (seen members.now) → e ≡ Memory) }
 {
     let predicates = predicates_among(alloc, members)?;
     match first_term(members) {
@@ -186,7 +193,7 @@ fn open_members(
 }
 
 /// The state that a verified pattern of this sort is opened as, its equations unsolved: it has the pattern's instances. T1 or
-/// T2 where something can't stand in it, of the first such thing from the left.
+/// T2 where something can't stand in it, of the first such thing from the left; `Unread` of a pattern with a verify fault alone.
 pub fn open_state(
     alloc: Global,
     language: &Language,
@@ -197,6 +204,7 @@ pub fn open_state(
     ensures instances { VerifiesAs (language_view language.now) (view pattern.now) (sort_view sort) → IfOk result (λ s. HasInstancesOf (language_view language.now) (view pattern.now) (state_view s)) }
     ensures clear { OnOk result (model.state_fault (language_view language.now) (view pattern.now) ≡ None) }
     ensures refused { IfErr result (IsToldOf (model.state_fault (language_view language.now) (view pattern.now))) }
+    ensures unread { IfErr result (λ e. IsUnread e → ¬ IsFaultless (language_view language.now) (view pattern.now)) }
 {
     let members = conjuncts(alloc, pattern)?;
     check_members(alloc, language.signature, &members)?;

@@ -1,9 +1,13 @@
 -- What is kept of a predicate's clauses, by what is kept of those of its parts.
-use Rattle.std.proofs.Common.{◌≡◌, Bool, true, false, List, [], ◌∷◌}
+use Rattle.std.proofs.Common.{◌≡◌, sym, subst, arith, ℕ, zero, suc, ◌<◌, Bool, true, false, List, [], ◌∷◌, length, get_or}
+use Rattle.std.specs.List.{AllByRecursion}
 use Rattle.kp_kore.specs.Syntax.{KoreSort, KorePattern, KorePatterns, conjunction, disjunction, implication, equivalence}
 use Rattle.kp_kore.specs.Signature.{KoreSignature}
+use Rattle.kp_kore.specs.View.{view}
+use Rattle.kp_kore.specs.declared.pattern.Pattern.{Pattern}
 use Rattle.kp_symbolic.specs.Opening.{all_opened, opened_leaf, pair}
 use Rattle.kp_symbolic.specs.Terms.{Replaced}
+use Rattle.kp_terms.specs.Faultless.{IsFaultless}
 use Rattle.kp_distribution.specs.Distribution.{distribution_of, distributions_of, all_distributed, one_distributed, agreement_of}
 use Rattle.kp_distribution.proofs.DistributionLemmas.{all_are, one_is, agreement_is}
 use Rattle.kp_connectives.specs.Opened.{opened_by}
@@ -45,3 +49,9 @@ agreement_holds g rs a s p q = agreement_is (opened_by g rs false true p) (opene
 pub agreement_fails : (g : KoreSignature) (rs : List Replaced) (a : Bool) (s : KoreSort) (p q : KorePattern) →
     agreement_of (distribution_of (opened_by g rs false true p)) (distribution_of (opened_by g rs false false p)) (distribution_of (opened_by g rs false false q)) (distribution_of (opened_by g rs false true q)) ≡ distribution_of (opened_by g rs a false (equivalence s p q))
 agreement_fails g rs a s p q = agreement_is (opened_by g rs false true p) (opened_by g rs false false p) (opened_by g rs false false q) (opened_by g rs false true q)
+
+-- one of several predicates without verify faults has none
+pub faultless_at : (g : KoreSignature) (ps : List Pattern) (i : ℕ) (p : Pattern) → i < length ps → p ≡ get_or ps i p → AllByRecursion (λ q. IsFaultless g (view q)) ps → IsFaultless g (view p)
+faultless_at g [] i p lt is all = absurd (omega (arith, lt))
+faultless_at g (q ∷ ps) zero p lt is all = subst (λ x. IsFaultless g (view x)) (sym is) all.0
+faultless_at g (q ∷ ps) (suc i) p lt is all = faultless_at g ps i p (omega (arith, lt)) is all.1

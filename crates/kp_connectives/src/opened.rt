@@ -1,9 +1,12 @@
 // A predicate opened with both signs at once: connectives are gone through down to the predicates that have none, and
 // what is kept of the clauses of a part is made once, however often the whole needs it.
-ghost use Rattle.std.specs.Prelude.{◌≡◌, [], ◌∷◌, true, false, not, Bool, IfOk, map};
+ghost use Rattle.std.specs.Prelude.{◌≡◌, [], ◌∷◌, true, false, not, Bool, IfOk, IfErr, map};
+ghost use Rattle.std.specs.List.{AllByRecursion};
+ghost use Rattle.kp_compile.specs.declared.error.CompileError.TheVariants.{Memory};
 ghost use Rattle.kp_kore.specs.Syntax.{KoreSort, conjunction, disjunction};
 ghost use Rattle.kp_kore.specs.View.{view, patterns_view};
 ghost use Rattle.kp_symbolic.specs.Opening as model;
+ghost use Rattle.kp_terms.specs.Faultless.{IsFaultless};
 ghost use Rattle.kp_terms.specs.Languages.{language_view};
 ghost use Rattle.kp_terms.specs.View.{replaced_view};
 ghost use Rattle.kp_distribution.specs.Distribution.{distribution_of, distributions_of, all_distributed, one_distributed, agreement_of as both_agree};
@@ -62,7 +65,8 @@ fn open_signed(
     sign: bool,
     pattern: &Pattern,
 ) -> Result<Distributed, CompileError>
-    ensures { IfOk result (λ d. distributed_view d ≡ distribution_of (model.opened_leaf (language_view language.now) (map replaced_view replaced.now) alone sign (view pattern.now))) }
+    ensures opened { IfOk result (λ d. distributed_view d ≡ distribution_of (model.opened_leaf (language_view language.now) (map replaced_view replaced.now) alone sign (view pattern.now))) }
+    ensures refused { IfErr result (λ e. IsFaultless (language_view language.now) (view pattern.now) → e ≡ Memory) }
 {
     let formula = open_leaf(alloc, language, replaced, alone, sign, pattern)?;
     Ok(distribute(&formula, alloc)?)
@@ -78,6 +82,7 @@ fn open_both(
 ) -> Result<Opened, CompileError>
     ensures yes { IfOk result (λ o. distributed_view o.yes ≡ distribution_of (model.opened_leaf (language_view language.now) (map replaced_view replaced.now) alone.yes true (view pattern.now))) }
     ensures no { IfOk result (λ o. distributed_view o.no ≡ distribution_of (model.opened_leaf (language_view language.now) (map replaced_view replaced.now) alone.no false (view pattern.now))) }
+    ensures refused { IfErr result (λ e. IsFaultless (language_view language.now) (view pattern.now) → e ≡ Memory) }
 {
     let yes = open_signed(alloc, language, replaced, alone.yes, true, pattern)?;
     let no = open_signed(alloc, language, replaced, alone.no, false, pattern)?;
@@ -126,6 +131,7 @@ fn open_whole(
 ) -> Result<Opened, CompileError>
     ensures yes { IfOk result (λ o. distributed_view o.yes ≡ distribution_of (opened_by (language_view language.now) (map replaced_view replaced.now) alone.yes true (view pattern.now))) }
     ensures no { IfOk result (λ o. distributed_view o.no ≡ distribution_of (opened_by (language_view language.now) (map replaced_view replaced.now) alone.no false (view pattern.now))) }
+    ensures refused { IfErr result (λ e. IsFaultless (language_view language.now) (view pattern.now) → e ≡ Memory) }
 {
     match pattern {
         Pattern::Top { .. } => Ok(open_fixed(alloc, true)?),
@@ -198,6 +204,7 @@ fn open_negation(
 ) -> Result<Opened, CompileError>
     ensures yes { IfOk result (λ o. distributed_view o.yes ≡ distribution_of (opened_by (language_view language.now) (map replaced_view replaced.now) alone.yes false (view pattern.now))) }
     ensures no { IfOk result (λ o. distributed_view o.no ≡ distribution_of (opened_by (language_view language.now) (map replaced_view replaced.now) alone.no true (view pattern.now))) }
+    ensures refused { IfErr result (λ e. IsFaultless (language_view language.now) (view pattern.now) → e ≡ Memory) }
 {
     let alone = Alone {
         yes: alone.no,
@@ -217,6 +224,7 @@ fn open_conjunction(
 ) -> Result<Opened, CompileError>
     ensures yes { (s : KoreSort) → IfOk result (λ o. distributed_view o.yes ≡ distribution_of (opened_by (language_view language.now) (map replaced_view replaced.now) alone true (conjunction s (patterns_view patterns.now)))) }
     ensures no { (s : KoreSort) (a : Bool) → IfOk result (λ o. distributed_view o.no ≡ distribution_of (opened_by (language_view language.now) (map replaced_view replaced.now) a false (conjunction s (patterns_view patterns.now)))) }
+    ensures refused { IfErr result (λ e. AllByRecursion (λ p. IsFaultless (language_view language.now) (view p)) patterns.now → e ≡ Memory) }
 {
     let members = Alone {
         yes: alone,
@@ -240,6 +248,7 @@ fn open_disjunction(
 ) -> Result<Opened, CompileError>
     ensures yes { (s : KoreSort) (a : Bool) → IfOk result (λ o. distributed_view o.yes ≡ distribution_of (opened_by (language_view language.now) (map replaced_view replaced.now) a true (disjunction s (patterns_view patterns.now)))) }
     ensures no { (s : KoreSort) → IfOk result (λ o. distributed_view o.no ≡ distribution_of (opened_by (language_view language.now) (map replaced_view replaced.now) alone false (disjunction s (patterns_view patterns.now)))) }
+    ensures refused { IfErr result (λ e. AllByRecursion (λ p. IsFaultless (language_view language.now) (view p)) patterns.now → e ≡ Memory) }
 {
     let members = Alone {
         yes: false,
@@ -263,6 +272,7 @@ fn open_each(
 ) -> Result<Parts, CompileError>
     ensures yes { IfOk result (λ o. map distributed_view o.yes.items ≡ distributions_of (model.all_opened (model.opened_leaf (language_view language.now) (map replaced_view replaced.now)) alone.yes true (patterns_view patterns.now))) }
     ensures no { IfOk result (λ o. map distributed_view o.no.items ≡ distributions_of (model.all_opened (model.opened_leaf (language_view language.now) (map replaced_view replaced.now)) alone.no false (patterns_view patterns.now))) }
+    ensures refused { IfErr result (λ e. AllByRecursion (λ p. IsFaultless (language_view language.now) (view p)) patterns.now → e ≡ Memory) }
 {
     let mut holding = Vec::new(alloc);
     let mut failing = Vec::new(alloc);
@@ -277,15 +287,16 @@ fn open_each(
     })
 }
 
-/// What is kept of the clauses of a predicate, with terms in the place of variables. Refused where a number in it can't
-/// be read, or for want of memory.
+/// What is kept of the clauses of a predicate, with terms in the place of variables. A predicate without verify faults is
+/// refused for want of memory alone, another also where a literal in it can't be read.
 pub fn open_predicate(
     alloc: Global,
     language: &Language,
     replaced: &[Replaced],
     pattern: &Pattern,
 ) -> Result<Distributed, CompileError>
-    ensures { IfOk result (λ d. distributed_view d ≡ distribution_of (model.opened_predicate (language_view language.now) (map replaced_view replaced.now) true (view pattern.now))) }
+    ensures opened { IfOk result (λ d. distributed_view d ≡ distribution_of (model.opened_predicate (language_view language.now) (map replaced_view replaced.now) true (view pattern.now))) }
+    ensures refused { IfErr result (λ e. IsFaultless (language_view language.now) (view pattern.now) → e ≡ Memory) }
 {
     match pattern {
         Pattern::Equals { .. } => open_signed(alloc, language, replaced, true, true, pattern),

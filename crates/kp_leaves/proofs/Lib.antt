@@ -1,3 +1,4 @@
 pub mod AgreeLemmas
+pub mod FaultlessLemmas
 pub mod LeafLemmas
 pub mod QuestionLemmas

@@ -1,15 +1,18 @@
 // A predicate without connectives, opened with a sign.
-ghost use Rattle.std.specs.Prelude.{◌≡◌, [], Some, IfOk, map};
+ghost use Rattle.std.specs.Prelude.{◌≡◌, [], Some, IfOk, IfErr, map};
+ghost use Rattle.std.specs.List.{AllByRecursion};
 ghost use Rattle.std.specs.Option.{option_map};
+ghost use Rattle.kp_compile.specs.declared.error.CompileError.TheVariants.{Memory};
 ghost use Rattle.kp_kore.specs.Syntax.{KoreSort, conjunction};
 ghost use Rattle.kp_kore.specs.View.{view, sort_view, patterns_view};
 ghost use Rattle.kp_signature.specs.View.{signature_view};
 ghost use Rattle.kp_symbolic.specs.Folding.{folded};
 ghost use Rattle.kp_symbolic.specs.Opening as model;
+ghost use Rattle.kp_terms.specs.Faultless.{IsFaultless};
 ghost use Rattle.kp_terms.specs.Languages.{language_view};
 ghost use Rattle.kp_terms.specs.View.{replaced_view, term_view, test_view};
 ghost use Rattle.kp_opening.specs.View.{formula_view};
-ghost use Rattle.kp_leaves.specs.Leaves.{opened_question};
+ghost use Rattle.kp_leaves.specs.Leaves.{opened_question, IsFaultlessQuestion};
 ghost use Rattle.kp_leaves.specs.View.{question_view};
 
 use crate::question::{Question, head_question};
@@ -34,7 +37,8 @@ fn open_equality(
     left: &Pattern,
     right: &Pattern,
 ) -> Result<Formula, CompileError>
-    ensures { IfOk result (λ f. formula_view f ≡ model.opened_same (language_view language.now) alone sign (sort_view sort.now) (folded (language_view language.now) (map replaced_view replaced.now) (view left.now)) (folded (language_view language.now) (map replaced_view replaced.now) (view right.now))) }
+    ensures opened { IfOk result (λ f. formula_view f ≡ model.opened_same (language_view language.now) alone sign (sort_view sort.now) (folded (language_view language.now) (map replaced_view replaced.now) (view left.now)) (folded (language_view language.now) (map replaced_view replaced.now) (view right.now))) }
+    ensures refused { IfErr result (λ e. IsFaultless (language_view language.now) (view left.now) → IsFaultless (language_view language.now) (view right.now) → e ≡ Memory) }
 {
     let left = term_under(left, alloc, language, replaced)?;
     open_beside(alloc, language, replaced, alone, sign, sort, &left, right)
@@ -51,7 +55,8 @@ fn open_beside(
     left: &Term,
     right: &Pattern,
 ) -> Result<Formula, CompileError>
-    ensures { IfOk result (λ f. formula_view f ≡ model.opened_same (language_view language.now) alone sign (sort_view sort.now) (term_view left.now) (folded (language_view language.now) (map replaced_view replaced.now) (view right.now))) }
+    ensures opened { IfOk result (λ f. formula_view f ≡ model.opened_same (language_view language.now) alone sign (sort_view sort.now) (term_view left.now) (folded (language_view language.now) (map replaced_view replaced.now) (view right.now))) }
+    ensures refused { IfErr result (λ e. IsFaultless (language_view language.now) (view right.now) → e ≡ Memory) }
 {
     let right = term_under(right, alloc, language, replaced)?;
     Ok(open_terms(alloc, language.signature, alone, sign, sort, left, right)?)
@@ -82,7 +87,8 @@ fn open_ceil(
     sort: &Sort,
     pattern: &Pattern,
 ) -> Result<Formula, CompileError>
-    ensures { IfOk result (λ f. formula_view f ≡ model.opened_ceil (language_view language.now) (map replaced_view replaced.now) alone sign (sort_view sort.now) (view pattern.now)) }
+    ensures opened { IfOk result (λ f. formula_view f ≡ model.opened_ceil (language_view language.now) (map replaced_view replaced.now) alone sign (sort_view sort.now) (view pattern.now)) }
+    ensures refused { IfErr result (λ e. IsFaultless (language_view language.now) (view pattern.now) → e ≡ Memory) }
 {
     match pattern {
         Pattern::And { patterns, .. } => open_defined(
@@ -103,7 +109,8 @@ fn open_defined(
     sort: &Sort,
     members: &[Pattern],
 ) -> Result<Formula, CompileError>
-    ensures { (s : KoreSort) → IfOk result (λ f. formula_view f ≡ model.opened_ceil (language_view language.now) (map replaced_view replaced.now) alone sign (sort_view sort.now) (conjunction s (patterns_view members.now))) }
+    ensures opened { (s : KoreSort) → IfOk result (λ f. formula_view f ≡ model.opened_ceil (language_view language.now) (map replaced_view replaced.now) alone sign (sort_view sort.now) (conjunction s (patterns_view members.now))) }
+    ensures refused { IfErr result (λ e. AllByRecursion (λ p. IsFaultless (language_view language.now) (view p)) members.now → e ≡ Memory) }
 {
     if members.len() != 2 {
         return Ok(make_fixed(alloc, sign)?);
@@ -129,7 +136,8 @@ fn open_question(
     pattern: &Pattern,
     question: &Option<Question<'_>>,
 ) -> Result<Formula, CompileError>
-    ensures { IfOk result (λ f. formula_view f ≡ opened_question (language_view language.now) (map replaced_view replaced.now) sign (view pattern.now) (option_map question_view question.now)) }
+    ensures opened { IfOk result (λ f. formula_view f ≡ opened_question (language_view language.now) (map replaced_view replaced.now) sign (view pattern.now) (option_map question_view question.now)) }
+    ensures refused { IfErr result (λ e. IsFaultlessQuestion (language_view language.now) (option_map question_view question.now) → e ≡ Memory) }
 {
     match question {
         Some(question) => open_asked(alloc, language, replaced, sign, pattern, question),
@@ -146,7 +154,8 @@ fn open_asked(
     pattern: &Pattern,
     question: &Question<'_>,
 ) -> Result<Formula, CompileError>
-    ensures { IfOk result (λ f. formula_view f ≡ opened_question (language_view language.now) (map replaced_view replaced.now) sign (view pattern.now) (Some (question_view question.now))) }
+    ensures opened { IfOk result (λ f. formula_view f ≡ opened_question (language_view language.now) (map replaced_view replaced.now) sign (view pattern.now) (Some (question_view question.now))) }
+    ensures refused { IfErr result (λ e. IsFaultlessQuestion (language_view language.now) (Some (question_view question.now)) → e ≡ Memory) }
 {
     let term = term_under(question.subject, alloc, language, replaced)?;
     Ok(ask(
@@ -186,7 +195,8 @@ fn open_exists(
     sign: bool,
     pattern: &Pattern,
 ) -> Result<Formula, CompileError>
-    ensures { IfOk result (λ f. formula_view f ≡ opened_question (language_view language.now) (map replaced_view replaced.now) sign (view pattern.now) (model.head_question (language_view language.now) [] (view pattern.now))) }
+    ensures opened { IfOk result (λ f. formula_view f ≡ opened_question (language_view language.now) (map replaced_view replaced.now) sign (view pattern.now) (model.head_question (language_view language.now) [] (view pattern.now))) }
+    ensures refused { IfErr result (λ e. IsFaultless (language_view language.now) (view pattern.now) → e ≡ Memory) }
 {
     let question = head_question(pattern, alloc, language.signature, Vec::new(alloc))?;
     open_question(alloc, language, replaced, sign, pattern, &question)
@@ -205,7 +215,8 @@ fn open_quoted(
     Ok(Formula::Fact { literal })
 }
 
-/// A predicate without connectives, as a clause's only literal or one of several.
+/// A predicate without connectives, as a clause's only literal or one of several. A predicate without verify faults is refused
+/// for want of memory alone, another also where a literal in it can't be read.
 pub fn open_leaf(
     alloc: Global,
     language: &Language,
@@ -214,7 +225,8 @@ pub fn open_leaf(
     sign: bool,
     pattern: &Pattern,
 ) -> Result<Formula, CompileError>
-    ensures { IfOk result (λ f. formula_view f ≡ model.opened_leaf (language_view language.now) (map replaced_view replaced.now) alone sign (view pattern.now)) }
+    ensures opened { IfOk result (λ f. formula_view f ≡ model.opened_leaf (language_view language.now) (map replaced_view replaced.now) alone sign (view pattern.now)) }
+    ensures refused { IfErr result (λ e. IsFaultless (language_view language.now) (view pattern.now) → e ≡ Memory) }
 {
     match pattern {
         Pattern::Equals {

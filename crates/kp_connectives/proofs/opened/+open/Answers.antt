@@ -1,14 +1,18 @@
 use Rattle.std.proofs.Common.{rules, ◌≡◌, ◌∙◌, sym, ap, ap₂, subst, true, false, [], ◌∷◌, map, IfOk}
-use Rattle.kp_kore.specs.Syntax.{conjunction, disjunction, implication, equivalence}
+use Rattle.std.specs.List.{AllByRecursion}
+use Rattle.std.proofs.lemmas.Result.{err_from_is_err_and}
+use Rattle.kp_kore.specs.Syntax.{negation, conjunction, disjunction, implication, equivalence, ceil, floor}
 use Rattle.kp_kore.specs.View.{view, sort_view, patterns_view}
 use Rattle.kp_kore.specs.declared.pattern.Pattern.{the_lemmas}
 use Rattle.kp_symbolic.specs.Opening.{all_opened, opened_leaf}
+use Rattle.kp_terms.specs.Faultless.{IsFaultless}
 use Rattle.kp_terms.specs.Languages.{language_view}
 use Rattle.kp_terms.specs.View.{replaced_view}
 use Rattle.kp_distribution.specs.Distribution.{distribution_of, distributions_of, all_distributed, one_distributed, agreement_of}
 use Rattle.kp_distribution.specs.View.{distributed_view}
+use Rattle.kp_leaves.proofs.FaultlessLemmas.{handed, of_negation, of_ceil, of_floor, of_conjunction, of_disjunction, first_implied, second_implied, first_equivalent, second_equivalent}
 use Rattle.kp_connectives.specs.Opened.{opened_by}
-use Rattle.kp_connectives.proofs.OpenedLemmas.{conjunction_holds, conjunction_fails, disjunction_holds, disjunction_fails, implication_holds, implication_fails, agreement_holds, agreement_fails}
+use Rattle.kp_connectives.proofs.OpenedLemmas.{conjunction_holds, conjunction_fails, disjunction_holds, disjunction_fails, implication_holds, implication_fails, agreement_holds, agreement_fails, faultless_at}
 use Rattle.kp_connectives.proofs.opened.+open.Goals as goal
 
 pub open_conjunction-returns-clause-yes : goal.open_conjunction-returns-clause-yes
@@ -144,3 +148,67 @@ open_whole-returns-in_ok-agreement-in-Iff-clause-no t c =
     c.in_ok-agreement-in-Iff.ensures.no ∙ ap₂ (λ x y. agreement_of x y (distributed_view c.in_ok-right-in-Iff.right.no) (distributed_view c.in_ok-right-in-Iff.right.yes)) left_yes left_no
     ∙ ap₂ (agreement_of (distribution_of (opened_by g rs false true p)) (distribution_of (opened_by g rs false false p))) right_no right_yes
     ∙ agreement_fails g rs c.args.alone.no s p q ∙ ap (λ x. distribution_of (opened_by g rs c.args.alone.no false x)) (sym is)
+
+pub open_whole-returns-in-Not-clause-refused : goal.open_whole-returns-in-Not-clause-refused
+open_whole-returns-in-Not-clause-refused t c =
+    let g = language_view c.args.language.now in
+    let is : view c.args.pattern.now ≡ negation (sort_view c.in-Not.sort) (view c.in-Not.pattern.value) = search (rules, the_lemmas) in
+    handed c.open_negation.result (λ faultless. subst (λ q. IsFaultless g (view q)) (sym c.deref.ensures) (of_negation g (sort_view c.in-Not.sort) (view c.in-Not.pattern.value) (subst (IsFaultless g) is faultless))) c.open_negation.ensures.refused
+
+pub open_whole-returns-in-And-clause-refused : goal.open_whole-returns-in-And-clause-refused
+open_whole-returns-in-And-clause-refused t c =
+    let g = language_view c.args.language.now in
+    let is : view c.args.pattern.now ≡ conjunction (sort_view c.in-And.sort) (patterns_view c.in-And.patterns.items) = search (rules, the_lemmas) in
+    handed c.open_conjunction.result (λ faultless. subst (AllByRecursion (λ q. IsFaultless g (view q))) (sym c.deref-in-And.ensures.value) (of_conjunction g (sort_view c.in-And.sort) c.in-And.patterns.items (subst (IsFaultless g) is faultless))) c.open_conjunction.ensures.refused
+
+pub open_whole-returns-in-Or-clause-refused : goal.open_whole-returns-in-Or-clause-refused
+open_whole-returns-in-Or-clause-refused t c =
+    let g = language_view c.args.language.now in
+    let is : view c.args.pattern.now ≡ disjunction (sort_view c.in-Or.sort) (patterns_view c.in-Or.patterns.items) = search (rules, the_lemmas) in
+    handed c.open_disjunction.result (λ faultless. subst (AllByRecursion (λ q. IsFaultless g (view q))) (sym c.deref-in-Or.ensures.value) (of_disjunction g (sort_view c.in-Or.sort) c.in-Or.patterns.items (subst (IsFaultless g) is faultless))) c.open_disjunction.ensures.refused
+
+pub open_whole-returns-in_err-left-in-Implies-clause-refused : goal.open_whole-returns-in_err-left-in-Implies-clause-refused
+open_whole-returns-in_err-left-in-Implies-clause-refused t c =
+    let g = language_view c.args.language.now in
+    let p = err_from_is_err_and c.from_residual-in_err-left-in-Implies.result c.from_residual-in_err-left-in-Implies.ensures.1 in
+    let is : view c.args.pattern.now ≡ implication (sort_view c.in-Implies.sort) (view c.in-Implies.left.value) (view c.in-Implies.right.value) = search (rules, the_lemmas) in
+    rw (p.1, p.2) (λ faultless. c.in_err-left-in-Implies.ensures.refused (subst (λ q. IsFaultless g (view q)) (sym c.deref-in-Implies.ensures) (first_implied g (sort_view c.in-Implies.sort) (view c.in-Implies.left.value) (view c.in-Implies.right.value) (subst (IsFaultless g) is faultless))))
+
+pub open_whole-returns-in_err-right-in-Implies-clause-refused : goal.open_whole-returns-in_err-right-in-Implies-clause-refused
+open_whole-returns-in_err-right-in-Implies-clause-refused t c =
+    let g = language_view c.args.language.now in
+    let p = err_from_is_err_and c.from_residual-in_err-right-in-Implies.result c.from_residual-in_err-right-in-Implies.ensures.1 in
+    let is : view c.args.pattern.now ≡ implication (sort_view c.in-Implies.sort) (view c.in-Implies.left.value) (view c.in-Implies.right.value) = search (rules, the_lemmas) in
+    rw (p.1, p.2) (λ faultless. c.in_err-right-in-Implies.ensures.refused (subst (λ q. IsFaultless g (view q)) (sym c.deref-in-Implies-2.ensures) (second_implied g (sort_view c.in-Implies.sort) (view c.in-Implies.left.value) (view c.in-Implies.right.value) (subst (IsFaultless g) is faultless))))
+
+pub open_whole-returns-in_err-left-in-Iff-clause-refused : goal.open_whole-returns-in_err-left-in-Iff-clause-refused
+open_whole-returns-in_err-left-in-Iff-clause-refused t c =
+    let g = language_view c.args.language.now in
+    let p = err_from_is_err_and c.from_residual-in_err-left-in-Iff.result c.from_residual-in_err-left-in-Iff.ensures.1 in
+    let is : view c.args.pattern.now ≡ equivalence (sort_view c.in-Iff.sort) (view c.in-Iff.left.value) (view c.in-Iff.right.value) = search (rules, the_lemmas) in
+    rw (p.1, p.2) (λ faultless. c.in_err-left-in-Iff.ensures.refused (subst (λ q. IsFaultless g (view q)) (sym c.deref-in-Iff.ensures) (first_equivalent g (sort_view c.in-Iff.sort) (view c.in-Iff.left.value) (view c.in-Iff.right.value) (subst (IsFaultless g) is faultless))))
+
+pub open_whole-returns-in_err-right-in-Iff-clause-refused : goal.open_whole-returns-in_err-right-in-Iff-clause-refused
+open_whole-returns-in_err-right-in-Iff-clause-refused t c =
+    let g = language_view c.args.language.now in
+    let p = err_from_is_err_and c.from_residual-in_err-right-in-Iff.result c.from_residual-in_err-right-in-Iff.ensures.1 in
+    let is : view c.args.pattern.now ≡ equivalence (sort_view c.in-Iff.sort) (view c.in-Iff.left.value) (view c.in-Iff.right.value) = search (rules, the_lemmas) in
+    rw (p.1, p.2) (λ faultless. c.in_err-right-in-Iff.ensures.refused (subst (λ q. IsFaultless g (view q)) (sym c.deref-in-Iff-2.ensures) (second_equivalent g (sort_view c.in-Iff.sort) (view c.in-Iff.left.value) (view c.in-Iff.right.value) (subst (IsFaultless g) is faultless))))
+
+pub open_each-returns-in_err-yes-clause-refused : goal.open_each-returns-in_err-yes-clause-refused
+open_each-returns-in_err-yes-clause-refused t c =
+    let p = err_from_is_err_and c.from_residual.result c.from_residual.ensures.1 in
+    rw (p.1, p.2) (λ all. c.in_err-yes.ensures.refused
+    (faultless_at (language_view c.args.language.now) c.args.patterns.now c.loop-pattern.pattern-index c.pattern-item.result c.loop-pattern-test.true c.pattern-item.is all))
+
+pub open_whole-returns-else-is_conjoined_pair-clause-refused : goal.open_whole-returns-else-is_conjoined_pair-clause-refused
+open_whole-returns-else-is_conjoined_pair-clause-refused t c =
+    let g = language_view c.args.language.now in
+    let is : view c.args.pattern.now ≡ ceil (sort_view c.in-Ceil.argument_sort) (sort_view c.in-Ceil.sort) (view c.in-Ceil.inner.value) = search (rules, the_lemmas) in
+    handed c.open_whole-in-Ceil.result (λ faultless. subst (λ q. IsFaultless g (view q)) (sym c.deref-in-Ceil-2.ensures) (of_ceil g (sort_view c.in-Ceil.argument_sort) (sort_view c.in-Ceil.sort) (view c.in-Ceil.inner.value) (subst (IsFaultless g) is faultless))) c.open_whole-in-Ceil.ensures.refused
+
+pub open_whole-returns-else-is_term-2-clause-refused : goal.open_whole-returns-else-is_term-2-clause-refused
+open_whole-returns-else-is_term-2-clause-refused t c =
+    let g = language_view c.args.language.now in
+    let is : view c.args.pattern.now ≡ floor (sort_view c.in-Floor.argument_sort) (sort_view c.in-Floor.sort) (view c.in-Floor.inner.value) = search (rules, the_lemmas) in
+    handed c.open_whole-in-Floor.result (λ faultless. subst (λ q. IsFaultless g (view q)) (sym c.deref-in-Floor-2.ensures) (of_floor g (sort_view c.in-Floor.argument_sort) (sort_view c.in-Floor.sort) (view c.in-Floor.inner.value) (subst (IsFaultless g) is faultless))) c.open_whole-in-Floor.ensures.refused
