@@ -34,7 +34,7 @@ other_way x y false e = by (bytes_eq y x) refl
     by true f = absurd (false_true (sym e ∙ (bytes_eq-Decides x y).1 (sym ((bytes_eq-Decides y x).0 f))))
     by false f = f
 
-neither : (a b : Bool) → a || b ≡ false → (a ≡ false) × (b ≡ false)
+pub neither : (a b : Bool) → a || b ≡ false → (a ≡ false) × (b ≡ false)
 neither true b e = absurd (cc)
 neither false b e = (refl, e)
 
@@ -43,14 +43,14 @@ any_first_false y [] zs e = refl
 any_first_false y (x ∷ xs) zs e = let k = neither (bytes_eq y x) (list_any (bytes_eq y) (xs ++ zs)) e in rw (k.0) (any_first_false y xs zs k.1)
 
 -- the name isn't one of these variables'
-abbrev IsApart : Text → List SortedName → Type 0
+abbrev pub IsApart : Text → List SortedName → Type 0
 IsApart y ws = list_any (bytes_eq y) (map (λ z. z.name) ws) ≡ false
 
-apart_first : (y : Text) (ws zs : List SortedName) → IsApart y (ws ++ zs) → IsApart y ws
+pub apart_first : (y : Text) (ws zs : List SortedName) → IsApart y (ws ++ zs) → IsApart y ws
 apart_first y [] zs e = refl
 apart_first y (w ∷ ws) zs e = let k = neither (bytes_eq y w.name) (list_any (bytes_eq y) (map (λ z. z.name) (ws ++ zs))) e in rw (k.0) (apart_first y ws zs k.1)
 
-apart_second : (y : Text) (ws zs : List SortedName) → IsApart y (ws ++ zs) → IsApart y zs
+pub apart_second : (y : Text) (ws zs : List SortedName) → IsApart y (ws ++ zs) → IsApart y zs
 apart_second y [] zs e = e
 apart_second y (w ∷ ws) zs e = apart_second y ws zs (neither (bytes_eq y w.name) (list_any (bytes_eq y) (map (λ z. z.name) (ws ++ zs))) e).1
 
@@ -58,7 +58,7 @@ pub bound_apart : (rs : List Replaced) (x : Text) (p : KorePattern) → IsRoomAt
 bound_apart rs x p h = by (list_any (bytes_eq x) (names_coming_in rs x p)) refl
   where
     by : (b : Bool) → list_any (bytes_eq x) (names_coming_in rs x p) ≡ b → list_any (bytes_eq (if b then least_fresh (names_coming_in rs x p ++ variable_names p) else x)) (names_coming_in rs x p) ≡ false
-    by true e = any_first_false (least_fresh (names_coming_in rs x p ++ variable_names p)) (names_coming_in rs x p) (variable_names p) (least_is_new (names_coming_in rs x p ++ variable_names p) h)
+    by true e = any_first_false (least_fresh (names_coming_in rs x p ++ variable_names p)) (names_coming_in rs x p) (variable_names p) (least_is_new (names_coming_in rs x p ++ variable_names p) (h e))
     by false e = e
 
 -- ---- another value for a name that isn't a term's

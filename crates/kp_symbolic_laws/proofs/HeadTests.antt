@@ -1,24 +1,26 @@
 -- What is written for a test of a head is read as that question, and so says what the test says.
-use Rattle.std.proofs.Common.{◌≡◌, refl, sym, ◌∙◌, ap, subst, arith, ◌<◌, ◌+◌, ◌^◌, Bool, true, false, not, ◌||◌, List, [], ◌∷◌, ◌++◌, length, Some, ◌↔◌}
+use Rattle.std.proofs.Common.{◌≡◌, refl, sym, ◌∙◌, ap, subst, inl, inr, arith, ◌<◌, ◌+◌, ◌^◌, Bool, true, false, not, ◌||◌, List, [], ◌∷◌, ◌++◌, length, Some, ◌↔◌}
 use Rattle.std.specs.Prelude.{if◌then◌else◌, cond, unwrap_or}
 use Rattle.std.specs.List.{AllByRecursion, list_any}
 use Rattle.std.specs.Str.{bytes_eq}
 use Rattle.std.proofs.lemmas.Slice.Eq.{bytes_eq-Decides}
-use Rattle.kp_kore.specs.Syntax.{Text, KoreSort, no_sorts, next_sort, KorePattern, variable, application, equals}
+use Rattle.kp_kore.specs.Syntax.{Text, KoreSort, no_sorts, next_sort, KorePattern, variable, application, exists, equals}
 use Rattle.kp_kore.specs.Attributes.{sorts_equal}
-use Rattle.kp_kore.specs.Parts.{SortedName, sort_list, free_variables, all_free_variables, without_name}
-use Rattle.kp_kore.specs.Signature.{KoreSignature, injection, construction, meaning_of, IsHeadOf}
+use Rattle.kp_kore.specs.Parts.{SortedName, sort_list, free_variables, all_free_variables, without_name, subpatterns}
+use Rattle.kp_kore.specs.Signature.{KoreSignature, construction, meaning_of, IsHeadOf}
 use Rattle.kp_kore.specs.Sorting.{result_sort}
 use Rattle.kp_semantics.specs.Value.{Value, whole, truth, token, constructed, HasSort, head_of}
 use Rattle.kp_semantics.specs.Instance.{Valuation, is_named, assigned, IsTrueUnder}
 use Rattle.kp_semantics.proofs.SameLemmas.{sorts_equal-Decides}
-use Rattle.kp_states.specs.Spelled.{placed, places_of, injected, injection_name}
+use Rattle.kp_states.specs.Spelled.{placed, places_of, injected}
+use Rattle.kp_states.proofs.SpelledMeaning.{InjectsWell}
 use Rattle.kp_symbolic.specs.States.{HeadTest, one_head, head_of_sort, has_head, PassesHead}
 use Rattle.kp_symbolic.specs.Opening.{are_variables, HeadQuestion, head_question}
 use Rattle.kp_symbolic.specs.Writing.{least_fresh, new_variables, under_exists, variables_of, written_test, IsSaid}
 use Rattle.kp_symbolic.proofs.HeadQuestions.{bound_of, body_of, question_of_body, question_says}
 use Rattle.kp_symbolic_laws.proofs.OpenedGood.{all_weaker, turned_test}
 use Rattle.kp_symbolic_laws.proofs.NewNames.{new_apart, new_are_variables}
+use Rattle.kp_symbolic_laws.proofs.WrittenUnder.{Well, well_right, well_behind}
 
 -- ---- free variables
 
@@ -93,30 +95,40 @@ body_under sort a s (x ∷ xs) q r = body_under sort a s xs q r
 abbrev question : SortedName → HeadTest → HeadQuestion
 question x test = record { subject = variable x.name x.sort; test = test }
 
-constructor_asked : (g : KoreSignature) (sort : KoreSort) (x : SortedName) (c : Text) (xs : List SortedName) (own : KoreSort) (b : Bool) → meaning_of g injection_name ≡ injection → meaning_of g c ≡ construction → is_named x.name xs ≡ false → are_variables xs (places_of g c) (variables_of xs) ≡ true
+constructor_asked : (g : KoreSignature) (sort : KoreSort) (x : SortedName) (c : Text) (xs : List SortedName) (own : KoreSort) (b : Bool) → InjectsWell g (subpatterns (if b then application c no_sorts (variables_of xs) else injected own x.sort (application c no_sorts (variables_of xs)))) → meaning_of g c ≡ construction → is_named x.name xs ≡ false → are_variables xs (places_of g c) (variables_of xs) ≡ true
     → head_question g xs (equals x.sort sort (variable x.name x.sort) (if b then application c no_sorts (variables_of xs) else injected own x.sort (application c no_sorts (variables_of xs)))) ≡ Some (question x (one_head c))
 constructor_asked g sort x c xs own true i m n a = rw (n, m, a) refl
-constructor_asked g sort x c xs own false i m n a = rw (n, i, m, a) refl
+constructor_asked g sort x c xs own false (inl i) m n a = rw (n, i, m, a) refl
+constructor_asked g sort x c xs own false (inr e) m n a = absurd (cc)
 
 one_used : (x : Text) → list_any (bytes_eq x) (x ∷ []) ≡ true
 one_used x = rw ((bytes_eq-Decides x x).1 refl) refl
 
-pub constructor_read : (g : KoreSignature) (sort : KoreSort) (x : SortedName) (c : Text) → meaning_of g injection_name ≡ injection → meaning_of g c ≡ construction → 1 + length (sort_list (places_of g c)) < 2 ^ 64 → head_question g [] (written_test g sort x (one_head c)) ≡ Some (question x (one_head c))
+-- inj is what it should be, or stands nowhere, also in what is bound, and in the right side
+exists_well : (g : KoreSignature) (sort : KoreSort) (xs : List SortedName) (p : KorePattern) → Well g (under_exists sort xs p) → Well g p
+exists_well g sort [] p j = j
+exists_well g sort (x ∷ xs) p j = exists_well g sort xs p (well_behind g (exists sort x.name x.sort (under_exists sort xs p)) (subpatterns (under_exists sort xs p)) j)
+
+right_well : (g : KoreSignature) (a sort : KoreSort) (q r : KorePattern) → Well g (equals a sort q r) → Well g r
+right_well g a sort q r j = well_right g (subpatterns q) (subpatterns r) (well_behind g (equals a sort q r) (subpatterns q ++ subpatterns r) j)
+
+pub constructor_read : (g : KoreSignature) (sort : KoreSort) (x : SortedName) (c : Text) → Well g (written_test g sort x (one_head c)) → meaning_of g c ≡ construction → 1 + length (sort_list (places_of g c)) < 2 ^ 64 → head_question g [] (written_test g sort x (one_head c)) ≡ Some (question x (one_head c))
 constructor_read g sort x c i m b =
     let xs = new_variables (x.name ∷ []) (places_of g c) in
     let own = unwrap_or (result_sort g c no_sorts) x.sort in
     let right = placed own x.sort (application c no_sorts (variables_of xs)) in
     let left = variable x.name x.sort in
-    let asked : head_question g xs (equals x.sort sort left right) ≡ Some (question x (one_head c)) = constructor_asked g sort x c xs own (sorts_equal own x.sort) i m (new_apart (x.name ∷ []) (places_of g c) x.name b (one_used x.name)) (new_are_variables (x.name ∷ []) (places_of g c) b) in
+    let asked : head_question g xs (equals x.sort sort left right) ≡ Some (question x (one_head c)) = constructor_asked g sort x c xs own (sorts_equal own x.sort) (right_well g x.sort sort left right (exists_well g sort xs (equals x.sort sort left right) i)) m (new_apart (x.name ∷ []) (places_of g c) x.name b (one_used x.name)) (new_are_variables (x.name ∷ []) (places_of g c) b) in
     question_of_body g [] (under_exists sort xs (equals x.sort sort left right))
     ∙ ap (λ ys. head_question g ys (body_of (under_exists sort xs (equals x.sort sort left right)))) (bound_under sort x.sort sort xs left right)
     ∙ ap (head_question g xs) (body_under sort x.sort sort xs left right)
     ∙ asked
 
-sort_asked : (g : KoreSignature) (sort s : KoreSort) (x : SortedName) (y : Text) (b : Bool) → b ≡ false → meaning_of g injection_name ≡ injection → bytes_eq y x.name ≡ false
+sort_asked : (g : KoreSignature) (sort s : KoreSort) (x : SortedName) (y : Text) (b : Bool) → b ≡ false → InjectsWell g (subpatterns (if b then variable y s else injected s x.sort (variable y s))) → bytes_eq y x.name ≡ false
     → head_question g (record { name = y; sort = s } ∷ []) (equals x.sort sort (variable x.name x.sort) (if b then variable y s else injected s x.sort (variable y s))) ≡ Some (question x (head_of_sort s))
 sort_asked g sort s x y true e i n = absurd (cc)
-sort_asked g sort s x y false e i n = rw (n, i, (bytes_eq-Decides y y).1 refl, (sorts_equal-Decides s s).1 refl) refl
+sort_asked g sort s x y false e (inr k) n = absurd (cc)
+sort_asked g sort s x y false e (inl i) n = rw (n, i, (bytes_eq-Decides y y).1 refl, (sorts_equal-Decides s s).1 refl) refl
 
 few : 1 + 1 < 2 ^ 64
 few = omega arith
@@ -128,8 +140,12 @@ first_false false b e = refl
 new_differs : (x : SortedName) (s : KoreSort) → bytes_eq (least_fresh (x.name ∷ [])) x.name ≡ false
 new_differs x s = first_false (bytes_eq (least_fresh (x.name ∷ [])) x.name) false (new_apart (x.name ∷ []) (next_sort s no_sorts) x.name few (one_used x.name))
 
-pub sort_read : (g : KoreSignature) (sort s : KoreSort) (x : SortedName) → meaning_of g injection_name ≡ injection → sorts_equal s x.sort ≡ false → head_question g [] (written_test g sort x (head_of_sort s)) ≡ Some (question x (head_of_sort s))
-sort_read g sort s x i e = sort_asked g sort s x (least_fresh (x.name ∷ [])) (sorts_equal s x.sort) e i (new_differs x s)
+pub sort_read : (g : KoreSignature) (sort s : KoreSort) (x : SortedName) → Well g (written_test g sort x (head_of_sort s)) → sorts_equal s x.sort ≡ false → head_question g [] (written_test g sort x (head_of_sort s)) ≡ Some (question x (head_of_sort s))
+sort_read g sort s x i e =
+    let y = least_fresh (x.name ∷ []) in
+    let left = variable x.name x.sort in
+    let right = placed s x.sort (variable y s) in
+    sort_asked g sort s x y (sorts_equal s x.sort) e (right_well g x.sort sort left right (well_behind g (exists sort y s (equals x.sort sort left right)) (subpatterns (equals x.sort sort left right)) i)) (new_differs x s)
 
 -- ---- what is written says it
 
@@ -141,7 +157,7 @@ asked_says g v p x test e h =
     same_name : {y z : Text} {s t : KoreSort} → variable z s ≡ variable y t → y ≡ z
     same_name q = cc
 
-pub constructor_said : (g : KoreSignature) (v : Valuation) (sort : KoreSort) (x : SortedName) (c : Text) → HasSort g x.sort (v x.name) → meaning_of g injection_name ≡ injection → meaning_of g c ≡ construction → 1 + length (sort_list (places_of g c)) < 2 ^ 64 → IsSaid g v sort (has_head x (one_head c))
+pub constructor_said : (g : KoreSignature) (v : Valuation) (sort : KoreSort) (x : SortedName) (c : Text) → HasSort g x.sort (v x.name) → Well g (written_test g sort x (one_head c)) → meaning_of g c ≡ construction → 1 + length (sort_list (places_of g c)) < 2 ^ 64 → IsSaid g v sort (has_head x (one_head c))
 constructor_said g v sort x c h i m b = asked_says g v (written_test g sort x (one_head c)) x (one_head c) (constructor_read g sort x c i m b) (test_variables g (λ z. HasSort g z.sort (v z.name)) sort x (one_head c) h)
 
 head_has : (g : KoreSignature) (s : KoreSort) (u : Value) → HasSort g s u → IsHeadOf g s (head_of u)
@@ -157,9 +173,9 @@ own_said g v s x y h e n = (
   (λ m f. f (v x.name) (subst (λ z. HasSort g z (v x.name)) (sym e) h) (rw (n, (bytes_eq-Decides y y).1 refl) refl)),
 )
 
-by_sort : (g : KoreSignature) (v : Valuation) (sort s : KoreSort) (x : SortedName) (b : Bool) → sorts_equal s x.sort ≡ b → HasSort g x.sort (v x.name) → meaning_of g injection_name ≡ injection → IsSaid g v sort (has_head x (head_of_sort s))
+by_sort : (g : KoreSignature) (v : Valuation) (sort s : KoreSort) (x : SortedName) (b : Bool) → sorts_equal s x.sort ≡ b → HasSort g x.sort (v x.name) → Well g (written_test g sort x (head_of_sort s)) → IsSaid g v sort (has_head x (head_of_sort s))
 by_sort g v sort s x true e h i = rw e (own_said g v s x (least_fresh (x.name ∷ [])) h ((sorts_equal-Decides s x.sort).0 e) (new_differs x s))
 by_sort g v sort s x false e h i = asked_says g v (written_test g sort x (head_of_sort s)) x (head_of_sort s) (sort_read g sort s x i e) (test_variables g (λ z. HasSort g z.sort (v z.name)) sort x (head_of_sort s) h)
 
-pub sort_said : (g : KoreSignature) (v : Valuation) (sort s : KoreSort) (x : SortedName) → HasSort g x.sort (v x.name) → meaning_of g injection_name ≡ injection → IsSaid g v sort (has_head x (head_of_sort s))
+pub sort_said : (g : KoreSignature) (v : Valuation) (sort s : KoreSort) (x : SortedName) → HasSort g x.sort (v x.name) → Well g (written_test g sort x (head_of_sort s)) → IsSaid g v sort (has_head x (head_of_sort s))
 sort_said g v sort s x h i = by_sort g v sort s x (sorts_equal s x.sort) refl h i

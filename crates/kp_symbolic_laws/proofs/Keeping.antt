@@ -1,5 +1,5 @@
 -- A literal, a clause, a state with the sorts of its places keeps them where an equation is solved.
-use Rattle.std.proofs.Common.{◌≡◌, refl, subst, inl, inr, ℕ, zero, suc, ◌+◌, Bool, true, false, not, ◌&&◌, List, [], ◌∷◌, ◌++◌, map, length, Option, Some, None}
+use Rattle.std.proofs.Common.{◌≡◌, refl, subst, ℕ, zero, suc, ◌+◌, Bool, true, false, not, ◌&&◌, List, [], ◌∷◌, ◌++◌, map, length, Option, Some, None}
 use Rattle.std.specs.Prelude.{if◌then◌else◌, is_some}
 use Rattle.std.specs.Bool.{beq}
 use Rattle.std.specs.List.{AllByRecursion, Contains, flat_map}
@@ -8,7 +8,6 @@ use Rattle.std.proofs.lemmas.Slice.Eq.{bytes_eq-Decides}
 use Rattle.kp_kore.specs.Syntax.{Text, KoreSort}
 use Rattle.kp_kore.specs.Parts.{SortedName, free_variables}
 use Rattle.kp_kore.specs.Signature.{KoreSignature, SymbolMeaning, injection, construction, interpretation, foreign, meaning_of, constructor_of, integers, itself}
-use Rattle.kp_semantics.specs.Steps.{AnyByRecursion}
 use Rattle.kp_semantics.specs.Value.{head_of}
 use Rattle.kp_semantics.specs.Instance.{is_named}
 use Rattle.kp_symbolic.specs.Terms.{SymbolicTerm, unknown, offset, known, headed, term_variables, Replaced, replacement_for}
@@ -27,7 +26,7 @@ use Rattle.kp_symbolic.proofs.Replacing.{replaced_variables}
 use Rattle.kp_symbolic.proofs.WellSorted.{sorted_written}
 use Rattle.kp_symbolic.proofs.SortedFolding.{replaced_sorted}
 use Rattle.kp_symbolic.proofs.Facts.{AllFacts, AllIn, clauses_have, Good, GoodTerm, opened_same_good}
-use Rattle.kp_symbolic_laws.specs.Runs.{HasOneSortEach, kept_whole}
+use Rattle.kp_symbolic_laws.specs.Runs.{HasOneSortEach, kept_whole, IfKeptWhole, OfKeptWhole}
 use Rattle.kp_symbolic_laws.proofs.Right.{IsRightEquation}
 
 -- ---- what is put in a variable's place
@@ -140,44 +139,39 @@ kept_good g hand sort e c one r a =
     ((all_placed g hand e xs one r a, flattened (λ x. Contains hand x) (replacement e) xs (all_given g hand e xs one r a)), tt)
 
 -- by what becomes of a clause: it stays, it is kept as one literal, or it is opened again
-pub by_case : (R : List (List Literal) → Type 0) (W : Type 0) (b d : Bool) (c k : List Literal) (ds : List (List Literal)) → (AnyByRecursion (λ z. z ≡ k) (if b then c ∷ [] else if d then k ∷ [] else ds) → W) → R (c ∷ []) → (W → R (k ∷ [])) → R ds → R (if b then c ∷ [] else if d then k ∷ [] else ds)
-by_case R W true d c k ds w i f j = i
-by_case R W false true c k ds w i f j = f (w (inl refl))
-by_case R W false false c k ds w i f j = j
+pub by_case : (R : List (List Literal) → Type 0) (W : Type 0) (b d : Bool) (c k : List Literal) (ds : List (List Literal)) → (b ≡ true → d ≡ true → W) → R (c ∷ []) → (W → R (k ∷ [])) → R ds → R (if not b then c ∷ [] else if d then k ∷ [] else ds)
+by_case R W false d c k ds w i f j = i
+by_case R W true true c k ds w i f j = f (w refl refl)
+by_case R W true false c k ds w i f j = j
 
--- of each of these clauses that is kept as one literal W holds
-abbrev pub OfKept : KoreSignature → KoreSort → Equation → ℕ → Option ℕ → (List Literal → Type 0) → List (List Literal) → Type 0
-OfKept g sort e n o W cs = (c : List Literal) → AnyByRecursion (λ d. d ≡ c) cs → AnyByRecursion (λ d. d ≡ kept_whole g sort e c) (solved_clauses g sort e n o cs) → W c
-
-pub any_first : (P : List Literal → Type 0) (xs ys : List (List Literal)) → AnyByRecursion P xs → AnyByRecursion P (xs ++ ys)
-any_first P [] ys a = absurd a
-any_first P (x ∷ xs) ys (inl p) = inl p
-any_first P (x ∷ xs) ys (inr a) = inr (any_first P xs ys a)
-
-pub any_second : (P : List Literal → Type 0) (xs ys : List (List Literal)) → AnyByRecursion P ys → AnyByRecursion P (xs ++ ys)
-any_second P [] ys a = a
-any_second P (x ∷ xs) ys a = inr (any_second P xs ys a)
-
-clause_keeps : (g : KoreSignature) (hand : List SortedName) (sort : KoreSort) (e : Equation) (n : ℕ) (c : List Literal) → HasOneSortEach hand → IsRightEquation g hand e → (AnyByRecursion (λ z. z ≡ kept_whole g sort e c) (solved_clause g sort e n c) → AreAtHand (free_variables (written_clause g sort c)) hand) → AllByRecursion (Good g hand) c → AllByRecursion (AllByRecursion (Good g hand)) (solved_clause g sort e n c)
-clause_keeps g hand sort e n c one r w i = by_case (AllByRecursion (AllByRecursion (Good g hand))) (AreAtHand (free_variables (written_clause g sort c)) hand) (not (is_named e.variable.name (clause_variables c))) (is_too_large n (opened_clause g e c)) c (kept_whole g sort e c) (distributed (opened_clause g e c)) w
+clause_keeps : (g : KoreSignature) (hand : List SortedName) (sort : KoreSort) (e : Equation) (n : ℕ) (c : List Literal) → HasOneSortEach hand → IsRightEquation g hand e → IfKeptWhole g e (λ d. AreAtHand (free_variables (written_clause g sort d)) hand) n c → AllByRecursion (Good g hand) c → AllByRecursion (AllByRecursion (Good g hand)) (solved_clause g sort e n c)
+clause_keeps g hand sort e n c one r w i = by_case (AllByRecursion (AllByRecursion (Good g hand))) (AreAtHand (free_variables (written_clause g sort c)) hand) (is_named e.variable.name (clause_variables c)) (is_too_large n (opened_clause g e c)) c (kept_whole g sort e c) (distributed (opened_clause g e c)) w
     (i, tt)
     (λ a. (kept_good g hand sort e c one r a, tt))
     (clauses_have (Good g hand) (opened_clause g e c) (literals_keep g hand e (is_single c) c one r i))
 
-pub clauses_keep : (g : KoreSignature) (hand : List SortedName) (sort : KoreSort) (e : Equation) (n : ℕ) (o : Option ℕ) (cs : List (List Literal)) → HasOneSortEach hand → IsRightEquation g hand e → OfKept g sort e n o (λ c. AreAtHand (free_variables (written_clause g sort c)) hand) cs → AllByRecursion (AllByRecursion (Good g hand)) cs → AllByRecursion (AllByRecursion (Good g hand)) (solved_clauses g sort e n o cs)
+pub clauses_keep : (g : KoreSignature) (hand : List SortedName) (sort : KoreSort) (e : Equation) (n : ℕ) (o : Option ℕ) (cs : List (List Literal)) → HasOneSortEach hand → IsRightEquation g hand e → OfKeptWhole g sort e (λ c. AreAtHand (free_variables (written_clause g sort c)) hand) n o cs → AllByRecursion (AllByRecursion (Good g hand)) cs → AllByRecursion (AllByRecursion (Good g hand)) (solved_clauses g sort e n o cs)
 clauses_keep g hand sort e n o [] one r w i = tt
-clauses_keep g hand sort e n (Some zero) (c ∷ cs) one r w i = (i.0, clauses_keep g hand sort e (n + length c) None cs one r (λ d a k. w d (inr a) (inr k)) i.1)
+clauses_keep g hand sort e n (Some zero) (c ∷ cs) one r w i = (i.0, clauses_keep g hand sort e (n + length c) None cs one r w i.1)
 clauses_keep g hand sort e n (Some (suc j)) (c ∷ cs) one r w i =
     let first = solved_clause g sort e n c in
     let m = n + literals_in first in
-    let rest = solved_clauses g sort e m (Some j) cs in
-    all_both (AllByRecursion (Good g hand)) first rest
-    (clause_keeps g hand sort e n c one r (λ k. w c (inl refl) (any_first (λ z. z ≡ kept_whole g sort e c) first rest k)) i.0)
-    (clauses_keep g hand sort e m (Some j) cs one r (λ d a k. w d (inr a) (any_second (λ z. z ≡ kept_whole g sort e d) first rest k)) i.1)
+    all_both (AllByRecursion (Good g hand)) first (solved_clauses g sort e m (Some j) cs) (clause_keeps g hand sort e n c one r w.0 i.0) (clauses_keep g hand sort e m (Some j) cs one r w.1 i.1)
 clauses_keep g hand sort e n None (c ∷ cs) one r w i =
     let first = solved_clause g sort e n c in
     let m = n + literals_in first in
-    let rest = solved_clauses g sort e m None cs in
-    all_both (AllByRecursion (Good g hand)) first rest
-    (clause_keeps g hand sort e n c one r (λ k. w c (inl refl) (any_first (λ z. z ≡ kept_whole g sort e c) first rest k)) i.0)
-    (clauses_keep g hand sort e m None cs one r (λ d a k. w d (inr a) (any_second (λ z. z ≡ kept_whole g sort e d) first rest k)) i.1)
+    all_both (AllByRecursion (Good g hand)) first (solved_clauses g sort e m None cs) (clause_keeps g hand sort e n c one r w.0 i.0) (clauses_keep g hand sort e m None cs one r w.1 i.1)
+
+-- ---- what holds of the clauses that are kept as one literal
+
+pub whole_of_all : (g : KoreSignature) (sort : KoreSort) (e : Equation) (P R : List Literal → Type 0) (n : ℕ) (o : Option ℕ) (cs : List (List Literal)) → ((c : List Literal) → R c → P c) → AllByRecursion R cs → OfKeptWhole g sort e P n o cs
+whole_of_all g sort e P R n o [] f a = tt
+whole_of_all g sort e P R n (Some zero) (c ∷ cs) f a = whole_of_all g sort e P R (n + length c) None cs f a.1
+whole_of_all g sort e P R n (Some (suc i)) (c ∷ cs) f a = ((λ x y. f c a.0), whole_of_all g sort e P R (n + literals_in (solved_clause g sort e n c)) (Some i) cs f a.1)
+whole_of_all g sort e P R n None (c ∷ cs) f a = ((λ x y. f c a.0), whole_of_all g sort e P R (n + literals_in (solved_clause g sort e n c)) None cs f a.1)
+
+pub whole_also : (g : KoreSignature) (sort : KoreSort) (e : Equation) (P Q R : List Literal → Type 0) (n : ℕ) (o : Option ℕ) (cs : List (List Literal)) → ((c : List Literal) → R c → P c → Q c) → AllByRecursion R cs → OfKeptWhole g sort e P n o cs → OfKeptWhole g sort e Q n o cs
+whole_also g sort e P Q R n o [] f a w = tt
+whole_also g sort e P Q R n (Some zero) (c ∷ cs) f a w = whole_also g sort e P Q R (n + length c) None cs f a.1 w
+whole_also g sort e P Q R n (Some (suc i)) (c ∷ cs) f a w = ((λ x y. f c a.0 (w.0 x y)), whole_also g sort e P Q R (n + literals_in (solved_clause g sort e n c)) (Some i) cs f a.1 w.1)
+whole_also g sort e P Q R n None (c ∷ cs) f a w = ((λ x y. f c a.0 (w.0 x y)), whole_also g sort e P Q R (n + literals_in (solved_clause g sort e n c)) None cs f a.1 w.1)

@@ -112,7 +112,7 @@ pub new_apart : (used : List Text) (ss : KoreSorts) (y : Text) → length used +
 new_apart used no_sorts y b h = refl
 new_apart used (next_sort s ss) y b h = rw (other_name used y (omega (arith, b)) h) (new_apart (least_fresh used ∷ used) ss y (omega (arith, b)) (either_true (bytes_eq y (least_fresh used)) (list_any (bytes_eq y) used) h))
 
-holds_first : (x : Text) (used : List Text) → Holds (x ∷ used) x
+pub holds_first : (x : Text) (used : List Text) → Holds (x ∷ used) x
 holds_first x used = rw ((bytes_eq-Decides x x).1 refl) refl
 
 pub new_are_variables : (used : List Text) (ss : KoreSorts) → length used + length (sort_list ss) < 2 ^ 64 → are_variables (new_variables used ss) ss (variables_of (new_variables used ss)) ≡ true

@@ -44,7 +44,7 @@ either_false : (a b : Bool) → a || b ≡ false → (a ≡ false) × (b ≡ fal
 either_false true b e = absurd (cc)
 either_false false b e = (refl, e)
 
-abbrev LeafHas : (Literal → Type 0) → (KorePattern → Type 0) → Leaf → Type 0
+abbrev pub LeafHas : (Literal → Type 0) → (KorePattern → Type 0) → Leaf → Type 0
 LeafHas P V leaf = (alone b : Bool) (p : KorePattern) → is_left p ≡ true → V p → AllFacts P (leaf alone b p)
 
 mutual
@@ -105,7 +105,7 @@ two_tests false false h e = absurd (cc)
 abbrev At : List SortedName → SortedName → Type 0
 At hand x = Contains hand x
 
-among_closed : (g : KoreSignature) (hand : List SortedName) → IsClosed (IsAmong g hand) (AreAmong g hand)
+pub among_closed : (g : KoreSignature) (hand : List SortedName) → IsClosed (IsAmong g hand) (AreAmong g hand)
 among_closed g hand = record {
   denied = λ s p h. record { stands = negation_stands g [] s p h.stands; predicate = h.predicate; at_hand = h.at_hand };
   conjoined = λ s ps h. record { stand = conjunction_stands g [] s ps h.stands; predicates = h.predicate; at_hand = h.at_hand };
@@ -149,7 +149,7 @@ quotation_has : (g : KoreSignature) (hand : List SortedName) (b : Bool) (p : Kor
 quotation_has g hand b p a = (placed_as_they_are g (free_variables p), flat_itself hand (free_variables p) a)
 
 -- the members of a conjunction under \ceil have the sort of \ceil
-pair_stands : (g : KoreSignature) (a s t : KoreSort) (p q : KorePattern) → Stands g [] (ceil a s (conjunction t (next_pattern p (next_pattern q no_patterns)))) → StandBoth g [] a p q
+pub pair_stands : (g : KoreSignature) (a s t : KoreSort) (p q : KorePattern) → Stands g [] (ceil a s (conjunction t (next_pattern p (next_pattern q no_patterns)))) → StandBoth g [] a p q
 pair_stands g a s t p q h =
     let ps = next_pattern q no_patterns in
     let under = nothing_later _ _ h.faultless in
@@ -167,7 +167,7 @@ pair_stands g a s t p q h =
       second_wanted = ap Some (sym same);
     }
 
-term_ceil : (g : KoreSignature) (P : Literal → Type 0) (alone b : Bool) (a : KoreSort) (p : KorePattern) → is_term p ≡ true → AllFacts P (opened_ceil g [] alone b a p)
+pub term_ceil : (g : KoreSignature) (P : Literal → Type 0) (alone b : Bool) (a : KoreSort) (p : KorePattern) → is_term p ≡ true → AllFacts P (opened_ceil g [] alone b a p)
 term_ceil g P alone b a (variable x s) e = if_have P b _ tt
 term_ceil g P alone b a (literal s x) e = if_have P b _ tt
 term_ceil g P alone b a (application f ss ps) e = if_have P b _ tt
@@ -277,7 +277,7 @@ quoted_has : (g : KoreSignature) (hand : List SortedName) (b : Bool) (p : KorePa
 quoted_has g hand b (negation s p) a = quoted_has g hand (not b) p a
 quoted_has g hand b p a = quotation_has g hand b p a
 
-by_size : (P : List Literal → Type 0) (b : Bool) (cs ds : List (List Literal)) → AllByRecursion P cs → AllByRecursion P ds → AllByRecursion P (if b then cs else ds)
+pub by_size : (P : List Literal → Type 0) (b : Bool) (cs ds : List (List Literal)) → AllByRecursion P cs → AllByRecursion P ds → AllByRecursion P (if b then cs else ds)
 by_size P true cs ds i j = i
 by_size P false cs ds i j = j
 

@@ -44,19 +44,19 @@ one_sort g c p e x y i j n =
 
 -- ---- the members of a verified pattern
 
-abbrev IsMember : KoreSignature → List SortedName → KorePattern → Type 0
+abbrev pub IsMember : KoreSignature → List SortedName → KorePattern → Type 0
 IsMember g hand p = Stands g [] p × AreAtHand (free_variables p) hand
 
 abbrev AreMembers : KoreSignature → List SortedName → KorePatterns → Type 0
 AreMembers g hand ps = StandAll g [] ps × AreAtHand (all_free_variables ps) hand
 
-members : (g : KoreSignature) (hand : List SortedName) (p : KorePattern) → IsMember g hand p → AllByRecursion (IsMember g hand) (conjuncts p)
+pub members : (g : KoreSignature) (hand : List SortedName) (p : KorePattern) → IsMember g hand p → AllByRecursion (IsMember g hand) (conjuncts p)
 members g hand p h = conjuncts_read (IsMember g hand) (AreMembers g hand) p
     (λ s ps i. (conjunction_stands g [] s ps i.0, i.1))
     (λ q qs i. ((first_stands g [] q qs i.0, all_first (λ x. Contains hand x) (free_variables q) (all_free_variables qs) i.1), (others_stand g [] q qs i.0, all_second (λ x. Contains hand x) (free_variables q) (all_free_variables qs) i.1)))
     h
 
-both_read : (g : KoreSignature) (hand : List SortedName) (ps : List KorePattern) → AllByRecursion (λ q. IsMember g hand q × (not (is_term q) ≡ true)) ps → AllByRecursion (λ q. is_predicate q ≡ true) ps → AllByRecursion (IsAmong g hand) ps
+pub both_read : (g : KoreSignature) (hand : List SortedName) (ps : List KorePattern) → AllByRecursion (λ q. IsMember g hand q × (not (is_term q) ≡ true)) ps → AllByRecursion (λ q. is_predicate q ≡ true) ps → AllByRecursion (IsAmong g hand) ps
 both_read g hand [] a b = tt
 both_read g hand (p ∷ ps) a b = (record { stands = a.0.0.0; predicate = b.0; at_hand = a.0.0.1 }, both_read g hand ps a.1 b.1)
 

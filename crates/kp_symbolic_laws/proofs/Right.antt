@@ -32,7 +32,7 @@ none_is_some e = cc
 below : (g : KoreSignature) (a b : KoreSort) → is_below g.subsorts a b ≡ true → IsBelow g.subsorts a b
 below g a b e = (is_below-Decides g.subsorts a b).0 e
 
-value_at : (g : KoreSignature) (s a : KoreSort) (u : Value) → HasSort g s u → is_sort_below g (own_sort g u) a ≡ true → HasSort g a u
+pub value_at : (g : KoreSignature) (s a : KoreSort) (u : Value) → HasSort g s u → is_sort_below g (own_sort g u) a ≡ true → HasSort g a u
 value_at g s a (whole n) h e = (h.0, h.1, below g h.0 a (subst (λ o. is_sort_below g o a ≡ true) h.1 e))
 value_at g s a (truth b) h e = (h.0, h.1, below g h.0 a (subst (λ o. is_sort_below g o a ≡ true) h.1 e))
 value_at g s a (token t x) h e = (h.0, h.1, below g h.0 a (subst (λ z. is_below g.subsorts z a ≡ true) h.1.0 e))

@@ -1,6 +1,6 @@
 -- A state with the sorts of its places has, where an equation is solved, the instances that it had, under a valuation that
 -- gives the variables at hand values of their sorts.
-use Rattle.std.proofs.Common.{◌≡◌, refl, sym, ◌∙◌, subst, inl, inr, ℕ, zero, suc, ◌+◌, Bool, true, false, not, ◌&&◌, List, [], ◌∷◌, ◌++◌, length, Option, Some, None, ◌↔◌}
+use Rattle.std.proofs.Common.{◌≡◌, refl, sym, ◌∙◌, subst, ℕ, zero, suc, ◌+◌, Bool, true, false, not, ◌&&◌, List, [], ◌∷◌, ◌++◌, length, Option, Some, None, ◌↔◌}
 use Rattle.std.specs.Prelude.{if◌then◌else◌, is_some}
 use Rattle.std.specs.List.{AllByRecursion, Contains, flat_map}
 use Rattle.std.specs.Str.{bytes_eq}
@@ -8,7 +8,6 @@ use Rattle.kp_kore.specs.Syntax.{Text, KoreSort, KorePattern}
 use Rattle.kp_kore.specs.Parts.{SortedName, free_variables}
 use Rattle.kp_kore.specs.Signature.{KoreSignature, itself}
 use Rattle.kp_semantics.specs.Value.{Value, HasSort, head_of}
-use Rattle.kp_semantics.specs.Steps.{AnyByRecursion}
 use Rattle.kp_semantics.specs.Instance.{Valuation, GivesSorts, AgreesOn, is_named, IsTrueUnder}
 use Rattle.kp_semantics.proofs.TruthLemmas.{same_truth}
 use Rattle.kp_semantics.proofs.TurnLemmas.{of_member}
@@ -31,9 +30,9 @@ use Rattle.kp_symbolic.proofs.HeadQuestions.{test_says}
 use Rattle.kp_symbolic.proofs.Leaf.{formula_says, one_literal, once_says, then_says}
 use Rattle.kp_symbolic.proofs.Equations.{IsMet, met_clause}
 use Rattle.kp_symbolic.proofs.Facts.{Good, GoodTerm}
-use Rattle.kp_symbolic_laws.specs.Runs.{HasOneSortEach, IsSortedState, kept_whole, IsKeptWhole, IsWrittenRight}
+use Rattle.kp_symbolic_laws.specs.Runs.{HasOneSortEach, IsSortedState, kept_whole, IfKeptWhole, OfKeptWhole, OfKeptAt, IsWrittenRight}
 use Rattle.kp_symbolic_laws.proofs.Right.{IsRightEquation, right_clause}
-use Rattle.kp_symbolic_laws.proofs.Keeping.{IsPut, all_given, put_in, put_into, by_case, OfKept, any_first, any_second}
+use Rattle.kp_symbolic_laws.proofs.Keeping.{IsPut, all_given, put_in, put_into, by_case}
 use Rattle.kp_symbolic_laws.proofs.Found.{at_place, at_place_still, found_in}
 
 -- what a step of solving goes by: the variables at hand, each name of one sort, with values of their sorts, and a right
@@ -139,8 +138,8 @@ whole_kept g v sort e c m i =
     let k = same_truth g (written_clause g sort c) v (under_replaced g (replacement e) v) (everywhere g v e (free_variables (written_clause g sort c)) m) in
     then_says (one_literal g v (record { holds = true; atom = quoted (written_clause g sort c) (replacement e) })) (then_says (k.1, k.0) i)
 
-clause_kept : (g : KoreSignature) (v : Valuation) (hand : List SortedName) (sort : KoreSort) (e : Equation) (n : ℕ) (c : List Literal) → IsStep g v hand e → (AnyByRecursion (λ z. z ≡ kept_whole g sort e c) (solved_clause g sort e n c) → IsTrueUnder g v (written_clause g sort c) ↔ IsClauseTrue g v c) → AllByRecursion (Good g hand) c → AreTrue g v (solved_clause g sort e n c) ↔ IsClauseTrue g v c
-clause_kept g v hand sort e n c k w h = by_case (λ zs. AreTrue g v zs ↔ IsClauseTrue g v c) (IsTrueUnder g v (written_clause g sort c) ↔ IsClauseTrue g v c) (not (is_named e.variable.name (clause_variables c))) (is_too_large n (opened_clause g e c)) c (kept_whole g sort e c) (distributed (opened_clause g e c)) w
+clause_kept : (g : KoreSignature) (v : Valuation) (hand : List SortedName) (sort : KoreSort) (e : Equation) (n : ℕ) (c : List Literal) → IsStep g v hand e → IfKeptWhole g e (λ d. IsTrueUnder g v (written_clause g sort d) ↔ IsClauseTrue g v d) n c → AllByRecursion (Good g hand) c → AreTrue g v (solved_clause g sort e n c) ↔ IsClauseTrue g v c
+clause_kept g v hand sort e n c k w h = by_case (λ zs. AreTrue g v zs ↔ IsClauseTrue g v c) (IsTrueUnder g v (written_clause g sort c) ↔ IsClauseTrue g v c) (is_named e.variable.name (clause_variables c)) (is_too_large n (opened_clause g e c)) c (kept_whole g sort e c) (distributed (opened_clause g e c)) w
     ((λ a. a.0), (λ a. (a, tt)))
     (λ i. whole_kept g v sort e c k.met i)
     (opened_kept g v hand e c k h)
@@ -151,23 +150,17 @@ two_lists g v xs bs A B i j = (
   (λ h. all_both (IsClauseTrue g v) xs bs (i.1 h.0) (j.1 h.1)),
 )
 
-clauses_kept : (g : KoreSignature) (v : Valuation) (hand : List SortedName) (sort : KoreSort) (e : Equation) (n : ℕ) (o : Option ℕ) (cs : List (List Literal)) → IsStep g v hand e → OfKept g sort e n o (λ c. IsTrueUnder g v (written_clause g sort c) ↔ IsClauseTrue g v c) cs → AllByRecursion (AllByRecursion (Good g hand)) cs → AreTrue g v (solved_clauses g sort e n o cs) ↔ AreTrue g v cs
+clauses_kept : (g : KoreSignature) (v : Valuation) (hand : List SortedName) (sort : KoreSort) (e : Equation) (n : ℕ) (o : Option ℕ) (cs : List (List Literal)) → IsStep g v hand e → OfKeptWhole g sort e (λ c. IsTrueUnder g v (written_clause g sort c) ↔ IsClauseTrue g v c) n o cs → AllByRecursion (AllByRecursion (Good g hand)) cs → AreTrue g v (solved_clauses g sort e n o cs) ↔ AreTrue g v cs
 clauses_kept g v hand sort e n o [] k w h = ((λ a. a), (λ a. a))
-clauses_kept g v hand sort e n (Some zero) (c ∷ cs) k w h = let j = clauses_kept g v hand sort e (n + length c) None cs k (λ d a q. w d (inr a) (inr q)) h.1 in ((λ a. (a.0, j.0 a.1)), (λ a. (a.0, j.1 a.1)))
+clauses_kept g v hand sort e n (Some zero) (c ∷ cs) k w h = let j = clauses_kept g v hand sort e (n + length c) None cs k w h.1 in ((λ a. (a.0, j.0 a.1)), (λ a. (a.0, j.1 a.1)))
 clauses_kept g v hand sort e n (Some (suc i)) (c ∷ cs) k w h =
     let first = solved_clause g sort e n c in
     let m = n + literals_in first in
-    let rest = solved_clauses g sort e m (Some i) cs in
-    two_lists g v first rest (IsClauseTrue g v c) (AreTrue g v cs)
-    (clause_kept g v hand sort e n c k (λ q. w c (inl refl) (any_first (λ z. z ≡ kept_whole g sort e c) first rest q)) h.0)
-    (clauses_kept g v hand sort e m (Some i) cs k (λ d a q. w d (inr a) (any_second (λ z. z ≡ kept_whole g sort e d) first rest q)) h.1)
+    two_lists g v first (solved_clauses g sort e m (Some i) cs) (IsClauseTrue g v c) (AreTrue g v cs) (clause_kept g v hand sort e n c k w.0 h.0) (clauses_kept g v hand sort e m (Some i) cs k w.1 h.1)
 clauses_kept g v hand sort e n None (c ∷ cs) k w h =
     let first = solved_clause g sort e n c in
     let m = n + literals_in first in
-    let rest = solved_clauses g sort e m None cs in
-    two_lists g v first rest (IsClauseTrue g v c) (AreTrue g v cs)
-    (clause_kept g v hand sort e n c k (λ q. w c (inl refl) (any_first (λ z. z ≡ kept_whole g sort e c) first rest q)) h.0)
-    (clauses_kept g v hand sort e m None cs k (λ d a q. w d (inr a) (any_second (λ z. z ≡ kept_whole g sort e d) first rest q)) h.1)
+    two_lists g v first (solved_clauses g sort e m None cs) (IsClauseTrue g v c) (AreTrue g v cs) (clause_kept g v hand sort e n c k w.0 h.0) (clauses_kept g v hand sort e m None cs k w.1 h.1)
 
 -- ---- states
 
@@ -177,7 +170,7 @@ one_literal_good g v hand c l h a q = let i = (subst (AllByRecursion (Good g han
 pub right_of : (g : KoreSignature) (s : SymbolicState) (o : Solvable) → IsSortedState g s → first_solvable g s ≡ Some o → IsRightEquation g s.variables o.equation
 right_of g s o k q = let f = found_in g s o q in right_clause g s.variables f.clause o.equation (at_place (AllByRecursion (Good g s.variables)) o.place s.clauses f.clause k.literals f.stands) f.gives
 
-pub step_instance : (g : KoreSignature) (v : Valuation) (s : SymbolicState) (o : Solvable) (u : Value) → IsSortedState g s → GivesSorts g v s.variables → first_solvable g s ≡ Some o → ((c : List Literal) → IsKeptWhole g s o c → IsWrittenRight g v s c) → IsStateInstance g v s u ↔ IsStateInstance g v (solved_at g o s) u
+pub step_instance : (g : KoreSignature) (v : Valuation) (s : SymbolicState) (o : Solvable) (u : Value) → IsSortedState g s → GivesSorts g v s.variables → first_solvable g s ≡ Some o → OfKeptAt g (IsWrittenRight g v) s o → IsStateInstance g v s u ↔ IsStateInstance g v (solved_at g o s) u
 step_instance g v s o u k h q w =
     let e = o.equation in
     let hand = s.variables in
@@ -185,7 +178,7 @@ step_instance g v s o u k h q w =
     let good = at_place (AllByRecursion (Good g hand)) o.place s.clauses f.clause k.literals f.stands in
     let met : IsClauseTrue g v f.clause → IsMet g v e = λ t. met_clause g v f.clause e (λ l i. one_literal_good g v hand f.clause l h good i) t f.gives in
     let step : IsMet g v e → IsStep g v hand e = λ m. record { one = k.one_sort_each; right = right_of g s o k q; met = m; gives = h } in
-    let clauses : IsMet g v e → AreTrue g v (solved_clauses g s.sort e 0 (Some o.place) s.clauses) ↔ AreTrue g v s.clauses = λ m. clauses_kept g v hand s.sort e 0 (Some o.place) s.clauses (step m) (λ c a b. w c (record { stands = a; kept = b })) k.literals in
+    let clauses : IsMet g v e → AreTrue g v (solved_clauses g s.sort e 0 (Some o.place) s.clauses) ↔ AreTrue g v s.clauses = λ m. clauses_kept g v hand s.sort e 0 (Some o.place) s.clauses (step m) w k.literals in
     let term : IsMet g v e → term_instance g v (replaced g (replacement e) s.term) ≡ term_instance g v s.term = λ m. term_kept g v hand e s.sort s.term (step m) (k.term, k.term_at_hand) in
     let once = once_says g v (solved_clauses g s.sort e 0 (Some o.place) s.clauses) in (
       (λ i. let m = met (at_place (IsClauseTrue g v) o.place s.clauses f.clause i.clauses f.stands) in record { term = i.term ∙ sym (term m); clauses = once.1 ((clauses m).1 i.clauses) }),

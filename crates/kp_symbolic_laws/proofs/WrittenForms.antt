@@ -12,7 +12,7 @@ use Rattle.kp_states.specs.Spelled.{places_of}
 use Rattle.kp_symbolic.specs.Terms.{SymbolicTerm, unknown, offset, known, headed, Replaced}
 use Rattle.kp_symbolic.specs.States.{one_head, head_of_sort, Atom, same, has_head, quoted, Literal}
 use Rattle.kp_symbolic.specs.Writing.{least_fresh, new_variables, under_exists, variables_of, bound_name, renamed, written_under, all_written_under, written_atom, written_signed, written_literal, is_solved_by, is_second_solved, turned_if, written_literals, written_clause, written_clauses}
-use Rattle.kp_symbolic_laws.specs.Runs.{IsWrittenAtom}
+use Rattle.kp_symbolic_laws.specs.Runs.{IsPredicateAtom}
 use Rattle.kp_symbolic_laws.proofs.WrittenUnder.{term_form, two_of_three, placed_term, written_is_term, term_kept, pair_kept}
 
 both : (a b : Bool) → a ≡ true → b ≡ true → a && b ≡ true
@@ -66,7 +66,7 @@ two_sides g rs p q h =
     both (is_term (written_under g rs p)) (is_term (written_under g rs q)) (term_kept g rs p (term_form p i) ∙ i) (term_kept g rs q (term_form q j) ∙ j)
 
 mutual
-  under_predicate : (g : KoreSignature) (rs : List Replaced) (p : KorePattern) → is_predicate p ≡ true → is_predicate (written_under g rs p) ≡ true
+  pub under_predicate : (g : KoreSignature) (rs : List Replaced) (p : KorePattern) → is_predicate p ≡ true → is_predicate (written_under g rs p) ≡ true
   under_predicate g rs (top s) h = refl
   under_predicate g rs (bottom s) h = refl
   under_predicate g rs (negation s p) h = under_predicate g rs p h
@@ -96,17 +96,17 @@ under_all : (sort : KoreSort) (xs : List SortedName) (p : KorePattern) → is_pr
 under_all sort [] p h = h
 under_all sort (x ∷ xs) p h = under_all sort xs p h
 
-variables_are_terms : (xs : List SortedName) → are_terms (variables_of xs) ≡ true
+pub variables_are_terms : (xs : List SortedName) → are_terms (variables_of xs) ≡ true
 variables_are_terms [] = refl
 variables_are_terms (x ∷ xs) = variables_are_terms xs
 
-pub atom_predicate : (g : KoreSignature) (sort : KoreSort) (a : Atom) → IsWrittenAtom g a → is_predicate (written_atom g sort a) ≡ true
+pub atom_predicate : (g : KoreSignature) (sort : KoreSort) (a : Atom) → IsPredicateAtom a → is_predicate (written_atom g sort a) ≡ true
 atom_predicate g sort (same s t u) o = both _ _ (written_is_term g s t) (written_is_term g s u)
 atom_predicate g sort (has_head x (one_head c)) o =
     let xs = new_variables (x.name ∷ []) (places_of g c) in
     under_all sort xs _ (placed_term (unwrap_or (result_sort g c no_sorts) x.sort) x.sort (application c no_sorts (variables_of xs)) (variables_are_terms xs))
 atom_predicate g sort (has_head x (head_of_sort s)) o = placed_term s x.sort (variable (least_fresh (x.name ∷ [])) s) refl
-atom_predicate g sort (quoted p rs) o = under_predicate g rs p o.predicate
+atom_predicate g sort (quoted p rs) o = under_predicate g rs p o
 
 signed_predicate : (sort : KoreSort) (b : Bool) (p : KorePattern) → is_predicate p ≡ true → is_predicate (written_signed sort b p) ≡ true
 signed_predicate sort true p h = h
@@ -121,7 +121,7 @@ by_name : (g : KoreSignature) (sort s : KoreSort) (t u : SymbolicTerm) (b : Bool
 by_name g sort s t u true = both _ _ (written_is_term g s u) (written_is_term g s t)
 by_name g sort s t u false = both _ _ (written_is_term g s t) (written_is_term g s u)
 
-turned_predicate : (g : KoreSignature) (sort : KoreSort) (b : Bool) (a : Atom) → IsWrittenAtom g a → is_predicate (written_literal g sort (turned g b a)) ≡ true
+turned_predicate : (g : KoreSignature) (sort : KoreSort) (b : Bool) (a : Atom) → IsPredicateAtom a → is_predicate (written_literal g sort (turned g b a)) ≡ true
 turned_predicate g sort true (same s (unknown x) (unknown y)) o = by_name g sort s (unknown x) (unknown y) (is_second_solved g x y)
 turned_predicate g sort true (same s (offset x c) (unknown y)) o = by_name g sort s (offset x c) (unknown y) (is_solved_by g y (offset x c))
 turned_predicate g sort true (same s (known u) (unknown y)) o = by_name g sort s (known u) (unknown y) (is_solved_by g y (known u))
@@ -142,15 +142,15 @@ turned_predicate g sort true (has_head x test) o = atom_predicate g sort (has_he
 turned_predicate g sort true (quoted p rs) o = atom_predicate g sort (quoted p rs) o
 turned_predicate g sort false a o = signed_predicate sort false (written_atom g sort a) (atom_predicate g sort a o)
 
-literals_are : (g : KoreSignature) (sort : KoreSort) (c : List Literal) → AllByRecursion (λ l. IsWrittenAtom g l.atom) c → are_predicates (written_literals g sort c) ≡ true
+literals_are : (g : KoreSignature) (sort : KoreSort) (c : List Literal) → AllByRecursion (λ l. IsPredicateAtom l.atom) c → are_predicates (written_literals g sort c) ≡ true
 literals_are g sort [] o = refl
 literals_are g sort (l ∷ c) o = both _ _ (signed_predicate sort l.holds (written_atom g sort l.atom) (atom_predicate g sort l.atom o.0)) (literals_are g sort c o.1)
 
-clause_predicate : (g : KoreSignature) (sort : KoreSort) (c : List Literal) → AllByRecursion (λ l. IsWrittenAtom g l.atom) c → is_predicate (written_clause g sort c) ≡ true
+pub clause_predicate : (g : KoreSignature) (sort : KoreSort) (c : List Literal) → AllByRecursion (λ l. IsPredicateAtom l.atom) c → is_predicate (written_clause g sort c) ≡ true
 clause_predicate g sort [] o = refl
 clause_predicate g sort (l ∷ []) o = turned_predicate g sort l.holds l.atom o.0
 clause_predicate g sort (l ∷ m ∷ c) o = literals_are g sort (l ∷ m ∷ c) o
 
-pub clauses_are_predicates : (g : KoreSignature) (sort : KoreSort) (cs : List (List Literal)) → AllByRecursion (AllByRecursion (λ l. IsWrittenAtom g l.atom)) cs → are_predicates (written_clauses g sort cs) ≡ true
+pub clauses_are_predicates : (g : KoreSignature) (sort : KoreSort) (cs : List (List Literal)) → AllByRecursion (AllByRecursion (λ l. IsPredicateAtom l.atom)) cs → are_predicates (written_clauses g sort cs) ≡ true
 clauses_are_predicates g sort [] o = refl
 clauses_are_predicates g sort (c ∷ cs) o = both _ _ (clause_predicate g sort c o.0) (clauses_are_predicates g sort cs o.1)

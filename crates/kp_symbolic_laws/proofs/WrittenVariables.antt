@@ -17,11 +17,11 @@ use Rattle.kp_states.proofs.SpelledForms.{spelling_closed}
 use Rattle.kp_symbolic.specs.Terms.{SymbolicTerm, unknown, offset, known, headed, SymbolicTerms, no_terms, next_term, term_variables, all_term_variables, Replaced, replacement_for}
 use Rattle.kp_symbolic.specs.Folding.{least_symbol, folded}
 use Rattle.kp_symbolic.specs.States.{Atom, same, has_head, quoted, atom_variables, variables_for, Literal, clause_variables, SymbolicState}
-use Rattle.kp_symbolic.specs.Writing.{bound_name, renamed, written_under, all_written_under, written_call, written_sum, written_term, written_terms, written_atom, written_signed, written_literal, is_solved_by, is_second_solved, turned_if, written_literals, written_clause}
+use Rattle.kp_symbolic.specs.Writing.{bound_name, renamed, written_under, all_written_under, written_call, written_sum, written_term, written_terms, written_atom, written_signed, written_literal, is_solved_by, is_second_solved, turned_if, written_literals, written_clause, written_clauses, written_state}
 use Rattle.kp_symbolic.proofs.Distribution.{all_both, all_first, all_second}
 use Rattle.kp_symbolic.proofs.Folded.{OfEach, folded_variables}
 use Rattle.kp_symbolic.proofs.Facts.{Good}
-use Rattle.kp_symbolic_laws.specs.Runs.{IsWrittenAtom, IsWrittenOfThese}
+use Rattle.kp_symbolic_laws.specs.Runs.{IsPredicateAtom, IsSortedState, IsWrittenOfThese}
 use Rattle.kp_symbolic_laws.proofs.Binders.{other_way}
 use Rattle.kp_symbolic_laws.proofs.HeadTests.{placed_variables, test_variables}
 
@@ -113,7 +113,7 @@ by_two R false true e i j = j refl
 by_two R false false e i j = absurd (cc)
 
 mutual
-  under_variables : (g : KoreSignature) (Q : SortedName → Type 0) (rs : List Replaced) (p : KorePattern) → is_predicate p ≡ true → OfEach rs Q (free_variables p) → AllByRecursion Q (free_variables (written_under g rs p))
+  pub under_variables : (g : KoreSignature) (Q : SortedName → Type 0) (rs : List Replaced) (p : KorePattern) → is_predicate p ≡ true → OfEach rs Q (free_variables p) → AllByRecursion Q (free_variables (written_under g rs p))
   under_variables g Q rs (top s) h a = tt
   under_variables g Q rs (bottom s) h a = tt
   under_variables g Q rs (negation s p) h a = under_variables g Q rs p h a
@@ -155,16 +155,16 @@ each_of Q rs (x ∷ xs) a =
 sides_written : (g : KoreSignature) (Q : SortedName → Type 0) (s : KoreSort) (t u : SymbolicTerm) → AllByRecursion Q (term_variables t) → AllByRecursion Q (term_variables u) → AllByRecursion Q (free_variables (written_term g s t) ++ free_variables (written_term g s u))
 sides_written g Q s t u a b = all_both Q (free_variables (written_term g s t)) (free_variables (written_term g s u)) (written_variables g Q s t a) (written_variables g Q s u b)
 
-atom_written : (g : KoreSignature) (Q : SortedName → Type 0) (sort : KoreSort) (a : Atom) → IsWrittenAtom g a → AllByRecursion Q (atom_variables a) → AllByRecursion Q (free_variables (written_atom g sort a))
+atom_written : (g : KoreSignature) (Q : SortedName → Type 0) (sort : KoreSort) (a : Atom) → IsPredicateAtom a → AllByRecursion Q (atom_variables a) → AllByRecursion Q (free_variables (written_atom g sort a))
 atom_written g Q sort (same s t u) o a = sides_written g Q s t u (all_first Q (term_variables t) (term_variables u) a) (all_second Q (term_variables t) (term_variables u) a)
 atom_written g Q sort (has_head x test) o a = test_variables g Q sort x test a.0
-atom_written g Q sort (quoted p rs) o a = under_variables g Q rs p o.predicate (each_of Q rs (free_variables p) a)
+atom_written g Q sort (quoted p rs) o a = under_variables g Q rs p o (each_of Q rs (free_variables p) a)
 
 signed_written : (g : KoreSignature) (Q : SortedName → Type 0) (sort : KoreSort) (b : Bool) (a : Atom) → AllByRecursion Q (free_variables (written_atom g sort a)) → AllByRecursion Q (free_variables (written_signed sort b (written_atom g sort a)))
 signed_written g Q sort true a h = h
 signed_written g Q sort false a h = h
 
-literals_written : (g : KoreSignature) (Q : SortedName → Type 0) (sort : KoreSort) (c : List Literal) → AllByRecursion (λ l. IsWrittenAtom g l.atom) c → AllByRecursion Q (clause_variables c) → AllByRecursion Q (all_free_variables (written_literals g sort c))
+literals_written : (g : KoreSignature) (Q : SortedName → Type 0) (sort : KoreSort) (c : List Literal) → AllByRecursion (λ l. IsPredicateAtom l.atom) c → AllByRecursion Q (clause_variables c) → AllByRecursion Q (all_free_variables (written_literals g sort c))
 literals_written g Q sort [] o a = tt
 literals_written g Q sort (l ∷ c) o a = all_both Q (free_variables (written_literal g sort l)) (all_free_variables (written_literals g sort c))
     (signed_written g Q sort l.holds l.atom (atom_written g Q sort l.atom o.0 (all_first Q (atom_variables l.atom) (clause_variables c) a)))
@@ -179,7 +179,7 @@ by_name : (g : KoreSignature) (Q : SortedName → Type 0) (sort s : KoreSort) (b
 by_name g Q sort s true t u a = sides_written g Q s u t (all_second Q (term_variables t) (term_variables u) a) (all_first Q (term_variables t) (term_variables u) a)
 by_name g Q sort s false t u a = sides_written g Q s t u (all_first Q (term_variables t) (term_variables u) a) (all_second Q (term_variables t) (term_variables u) a)
 
-turned_written : (g : KoreSignature) (Q : SortedName → Type 0) (sort : KoreSort) (b : Bool) (a : Atom) → IsWrittenAtom g a → AllByRecursion Q (atom_variables a) → AllByRecursion Q (free_variables (written_literal g sort (turned g b a)))
+turned_written : (g : KoreSignature) (Q : SortedName → Type 0) (sort : KoreSort) (b : Bool) (a : Atom) → IsPredicateAtom a → AllByRecursion Q (atom_variables a) → AllByRecursion Q (free_variables (written_literal g sort (turned g b a)))
 turned_written g Q sort true (same s (unknown x) (unknown y)) o a = by_name g Q sort s (is_second_solved g x y) (unknown x) (unknown y) a
 turned_written g Q sort true (same s (offset x c) (unknown y)) o a = by_name g Q sort s (is_solved_by g y (offset x c)) (offset x c) (unknown y) a
 turned_written g Q sort true (same s (known u) (unknown y)) o a = by_name g Q sort s (is_solved_by g y (known u)) (known u) (unknown y) a
@@ -200,7 +200,7 @@ turned_written g Q sort true (has_head x test) o a = atom_written g Q sort (has_
 turned_written g Q sort true (quoted p rs) o a = atom_written g Q sort (quoted p rs) o a
 turned_written g Q sort false a o h = signed_written g Q sort false a (atom_written g Q sort a o h)
 
-clause_written : (g : KoreSignature) (Q : SortedName → Type 0) (sort : KoreSort) (c : List Literal) → AllByRecursion (λ l. IsWrittenAtom g l.atom) c → AllByRecursion Q (clause_variables c) → AllByRecursion Q (free_variables (written_clause g sort c))
+clause_written : (g : KoreSignature) (Q : SortedName → Type 0) (sort : KoreSort) (c : List Literal) → AllByRecursion (λ l. IsPredicateAtom l.atom) c → AllByRecursion Q (clause_variables c) → AllByRecursion Q (free_variables (written_clause g sort c))
 clause_written g Q sort [] o a = tt
 clause_written g Q sort (l ∷ []) o a = turned_written g Q sort l.holds l.atom o.0 (all_first Q (atom_variables l.atom) [] a)
 clause_written g Q sort (l ∷ m ∷ c) o a = literals_written g Q sort (l ∷ m ∷ c) o a
@@ -209,5 +209,18 @@ all_at_hand : (g : KoreSignature) (hand : List SortedName) (c : List Literal) �
 all_at_hand g hand [] h = tt
 all_at_hand g hand (l ∷ c) h = all_both (λ x. Contains hand x) (atom_variables l.atom) (clause_variables c) h.0.1 (all_at_hand g hand c h.1)
 
-pub written_of_these : (g : KoreSignature) (s : SymbolicState) (c : List Literal) → AllByRecursion (Good g s.variables) c → AllByRecursion (λ l. IsWrittenAtom g l.atom) c → IsWrittenOfThese g s c
+pub written_of_these : (g : KoreSignature) (s : SymbolicState) (c : List Literal) → AllByRecursion (Good g s.variables) c → AllByRecursion (λ l. IsPredicateAtom l.atom) c → IsWrittenOfThese g s c
 written_of_these g s c h o = clause_written g (λ x. Contains s.variables x) s.sort c o (all_at_hand g s.variables c h)
+
+-- ---- states
+
+all_written_of_these : (g : KoreSignature) (s : SymbolicState) (cs : List (List Literal)) → AllByRecursion (AllByRecursion (Good g s.variables)) cs → AllByRecursion (AllByRecursion (λ l. IsPredicateAtom l.atom)) cs → AllByRecursion (λ x. Contains s.variables x) (all_free_variables (written_clauses g s.sort cs))
+all_written_of_these g s [] h o = tt
+all_written_of_these g s (c ∷ cs) h o = all_both (λ x. Contains s.variables x) (free_variables (written_clause g s.sort c)) (all_free_variables (written_clauses g s.sort cs)) (written_of_these g s c h.0 o.0) (all_written_of_these g s cs h.1 o.1)
+
+beside_term : (g : KoreSignature) (s : SymbolicState) (cs : List (List Literal)) → s.clauses ≡ cs → IsSortedState g s → AllByRecursion (λ x. Contains s.variables x) (all_free_variables (written_clauses g s.sort cs)) → AllByRecursion (λ x. Contains s.variables x) (free_variables (written_state g s))
+beside_term g s [] e k a = rw e (written_variables g (λ x. Contains s.variables x) s.sort s.term k.term_at_hand)
+beside_term g s (c ∷ cs) e k a = rw e (all_both (λ x. Contains s.variables x) (free_variables (written_term g s.sort s.term)) (all_free_variables (written_clauses g s.sort (c ∷ cs))) (written_variables g (λ x. Contains s.variables x) s.sort s.term k.term_at_hand) a)
+
+pub state_of_these : (g : KoreSignature) (s : SymbolicState) → IsSortedState g s → AllByRecursion (AllByRecursion (λ l. IsPredicateAtom l.atom)) s.clauses → AllByRecursion (λ x. Contains s.variables x) (free_variables (written_state g s))
+state_of_these g s k o = beside_term g s s.clauses refl k (all_written_of_these g s s.clauses k.literals o)

@@ -13,11 +13,11 @@ ghost use Rattle.kp_semantics.specs.Foreign.{none_within, has_foreign_head};
 ghost use Rattle.kp_signature.specs.Places.{Place};
 ghost use Rattle.kp_signature.specs.Verify.{first_fault};
 ghost use Rattle.kp_symbolic.specs.Terms.{Replaced};
-ghost use Rattle.kp_symbolic.specs.WellFormed.{AreWellPlaced};
+ghost use Rattle.kp_symbolic.specs.WellFormed.{AreWellPlaced, AreAtHand};
 ghost use Rattle.kp_symbolic.specs.States.{one_head, head_of_sort, has_head, quoted, AreGiven, Literal, AreTrue, SymbolicState, IsStateInstance};
-ghost use Rattle.kp_symbolic_laws.specs.Runs.{HasRoom, IsSortedLiteral, IsSortedState, IsWrittenAtom, IsWrittenOfThese, IsWrittenRight};
+ghost use Rattle.kp_symbolic_laws.specs.Runs.{HasRoom, IsSortedLiteral, IsSortedState, IsPredicateAtom, IsSoundPredicate, IsWrittenAtom, IsWrittenOfThese, IsWrittenRight};
 ghost use Rattle.kp_symbolic.specs.Opening.{head_question, are_variables};
-ghost use Rattle.kp_symbolic.specs.Writing.{least_fresh, new_variables, variables_of, written_test, IsSaid, written_clauses, written_state};
+ghost use Rattle.kp_symbolic.specs.Writing.{least_fresh, new_variables, variables_of, written_test, InjectsWhereItStands, IsSaid, written_clause, written_clauses, written_state};
 
 /// The least new name isn't among those in use; new variables aren't either, and are each of another name.
 pub fn new_names_are_not_in_use()
@@ -44,30 +44,39 @@ pub fn written_tests_say_what_they_said()
         meaning_of g injection_name ≡ injection → IsSaid g v sort (has_head x (head_of_sort s)) }
 {}
 
-/// What is written for a clause of equalities, tests of heads, and verified predicates that aren't opened has no variables but
-/// the clause's.
+/// What is written for a clause, and for a state, has no variables but those at hand, where what isn't opened is a predicate.
 pub fn written_clauses_have_their_variables()
-    ensures { (g : KoreSignature) (s : SymbolicState) (c : List Literal) → AllByRecursion (IsSortedLiteral g s.variables) c →
-        AllByRecursion (λ l. IsWrittenAtom g l.atom) c → IsWrittenOfThese g s c }
+    ensures clause { (g : KoreSignature) (s : SymbolicState) (c : List Literal) → AllByRecursion (IsSortedLiteral g s.variables) c →
+        AllByRecursion (λ l. IsPredicateAtom l.atom) c → IsWrittenOfThese g s c }
+    ensures state { (g : KoreSignature) (s : SymbolicState) → IsSortedState g s → AllByRecursion (AllByRecursion (λ l. IsPredicateAtom l.atom)) s.clauses →
+        AreAtHand (free_variables (written_state g s)) s.variables }
+{}
+
+/// Each term of a verified predicate without foreign symbols has the sort of its place, also with well-sorted terms in the
+/// place of its variables.
+pub fn verified_predicates_are_sound()
+    ensures { (g : KoreSignature) (c : Place) (p : KorePattern) → first_fault g c p ≡ None → none_within (has_foreign_head g) p ≡ true →
+        is_predicate p ≡ true → IsSoundPredicate g p }
 {}
 
 /// What is written for a predicate that isn't opened, with terms in the place of its variables, says what the predicate says
 /// where these stand for the terms' instances; inj is what it should be, and there is room for new names.
 pub fn written_quotations_say_what_they_said()
-    ensures { (g : KoreSignature) (rs : List Replaced) (v : Valuation) (c : Place) (sort : KoreSort) (p : KorePattern) → meaning_of g injection_name ≡ injection →
-        first_fault g c p ≡ None → none_within (has_foreign_head g) p ≡ true → is_predicate p ≡ true →
-        AreWellPlaced g rs (free_variables p) → AreGiven g rs v (free_variables p) → HasRoom rs p → IsSaid g v sort (quoted p rs) }
+    ensures { (g : KoreSignature) (rs : List Replaced) (v : Valuation) (sort : KoreSort) (p : KorePattern) → meaning_of g injection_name ≡ injection →
+        is_predicate p ≡ true → IsSoundPredicate g p → AreWellPlaced g rs (free_variables p) → AreGiven g rs v (free_variables p) →
+        HasRoom rs p → IsSaid g v sort (quoted p rs) }
 {}
 
-/// What is written for a clause, and for all of a state, says what they say, and what is written for it has its instances, where the variables at hand have values of
-/// their sorts and inj is what it should be: of equalities, tests of heads, and verified predicates that aren't opened.
+/// What is written for a clause, and for all of a state, says what they say, and what is written for it has its instances, where
+/// the variables at hand have values of their sorts and inj is what it should be or isn't written: of equalities, tests of
+/// heads, and predicates of well-sorted terms that aren't opened.
 pub fn written_clauses_say_what_their_literals_say()
-    ensures clause { (g : KoreSignature) (v : Valuation) (s : SymbolicState) (c : List Literal) → meaning_of g injection_name ≡ injection → GivesSorts g v s.variables →
+    ensures clause { (g : KoreSignature) (v : Valuation) (s : SymbolicState) (c : List Literal) → InjectsWhereItStands g (written_clause g s.sort c) → GivesSorts g v s.variables →
         AllByRecursion (IsSortedLiteral g s.variables) c → AllByRecursion (λ l. IsWrittenAtom g l.atom) c → IsWrittenRight g v s c }
     ensures clauses { (g : KoreSignature) (v : Valuation) (s : SymbolicState) → meaning_of g injection_name ≡ injection → GivesSorts g v s.variables →
         IsSortedState g s → AllByRecursion (AllByRecursion (λ l. IsWrittenAtom g l.atom)) s.clauses →
         AllTrueUnder g v (written_clauses g s.sort s.clauses) ↔ AreTrue g v s.clauses }
-    ensures state { (g : KoreSignature) (v : Valuation) (s : SymbolicState) (u : Value) → meaning_of g injection_name ≡ injection → GivesSorts g v s.variables →
+    ensures state { (g : KoreSignature) (v : Valuation) (s : SymbolicState) (u : Value) → InjectsWhereItStands g (written_state g s) → GivesSorts g v s.variables →
         IsSortedState g s → AllByRecursion (AllByRecursion (λ l. IsWrittenAtom g l.atom)) s.clauses →
         IsInstance g v (written_state g s) u ↔ IsStateInstance g v s u }
 {}
