@@ -1,0 +1,6 @@
+pub mod Settled
+pub mod Fit
+pub mod OpenedSettled
+pub mod WrittenFit
+pub mod SolvedSettled
+pub mod ReadStates
