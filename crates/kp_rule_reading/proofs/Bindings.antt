@@ -2,6 +2,7 @@
 use Rattle.std.proofs.Common.{◌≡◌, refl, sym, subst, Bool, true, false, ◌&&◌, List, [], Option, Some, None}
 use Rattle.kp_kore.specs.Syntax.{Text, KorePattern}
 use Rattle.kp_kore.specs.Parts.{free_variables}
+use Rattle.kp_kore.specs.Signature.{KoreSignature}
 use Rattle.kp_semantics.specs.Rules as model
 use Rattle.kp_ground.specs.Slots.{is_numbered, left_places, left_variables, term_reads, condition_reads}
 use Rattle.kp_ground.specs.declared.left.Left.{Left}
@@ -11,7 +12,7 @@ use Rattle.kp_compile.specs.Exact.{HasPlacesOf, are_named}
 use Rattle.kp_compile.proofs.Reading.{both_so, left_named}
 use Rattle.kp_rules.specs.Bodies.{IsChoiceOf}
 use Rattle.kp_rules.specs.Bound.{tests_read, is_left_bound, is_right_bound}
-use Rattle.kp_rules.specs.declared.rule.RightSide.{RightSide}
+use Rattle.kp_rules.specs.declared.right_side.RightSide.{RightSide}
 use Rattle.kp_rules.specs.declared.rule.SortTest.{SortTest}
 
 -- the names of a left term that is compiled are its variables'
@@ -23,9 +24,9 @@ pub bound_by_left : (l : Left) (xs : List Text) (tests : List SortTest) (conditi
 bound_by_left l xs tests condition e numbered tested read = both_so _ _ numbered (subst (λ ys. tests_read ys tests && condition_reads ys condition ≡ true) e (both_so _ _ tested read))
 
 -- a rule that chooses keeps its right side
-pub right_by_left : (m : model.Rewrite) (l : Left) (xs : List Text) (chooses : Bool) (o : Option RightSide) (t : Term) → xs ≡ left_variables l → IsChoiceOf m chooses o → (chooses ≡ false → term_reads xs t ≡ true) →
+pub right_by_left : (g : KoreSignature) (m : model.Rewrite) (l : Left) (xs : List Text) (chooses : Bool) (o : Option RightSide) (t : Term) → xs ≡ left_variables l → IsChoiceOf g m chooses o → (chooses ≡ false → term_reads xs t ≡ true) →
     is_right_bound l chooses o t ≡ true
-right_by_left m l xs true (Some s) t e choice reads = refl
-right_by_left m l xs true None t e choice reads = absurd choice
-right_by_left m l xs false (Some s) t e choice reads = absurd choice
-right_by_left m l xs false None t e choice reads = subst (λ ys. term_reads ys t ≡ true) e (reads refl)
+right_by_left g m l xs true (Some s) t e choice reads = refl
+right_by_left g m l xs true None t e choice reads = absurd choice
+right_by_left g m l xs false (Some s) t e choice reads = absurd choice
+right_by_left g m l xs false None t e choice reads = subst (λ ys. term_reads ys t ≡ true) e (reads refl)

@@ -1,11 +1,13 @@
 pub mod Bindings
 pub mod Constrained
 pub mod Declared
+pub mod KnownSides
 pub mod LeftTerms
 pub mod NameSets
 pub mod Named
 pub mod NewVariables
 pub mod Numbers
+pub mod OldParts
 pub mod PlainRules
 pub mod ReadBodies
 pub mod ReadParts

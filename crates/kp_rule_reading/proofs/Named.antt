@@ -24,7 +24,7 @@ all_joined P [] qs h k = k
 all_joined P (p ∷ ps) qs h k = (h.0, all_joined P ps qs h.1 k)
 
 mutual
-  conjuncts_pass : (f : SortedName → Bool) (p : KorePattern) → list_all f (free_variables p) ≡ true → AllByRecursion (λ q. list_all f (free_variables q) ≡ true) (conjuncts p)
+  pub conjuncts_pass : (f : SortedName → Bool) (p : KorePattern) → list_all f (free_variables p) ≡ true → AllByRecursion (λ q. list_all f (free_variables q) ≡ true) (conjuncts p)
   conjuncts_pass f (conjunction s ps) h = all_conjuncts_pass f ps h
   conjuncts_pass f (variable x s) h = (h, tt)
   conjuncts_pass f (set_variable x s) h = (h, tt)
@@ -73,11 +73,11 @@ conditions_named f (c ∷ cs) h =
 
 -- ---- names
 
-either_so : (b c : Bool) (P : Type 0) → (b ≡ true → P) → (c ≡ true → P) → b || c ≡ true → P
+pub either_so : (b c : Bool) (P : Type 0) → (b ≡ true → P) → (c ≡ true → P) → b || c ≡ true → P
 either_so true c P f g h = f refl
 either_so false c P f g h = g h
 
-named_among : (xs : List Text) (vs : List SortedName) (y : Text) → are_named xs vs ≡ true → is_named y vs ≡ true → is_one_of y xs ≡ true
+pub named_among : (xs : List Text) (vs : List SortedName) (y : Text) → are_named xs vs ≡ true → is_named y vs ≡ true → is_one_of y xs ≡ true
 named_among xs [] y h k = absurd (cc)
 named_among xs (v ∷ vs) y h k =
     let both = both_true (is_one_of v.name xs) (are_named xs vs) h in

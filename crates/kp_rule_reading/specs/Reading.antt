@@ -85,7 +85,7 @@ pub record IsMadeOf (g : KoreSignature) (s : KoreSort) (m : model.Rewrite) (r : 
   pub right_narrow : IsNarrowAs g m.right r.right
   pub condition_narrow : (v : Valuation) → is_condition_narrow v (condition_view r.condition) ≡ not (list_any (computes_wide g v) m.condition)
   pub right_sort : sort_view r.right_sort ≡ s
-  pub choice : IsChoiceOf m r.chooses r.choice
+  pub choice : IsChoiceOf g m r.chooses r.choice
 
 -- what is compiled of a rewrite is verified
 pub record IsSound (g : KoreSignature) (m : model.Rewrite) : Type 0 where

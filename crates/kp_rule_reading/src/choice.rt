@@ -1,57 +1,81 @@
 // The right side of a rule that chooses, as its axiom has it.
-ghost use Rattle.std.specs.Prelude.{◌≡◌, ◌++◌, IfOk, OnOk, not, map, string_bytes};
+ghost use Rattle.std.specs.Prelude.{◌≡◌, ◌++◌, true, IfOk, OnOk, IfErr, not, map, string_bytes};
 ghost use Rattle.std.specs.List.{filter};
 ghost use Rattle.indexmap.specs.IndexSet.{contains_text};
 ghost use Rattle.kp_kore.specs.Parts.{free_variables};
 ghost use Rattle.kp_kore.specs.View.{view, sort_view, sorted_variable_view};
 ghost use Rattle.kp_semantics.specs.Rules.{top_binders};
+ghost use Rattle.kp_signature.specs.View.{signature_view};
+ghost use Rattle.kp_compile.specs.Exact.{are_named};
 ghost use Rattle.kp_compile.specs.Names.{names_seen};
+ghost use Rattle.kp_compile.specs.Verified.{IsVerifiedTerm};
+ghost use Rattle.kp_compile.specs.declared.error.CompileError.TheVariants.{Memory};
 ghost use Rattle.kp_rules.specs.Bound.{names_of_choice};
 ghost use Rattle.kp_rules.specs.Bodies.{IsSideOf, IsChoiceOf};
 ghost use Rattle.kp_rules.specs.Shapes.{seen, variables_seen, rewrite_seen};
+ghost use Rattle.kp_rule_reading.specs.Compiled.{IsKnownRight};
 
 use crate::names::names_of;
-use kp_compile::NameSet;
+use crate::old_parts::old_parts;
+use kp_compile::{CompileError, NameSet};
 use kp_kore::{Pattern, SortedVariable};
-use kp_rules::rule::RightSide;
+use kp_rules::RightSide;
 use kp_rules::shape::{Binder, Shape, under_binders};
+use kp_signature::Signature;
 use std::alloc::{AllocError, Global};
 
 /// The right side of these parts, where the rule chooses.
 pub fn choice_of(
     alloc: Global,
+    signature: &Signature,
     shape: &Shape<'_>,
     right: &Pattern,
     names: NameSet,
     chooses: bool,
-) -> Result<Option<RightSide>, AllocError>
+) -> Result<Option<RightSide>, CompileError>
+    requires named { are_named (names_seen names) (free_variables (view shape.now.left.term.now)) ≡ true }
+    requires known { IsKnownRight (rewrite_seen (view right.now) shape.now) }
     ensures names { IfOk result (λ o. names_of_choice (names_seen names) o ≡ names_seen names) }
-    ensures choice { IfOk result (IsChoiceOf (rewrite_seen (view right.now) shape.now) chooses) }
+    ensures choice { IfOk result (IsChoiceOf (signature_view signature.now) (rewrite_seen (view right.now) shape.now) chooses) }
+    ensures refused { IfErr result (λ e. IsVerifiedTerm (signature_view signature.now) (view shape.now.right.term.now) → e ≡ Memory) }
 {
     if !chooses {
         return Ok(None);
     }
-    Ok(Some(right_side(alloc, shape, right, names)?))
+    Ok(Some(right_side(alloc, signature, shape, right, names)?))
 }
 
 /// The right side with its ensured condition and its new variables.
 fn right_side(
     alloc: Global,
+    signature: &Signature,
     shape: &Shape<'_>,
     right: &Pattern,
     left_names: NameSet,
-) -> Result<RightSide, AllocError>
+) -> Result<RightSide, CompileError>
+    requires named { are_named (names_seen left_names) (free_variables (view shape.now.left.term.now)) ≡ true }
+    requires known { IsKnownRight (rewrite_seen (view right.now) shape.now) }
     ensures names { IfOk result (λ s. names_seen s.left_names ≡ names_seen left_names) }
-    ensures side { IfOk result (IsSideOf (rewrite_seen (view right.now) shape.now)) }
+    ensures side { IfOk result (IsSideOf (signature_view signature.now) (rewrite_seen (view right.now) shape.now)) }
+    ensures refused { IfErr result (λ e. IsVerifiedTerm (signature_view signature.now) (view shape.now.right.term.now) → e ≡ Memory) }
 {
     let left_variables = shape.left.term.free_vars(alloc)?;
     let names = names_of(alloc, &left_variables)?;
+    let new_variables = new_variables(alloc, right, &names)?;
+    let parts = old_parts(
+        alloc,
+        signature,
+        shape.right.term,
+        &new_variables,
+        &left_names,
+    )?;
     Ok(RightSide {
         term: shape.right.term.copy(alloc)?,
         ensured: copies(alloc, &shape.right.predicates)?,
-        new_variables: new_variables(alloc, right, &names)?,
+        new_variables,
         left_variables,
         left_names,
+        parts,
     })
 }
 

@@ -5,6 +5,7 @@ mod choice;
 mod depth;
 mod label;
 mod names;
+mod old_parts;
 mod parts_read;
 pub mod priority;
 mod read;

@@ -16,6 +16,7 @@ ghost use Rattle.kp_compile.specs.Verified.{misapplies_injection};
 ghost use Rattle.kp_compile.specs.declared.error.CompileError.TheVariants as compiling;
 ghost use Rattle.kp_rules.specs.Bodies.{IsReadAs, IsBodyOf, HasFault, IsFaulty};
 ghost use Rattle.kp_sort_index.specs.Index.{IsIndexOf};
+ghost use Rattle.kp_rule_reading.specs.Compiled.{IsKnownRight};
 ghost use Rattle.kp_rule_reading.specs.Priorities.{Tells};
 ghost use Rattle.kp_rule_reading.specs.Reading.{IsStatementRead, rule_error, IsReadBody, IsMadeOf, IsSound, IsShapeRead, is_left_read, is_predicate_read, is_side_read, RightPasses, is_binder as binder_test, is_top_pattern, is_plain_by};
 ghost use Rattle.kp_rules.specs.Shapes.{seen, rewrite_seen};
@@ -306,6 +307,7 @@ fn rewrite_from(
 ) -> Result<Rewrite, RuleError>
     requires condition { AllByRecursion (λ p. list_all (λ x. is_named x.name (free_variables (view shape.now.left.term.now))) (free_variables p) ≡ true) (seen shape.now.left.predicates.items) }
     requires right { RightPasses (view shape.now.left.term.now) (view right.now) (view shape.now.right.term.now) }
+    requires known { IsKnownRight (rewrite_seen (view right.now) shape.now) }
     ensures made { let g = signature_view signature.now in let sort' = sort_view sort.now in let term' = view shape.now.left.term.now in let right' = view right.now in IfOk result (λ w. IsMadeOf g sort' (rewrite_seen right' shape.now) w × (w.chooses ≡ not (is_plain_by (λ y. is_named y (free_variables term')) right' (seen shape.now.right.predicates.items)))) }
     ensures sound { IfErr result (λ e. IsSound (signature_view signature.now) (rewrite_seen (view right.now) shape.now) → e ≡ Memory) }
 {

@@ -8,7 +8,8 @@ ghost use Rattle.kp_signature.specs.View.{signature_view};
 ghost use Rattle.kp_compile.specs.Names.{names_seen};
 ghost use Rattle.kp_compile.specs.declared.error.CompileError.TheVariants as compiling;
 ghost use Rattle.kp_rules.specs.Shapes.{seen, rewrite_seen};
-ghost use Rattle.kp_rule_reading.specs.Compiled.{IsRightOf, ArePartsOf};
+ghost use Rattle.kp_compile.specs.Exact.{are_named};
+ghost use Rattle.kp_rule_reading.specs.Compiled.{IsKnownRight, IsRightOf, ArePartsOf};
 ghost use Rattle.kp_rule_reading.specs.Reading.{IsMadeOf, IsSound};
 
 use crate::choice::choice_of;
@@ -16,8 +17,8 @@ use crate::sort_test::sort_tests;
 use kp_compile::{CompileError, NameSet, compile_condition, compile_left, compile_term};
 use kp_ground::{Condition, Term};
 use kp_kore::{Pattern, Sort};
-use kp_rules::rule::{Rewrite, RightSide, SortTest};
 use kp_rules::shape::Shape;
+use kp_rules::{Rewrite, RightSide, SortTest};
 use kp_signature::Signature;
 use std::alloc::Global;
 
@@ -41,6 +42,7 @@ pub fn compiled(
 ) -> Result<Rewrite, CompileError>
     requires condition { AllByRecursion (λ p. list_all (λ x. is_named x.name (free_variables (view shape.now.left.term.now))) (free_variables p) ≡ true) (seen shape.now.left.predicates.items) }
     requires right { chooses ≡ false → list_all (λ x. is_named x.name (free_variables (view shape.now.left.term.now))) (free_variables (view shape.now.right.term.now)) ≡ true }
+    requires known { IsKnownRight (rewrite_seen (view right.now) shape.now) }
     ensures made { let the_rewrite_seen = rewrite_seen (view right.now) shape.now in let g = signature_view signature.now in IfOk result (λ w. IsMadeOf g (sort_view sort.now) the_rewrite_seen w × (w.chooses ≡ chooses)) }
     ensures sound { IfErr result (λ e. IsSound (signature_view signature.now) (rewrite_seen (view right.now) shape.now) → e ≡ compiling.Memory) }
 {
@@ -67,6 +69,8 @@ fn compile_parts(
     names: NameSet,
     chooses: bool,
 ) -> Result<Parts, CompileError>
+    requires named { are_named (names_seen names) (free_variables (view shape.now.left.term.now)) ≡ true }
+    requires known { IsKnownRight (rewrite_seen (view right.now) shape.now) }
     ensures made { let the_rewrite_seen = rewrite_seen (view right.now) shape.now in IfOk result (ArePartsOf (signature_view signature.now) (names_seen names) the_rewrite_seen chooses) }
     ensures sound { IfErr result (λ e. IsSound (signature_view signature.now) (rewrite_seen (view right.now) shape.now) → e ≡ compiling.Memory) }
 {
@@ -90,10 +94,12 @@ fn compile_right(
     names: NameSet,
     chooses: bool,
 ) -> Result<(Term, Option<RightSide>), CompileError>
+    requires named { are_named (names_seen names) (free_variables (view shape.now.left.term.now)) ≡ true }
+    requires known { IsKnownRight (rewrite_seen (view right.now) shape.now) }
     ensures made { let the_rewrite_seen = rewrite_seen (view right.now) shape.now in IfOk result (λ o. IsRightOf (signature_view signature.now) (names_seen names) the_rewrite_seen chooses o.0 o.1) }
     ensures sound { IfErr result (λ e. IsSound (signature_view signature.now) (rewrite_seen (view right.now) shape.now) → e ≡ compiling.Memory) }
 {
     let term = compile_term(alloc, signature, &names, shape.right.term)?;
-    let choice = choice_of(alloc, shape, right, names, chooses)?;
+    let choice = choice_of(alloc, signature, shape, right, names, chooses)?;
     Ok((term, choice))
 }

@@ -21,11 +21,12 @@ use Rattle.kp_compile.specs.Exact.{IsLeftOf, IsTermOf, IsNarrowAs}
 use Rattle.kp_compile.specs.Verified.{misapplies_injection}
 use Rattle.kp_rules.specs.Heads.{HasHead}
 use Rattle.kp_rules.specs.Skeletons.{IsAdmitted}
+use Rattle.kp_rules.specs.WideParts.{part_computes_wide, all_narrow}
 use Rattle.kp_rules.specs.declared.rule.Rule.{Rule}
 use Rattle.kp_rules.specs.declared.rule.RuleBody.{RuleBody}
 use Rattle.kp_rules.specs.declared.rule.RuleBody.TheVariants.{Rewrite, Foreign}
 use Rattle.kp_rules.specs.declared.rule.Rewrite as code
-use Rattle.kp_rules.specs.declared.rule.RightSide.{RightSide}
+use Rattle.kp_rules.specs.declared.right_side.RightSide.{RightSide}
 use Rattle.kp_rules.specs.declared.skeleton.Skeleton.{Skeleton}
 
 -- a term of variables, literals, constructors and inj, without a verify fault
@@ -44,19 +45,21 @@ pub record IsPlain (m : model.Rewrite) : Type 0 where
   pub new_variables : m.new_variables ≡ []
   pub ensured : AllByRecursion IsTop m.ensured
 
--- the right side as its axiom has it: term, ensured condition and new variables, beside the left term's variables
-pub record IsSideOf (m : model.Rewrite) (s : RightSide) : Type 0 where
+-- the right side as its axiom has it: term, ensured condition and new variables, beside the left term's variables; the
+-- numbers beyond 128 bits that its compiled parts compute are those of the term's parts without new variables
+pub record IsSideOf (g : KoreSignature) (m : model.Rewrite) (s : RightSide) : Type 0 where
   pub term : view s.term ≡ m.right
   pub ensured : map view s.ensured.items ≡ m.ensured
   pub new_variables : map sorted_variable_view s.new_variables.items ≡ m.new_variables
   pub left_variables : map sorted_variable_view s.left_variables.items ≡ free_variables m.left
+  pub parts : (v : Valuation) → all_narrow v s.parts.items ≡ not (part_computes_wide g v m.new_variables m.right)
 
 -- it is kept exactly where the rule chooses
-abbrev pub IsChoiceOf : model.Rewrite → Bool → Option RightSide → Type 0
-IsChoiceOf m true (Some s) = IsSideOf m s
-IsChoiceOf m false None = ⊤
-IsChoiceOf m true None = ⊥
-IsChoiceOf m false (Some s) = ⊥
+abbrev pub IsChoiceOf : KoreSignature → model.Rewrite → Bool → Option RightSide → Type 0
+IsChoiceOf g m true (Some s) = IsSideOf g m s
+IsChoiceOf g m false None = ⊤
+IsChoiceOf g m true None = ⊥
+IsChoiceOf g m false (Some s) = ⊥
 
 abbrev pub is_conjunction : KorePattern → Bool
 is_conjunction (conjunction s ps) = true
@@ -82,7 +85,7 @@ pub record IsRewriteOf (g : KoreSignature) (m : model.Rewrite) (r : code.Rewrite
   pub right : IsTermOf g m.right r.right
   pub plain : r.chooses ≡ false → IsPlain m
   pub chooses : r.chooses ≡ true → ¬ IsPlain m
-  pub choice : IsChoiceOf m r.chooses r.choice
+  pub choice : IsChoiceOf g m r.chooses r.choice
   pub constrained : IsConstrained m
   -- the numbers beyond 128 bits that they compute are those of the rewrite's patterns
   pub right_narrow : IsNarrowAs g m.right r.right

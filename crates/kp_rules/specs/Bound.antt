@@ -7,7 +7,7 @@ use Rattle.kp_ground.specs.declared.left.Left.{Left}
 use Rattle.kp_ground.specs.declared.term.Term.{Term}
 use Rattle.kp_ground.specs.declared.condition.Condition.{Condition}
 use Rattle.kp_compile.specs.Names.{names_seen}
-use Rattle.kp_rules.specs.declared.rule.RightSide.{RightSide}
+use Rattle.kp_rules.specs.declared.right_side.RightSide.{RightSide}
 use Rattle.kp_rules.specs.declared.rule.SortTest.{SortTest}
 
 -- each tested variable is one of these names, and tells its number

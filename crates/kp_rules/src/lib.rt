@@ -5,11 +5,13 @@
 pub mod fires;
 mod form;
 mod may_be;
+pub mod right_side;
 pub mod rule;
 pub mod shape;
 pub mod skeleton;
 mod values;
 
-pub use rule::{Rewrite, RightSide, Rule, RuleBody, RuleSource, SortTest};
+pub use right_side::{RightSide, is_named};
+pub use rule::{Rewrite, Rule, RuleBody, RuleSource, SortTest};
 pub use skeleton::Skeleton;
 pub use values::has_sort;

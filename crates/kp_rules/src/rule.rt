@@ -3,10 +3,10 @@ ghost use Rattle.std.proofs.Props.{props};
 ghost use Rattle.kp_ground.specs.Slots.{left_variables};
 ghost use Rattle.kp_rules.specs.Bound.{is_left_bound, is_right_bound, names_of_choice};
 
+use crate::right_side::RightSide;
 use crate::skeleton::Skeleton;
-use kp_compile::NameSet;
 use kp_ground::{Condition, Left, Term};
-use kp_kore::{Name, Pattern, Sort, SortedVariable};
+use kp_kore::{Name, Sort};
 use std::sync::Arc;
 
 /// A rule of a rule set. A smaller priority number goes first. Rule sets share all but the priority.
@@ -32,15 +32,23 @@ pub struct RuleSource {
 }
 
 /// What a rewrite axiom says, where all of it has a meaning; else what its left side may stand for.
-#[derive(Drop)]
 pub enum RuleBody {
     Rewrite(Rewrite),
     Foreign(Skeleton),
 }
 
+// Written out: a derived one is proved again, with those of all that it holds, in each crate that owns a rule.
+impl Drop for RuleBody {
+    fn drop(self) {
+        match self {
+            RuleBody::Rewrite(_rewrite) => {}
+            RuleBody::Foreign(_skeleton) => {}
+        }
+    }
+}
+
 /// A rule that is read: matched by `left` and the sort tests, under `condition`, to `right`. A match binds the left term's
 /// variables, and what is tested, the condition and, unless the rule chooses, the right term read no others.
-#[derive(Drop)]
 pub struct Rewrite {
     pub left: Left,
     pub tests: Vec<SortTest>,
@@ -56,17 +64,19 @@ pub struct Rewrite {
     pub ghost choice_bound: { names_of_choice (left_variables left) choice ≡ left_variables left } by { Prim.hlevel props },
 }
 
-/// The right side of a rule: a term, what it ensures, and the variables that stand for other values each time.
-#[derive(Drop)]
-pub struct RightSide {
-    pub term: Pattern,
-    pub ensured: Vec<Pattern>,
-    /// Those that `\exists` binds at the top, and those that the left term hasn't.
-    pub new_variables: Vec<SortedVariable>,
-    /// The left term's, which have values when the rule fires.
-    pub left_variables: Vec<SortedVariable>,
-    /// Their names, each once, by slot.
-    pub left_names: NameSet,
+// Written out: a derived one is proved again, with those of all that it holds, in each crate that makes a rule.
+impl Drop for Rewrite {
+    fn drop(self) {
+        let Rewrite {
+            left: _left,
+            tests: _tests,
+            condition: _condition,
+            right: _right,
+            right_sort: _right_sort,
+            chooses: _chooses,
+            choice: _choice,
+        } = self;
+    }
 }
 
 /// A left variable whose place doesn't give its sort, as under `inj` or alone at the top, with its slot.

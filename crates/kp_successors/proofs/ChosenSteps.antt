@@ -20,7 +20,8 @@ use Rattle.kp_rules.specs.Bodies.{IsLonePredicate, IsConstrained}
 use Rattle.kp_substitution.specs.Substitution.{ReplacedName, substituted, is_replaced, AreClosed, with_replaced}
 use Rattle.kp_substitution.proofs.Substituted.{substituted_instance, substituted_truth, substituted_is_term}
 use Rattle.kp_substitution.proofs.SubstitutedForms.{staying, substituted_free}
-use Rattle.kp_successors.specs.Choices.{is_among, is_top, equal_to_itself, free_beside, unused, ensured_with, chosen_pattern, is_known, AreNamed, SpellUnder, IsPutIn}
+use Rattle.kp_rules.specs.Known.{is_among, free_beside, is_known}
+use Rattle.kp_successors.specs.Choices.{is_top, equal_to_itself, unused, ensured_with, chosen_pattern, AreNamed, SpellUnder, IsPutIn}
 use Rattle.kp_successors.specs.Instances.{IsSomeInstance}
 use Rattle.kp_successors.proofs.Lists.{all_joined, all_first, all_second, all_filtered, both_true, either_true, by_either}
 use Rattle.kp_successors.proofs.Constraints.{constrained_instance, constrained_free, all_lone_kept, lone_equalities, true_equalities}

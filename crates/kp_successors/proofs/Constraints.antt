@@ -12,7 +12,8 @@ use Rattle.kp_semantics.proofs.InstanceLemmas.{one_instance}
 use Rattle.kp_rules.specs.Bodies.{IsLonePredicate, is_conjunction}
 use Rattle.kp_substitution.specs.Substitution.{ReplacedName, substituted, AreClosed}
 use Rattle.kp_substitution.proofs.Substituted.{substituted_is_term}
-use Rattle.kp_successors.specs.Choices.{constrained_by, free_beside, equal_to_itself}
+use Rattle.kp_rules.specs.Known.{free_beside}
+use Rattle.kp_successors.specs.Choices.{constrained_by, equal_to_itself}
 
 -- ---- conjuncts
 

@@ -1,18 +1,18 @@
 -- From what the parts of a step answer to what they say of one rule.
-use Rattle.std.proofs.Common.{◌≡◌, refl, sym, ap, subst, ◌∙◌, ℕ, zero, suc, ◌+◌, ◌<◌, length, drop, get_or, Bool, true, false, not, ◌&&◌, ◌||◌, ◌↔◌, List, [], ◌∷◌, map, Option, Some, None, Ok, Err, Vec, Bor, inr, arith, nat_eq}
+use Rattle.std.proofs.Common.{◌≡◌, refl, sym, ap, subst, ◌∙◌, ℕ, zero, suc, ◌+◌, ◌<◌, length, drop, get_or, Bool, true, false, not, ◌&&◌, ◌||◌, ◌↔◌, List, [], ◌∷◌, map, Option, Some, None, Ok, Err, Vec, inr, arith, nat_eq}
 use Rattle.std.specs.Prelude.{◌⊎◌, IsTrue, IfSome}
 use Rattle.std.specs.Option.{is_some}
 use Rattle.std.proofs.lemmas.Bool.Decides.{Decides-eqb}
-use Rattle.std.specs.List.{list_any}
+use Rattle.std.specs.List.{list_all}
 use Rattle.std.specs.declared.alloc.Global.{Global}
 use Rattle.kp_kore.specs.Syntax.{KorePattern}
 use Rattle.kp_kore.specs.Signature.{KoreSignature}
-use Rattle.kp_kore.specs.View.{view, sorted_variable_view}
+use Rattle.kp_kore.specs.View.{sorted_variable_view}
 use Rattle.kp_kore.specs.declared.pattern_free.SortedVariable.{SortedVariable}
-use Rattle.kp_kore.specs.declared.pattern.Pattern.{Pattern}
 use Rattle.kp_semantics.specs.Value.{Value}
 use Rattle.kp_semantics.specs.Instance.{Valuation}
 use Rattle.kp_semantics.specs.Numbers.{computes_wide}
+use Rattle.kp_semantics.proofs.InstanceLemmas.{first_true, second_true}
 use Rattle.kp_ground.specs.Outcomes.{Gives}
 use Rattle.kp_ground.specs.Solves.{Solves}
 use Rattle.kp_ground.specs.Matches.{IsSolvable}
@@ -22,10 +22,9 @@ use Rattle.kp_ground.specs.ConditionView.{condition_view}
 use Rattle.kp_ground.specs.declared.binding.Binding.{Binding}
 use Rattle.kp_ground.specs.declared.evaluate.EvaluationError.{EvaluationError}
 use Rattle.kp_ground.specs.declared.evaluate.EvaluationError.TheVariants as evaluating
-use Rattle.kp_compile.specs.Parts.{seen}
 use Rattle.kp_rules.specs.Heads.{FindsFiring, FiresAs, Meets, IsWide}
 use Rattle.kp_rules.specs.declared.rule.Rewrite as code
-use Rattle.kp_rules.specs.declared.rule.RightSide.{RightSide}
+use Rattle.kp_rules.specs.declared.right_side.RightSide.{RightSide}
 use Rattle.kp_rules.specs.declared.rule.RuleBody.TheVariants.{Rewrite}
 use Rattle.kp_run.specs.Turns.{BodyIsWide}
 use Rattle.kp_successors.specs.Errors.{IsUnvalued, IsFromEvaluation}
@@ -62,47 +61,42 @@ condition_stays g r u h w = let n = h w.valuation w.meets in let k = w.wide in a
 -- the same next pattern under as many valuations
 next_by_moved : (g : KoreSignature) (r : code.Rewrite) (o : Option RightSide) (P Q : Valuation → Type 0) (p : KorePattern) → ((v : Valuation) → Q v → P v) → IsNextBy g r o P p → IsNextBy g r o Q p
 next_by_moved g r None P Q p f h = record { value = h.value; meant = λ v q. h.meant v (f v q); spelled = h.spelled }
-next_by_moved g r (Some s) P Q p f h = record { terms = h.terms; names = h.names; spelled = λ v q gives. h.spelled v (f v q) gives; known = h.known; pattern = h.pattern }
+next_by_moved g r (Some s) P Q p f h = record { terms = h.terms; names = h.names; spelled = λ v q gives. h.spelled v (f v q) gives; pattern = h.pattern }
 
 pub next_moved : (g : KoreSignature) (r : code.Rewrite) (P Q : Valuation → Type 0) (p : KorePattern) → ((v : Valuation) → Q v → P v) → IsNextOf g r P p → IsNextOf g r Q p
 next_moved g r P Q p f h = next_by_moved g r r.choice P Q p f h
 
-pub right_stays : (g : KoreSignature) (r : code.Rewrite) (u : Value) (bs : List Binding) → ((v : Valuation) → Solves v bs ↔ FiresAs g r u v) → ((v : Valuation) → Solves v bs → is_right_narrow g r v ≡ true) → ¬ RightIsWide g u (Rewrite r)
+pub right_stays : (g : KoreSignature) (r : code.Rewrite) (u : Value) (bs : List Binding) → ((v : Valuation) → Solves v bs ↔ FiresAs g r u v) → ((v : Valuation) → Solves v bs → is_right_narrow r v ≡ true) → ¬ RightIsWide g u (Rewrite r)
 right_stays g r u bs h n w = let k = n w.0 ((h w.0).1 w.1) in let f = w.2 in absurd (cc)
 
 pub none_wide : (g : KoreSignature) (r : code.Rewrite) (u : Value) → ((v : Valuation) → ¬ FiresAs g r u v) → ¬ RightIsWide g u (Rewrite r)
 none_wide g r u h w = h w.0 w.1
 
-pub right_leaves : (g : KoreSignature) (r : code.Rewrite) (u : Value) (bs : List Binding) → ((v : Valuation) → Solves v bs ↔ FiresAs g r u v) → IsSolvable bs → ((v : Valuation) → Solves v bs → is_right_narrow g r v ≡ false) →
+pub right_leaves : (g : KoreSignature) (r : code.Rewrite) (u : Value) (bs : List Binding) → ((v : Valuation) → Solves v bs ↔ FiresAs g r u v) → IsSolvable bs → ((v : Valuation) → Solves v bs → is_right_narrow r v ≡ false) →
     BodyIsWide g u (Rewrite r) ⊎ RightIsWide g u (Rewrite r)
 right_leaves g r u bs h s n = inr (s.0, (h s.0).0 s.1, n s.0 s.1)
 
--- ---- parts
+-- ---- lists
 
--- a part that passes a test, at its place
-pub passes_at : (f : KorePattern → Bool) (ps : List (Bor Pattern)) (i : ℕ) (d : Bor Pattern) → i < length ps → d ≡ get_or ps i d → f (view d.now) ≡ true → list_any f (seen (drop i ps)) ≡ true
-passes_at f [] i d lt is h = absurd (omega arith)
-passes_at f (p ∷ ps) zero d lt is h = ap (λ q. f (view q.now) || list_any f (seen ps)) (sym is) ∙ ap (λ b. b || list_any f (seen ps)) h
-passes_at f (p ∷ ps) (suc i) d lt is h = passes_at f ps i d (omega arith) is h
+-- what passes a test, at its place
+pub so_at : {A : Type 0} (f : A → Bool) (xs : List A) (i : ℕ) (x : A) → i < length xs → x ≡ get_or xs i x → list_all f xs ≡ true → f x ≡ true
+so_at f [] i x lt is h = absurd (omega arith)
+so_at f (y ∷ ys) zero x lt is h = ap f is ∙ first_true (f y) (list_all f ys) h
+so_at f (y ∷ ys) (suc i) x lt is h = so_at f ys i x (omega arith) is (second_true (f y) (list_all f ys) h)
 
--- and one that doesn't
-pub fails_at : (f : KorePattern → Bool) (ps : List (Bor Pattern)) (i : ℕ) (d : Bor Pattern) → i < length ps → d ≡ get_or ps i d → f (view d.now) ≡ false → list_any f (seen (drop i ps)) ≡ list_any f (seen (drop (i + 1) ps))
-fails_at f [] i d lt is h = absurd (omega arith)
-fails_at f (p ∷ ps) zero d lt is h = ap (λ q. f (view q.now) || list_any f (seen ps)) (sym is) ∙ ap (λ b. b || list_any f (seen ps)) h
-fails_at f (p ∷ ps) (suc i) d lt is h = fails_at f ps i d (omega arith) is h ∙ ap (λ n. list_any f (seen (drop n (p ∷ ps)))) (next i)
+pub passes_at : {A : Type 0} (f : A → Bool) (xs : List A) (i : ℕ) (x : A) → i < length xs → x ≡ get_or xs i x → f x ≡ true → list_all f (drop i xs) ≡ list_all f (drop (i + 1) xs)
+passes_at f [] i x lt is h = absurd (omega arith)
+passes_at f (y ∷ ys) zero x lt is h = ap (λ z. f z && list_all f ys) (sym is) ∙ ap (λ b. b && list_all f ys) h
+passes_at f (y ∷ ys) (suc i) x lt is h = passes_at f ys i x (omega arith) is h ∙ ap (λ n. list_all f (drop n (y ∷ ys))) (next i)
   where
     next : (i : ℕ) → suc (i + 1) ≡ suc i + 1
     next i = omega arith
 
--- ---- both
-
-pub none_of_both : (a b : Bool) → b ≡ false → a && b ≡ false
-none_of_both true b h = h
-none_of_both false b h = refl
-
-pub both_of : (a b : Bool) → a ≡ true → b ≡ true → a && b ≡ true
-both_of true b e h = h
-both_of false b e h = absurd (cc)
+-- and what doesn't
+pub fails_at : {A : Type 0} (f : A → Bool) (xs : List A) (i : ℕ) (x : A) → i < length xs → x ≡ get_or xs i x → f x ≡ false → list_all f (drop i xs) ≡ false
+fails_at f [] i x lt is h = absurd (omega arith)
+fails_at f (y ∷ ys) zero x lt is h = ap (λ z. f z && list_all f ys) (sym is) ∙ ap (λ b. b && list_all f ys) h
+fails_at f (y ∷ ys) (suc i) x lt is h = fails_at f ys i x (omega arith) is h
 
 -- a list that isn't empty
 pub not_none : (b : Bool) (xs : List SortedVariable) → b ≡ nat_eq (length xs) 0 → b ≡ false → ¬ (map sorted_variable_view xs ≡ [])

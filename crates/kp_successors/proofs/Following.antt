@@ -1,10 +1,10 @@
 -- From what follows one of the code's rules to the successors by its rule of the theory.
 use Rattle.std.proofs.Common.{◌≡◌, refl, sym, ap, subst, ◌∙◌, Bool, true, false, not, ◌&&◌, ◌↔◌, Option, Some, None, inl, inr}
-use Rattle.std.specs.List.{AllByRecursion, list_all}
+use Rattle.std.specs.List.{AllByRecursion}
 use Rattle.kp_kore.specs.Syntax.{Text, KorePattern}
 use Rattle.kp_kore.specs.Parts.{free_variables}
 use Rattle.kp_kore.specs.Signature.{KoreSignature}
-use Rattle.kp_kore.specs.View.{view, sort_view}
+use Rattle.kp_kore.specs.View.{sort_view}
 use Rattle.kp_semantics.specs.Value.{Value, HasSort}
 use Rattle.kp_semantics.specs.Sorted.{IsSorted}
 use Rattle.kp_semantics.specs.Instance.{Valuation, instance, GivesSorts, is_named}
@@ -16,13 +16,14 @@ use Rattle.kp_rules.specs.Bodies.{IsPlain, IsRewriteOf, IsBodyOf, IsSideOf, IsCh
 use Rattle.kp_rules.specs.declared.rule.RuleBody.{RuleBody}
 use Rattle.kp_rules.specs.declared.rule.RuleBody.TheVariants.{Rewrite, Foreign}
 use Rattle.kp_rules.specs.declared.rule.Rewrite as code
-use Rattle.kp_rules.specs.declared.rule.RightSide.{RightSide}
+use Rattle.kp_rules.specs.declared.right_side.RightSide.{RightSide}
 use Rattle.kp_rules.proofs.Fired.{fired_under}
 use Rattle.kp_states.specs.Spelled.{IsSpellingOf}
 use Rattle.kp_run.specs.Turns.{BodyFires}
 use Rattle.kp_run.proofs.Theories.{leads_to, leads_only_to}
 use Rattle.kp_substitution.specs.Substitution.{is_replaced}
-use Rattle.kp_successors.specs.Choices.{chosen_pattern, free_beside, is_known, IsPutIn}
+use Rattle.kp_rules.specs.Known.{are_known}
+use Rattle.kp_successors.specs.Choices.{chosen_pattern, IsPutIn}
 use Rattle.kp_successors.specs.Nexts.{left_of, new_of, ensured_of, PlainBy, ChosenBy, IsNextBy}
 use Rattle.kp_successors.specs.Successors.{IsWrittenNext}
 use Rattle.kp_successors.specs.Instances.{IsSomeInstance}
@@ -58,20 +59,19 @@ plain_is_exact g w r u p is plain s v f by =
 
 -- ---- with a choice
 
-known_there : (w : model.Rewrite) (s : RightSide) → IsSideOf w s → list_all (is_known (left_of s) (new_of s)) (free_beside (view s.term) (ensured_of s)) ≡ true →
-    list_all (is_known (free_variables w.left) w.new_variables) (free_beside w.right w.ensured) ≡ true
-known_there w s is h =
-    subst (λ xs. list_all (is_known xs w.new_variables) (free_beside w.right w.ensured) ≡ true) is.left_variables
-    (subst (λ xs. list_all (is_known (left_of s) xs) (free_beside w.right w.ensured) ≡ true) is.new_variables
-    (subst (λ qs. list_all (is_known (left_of s) (new_of s)) (free_beside w.right qs) ≡ true) is.ensured
-    (subst (λ t. list_all (is_known (left_of s) (new_of s)) (free_beside t (ensured_of s)) ≡ true) is.term h)))
+known_there : (g : KoreSignature) (w : model.Rewrite) (s : RightSide) → IsSideOf g w s → are_known (free_variables w.left) w.new_variables w.right w.ensured ≡ true
+known_there g w s is =
+    subst (λ xs. are_known xs w.new_variables w.right w.ensured ≡ true) is.left_variables
+    (subst (λ xs. are_known (left_of s) xs w.right w.ensured ≡ true) is.new_variables
+    (subst (λ qs. are_known (left_of s) (new_of s) w.right qs ≡ true) is.ensured
+    (subst (λ t. are_known (left_of s) (new_of s) t (ensured_of s) ≡ true) is.term s.known)))
 
-chosen_is_exact : (g : KoreSignature) (w : model.Rewrite) (r : code.Rewrite) (side : RightSide) (u : Value) (p : KorePattern) → IsRewriteOf g w r → ¬ IsPlain w → IsSideOf w side → IsSorted g u → (v : Valuation) → FiresAs g r u v →
+chosen_is_exact : (g : KoreSignature) (w : model.Rewrite) (r : code.Rewrite) (side : RightSide) (u : Value) (p : KorePattern) → IsRewriteOf g w r → ¬ IsPlain w → IsSideOf g w side → IsSorted g u → (v : Valuation) → FiresAs g r u v →
     ChosenBy g (sort_view r.right_sort) side (FiresAs g r u) p → IsExact g (model.rewrite w) u p
 chosen_is_exact g w r side u p is chooses of s v f by =
     let sort = sort_view r.right_sort in
     let names : (x : Text) → is_replaced by.terms x ≡ (is_named x (free_variables w.left) && not (is_named x w.new_variables)) = λ x. by.names x ∙ ap (λ xs. is_named x xs && not (is_named x (new_of side))) of.left_variables ∙ ap (λ xs. is_named x (free_variables w.left) && not (is_named x xs)) of.new_variables in
-    let choosing : IsPutIn w by.terms = record { constrained = is.constrained; names = names; known = known_there w side of by.known } in
+    let choosing : IsPutIn w by.terms = record { constrained = is.constrained; names = names; known = known_there g w side of } in
     let spell : (v : Valuation) → FiresUnder g w v u → AllByRecursion (λ r. IsSpellingOf g (v r.name) r.term) by.terms =
     λ v k. by.spelled v ((fired_under g w r is u s v).1 k) (subst (GivesSorts g v) (sym of.left_variables) k.sorts) in
     let pattern : p ≡ chosen_pattern sort by.terms w.right w.ensured w.new_variables =
@@ -90,7 +90,7 @@ chosen_is_exact g w r side u p is chooses of s v f by =
 
 -- ---- either
 
-follows_by : (g : KoreSignature) (w : model.Rewrite) (r : code.Rewrite) (u : Value) (p : KorePattern) (b : Bool) (o : Option RightSide) → IsRewriteOf g w r → r.chooses ≡ b → IsChoiceOf w b o → IsSorted g u → (v : Valuation) → FiresAs g r u v →
+follows_by : (g : KoreSignature) (w : model.Rewrite) (r : code.Rewrite) (u : Value) (p : KorePattern) (b : Bool) (o : Option RightSide) → IsRewriteOf g w r → r.chooses ≡ b → IsChoiceOf g w b o → IsSorted g u → (v : Valuation) → FiresAs g r u v →
     IsNextBy g r o (FiresAs g r u) p → IsExact g (model.rewrite w) u p
 follows_by g w r u p true (Some side) is e choice s v f by = chosen_is_exact g w r side u p is (is.chooses e) choice s v f by
 follows_by g w r u p false None is e choice s v f by = plain_is_exact g w r u p is (is.plain e) s v f by

@@ -7,7 +7,6 @@ pub mod Finding
 pub mod Following
 pub mod Lists
 pub mod Members
-pub mod Open
 pub mod PutIn
 pub mod Refused
 pub mod Spelling

@@ -13,7 +13,8 @@ use Rattle.kp_semantics.specs.Instance.{Valuation, instance, GivesSorts, AgreesO
 use Rattle.kp_semantics.proofs.SameLemmas.{same_sorts_decide}
 use Rattle.kp_substitution.specs.Substitution.{ReplacedName, is_replaced, AreClosed, with_replaced}
 use Rattle.kp_substitution.proofs.SubstitutedForms.{staying}
-use Rattle.kp_successors.specs.Choices.{is_among, is_known, AreNamed, SpellUnder}
+use Rattle.kp_rules.specs.Known.{is_among, is_known}
+use Rattle.kp_successors.specs.Choices.{AreNamed, SpellUnder}
 use Rattle.kp_successors.proofs.Lists.{both_true, either_true, either_second, not_false, true_isnt_false, by_either}
 
 pub closed_spellings : (g : KoreSignature) (v : Valuation) (rs : List ReplacedName) → SpellUnder g v rs → AreClosed rs

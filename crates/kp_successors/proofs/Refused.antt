@@ -12,7 +12,7 @@ use Rattle.kp_states.specs.declared.error.SpellingError.{SpellingError}
 use Rattle.kp_states.specs.declared.error.SpellingError.TheVariants as spelling
 use Rattle.kp_successors.specs.Errors.{LacksInjection, IsCausedBy, IsFromEvaluation, IsFromSpelling}
 use Rattle.kp_successors.specs.declared.error.GroundError.{GroundError}
-use Rattle.kp_successors.specs.declared.error.GroundError.TheVariants.{Memory, Number, Foreign, Unread, NoInjection, Unbound}
+use Rattle.kp_successors.specs.declared.error.GroundError.TheVariants.{Memory, Number, Foreign, Unread, NoInjection}
 
 -- a cause of the cause
 pub caused_by : (g : KoreSignature) (P Q : Type 0) (e : GroundError) → (P → Q) → IsCausedBy g P e → IsCausedBy g Q e
@@ -21,7 +21,6 @@ caused_by g P Q Number f h = f h
 caused_by g P Q (Foreign id) f h = absurd h
 caused_by g P Q Unread f h = absurd h
 caused_by g P Q NoInjection f h = h
-caused_by g P Q Unbound f h = tt
 
 -- want of memory
 pub by_memory : (g : KoreSignature) (P : Type 0) (e : GroundError) → e ≡ Memory → IsCausedBy g P e

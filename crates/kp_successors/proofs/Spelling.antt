@@ -11,8 +11,11 @@ use Rattle.kp_kore.specs.View.{sort_view, sorted_variable_view}
 use Rattle.kp_kore.specs.declared.pattern_free.SortedVariable.{SortedVariable}
 use Rattle.kp_semantics.specs.Value.{HasSort}
 use Rattle.kp_semantics.specs.Instance.{Valuation, GivesSorts, is_named}
+use Rattle.kp_semantics.proofs.InstanceLemmas.{first_true, second_true}
+use Rattle.kp_ground.specs.Slots.{is_one_of}
 use Rattle.kp_ground.specs.Solves.{Solves}
 use Rattle.kp_ground.specs.declared.binding.Binding.{Binding}
+use Rattle.kp_compile.specs.Exact.{are_named}
 use Rattle.kp_states.specs.Spelled.{IsSpellingOf}
 use Rattle.kp_substitution.specs.Substitution.{ReplacedName, is_replaced}
 use Rattle.kp_run.proofs.Among.{all_and_last}
@@ -64,6 +67,15 @@ old_names new (y ∷ ys) x = by (bytes_eq y.name x) refl (is_named y.name new) r
 
 pub replaced_names : (new left : List SortedName) (rs : List ReplacedName) → map (λ r. r.name) rs ≡ names_of new left → (x : Text) → is_replaced rs x ≡ (is_named x left && not (is_named x new))
 replaced_names new left rs e x = by_names rs x ∙ ap (list_any (λ n. bytes_eq n x)) e ∙ old_names new left x
+
+-- a variable of the left term has a name among theirs
+named_at : (xs : List Text) (vs : List SortedVariable) (i : ℕ) (x : SortedVariable) → i < length vs → x ≡ get_or vs i x → are_named xs (map sorted_variable_view vs) ≡ true → is_one_of (string_bytes x.name) xs ≡ true
+named_at xs [] i x lt is h = absurd (omega arith)
+named_at xs (v ∷ vs) zero x lt is h = subst (λ y. is_one_of (string_bytes y.name) xs ≡ true) (sym is) (first_true (is_one_of (string_bytes v.name) xs) (are_named xs (map sorted_variable_view vs)) h)
+named_at xs (v ∷ vs) (suc i) x lt is h = named_at xs vs i x (omega arith) is (second_true (is_one_of (string_bytes v.name) xs) (are_named xs (map sorted_variable_view vs)) h)
+
+pub left_named : (xs : List Text) (vs items : List SortedVariable) (i : ℕ) (x : SortedVariable) → items ≡ vs → i < length items → x ≡ get_or items i x → are_named xs (map sorted_variable_view vs) ≡ true → is_one_of (string_bytes x.name) xs ≡ true
+left_named xs vs items i x e lt is h = named_at xs vs i x (subst (λ l. i < length l) e lt) (subst (λ l. x ≡ get_or l i x) e is) h
 
 -- ---- one variable further
 

@@ -23,7 +23,7 @@ use Rattle.kp_successors.specs.Refusals.{HasWideRule, IsRefusedFor}
 use Rattle.kp_successors.specs.Successors.{AreSuccessors, HasWidePart, IsTooWide, wide_pattern, wide_condition, wide_right}
 use Rattle.kp_successors.specs.Turns.{IsWideAt, IsLeast, AreNexts}
 use Rattle.kp_successors.specs.declared.error.GroundError.{GroundError}
-use Rattle.kp_successors.specs.declared.error.GroundError.TheVariants.{Memory, Number, Foreign, Unread, NoInjection, Unbound}
+use Rattle.kp_successors.specs.declared.error.GroundError.TheVariants.{Memory, Number, Foreign, Unread, NoInjection}
 use Rattle.kp_successors.proofs.Answered.{are_successors, no_successors, conditions_narrow, rights_narrow, no_turns, condition_wide, right_wide, split_any}
 use Rattle.kp_successors.proofs.Refused.{caused_by}
 
@@ -116,7 +116,6 @@ refused_value t rules p s c Number runs state h = wide_pattern (λ v. subst (λ 
 refused_value t rules p s c (Foreign id) runs state h = absurd h
 refused_value t rules p s c Unread runs state h = λ verified. h (subst (λ g. IsVerifiedTerm g p) (sym runs.signature) verified) state.closed
 refused_value t rules p s c NoInjection runs state h = absurd h
-refused_value t rules p s c Unbound runs state h = absurd h
 
 too_wide_by : (t : Theory) (p : KorePattern) (c u : Value) → c ≡ u → HasWideRule t u → IsTooWide t p c
 too_wide_by t p c u same (inl some) = wide_condition (subst (λ w. AnyByRecursion (λ r. HasWideCondition t.signature w r.body) t.rules) (sym same) some)
@@ -128,7 +127,6 @@ refused_rule t p c u Number same h = too_wide_by t p c u same h
 refused_rule t p c u (Foreign id) same h = absurd h
 refused_rule t p c u Unread same h = absurd h
 refused_rule t p c u NoInjection same h = h
-refused_rule t p c u Unbound same h = tt
 
 pub refused_foreign : (t : Theory) (p : KorePattern) (c u : Value) (n : List ℕ) (e : GroundError) → c ≡ u → ¬ IsTooWide t p c → IsFirstUnknown t u n → IsForeignBy n e → IsRefusedFor t p c e
 refused_foreign t p c u n Memory same narrow first h = absurd h
@@ -136,4 +134,3 @@ refused_foreign t p c u n Number same narrow first h = absurd h
 refused_foreign t p c u n (Foreign id) same narrow first h = (narrow, subst (λ w. IsFirstUnknown t w (string_bytes id)) (sym same) (subst (IsFirstUnknown t u) (sym h) first))
 refused_foreign t p c u n Unread same narrow first h = absurd h
 refused_foreign t p c u n NoInjection same narrow first h = absurd h
-refused_foreign t p c u n Unbound same narrow first h = absurd h

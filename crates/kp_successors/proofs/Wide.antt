@@ -5,7 +5,6 @@ use Rattle.std.proofs.lemmas.List.Folds.{list_any-append}
 use Rattle.kp_kore.specs.Syntax.{KorePattern, KorePatterns, variable, set_variable, application, string_literal, literal, top, bottom, negation, next, conjunction, disjunction, implication, equivalence, rewriting, exists, forall, ceil, floor, equals, membership, mu, nu, no_patterns, next_pattern}
 use Rattle.kp_kore.specs.Parts.{SortedName, subpatterns, all_subpatterns, free_variables}
 use Rattle.kp_kore.specs.Signature.{KoreSignature}
-use Rattle.kp_kore.specs.View.{view}
 use Rattle.kp_semantics.specs.Value.{Value}
 use Rattle.kp_semantics.specs.Sorted.{IsSorted}
 use Rattle.kp_semantics.specs.Instance.{Valuation, instance, is_named}
@@ -17,11 +16,11 @@ use Rattle.kp_rules.specs.Bodies.{IsRewriteOf, IsBodyOf, IsChoiceOf}
 use Rattle.kp_rules.specs.declared.rule.RuleBody.{RuleBody}
 use Rattle.kp_rules.specs.declared.rule.RuleBody.TheVariants.{Rewrite, Foreign}
 use Rattle.kp_rules.specs.declared.rule.Rewrite as code
-use Rattle.kp_rules.specs.declared.rule.RightSide.{RightSide}
+use Rattle.kp_rules.specs.declared.right_side.RightSide.{RightSide}
 use Rattle.kp_rules.proofs.Fired.{fired_under}
 use Rattle.kp_run.specs.Causes.{HasWideCondition}
 use Rattle.kp_run.specs.Turns.{BodyIsWide}
-use Rattle.kp_successors.specs.WideParts.{holds_none, part_computes_wide}
+use Rattle.kp_rules.specs.WideParts.{holds_none, part_computes_wide}
 use Rattle.kp_successors.specs.Nexts.{is_right_narrow, is_right_narrow_by}
 use Rattle.kp_successors.specs.Successors.{HasWidePart}
 use Rattle.kp_successors.specs.Turns.{RightIsWide}
@@ -119,9 +118,8 @@ plain_parts g v p =
 
 -- ---- right terms
 
-right_by : (g : KoreSignature) (w : model.Rewrite) (r : code.Rewrite) (b : Bool) (o : Option RightSide) → IsRewriteOf g w r → r.chooses ≡ b → IsChoiceOf w b o → (v : Valuation) → is_right_narrow_by g r o v ≡ not (part_computes_wide g v w.new_variables w.right)
-right_by g w r true (Some side) is e choice v =
-    ap (λ xs. not (part_computes_wide g v xs (view side.term))) choice.new_variables ∙ ap (λ t. not (part_computes_wide g v w.new_variables t)) choice.term
+right_by : (g : KoreSignature) (w : model.Rewrite) (r : code.Rewrite) (b : Bool) (o : Option RightSide) → IsRewriteOf g w r → r.chooses ≡ b → IsChoiceOf g w b o → (v : Valuation) → is_right_narrow_by r o v ≡ not (part_computes_wide g v w.new_variables w.right)
+right_by g w r true (Some side) is e choice v = choice.parts v
 right_by g w r false None is e choice v =
     is.right_narrow v ∙ ap not (sym (plain_parts g v w.right)) ∙ sym (ap (λ xs. not (part_computes_wide g v xs w.right)) ((is.plain e).new_variables))
 right_by g w r true None is e choice v = absurd choice
@@ -132,12 +130,12 @@ wide_right g (model.rewrite w) (Rewrite r) u s is = (
   (λ h. record {
     valuation = h.0;
     fires = (fired_under g w r is u s h.0).0 h.1;
-    wide = opposite_of (is_right_narrow g r h.0) (part_computes_wide g h.0 w.new_variables w.right) (right_by g w r r.chooses r.choice is refl is.choice h.0) h.2;
+    wide = opposite_of (is_right_narrow r h.0) (part_computes_wide g h.0 w.new_variables w.right) (right_by g w r r.chooses r.choice is refl is.choice h.0) h.2;
   }),
   (λ h. (
     h.valuation,
     (fired_under g w r is u s h.valuation).1 h.fires,
-    opposite_back (is_right_narrow g r h.valuation) (part_computes_wide g h.valuation w.new_variables w.right) (right_by g w r r.chooses r.choice is refl is.choice h.valuation) h.wide,
+    opposite_back (is_right_narrow r h.valuation) (part_computes_wide g h.valuation w.new_variables w.right) (right_by g w r r.chooses r.choice is refl is.choice h.valuation) h.wide,
   )),
 )
 wide_right g (model.foreign_rule l) (Foreign k) u s is = ((λ h. h), (λ h. h))

@@ -1,22 +1,17 @@
 -- The pattern that follows a rule with new variables or an ensured condition.
 -- Source: the K framework's Kore language (new variables, \exists and ensures of a right side).
-use Rattle.std.specs.Prelude.{◌≡◌, Bool, true, false, not, ◌&&◌, ◌||◌, List, [], ◌∷◌, ◌++◌, map}
-use Rattle.std.specs.List.{filter, list_all, list_any, AllByRecursion}
-use Rattle.std.specs.Str.{bytes_eq}
+use Rattle.std.specs.Prelude.{◌≡◌, Bool, true, false, not, ◌&&◌, List, [], ◌∷◌, ◌++◌, map}
+use Rattle.std.specs.List.{filter, AllByRecursion}
 use Rattle.kp_kore.specs.Syntax.{Text, KoreSort, KorePattern, variable, top, conjunction, equals, next_pattern}
-use Rattle.kp_kore.specs.Attributes.{sorts_equal}
-use Rattle.kp_kore.specs.Parts.{SortedName, free_variables, all_free_variables}
+use Rattle.kp_kore.specs.Parts.{SortedName, free_variables}
 use Rattle.kp_kore.specs.Signature.{KoreSignature}
 use Rattle.kp_kore.specs.View.{patterns_of}
 use Rattle.kp_semantics.specs.Instance.{Valuation, is_named}
 use Rattle.kp_semantics.specs.Rules.{Rewrite}
 use Rattle.kp_rules.specs.Bodies.{IsConstrained}
+use Rattle.kp_rules.specs.Known.{is_among, free_beside, are_known}
 use Rattle.kp_states.specs.Spelled.{IsSpellingOf}
 use Rattle.kp_substitution.specs.Substitution.{ReplacedName, substituted, is_replaced}
-
--- whether the variable is one of these, by name and sort
-abbrev pub is_among : SortedName → List SortedName → Bool
-is_among x = list_any (λ y. bytes_eq y.name x.name && sorts_equal y.sort x.sort)
 
 -- \equals{T,S}(x:T, x:T): nothing but that x stands for a value of its sort
 abbrev pub equal_to_itself : KoreSort → SortedName → KorePattern
@@ -31,11 +26,7 @@ abbrev pub constrained_by : KoreSort → KorePattern → List KorePattern → Ko
 constrained_by s t [] = t
 constrained_by s t (q ∷ qs) = conjunction s (next_pattern t (patterns_of (q ∷ qs)))
 
--- what stands free in a term and in predicates
-abbrev pub free_beside : KorePattern → List KorePattern → List SortedName
-free_beside t qs = free_variables t ++ all_free_variables (patterns_of qs)
-
--- the new variables that don't stand there
+-- the new variables that stand neither in a term nor in predicates
 abbrev pub unused : KorePattern → List KorePattern → List SortedName → List SortedName
 unused t qs = filter (λ x. not (is_among x (free_beside t qs)))
 
@@ -58,12 +49,8 @@ AreNamed left new rs = (x : Text) → is_replaced rs x ≡ (is_named x left && n
 abbrev pub SpellUnder : KoreSignature → Valuation → List ReplacedName → Type 0
 SpellUnder g v = AllByRecursion (λ r. IsSpellingOf g (v r.name) r.term)
 
--- a variable is new with its sort, or one of the left term's
-abbrev pub is_known : List SortedName → List SortedName → SortedName → Bool
-is_known left new x = is_among x new || (is_named x.name left && not (is_named x.name new))
-
 -- a right side of a term and predicates over known variables, and terms for those of the left term
 pub record IsPutIn (m : Rewrite) (rs : List ReplacedName) : Type 0 where
   pub constrained : IsConstrained m
   pub names : AreNamed (free_variables m.left) m.new_variables rs
-  pub known : list_all (is_known (free_variables m.left) m.new_variables) (free_beside m.right m.ensured) ≡ true
+  pub known : are_known (free_variables m.left) m.new_variables m.right m.ensured ≡ true

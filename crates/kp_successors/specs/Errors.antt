@@ -12,21 +12,19 @@ use Rattle.kp_states.specs.Spelled.{injection_name}
 use Rattle.kp_states.specs.declared.error.SpellingError.{SpellingError}
 use Rattle.kp_states.specs.declared.error.SpellingError.TheVariants as spelling
 use Rattle.kp_successors.specs.declared.error.GroundError.{GroundError}
-use Rattle.kp_successors.specs.declared.error.GroundError.TheVariants.{Memory, Number, Foreign, Unread, NoInjection, Unbound}
+use Rattle.kp_successors.specs.declared.error.GroundError.TheVariants.{Memory, Number, Foreign, Unread, NoInjection}
 
 -- no symbol is inj
 abbrev pub LacksInjection : KoreSignature → Type 0
 LacksInjection g = ¬ (meaning_of g injection_name ≡ injection)
 
--- G1 only for this cause, NoInjection only where no symbol is inj, and neither G2 nor Unread; Open.antt says what Unbound
--- is told of
+-- G1 only for this cause, NoInjection only where no symbol is inj, and neither G2 nor Unread
 abbrev pub IsCausedBy : KoreSignature → Type 0 → GroundError → Type 0
 IsCausedBy g Wide Memory = ⊤
 IsCausedBy g Wide Number = Wide
 IsCausedBy g Wide (Foreign id) = ⊥
 IsCausedBy g Wide Unread = ⊥
 IsCausedBy g Wide NoInjection = LacksInjection g
-IsCausedBy g Wide Unbound = ⊤
 
 -- of an evaluation
 abbrev pub IsFromEvaluation : EvaluationError → GroundError → Type 0
@@ -39,14 +37,13 @@ IsFromSpelling spelling.Memory e = e ≡ Memory
 IsFromSpelling spelling.NoInjection e = e ≡ NoInjection
 
 -- G1 only where a call of the pattern computes a number beyond 128 bits, Unread only where it isn't a verified closed
--- term without foreign symbols; neither G2, NoInjection nor Unbound
+-- term without foreign symbols; neither G2 nor NoInjection
 abbrev pub IsUnvalued : KoreSignature → KorePattern → GroundError → Type 0
 IsUnvalued g p Memory = ⊤
 IsUnvalued g p Number = (v : Valuation) → computes_wide g v p ≡ true
 IsUnvalued g p (Foreign id) = ⊥
 IsUnvalued g p Unread = IsVerifiedTerm g p → ¬ (free_variables p ≡ [])
 IsUnvalued g p NoInjection = ⊥
-IsUnvalued g p Unbound = ⊥
 
 -- G2 by the rule of this id
 abbrev pub IsForeignBy : Text → GroundError → Type 0
@@ -55,4 +52,3 @@ IsForeignBy n Number = ⊥
 IsForeignBy n (Foreign id) = string_bytes id ≡ n
 IsForeignBy n Unread = ⊥
 IsForeignBy n NoInjection = ⊥
-IsForeignBy n Unbound = ⊥

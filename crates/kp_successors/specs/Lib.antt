@@ -2,8 +2,6 @@ pub mod Choices
 pub mod Errors
 pub mod Instances
 pub mod Nexts
-pub mod Open
 pub mod Refusals
 pub mod Successors
 pub mod Turns
-pub mod WideParts

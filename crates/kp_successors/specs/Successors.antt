@@ -17,7 +17,7 @@ use Rattle.kp_run.specs.Causes.{HasWideCondition}
 use Rattle.kp_substitution.specs.Substitution.{ReplacedName}
 use Rattle.kp_successors.specs.Instances.{IsSomeInstance}
 use Rattle.kp_successors.specs.Choices.{AreNamed, SpellUnder, chosen_pattern}
-use Rattle.kp_successors.specs.WideParts.{part_computes_wide}
+use Rattle.kp_rules.specs.WideParts.{part_computes_wide}
 
 -- ---- the pattern of one rule
 

@@ -18,7 +18,7 @@ use Rattle.kp_successors.specs.Successors.{FirstThen}
 
 -- the rule fires, and its right term computes a number beyond 128 bits
 abbrev pub RightIsWide : KoreSignature → Value → RuleBody → Type 0
-RightIsWide g u (Rewrite r) = (v : Valuation) × FiresAs g r u v × (is_right_narrow g r v ≡ false)
+RightIsWide g u (Rewrite r) = (v : Valuation) × FiresAs g r u v × (is_right_narrow r v ≡ false)
 RightIsWide g u (Foreign k) = ⊥
 
 -- the pattern that follows a rule

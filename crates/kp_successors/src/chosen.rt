@@ -4,7 +4,8 @@ ghost use Rattle.kp_kore.specs.Syntax.{variable as variable_at, equals, conjunct
 ghost use Rattle.std.specs.List.{filter};
 ghost use Rattle.kp_kore.specs.View.{view, sort_view, patterns_view, sorted_variable_view};
 ghost use Rattle.kp_substitution.specs.Seen.{replacements_view};
-ghost use Rattle.kp_successors.specs.Choices.{is_among as member_of, is_top as top_test, equal_to_itself as equality_of, constrained_by, ensured_with, unused, chosen_pattern};
+ghost use Rattle.kp_rules.specs.Known.{is_among as member_of};
+ghost use Rattle.kp_successors.specs.Choices.{is_top as top_test, equal_to_itself as equality_of, constrained_by, ensured_with, unused, chosen_pattern};
 ghost use Rattle.kp_successors.specs.Nexts.{new_of, ensured_of};
 
 use crate::member::{free_beside, is_among};

@@ -14,8 +14,6 @@ pub enum GroundError {
     Unread,
     /// A successor has an `inj`, and the signature has none.
     NoInjection,
-    /// A rule has a variable that neither its left term has nor is new: no rule that is read has one.
-    Unbound,
 }
 
 impl From<AllocError> for GroundError {

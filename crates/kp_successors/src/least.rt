@@ -9,7 +9,6 @@ ghost use Rattle.kp_ground.specs.View.{value_view};
 ghost use Rattle.kp_rules.specs.declared.rule.Rule.{Rule};
 ghost use Rattle.kp_rule_sets.specs.Turns.{with_first};
 ghost use Rattle.kp_successors.specs.Errors.{IsCausedBy};
-ghost use Rattle.kp_successors.specs.declared.error.GroundError.TheVariants.{Unbound};
 ghost use Rattle.kp_run.specs.Turns.{BodyFires, BodyIsWide};
 ghost use Rattle.kp_successors.specs.Turns.{IsLeast};
 
@@ -29,7 +28,6 @@ fn fires(
 ) -> Result<bool, GroundError>
     ensures fires { IfOk result (λ b. IsTrue b ↔ BodyFires (signature_view signature.now) (value_view value.now) rule.now.body.value) }
     ensures narrow { OnOk result (¬ BodyIsWide (signature_view signature.now) (value_view value.now) rule.now.body.value) }
-    ensures known { IfErr result (λ e. ¬ (e ≡ Unbound)) }
     ensures refused { IfErr result (IsCausedBy (signature_view signature.now) (BodyIsWide (signature_view signature.now) (value_view value.now) rule.now.body.value)) }
 {
     match &*rule.body {
@@ -68,7 +66,6 @@ fn least_with(
     ensures least { IfOk result (λ next. (before : List Rule) → IsLeast (signature_view rules.now.signature.value) (value_view value.now) before least →
         IsLeast (signature_view rules.now.signature.value) (value_view value.now) (before ++ with_first (slice_get rules.now.rules.items place) []) next) }
     ensures narrow { OnOk result (AllByRecursion (λ r. ¬ BodyIsWide (signature_view rules.now.signature.value) (value_view value.now) r.body.value) (with_first (slice_get rules.now.rules.items place) [])) }
-    ensures known { IfErr result (λ e. ¬ (e ≡ Unbound)) }
     ensures refused { IfErr result (IsCausedBy (signature_view rules.now.signature.value) (AnyByRecursion (λ r. BodyIsWide (signature_view rules.now.signature.value) (value_view value.now) r.body.value) rules.now.rules.items)) }
 {
     match rules.rule_at(place) {
@@ -88,7 +85,6 @@ pub fn least_priority(
 ) -> Result<Option<u32>, GroundError>
     ensures least { IfOk result (λ o. IsLeast (signature_view rules.now.signature.value) (value_view value.now) rules.now.rules.items o) }
     ensures narrow { OnOk result (AllByRecursion (λ r. ¬ BodyIsWide (signature_view rules.now.signature.value) (value_view value.now) r.body.value) rules.now.rules.items) }
-    ensures known { IfErr result (λ e. ¬ (e ≡ Unbound)) }
     ensures refused { IfErr result (IsCausedBy (signature_view rules.now.signature.value) (AnyByRecursion (λ r. BodyIsWide (signature_view rules.now.signature.value) (value_view value.now) r.body.value) rules.now.rules.items)) }
 {
     let mut places = rules.rules_at(&head_of(value));

@@ -1,29 +1,15 @@
 // Variables among others.
 ghost use Rattle.std.specs.Prelude.{◌≡◌, ◌++◌, ◌&&◌, IfOk, OnOk, map, string_bytes};
-ghost use Rattle.std.specs.List.{list_all};
 ghost use Rattle.std.specs.Str.{bytes_eq};
 ghost use Rattle.kp_kore.specs.Attributes.{sorts_equal};
 ghost use Rattle.kp_kore.specs.Parts.{all_free_variables};
 ghost use Rattle.kp_kore.specs.View.{view, sort_view, patterns_view, sorted_variable_view};
-ghost use Rattle.kp_semantics.specs.Instance.{is_named as named_among};
-ghost use Rattle.kp_successors.specs.Choices.{is_among as member_of, is_known as known_variable, free_beside as free_of_side};
-ghost use Rattle.kp_successors.specs.Nexts.{left_of, new_of, ensured_of, is_known_side as known_side};
+ghost use Rattle.kp_rules.specs.Known.{is_among as member_of, free_beside as free_of_side};
+ghost use Rattle.kp_successors.specs.Nexts.{ensured_of};
 
 use kp_kore::{Pattern, Sort, SortedVariable};
 use kp_rules::RightSide;
 use std::alloc::{AllocError, Global};
-
-/// Whether a variable of this name is among these.
-pub fn is_named(name: &str, variables: &[SortedVariable]) -> bool
-    ensures { result ≡ named_among name.now (map sorted_variable_view variables.now) }
-{
-    for variable in variables {
-        if variable.name.as_str() == name {
-            return true;
-        }
-    }
-    false
-}
 
 /// Whether both are the same sort.
 fn is_same_sort(sort: &Sort, other: &Sort) -> bool
@@ -49,39 +35,6 @@ pub fn is_among(variable: &SortedVariable, variables: &[SortedVariable]) -> bool
         }
     }
     false
-}
-
-/// Whether the variable is new with its sort, or one of the left term's.
-fn is_known(variable: &SortedVariable, side: &RightSide) -> bool
-    ensures { result ≡ known_variable (left_of side.now) (new_of side.now) (sorted_variable_view variable.now) }
-{
-    if is_among(variable, &side.new_variables) {
-        return true;
-    }
-    if is_named(variable.name.as_str(), &side.new_variables) {
-        return false;
-    }
-    is_named(variable.name.as_str(), &side.left_variables)
-}
-
-/// Whether each variable is one of the left side's or a new one.
-fn are_known(variables: &[SortedVariable], side: &RightSide) -> bool
-    ensures { result ≡ list_all (known_variable (left_of side.now) (new_of side.now)) (map sorted_variable_view variables.now) }
-{
-    for variable in variables {
-        if !is_known(variable, side) {
-            return false;
-        }
-    }
-    true
-}
-
-/// Whether each variable of the side is.
-pub fn is_known_side(alloc: Global, side: &RightSide) -> Result<bool, AllocError>
-    ensures { IfOk result (λ b. b ≡ known_side side.now) }
-{
-    let variables = free_beside(alloc, side)?;
-    Ok(are_known(&variables, side))
 }
 
 /// The free variables of the side's term and of its ensured condition.

@@ -9,8 +9,8 @@ ghost use Rattle.kp_semantics.specs.Steps.{AnyByRecursion};
 ghost use Rattle.kp_ground.specs.Solves.{Solves, bound_names};
 ghost use Rattle.kp_ground.specs.View.{value_view};
 ghost use Rattle.kp_successors.specs.Errors.{IsCausedBy};
-ghost use Rattle.kp_successors.specs.Nexts.{PlainBy, ChosenBy, IsNextOf, is_right_narrow, left_of, new_of};
-ghost use Rattle.kp_successors.specs.WideParts.{part_computes_wide};
+ghost use Rattle.kp_successors.specs.Nexts.{PlainBy, ChosenBy, IsNextOf, is_right_narrow};
+ghost use Rattle.kp_rules.specs.WideParts.{all_narrow};
 ghost use Rattle.kp_rules.specs.Heads.{FiresAs};
 ghost use Rattle.kp_rules.specs.declared.rule.Rule.{Rule};
 ghost use Rattle.kp_rules.specs.declared.rule.RuleBody.TheVariants as body;
@@ -22,12 +22,9 @@ ghost use Rattle.kp_ground.specs.Terms.{stays_narrow};
 ghost use Rattle.kp_compile.specs.Names.{names_seen};
 ghost use Rattle.kp_ground.specs.TermView.{term_view};
 ghost use Rattle.kp_kore.specs.View.{sort_view};
-ghost use Rattle.kp_successors.specs.Open.{IsOpenSide, IsRightOpen, LeavesOpen, SomeLeavesOpen};
-ghost use Rattle.kp_successors.specs.declared.error.GroundError.TheVariants.{Unbound};
 
 use crate::chosen::chosen;
 use crate::error::GroundError;
-use crate::member::is_known_side;
 use crate::narrow::narrow;
 use crate::put_in::put_in;
 use kp_ground::{Binding, Value};
@@ -47,9 +44,8 @@ fn next_of(
 ) -> Result<Pattern, GroundError>
     requires { bound_names bindings.now ≡ left_variables rewrite.now.left }
     ensures next { IfOk result (λ p. IsNextOf (signature_view signature.now) rewrite.now (λ v. Solves v bindings.now) (view p)) }
-    ensures narrow { OnOk result ((v : Valuation) → Solves v bindings.now → is_right_narrow (signature_view signature.now) rewrite.now v ≡ true) }
-    ensures refused { IfErr result (IsCausedBy (signature_view signature.now) ((v : Valuation) → Solves v bindings.now → is_right_narrow (signature_view signature.now) rewrite.now v ≡ false)) }
-    ensures unbound { IfErr result (λ e. e ≡ Unbound → IsRightOpen (signature_view signature.now) (bound_names bindings.now) rewrite.now.choice) }
+    ensures narrow { OnOk result ((v : Valuation) → Solves v bindings.now → is_right_narrow rewrite.now v ≡ true) }
+    ensures refused { IfErr result (IsCausedBy (signature_view signature.now) ((v : Valuation) → Solves v bindings.now → is_right_narrow rewrite.now v ≡ false)) }
 {
     match &rewrite.choice {
         Some(side) => choosing(alloc, signature, &rewrite.right_sort, side, bindings),
@@ -67,14 +63,10 @@ fn choosing(
 ) -> Result<Pattern, GroundError>
     requires { names_seen side.now.left_names ≡ bound_names bindings.now }
     ensures next { IfOk result (λ p. ChosenBy (signature_view signature.now) (sort_view sort.now) side.now (λ v. Solves v bindings.now) (view p)) }
-    ensures narrow { OnOk result ((v : Valuation) → Solves v bindings.now → part_computes_wide (signature_view signature.now) v (new_of side.now) (view side.now.term) ≡ false) }
-    ensures refused { IfErr result (IsCausedBy (signature_view signature.now) ((v : Valuation) → Solves v bindings.now → part_computes_wide (signature_view signature.now) v (new_of side.now) (view side.now.term) ≡ true)) }
-    ensures unbound { IfErr result (λ e. e ≡ Unbound → IsOpenSide (signature_view signature.now) (bound_names bindings.now) side.now) }
+    ensures narrow { OnOk result ((v : Valuation) → Solves v bindings.now → all_narrow v side.now.parts.items ≡ true) }
+    ensures refused { IfErr result (IsCausedBy (signature_view signature.now) ((v : Valuation) → Solves v bindings.now → all_narrow v side.now.parts.items ≡ false)) }
 {
-    narrow(alloc, signature, side, bindings)?;
-    if !is_known_side(alloc, side)? {
-        return Err(GroundError::Unbound);
-    }
+    narrow(alloc, side, bindings)?;
     let replacements = put_in(alloc, signature, side, bindings)?;
     Ok(chosen(alloc, sort, side, &replacements)?)
 }
@@ -90,7 +82,6 @@ fn plain(
     ensures next { IfOk result (λ p. PlainBy (signature_view signature.now) rewrite.now (λ v. Solves v bindings.now) (view p)) }
     ensures narrow { OnOk result ((v : Valuation) → Solves v bindings.now → stays_narrow v (term_view rewrite.now.right) ≡ true) }
     ensures refused { IfErr result (IsCausedBy (signature_view signature.now) ((v : Valuation) → Solves v bindings.now → stays_narrow v (term_view rewrite.now.right) ≡ false)) }
-    ensures known { IfErr result (λ e. ¬ (e ≡ Unbound)) }
 {
     let value = rewrite.right.evaluate(alloc, bindings)?;
     Ok(spelled(alloc, signature, &value, &rewrite.right_sort)?)
@@ -107,7 +98,6 @@ fn next_on(
         (λ p. ((v : Valuation) × FiresAs (signature_view signature.now) rewrite.now (value_view value.now) v) × IsNextOf (signature_view signature.now) rewrite.now (FiresAs (signature_view signature.now) rewrite.now (value_view value.now)) (view p))) }
     ensures narrow { OnOk result (¬ RightIsWide (signature_view signature.now) (value_view value.now) (body.Rewrite rewrite.now)) }
     ensures refused { IfErr result (IsCausedBy (signature_view signature.now) (BodyIsWide (signature_view signature.now) (value_view value.now) (body.Rewrite rewrite.now) ⊎ RightIsWide (signature_view signature.now) (value_view value.now) (body.Rewrite rewrite.now))) }
-    ensures unbound { IfErr result (λ e. e ≡ Unbound → LeavesOpen (signature_view signature.now) (body.Rewrite rewrite.now)) }
 {
     match rewrite.fires(alloc, signature, value)? {
         Some(bindings) => Ok(Some(next_of(alloc, signature, rewrite, &bindings)?)),
@@ -127,7 +117,6 @@ fn next_at(
         (λ p. FiresAt (signature_view signature.now) (value_view value.now) priority rule.now × Follows (signature_view signature.now) (value_view value.now) rule.now.body.value (view p))) }
     ensures narrow { OnOk result (¬ IsWideAt (signature_view signature.now) (value_view value.now) priority rule.now) }
     ensures refused { IfErr result (IsCausedBy (signature_view signature.now) (BodyIsWide (signature_view signature.now) (value_view value.now) rule.now.body.value ⊎ IsWideAt (signature_view signature.now) (value_view value.now) priority rule.now)) }
-    ensures unbound { IfErr result (λ e. e ≡ Unbound → LeavesOpen (signature_view signature.now) rule.now.body.value) }
 {
     if rule.priority != priority {
         return Ok(None);
@@ -150,7 +139,6 @@ fn next_with(
         AreNexts (signature_view rules.now.signature.value) (value_view value.now) priority (before ++ with_first (slice_get rules.now.rules.items place) []) (ps ++ next_list o)) }
     ensures narrow { OnOk result (AllByRecursion (λ r. ¬ IsWideAt (signature_view rules.now.signature.value) (value_view value.now) priority r) (with_first (slice_get rules.now.rules.items place) [])) }
     ensures refused { IfErr result (IsCausedBy (signature_view rules.now.signature.value) (AnyByRecursion (λ r. BodyIsWide (signature_view rules.now.signature.value) (value_view value.now) r.body.value ⊎ IsWideAt (signature_view rules.now.signature.value) (value_view value.now) priority r) rules.now.rules.items)) }
-    ensures unbound { IfErr result (λ e. e ≡ Unbound → SomeLeavesOpen rules.now) }
 {
     match rules.rule_at(place) {
         Some(rule) => next_at(alloc, &rules.signature, rule, value, priority),
@@ -169,7 +157,6 @@ pub fn nexts_at(
     ensures nexts { IfOk result (λ ps. AreNexts (signature_view rules.now.signature.value) (value_view value.now) priority rules.now.rules.items (map view ps.items)) }
     ensures narrow { OnOk result (AllByRecursion (λ r. ¬ IsWideAt (signature_view rules.now.signature.value) (value_view value.now) priority r) rules.now.rules.items) }
     ensures refused { IfErr result (IsCausedBy (signature_view rules.now.signature.value) (AnyByRecursion (λ r. BodyIsWide (signature_view rules.now.signature.value) (value_view value.now) r.body.value ⊎ IsWideAt (signature_view rules.now.signature.value) (value_view value.now) priority r) rules.now.rules.items)) }
-    ensures unbound { IfErr result (λ e. e ≡ Unbound → SomeLeavesOpen rules.now) }
 {
     let mut places = rules.rules_at(&head_of(value));
     let mut found = Vec::new(alloc);

@@ -1,5 +1,5 @@
 // What stands for the left term's variables.
-ghost use Rattle.std.specs.Prelude.{◌≡◌, ◌++◌, ◌∷◌, [], true, not, IfOk, OnOk, IfErr, string_bytes};
+ghost use Rattle.std.specs.Prelude.{◌≡◌, ◌++◌, ◌∷◌, [], true, IfOk, OnOk, IfErr, string_bytes};
 ghost use Rattle.kp_kore.specs.View.{view, sort_view};
 ghost use Rattle.kp_signature.specs.View.{signature_view};
 ghost use Rattle.kp_semantics.specs.Value.{HasSort};
@@ -11,16 +11,13 @@ ghost use Rattle.kp_states.specs.Spelled.{IsSpellingOf};
 ghost use Rattle.kp_substitution.specs.Seen.{replacements_view, replacement_view};
 ghost use Rattle.kp_successors.specs.Errors.{IsCausedBy};
 ghost use Rattle.kp_successors.specs.Nexts.{left_of, AreForLeft, Spell};
-ghost use Rattle.kp_successors.specs.Open.{left_lacks};
-ghost use Rattle.kp_successors.specs.declared.error.GroundError.TheVariants.{Unbound};
 
 use crate::error::GroundError;
-use crate::member::is_named;
-use kp_compile::{NameSet, has_name, slot_of};
+use kp_compile::{NameSet, slot_of};
 use kp_ground::Binding;
 use kp_ground::binding::bound_at;
 use kp_kore::SortedVariable;
-use kp_rules::RightSide;
+use kp_rules::{RightSide, is_named};
 use kp_signature::Signature;
 use kp_states::spelled;
 use kp_substitution::Replacement;
@@ -37,7 +34,6 @@ pub fn put_in(
     ensures names { IfOk result (λ rs. AreForLeft side.now (replacements_view rs.items)) }
     ensures spelled { IfOk result (λ rs. Spell (signature_view signature.now) (left_of side.now) (λ v. Solves v bindings.now) (replacements_view rs.items)) }
     ensures refused { IfErr result (IsCausedBy (signature_view signature.now) ⊥) }
-    ensures unbound { IfErr result (λ e. e ≡ Unbound → left_lacks (bound_names bindings.now) side.now ≡ true) }
 {
     let mut found = Vec::new(alloc);
     for variable in &side.left_variables {
@@ -62,7 +58,7 @@ fn add(found: &mut Vec<Replacement>, replacement: Replacement) -> Result<(), All
     Ok(found.push(replacement)?)
 }
 
-/// What stands for a variable: the spelling of the value that it is bound to.
+/// What stands for a variable of one of these names: the spelling of the value that it is bound to.
 fn replacement_of(
     alloc: Global,
     signature: &Signature,
@@ -70,17 +66,14 @@ fn replacement_of(
     variable: &SortedVariable,
     bindings: &[Binding],
 ) -> Result<Replacement, GroundError>
-    requires { names_seen names.now ≡ bound_names bindings.now }
+    requires names { names_seen names.now ≡ bound_names bindings.now }
+    requires named { is_one_of (string_bytes variable.now.name) (names_seen names.now) ≡ true }
     ensures name { IfOk result (λ r. string_bytes r.name ≡ string_bytes variable.now.name) }
     ensures spelled { IfOk result (λ r. (v : Valuation) → Solves v bindings.now →
         HasSort (signature_view signature.now) (sort_view variable.now.sort) (v (string_bytes variable.now.name)) →
         IsSpellingOf (signature_view signature.now) (v (string_bytes variable.now.name)) (view r.term)) }
     ensures refused { IfErr result (IsCausedBy (signature_view signature.now) ⊥) }
-    ensures unbound { IfErr result (λ e. e ≡ Unbound → not (is_one_of (string_bytes variable.now.name) (bound_names bindings.now)) ≡ true) }
 {
-    if !has_name(names, variable.name.as_str()) {
-        return Err(GroundError::Unbound);
-    }
     let value = bound_at(bindings, slot_of(names, variable.name.as_str()));
     Ok(Replacement {
         name: variable.name.clone()?,

@@ -12,9 +12,7 @@ ghost use Rattle.kp_rule_sets.specs.RuleSets.{RunsAs};
 ghost use Rattle.kp_states.specs.Spelled.{IsGroundState};
 ghost use Rattle.kp_successors.specs.Errors.{IsCausedBy, IsForeignBy};
 ghost use Rattle.kp_successors.specs.Successors.{AreSuccessors, IsTooWide};
-ghost use Rattle.kp_successors.specs.Open.{SomeLeavesOpen};
 ghost use Rattle.kp_successors.specs.Refusals.{HasWideRule, IsRefusedFor};
-ghost use Rattle.kp_successors.specs.declared.error.GroundError.TheVariants.{Unbound};
 
 use crate::error::GroundError;
 use crate::least::least_priority;
@@ -41,7 +39,6 @@ pub fn ground_step(
     ensures known { (t : Theory) (s : KoreSort) (c : model.Value) → RunsAs t rules.now → IsGroundState t.signature (view pattern.now) s c → OnOk result (¬ IsUnknown t c) }
     ensures narrow { (t : Theory) (s : KoreSort) (c : model.Value) → RunsAs t rules.now → IsGroundState t.signature (view pattern.now) s c → OnOk result (¬ IsTooWide t (view pattern.now) c) }
     ensures refused { (t : Theory) (s : KoreSort) (c : model.Value) → RunsAs t rules.now → IsGroundState t.signature (view pattern.now) s c → IfErr result (IsRefusedFor t (view pattern.now) c) }
-    ensures unbound { IfErr result (λ e. e ≡ Unbound → SomeLeavesOpen rules.now) }
 {
     let value = value_of(alloc, &rules.signature, pattern)?;
     let nexts = nexts_of(alloc, rules, &value)?;
@@ -66,7 +63,6 @@ fn nexts_of(alloc: Global, rules: &RuleSet, value: &Value) -> Result<Vec<Pattern
         IfOk result (λ ps. (¬ IsUnknown t (value_view value.now)) → AreSuccessors t (value_view value.now) t.rules (map view ps.items)) }
     ensures narrow { (t : Theory) → RunsAs t rules.now → IsSorted t.signature (value_view value.now) → OnOk result (¬ HasWideRule t (value_view value.now)) }
     ensures refused { (t : Theory) → RunsAs t rules.now → IsSorted t.signature (value_view value.now) → IfErr result (IsCausedBy t.signature (HasWideRule t (value_view value.now))) }
-    ensures unbound { IfErr result (λ e. e ≡ Unbound → SomeLeavesOpen rules.now) }
 {
     match least_priority(alloc, rules, value)? {
         Some(priority) => nexts_at(alloc, rules, value, priority),

@@ -1,14 +1,17 @@
-use Rattle.std.proofs.Common.{rules, ◌≡◌, refl, sym, ◌∙◌, ap, true, false}
+use Rattle.std.proofs.Common.{rules, ◌≡◌, refl, sym, ◌∙◌, ap, subst, true, false, None}
 use Rattle.std.proofs.lemmas.Bool.{MatchBool-at_true, MatchBool-at_false}
 use Rattle.std.proofs.lemmas.Result.{IfOk-weaker, IfErr-weaker, err_from_is_err_and}
 use Rattle.kp_kore.specs.Syntax.{rewriting}
 use Rattle.kp_kore.specs.View.{view, sort_view, axiom_sentence_view}
 use Rattle.kp_semantics.specs.Rules.{rewrite_of}
+use Rattle.kp_signature.specs.Places.{the_top}
+use Rattle.kp_signature.specs.Verify.{first_fault}
 use Rattle.kp_signature.specs.View.{signature_view}
 use Rattle.kp_rules.specs.Bodies.{IsFaulty}
 use Rattle.kp_kore.specs.Parts.{free_variables}
 use Rattle.kp_semantics.specs.Instance.{is_named}
 use Rattle.kp_rule_reading.specs.Reading.{IsStatementRead, is_left_read}
+use Rattle.kp_rule_reading.proofs.KnownSides.{known_right}
 use Rattle.kp_rule_reading.proofs.Named.{conditions_named, right_passes}
 use Rattle.kp_rules.specs.Shapes.{rewrite_seen}
 use Rattle.kp_rule_reading.proofs.ReadParts.{statement_read, both_true}
@@ -120,3 +123,12 @@ rewrite_from-requires-clause-right c =
     let r = view c.args.right.now in
     let told = shape_told g (rewriting s l r) r c.in_ok-shape.field-0 c.in-Some.shape c.in-Some.is (c.in_ok-shape.ensures s) in
     right_passes s l r (rewrite_seen r c.in-Some.shape) told.0
+
+pub rewrite_from-requires-clause-known : goal.rewrite_from-requires-clause-known
+rewrite_from-requires-clause-known c =
+    let g = signature_view c.args.signature.now in
+    let s = sort_view c.args.sort.now in
+    let l = view c.args.left.now in
+    let r = view c.args.right.now in
+    let told = shape_told g (rewriting s l r) r c.in_ok-shape.field-0 c.in-Some.shape c.in-Some.is (c.in_ok-shape.ensures s) in
+    known_right g s l r (rewrite_seen r c.in-Some.shape) (subst (λ p. first_fault g the_top p ≡ None) c.requires.sides c.in_ok-check-in-Some.ensures.verified) told.0

@@ -42,3 +42,6 @@ compiled-requires-clause-right c = λ plain.
 
 pub compiled-requires-clause-condition : goal.compiled-requires-clause-condition
 compiled-requires-clause-condition c = c.requires.condition
+
+pub compiled-requires-clause-known : goal.compiled-requires-clause-known
+compiled-requires-clause-known c = c.requires.known

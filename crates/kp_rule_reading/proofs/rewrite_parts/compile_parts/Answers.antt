@@ -46,3 +46,9 @@ pub returns-in_err-term-clause-sound : goal.returns-in_err-term-clause-sound
 returns-in_err-term-clause-sound c =
     let p = err_from_is_err_and c.from_residual-in_err-term.result c.from_residual-in_err-term.ensures.1 in
     rw (p.1, p.2) (λ sound. c.in_err-term.ensures.sound sound)
+
+pub compile_right-requires-clause-named : goal.compile_right-requires-clause-named
+compile_right-requires-clause-named c = c.requires.named
+
+pub compile_right-requires-clause-known : goal.compile_right-requires-clause-known
+compile_right-requires-clause-known c = c.requires.known

@@ -18,4 +18,10 @@ returns-in_err-term-clause-sound c =
 pub returns-in_err-choice-clause-sound : goal.returns-in_err-choice-clause-sound
 returns-in_err-choice-clause-sound c =
     let p = err_from_is_err_and c.from_residual-in_err-choice.result c.from_residual-in_err-choice.ensures.1 in
-    rw (p.1) (λ sound. p.2)
+    rw (p.1, p.2) (λ sound. c.in_err-choice.ensures.refused sound.right)
+
+pub choice_of-requires-clause-named : goal.choice_of-requires-clause-named
+choice_of-requires-clause-named c = c.requires.named
+
+pub choice_of-requires-clause-known : goal.choice_of-requires-clause-known
+choice_of-requires-clause-known c = c.requires.known

@@ -2,6 +2,7 @@ use Rattle.std.proofs.Common.{◌≡◌, refl, subst, true}
 use Rattle.std.proofs.lemmas.Result.{err_from_is_err_and}
 use Rattle.kp_kore.specs.Parts.{free_variables}
 use Rattle.kp_kore.specs.View.{view}
+use Rattle.kp_signature.specs.View.{signature_view}
 use Rattle.kp_compile.specs.Exact.{are_named}
 use Rattle.kp_compile.specs.Names.{names_seen}
 use Rattle.kp_rules.specs.Bound.{names_of_choice}
@@ -36,6 +37,12 @@ returns-in_err-parts-clause-sound c =
     let p = err_from_is_err_and c.from_residual-in_err-parts.result c.from_residual-in_err-parts.ensures.1 in
     rw (p.1, p.2) (λ sound. c.in_err-parts.ensures.sound sound)
 
+pub compile_parts-requires-clause-named : goal.compile_parts-requires-clause-named
+compile_parts-requires-clause-named c = named_by_left c.in_ok-left.left (view c.args.shape.now.left.term.now) (names_seen c.in_ok-left.names) c.in_ok-left.ensures.names c.in_ok-left.ensures.places
+
+pub compile_parts-requires-clause-known : goal.compile_parts-requires-clause-known
+compile_parts-requires-clause-known c = c.requires.known
+
 -- ---- what the rule's parts read is bound by its left term
 
 pub invariant_of-result-clause-left_bound : goal.invariant_of-result-clause-left_bound
@@ -57,7 +64,7 @@ invariant_of-result-clause-right_bound c =
     let parts = c.in_ok-parts.parts in
     let made = c.in_ok-parts.ensures.made.right in
     let named : are_named xs (free_variables p) ≡ true = named_by_left left p xs c.in_ok-left.ensures.names c.in_ok-left.ensures.places in
-    right_by_left (rewrite_seen (view c.args.right.now) c.args.shape.now) left xs c.args.chooses parts.choice parts.right c.in_ok-left.ensures.names made.choice
+    right_by_left (signature_view c.args.signature.now) (rewrite_seen (view c.args.right.now) c.args.shape.now) left xs c.args.chooses parts.choice parts.right c.in_ok-left.ensures.names made.choice
     (λ plain. made.reads (all_among xs (free_variables p) (free_variables (view c.args.shape.now.right.term.now)) named (c.requires.right plain)))
 
 pub invariant_of-result-clause-choice_bound : goal.invariant_of-result-clause-choice_bound

@@ -1,7 +1,8 @@
 use Rattle.std.proofs.Common.{◌≡◌, ◌++◌, not, map, drop}
 use Rattle.std.specs.List.{filter}
 use Rattle.kp_kore.specs.View.{view, sort_view, sorted_variable_view}
-use Rattle.kp_successors.specs.Choices.{is_among, equal_to_itself}
+use Rattle.kp_rules.specs.Known.{is_among}
+use Rattle.kp_successors.specs.Choices.{equal_to_itself}
 use Rattle.kp_successors.proofs.chosen.add_unused.Given as goal
 
 abbrev pub invariant-loop-variable : goal.invariant-loop-variable

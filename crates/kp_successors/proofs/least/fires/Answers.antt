@@ -4,9 +4,7 @@ use Rattle.kp_semantics.specs.Instance.{Valuation}
 use Rattle.kp_ground.specs.View.{value_view}
 use Rattle.kp_rules.specs.Heads.{FiresAs}
 use Rattle.kp_run.specs.Turns.{BodyFires}
-use Rattle.std.proofs.lemmas.Result.{err_from_is_err_and}
 use Rattle.kp_successors.proofs.Finding.{fires_as}
-use Rattle.kp_successors.proofs.Open.{evaluated_known}
 use Rattle.kp_successors.proofs.least.fires.Goals as goal
 
 pub returns-in_ok-fires-in-Rewrite-clause-fires : goal.returns-in_ok-fires-in-Rewrite-clause-fires
@@ -16,8 +14,3 @@ returns-in_ok-fires-in-Rewrite-clause-fires c =
     let r = c.in-Rewrite.rewrite in
     let all = fires_as g r u c.in_ok-fires-in-Rewrite.field-0 c.in_ok-fires-in-Rewrite.ensures.firing c.in_ok-fires-in-Rewrite.ensures.solvable in
     subst (λ b. IsTrue c.is_some.result ↔ BodyFires g u b) (sym c.in-Rewrite.is ∙ c.deref.ensures) (subst (λ x. IsTrue x ↔ ((v : Valuation) × FiresAs g r u v)) (sym c.is_some.ensures) all)
-
-pub returns-in_err-fires-in-Rewrite-clause-known : goal.returns-in_err-fires-in-Rewrite-clause-known
-returns-in_err-fires-in-Rewrite-clause-known c =
-    let p = err_from_is_err_and c.from_residual.result c.from_residual.ensures.1 in
-    rw p.1 (λ is. evaluated_known c.in_err-fires-in-Rewrite.field-0.0 p.0 p.2 is)

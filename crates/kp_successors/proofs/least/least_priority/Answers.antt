@@ -59,8 +59,3 @@ pub returns-in_err-least-clause-refused : goal.returns-in_err-least-clause-refus
 returns-in_err-least-clause-refused c =
     let p = err_from_is_err_and c.from_residual.result c.from_residual.ensures.1 in
     rw (p.1, p.2) c.in_err-least.ensures.refused
-
-pub returns-in_err-least-clause-known : goal.returns-in_err-least-clause-known
-returns-in_err-least-clause-known c =
-    let p = err_from_is_err_and c.from_residual.result c.from_residual.ensures.1 in
-    rw (p.1, p.2) c.in_err-least.ensures.known

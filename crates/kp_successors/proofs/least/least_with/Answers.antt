@@ -38,11 +38,6 @@ returns-in_err-fires-in-Some-clause-refused c =
     rw (p.1, p.2) (caused_by g (BodyIsWide g u r.body.value) _ c.in_err-fires-in-Some.field-0.0 (λ w. some_at (λ q. BodyIsWide g u q.body.value) rules c.args.place r found w)
     (subst (λ s. IsCausedBy (signature_view s) (BodyIsWide (signature_view s) u r.body.value) c.in_err-fires-in-Some.field-0.0) c.deref.ensures c.in_err-fires-in-Some.ensures.refused))
 
-pub returns-in_err-fires-in-Some-clause-known : goal.returns-in_err-fires-in-Some-clause-known
-returns-in_err-fires-in-Some-clause-known c =
-    let p = err_from_is_err_and c.from_residual.result c.from_residual.ensures.1 in
-    rw (p.1, p.2) c.in_err-fires-in-Some.ensures.known
-
 pub returns-in-None-clause-least : goal.returns-in-None-clause-least
 returns-in-None-clause-least c = λ before least.
     let g = signature_view c.args.rules.now.signature.value in

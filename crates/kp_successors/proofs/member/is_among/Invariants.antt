@@ -1,6 +1,6 @@
 use Rattle.std.proofs.Common.{◌≡◌, map, drop}
 use Rattle.kp_kore.specs.View.{sorted_variable_view}
-use Rattle.kp_successors.specs.Choices.{is_among}
+use Rattle.kp_rules.specs.Known.{is_among}
 use Rattle.kp_successors.proofs.member.is_among.Given as goal
 
 abbrev pub invariant-loop-other : goal.invariant-loop-other

@@ -1,6 +1,5 @@
 use Rattle.std.proofs.Common.{◌≡◌, ◌∙◌, sym, ap, subst, true}
 use Rattle.std.specs.Prelude.{is_some}
-use Rattle.std.proofs.lemmas.Result.{IfErr-weaker}
 use Rattle.kp_ground.specs.Slots.{left_variables, term_reads}
 use Rattle.kp_rules.specs.Bound.{names_of_choice}
 use Rattle.kp_successors.proofs.Finding.{last_of}
@@ -17,7 +16,3 @@ plain-requires c =
     let r = c.args.rewrite.now in
     subst (λ xs. term_reads xs r.right ≡ true) (sym c.requires)
     (last_of r.chooses (is_some r.choice) (term_reads (left_variables r.left) r.right) (ap is_some c.in-None.is) r.right_bound)
-
--- a right side that doesn't choose is evaluated
-pub returns-in-None-clause-unbound : goal.returns-in-None-clause-unbound
-returns-in-None-clause-unbound c = IfErr-weaker c.plain.result _ _ (λ e known is. absurd (known is)) c.plain.ensures.known

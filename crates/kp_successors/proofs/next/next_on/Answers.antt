@@ -12,9 +12,7 @@ use Rattle.kp_successors.specs.Nexts.{is_right_narrow}
 use Rattle.kp_successors.proofs.Refused.{caused_by}
 use Rattle.kp_successors.proofs.Finding.{next_moved, right_leaves}
 use Rattle.kp_ground.specs.Solves.{bound_names}
-use Rattle.kp_successors.specs.Open.{IsRightOpen}
 use Rattle.kp_ground.specs.Slots.{left_variables}
-use Rattle.kp_successors.proofs.Open.{evaluated_known}
 use Rattle.kp_successors.proofs.next.next_on.Goals as goal
 
 pub returns-in_ok-next_of-in-Some-clause-next : goal.returns-in_ok-next_of-in-Some-clause-next
@@ -37,24 +35,11 @@ returns-in_err-next_of-in-Some-clause-refused c =
     let some : IsSolvable c.in-Some.bindings.items = subst (λ o. IfSome o (λ new. IsSolvable new.items)) c.in-Some.is c.in_ok-bindings.ensures.solvable in
     let p = err_from_is_err_and c.from_residual-in_err-next_of-in-Some.result c.from_residual-in_err-next_of-in-Some.ensures.1 in
     rw (p.1, p.2) (caused_by g _ _ c.in_err-next_of-in-Some.field-0.0
-    (λ w. right_leaves g r u c.in-Some.bindings.items solved some (subst (λ bs. (v : Valuation) → Solves v bs → is_right_narrow g r v ≡ false) c.deref.ensures.value w))
+    (λ w. right_leaves g r u c.in-Some.bindings.items solved some (subst (λ bs. (v : Valuation) → Solves v bs → is_right_narrow r v ≡ false) c.deref.ensures.value w))
     c.in_err-next_of-in-Some.ensures.refused)
-
-pub returns-in_err-bindings-clause-unbound : goal.returns-in_err-bindings-clause-unbound
-returns-in_err-bindings-clause-unbound c =
-    let p = err_from_is_err_and c.from_residual.result c.from_residual.ensures.1 in
-    rw p.1 (λ is. absurd (evaluated_known c.in_err-bindings.field-0.0 p.0 p.2 is))
 
 pub next_of-requires : goal.next_of-requires
 next_of-requires c =
     let names : bound_names c.in-Some.bindings.items ≡ left_variables c.args.rewrite.now.left =
     subst (λ o. IfSome o (λ new. bound_names new.items ≡ left_variables c.args.rewrite.now.left)) c.in-Some.is c.in_ok-bindings.ensures.bound in
     ap bound_names c.deref.ensures.value ∙ names
-
-pub returns-in_err-next_of-in-Some-clause-unbound : goal.returns-in_err-next_of-in-Some-clause-unbound
-returns-in_err-next_of-in-Some-clause-unbound c =
-    let g = signature_view c.args.signature.now in
-    let r = c.args.rewrite.now in
-    let names : bound_names c.in-Some.bindings.items ≡ left_variables r.left = subst (λ o. IfSome o (λ new. bound_names new.items ≡ left_variables r.left)) c.in-Some.is c.in_ok-bindings.ensures.bound in
-    let p = err_from_is_err_and c.from_residual-in_err-next_of-in-Some.result c.from_residual-in_err-next_of-in-Some.ensures.1 in
-    rw (p.1, p.2) (λ is. subst (λ xs. IsRightOpen g xs r.choice) (ap bound_names c.deref.ensures.value ∙ names) (c.in_err-next_of-in-Some.ensures.unbound is))

@@ -7,7 +7,6 @@ use Rattle.kp_rule_sets.specs.Turns.{with_first}
 use Rattle.kp_run.specs.Turns.{BodyIsWide, FiresAt}
 use Rattle.kp_run.proofs.Taking.{one_at_next, all_of_one, all_of_none, some_at}
 use Rattle.kp_successors.specs.Errors.{IsCausedBy}
-use Rattle.kp_successors.specs.Open.{LeavesOpen}
 use Rattle.kp_successors.specs.Turns.{AreNexts, Follows, IsWideAt, next_list}
 use Rattle.kp_successors.proofs.Asking.{nexts_after}
 use Rattle.kp_successors.proofs.ByHead.{nexts_at_next}
@@ -48,18 +47,6 @@ returns-in-Some-clause-refused c =
     (λ e h. caused_by g (BodyIsWide g u r.body.value ⊎ IsWideAt g u n r) _ e (λ w. some_at (λ q. BodyIsWide g u q.body.value ⊎ IsWideAt g u n q) rules c.args.place r found w)
     (subst (λ s. IsCausedBy (signature_view s) (BodyIsWide (signature_view s) u r.body.value ⊎ IsWideAt (signature_view s) u n r) e) c.deref.ensures h))
     c.next_at.ensures.refused
-
-pub returns-in-Some-clause-unbound : goal.returns-in-Some-clause-unbound
-returns-in-Some-clause-unbound c =
-    let g = signature_view c.args.rules.now.signature.value in
-    let u = value_view c.args.value.now in
-    let n = c.args.priority in
-    let rules = c.args.rules.now.rules.items in
-    let found : Some c.in-Some.rule.now ≡ slice_get rules c.args.place = subst (λ o. option_map (λ r. r.now) o ≡ slice_get rules c.args.place) c.in-Some.is c.rule_at.ensures in
-    let r = c.in-Some.rule.now in
-    IfErr-weaker c.next_at.result _ _
-    (λ e h is. some_at (λ q. LeavesOpen g q.body.value) rules c.args.place r found (subst (λ s. LeavesOpen (signature_view s) r.body.value) c.deref.ensures (h is)))
-    c.next_at.ensures.unbound
 
 pub returns-in-None-clause-next : goal.returns-in-None-clause-next
 returns-in-None-clause-next c = λ before ps nexts.

@@ -3,7 +3,6 @@ use Rattle.kp_signature.specs.View.{signature_view}
 use Rattle.kp_ground.specs.TermView.{term_view}
 use Rattle.kp_ground.specs.View.{value_view}
 use Rattle.kp_successors.proofs.Refused.{from_evaluation, from_spelling, evaluated_wide}
-use Rattle.kp_successors.proofs.Open.{evaluated_known, spelled_open}
 use Rattle.kp_successors.proofs.next.plain.Goals as goal
 
 pub returns-clause-next : goal.returns-clause-next
@@ -26,13 +25,3 @@ pub returns-in_err-spelled-clause-refused : goal.returns-in_err-spelled-clause-r
 returns-in_err-spelled-clause-refused c =
     let p = err_from_is_err_and c.from_residual-in_err-spelled.result c.from_residual-in_err-spelled.ensures.1 in
     rw p.1 (from_spelling (signature_view c.args.signature.now) _ c.in_err-spelled.field-0.0 p.0 p.2 (λ is. c.in_err-spelled.ensures.no_injection is))
-
-pub returns-in_err-value-clause-known : goal.returns-in_err-value-clause-known
-returns-in_err-value-clause-known c =
-    let p = err_from_is_err_and c.from_residual.result c.from_residual.ensures.1 in
-    rw p.1 (λ is. evaluated_known c.in_err-value.field-0.0 p.0 p.2 is)
-
-pub returns-in_err-spelled-clause-known : goal.returns-in_err-spelled-clause-known
-returns-in_err-spelled-clause-known c =
-    let p = err_from_is_err_and c.from_residual-in_err-spelled.result c.from_residual-in_err-spelled.ensures.1 in
-    rw p.1 (λ is. spelled_open c.in_err-spelled.field-0.0 p.0 p.2 is)

@@ -1,14 +1,12 @@
-use Rattle.std.proofs.Common.{rules, ◌≡◌, sym, ap, subst, ◌∙◌, ◌+◌, ◌++◌, ◌∷◌, [], true, false, not, map, drop, string_bytes}
+use Rattle.std.proofs.Common.{rules, ◌≡◌, sym, ap, subst, ◌∙◌, ◌+◌, ◌++◌, ◌∷◌, [], true, false, map, drop, string_bytes}
 use Rattle.std.specs.List.{AllByRecursion}
-use Rattle.std.proofs.lemmas.Result.{err_from_is_err_and}
 use Rattle.kp_kore.specs.View.{sorted_variable_view}
 use Rattle.kp_signature.specs.View.{signature_view}
 use Rattle.kp_semantics.specs.Instance.{is_named}
-use Rattle.kp_ground.specs.Solves.{bound_names}
+use Rattle.kp_compile.specs.Names.{names_seen}
 use Rattle.kp_substitution.specs.Seen.{replacement_view, replacements_view}
 use Rattle.kp_successors.specs.Nexts.{left_of, new_of}
-use Rattle.kp_successors.proofs.Open.{left_lacks_at}
-use Rattle.kp_successors.proofs.Spelling.{IsSpelled, names_of, all_named, put_added, put_passed, replaced_names, spell_all, spelled_added}
+use Rattle.kp_successors.proofs.Spelling.{IsSpelled, names_of, all_named, left_named, put_added, put_passed, replaced_names, spell_all, spelled_added}
 use Rattle.kp_successors.proofs.put_in.put_in.Goals.{then-not-is_named+in_ok-replacement+in_ok-add, else-not-is_named}
 use Rattle.kp_successors.proofs.put_in.put_in.Goals as goal
 
@@ -52,13 +50,10 @@ returns-clause-names c =
 pub returns-clause-spelled : goal.returns-clause-spelled
 returns-clause-spelled c = spell_all (signature_view c.args.signature.now) (left_of c.args.side.now) c.args.bindings.now (replacements_view c.loop-variable.found.items) c.loop-variable.invariant.1
 
-pub returns-in_err-replacement-clause-unbound : goal.returns-in_err-replacement-clause-unbound
-returns-in_err-replacement-clause-unbound c =
+pub replacement_of-requires-clause-names : goal.replacement_of-requires-clause-names
+replacement_of-requires-clause-names c = c.requires
+
+pub replacement_of-requires-clause-named : goal.replacement_of-requires-clause-named
+replacement_of-requires-clause-named c =
     let side = c.args.side.now in
-    let x = c.variable-item.result in
-    let p = err_from_is_err_and c.from_residual.result c.from_residual.ensures.1 in
-    let asked : c.is_named.result ≡ is_named (string_bytes x.name) (new_of side) =
-    c.is_named.ensures ∙ ap (λ vs. is_named c.as_str.result.now (map sorted_variable_view vs)) c.deref.ensures.value ∙ ap (λ n. is_named n (new_of side)) c.as_str.ensures.value in
-    let old : c.is_named.result ≡ false = search rules in
-    rw (p.1, p.2) (λ is. left_lacks_at (bound_names c.args.bindings.now) side c.deref-variable-items.result.now c.loop-variable.variable-index x c.deref-variable-items.ensures.value c.loop-variable-test.true c.variable-item.is
-    (ap not (sym asked ∙ old)) (c.in_err-replacement.ensures.unbound is))
+    left_named (names_seen side.left_names) side.left_variables.items c.deref-variable-items.result.now c.loop-variable.variable-index c.variable-item.result c.deref-variable-items.ensures.value c.loop-variable-test.true c.variable-item.is side.named

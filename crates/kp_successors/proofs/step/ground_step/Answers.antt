@@ -11,7 +11,7 @@ use Rattle.kp_run.proofs.Theories.{told_here}
 use Rattle.kp_successors.specs.Successors.{AreSuccessors}
 use Rattle.kp_successors.proofs.Stepping.{same_value, has_sort, not_too_wide, refused_value, refused_rule, refused_foreign}
 use Rattle.kp_signature.specs.View.{signature_view}
-use Rattle.kp_successors.specs.Errors.{IsUnvalued, IsForeignBy}
+use Rattle.kp_successors.specs.Errors.{IsUnvalued}
 use Rattle.kp_successors.proofs.step.ground_step.Goals as goal
 
 pub returns-in_err-value-clause-refused : goal.returns-in_err-value-clause-refused
@@ -76,16 +76,3 @@ returns-clause-narrow c = λ t s u runs state.
     not_too_wide t c.args.rules.now (view c.args.pattern.now) u w runs same
     (subst (λ s. (v : Valuation) → computes_wide (signature_view s) v (view c.args.pattern.now) ≡ false) c.deref.ensures c.in_ok-value.ensures.narrow)
     (c.in_ok-nexts.ensures.narrow t runs sorted)
-
-pub returns-in_err-value-clause-unbound : goal.returns-in_err-value-clause-unbound
-returns-in_err-value-clause-unbound c =
-    let p = err_from_is_err_and c.from_residual.result c.from_residual.ensures.1 in
-    rw (p.1, p.2) (λ is. absurd (subst (IsUnvalued (signature_view c.deref.result.now) (view c.args.pattern.now)) is c.in_err-value.ensures.refused))
-
-pub returns-in_err-nexts-clause-unbound : goal.returns-in_err-nexts-clause-unbound
-returns-in_err-nexts-clause-unbound c =
-    let p = err_from_is_err_and c.from_residual-in_err-nexts.result c.from_residual-in_err-nexts.ensures.1 in
-    rw (p.1, p.2) c.in_err-nexts.ensures.unbound
-
-pub returns-in-Some-clause-unbound : goal.returns-in-Some-clause-unbound
-returns-in-Some-clause-unbound c = λ is. absurd (subst (IsForeignBy (string_bytes c.in-Some.rule.now.id.value)) is c.in_ok-foreign-in-Some.ensures)

@@ -41,8 +41,3 @@ pub returns-in-None-clause-narrow : goal.returns-in-None-clause-narrow
 returns-in-None-clause-narrow c = λ t runs s.
     let u = value_view c.args.value.now in
     none_narrow t c.args.rules.now u runs s (subst (IsLeast (signature_view c.args.rules.now.signature.value) u c.args.rules.now.rules.items) c.in-None.is c.in_ok-priority.ensures.least) c.in_ok-priority.ensures.narrow
-
-pub returns-in_err-priority-clause-unbound : goal.returns-in_err-priority-clause-unbound
-returns-in_err-priority-clause-unbound c =
-    let p = err_from_is_err_and c.from_residual.result c.from_residual.ensures.1 in
-    rw (p.1, p.2) (λ is. absurd (c.in_err-priority.ensures.known is))
