@@ -56,10 +56,14 @@ pub fn asked_by(
 }
 
 /// Whether some values meet all that is asked.
-pub fn can_all_be_met(asked: &mut Asked, tables: &mut Tables) -> Result<bool, AllocError>
+pub fn can_all_be_met(
+    alloc: Global,
+    asked: &mut Asked,
+    tables: &mut Tables,
+) -> Result<bool, AllocError>
     requires { (s : Sizes) × AreSizesOf s tables.old × (s.wholes + s.bits ≤ 126) × IsAskedSized s asked.old }
     ensures yes { IfOk result (λ b. IsTrue b → CanBeMet tables.old.fixed asked.old.demands.items (choices_of asked.old.choices.items)) }
     ensures no { IfOk result (λ b. b ≡ false → ¬ CanBeMet tables.old.fixed asked.old.demands.items (choices_of asked.old.choices.items)) }
 {
-    can_be_met(&asked.choices, &mut asked.demands, tables)
+    can_be_met(alloc, &asked.choices, &mut asked.demands, tables)
 }

@@ -39,5 +39,5 @@ pub fn can_be_met_together(
     let unknowns = Unknowns::of(alloc, clauses)?;
     let mut asked = asked_by(alloc, signature, &unknowns, clauses)?;
     let mut tables = tables_for(alloc, &unknowns)?;
-    can_all_be_met(&mut asked, &mut tables)
+    can_all_be_met(alloc, &mut asked, &mut tables)
 }

@@ -1,4 +1,4 @@
-use kp_demands::{Demand, Limits, Tables, can_be_met, search_choices};
+use kp_demands::{Demand, Limits, Tables, can_be_met};
 use std::alloc::{AllocError, Global};
 use std::test::Fail;
 
@@ -177,13 +177,11 @@ fn some_meet_each(choices: &[Vec<Vec<Demand>>], demands: &[Demand]) -> bool {
     false
 }
 
-/// What is said of choices beside demands, where all are on unknowns that the tables have. The demands are asked alone
-/// first, or aren't.
+/// What is said of choices beside demands, where all are on unknowns that the tables have.
 fn ask_choices(
     alloc: Global,
     choices: &[Vec<Vec<Demand>>],
     demands: &mut Vec<Demand>,
-    is_asked_first: bool,
 ) -> Result<Option<bool>, AllocError> {
     let limits = Limits {
         wholes: 2,
@@ -195,10 +193,7 @@ fn ask_choices(
         return Ok(None);
     }
     let mut tables = Tables::new(alloc, 2, 2, 4, 2)?;
-    if is_asked_first {
-        return Ok(Some(can_be_met(choices, demands, &mut tables)?));
-    }
-    Ok(Some(search_choices(choices, demands, &mut tables)?))
+    Ok(Some(can_be_met(alloc, choices, demands, &mut tables)?))
 }
 
 /// Up to three ways of up to eight demands each.
@@ -223,11 +218,11 @@ fn some_choices(alloc: Global, seed: &mut u64) -> Result<Vec<Vec<Vec<Demand>>>, 
 fn a_thousand_random_choices(rt: HostRuntime) -> Result<(), Fail> {
     let mut seed = 20_261_129;
     let mut yes = 0u32;
-    for n in 0..1000 {
+    for _ in 0..1000 {
         let choices = some_choices(rt.alloc(), &mut seed)?;
         let mut demands = some_demands(rt.alloc(), &mut seed)?;
         let wanted = some_meet_each(&choices, &demands);
-        let answer = ask_choices(rt.alloc(), &choices, &mut demands, n % 2 == 0)?;
+        let answer = ask_choices(rt.alloc(), &choices, &mut demands)?;
         assert_eq!(rt; answer, Some(wanted));
         if wanted {
             yes = yes.saturating_add(1);

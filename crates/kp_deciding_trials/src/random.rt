@@ -99,7 +99,7 @@ fn is_as_enumerated(alloc: Global, drawn: Drawn) -> Result<bool, Fail> {
 #[test]
 fn random_conditions_are_decided_as_by_enumeration(rt: HostRuntime) -> Result<(), Fail> {
     let mut number: u64 = 32;
-    for _i in 0..100 {
+    for _i in 0..5_000 {
         number = next(number);
         assert!(rt; is_as_enumerated(rt.alloc(), draw(number >> 40))?);
     }

@@ -1,4 +1,5 @@
 pub mod Classes
 pub mod Demands
+pub mod Known
 pub mod Tabled
 pub mod Truths

@@ -5,6 +5,7 @@
 
 mod classes;
 mod demand;
+mod known;
 mod places;
 mod search;
 mod sized;
@@ -12,6 +13,6 @@ mod tables;
 mod truths;
 
 pub use demand::Demand;
-pub use search::{can_be_met, search_choices};
+pub use search::can_be_met;
 pub use sized::Limits;
 pub use tables::Tables;

@@ -4,6 +4,7 @@ ghost use Rattle.std.specs.List.{AllByRecursion};
 ghost use Rattle.kp_diff.specs.Bounds.{Meets, HaveBits};
 ghost use Rattle.kp_diff.specs.Rows.{bounds_of, values_of};
 ghost use Rattle.kp_demands.specs.Demands.{Sizes, IsSized, MeetsBound};
+ghost use Rattle.kp_demands.specs.Known.{Follow};
 
 use crate::demand::Demand;
 use kp_diff::{Matrix, Outcome};
@@ -45,6 +46,7 @@ pub fn agree(matrix: &mut Matrix, demands: &[Demand]) -> bool
     ensures zero { IsTrue result → values_of matrix.new 0 ≡ pos 0 }
     ensures yes { IsTrue result → AllByRecursion (MeetsBound (values_of matrix.new)) demands.now }
     ensures no { result ≡ false → (values : ℕ → ℤ) → values 0 ≡ pos 0 → ¬ AllByRecursion (MeetsBound values) demands.now }
+    ensures follow { IsTrue result → Follow demands.now matrix.new }
 {
     fill(matrix, demands);
     match matrix.feasible() {

@@ -2,6 +2,7 @@
 ghost use Rattle.std.specs.Prelude.{◌≡◌, ◌≤◌, ◌+◌, [], ℕ, suc, true, false, length, IfOk, IsTrue, replicate, None};
 ghost use Rattle.std.specs.List.{AllByRecursion};
 ghost use Rattle.kp_demands.specs.Demands.{Sizes, IsSized, CanBeMet};
+ghost use Rattle.kp_demands.specs.Known.{Follow};
 ghost use Rattle.kp_demands.specs.Tabled.{AreSizesOf};
 
 use crate::demand::Demand;
@@ -70,6 +71,7 @@ impl Tables {
         ensures fixed { self.new.fixed ≡ self.old.fixed }
         ensures yes { IsTrue result → CanBeMet self.old.fixed demands.now [] }
         ensures no { result ≡ false → ¬ CanBeMet self.old.fixed demands.now [] }
+        ensures follow { IsTrue result → Follow demands.now self.new.matrix }
     {
         if !truths::agree(&mut self.truths, demands) {
             return false;

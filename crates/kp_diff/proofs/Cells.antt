@@ -17,7 +17,7 @@ pub cell_is : (rows : List (Vec (Option ℤ) Global)) (x y : ℕ) (d : Vec (Opti
 cell_is rows x y d e h k = any_default (get_or rows x d).items y e None k ∙ ap (λ l. get_or l y None) (sym (row_at rows x d h))
 
 -- a row of a square has as many bounds as there are rows
-within : (n : ℕ) (rows : List (Vec (Option ℤ) Global)) (x : ℕ) → IsSquare n (rows_of rows) → x < n → x < length rows
+pub within : (n : ℕ) (rows : List (Vec (Option ℤ) Global)) (x : ℕ) → IsSquare n (rows_of rows) → x < n → x < length rows
 within n rows x q h = subst (λ k. x < k) (sym q.rows_long ∙ length-map rows (λ v. v.items)) h
 
 pub row_long : (n : ℕ) (rows : List (Vec (Option ℤ) Global)) (x : ℕ) (d : Vec (Option ℤ) Global) → IsSquare n (rows_of rows) → x < n → length (get_or rows x d).items ≡ n

@@ -1,6 +1,7 @@
 pub mod Callers
 pub mod Cells
 pub mod Closure
+pub mod Passes
 pub mod RoundSteps
 pub mod Rounds
 pub mod RowSteps

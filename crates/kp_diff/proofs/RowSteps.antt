@@ -135,3 +135,16 @@ row_step n before now after k x y s hx hy r e = subst (λ z. IsRowUpTo n before 
 
     less_than : (j : ℕ) → suc y ≤ j → y ≤ j
     less_than j h = omega arith
+
+-- a row without a bound to the place stays as it is
+pub row_stays : (n : ℕ) (rows : Rows) (k x y : ℕ) → IsSquare n rows → None ≡ bound_in rows x k → IsRowUpTo n rows rows k x y
+row_stays n rows k x y q e = record {
+  square = q;
+  done = λ j h. unchanged (bound_in rows x j) (bound_in rows k j) ∙ ap (λ o. narrower (bound_in rows x j) (summed o (bound_in rows k j))) e;
+  left = λ j h. refl;
+  others = λ i j ne. refl;
+}
+  where
+    unchanged : (o p : Option ℤ) → o ≡ narrower o (summed None p)
+    unchanged None p = refl
+    unchanged (Some a) p = refl

@@ -1,4 +1,4 @@
-ghost use Rattle.std.specs.Prelude.{◌≡◌, ◌↔◌, ◌<◌, ◌≤◌, ◌+◌, ℕ, ℤ, pos, suc, length, get_or, List, [], Some, set, IsTrue};
+ghost use Rattle.std.specs.Prelude.{◌≡◌, ◌↔◌, ◌<◌, ◌≤◌, ◌+◌, ℕ, ℤ, pos, suc, length, get_or, List, [], Some, None, set, IsTrue};
 ghost use Rattle.kp_diff.specs.Bounds.{Meets, narrower, summed, IsClosed, HaveBits, IsWithinWeight};
 ghost use Rattle.kp_diff.specs.Rows.{rows_of, bound_in, eliminated, IsSound, IsSquare, FitsSums, IsRowUpTo, IsRoundUpTo};
 
@@ -50,7 +50,17 @@ fn lower(rows: &mut [Vec<Option<i128>>], k: usize, x: usize, y: usize)
     rows[x][y] = bound;
 }
 
-/// One row of a round over a place.
+/// Whether there is no bound.
+fn is_free(bound: Option<i128>) -> bool
+    ensures { IsTrue result → None ≡ bound }
+{
+    match bound {
+        Some(_) => false,
+        None => true,
+    }
+}
+
+/// One row of a round over a place. Without a bound to the place it stays as it is.
 fn lower_row(rows: &mut [Vec<Option<i128>>], k: usize, x: usize)
     requires square { IsSquare (length rows.old) (rows_of rows.old) }
     requires places { (k < length rows.old) × (x < length rows.old) }
@@ -59,6 +69,9 @@ fn lower_row(rows: &mut [Vec<Option<i128>>], k: usize, x: usize)
     ensures long { length rows.new ≡ length rows.old }
     ensures row { IsRowUpTo (length rows.old) (rows_of rows.old) (rows_of rows.new) k x (length rows.old) }
 {
+    if is_free(rows[x][k]) {
+        return;
+    }
     for y in 0..rows.len() {
         lower(rows, k, x, y);
     }
@@ -105,5 +118,23 @@ pub fn close(rows: &mut [Vec<Option<i128>>], size: usize) -> Outcome
         }
         round(rows, k);
     }
+    Outcome::Yes
+}
+
+/// A round over one place, in a matrix of so many variables. No where the place is bounded below zero from itself.
+pub fn pass_over(rows: &mut [Vec<Option<i128>>], size: usize, m: usize) -> Outcome
+    requires square { IsSquare (suc size) (rows_of rows.old) }
+    requires place { m < length rows.old }
+    requires bits { (bits : ℕ) × (bits < 127) × HaveBits bits size (bound_in (rows_of rows.old)) }
+    ensures long { length rows.new ≡ length rows.old }
+    ensures square { IsSquare (suc size) (rows_of rows.new) }
+    ensures same { (values : ℕ → ℤ) → Meets size (bound_in (rows_of rows.old)) values ↔ Meets size (bound_in (rows_of rows.new)) values }
+    ensures bits { (bits : ℕ) → HaveBits bits size (bound_in (rows_of rows.old)) → HaveBits (suc bits) size (bound_in (rows_of rows.new)) }
+    ensures no { result ≡ Outcome.No → (values : ℕ → ℤ) → ¬ Meets size (bound_in (rows_of rows.old)) values }
+{
+    if !is_sound(rows[m][m]) {
+        return Outcome::No;
+    }
+    round(rows, m);
     Outcome::Yes
 }

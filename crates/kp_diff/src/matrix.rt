@@ -1,11 +1,11 @@
-ghost use Rattle.std.specs.Prelude.{◌≡◌, ◌≢◌, ◌↔◌, ◌⊎◌, ◌≤◌, ◌+◌, ℕ, ℤ, pos, suc, length, IfOk, IsTrue, Some};
+ghost use Rattle.std.specs.Prelude.{◌≡◌, ◌≢◌, ◌↔◌, ◌⊎◌, ◌<◌, ◌≤◌, ◌+◌, ℕ, ℤ, pos, suc, length, IfOk, IsTrue, Some};
 ghost use Rattle.kp_diff.specs.Bounds.{Meets, no_bounds, narrower, IsClosed, HaveBits, IsWithinWeight};
 ghost use Rattle.kp_diff.specs.Rows.{Differences, bounds_of, values_of, rows_of, IsMatrix};
 
-use crate::elimination::narrow;
-use crate::rows::{free_all, free_rows, zeros};
+use crate::elimination::{narrow, pass_over};
+use crate::rows::{bound_at, copied_rows, copied_values, free_all, free_rows, zeros};
 use crate::valuation::solve;
-use crate::weight::is_light;
+use crate::weight::{have_bits, is_light};
 use std::alloc::{AllocError, Global};
 use std::marker::Model;
 
@@ -63,6 +63,14 @@ impl Matrix {
         narrow(&mut self.rows, x, y, c);
     }
 
+    /// The bound of `x - y`, where there is one.
+    pub fn between(&self, x: usize, y: usize) -> Option<i128>
+        requires { (x ≤ self.now.size) × (y ≤ self.now.size) }
+        ensures { result ≡ bounds_of self.now x y }
+    {
+        bound_at(&self.rows, self.size, x, y)
+    }
+
     /// Takes all bounds away.
     pub fn clear(&mut self)
         ensures size { self.new.size ≡ self.old.size }
@@ -91,6 +99,40 @@ impl Matrix {
         ensures bits { (bits : ℕ) → HaveBits bits self.old.size (bounds_of self.old) → HaveBits (suc (self.old.size + bits)) self.old.size (bounds_of self.new) }
     {
         solve(&mut self.rows, self.size, &mut self.values)
+    }
+
+    /// Puts in what bounds are gained over one place. No where the place is bounded below zero from itself, so that
+    /// no values meet the bounds. To closed bounds with one more between two places it is enough to go over the two.
+    pub fn pass(&mut self, k: usize) -> Outcome
+        requires place { k ≤ self.old.size }
+        requires bits { (bits : ℕ) × (bits < 127) × HaveBits bits self.old.size (bounds_of self.old) }
+        ensures size { self.new.size ≡ self.old.size }
+        ensures same { (values : ℕ → ℤ) → Meets self.old.size (bounds_of self.old) values ↔ Meets self.old.size (bounds_of self.new) values }
+        ensures bits { (bits : ℕ) → HaveBits bits self.old.size (bounds_of self.old) → HaveBits (suc bits) self.old.size (bounds_of self.new) }
+        ensures no { result ≡ Outcome.No → (values : ℕ → ℤ) → ¬ Meets self.old.size (bounds_of self.old) values }
+    {
+        pass_over(&mut self.rows, self.size, k)
+    }
+
+    /// Whether all bounds, without their signs, are numbers of so many bits.
+    pub fn has_bits(&self, bits: u32) -> bool
+        requires { bits < 128 }
+        ensures { IsTrue result → HaveBits bits self.now.size (bounds_of self.now) }
+    {
+        have_bits(&self.rows, self.size, bits)
+    }
+
+    /// A matrix of the same bounds and values.
+    pub fn copy(&self, alloc: Global) -> Result<Matrix, AllocError>
+        ensures { IfOk result (λ m. m ≡ self.now) }
+    {
+        let rows = copied_rows(alloc, &self.rows)?;
+        let values = copied_values(alloc, &self.values)?;
+        Ok(Matrix {
+            size: self.size,
+            rows,
+            values,
+        })
     }
 
     /// The value of a variable, or of place 0.

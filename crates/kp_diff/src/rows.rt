@@ -1,4 +1,4 @@
-ghost use Rattle.std.specs.Prelude.{◌≡◌, ◌<◌, ◌≤◌, ℕ, pos, suc, length, get_or, IfOk, None};
+ghost use Rattle.std.specs.Prelude.{◌≡◌, ◌<◌, ◌≤◌, ℕ, pos, suc, length, get_or, IfOk, None, map};
 ghost use Rattle.kp_diff.specs.Bounds.{no_bounds};
 ghost use Rattle.kp_diff.specs.Rows.{rows_of, bound_in, value_in, IsSquare};
 
@@ -65,4 +65,45 @@ pub fn free_all(rows: &mut [Vec<Option<i128>>], size: usize)
     for x in 0..rows.len() {
         free_one(&mut rows[x], x);
     }
+}
+
+/// A row once more.
+fn copied_row(alloc: Global, row: &[Option<i128>]) -> Result<Vec<Option<i128>>, AllocError>
+    ensures { IfOk result (λ copy. copy.items ≡ row.now) }
+{
+    let mut copy = Vec::new(alloc);
+    copy.extend_from_slice(row)?;
+    Ok(copy)
+}
+
+/// All rows once more.
+pub fn copied_rows(
+    alloc: Global,
+    rows: &[Vec<Option<i128>>],
+) -> Result<Vec<Vec<Option<i128>>>, AllocError>
+    ensures { IfOk result (λ copies. rows_of copies.items ≡ rows_of rows.now) }
+{
+    let mut copies = Vec::new(alloc);
+    for row in rows {
+        copies.push(copied_row(alloc, row)?)?;
+    }
+    Ok(copies)
+}
+
+/// The values once more.
+pub fn copied_values(alloc: Global, values: &[i128]) -> Result<Vec<i128>, AllocError>
+    ensures { IfOk result (λ copy. copy.items ≡ values.now) }
+{
+    let mut copy = Vec::new(alloc);
+    copy.extend_from_slice(values)?;
+    Ok(copy)
+}
+
+/// The bound at two places.
+pub fn bound_at(rows: &[Vec<Option<i128>>], size: usize, x: usize, y: usize) -> Option<i128>
+    requires square { IsSquare (suc size) (rows_of rows.now) }
+    requires places { (x ≤ size) × (y ≤ size) }
+    ensures { result ≡ bound_in (rows_of rows.now) x y }
+{
+    rows[x][y]
 }

@@ -1,5 +1,5 @@
 ghost use Rattle.std.specs.Prelude.{◌≡◌, ◌↔◌, ◌<◌, ◌≤◌, ◌^◌, ◌-◌, ℕ, suc, length, get_or, List, [], None, IsTrue};
-ghost use Rattle.kp_diff.specs.Bounds.{IsBelow, IsWithinWeight};
+ghost use Rattle.kp_diff.specs.Bounds.{HaveBits, IsBelow, IsWithinWeight};
 ghost use Rattle.kp_diff.specs.Rows.{rows_of, bound_in, IsSquare};
 
 /// Whether a bound, without its sign, is below a limit.
@@ -45,4 +45,13 @@ pub fn is_light(rows: &[Vec<Option<i128>>], size: usize) -> bool
         return false;
     }
     are_rows_below(rows, 2u128.pow((126 - size) as u32))
+}
+
+/// Whether all bounds, without their signs, are numbers of so many bits.
+pub fn have_bits(rows: &[Vec<Option<i128>>], size: usize, bits: u32) -> bool
+    requires square { IsSquare (suc size) (rows_of rows.now) }
+    requires few { bits < 128 }
+    ensures { IsTrue result → HaveBits bits size (bound_in (rows_of rows.now)) }
+{
+    are_rows_below(rows, 2u128.pow(bits))
 }

@@ -18,12 +18,3 @@ can_be_met-requires c = (
   subst (AllByRecursion (IsSized sizes)) c.deref.ensures.value ((c.allow_all.ensures sizes limits).0 (search rules)),
   (c.allow_choices.ensures sizes limits).0 (search rules),
 )
-
-pub search_choices-requires : goal.search_choices-requires
-search_choices-requires c = (
-  sizes,
-  c.in_ok-tables.ensures.sizes 2,
-  omega arith,
-  subst (AllByRecursion (IsSized sizes)) c.deref.ensures.value ((c.allow_all.ensures sizes limits).0 (search rules)),
-  (c.allow_choices.ensures sizes limits).0 (search rules),
-)

@@ -18,3 +18,8 @@ returns-in-Yes-clause-yes c _ =
 pub returns-in-No-clause-no : goal.returns-in-No-clause-no
 returns-in-No-clause-no c _ values zero_is all = c.in-No.ensures.no refl values
     (subst (λ n. Meets n (bounds_of c.fill.new.matrix) values) (sym c.fill.ensures.size) ((c.fill.ensures.met values zero_is).1 all))
+
+pub returns-in-Yes-clause-follow : goal.returns-in-Yes-clause-follow
+returns-in-Yes-clause-follow c _ values zero_is all =
+    let filled : Meets c.fill.new.matrix.size (bounds_of c.fill.new.matrix) values = subst (λ n. Meets n (bounds_of c.fill.new.matrix) values) (sym c.fill.ensures.size) ((c.fill.ensures.met values zero_is).1 all) in
+    subst (λ n. Meets n (bounds_of c.feasible.new.self) values) (sym c.in-Yes.ensures.size) ((c.in-Yes.ensures.same values).0 filled)
