@@ -1,2 +1,3 @@
 pub mod ClauseLemmas
 pub mod StateLemmas
+pub mod SumLemmas

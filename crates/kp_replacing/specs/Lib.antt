@@ -1,2 +1,3 @@
 pub mod Replacing
 pub mod Substituted
+pub mod Sums

@@ -1,7 +1,9 @@
 // A literal with terms in the place of variables, opened again.
-ghost use Rattle.std.specs.Prelude.{◌≡◌, IfOk, map};
+ghost use Rattle.std.specs.Prelude.{◌≡◌, IfOk, IfErr, map};
+ghost use Rattle.kp_compile.specs.declared.error.CompileError.TheVariants.{Memory};
 ghost use Rattle.kp_kore.specs.View.{sort_view};
 ghost use Rattle.kp_symbolic.specs.Folding as folding;
+ghost use Rattle.kp_symbolic.specs.Folding.{AreWritten};
 ghost use Rattle.kp_symbolic.specs.Formulas.{fact};
 ghost use Rattle.kp_symbolic.specs.Opening.{opened_same, opened_test};
 ghost use Rattle.kp_symbolic.specs.Terms.{unknown};
@@ -9,6 +11,7 @@ ghost use Rattle.kp_terms.specs.Languages.{language_view};
 ghost use Rattle.kp_terms.specs.View.{literal_view, replaced_view, term_view, test_view, variable_view};
 ghost use Rattle.kp_opening.specs.View.{formula_view};
 ghost use Rattle.kp_replacing.specs.Replacing as model;
+ghost use Rattle.kp_replacing.specs.Sums.{HasWrittenSums};
 
 use crate::quoted::quote_under;
 use kp_compile::CompileError;
@@ -31,7 +34,8 @@ fn open_equality(
     left: &Term,
     right: &Term,
 ) -> Result<Formula, CompileError>
-    ensures { IfOk result (λ f. formula_view f ≡ opened_same (language_view language.now) alone sign (sort_view sort.now) (folding.replaced (language_view language.now) (map replaced_view by.now) (term_view left.now)) (folding.replaced (language_view language.now) (map replaced_view by.now) (term_view right.now))) }
+    ensures opened { IfOk result (λ f. formula_view f ≡ opened_same (language_view language.now) alone sign (sort_view sort.now) (folding.replaced (language_view language.now) (map replaced_view by.now) (term_view left.now)) (folding.replaced (language_view language.now) (map replaced_view by.now) (term_view right.now))) }
+    ensures refused { IfErr result (λ e. AreWritten (language_view language.now) (term_view left.now) → AreWritten (language_view language.now) (term_view right.now) → e ≡ Memory) }
 {
     let left = left.replaced(alloc, language, by)?;
     let right = right.replaced(alloc, language, by)?;
@@ -54,7 +58,8 @@ fn open_head(
     open_test(alloc, language.signature, kept.holds, test, kept, &term)
 }
 
-/// A literal with terms in the place of variables, as a clause's only literal or one of several.
+/// A literal with terms in the place of variables, as a clause's only literal or one of several. Where each sum in it can be
+/// written, it is refused for want of memory alone.
 pub fn open_under(
     alloc: Global,
     language: &Language,
@@ -62,7 +67,8 @@ pub fn open_under(
     alone: bool,
     literal: &Literal,
 ) -> Result<Formula, CompileError>
-    ensures { IfOk result (λ f. formula_view f ≡ model.opened_under (language_view language.now) (map replaced_view by.now) alone (literal_view literal.now).holds (literal_view literal.now).atom) }
+    ensures opened { IfOk result (λ f. formula_view f ≡ model.opened_under (language_view language.now) (map replaced_view by.now) alone (literal_view literal.now).holds (literal_view literal.now).atom) }
+    ensures refused { IfErr result (λ e. HasWrittenSums (language_view language.now) (literal_view literal.now).atom → e ≡ Memory) }
 {
     let sign = literal.holds;
     match &literal.atom {

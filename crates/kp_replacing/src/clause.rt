@@ -1,11 +1,14 @@
 // A clause with terms in the place of variables, opened again.
-ghost use Rattle.std.specs.Prelude.{◌≡◌, IfOk, map};
+ghost use Rattle.std.specs.Prelude.{◌≡◌, IfOk, IfErr, map};
+ghost use Rattle.std.specs.List.{AllByRecursion};
+ghost use Rattle.kp_compile.specs.declared.error.CompileError.TheVariants.{Memory};
 ghost use Rattle.kp_symbolic.specs.Solving.{is_single};
 ghost use Rattle.kp_terms.specs.Languages.{language_view};
 ghost use Rattle.kp_terms.specs.View.{clause_view, literal_view, replaced_view};
 ghost use Rattle.kp_distribution.specs.Distribution.{distribution_of, distributions_of};
 ghost use Rattle.kp_distribution.specs.View.{distributed_view};
 ghost use Rattle.kp_replacing.specs.Replacing as model;
+ghost use Rattle.kp_replacing.specs.Sums.{HasWrittenSums};
 
 use crate::atom::open_under;
 use kp_compile::CompileError;
@@ -29,7 +32,8 @@ fn open_literal(
     alone: bool,
     literal: &Literal,
 ) -> Result<Distributed, CompileError>
-    ensures { IfOk result (λ d. distributed_view d ≡ distribution_of (model.opened_under (language_view language.now) (map replaced_view by.now) alone (literal_view literal.now).holds (literal_view literal.now).atom)) }
+    ensures opened { IfOk result (λ d. distributed_view d ≡ distribution_of (model.opened_under (language_view language.now) (map replaced_view by.now) alone (literal_view literal.now).holds (literal_view literal.now).atom)) }
+    ensures refused { IfErr result (λ e. HasWrittenSums (language_view language.now) (literal_view literal.now).atom → e ≡ Memory) }
 {
     let formula = open_under(alloc, language, by, alone, literal)?;
     Ok(distribute(&formula, alloc)?)
@@ -42,7 +46,8 @@ fn open_literals(
     by: &[Replaced],
     literals: &[Literal],
 ) -> Result<Vec<Distributed>, CompileError>
-    ensures { IfOk result (λ ds. map distributed_view ds.items ≡ distributions_of (model.all_opened_under (language_view language.now) (map replaced_view by.now) (is_single (map literal_view literals.now)) (map literal_view literals.now))) }
+    ensures opened { IfOk result (λ ds. map distributed_view ds.items ≡ distributions_of (model.all_opened_under (language_view language.now) (map replaced_view by.now) (is_single (map literal_view literals.now)) (map literal_view literals.now))) }
+    ensures refused { IfErr result (λ e. AllByRecursion (λ l. HasWrittenSums (language_view language.now) (literal_view l).atom) literals.now → e ≡ Memory) }
 {
     let alone = is_alone(literals);
     let mut found = Vec::new(alloc);
@@ -52,8 +57,8 @@ fn open_literals(
     Ok(found)
 }
 
-/// What is kept of the clauses of a clause with terms in the place of variables. Refused where a sum in it can't be
-/// written, or for want of memory.
+/// What is kept of the clauses of a clause with terms in the place of variables. Where each sum in it can
+/// be written, it is refused for want of memory alone.
 #[tactic(auto, using(crate::proofs::ClauseLemmas::one_of_literals))]
 pub fn open_clause(
     alloc: Global,
@@ -61,7 +66,8 @@ pub fn open_clause(
     by: &[Replaced],
     clause: &Clause,
 ) -> Result<Distributed, CompileError>
-    ensures { IfOk result (λ d. distributed_view d ≡ distribution_of (model.clause_under (language_view language.now) (map replaced_view by.now) (clause_view clause.now))) }
+    ensures opened { IfOk result (λ d. distributed_view d ≡ distribution_of (model.clause_under (language_view language.now) (map replaced_view by.now) (clause_view clause.now))) }
+    ensures refused { IfErr result (λ e. AllByRecursion (λ l. HasWrittenSums (language_view language.now) (literal_view l).atom) clause.now.literals.value.items → e ≡ Memory) }
 {
     let parts = open_literals(alloc, language, by, &clause.literals)?;
     Ok(one_of(alloc, &parts)?)

@@ -1,16 +1,18 @@
 // A quoted predicate with terms in the place of variables: they come into the terms that stand in it, and into the place of
 // its own variables.
-ghost use Rattle.std.specs.Prelude.{◌≡◌, ◌&&◌, ◌++◌, not, IfOk, OnOk, map};
-ghost use Rattle.std.specs.List.{filter};
+ghost use Rattle.std.specs.Prelude.{◌≡◌, ◌&&◌, ◌++◌, not, IfOk, IfErr, OnOk, map};
+ghost use Rattle.std.specs.List.{AllByRecursion, filter};
 ghost use Rattle.std.specs.Option.{is_some};
+ghost use Rattle.kp_compile.specs.declared.error.CompileError.TheVariants.{Memory};
 ghost use Rattle.kp_kore.specs.Parts.{free_variables};
 ghost use Rattle.kp_kore.specs.View.{view, sorted_variable_view};
 ghost use Rattle.kp_semantics.specs.Instance.{is_named as named_among};
 ghost use Rattle.kp_symbolic.specs.Opening.{literal_fact};
 ghost use Rattle.kp_symbolic.specs.States.{quoted};
 ghost use Rattle.kp_symbolic.specs.Terms.{replacement_for};
+ghost use Rattle.kp_symbolic.specs.Folding.{AreWritten};
 ghost use Rattle.kp_terms.specs.Languages.{language_view};
-ghost use Rattle.kp_terms.specs.View.{replaced_view};
+ghost use Rattle.kp_terms.specs.View.{replaced_view, term_view};
 ghost use Rattle.kp_opening.specs.View.{formula_view};
 ghost use Rattle.kp_replacing.specs.Replacing as model;
 
@@ -30,7 +32,8 @@ fn with_terms(
     by: &[Replaced],
     replaced: &[Replaced],
 ) -> Result<Vec<Replaced>, CompileError>
-    ensures { IfOk result (λ rs. map replaced_view rs.items ≡ model.with_terms (language_view language.now) (map replaced_view by.now) (map replaced_view replaced.now)) }
+    ensures made { IfOk result (λ rs. map replaced_view rs.items ≡ model.with_terms (language_view language.now) (map replaced_view by.now) (map replaced_view replaced.now)) }
+    ensures refused { IfErr result (λ e. AllByRecursion (λ r. AreWritten (language_view language.now) (term_view r.term)) replaced.now → e ≡ Memory) }
 {
     let mut found = Vec::new(alloc);
     for one in replaced {
@@ -75,7 +78,8 @@ fn beside(
     pattern: &Pattern,
     replaced: &[Replaced],
 ) -> Result<Vec<Replaced>, CompileError>
-    ensures { IfOk result (λ rs. map replaced_view rs.items ≡ model.beside (language_view language.now) (map replaced_view by.now) (view pattern.now) (map replaced_view replaced.now)) }
+    ensures made { IfOk result (λ rs. map replaced_view rs.items ≡ model.beside (language_view language.now) (map replaced_view by.now) (view pattern.now) (map replaced_view replaced.now)) }
+    ensures refused { IfErr result (λ e. AllByRecursion (λ r. AreWritten (language_view language.now) (term_view r.term)) replaced.now → e ≡ Memory) }
 {
     let mut found = with_terms(alloc, language, by, replaced)?;
     let variables = pattern.free_vars(alloc)?;
@@ -92,7 +96,8 @@ pub fn quote_under(
     pattern: &Arc<Pattern>,
     replaced: &[Replaced],
 ) -> Result<Formula, CompileError>
-    ensures { IfOk result (λ f. formula_view f ≡ literal_fact sign (quoted (view pattern.now.value) (model.beside (language_view language.now) (map replaced_view by.now) (view pattern.now.value) (map replaced_view replaced.now)))) }
+    ensures made { IfOk result (λ f. formula_view f ≡ literal_fact sign (quoted (view pattern.now.value) (model.beside (language_view language.now) (map replaced_view by.now) (view pattern.now.value) (map replaced_view replaced.now)))) }
+    ensures refused { IfErr result (λ e. AllByRecursion (λ r. AreWritten (language_view language.now) (term_view r.term)) replaced.now → e ≡ Memory) }
 {
     let replaced = beside(alloc, language, by, pattern, replaced)?;
     let atom = Atom::Quoted {

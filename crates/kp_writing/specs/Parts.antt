@@ -9,6 +9,7 @@ use Rattle.kp_symbolic.specs.Terms.{Replaced, replacement_for}
 use Rattle.kp_symbolic.specs.States.{Atom, same, has_head, quoted, variables_for}
 use Rattle.kp_symbolic.specs.Folding.{folded}
 use Rattle.kp_symbolic.specs.Writing.{bound_name, renamed, written_term, written_under}
+use Rattle.kp_symbolic_laws.specs.Runs.{IsRoomAt, HasRoom}
 use Rattle.kp_terms.specs.Faultless.{IsFaultless}
 
 -- a variable at its own sort
@@ -26,6 +27,10 @@ written_leaf g rs p = written_term g (unwrap_or (own_sort g p) (sort_variable []
 -- a predicate under a binder of x, which may have another name now
 abbrev pub written_bound : KoreSignature → List Replaced → Text → KoreSort → KorePattern → KorePattern
 written_bound g rs x t p = written_under g (renamed x (bound_name rs x p) t rs) p
+
+-- there is room for the new name of a binder of x, and for those under it
+abbrev pub HasRoomUnder : List Replaced → Text → KoreSort → KorePattern → Type 0
+HasRoomUnder rs x t p = IsRoomAt rs x p × HasRoom (renamed x (bound_name rs x p) t rs) p
 
 -- the names of the variables that one variable stands for
 abbrev pub names_for : List Replaced → SortedName → List Text

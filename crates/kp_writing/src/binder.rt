@@ -1,10 +1,11 @@
 // Binders of predicates whose variables have terms in their place.
-ghost use Rattle.std.specs.Prelude.{◌≡◌, IfOk, map, string_bytes};
+ghost use Rattle.std.specs.Prelude.{◌≡◌, IfOk, OnOk, map, string_bytes};
 ghost use Rattle.std.specs.List.{list_any};
 ghost use Rattle.std.specs.Str.{bytes_eq};
 ghost use Rattle.kp_kore.specs.View.{view, sort_view};
 ghost use Rattle.kp_symbolic.specs.Terms.{unknown};
 ghost use Rattle.kp_symbolic.specs.Writing as model;
+ghost use Rattle.kp_symbolic_laws.specs.Runs.{IsRoomAt};
 ghost use Rattle.kp_terms.specs.View.{replaced_view};
 
 use crate::incoming::{add_variable_names, names_coming_in};
@@ -33,7 +34,8 @@ pub fn bound_name(
     name: &Name,
     pattern: &Pattern,
 ) -> Result<Name, AllocError>
-    ensures { let rs = map replaced_view replaced.now in IfOk result (λ x. string_bytes x ≡ model.bound_name rs (string_bytes name.now) (view pattern.now)) }
+    ensures named { let rs = map replaced_view replaced.now in IfOk result (λ x. string_bytes x ≡ model.bound_name rs (string_bytes name.now) (view pattern.now)) }
+    ensures room { let rs = map replaced_view replaced.now in OnOk result (IsRoomAt rs (string_bytes name.now) (view pattern.now)) }
 {
     let mut names = names_coming_in(alloc, replaced, name, pattern)?;
     if !is_among(name, &names) {

@@ -1,9 +1,10 @@
 // Literals as predicates.
-ghost use Rattle.std.specs.Prelude.{◌≡◌, IfOk, IfErr, map};
+ghost use Rattle.std.specs.Prelude.{◌≡◌, IfOk, IfErr, OnOk, map};
 ghost use Rattle.kp_compile.specs.declared.error.CompileError.TheVariants.{Memory};
 ghost use Rattle.kp_kore.specs.Syntax.{equals};
 ghost use Rattle.kp_kore.specs.View.{view, sort_view};
 ghost use Rattle.kp_symbolic.specs.Writing.{written_atom, written_literal, written_signed, written_term, written_under};
+ghost use Rattle.kp_symbolic_laws.specs.Runs.{HasRoom, HasRoomAtom};
 ghost use Rattle.kp_terms.specs.Faultless.{IsFaultless};
 ghost use Rattle.kp_terms.specs.Languages.{language_view};
 ghost use Rattle.kp_terms.specs.View.{atom_view, literal_view, replaced_view, term_view};
@@ -54,6 +55,7 @@ fn boxed_quoted(
     replaced: &[Replaced],
 ) -> Result<Box<Pattern>, CompileError>
     ensures written { let rs = map replaced_view replaced.now in IfOk result (λ p. view p.value ≡ written_under (language_view language.now) rs (view pattern.now)) }
+    ensures room { OnOk result (HasRoom (map replaced_view replaced.now) (view pattern.now)) }
     ensures refused { IfErr result (λ e. IsFaultless (language_view language.now) (view pattern.now) → e ≡ Memory) }
 {
     Ok(Box::new(alloc, quoted_out(pattern, alloc, language, replaced)?)?)
@@ -67,6 +69,7 @@ fn atom_out(
     atom: &Atom,
 ) -> Result<Box<Pattern>, CompileError>
     ensures written { IfOk result (λ p. view p.value ≡ written_atom (language_view language.now) (sort_view sort.now) (atom_view atom.now)) }
+    ensures room { OnOk result (HasRoomAtom (language_view language.now) (atom_view atom.now)) }
     ensures refused { IfErr result (λ e. IsFaultlessAtom (language_view language.now) (atom_view atom.now) → e ≡ Memory) }
 {
     match atom {
@@ -106,6 +109,7 @@ pub fn literal_out(
     literal: &Literal,
 ) -> Result<Box<Pattern>, CompileError>
     ensures written { IfOk result (λ p. view p.value ≡ written_literal (language_view language.now) (sort_view sort.now) (literal_view literal.now)) }
+    ensures room { OnOk result (HasRoomAtom (language_view language.now) (literal_view literal.now).atom) }
     ensures refused { IfErr result (λ e. IsFaultlessAtom (language_view language.now) (literal_view literal.now).atom → e ≡ Memory) }
 {
     let pattern = atom_out(alloc, language, sort, &literal.atom)?;

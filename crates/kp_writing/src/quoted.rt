@@ -1,5 +1,5 @@
 // Predicates that aren't opened, with terms in the place of their free variables.
-ghost use Rattle.std.specs.Prelude.{◌≡◌, [], IfOk, IfErr, map, string_bytes, unwrap_or};
+ghost use Rattle.std.specs.Prelude.{◌≡◌, [], IfOk, IfErr, OnOk, map, string_bytes, unwrap_or};
 ghost use Rattle.std.specs.List.{AllByRecursion};
 ghost use Rattle.kp_compile.specs.declared.error.CompileError.TheVariants.{Memory};
 ghost use Rattle.kp_kore.specs.Syntax.{sort_variable};
@@ -8,10 +8,11 @@ ghost use Rattle.kp_signature.specs.Places.{own_sort as sort_of_pattern};
 ghost use Rattle.kp_signature.specs.View.{signature_view};
 ghost use Rattle.kp_symbolic.specs.Writing as model;
 ghost use Rattle.kp_symbolic.specs.Writing.{all_written_under, written_term, written_under};
+ghost use Rattle.kp_symbolic_laws.specs.Runs.{AllHaveRoom, HasRoom};
 ghost use Rattle.kp_terms.specs.Faultless.{IsFaultless};
 ghost use Rattle.kp_terms.specs.Languages.{language_view};
 ghost use Rattle.kp_terms.specs.View.{replaced_view, term_view};
-ghost use Rattle.kp_writing.specs.Parts.{written_bound, written_leaf};
+ghost use Rattle.kp_writing.specs.Parts.{HasRoomUnder, written_bound, written_leaf};
 
 use crate::binder::{bound_name, renamed};
 use crate::term::term_out;
@@ -79,6 +80,7 @@ pub fn quoted_out(
     replaced: &[Replaced],
 ) -> Result<Pattern, CompileError>
     ensures written { let rs = map replaced_view replaced.now in IfOk result (λ p. view p ≡ written_under (language_view language.now) rs (view pattern.now)) }
+    ensures room { OnOk result (HasRoom (map replaced_view replaced.now) (view pattern.now)) }
     ensures refused { IfErr result (λ e. IsFaultless (language_view language.now) (view pattern.now) → e ≡ Memory) }
 {
     match pattern {
@@ -185,6 +187,7 @@ fn quoted_box(
     replaced: &[Replaced],
 ) -> Result<Box<Pattern>, CompileError>
     ensures written { let rs = map replaced_view replaced.now in IfOk result (λ p. view p.value ≡ written_under (language_view language.now) rs (view pattern.now)) }
+    ensures room { OnOk result (HasRoom (map replaced_view replaced.now) (view pattern.now)) }
     ensures refused { IfErr result (λ e. IsFaultless (language_view language.now) (view pattern.now) → e ≡ Memory) }
 {
     Ok(Box::new(alloc, quoted_out(pattern, alloc, language, replaced)?)?)
@@ -202,6 +205,7 @@ fn under_binder(
 ) -> Result<(Name, Box<Pattern>), CompileError>
     ensures named { let rs = map replaced_view replaced.now in IfOk result (λ t. string_bytes t.0 ≡ model.bound_name rs (string_bytes name.now) (view pattern.now)) }
     ensures written { let rs = map replaced_view replaced.now in IfOk result (λ t. view t.1.value ≡ written_bound (language_view language.now) rs (string_bytes name.now) (sort_view sort.now) (view pattern.now)) }
+    ensures room { OnOk result (HasRoomUnder (map replaced_view replaced.now) (string_bytes name.now) (sort_view sort.now) (view pattern.now)) }
     ensures refused { IfErr result (λ e. IsFaultless (language_view language.now) (view pattern.now) → e ≡ Memory) }
 {
     let other = bound_name(alloc, replaced, name, pattern)?;
@@ -219,6 +223,7 @@ fn all_quoted(
     replaced: &[Replaced],
 ) -> Result<Vec<Pattern>, CompileError>
     ensures written { let rs = map replaced_view replaced.now in IfOk result (λ ps. patterns_view ps.items ≡ all_written_under (language_view language.now) rs (patterns_view patterns.now)) }
+    ensures room { OnOk result (AllHaveRoom (map replaced_view replaced.now) (patterns_view patterns.now)) }
     ensures refused { IfErr result (λ e. AllByRecursion (λ p. IsFaultless (language_view language.now) (view p)) patterns.now → e ≡ Memory) }
 {
     let mut found = Vec::new(alloc);

@@ -1,14 +1,17 @@
 // Tests of a variable's head as patterns.
-ghost use Rattle.std.specs.Prelude.{◌≡◌, [], ◌∷◌, IfOk, map, string_bytes, unwrap_or};
+ghost use Rattle.std.specs.Prelude.{◌≡◌, ◌+◌, ◌<◌, ◌^◌, [], ◌∷◌, length, IfOk, OnOk, map, string_bytes, unwrap_or};
+ghost use Rattle.kp_kore.specs.Parts.{sort_list};
 ghost use Rattle.kp_kore.specs.Signature.{KoreSignature};
 ghost use Rattle.kp_kore.specs.Sorting.{result_sort};
 ghost use Rattle.kp_kore.specs.Syntax.{application, equals, exists as exists_pattern, variable as variable_pattern, no_sorts};
 ghost use Rattle.kp_kore.specs.View.{view, sort_view, sorts_view, patterns_view};
 ghost use Rattle.kp_signature.specs.View.{signature_view};
+ghost use Rattle.kp_states.specs.Spelled as spelled;
 ghost use Rattle.kp_states.specs.Spelled.{placed};
 ghost use Rattle.kp_symbolic.specs.Writing as model;
 ghost use Rattle.kp_symbolic.specs.Writing.{least_fresh, variables_of, written_test};
-ghost use Rattle.kp_symbolic.specs.States.{one_head, head_of_sort};
+ghost use Rattle.kp_symbolic.specs.States.{one_head, head_of_sort, has_head};
+ghost use Rattle.kp_symbolic_laws.specs.Runs.{HasRoomAtom};
 ghost use Rattle.kp_terms.specs.View.{test_view, variable_view};
 
 use crate::place::{applied_at, variable_at, variable_out};
@@ -34,7 +37,8 @@ fn with_first(alloc: Global, name: &Name, names: &[Name]) -> Result<Vec<Name>, A
 
 /// A new variable for each of these sorts, none of them with this name.
 fn new_variables(alloc: Global, name: &Name, sorts: &[Sort]) -> Result<Vec<Variable>, AllocError>
-    ensures { let used = string_bytes name.now ∷ [] in IfOk result (λ xs. map variable_view xs.items ≡ model.new_variables used (sorts_view sorts.now)) }
+    ensures new { let used = string_bytes name.now ∷ [] in IfOk result (λ xs. map variable_view xs.items ≡ model.new_variables used (sorts_view sorts.now)) }
+    ensures few { OnOk result (1 + length (sort_list (sorts_view sorts.now)) < 2 ^ 64) }
 {
     let mut used = Vec::new(alloc);
     used.push(name.clone()?)?;
@@ -132,7 +136,8 @@ fn constructor_test(
     variable: &Variable,
     symbol: &Name,
 ) -> Result<Box<Pattern>, AllocError>
-    ensures { let g = signature_view signature.now in let test = one_head (string_bytes symbol.now) in IfOk result (λ p. view p.value ≡ written_test g (sort_view sort.now) (variable_view variable.now) test) }
+    ensures written { let g = signature_view signature.now in let test = one_head (string_bytes symbol.now) in IfOk result (λ p. view p.value ≡ written_test g (sort_view sort.now) (variable_view variable.now) test) }
+    ensures few { let g = signature_view signature.now in OnOk result (1 + length (sort_list (spelled.places_of g (string_bytes symbol.now))) < 2 ^ 64) }
 {
     let parts = new_variables(alloc, &variable.name, places_of(signature, symbol))?;
     let equation = construction_out(alloc, signature, sort, variable, symbol, &parts)?;
@@ -178,7 +183,8 @@ pub fn test_out(
     variable: &Variable,
     test: &HeadTest,
 ) -> Result<Box<Pattern>, AllocError>
-    ensures { let g = signature_view signature.now in let x = variable_view variable.now in IfOk result (λ p. view p.value ≡ written_test g (sort_view sort.now) x (test_view test.now)) }
+    ensures written { let g = signature_view signature.now in let x = variable_view variable.now in IfOk result (λ p. view p.value ≡ written_test g (sort_view sort.now) x (test_view test.now)) }
+    ensures room { let g = signature_view signature.now in OnOk result (HasRoomAtom g (has_head (variable_view variable.now) (test_view test.now))) }
 {
     match test {
         HeadTest::Constructor { symbol } => {

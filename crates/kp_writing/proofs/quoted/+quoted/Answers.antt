@@ -7,10 +7,13 @@ use Rattle.kp_kore.specs.View.{view, sort_view, patterns_view}
 use Rattle.kp_kore.specs.declared.pattern.Pattern.{the_lemmas}
 use Rattle.kp_signature.specs.View.{signature_view}
 use Rattle.kp_symbolic.specs.Writing.{written_under}
+use Rattle.kp_symbolic_laws.specs.Runs.{HasRoom}
 use Rattle.kp_terms.specs.Faultless.{IsFaultless}
 use Rattle.kp_terms.specs.View.{replaced_view}
+use Rattle.kp_writing.specs.Parts.{HasRoomUnder}
 use Rattle.kp_writing.proofs.BoundLemmas.{all_written}
 use Rattle.kp_writing.proofs.FaultlessLemmas.{of_negation, of_conjunction, of_disjunction, first_implied, second_implied, first_equivalent, second_equivalent, of_exists, of_forall, of_ceil, of_floor, first_equal, second_equal, first_in, second_in}
+use Rattle.kp_writing.proofs.RoomLemmas.{room_further, room_of_all, written_further}
 use Rattle.kp_writing.proofs.quoted.+quoted.Goals as goal
 
 pub all_quoted-returns-clause-written : goal.all_quoted-returns-clause-written
@@ -20,8 +23,17 @@ all_quoted-returns-clause-written t c =
     let found = map view c.loop-pattern.found.items in
     let done : drop c.loop-pattern.pattern-index c.args.patterns.now ≡ [] = drop_all c.loop-pattern.pattern-index c.args.patterns.now (omega arith) in
     let all : found ≡ map (λ p. written_under g rs (view p)) c.args.patterns.now =
-    sym (append-nil found) ∙ sym (ap (λ ps. found ++ map (λ p. written_under g rs (view p)) ps) done) ∙ c.loop-pattern.invariant in
+    sym (append-nil found) ∙ sym (ap (λ ps. found ++ map (λ p. written_under g rs (view p)) ps) done) ∙ c.loop-pattern.invariant.0 in
     all_written g rs c.loop-pattern.found.items c.args.patterns.now all
+
+pub all_quoted-loop-pattern-preserved : goal.all_quoted-loop-pattern-preserved
+all_quoted-loop-pattern-preserved t c = (
+  written_further (λ p. written_under (signature_view c.args.language.now.signature.now) (map replaced_view c.args.replaced.now) (view p)) c.loop-pattern.pattern-index c.args.patterns.now c.pattern-item.result c.loop-pattern.found.items c.push.new.self.items c.in_ok-quoted_out.field-0 c.loop-pattern-test.true c.pattern-item.is c.in_ok-push.ensures.items c.in_ok-quoted_out.ensures.written c.loop-pattern.invariant.0,
+  room_further (map replaced_view c.args.replaced.now) c.loop-pattern.pattern-index c.args.patterns.now c.pattern-item.result c.loop-pattern-test.true c.pattern-item.is c.in_ok-quoted_out.ensures.room c.loop-pattern.invariant.1,
+)
+
+pub all_quoted-returns-clause-room : goal.all_quoted-returns-clause-room
+all_quoted-returns-clause-room t c = room_of_all (map replaced_view c.args.replaced.now) c.loop-pattern.pattern-index c.args.patterns.now (omega arith) c.loop-pattern.invariant.1
 
 pub quoted_out-returns-in_err-pattern-in-Not-clause-refused : goal.quoted_out-returns-in_err-pattern-in-Not-clause-refused
 quoted_out-returns-in_err-pattern-in-Not-clause-refused t c =
@@ -127,3 +139,15 @@ quoted_out-returns-in_err-right-in-In-clause-refused t c =
     let p = err_from_is_err_and c.from_residual-in_err-right-in-In.result c.from_residual-in_err-right-in-In.ensures.1 in
     let is : view c.args.pattern.now ≡ membership (sort_view c.in-In.argument_sort) (sort_view c.in-In.sort) (view c.in-In.left.value) (view c.in-In.right.value) = search (rules, the_lemmas) in
     rw (p.1, p.2) (λ faultless. c.in_err-right-in-In.ensures.refused (subst (λ q. IsFaultless g (view q)) (sym c.deref-in-In-2.ensures) (second_in g (sort_view c.in-In.argument_sort) (sort_view c.in-In.sort) (view c.in-In.left.value) (view c.in-In.right.value) (subst (IsFaultless g) is faultless))))
+
+pub quoted_out-returns-in_ok-exists_of-in-Exists-clause-room : goal.quoted_out-returns-in_ok-exists_of-in-Exists-clause-room
+quoted_out-returns-in_ok-exists_of-in-Exists-clause-room t c =
+    let rs = map replaced_view c.args.replaced.now in
+    let is : view c.args.pattern.now ≡ exists (sort_view c.in-Exists.sort) (string_bytes c.in-Exists.name) (sort_view c.in-Exists.name_sort) (view c.in-Exists.pattern.value) = search (rules, the_lemmas) in
+    subst (HasRoom rs) (sym is) (subst (λ q. HasRoomUnder rs (string_bytes c.in-Exists.name) (sort_view c.in-Exists.name_sort) (view q)) c.deref-in-Exists.ensures c.in_ok-other-in-Exists.ensures.room)
+
+pub quoted_out-returns-in_ok-forall_of-in-Forall-clause-room : goal.quoted_out-returns-in_ok-forall_of-in-Forall-clause-room
+quoted_out-returns-in_ok-forall_of-in-Forall-clause-room t c =
+    let rs = map replaced_view c.args.replaced.now in
+    let is : view c.args.pattern.now ≡ forall (sort_view c.in-Forall.sort) (string_bytes c.in-Forall.name) (sort_view c.in-Forall.name_sort) (view c.in-Forall.pattern.value) = search (rules, the_lemmas) in
+    subst (HasRoom rs) (sym is) (subst (λ q. HasRoomUnder rs (string_bytes c.in-Forall.name) (sort_view c.in-Forall.name_sort) (view q)) c.deref-in-Forall.ensures c.in_ok-other-in-Forall.ensures.room)

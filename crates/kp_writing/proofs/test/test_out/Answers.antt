@@ -7,8 +7,8 @@ use Rattle.kp_symbolic.specs.Writing.{written_test}
 use Rattle.kp_terms.specs.View.{test_view, variable_view}
 use Rattle.kp_writing.proofs.test.test_out.Goals as goal
 
-pub returns-in-Sort : goal.returns-in-Sort
-returns-in-Sort c =
+pub returns-in-Sort-clause-written : goal.returns-in-Sort-clause-written
+returns-in-Sort-clause-written c =
     let g = signature_view c.args.signature.now in
     let is : head_of_sort (sort_view c.deref-in-Sort.result.now) ≡ test_view c.args.test.now = search rules in
     IfOk-weaker c.sort_test.result _ _ (λ p told. told ∙ ap (written_test g (sort_view c.args.sort.now) (variable_view c.args.variable.now)) is) (c.sort_test.ensures g)
