@@ -1,0 +1,11 @@
+pub mod AnswerLemmas
+pub mod ClearLemmas
+pub mod DeepLemmas
+pub mod EmptyLemmas
+pub mod FirstDeep
+pub mod FloorLemmas
+pub mod FoundLemmas
+pub mod ShownLemmas
+pub mod StateLemmas
+pub mod TermDepths
+pub mod WideLemmas

@@ -1,0 +1,6 @@
+use Rattle.kp_terms.specs.Languages.{language_view}
+use Rattle.kp_simplify.proofs.FirstDeep.{ClausesLeft}
+use Rattle.kp_simplify.proofs.depth.deep_clause.Given as goal
+
+abbrev pub invariant-loop-clause : goal.invariant-loop-clause
+invariant-loop-clause l = ClausesLeft (language_view l.language) l.clauses l.clause-index

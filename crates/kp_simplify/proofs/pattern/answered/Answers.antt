@@ -1,0 +1,5 @@
+use Rattle.kp_terms.specs.Languages.{language_view}
+use Rattle.kp_simplify.proofs.pattern.answered.Goals as goal
+
+pub returns-in-Err-clause-refused : goal.returns-in-Err-clause-refused
+returns-in-Err-clause-refused c = λ p. c.unwritten.ensures (language_view c.args.language.now) p c.in-Err.ensures.refused

@@ -1,0 +1,29 @@
+use Rattle.std.proofs.Common.{sym, subst}
+use Rattle.kp_symbolic.specs.Verdicts.{IsRightVerdict, undecided}
+use Rattle.kp_terms.specs.Languages.{language_view}
+use Rattle.kp_terms.specs.View.{state_view, clauses_view}
+use Rattle.kp_decide.specs.Answers.{IsRightAnswer}
+use Rattle.kp_simplify.proofs.AnswerLemmas.{if_ok, none_answered, right_none, right_some, shown_of}
+use Rattle.kp_simplify.proofs.stated.answer_of.Goals as goal
+
+pub returns-in-NoValuation-clause-answered : goal.returns-in-NoValuation-clause-answered
+returns-in-NoValuation-clause-answered c = λ well.
+    let g = language_view c.args.language.now in
+    let s = state_view c.args.state.now in
+    none_answered g s (right_none g s (subst (IsRightAnswer g s) c.in-NoValuation.is (c.in_ok-verdict.ensures well)))
+
+pub returns-in-SomeValuation-clause-answered : goal.returns-in-SomeValuation-clause-answered
+returns-in-SomeValuation-clause-answered c =
+    let g = language_view c.args.language.now in
+    let s = state_view c.args.state.now in
+    if_ok c.found.result _ _ (λ a h well. h (right_some g s (subst (IsRightAnswer g s) c.in-SomeValuation.is (c.in_ok-verdict.ensures well)))) c.found.ensures.answered
+
+pub returns-in-Undecided-clause-answered : goal.returns-in-Undecided-clause-answered
+returns-in-Undecided-clause-answered c =
+    let g = language_view c.args.language.now in
+    let s = state_view c.args.state.now in
+    if_ok c.left_open.result _ _
+    (λ a h well.
+    let k = shown_of g s c.in-Undecided.shown c.in-Undecided.over (subst (IsRightAnswer g s) c.in-Undecided.is (c.in_ok-verdict.ensures well)) in
+    h k.weight (subst (λ cs. IsRightVerdict g s (undecided (clauses_view cs) k.weight)) (sym c.deref.ensures.value) k.right) k.weighed)
+    c.left_open.ensures.answered

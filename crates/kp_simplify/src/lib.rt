@@ -1,0 +1,12 @@
+// What simplify answers of a pattern: the state that it is read as, where some values of its variables make its clauses true;
+// nothing where none do; and what is shown where that isn't decided.
+#![tactic(auto)]
+
+pub mod answer;
+mod depth;
+mod limits;
+pub mod pattern;
+mod stated;
+
+pub use answer::Simplified;
+pub use pattern::{SimplifyError, simplify};
