@@ -1,5 +1,5 @@
--- From what was read of two sides, and how their values compare, to the reply to implies; and to the reply to simplify.
-use Rattle.std.proofs.Common.{◌≡◌, ℕ, List, [], Option, Some, None, Vec, refl, sym, ap, subst, ◌∙◌}
+-- From what was read of two sides, and how their values compare, to the reply to implies.
+use Rattle.std.proofs.Common.{◌≡◌, ℕ, List, Option, Some, None, Vec, refl, sym, ap, subst, ◌∙◌}
 use Rattle.std.specs.Option.{option_map}
 use Rattle.std.specs.declared.alloc.Global.{Global}
 use Rattle.serde_json.specs.Data.{Data}
@@ -9,10 +9,9 @@ use Rattle.kp_json.specs.Faults.{Reading, read}
 use Rattle.kp_semantics.specs.Implied.{Implied}
 use Rattle.kp_signature.specs.Verify.{VerifiesAs}
 use Rattle.kp_states.specs.declared.state.State.{State}
-use Rattle.kp_rpc.specs.Request.{RequestId, ExecuteOptions}
-use Rattle.kp_rpc.specs.Reply.{VerifyFault, unknown_sort, unknown_symbol, other_number, sorts_differ, wide_number, deep_term, no_literal, foreign_symbol, not_verified, other_shape, error_reply, result_reply, reply_bytes}
+use Rattle.kp_rpc.specs.Request.{RequestId}
+use Rattle.kp_rpc.specs.Reply.{error_reply, result_reply, reply_bytes}
 use Rattle.kp_rpc.specs.View.{pattern_fault_view, state_fault_view}
-use Rattle.kp_rpc.specs.declared.fault.StateFault.{StateFault}
 use Rattle.kp_rpc.specs.declared.fault.StateFault.TheVariants as state
 use Rattle.kp_replies.specs.Written.{implied_tree}
 use Rattle.kp_server.proofs.Ended.{has_tree_of}
@@ -21,11 +20,11 @@ use Rattle.kp_server.specs.Ends.{IsWrongPattern}
 use Rattle.kp_server.specs.Right.{IsPatternFault, NoneLeftOut}
 use Rattle.kp_server.specs.Setting.{IsElsewhere, Setting}
 use Rattle.kp_server.specs.Sides.{AreApart, AreBothCompared, AreNotCompared, IsSideState, result_at}
-use Rattle.kp_server.specs.Untold.{IsImpliesUntold, IsLeftOut, no_antecedent, no_consequent, other_sorts}
+use Rattle.kp_server.specs.Untold.{IsImpliesUntold, no_antecedent, no_consequent, other_sorts}
 use Rattle.kp_server.specs.declared.failure.Failure.{Failure}
 use Rattle.kp_server.specs.declared.failure.Failure.TheVariants as failure
-use Rattle.kp_service.specs.Answered.{AllLeftOut, IsImpliesError, in_antecedent, in_consequent, untold, IsImpliedAs, bad_sides, implied, IsSimplifiedAs, IsSimplifyError}
-use Rattle.kp_service.specs.Told.{IsFaultLine, IsImpliedLine, IsImpliedOf, IsLineOf, IsSideOf, IsSidesFailure, IsSimplifyFailure, IsStateOf, IsTreeFailure}
+use Rattle.kp_service.specs.Answered.{IsImpliesError, in_antecedent, in_consequent, untold, IsImpliedAs, bad_sides, implied}
+use Rattle.kp_service.specs.Told.{IsFaultLine, IsImpliedLine, IsImpliedOf, IsLineOf, IsSideOf, IsSidesFailure, IsTreeFailure}
 
 -- ---- failures
 
@@ -134,38 +133,3 @@ pub result_line_is : (id : RequestId) (o : Option KoreSort) (r : Implied) (x : O
     option_map (λ (b : Vec ℕ Global). b.items) x ≡ option_map (λ (t : Data). reply_bytes (result_reply id t)) (implied_tree r) → IsImpliedLine id o line.items
 result_line_is id o r x line same is told =
     has_tree_of x line id (implied_tree (result_at o)) is (told ∙ ap (λ (y : Implied). option_map (λ (t : Data). reply_bytes (result_reply id t)) (implied_tree y)) same)
-
--- ---- simplify
-
-pub no_options : ExecuteOptions
-no_options = record { max_depth = None; module_name = None; cut_points = []; terminals = [] }
-
--- each fault of a pattern is one where all patterns are left out
-all_left_out : (g : KoreSignature) (s : Setting) (options : ExecuteOptions) (p : KorePattern) (f : VerifyFault) → IsPatternFault g (IsLeftOut s options) p f → IsPatternFault g AllLeftOut p f
-all_left_out g s options p (unknown_sort text) h = h
-all_left_out g s options p (unknown_symbol name) h = h
-all_left_out g s options p (other_number name) h = h
-all_left_out g s options p (sorts_differ a b) h = h
-all_left_out g s options p (wide_number text) h = h
-all_left_out g s options p deep_term h = h
-all_left_out g s options p (no_literal text) h = h
-all_left_out g s options p (foreign_symbol name) h = h
-all_left_out g s options p other_shape h = (h.0, h.1, h.2, tt)
-
-pub simplify_failure : (s : Setting) (options : ExecuteOptions) (p : KorePattern) (f : Failure) → IsWrongPattern s.theory.signature (IsLeftOut s options) p f → IsSimplifyFailure s (read p) f
-simplify_failure s options p failure.Memory w = tt
-simplify_failure s options p (failure.Fault (state.Json f)) w = absurd w
-simplify_failure s options p (failure.Fault (state.Verify f)) w = all_left_out s.theory.signature s options p (pattern_fault_view f) w
-simplify_failure s options p (failure.Fault (state.NoModule name)) w = absurd w
-
-pub left_out_today : (g : KoreSignature) (s : Setting) → g ≡ s.theory.signature → (p : KorePattern) (found : State) → IsStateOf g p found → (f : StateFault) → state_fault_view f ≡ not_verified other_shape → IsSimplifyFailure s (read p) (failure.Fault f)
-left_out_today g s same p found h f t2 =
-    let there = subst (λ k. IsStateOf k p found) same h in
-    subst (λ e. IsSimplifyError s (read p) e) (sym t2) (there.sort, there.verifies, there.is_state.no_foreign, tt)
-
-pub of_simplify : (s : Setting) (x : Reading KorePattern) (p : KorePattern) (f : Failure) → x ≡ read p → IsSimplifyFailure s (read p) f → IsSimplifyFailure s x f
-of_simplify s x p f is w = subst (λ y. IsSimplifyFailure s y f) (sym is) w
-
-pub simplified_line_is_right : (s : Setting) (id : RequestId) (x : Reading KorePattern) (f : Failure) → IsSimplifyFailure s x f → (line : List ℕ) → IsFaultLine id f line → IsLineOf (IsSimplifiedAs s id x) line
-simplified_line_is_right s id x failure.Memory w line l = absurd l
-simplified_line_is_right s id x (failure.Fault f) w line l = (error_reply id (state_fault_view f), (state_fault_view f, w, refl), l)

@@ -1,7 +1,7 @@
--- Which reply to execute, implies and simplify is right at a book: what is read of their states and sides is a pattern, or
+-- Which reply to execute and implies is right at a book: what is read of their states and sides is a pattern, or
 -- its tree's first fault.
--- Source: the K Haskell backend's JSON-RPC documentation (execute, implies, simplify, their codes).
-use Rattle.std.specs.Prelude.{◌≡◌, List, Option, None, ⊤}
+-- Source: the K Haskell backend's JSON-RPC documentation (execute, implies, their codes).
+use Rattle.std.specs.Prelude.{◌≡◌, List, Option, None}
 use Rattle.serde_json.specs.Data.{Data}
 use Rattle.kp_kore.specs.Syntax.{Text, KoreSort, KorePattern}
 use Rattle.kp_json.specs.Faults.{Reading, read, fault}
@@ -63,21 +63,6 @@ pub record IsImplied (s : Setting) (request : ImpliesRequest) (reply : Data) : T
 pub data IsImpliedAs (s : Setting) (id : RequestId) (asked : Option Text) : Reading KorePattern → Reading KorePattern → Data → Type 0 where
   bad_sides : (a c : Reading KorePattern) (e : RequestError) → IsImpliesError s asked a c e → IsImpliedAs s id asked a c (error_reply id e)
   implied : (a c : KorePattern) (reply : Data) → IsImplied s (record { id = id; antecedent = a; consequent = c; module_name = asked }) reply → IsImpliedAs s id asked (read a) (read c) reply
-
--- ---- simplify
-
--- each pattern is left out today
-abbrev pub AllLeftOut : KorePattern → KoreSort → Type 0
-AllLeftOut p sort = ⊤
-
--- its tree spells no pattern; the pattern has a fault, or is left out
-abbrev pub IsSimplifyError : Setting → Reading KorePattern → RequestError → Type 0
-IsSimplifyError s (fault f) e = e ≡ no_pattern f
-IsSimplifyError s (read p) (not_verified f) = IsPatternFault s.theory.signature AllLeftOut p f
-IsSimplifyError s (read p) _ = ⊥
-
-abbrev pub IsSimplifiedAs : Setting → RequestId → Reading KorePattern → Data → Type 0
-IsSimplifiedAs s id state reply = (e : RequestError) × IsSimplifyError s state e × (reply ≡ error_reply id e)
 
 -- ---- the module
 

@@ -12,7 +12,8 @@ use Rattle.kp_requests.specs.Frames.{Asks}
 use Rattle.kp_requests.specs.Requests.{execute, implies, simplify, add_module, Asked, asks, refused, Call, single, batch, refused_whole}
 use Rattle.kp_book.specs.Books.{Opening, Registration}
 use Rattle.kp_additions.specs.Added.{IsAdded, IsRefusedFor}
-use Rattle.kp_service.specs.Answered.{IsExecutedAs, IsImpliedAs, IsSimplifiedAs, IsReplyIn}
+use Rattle.kp_service.specs.Answered.{IsExecutedAs, IsImpliedAs, IsReplyIn}
+use Rattle.kp_simplify_reply.specs.Answered.{IsSimplifiedAs}
 
 -- ---- one call
 
@@ -21,7 +22,7 @@ abbrev pub IsReplyTo : Opening → List Registration → RequestId → Asked →
 IsReplyTo o book id (refused e) reply = reply ≡ error_reply id e
 IsReplyTo o book id (asks (execute state options)) reply = IsReplyIn o book options.module_name id (λ s. IsExecutedAs s id options state) reply
 IsReplyTo o book id (asks (implies antecedent consequent name)) reply = IsReplyIn o book name id (λ s. IsImpliedAs s id name antecedent consequent) reply
-IsReplyTo o book id (asks (simplify state name)) reply = IsReplyIn o book name id (λ s. IsSimplifiedAs s id state) reply
+IsReplyTo o book id (asks (simplify state name)) reply = IsReplyIn o book name id (λ s. IsSimplifiedAs s.theory.signature id state) reply
 IsReplyTo o book id (asks (add_module text name_as_id)) reply = (f : Failure) × IsRefusedFor o book text name_as_id f × (failure_reply id f ≡ Some reply)
 
 -- a call that adds nothing at this book

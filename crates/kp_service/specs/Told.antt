@@ -21,7 +21,7 @@ use Rattle.kp_server.specs.Setting.{Setting}
 use Rattle.kp_server.specs.Sides.{IsSideState, AreBothCompared, result_at}
 use Rattle.kp_server.specs.declared.failure.Failure.{Failure}
 use Rattle.kp_server.specs.declared.failure.Failure.TheVariants as failure
-use Rattle.kp_service.specs.Answered.{IsStateError, IsImpliesError, IsSimplifyError}
+use Rattle.kp_service.specs.Answered.{IsStateError, IsImpliesError}
 
 -- ---- lines
 
@@ -53,11 +53,6 @@ IsTreeFailure state (failure.Fault f) = (x : TreeFault) × (state ≡ fault x) �
 abbrev pub IsStateFailure : Setting → ExecuteOptions → Reading KorePattern → Failure → Type 0
 IsStateFailure s options state failure.Memory = ⊤
 IsStateFailure s options state (failure.Fault f) = IsStateError s options state (state_fault_view f)
-
--- of simplify
-abbrev pub IsSimplifyFailure : Setting → Reading KorePattern → Failure → Type 0
-IsSimplifyFailure s state failure.Memory = ⊤
-IsSimplifyFailure s state (failure.Fault f) = IsSimplifyError s state (state_fault_view f)
 
 -- with the sides of implies
 abbrev pub IsSidesFailure : Setting → Option Text → Reading KorePattern → Reading KorePattern → Failure → Type 0

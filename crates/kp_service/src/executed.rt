@@ -125,7 +125,7 @@ fn state_at(alloc: Global, rules: &RuleSet, state: Reading) -> Result<State, Fai
 }
 
 /// The ground state that the pattern is.
-pub fn verified_state(alloc: Global, rules: &RuleSet, pattern: &Pattern) -> Result<State, Failure>
+fn verified_state(alloc: Global, rules: &RuleSet, pattern: &Pattern) -> Result<State, Failure>
     ensures found { IfOk result (IsStateOf (signature_view rules.now.signature.value) (view pattern.now)) }
     ensures failed { (s : Setting) (options : ExecuteOptions) → signature_view rules.now.signature.value ≡ s.theory.signature → IfErr result (IsWrongPattern s.theory.signature (IsLeftOut s options) (view pattern.now)) }
 {

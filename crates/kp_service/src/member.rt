@@ -5,7 +5,8 @@ ghost use Rattle.kp_rpc.specs.View.{id_view, name_view, options_view};
 ghost use Rattle.kp_requests.specs.Requests as requests;
 ghost use Rattle.kp_requests.specs.View.{asked_view, call_view, reading_view, request_view};
 ghost use Rattle.kp_registry.specs.Passes.{IsPass, MeansAt};
-ghost use Rattle.kp_service.specs.Answered.{IsExecutedAs, IsImpliedAs, IsReplyIn, IsSimplifiedAs};
+ghost use Rattle.kp_service.specs.Answered.{IsExecutedAs, IsImpliedAs, IsReplyIn};
+ghost use Rattle.kp_simplify_reply.specs.Answered.{IsSimplifiedAs};
 ghost use Rattle.kp_service.specs.Answers.{IsFront};
 ghost use Rattle.kp_service.specs.Batches.{FromEachBookSeen, call_of, IsEffect, IsMemberText, IsReplyLine, MayHaveDone};
 ghost use Rattle.kp_service.specs.Meant.{module_asked};
@@ -15,7 +16,7 @@ ghost use Rattle.kp_service.specs.Told.{IsLineOf};
 use crate::added::{add_silently, added_line};
 use crate::executed::executed_line;
 use crate::implied::implied_line;
-use crate::simplified::simplified_line;
+use crate::simplified::simplified_over;
 use kp_registry::{Pass, Registry};
 use kp_requests::{Asked, Call, Reading, Request};
 use kp_rpc::{Id, Options, StateFault, fault_text, refusal_text};
@@ -232,10 +233,10 @@ fn simplify_line(
 ) -> Result<Vec<u8>, AllocError>
     requires pass { IsPass pass.old }
     ensures pass { pass.new ≡ pass.old }
-    ensures line { IfOk result (λ line. AtEachBookSeen registry.now pass.old (λ o book. IsLineOf (IsReplyIn o book (name_view module_name) (id_view id.now) (λ s. IsSimplifiedAs s (id_view id.now) (reading_view state))) line.items)) }
+    ensures line { IfOk result (λ line. AtEachBookSeen registry.now pass.old (λ o book. IsLineOf (IsReplyIn o book (name_view module_name) (id_view id.now) (λ s. IsSimplifiedAs s.theory.signature (id_view id.now) (reading_view state))) line.items)) }
 {
     match rules_at(alloc, registry, pass, &module_name)? {
-        Some(rules) => simplified_line(alloc, &rules, id, state),
+        Some(rules) => simplified_over(alloc, &rules, id, state),
         None => no_module_line(alloc, id, module_name),
     }
 }

@@ -10,19 +10,24 @@ use std::test::Fail;
 const TOYS: &str =
     "[] module TOYS sort SortS{} [] symbol LblOne{}() : SortS{} [constructor{}()] symbol LblTwo{}() : SortS{} [constructor{}()] axiom{} \\rewrites{SortS{}}(LblOne{}(), LblTwo{}()) [label{}(\"TOYS.go\")] endmodule []";
 
-/// The table of the definition.
-fn toys(alloc: Global) -> Result<Table, Fail> {
-    let definition = read_definition(alloc, TOYS.as_bytes()).map_err(|_| "no definition")?;
+/// The table of a definition, whose main module is TOYS.
+fn table(alloc: Global, definition: &str) -> Result<Table, Fail> {
+    let definition = read_definition(alloc, definition.as_bytes()).map_err(|_| "no definition")?;
     Ok(load(alloc, &definition, "TOYS").map_err(|_| "no table")?)
 }
 
-/// What is written where the input is this.
-fn told(alloc: Global, input: &str) -> Result<Vec<u8>, Fail> {
-    let (service, mut pass) = Service::begin(alloc, toys(alloc)?, 1)?;
+/// What is written where the input is this, over a definition.
+pub fn served(alloc: Global, definition: &str, input: &str) -> Result<Vec<u8>, Fail> {
+    let (service, mut pass) = Service::begin(alloc, table(alloc, definition)?, 1)?;
     let mut source = SureBytes::new(Vec::from_slice(alloc, input.as_bytes())?);
     let mut sink = SureDrain::new(alloc);
     let _served = serve(alloc, &service, &mut pass, &mut source, &mut sink);
     Ok(Vec::from_slice(alloc, sink.bytes())?)
+}
+
+/// The same over the definition above.
+fn told(alloc: Global, input: &str) -> Result<Vec<u8>, Fail> {
+    served(alloc, TOYS, input)
 }
 
 /// Whether this is written where the input is that.

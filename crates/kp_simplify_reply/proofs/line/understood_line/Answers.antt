@@ -1,0 +1,14 @@
+use Rattle.std.proofs.Common.{sym, subst}
+use Rattle.kp_kore.specs.View.{view}
+use Rattle.kp_signature.specs.Verify.{VerifiesAs}
+use Rattle.kp_terms.specs.Languages.{language_view}
+use Rattle.kp_simplify_reply.proofs.line.understood_line.Goals as goal
+
+pub returns-in-Ok : goal.returns-in-Ok
+returns-in-Ok c = λ verified.
+    let g = language_view c.args.language.now in
+    let p = view c.args.pattern.now in
+    c.found_line.ensures g p verified c.in-Ok.ensures.clear (c.in-Ok.ensures.found (subst (VerifiesAs g p) (sym c.in_ok-own.ensures) verified))
+
+pub returns-in-Err : goal.returns-in-Err
+returns-in-Err c = λ verified. c.unsimplified_line.ensures (language_view c.args.language.now) (view c.args.pattern.now) c.in-Err.ensures.refused
