@@ -9,7 +9,7 @@ use Rattle.kp_signature.specs.Places.{the_top}
 use Rattle.kp_signature.specs.Verify.{first_fault}
 use Rattle.kp_claims.specs.Claims.{ClaimSides}
 use Rattle.kp_claims.specs.Faults.{bare_claim}
-use Rattle.kp_claims.specs.Labels.{Lists}
+use Rattle.kp_names.specs.Met.{Lists}
 use Rattle.kp_claim_sentences.specs.Claims.{clear_sides, dependencies_of, IsStatedAs, StatedClaim}
 use Rattle.kp_claim_sentences.specs.Faults.{FileLabels}
 use Rattle.kp_claim_sentences.specs.Items.{item_view}

@@ -6,7 +6,7 @@ ghost use Rattle.kp_kore.specs.Syntax.{Text};
 ghost use Rattle.kp_kore.specs.View.{names_view, sentence_view};
 ghost use Rattle.kp_signature.specs.Names.{Indexes};
 ghost use Rattle.kp_claims.specs.Faults.{label_at as stated_label, labels_of as stated_labels};
-ghost use Rattle.kp_claims.specs.Labels.{Lists};
+ghost use Rattle.kp_names.specs.Met.{Lists};
 ghost use Rattle.kp_claims.specs.Sentences.{seen};
 ghost use Rattle.kp_claim_sentences.specs.Faults.{dependencies_at, file_labels as stated_file};
 ghost use Rattle.kp_claim_sentences.specs.Noted.{names_seen};
@@ -14,8 +14,9 @@ ghost use Rattle.kp_claim_files.specs.Read.{Notes};
 
 use indexmap::IndexMap;
 use kp_claim_sentences::dependencies_of;
-use kp_claims::label::{Labels, label_of, note};
+use kp_claims::label::label_of;
 use kp_kore::{Name, Sentence};
+use kp_names::names::{Names, note};
 use std::alloc::{AllocError, Global};
 
 /// For each label its first place among those of the file.
@@ -25,7 +26,7 @@ pub type LabelPlaces = IndexMap<Name, usize>;
 #[derive(Drop)]
 pub struct FileLabels {
     pub places: LabelPlaces,
-    pub used: Labels,
+    pub used: Names,
 }
 
 /// The labels of these sentences.
@@ -84,7 +85,7 @@ fn note_place(places: &mut LabelPlaces, label: &Name, place: usize) -> Result<()
 }
 
 /// The labels that these sentences depend on.
-fn used_in(alloc: Global, sentences: &[&Sentence]) -> Result<Labels, AllocError>
+fn used_in(alloc: Global, sentences: &[&Sentence]) -> Result<Names, AllocError>
     ensures { IfOk result (Lists (flat_map dependencies_at (seen sentences.now))) }
 {
     let mut used = IndexMap::new(alloc);
@@ -95,7 +96,7 @@ fn used_in(alloc: Global, sentences: &[&Sentence]) -> Result<Labels, AllocError>
 }
 
 /// Notes the labels that a sentence depends on.
-fn note_used(alloc: Global, used: &mut Labels, sentence: &Sentence) -> Result<(), AllocError>
+fn note_used(alloc: Global, used: &mut Names, sentence: &Sentence) -> Result<(), AllocError>
     ensures { (before : List Text) → Lists before used.old → OnOk result (Lists (before ++ dependencies_at (sentence_view sentence.now)) used.new) }
 {
     match sentence {
@@ -108,7 +109,7 @@ fn note_used(alloc: Global, used: &mut Labels, sentence: &Sentence) -> Result<()
 }
 
 /// Notes these labels.
-fn note_labels(noted: &mut Labels, labels: &[Name]) -> Result<(), AllocError>
+fn note_labels(noted: &mut Names, labels: &[Name]) -> Result<(), AllocError>
     ensures { (before : List Text) → Lists before noted.old → OnOk result (Lists (before ++ names_view labels.now) noted.new) }
 {
     for label in labels {

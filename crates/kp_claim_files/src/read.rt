@@ -8,7 +8,7 @@ ghost use Rattle.kp_sort_index.specs.Index.{IsIndexOf};
 ghost use Rattle.kp_claims.specs.Claims.{counted};
 ghost use Rattle.kp_claims.specs.Faults.{label_at, TellsOf};
 ghost use Rattle.kp_claims.specs.Files.{SpellsFile};
-ghost use Rattle.kp_claims.specs.Labels.{Lists};
+ghost use Rattle.kp_names.specs.Met.{Lists};
 ghost use Rattle.kp_claims.specs.Sentences.{seen};
 ghost use Rattle.kp_claims.specs.Sides.{sides_view};
 ghost use Rattle.kp_claim_sentences.specs.Claims.{IsStatedBy, IsStatedAs};
@@ -23,11 +23,12 @@ use indexmap::IndexMap;
 use kp_claim_sentences::outline::outline;
 use kp_claim_sentences::{ClaimItem, check_sides, dependencies_of};
 use kp_claims::file::modules_in;
-use kp_claims::label::{Labels, take_label};
+use kp_claims::label::take_label;
 use kp_claims::outline::Sides;
 use kp_claims::sentences::counted_sentences;
 use kp_claims::{ClaimError, ClaimFault};
 use kp_kore::{AxiomSentence, Name, Sentence};
+use kp_names::names::Names;
 use kp_semantics::Claim;
 use kp_signature::Signature;
 use kp_signature::attributes::has_mark;
@@ -92,7 +93,7 @@ fn claim_of_sentence(
     signature: &Signature,
     index: &SortIndex,
     file: &FileLabels,
-    labels: &mut Labels,
+    labels: &mut Names,
     sentence: &Sentence,
 ) -> Result<ClaimItem, ClaimError>
     requires index { IsIndexOf (signature_view signature.now) index.now }
@@ -117,7 +118,7 @@ fn claim_of(
     signature: &Signature,
     index: &SortIndex,
     file: &FileLabels,
-    labels: &mut Labels,
+    labels: &mut Names,
     statement: &AxiomSentence,
 ) -> Result<ClaimItem, ClaimError>
     requires index { IsIndexOf (signature_view signature.now) index.now }
@@ -135,7 +136,7 @@ fn claim_of(
 fn stated_claim(
     alloc: Global,
     signature: &Signature,
-    labels: &mut Labels,
+    labels: &mut Names,
     statement: &AxiomSentence,
 ) -> Result<ClaimItem, ClaimError>
     ensures clear { IfOk result (IsClear (signature_view signature.now) (axiom_sentence_view statement.now)) }

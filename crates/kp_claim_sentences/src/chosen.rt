@@ -1,7 +1,7 @@
 // The right side's own variables.
 ghost use Rattle.std.specs.Prelude.{◌≡◌, ◌++◌, ◌||◌, not, string_bytes};
 ghost use Rattle.kp_kore.specs.Parts.{free_variables};
-ghost use Rattle.kp_claims.specs.Labels.{Lists};
+ghost use Rattle.kp_names.specs.Met.{Lists};
 ghost use Rattle.kp_claim_sentences.specs.Noted.{has_name};
 ghost use Rattle.std.specs.Prelude.{IfOk, map};
 ghost use Rattle.std.specs.List.{list_all, filter};
@@ -13,9 +13,9 @@ ghost use Rattle.kp_claim_sentences.specs.Claims.{has_chosen_in_term};
 
 use crate::names::note_all;
 use indexmap::IndexMap;
-use kp_claims::label::Labels;
 use kp_claims::outline::Sides;
 use kp_kore::{Pattern, SortedVariable};
+use kp_names::names::Names;
 use kp_rules::shape::{Binder, conjuncts, only, terms_among, under_binders};
 use std::alloc::{AllocError, Global};
 
@@ -51,7 +51,7 @@ fn are_own_in(
 }
 
 /// The names of the free variables.
-fn names_in(alloc: Global, pattern: &Pattern) -> Result<Labels, AllocError>
+fn names_in(alloc: Global, pattern: &Pattern) -> Result<Names, AllocError>
     ensures { IfOk result (Lists (map (λ x. x.name) (free_variables (view pattern.now)))) }
 {
     let mut names = IndexMap::new(alloc);
@@ -61,7 +61,7 @@ fn names_in(alloc: Global, pattern: &Pattern) -> Result<Labels, AllocError>
 }
 
 /// Whether the names of these binders are noted.
-fn are_bound_in(binders: &[Binder<'_>], names: &Labels) -> bool
+fn are_bound_in(binders: &[Binder<'_>], names: &Names) -> bool
     ensures { result ≡ list_all (λ x. has_name names.now x.name) (variables_seen binders.now) }
 {
     for binder in binders {
@@ -73,7 +73,7 @@ fn are_bound_in(binders: &[Binder<'_>], names: &Labels) -> bool
 }
 
 /// Whether each of these variables that isn't given is noted.
-fn are_new_in(variables: &[SortedVariable], given: &Labels, names: &Labels) -> bool
+fn are_new_in(variables: &[SortedVariable], given: &Names, names: &Names) -> bool
     ensures { result ≡ list_all (λ x. has_name given.now x.name || has_name names.now x.name) (map sorted_variable_view variables.now) }
 {
     for variable in variables {
@@ -85,14 +85,14 @@ fn are_new_in(variables: &[SortedVariable], given: &Labels, names: &Labels) -> b
 }
 
 /// Whether the name of the binder is noted.
-fn is_bound_in(binder: &Binder<'_>, names: &Labels) -> bool
+fn is_bound_in(binder: &Binder<'_>, names: &Names) -> bool
     ensures { result ≡ has_name names.now (string_bytes binder.now.name.now) }
 {
     names.contains_key(binder.name.as_str())
 }
 
 /// Whether the variable is given or noted.
-fn is_either(variable: &SortedVariable, given: &Labels, names: &Labels) -> bool
+fn is_either(variable: &SortedVariable, given: &Names, names: &Names) -> bool
     ensures { result ≡ (has_name given.now (string_bytes variable.now.name) || has_name names.now (string_bytes variable.now.name)) }
 {
     given.contains_key(variable.name.as_str()) || names.contains_key(variable.name.as_str())

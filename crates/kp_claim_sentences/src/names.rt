@@ -6,15 +6,15 @@ ghost use Rattle.kp_kore.specs.Syntax.{Text};
 ghost use Rattle.kp_kore.specs.Parts.{free_variables};
 ghost use Rattle.kp_kore.specs.View.{view, sorted_variable_view};
 ghost use Rattle.kp_compile.specs.Parts.{seen};
-ghost use Rattle.kp_claims.specs.Labels.{Lists};
+ghost use Rattle.kp_names.specs.Met.{Lists};
 ghost use Rattle.kp_claims.specs.Sides.{sides_view};
 ghost use Rattle.kp_claim_sentences.specs.Claims.{bound_at, has_clear_names, are_apart as apart_test};
 
 use indexmap::IndexMap;
-use kp_claims::label::{Labels, is_noted, note};
 use kp_claims::outline::Sides;
 use kp_compile::{add_subpatterns, subpatterns};
 use kp_kore::{Name, Pattern, SortedVariable};
+use kp_names::names::{Names, is_noted, note};
 use std::alloc::{AllocError, Global};
 
 /// Whether no variable that a claim's sides bind has the name of another one.
@@ -28,7 +28,7 @@ pub fn are_clear(alloc: Global, sides: Sides<'_>) -> Result<bool, AllocError>
 }
 
 /// The names of the free variables of both sides.
-fn free_names(alloc: Global, sides: Sides<'_>) -> Result<Labels, AllocError>
+fn free_names(alloc: Global, sides: Sides<'_>) -> Result<Names, AllocError>
     ensures { IfOk result (Lists (map (λ x. x.name) (free_variables (sides_view sides.entry).left ++ free_variables (sides_view sides.entry).right))) }
 {
     let mut names = IndexMap::new(alloc);
@@ -40,7 +40,7 @@ fn free_names(alloc: Global, sides: Sides<'_>) -> Result<Labels, AllocError>
 }
 
 /// Notes the names of these variables.
-pub fn note_all(names: &mut Labels, variables: &[SortedVariable]) -> Result<(), AllocError>
+pub fn note_all(names: &mut Names, variables: &[SortedVariable]) -> Result<(), AllocError>
     ensures { (before : List Text) → Lists before names.old → OnOk result (Lists (before ++ map (λ x. x.name) (map sorted_variable_view variables.now)) names.new) }
 {
     for variable in variables {
@@ -50,7 +50,7 @@ pub fn note_all(names: &mut Labels, variables: &[SortedVariable]) -> Result<(), 
 }
 
 /// Whether the names that these patterns bind are none of those, and none stands twice.
-fn are_apart(met: Labels, parts: &[&Pattern]) -> Result<bool, AllocError>
+fn are_apart(met: Names, parts: &[&Pattern]) -> Result<bool, AllocError>
     ensures { (names : List Text) → Lists names met → IfOk result (λ b. b ≡ apart_test names (flat_map bound_at (seen parts.now))) }
 {
     let mut names = met;
@@ -63,7 +63,7 @@ fn are_apart(met: Labels, parts: &[&Pattern]) -> Result<bool, AllocError>
 }
 
 /// Notes the name that a pattern binds, if any; whether it wasn't noted.
-fn is_new(names: &mut Labels, part: &Pattern) -> Result<bool, AllocError>
+fn is_new(names: &mut Names, part: &Pattern) -> Result<bool, AllocError>
     ensures lists { (before : List Text) → Lists before names.old → IfOk result (λ b. b ≡ true → Lists (before ++ bound_at (view part.now)) names.new) }
     ensures is { (before more : List Text) → let bound = bound_at (view part.now) ++ more in Lists before names.old → IfOk result (λ b. MatchBool b (apart_test (before ++ bound_at (view part.now)) more ≡ apart_test before bound) (apart_test before bound ≡ false)) }
 {
@@ -74,7 +74,7 @@ fn is_new(names: &mut Labels, part: &Pattern) -> Result<bool, AllocError>
 }
 
 /// Notes a name; whether it wasn't noted.
-fn is_new_name(names: &mut Labels, name: &Name) -> Result<bool, AllocError>
+fn is_new_name(names: &mut Names, name: &Name) -> Result<bool, AllocError>
     ensures lists { (before : List Text) → Lists before names.old → IfOk result (λ b. b ≡ true → Lists (before ++ string_bytes name.now ∷ []) names.new) }
     ensures is { (before more : List Text) → let the_string_bytes = string_bytes name.now ∷ more in Lists before names.old → IfOk result (λ b. MatchBool b (apart_test (before ++ string_bytes name.now ∷ []) more ≡ apart_test before the_string_bytes) (apart_test before the_string_bytes ≡ false)) }
 {

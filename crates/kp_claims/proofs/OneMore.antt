@@ -1,12 +1,9 @@
 -- One more sentence, and lists of claims.
-use Rattle.std.proofs.Common.{◌≡◌, refl, sym, ap, subst, ◌∙◌, ℕ, suc, ◌+◌, ◌<◌, Bool, true, false, ◌||◌, cond, List, [], ◌∷◌, ◌++◌, length, take, drop, get_or, Bor, Option, Some, Result, Ok, Err, is_some, arith}
+use Rattle.std.proofs.Common.{◌≡◌, refl, sym, ap, subst, ◌∙◌, ℕ, suc, ◌+◌, ◌<◌, List, [], ◌∷◌, ◌++◌, length, take, drop, get_or, Bor, Result, Ok, Err, arith}
 use Rattle.std.specs.Prelude.{IsErr, IsErrAnd, IfErr}
-use Rattle.std.specs.List.{AllZip, list_any}
-use Rattle.std.specs.Str.{bytes_eq}
+use Rattle.std.specs.List.{AllZip}
 use Rattle.std.proofs.Math.Seq.{take-suc}
 use Rattle.std.proofs.lemmas.List.{map-append, take-append-drop, append-nil, append_assoc}
-use Rattle.std.proofs.lemmas.List.Folds.{list_any-append}
-use Rattle.std.proofs.lemmas.Slice.Eq.{bytes_eq-Decides}
 use Rattle.kp_kore.specs.Syntax.{Text, KoreSentence, KoreModule}
 use Rattle.kp_kore.specs.Signature.{KoreSignature}
 use Rattle.kp_kore.specs.View.{sentence_view}
@@ -71,28 +68,3 @@ pub sentence_error : (g : KoreSignature) (bytes : List ℕ) (ms : List KoreModul
 sentence_error g bytes ms error.Memory spells t = tt
 sentence_error g bytes ms (error.Text f) spells t = absurd t
 sentence_error g bytes ms (error.Fault f) spells t = (ms, spells, t)
-
--- ---- labels that were met
-
-some_label : (l x : Text) (labels : List Text) → list_any (bytes_eq l) (labels ++ x ∷ []) ≡ (list_any (bytes_eq l) labels || (bytes_eq l x || false))
-some_label l x labels = list_any-append (bytes_eq l) labels (x ∷ [])
-
-or_true : (b : Bool) → (b || true) ≡ true
-or_true true = refl
-or_true false = refl
-
-or_false : (b : Bool) → b ≡ (b || false)
-or_false true = refl
-or_false false = refl
-
-false_true : {A : Type 0} → false ≡ true → A
-false_true h = absurd (cc)
-
-pub newly_listed : {V : Type 0} (labels : List Text) (x : Text) (f g : Text → Option V) (v : V) → ((l : Text) → is_some (f l) ≡ list_any (bytes_eq l) labels) → ((l : Text) → g l ≡ cond (bytes_eq x l) (Some v) (f l)) → (l : Text) → is_some (g l) ≡ list_any (bytes_eq l) (labels ++ x ∷ [])
-newly_listed labels x f g v is new l = ap is_some (new l) ∙ by (bytes_eq x l) (bytes_eq l x) refl refl ∙ sym (some_label l x labels)
-  where
-    by : (a b : Bool) → bytes_eq x l ≡ a → bytes_eq l x ≡ b → is_some (cond a (Some v) (f l)) ≡ (list_any (bytes_eq l) labels || (b || false))
-    by true true p q = sym (or_true (list_any (bytes_eq l) labels))
-    by true false p q = false_true (sym q ∙ (bytes_eq-Decides l x).1 (sym ((bytes_eq-Decides x l).0 p)))
-    by false true p q = false_true (sym p ∙ (bytes_eq-Decides x l).1 (sym ((bytes_eq-Decides l x).0 q)))
-    by false false p q = is l ∙ or_false (list_any (bytes_eq l) labels)

@@ -2,6 +2,5 @@ pub mod Claims
 pub mod Faults
 pub mod Files
 pub mod Items
-pub mod Labels
 pub mod Sentences
 pub mod Sides

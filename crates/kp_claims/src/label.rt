@@ -7,19 +7,16 @@ ghost use Rattle.kp_kore.specs.Syntax.{Text};
 ghost use Rattle.kp_kore.specs.View.{patterns_view};
 ghost use Rattle.kp_claims.specs.Claims.{is_label as label_test, is_label_character as character_test, if_label as stated_if_label, label_of as stated_label};
 ghost use Rattle.kp_claims.specs.Faults.{label_fault, TellsOf};
-ghost use Rattle.kp_claims.specs.Labels.{Lists};
+ghost use Rattle.kp_names.specs.Met.{Lists};
 
 use crate::fault::{ClaimError, ClaimFault};
-use indexmap::IndexMap;
 use kp_kore::{Name, Pattern};
+use kp_names::names::{Names, is_noted, note};
 use kp_signature::attributes::text_of;
 use std::alloc::AllocError;
 
-/// The labels of the claims so far.
-pub type Labels = IndexMap<Name, ()>;
-
 /// Notes and gives the label among a claim's attributes; C6 where there is none, C7 where an earlier claim has it.
-pub fn take_label(labels: &mut Labels, attributes: &[Pattern]) -> Result<Name, ClaimError>
+pub fn take_label(labels: &mut Names, attributes: &[Pattern]) -> Result<Name, ClaimError>
     ensures label { IfOk result (λ l. stated_label (patterns_view attributes.now) ≡ Some (string_bytes l)) }
     ensures ok { (before : List Text) → let attributes' = patterns_view attributes.now in Lists before labels.old → IfOk result (λ l. (label_fault before (stated_label attributes') ≡ None) × Lists (before ++ string_bytes l ∷ []) labels.new) }
     ensures err { (before : List Text) → Lists before labels.old → IfErr result (TellsOf (λ f. label_fault before (stated_label (patterns_view attributes.now)) ≡ Some f)) }
@@ -31,7 +28,7 @@ pub fn take_label(labels: &mut Labels, attributes: &[Pattern]) -> Result<Name, C
 }
 
 /// Notes a label; C7 where an earlier claim has it.
-fn take_new(labels: &mut Labels, label: &Name) -> Result<Name, ClaimError>
+fn take_new(labels: &mut Names, label: &Name) -> Result<Name, ClaimError>
     ensures label { IfOk result (λ l. string_bytes l ≡ string_bytes label.now) }
     ensures ok { (before : List Text) → Lists before labels.old → IfOk result (λ l. (label_fault before (Some (string_bytes label.now)) ≡ None) × Lists (before ++ string_bytes l ∷ []) labels.new) }
     ensures err { (before : List Text) → Lists before labels.old → IfErr result (TellsOf (λ f. label_fault before (Some (string_bytes label.now)) ≡ Some f)) }
@@ -41,21 +38,6 @@ fn take_new(labels: &mut Labels, label: &Name) -> Result<Name, ClaimError>
     }
     note(labels, label)?;
     Ok(label.clone()?)
-}
-
-/// Whether the label was noted before.
-pub fn is_noted(labels: &Labels, label: &Name) -> bool
-    ensures { (before : List Text) → Lists before labels.now → result ≡ list_any (bytes_eq (string_bytes label.now)) before }
-{
-    labels.contains_key(label.as_str())
-}
-
-/// Notes a label.
-pub fn note(labels: &mut Labels, label: &Name) -> Result<(), AllocError>
-    ensures { (before : List Text) → Lists before labels.old → OnOk result (Lists (before ++ string_bytes label.now ∷ []) labels.new) }
-{
-    labels.insert(label.clone()?, ())?;
-    Ok(())
 }
 
 /// The text of the first `label{}("..")`, where it is a label.

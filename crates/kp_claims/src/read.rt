@@ -8,18 +8,19 @@ ghost use Rattle.kp_claims.specs.Claims.{counted, IsClaimOf, IsClaimOfSentence};
 ghost use Rattle.kp_claims.specs.Faults.{label_at, IsFaultOfClaim, IsFaultlessClaim, IsFaultAt, IsFaultless, AreFaultless, IsFirstFault, IsErrorOf, TellsOf};
 ghost use Rattle.kp_claims.specs.Files.{SpellsFile};
 ghost use Rattle.kp_claims.specs.Items.{item_view, items_view};
-ghost use Rattle.kp_claims.specs.Labels.{Lists};
+ghost use Rattle.kp_names.specs.Met.{Lists};
 ghost use Rattle.kp_claims.specs.Sentences.{seen};
 
 use crate::fault::{ClaimError, ClaimFault};
 use crate::file::modules_in;
 use crate::item::ClaimItem;
-use crate::label::{Labels, take_label};
+use crate::label::take_label;
 use crate::outline::outline;
 use crate::sentences::counted_sentences;
 use crate::sides::checked_claim;
 use indexmap::IndexMap;
 use kp_kore::{AxiomSentence, Sentence};
+use kp_names::names::Names;
 use kp_signature::Signature;
 use std::alloc::Global;
 
@@ -60,7 +61,7 @@ fn claims_of(
 fn claim_of_sentence(
     alloc: Global,
     signature: &Signature,
-    labels: &mut Labels,
+    labels: &mut Names,
     sentence: &Sentence,
 ) -> Result<ClaimItem, ClaimError>
     ensures claim { IfOk result (λ item. IsClaimOfSentence (sentence_view sentence.now) (item_view item)) }
@@ -82,7 +83,7 @@ fn claim_of_sentence(
 fn claim_of(
     alloc: Global,
     signature: &Signature,
-    labels: &mut Labels,
+    labels: &mut Names,
     statement: &AxiomSentence,
 ) -> Result<ClaimItem, ClaimError>
     ensures claim { IfOk result (λ item. IsClaimOf (axiom_sentence_view statement.now) (item_view item)) }

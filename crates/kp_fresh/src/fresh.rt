@@ -1,13 +1,13 @@
 // The least new name. The names that are used are noted once, so each candidate is one look-up.
 ghost use Rattle.std.specs.Prelude.{◌≡◌, ◌++◌, ◌+◌, List, IfOk, OnOk, map, length, string_bytes};
 ghost use Rattle.kp_kore.specs.Syntax.{Text};
-ghost use Rattle.kp_claims.specs.Labels.{Lists};
+ghost use Rattle.kp_names.specs.Met.{Lists};
 ghost use Rattle.kp_symbolic.specs.Writing as model;
 ghost use Rattle.kp_symbolic.specs.Writing.{least_fresh};
 
 use indexmap::IndexMap;
-use kp_claims::label::{Labels, is_noted, note};
 use kp_kore::Name;
+use kp_names::names::{Names, is_noted, note};
 use std::alloc::{AllocError, Global};
 
 /// `Fresh` and the least number from 1 that makes a name which isn't used.
@@ -20,7 +20,7 @@ pub fn fresh(alloc: Global, used: &[Name]) -> Result<Name, AllocError>
 }
 
 /// Notes the names.
-fn note_all(names: &mut Labels, used: &[Name]) -> Result<(), AllocError>
+fn note_all(names: &mut Names, used: &[Name]) -> Result<(), AllocError>
     ensures { (before : List Text) → Lists before names.old → OnOk result (Lists (before ++ map string_bytes used.now) names.new) }
 {
     for name in used {
@@ -30,7 +30,7 @@ fn note_all(names: &mut Labels, used: &[Name]) -> Result<(), AllocError>
 }
 
 /// The first such name that wasn't noted, where so many were.
-fn first_free(alloc: Global, names: &Labels, count: usize) -> Result<Name, AllocError>
+fn first_free(alloc: Global, names: &Names, count: usize) -> Result<Name, AllocError>
     ensures { IfOk result (λ x. (used : List Text) → Lists used names.now → count ≡ length used → string_bytes x ≡ least_fresh used) }
 {
     for before in 0..count {

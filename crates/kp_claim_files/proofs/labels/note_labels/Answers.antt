@@ -1,6 +1,6 @@
 use Rattle.std.proofs.Common.{◌++◌, subst, take}
 use Rattle.kp_kore.specs.View.{names_view}
-use Rattle.kp_claims.specs.Labels.{Lists}
+use Rattle.kp_names.specs.Met.{Lists}
 use Rattle.kp_claim_sentences.proofs.Noting.{names_more}
 use Rattle.kp_claim_files.proofs.labels.note_labels.Goals as goal
 

@@ -1,6 +1,6 @@
 use Rattle.std.proofs.Common.{take}
 use Rattle.std.specs.List.{flat_map}
-use Rattle.kp_claims.specs.Labels.{Lists}
+use Rattle.kp_names.specs.Met.{Lists}
 use Rattle.kp_claims.specs.Sentences.{seen}
 use Rattle.kp_claim_sentences.specs.Faults.{dependencies_at}
 use Rattle.kp_claim_files.proofs.labels.used_in.Given as goal

@@ -4,7 +4,7 @@ use Rattle.std.proofs.lemmas.List.{take_all, map-append}
 use Rattle.kp_kore.specs.View.{sentence_view}
 use Rattle.kp_signature.specs.View.{signature_view}
 use Rattle.kp_claims.specs.Faults.{labels_of, TellsOf}
-use Rattle.kp_claims.specs.Labels.{Lists}
+use Rattle.kp_names.specs.Met.{Lists}
 use Rattle.kp_claims.specs.Sentences.{seen}
 use Rattle.kp_claims.proofs.OneMore.{seen_more, seen_split, labels_more, zip_push, exit}
 use Rattle.kp_claim_sentences.specs.Claims.{IsStatedBy}

@@ -2,7 +2,7 @@ use Rattle.std.proofs.Common.{[], take}
 use Rattle.std.specs.List.{AllZip}
 use Rattle.kp_signature.specs.View.{signature_view}
 use Rattle.kp_claims.specs.Faults.{labels_of}
-use Rattle.kp_claims.specs.Labels.{Lists}
+use Rattle.kp_names.specs.Met.{Lists}
 use Rattle.kp_claims.specs.Sentences.{seen}
 use Rattle.kp_claim_sentences.specs.Claims.{IsStatedBy}
 use Rattle.kp_claim_sentences.specs.Faults.{AreFaultless, file_labels}

@@ -1,6 +1,6 @@
 use Rattle.std.proofs.Common.{rules, [], ap, subst, ◌∙◌, map}
 use Rattle.kp_kore.specs.View.{sorted_variable_view}
-use Rattle.kp_claims.specs.Labels.{Lists}
+use Rattle.kp_names.specs.Met.{Lists}
 use Rattle.kp_claim_sentences.proofs.chosen.names_in.Goals as goal
 
 pub returns : goal.returns

@@ -2,7 +2,7 @@ use Rattle.std.proofs.Common.{◌≡◌, List, drop}
 use Rattle.std.specs.List.{flat_map}
 use Rattle.kp_kore.specs.Syntax.{Text}
 use Rattle.kp_compile.specs.Parts.{seen}
-use Rattle.kp_claims.specs.Labels.{Lists}
+use Rattle.kp_names.specs.Met.{Lists}
 use Rattle.kp_claim_sentences.specs.Claims.{bound_at, are_apart}
 use Rattle.kp_claim_sentences.proofs.names.are_apart.Given as goal
 

@@ -2,7 +2,7 @@ use Rattle.std.proofs.Common.{rules, ◌++◌, [], sym, ap, subst, ◌∙◌, ma
 use Rattle.std.proofs.lemmas.List.{map-append}
 use Rattle.kp_kore.specs.Parts.{free_variables}
 use Rattle.kp_kore.specs.View.{view, sorted_variable_view}
-use Rattle.kp_claims.specs.Labels.{Lists}
+use Rattle.kp_names.specs.Met.{Lists}
 use Rattle.kp_claim_sentences.proofs.names.free_names.Goals as goal
 
 pub returns : goal.returns

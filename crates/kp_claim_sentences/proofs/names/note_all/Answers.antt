@@ -1,6 +1,6 @@
 use Rattle.std.proofs.Common.{◌++◌, subst, map, take}
 use Rattle.kp_kore.specs.View.{sorted_variable_view}
-use Rattle.kp_claims.specs.Labels.{Lists}
+use Rattle.kp_names.specs.Met.{Lists}
 use Rattle.kp_claim_sentences.proofs.Noting.{variables_more}
 use Rattle.kp_claim_sentences.proofs.names.note_all.Goals as goal
 

@@ -1,6 +1,6 @@
 use Rattle.std.proofs.Common.{◌≡◌, refl, ◌++◌, ◌∷◌, [], subst, Some, None, IfOk, string_bytes}
 use Rattle.kp_claims.specs.Faults.{no_label, label_fault}
-use Rattle.kp_claims.specs.Labels.{Lists}
+use Rattle.kp_names.specs.Met.{Lists}
 use Rattle.kp_claims.proofs.label.take_label.Goals as goal
 
 pub returns-in-Some-clause-ok : goal.returns-in-Some-clause-ok

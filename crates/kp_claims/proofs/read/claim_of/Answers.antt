@@ -3,7 +3,7 @@ use Rattle.kp_kore.specs.View.{view, patterns_view, axiom_sentence_view}
 use Rattle.kp_signature.specs.View.{signature_view}
 use Rattle.kp_claims.specs.Claims.{label_of}
 use Rattle.kp_claims.specs.Faults.{label_fault, IsFaultOfClaim, TellsOf}
-use Rattle.kp_claims.specs.Labels.{Lists}
+use Rattle.kp_names.specs.Met.{Lists}
 use Rattle.kp_claims.specs.Sides.{sides_view}
 use Rattle.kp_claims.proofs.Claimed.{grounds, claim_faultless, told_by_outline, told_by_label, told_by_sides}
 use Rattle.kp_claims.proofs.OneMore.{exit}

@@ -6,7 +6,7 @@ use Rattle.kp_signature.specs.View.{signature_view}
 use Rattle.kp_claims.specs.Claims.{IsClaimOfSentence}
 use Rattle.kp_claims.specs.Faults.{labels_of, AreFaultless, IsFirstFault, TellsOf}
 use Rattle.kp_claims.specs.Items.{item_view, items_view}
-use Rattle.kp_claims.specs.Labels.{Lists}
+use Rattle.kp_names.specs.Met.{Lists}
 use Rattle.kp_claims.specs.Sentences.{seen}
 use Rattle.kp_claims.proofs.OneMore.{seen_more, seen_split, labels_more, faultless_more, tells_first, zip_push, exit}
 use Rattle.kp_claims.proofs.read.claims_of.Goals as goal

@@ -4,7 +4,7 @@ use Rattle.kp_signature.specs.View.{signature_view}
 use Rattle.kp_claims.specs.Claims.{IsClaimOfSentence}
 use Rattle.kp_claims.specs.Faults.{labels_of, AreFaultless}
 use Rattle.kp_claims.specs.Items.{items_view}
-use Rattle.kp_claims.specs.Labels.{Lists}
+use Rattle.kp_names.specs.Met.{Lists}
 use Rattle.kp_claims.specs.Sentences.{seen}
 use Rattle.kp_claims.proofs.read.claims_of.Given as goal
 

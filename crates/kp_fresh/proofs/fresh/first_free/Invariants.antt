@@ -1,6 +1,6 @@
 use Rattle.std.proofs.Common.{◌≡◌, List, length}
 use Rattle.kp_kore.specs.Syntax.{Text}
-use Rattle.kp_claims.specs.Labels.{Lists}
+use Rattle.kp_names.specs.Met.{Lists}
 use Rattle.kp_fresh.proofs.FreshLemmas.{Leaves}
 use Rattle.kp_fresh.proofs.fresh.first_free.Given as goal
 

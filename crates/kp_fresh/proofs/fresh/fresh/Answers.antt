@@ -1,7 +1,7 @@
 use Rattle.std.proofs.Common.{rules, ◌≡◌, List, [], map, length, string_bytes}
 use Rattle.std.proofs.lemmas.Result.{IfOk-weaker}
 use Rattle.kp_kore.specs.Syntax.{Text}
-use Rattle.kp_claims.specs.Labels.{Lists}
+use Rattle.kp_names.specs.Met.{Lists}
 use Rattle.kp_symbolic.specs.Writing.{least_fresh}
 use Rattle.kp_fresh.proofs.FreshLemmas.{as_many}
 use Rattle.kp_fresh.proofs.fresh.fresh.Goals as goal

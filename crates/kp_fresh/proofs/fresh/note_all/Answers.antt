@@ -1,5 +1,5 @@
 use Rattle.std.proofs.Common.{◌++◌, subst, map, take, string_bytes}
-use Rattle.kp_claims.specs.Labels.{Lists}
+use Rattle.kp_names.specs.Met.{Lists}
 use Rattle.kp_fresh.proofs.FreshLemmas.{names_more}
 use Rattle.kp_fresh.proofs.fresh.note_all.Goals as goal
 

@@ -1,6 +1,6 @@
 use Rattle.std.proofs.Common.{◌++◌, List, map, take, string_bytes}
 use Rattle.kp_kore.specs.Syntax.{Text}
-use Rattle.kp_claims.specs.Labels.{Lists}
+use Rattle.kp_names.specs.Met.{Lists}
 use Rattle.kp_fresh.proofs.fresh.note_all.Given as goal
 
 abbrev pub invariant-loop-name : goal.invariant-loop-name
