@@ -1,0 +1,4 @@
+pub mod LeftSides
+pub mod Firing
+pub mod Turns
+pub mod NextStates
