@@ -1,6 +1,6 @@
 -- What is written for each literal is written for the clause, and what for several is told by their number.
-use Rattle.std.proofs.Common.{◌≡◌, refl, ap, ◌∙◌, ℕ, ◌≤◌, List, [], ◌∷◌, length, map, take, arith}
-use Rattle.std.proofs.lemmas.List.{take_all}
+use Rattle.std.proofs.Common.{◌≡◌, refl, sym, ap, ◌∙◌, ℕ, ◌+◌, ◌<◌, ◌≤◌, List, [], ◌∷◌, ◌++◌, length, get_or, map, take, arith}
+use Rattle.std.proofs.lemmas.List.{take_all, take_more, map-append}
 use Rattle.kp_kore.specs.Syntax.{KoreSort, KorePattern, KorePatterns, no_patterns, next_pattern, disjunction}
 use Rattle.kp_kore.specs.Signature.{KoreSignature}
 use Rattle.kp_kore.specs.View.{view, patterns_view}
@@ -35,3 +35,12 @@ pub several : (g : KoreSignature) (sort : KoreSort) (ls : List Literal) → 2 �
 several g sort [] h = absurd (omega arith)
 several g sort (l ∷ []) h = absurd (omega arith)
 several g sort (l ∷ k ∷ ls) h = refl
+
+-- one literal more
+pub written_further : (f : Literal → KorePattern) (i : ℕ) (ls : List Literal) (l : Literal) (found new : List Pattern) (q : Pattern) → i < length ls → l ≡ get_or ls i l → new ≡ found ++ q ∷ [] → view q ≡ f l → map view found ≡ map f (take i ls) → map view new ≡ map f (take (i + 1) ls)
+written_further f i ls l found new q h is pushed written so_far =
+    ap (map view) pushed
+    ∙ map-append view found (q ∷ [])
+    ∙ ap (λ ps. ps ++ view q ∷ []) so_far
+    ∙ ap (λ p. map f (take i ls) ++ p ∷ []) written
+    ∙ sym (ap (map f) (take_more ls i l h ∙ ap (λ k. take i ls ++ k ∷ []) (sym is)) ∙ map-append f (take i ls) (l ∷ []))
