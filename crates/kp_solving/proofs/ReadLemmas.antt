@@ -2,20 +2,20 @@
 use Rattle.std.proofs.Common.{◌≡◌, sym, ◌∙◌, subst, Some, None, Result, Ok, Err, IfOk, IfErr}
 use Rattle.std.specs.Prelude.{OnOk}
 use Rattle.kp_kore.specs.Syntax.{KorePattern}
-use Rattle.kp_kore.specs.Signature.{KoreSignature, injection, meaning_of}
+use Rattle.kp_kore.specs.Signature.{KoreSignature}
 use Rattle.kp_clauses.proofs.StateLemmas.{nothing_misplaced}
 use Rattle.kp_clauses.specs.Faults.{state_fault}
 use Rattle.kp_clauses.specs.View.{IsUnread}
 use Rattle.kp_clauses.specs.declared.state.TermFault.{TermFault}
 use Rattle.kp_signature.specs.Places.{the_top}
 use Rattle.kp_signature.specs.Verify.{first_fault}
-use Rattle.kp_states.specs.Spelled.{injection_name}
 use Rattle.kp_symbolic.specs.States.{SymbolicState, HasInstancesOf}
 use Rattle.kp_symbolic.specs.Solving.{opened_state, Solving, IsReadAs}
 use Rattle.kp_symbolic.specs.WellFormed.{IsWellFormed}
 use Rattle.kp_symbolic_laws.proofs.FormedSteps.{read_well_formed}
-use Rattle.kp_symbolic_laws.proofs.SoundCourse.{read_sound}
-use Rattle.kp_symbolic_laws.specs.Runs.{ComesBy, HasRoomIn, IsSoundState, OfEachKept}
+use Rattle.kp_kept.proofs.KeptCourse.{read_kept}
+use Rattle.kp_kept.specs.Kept.{CanBeWritten}
+use Rattle.kp_symbolic_laws.specs.Runs.{ComesBy, IsSoundState, OfEachKept}
 use Rattle.kp_terms.specs.View.{state_view}
 use Rattle.kp_terms.specs.declared.state.State.{State}
 use Rattle.kp_solving.specs.Readable.{IsReadable, IsOnTheWay}
@@ -32,16 +32,16 @@ unread_on_the_way g p o (Err e) is told = λ unread each. told unread (λ s come
 one_opened : (s o : SymbolicState) → Some s ≡ Some o → s ≡ o
 one_opened s o e = cc
 
-pub room_where_solved : (g : KoreSignature) (p : KorePattern) (s : SymbolicState) (r : Result State TermFault) → opened_state g p ≡ Some s → OnOk r (OfEachKept g (HasRoomIn g) s) → OnOk r ((o : SymbolicState) → opened_state g p ≡ Some o → OfEachKept g (HasRoomIn g) o)
-room_where_solved g p s (Ok t) is room = λ o e. subst (OfEachKept g (HasRoomIn g)) (one_opened s o (sym is ∙ e)) room
-room_where_solved g p s (Err e) is room = tt
+pub right_where_solved : (g : KoreSignature) (p : KorePattern) (s : SymbolicState) (r : Result State TermFault) → opened_state g p ≡ Some s → OnOk r (OfEachKept g (CanBeWritten g) s) → OnOk r ((o : SymbolicState) → opened_state g p ≡ Some o → OfEachKept g (CanBeWritten g) o)
+right_where_solved g p s (Ok t) is right = λ o e. subst (OfEachKept g (CanBeWritten g)) (one_opened s o (sym is ∙ e)) right
+right_where_solved g p s (Err e) is right = tt
 
-pub sound_where_solved : (g : KoreSignature) (p : KorePattern) (s : SymbolicState) (r : Result State TermFault) → meaning_of g injection_name ≡ injection → first_fault g the_top p ≡ None → state_fault g p ≡ None → opened_state g p ≡ Some s →
-    IfOk r (λ t. Solving g s (state_view t)) → OnOk r (OfEachKept g (HasRoomIn g) s) → IfOk r (λ t. IsSoundState g (state_view t) × HasInstancesOf g p (state_view t))
-sound_where_solved g p s (Ok t) inj verified clear is solving room =
+pub sound_where_solved : (g : KoreSignature) (p : KorePattern) (s : SymbolicState) (r : Result State TermFault) → first_fault g the_top p ≡ None → state_fault g p ≡ None → opened_state g p ≡ Some s →
+    IfOk r (λ t. Solving g s (state_view t)) → OnOk r (OfEachKept g (CanBeWritten g) s) → IfOk r (λ t. IsSoundState g (state_view t) × HasInstancesOf g p (state_view t))
+sound_where_solved g p s (Ok t) verified clear is solving right =
     let placed = nothing_misplaced g p clear in
-    read_sound g the_top p (state_view t) inj verified placed.0 placed.1 (record { opened = s; is_opened = is; solving = solving }) room
-sound_where_solved g p s (Err e) inj verified clear is solving room = tt
+    read_kept g the_top p (state_view t) verified placed.0 placed.1 (record { opened = s; is_opened = is; solving = solving }) right
+sound_where_solved g p s (Err e) verified clear is solving right = tt
 
 pub formed_where_solved : (g : KoreSignature) (p : KorePattern) (s : SymbolicState) (r : Result State TermFault) → first_fault g the_top p ≡ None → state_fault g p ≡ None → opened_state g p ≡ Some s →
     IfOk r (λ t. Solving g s (state_view t)) → IfOk r (λ t. IsWellFormed g (state_view t))

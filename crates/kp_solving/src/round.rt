@@ -4,7 +4,8 @@ ghost use Rattle.std.specs.List.{AllByRecursion};
 ghost use Rattle.kp_compile.specs.declared.error.CompileError.TheVariants.{Memory};
 ghost use Rattle.kp_kore.specs.View.{sort_view};
 ghost use Rattle.kp_symbolic.specs.Solving as model;
-ghost use Rattle.kp_symbolic_laws.specs.Runs.{HasRoomClause, HasRoomIn, IfKeptWhole, OfKeptWhole, OfKeptAt};
+ghost use Rattle.kp_symbolic_laws.specs.Runs.{IfKeptWhole, OfKeptWhole, OfKeptAt};
+ghost use Rattle.kp_kept.specs.Kept.{CanBeWritten, CanBeWrittenAt};
 ghost use Rattle.kp_terms.specs.Languages.{language_view};
 ghost use Rattle.kp_terms.specs.View.{clause_view, clauses_view, literal_view, replaced_view, state_view};
 ghost use Rattle.kp_distribution.specs.Distribution.{most_counted};
@@ -17,6 +18,7 @@ ghost use Rattle.kp_writing.specs.Parts.{IsFaultlessAtom};
 
 use crate::clause::{clause_alone, replacement, solve_clause};
 use crate::first::literals_in;
+use crate::size::is_too_large;
 use kp_compile::CompileError;
 use kp_distribution::count::at_most;
 use kp_distribution::joined::kept_once;
@@ -47,7 +49,7 @@ fn solve_or_keep(
 ) -> Result<Vec<Clause>, CompileError>
     requires { map replaced_view by.now.value.items ≡ model.replacement (equation_view equation.now) }
     ensures solved { let e = equation_view equation.now in let solved = solved_or_kept (language_view language.now) (sort_view sort.now) e so_far own (clause_view clause.now) in IfOk result (λ cs. clauses_view cs.items ≡ solved) }
-    ensures room { let g = language_view language.now in let e = equation_view equation.now in OnOk result (own ≡ false → IfKeptWhole g e (HasRoomClause g) so_far (clause_view clause.now)) }
+    ensures right { let g = language_view language.now in let e = equation_view equation.now in OnOk result (own ≡ false → IfKeptWhole g e (CanBeWrittenAt g (sort_view sort.now)) so_far (clause_view clause.now)) }
     ensures refused { let g = language_view language.now in let ls = clause.now.literals.value.items in IfErr result (λ e. AllByRecursion (λ l. HasWrittenSums g (literal_view l).atom) ls → AllByRecursion (λ l. IsFaultlessAtom g (literal_view l).atom) ls → e ≡ Memory) }
 {
     if own {
@@ -68,7 +70,7 @@ fn solve_clauses(
 ) -> Result<Vec<Clause>, CompileError>
     requires { map replaced_view by.now.value.items ≡ model.replacement (equation_view equation.now) }
     ensures solved { let e = equation_view equation.now in let solved = model.solved_clauses (language_view language.now) (sort_view sort.now) e 0 (Some place) (clauses_view clauses.now) in IfOk result (λ cs. clauses_view cs.items ≡ solved) }
-    ensures room { let g = language_view language.now in let e = equation_view equation.now in OnOk result (OfKeptWhole g (sort_view sort.now) e (HasRoomClause g) 0 (Some place) (clauses_view clauses.now)) }
+    ensures right { let g = language_view language.now in let e = equation_view equation.now in OnOk result (OfKeptWhole g (sort_view sort.now) e (CanBeWrittenAt g (sort_view sort.now)) 0 (Some place) (clauses_view clauses.now)) }
     ensures refused { let g = language_view language.now in let cs = clauses.now in IfErr result (λ e. AllByRecursion (λ c. AllByRecursion (λ l. HasWrittenSums g (literal_view l).atom) c.literals.value.items) cs → AreFaultlessIn g cs → e ≡ Memory) }
 {
     let mut found = Vec::new(alloc);
@@ -93,7 +95,7 @@ fn solve_clauses(
 
 /// The state with the equation of the clause at this place solved: the term stands in the variable's place in its term and
 /// in the other clauses. A state whose sums can be written and whose predicates have no verify fault is refused for want of
-/// memory alone.
+/// memory alone, as where it gets too many parts.
 pub fn solve_at(
     alloc: Global,
     language: &Language,
@@ -102,15 +104,18 @@ pub fn solve_at(
     equation: &Equation<'_>,
 ) -> Result<State, CompileError>
     ensures solved { let o = solvable_of place (equation_view equation.now) in IfOk result (λ s. state_view s ≡ model.solved_at (language_view language.now) o (state_view state.now)) }
-    ensures room { let g = language_view language.now in OnOk result (OfKeptAt g (HasRoomIn g) (state_view state.now) (solvable_of place (equation_view equation.now))) }
+    ensures right { let g = language_view language.now in OnOk result (OfKeptAt g (CanBeWritten g) (state_view state.now) (solvable_of place (equation_view equation.now))) }
     ensures refused { IfErr result (λ e. IsReadable (language_view language.now) (state_view state.now) → e ≡ Memory) }
 {
     let by = replacement(alloc, equation)?;
     let sort = state.sort.clone()?;
     let clauses = solve_clauses(alloc, language, &sort, equation, &by, place, &state.clauses)?;
+    let term = state.term.replaced(alloc, language, &by)?;
+    if is_too_large(alloc, &term, &clauses) {
+        return Err(CompileError::Memory);
+    }
     let clauses = kept_once(alloc, clauses)?;
     let variables = share_variables(alloc, &state.variables)?;
-    let term = state.term.replaced(alloc, language, &by)?;
     Ok(State {
         term,
         sort,

@@ -6,8 +6,9 @@ ghost use Rattle.kp_symbolic.specs.Solving as model;
 ghost use Rattle.kp_symbolic.specs.Solving.{Solving};
 ghost use Rattle.kp_terms.specs.Languages.{language_view};
 ghost use Rattle.kp_terms.specs.View.{state_view};
+ghost use Rattle.kp_kept.specs.Kept.{CanBeWritten};
 ghost use Rattle.kp_symbolic.specs.States.{SymbolicState};
-ghost use Rattle.kp_symbolic_laws.specs.Runs.{ComesBy, HasRoomIn, OfKeptAt, OfEachKept};
+ghost use Rattle.kp_symbolic_laws.specs.Runs.{ComesBy, OfKeptAt, OfEachKept};
 ghost use Rattle.kp_solving.specs.Readable.{IsReadable};
 
 use crate::first::first_solvable;
@@ -23,7 +24,7 @@ fn solve_first(
     state: &State,
 ) -> Result<Option<State>, CompileError>
     ensures solved { let g = language_view language.now in let s = state_view state.now in IfOk result (λ o. option_map state_view o ≡ option_map (λ e. model.solved_at g e s) (model.first_solvable g s)) }
-    ensures room { let g = language_view language.now in let s = state_view state.now in OnOk result ((o : model.Solvable) → model.first_solvable g s ≡ Some o → OfKeptAt g (HasRoomIn g) s o) }
+    ensures right { let g = language_view language.now in let s = state_view state.now in OnOk result ((o : model.Solvable) → model.first_solvable g s ≡ Some o → OfKeptAt g (CanBeWritten g) s o) }
     ensures refused { IfErr result (λ e. IsReadable (language_view language.now) (state_view state.now) → e ≡ Memory) }
 {
     match first_solvable(alloc, language.signature, state)? {
@@ -39,7 +40,7 @@ fn solve_first(
 /// that can be written and predicates without verify faults, it is refused for want of memory alone.
 pub fn settle(alloc: Global, language: &Language, state: State) -> Result<State, CompileError>
     ensures solved { IfOk result (λ s. Solving (language_view language.now) (state_view state) (state_view s)) }
-    ensures room { OnOk result (OfEachKept (language_view language.now) (HasRoomIn (language_view language.now)) (state_view state)) }
+    ensures right { OnOk result (OfEachKept (language_view language.now) (CanBeWritten (language_view language.now)) (state_view state)) }
     ensures refused { IfErr result (λ e. ((s : SymbolicState) → ComesBy (language_view language.now) (state_view state) s → IsReadable (language_view language.now) s) → e ≡ Memory) }
 {
     let mut settled = state;

@@ -4,16 +4,21 @@ ghost use Rattle.std.specs.List.{AllByRecursion};
 ghost use Rattle.kp_compile.specs.declared.error.CompileError.TheVariants.{Memory};
 ghost use Rattle.kp_kore.specs.Syntax.{disjunction};
 ghost use Rattle.kp_kore.specs.View.{view, sort_view, patterns_view};
+ghost use Rattle.kp_signature.specs.View.{signature_view};
 ghost use Rattle.kp_symbolic.specs.Writing as model;
+ghost use Rattle.kp_symbolic.specs.Writing.{InjectsWhereItStands};
 ghost use Rattle.kp_symbolic_laws.specs.Runs.{HasRoomAtom, HasRoomClause};
 ghost use Rattle.kp_terms.specs.Languages.{language_view};
 ghost use Rattle.kp_terms.specs.View.{literal_view, clause_view};
+ghost use Rattle.kp_kept.specs.Kept.{CanBeWrittenAt};
 ghost use Rattle.kp_writing.specs.Parts.{IsFaultlessAtom};
 
 use kp_compile::CompileError;
 use kp_kore::{Pattern, Sort};
 use kp_outward::alone::alone_out;
 use kp_outward::joined::bottom_out;
+use kp_signature::Signature;
+use kp_states::{has_injection, injects};
 use kp_substitution::build::disjunction_of;
 use kp_terms::{Clause, Language, Literal};
 use kp_writing::literal_out;
@@ -83,4 +88,35 @@ pub fn whole_out(
     ensures refused { IfErr result (λ e. AllByRecursion (λ l. IsFaultlessAtom (language_view language.now) (literal_view l).atom) clause.now.literals.value.items → e ≡ Memory) }
 {
     clause_out(alloc, language, sort, &clause.literals)
+}
+
+/// The pattern, unless an `inj` stands in it that the signature doesn't have: then none is made, as for want of memory.
+fn checked(alloc: Global, signature: &Signature, pattern: Pattern) -> Result<Pattern, CompileError>
+    ensures same { IfOk result (λ p. view p ≡ view pattern) }
+    ensures injects { IfOk result (λ p. InjectsWhereItStands (signature_view signature.now) (view p)) }
+    ensures refused { IfErr result (λ e. e ≡ Memory) }
+{
+    if has_injection(signature) {
+        return Ok(pattern);
+    }
+    if injects(alloc, &pattern)? {
+        return Err(CompileError::Memory);
+    }
+    Ok(pattern)
+}
+
+/// A clause as a predicate that can stand in its place: what is written for it has room for its new names, and `inj` only where
+/// it is what it should be.
+pub fn kept_out(
+    alloc: Global,
+    language: &Language,
+    sort: &Sort,
+    clause: &Clause,
+) -> Result<Pattern, CompileError>
+    ensures written { IfOk result (λ p. view p ≡ model.written_clause (language_view language.now) (sort_view sort.now) (clause_view clause.now)) }
+    ensures right { OnOk result (CanBeWrittenAt (language_view language.now) (sort_view sort.now) (clause_view clause.now)) }
+    ensures refused { IfErr result (λ e. AllByRecursion (λ l. IsFaultlessAtom (language_view language.now) (literal_view l).atom) clause.now.literals.value.items → e ≡ Memory) }
+{
+    let pattern = whole_out(alloc, language, sort, clause)?;
+    checked(alloc, language.signature, pattern)
 }

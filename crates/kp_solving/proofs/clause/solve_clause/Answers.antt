@@ -6,10 +6,10 @@ use Rattle.kp_readings.specs.Equations.{equation_view}
 use Rattle.kp_outward.proofs.RoomLemmas.{on_ok}
 use Rattle.kp_solving.proofs.clause.solve_clause.Goals as goal
 
-pub returns-then-branch-clause-room : goal.returns-then-branch-clause-room
-returns-then-branch-clause-room c = on_ok c.solve_holding.result (λ room named full. room full) c.solve_holding.ensures.room
+pub returns-then-branch-clause-right : goal.returns-then-branch-clause-right
+returns-then-branch-clause-right c = on_ok c.solve_holding.result (λ room named full. room full) c.solve_holding.ensures.right
 
-pub returns-clause-room : goal.returns-clause-room
-returns-clause-room c =
+pub returns-clause-right : goal.returns-clause-right
+returns-clause-right c =
     let apart : false ≡ is_named (equation_view c.args.equation.now).variable.name (clause_variables (clause_view c.args.clause.now)) = search rules in
     λ named full. absurd (cc (apart, named))

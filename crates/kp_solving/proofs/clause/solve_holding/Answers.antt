@@ -30,8 +30,8 @@ returns-clause-solved c =
     let full : false ≡ not (is_too_large c.args.so_far (clause_under g by old)) = sym c.if-is_room.false ∙ c.is_room.ensures (clause_under g by old) is in
     subst (λ x. IfOk c.quote_clause.result (λ cs. clauses_view cs.items ≡ x)) (holding_quoted g (sort_view c.args.sort.now) (equation_view c.args.equation.now) by c.args.so_far old c.requires full) c.quote_clause.ensures.quoted
 
-pub returns-then-is_room-clause-room : goal.returns-then-is_room-clause-room
-returns-then-is_room-clause-room c =
+pub returns-then-is_room-clause-right : goal.returns-then-is_room-clause-right
+returns-then-is_room-clause-right c =
     let g = language_view c.args.language.now in
     let by = map replaced_view c.args.by.now.value.items in
     let old = clause_view c.args.clause.now in
@@ -39,5 +39,5 @@ returns-then-is_room-clause-room c =
     let room : true ≡ not (is_too_large c.args.so_far (clause_under g by old)) = sym c.if-is_room.true ∙ c.is_room.ensures (clause_under g by old) is in
     λ full. absurd (never_too_large g (equation_view c.args.equation.now) by c.args.so_far old c.requires room full)
 
-pub returns-clause-room : goal.returns-clause-room
-returns-clause-room c = on_ok c.quote_clause.result (λ room full. room) c.quote_clause.ensures.room
+pub returns-clause-right : goal.returns-clause-right
+returns-clause-right c = on_ok c.quote_clause.result (λ room full. room) c.quote_clause.ensures.right

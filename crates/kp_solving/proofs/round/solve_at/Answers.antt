@@ -2,7 +2,8 @@ use Rattle.std.proofs.Common.{rules, ◌≡◌, sym, subst, Some}
 use Rattle.std.specs.List.{AllByRecursion}
 use Rattle.std.proofs.lemmas.Result.{err_from_is_err_and}
 use Rattle.kp_kore.specs.View.{sort_view}
-use Rattle.kp_symbolic_laws.specs.Runs.{HasRoomClause, OfKeptWhole}
+use Rattle.kp_symbolic_laws.specs.Runs.{OfKeptWhole}
+use Rattle.kp_kept.specs.Kept.{CanBeWrittenAt}
 use Rattle.kp_terms.specs.Languages.{language_view}
 use Rattle.kp_terms.specs.View.{literal_view, clauses_view}
 use Rattle.kp_readings.specs.Equations.{equation_view}
@@ -24,10 +25,10 @@ returns-in_err-term-clause-refused c =
     let p = err_from_is_err_and c.from_residual-in_err-term.result c.from_residual-in_err-term.ensures.1 in
     rw (p.1, p.2) (λ readable. c.in_err-term.ensures.refused readable.term)
 
-pub returns-clause-room : goal.returns-clause-room
-returns-clause-room c =
+pub returns-clause-right : goal.returns-clause-right
+returns-clause-right c =
     let g = language_view c.args.language.now in
     let e = equation_view c.args.equation.now in
     let same : sort_view c.deref.result.now ≡ sort_view c.args.state.now.sort.value = search rules in
-    subst (λ s. OfKeptWhole g s e (HasRoomClause g) 0 (Some c.args.place) (clauses_view c.args.state.now.clauses.items)) same
-    (subst (λ cs. OfKeptWhole g (sort_view c.deref.result.now) e (HasRoomClause g) 0 (Some c.args.place) (clauses_view cs)) c.deref-2.ensures.value c.in_ok-clauses.ensures.room)
+    subst (λ s. OfKeptWhole g s e (CanBeWrittenAt g s) 0 (Some c.args.place) (clauses_view c.args.state.now.clauses.items)) same
+    (subst (λ cs. OfKeptWhole g (sort_view c.deref.result.now) e (CanBeWrittenAt g (sort_view c.deref.result.now)) 0 (Some c.args.place) (clauses_view cs)) c.deref-2.ensures.value c.in_ok-clauses.ensures.right)

@@ -7,9 +7,10 @@ use Rattle.kp_terms.specs.Languages.{language_view}
 use Rattle.kp_terms.specs.View.{clause_view, clauses_view, literal_view}
 use Rattle.kp_readings.specs.Equations.{equation_view}
 use Rattle.kp_solving.specs.Solvables.{solved_or_kept}
+use Rattle.kp_symbolic_laws.specs.Runs.{OfKeptWhole}
+use Rattle.kp_kept.specs.Kept.{CanBeWrittenAt}
 use Rattle.kp_replacing.specs.Sums.{HasWrittenSums}
 use Rattle.kp_writing.specs.Parts.{IsFaultlessAtom}
-use Rattle.kp_symbolic_laws.specs.Runs.{HasRoomClause, OfKeptWhole}
 use Rattle.kp_solving.proofs.RoomLemmas.{kept_on, kept_all}
 use Rattle.kp_solving.proofs.RoundLemmas.{clauses_solved_on, clauses_solved_all}
 use Rattle.kp_solving.proofs.WayLemmas.{has_at}
@@ -29,8 +30,8 @@ loop-i-preserved c =
     let index = c.loop-i-test.true in (
       clauses_solved_on g sort e c.args.clauses.now c.args.place c.loop-i.i n c.with_literals-so_far.result own old c.loop-i.found.items solved c.append.new.self.items _
           index c.index-clauses-i.is refl is counted c.in_ok-append.ensures.items c.loop-i.invariant.0,
-      kept_on g sort e (HasRoomClause g) (OfKeptWhole g sort e (HasRoomClause g) 0 (Some c.args.place) (clauses_view c.args.clauses.now)) c.args.clauses.now c.args.place c.loop-i.i n c.with_literals-so_far.result own old solved
-          index c.index-clauses-i.is refl is counted c.in_ok-solved.ensures.room c.loop-i.invariant.1,
+      kept_on g sort e (CanBeWrittenAt g sort) (OfKeptWhole g sort e (CanBeWrittenAt g sort) 0 (Some c.args.place) (clauses_view c.args.clauses.now)) c.args.clauses.now c.args.place c.loop-i.i n c.with_literals-so_far.result own old solved
+          index c.index-clauses-i.is refl is counted c.in_ok-solved.ensures.right c.loop-i.invariant.1,
     )
 
 pub returns-in_err-solved-clause-refused : goal.returns-in_err-solved-clause-refused
@@ -45,7 +46,7 @@ pub returns-clause-solved : goal.returns-clause-solved
 returns-clause-solved c =
     clauses_solved_all (language_view c.args.language.now) (sort_view c.args.sort.now) (equation_view c.args.equation.now) c.args.clauses.now c.args.place c.loop-i.i c.loop-i.so_far (clauses_view c.loop-i.found.items) _ (omega arith) c.loop-i.invariant.0
 
-pub returns-clause-room : goal.returns-clause-room
-returns-clause-room c =
+pub returns-clause-right : goal.returns-clause-right
+returns-clause-right c =
     let g = language_view c.args.language.now in
-    kept_all g (sort_view c.args.sort.now) (equation_view c.args.equation.now) (HasRoomClause g) _ c.args.clauses.now c.args.place c.loop-i.i c.loop-i.so_far (omega arith) c.loop-i.invariant.1
+    kept_all g (sort_view c.args.sort.now) (equation_view c.args.equation.now) (CanBeWrittenAt g (sort_view c.args.sort.now)) _ c.args.clauses.now c.args.place c.loop-i.i c.loop-i.so_far (omega arith) c.loop-i.invariant.1

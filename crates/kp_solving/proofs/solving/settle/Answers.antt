@@ -3,7 +3,8 @@ use Rattle.std.specs.Option.{option_map}
 use Rattle.std.proofs.lemmas.Result.{err_from_is_err_and}
 use Rattle.kp_terms.specs.Languages.{language_view}
 use Rattle.kp_terms.specs.View.{state_view}
-use Rattle.kp_symbolic_laws.specs.Runs.{begins, HasRoomIn}
+use Rattle.kp_kept.specs.Kept.{CanBeWritten}
+use Rattle.kp_symbolic_laws.specs.Runs.{begins}
 use Rattle.kp_solving.proofs.RoomLemmas.{kept_back, kept_at_last}
 use Rattle.kp_solving.proofs.SettleLemmas.{first_solved, ends_like_itself, goes_further, is_settled}
 use Rattle.kp_solving.proofs.WayLemmas.{comes_further}
@@ -21,7 +22,7 @@ loop-round-preserved c =
     let next : Some (state_view c.in-Some.solved) ≡ first_solved g s = subst (λ o. option_map state_view o ≡ first_solved g s) c.in-Some.is c.in_ok-solved.ensures.solved in (
       goes_further g (state_view c.args.state) s (state_view c.in-Some.solved) next c.loop-round.invariant.0,
       comes_further g (state_view c.args.state) s (state_view c.in-Some.solved) next c.loop-round.invariant.1,
-      λ each. c.loop-round.invariant.2 (kept_back g (HasRoomIn g) s (state_view c.in-Some.solved) next c.in_ok-solved.ensures.room each),
+      λ each. c.loop-round.invariant.2 (kept_back g (CanBeWritten g) s (state_view c.in-Some.solved) next c.in_ok-solved.ensures.right each),
     )
 
 pub returns-in-None-clause-solved : goal.returns-in-None-clause-solved
@@ -35,8 +36,8 @@ returns-in_err-solved-clause-refused c =
     let p = err_from_is_err_and c.from_residual.result c.from_residual.ensures.1 in
     rw (p.1, p.2) (λ each. c.in_err-solved.ensures.refused (each (state_view c.loop-round.settled) c.loop-round.invariant.1))
 
-pub returns-in-None-clause-room : goal.returns-in-None-clause-room
-returns-in-None-clause-room c =
+pub returns-in-None-clause-right : goal.returns-in-None-clause-right
+returns-in-None-clause-right c =
     let g = language_view c.args.language.now in
     let s = state_view c.loop-round.settled in
-    c.loop-round.invariant.2 (kept_at_last g (HasRoomIn g) s (subst (λ o. option_map state_view o ≡ first_solved g s) c.in-None.is c.in_ok-solved.ensures.solved))
+    c.loop-round.invariant.2 (kept_at_last g (CanBeWritten g) s (subst (λ o. option_map state_view o ≡ first_solved g s) c.in-None.is c.in_ok-solved.ensures.solved))
