@@ -2,3 +2,4 @@ pub mod LeftSides
 pub mod Firing
 pub mod Turns
 pub mod NextStates
+pub mod Laws
