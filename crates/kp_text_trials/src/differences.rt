@@ -150,12 +150,16 @@ fn has_none(alloc: Global, size: usize, bounds: &[Bound]) -> Result<bool, AllocE
     Ok(ask(&mut matrix) == Some(false))
 }
 
-#[test]
-fn two_places_in_a_circle(rt: HostRuntime) {
+/// Whether a bound alone has values, and none with the one back.
+fn is_circle_of_two(alloc: Global) -> Result<bool, AllocError> {
     let first = Bound { x: 1, y: 2, c: -1 };
     let second = Bound { x: 2, y: 1, c: 0 };
-    assert_eq!(rt; has_met(rt.alloc(), 2, &[first]), Ok(true));
-    assert_eq!(rt; has_none(rt.alloc(), 2, &[first, second]), Ok(true));
+    Ok(has_met(alloc, 2, &[first])? && has_none(alloc, 2, &[first, second])?)
+}
+
+#[test]
+fn two_places_in_a_circle(rt: HostRuntime) {
+    assert_eq!(rt; is_circle_of_two(rt.alloc()), Ok(true));
 }
 
 const AT_LEAST_5: Bound = Bound { x: 0, y: 1, c: -5 };
@@ -179,15 +183,22 @@ fn ask_alone(matrix: &mut Matrix, bound: Bound) -> (Option<bool>, bool) {
     (answer, meets_all(matrix, &[bound]))
 }
 
+/// A bound from a place to itself that has no values.
+const BELOW_ITSELF: Bound = Bound { x: 1, y: 1, c: -1 };
+
+/// Whether the place is 5 by bounds from both sides, has no value with a third, and has one with that alone.
+fn is_circle_through_zero(matrix: &mut Matrix) -> bool {
+    ask(matrix) == Some(true)
+        && value(matrix, 1) == Some(5)
+        && ask_with(matrix, AT_MOST_4) == Some(false)
+        && ask_alone(matrix, AT_MOST_4) == (Some(true), true)
+        && ask_with(matrix, BELOW_ITSELF) == Some(false)
+}
+
 #[test]
 fn a_circle_through_zero(rt: HostRuntime) -> Result<(), Fail> {
     let mut matrix = matrix_of(rt.alloc(), 1, &[AT_LEAST_5, AT_MOST_5, AT_MOST_7])?;
-    assert_eq!(rt; ask(&mut matrix), Some(true));
-    assert_eq!(rt; value(&matrix, 1), Some(5));
-    assert_eq!(rt; ask_with(&mut matrix, AT_MOST_4), Some(false));
-    assert_eq!(rt; ask_alone(&mut matrix, AT_MOST_4), (Some(true), true));
-    let below_itself = Bound { x: 1, y: 1, c: -1 };
-    assert_eq!(rt; ask_with(&mut matrix, below_itself), Some(false));
+    assert!(rt; is_circle_through_zero(&mut matrix));
     Ok(())
 }
 
@@ -269,15 +280,27 @@ static LARGEST: [(usize, i128); 4] = [
     (125, 1),
 ];
 
+/// Whether so many places with these constants are told right.
+fn is_largest(alloc: Global, size: usize, most: i128) -> Result<bool, AllocError> {
+    let last = most.saturating_mul(size as i128);
+    Ok(
+        is_circle(alloc, size, most)?
+            && is_no_circle(alloc, size, most)?
+            && open_circle(alloc, size, most)? == (Some(last), None),
+    )
+}
+
+/// The first number of places of which something else is told.
+fn largest_failing(alloc: Global) -> Result<Option<usize>, AllocError> {
+    for (size, most) in &LARGEST {
+        if !is_largest(alloc, *size, *most)? {
+            return Ok(Some(*size));
+        }
+    }
+    Ok(None)
+}
+
 #[test]
 fn a_weight_of_126_with_the_largest_constants(rt: HostRuntime) {
-    for (size, most) in &LARGEST {
-        assert_eq!(rt; is_circle(rt.alloc(), *size, *most), Ok(true));
-        assert_eq!(rt; is_no_circle(rt.alloc(), *size, *most), Ok(true));
-        let last = most.saturating_mul(*size as i128);
-        assert_eq!(rt;
-            open_circle(rt.alloc(), *size, *most),
-            Ok((Some(last), None))
-        );
-    }
+    assert_eq!(rt; largest_failing(rt.alloc()), Ok(None));
 }

@@ -7,7 +7,7 @@ use std::alloc::Global;
 use std::test::Fail;
 
 /// Texts of patterns, and what is printed of the patterns that they spell.
-static FORMS: [(&str, &str); 29] = [
+static FORMS: [(&str, &str); 37] = [
     ("X : S", "X:S"),
     ("X : S { } // the end", "X:S{}"),
     ("@ X : S{ T { R , Q } }", "@X:S{T{R,Q}}"),
@@ -64,10 +64,7 @@ static FORMS: [(&str, &str); 29] = [
         "\\left-assoc{}(\\or{S{}}(A:S{}, B:S{}))",
         "\\or{S{}}(A:S{},B:S{})",
     ),
-];
-
-/// Strings as they are read and as they are printed.
-static STRINGS: [(&str, &str); 8] = [
+    // strings as they are read and as they are printed
     ("\"\\n\\r\\t\\f\\\"\\\\\"", "\"\\n\\r\\t\\f\\\"\\\\\""),
     ("\"\\x0A\\u000d\\U00000009\"", "\"\\n\\r\\t\""),
     ("\"\\x20\\x7e'#/*\"", "\" ~'#/*\""),
@@ -94,30 +91,35 @@ fn is_printed(alloc: Global, text: &str, wanted: &str) -> Result<bool, Fail> {
     Ok(printed.as_slice() == wanted.as_bytes() && again.equal(&read))
 }
 
+/// The first text that isn't printed so and read back.
+fn misprinted(alloc: Global) -> Result<Option<&'static str>, Fail> {
+    for (text, wanted) in &FORMS {
+        if !is_printed(alloc, text, wanted)? {
+            return Ok(Some(*text));
+        }
+    }
+    Ok(None)
+}
+
 #[test]
 fn each_form_is_printed_and_read_back(rt: HostRuntime) -> Result<(), Fail> {
-    for (text, wanted) in &FORMS {
-        assert!(rt; is_printed(rt.alloc(), text, wanted)?, "{text}");
-    }
+    assert_eq!(rt; misprinted(rt.alloc())?, None);
     Ok(())
 }
 
-#[test]
-fn each_string_is_printed_and_read_back(rt: HostRuntime) -> Result<(), Fail> {
-    for (text, wanted) in &STRINGS {
-        assert!(rt; is_printed(rt.alloc(), text, wanted)?, "{text}");
-    }
-    Ok(())
-}
-
-#[test]
-fn a_long_name_is_printed(rt: HostRuntime) -> Result<(), Fail> {
-    let mut text = String::new(rt.alloc());
+/// Whether a long name is printed.
+fn is_long_printed(alloc: Global) -> Result<bool, Fail> {
+    let mut text = String::new(alloc);
     for _i in 0..100000 {
         text.push('a')?;
     }
     text.push_str(":S{}")?;
-    assert!(rt; is_printed(rt.alloc(), &text, &text)?);
+    is_printed(alloc, &text, &text)
+}
+
+#[test]
+fn a_long_name_is_printed(rt: HostRuntime) -> Result<(), Fail> {
+    assert!(rt; is_long_printed(rt.alloc())?);
     Ok(())
 }
 
@@ -146,14 +148,19 @@ static MODULES: [(&str, &str); 3] = [
     ("module M  endmodule  []", "module M endmodule []"),
 ];
 
+/// The first module's text of which something else is printed.
+fn module_misprinted(alloc: Global) -> Result<Option<&'static str>, Fail> {
+    for (text, wanted) in &MODULES {
+        if printed(alloc, text)?.as_slice() != wanted.as_bytes() {
+            return Ok(Some(*text));
+        }
+    }
+    Ok(None)
+}
+
 #[test]
 fn each_sentence_is_printed_and_read_back(rt: HostRuntime) -> Result<(), Fail> {
-    for (text, wanted) in &MODULES {
-        assert!(rt;
-            printed(rt.alloc(), text)?.as_slice() == wanted.as_bytes(),
-            "{wanted}"
-        );
-    }
+    assert_eq!(rt; module_misprinted(rt.alloc())?, None);
     Ok(())
 }
 
@@ -202,12 +209,18 @@ fn is_printed_again(alloc: Global, text: &[u8]) -> Result<bool, Fail> {
     Ok(again.as_slice() == text)
 }
 
+/// How many rules the example has, how many what is printed of it has, and whether that is printed again as it is.
+fn example(alloc: Global) -> Result<(usize, usize, bool), Fail> {
+    let text = reprinted(alloc, TOYS.as_bytes())?;
+    let is_again = is_printed_again(alloc, &text)?;
+    let before = rules_in(alloc, TOYS.as_bytes())?;
+    let after = rules_in(alloc, &text)?;
+    Ok((before, after, is_again))
+}
+
 #[test]
 fn the_example_is_printed_and_loaded_again(rt: HostRuntime) -> Result<(), Fail> {
-    let text = reprinted(rt.alloc(), TOYS.as_bytes())?;
-    assert!(rt; is_printed_again(rt.alloc(), &text)?);
-    assert_eq!(rt; rules_in(rt.alloc(), TOYS.as_bytes())?, 10);
-    assert_eq!(rt; rules_in(rt.alloc(), &text)?, 10);
+    assert_eq!(rt; example(rt.alloc())?, (10, 10, true));
     Ok(())
 }
 
