@@ -1,3 +1,4 @@
+use kp_kore::Module;
 use kp_text::{FaultKind, ReadError, TextFault, read_definition, read_pattern};
 use std::alloc::Global;
 
@@ -31,13 +32,18 @@ fn first_faults(rt: HostRuntime) {
 const TWO: &str =
     "[] module M sort S{} [] symbol f{R}(S{}, R) : S{} [hook{}(\"f\")] axiom{R} \\left-assoc{}(f{R}(X:S{}, @Y:R, \\and{S{}}())) [] endmodule [] module N import M [] claim{} \\top{S{}}() [] endmodule []";
 
+/// The number of sentences in the first of these modules, 0 where there is none.
+fn first_length(modules: &[Module]) -> usize {
+    match modules.first() {
+        Some(module) => module.sentences.len(),
+        None => 0,
+    }
+}
+
 /// The number of modules, and of sentences in the first.
 fn counts(alloc: Global, text: &str) -> Option<(usize, usize)> {
     match read_definition(alloc, text.as_bytes()) {
-        Ok(definition) => {
-            let first = definition.modules.first()?;
-            Some((definition.modules.len(), first.sentences.len()))
-        }
+        Ok(definition) => Some((definition.modules.len(), first_length(&definition.modules))),
         Err(_) => None,
     }
 }
