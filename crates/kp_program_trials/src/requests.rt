@@ -402,13 +402,14 @@ static ROWS: [(Asked, Reply); 40] = [
     ),
 ];
 
-/// The number of the first row of which something else is told.
+/// How many rows stand before the first of which something else is told, if there is one.
 fn failing(alloc: Global) -> Result<Option<usize>, Fail> {
-    for i in 0..ROWS.len() {
-        let (asked, reply) = ROWS[i];
-        if !is_told(alloc, asked, reply)? {
-            return Ok(Some(i));
+    let mut place: usize = 0;
+    for (asked, reply) in &ROWS {
+        if !is_told(alloc, *asked, *reply)? {
+            return Ok(Some(place));
         }
+        place = place.saturating_add(1);
     }
     Ok(None)
 }

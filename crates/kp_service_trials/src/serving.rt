@@ -23,12 +23,15 @@ fn sink(alloc: Global, failing: &[u64]) -> Result<Drain, AllocError> {
     Ok(Drain::new(alloc, failing))
 }
 
-/// Bytes, the calls of the source and of the sink that fail, how the connection ends, and what is written.
-type Row<'a> = (&'a [u8], &'a [u64], &'a [u64], Served, &'a str);
-
-/// Whether a connection is told so.
-fn is_told(alloc: Global, row: Row<'_>) -> Result<bool, AllocError> {
-    let (bytes, read, put, served, written) = row;
+/// Whether a connection of these bytes, where these calls of the source and of the sink fail, ends so, with this written.
+fn is_told(
+    alloc: Global,
+    bytes: &[u8],
+    read: &[u64],
+    put: &[u64],
+    served: Served,
+    written: &str,
+) -> Result<bool, AllocError> {
     let mut source = source(alloc, bytes, read)?;
     let mut sink = sink(alloc, put)?;
     let mut pass = 0u64;
@@ -36,8 +39,8 @@ fn is_told(alloc: Global, row: Row<'_>) -> Result<bool, AllocError> {
     Ok(found == served && sink.bytes() == written.as_bytes())
 }
 
-/// Connections, and what is told of them.
-static ROWS: [Row<'static>; 13] = [
+/// Bytes, the calls of the source and of the sink that fail, how the connection ends, and what is written.
+static ROWS: [(&[u8], &[u64], &[u64], Served, &str); 13] = [
     (b"", &[], &[], Served::Ended { frames: 0 }, ""),
     (b" \n", &[], &[], Served::Ended { frames: 0 }, ""),
     (
@@ -73,11 +76,11 @@ static ROWS: [Row<'static>; 13] = [
     ),
 ];
 
-/// The number of the first connection of which something else is told.
-fn failing(alloc: Global) -> Result<Option<usize>, AllocError> {
-    for i in 0..ROWS.len() {
-        if !is_told(alloc, ROWS[i])? {
-            return Ok(Some(i));
+/// The bytes of the first connection of which something else is told.
+fn failing(alloc: Global) -> Result<Option<&'static [u8]>, AllocError> {
+    for (bytes, read, put, served, written) in &ROWS {
+        if !is_told(alloc, bytes, read, put, *served, written)? {
+            return Ok(Some(*bytes));
         }
     }
     Ok(None)
@@ -102,7 +105,7 @@ fn long(alloc: Global) -> Result<Vec<u8>, AllocError> {
 /// Whether it is told that it is too long.
 fn is_too_long(alloc: Global) -> Result<bool, AllocError> {
     let text = long(alloc)?;
-    is_told(alloc, (&text, &[], &[], Served::TooLong, PARSE_ERROR))
+    is_told(alloc, &text, &[], &[], Served::TooLong, PARSE_ERROR)
 }
 
 #[test]
