@@ -8,5 +8,5 @@ pub loop-variable-preserved : goal.loop-variable-preserved
 loop-variable-preserved c before is =
     let vs = c.args.variables.now in
     let i = c.loop-variable.variable-index in
-    subst (λ l. Lists l c.note.new.labels) (variables_more before vs i c.variable-item.result c.loop-variable-test.true c.variable-item.is)
+    subst (λ l. Lists l c.note.new.names) (variables_more before vs i c.variable-item.result c.loop-variable-test.true c.variable-item.is)
     (c.in_ok-note.ensures (before ++ map (λ x. x.name) (map sorted_variable_view (take i vs))) (c.loop-variable.invariant before is))

@@ -7,5 +7,5 @@ pub loop-name-preserved : goal.loop-name-preserved
 loop-name-preserved c before is =
     let used = c.args.used.now in
     let i = c.loop-name.name-index in
-    subst (λ l. Lists l c.note.new.labels) (names_more before used i c.name-item.result c.loop-name-test.true c.name-item.is)
+    subst (λ l. Lists l c.note.new.names) (names_more before used i c.name-item.result c.loop-name-test.true c.name-item.is)
     (c.in_ok-note.ensures (before ++ map string_bytes (take i used)) (c.loop-name.invariant before is))
