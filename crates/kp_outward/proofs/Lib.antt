@@ -4,5 +4,6 @@ pub mod InjectionLemmas
 pub mod JoinedLemmas
 pub mod LawLemmas
 pub mod OrderLemmas
+pub mod RoomLemmas
 pub mod TextLemmas
 pub mod TurnedLemmas

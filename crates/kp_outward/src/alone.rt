@@ -1,11 +1,12 @@
 // The literal of a clause of its own as a predicate: the variable that an equation is solved for stands first.
-ghost use Rattle.std.specs.Prelude.{◌≡◌, IfOk, IfErr};
+ghost use Rattle.std.specs.Prelude.{◌≡◌, IfOk, IfErr, OnOk};
 ghost use Rattle.kp_compile.specs.declared.error.CompileError.TheVariants.{Memory};
 ghost use Rattle.kp_kore.specs.View.{view, sort_view};
 ghost use Rattle.kp_signature.specs.View.{signature_view};
 ghost use Rattle.kp_symbolic.specs.Terms.{unknown};
 ghost use Rattle.kp_symbolic.specs.Writing as model;
 ghost use Rattle.kp_symbolic.specs.Writing.{written_literal, variable_first};
+ghost use Rattle.kp_symbolic_laws.specs.Runs.{HasRoomAtom};
 ghost use Rattle.kp_terms.specs.Languages.{language_view};
 ghost use Rattle.kp_terms.specs.View.{literal_view, term_view, variable_view};
 ghost use Rattle.kp_outward.specs.Turned as turned;
@@ -88,6 +89,7 @@ pub fn alone_out(
     literal: &Literal,
 ) -> Result<Box<Pattern>, CompileError>
     ensures written { let g = language_view language.now in let first = variable_first g (literal_view literal.now) in IfOk result (λ p. view p.value ≡ written_literal g (sort_view sort.now) first) }
+    ensures room { OnOk result (HasRoomAtom (language_view language.now) (literal_view literal.now).atom) }
     ensures refused { IfErr result (λ e. IsFaultlessAtom (language_view language.now) (literal_view literal.now).atom → e ≡ Memory) }
 {
     if !literal.holds {

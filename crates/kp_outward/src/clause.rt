@@ -1,11 +1,12 @@
 // Clauses as predicates.
-ghost use Rattle.std.specs.Prelude.{◌≡◌, List, IfOk, IfErr, map};
+ghost use Rattle.std.specs.Prelude.{◌≡◌, List, IfOk, IfErr, OnOk, map};
 ghost use Rattle.std.specs.List.{AllByRecursion};
 ghost use Rattle.kp_compile.specs.declared.error.CompileError.TheVariants.{Memory};
 ghost use Rattle.kp_kore.specs.Syntax.{disjunction};
 ghost use Rattle.kp_kore.specs.View.{view, sort_view};
 ghost use Rattle.kp_symbolic.specs.States as states;
 ghost use Rattle.kp_symbolic.specs.Writing.{written_literal, written_literals};
+ghost use Rattle.kp_symbolic_laws.specs.Runs.{HasRoomAtom, HasRoomClause};
 ghost use Rattle.kp_terms.specs.Languages.{language_view};
 ghost use Rattle.kp_terms.specs.View.{clause_view, literal_view};
 ghost use Rattle.kp_outward.specs.Arranged.{IsArrangedClause, IsWrittenClause};
@@ -30,6 +31,7 @@ fn literals_out(
     literals: &[Literal],
 ) -> Result<Vec<Spelled>, CompileError>
     ensures written { let g = language_view language.now in IfOk result (λ ps. patterns_in ps.items ≡ map (written_literal g (sort_view sort.now)) (map literal_view literals.now)) }
+    ensures room { OnOk result (AllByRecursion (λ l. HasRoomAtom (language_view language.now) (literal_view l).atom) literals.now) }
     ensures refused { IfErr result (λ e. AllByRecursion (λ l. IsFaultlessAtom (language_view language.now) (literal_view l).atom) literals.now → e ≡ Memory) }
 {
     let mut found = Vec::new(alloc);
@@ -47,6 +49,7 @@ fn several_out(
     literals: &[Literal],
 ) -> Result<Box<Pattern>, CompileError>
     ensures written { let g = language_view language.now in let s = sort_view sort.now in IfOk result (λ p. (d : List states.Literal) × IsArrangedClause g s (map literal_view literals.now) d × (view p.value ≡ disjunction s (written_literals g s d))) }
+    ensures room { OnOk result (AllByRecursion (λ l. HasRoomAtom (language_view language.now) (literal_view l).atom) literals.now) }
     ensures refused { IfErr result (λ e. AllByRecursion (λ l. IsFaultlessAtom (language_view language.now) (literal_view l).atom) literals.now → e ≡ Memory) }
 {
     let mut spelled = literals_out(alloc, language, sort, literals)?;
@@ -62,6 +65,7 @@ fn of_literals(
     literals: &[Literal],
 ) -> Result<Box<Pattern>, CompileError>
     ensures written { let g = language_view language.now in IfOk result (λ p. IsWrittenClause g (sort_view sort.now) (map literal_view literals.now) (view p.value)) }
+    ensures room { OnOk result (AllByRecursion (λ l. HasRoomAtom (language_view language.now) (literal_view l).atom) literals.now) }
     ensures refused { IfErr result (λ e. AllByRecursion (λ l. IsFaultlessAtom (language_view language.now) (literal_view l).atom) literals.now → e ≡ Memory) }
 {
     if literals.is_empty() {
@@ -83,6 +87,7 @@ pub fn clause_out(
     clause: &Clause,
 ) -> Result<Box<Pattern>, CompileError>
     ensures written { let g = language_view language.now in IfOk result (λ p. IsWrittenClause g (sort_view sort.now) (clause_view clause.now) (view p.value)) }
+    ensures room { OnOk result (HasRoomClause (language_view language.now) (clause_view clause.now)) }
     ensures refused { IfErr result (λ e. AllByRecursion (λ l. IsFaultlessAtom (language_view language.now) (literal_view l).atom) clause.now.literals.value.items → e ≡ Memory) }
 {
     of_literals(alloc, language, sort, &clause.literals)

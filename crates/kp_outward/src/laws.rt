@@ -2,12 +2,11 @@
 ghost use Rattle.std.specs.Prelude.{◌≡◌, ◌↔◌, List};
 ghost use Rattle.std.specs.List.{AllByRecursion};
 ghost use Rattle.kp_kore.specs.Syntax.{KoreSort};
-ghost use Rattle.kp_kore.specs.Signature.{KoreSignature, injection, meaning_of};
+ghost use Rattle.kp_kore.specs.Signature.{KoreSignature};
 ghost use Rattle.kp_semantics.specs.Value.{Value};
 ghost use Rattle.kp_semantics.specs.Instance.{Valuation, GivesSorts, IsInstance, AllTrueUnder};
-ghost use Rattle.kp_states.specs.Spelled.{injection_name};
 ghost use Rattle.kp_symbolic.specs.States.{Literal, SymbolicState, AreTrue, IsStateInstance};
-ghost use Rattle.kp_symbolic.specs.Writing.{IsSaid, written_clauses, written_state};
+ghost use Rattle.kp_symbolic.specs.Writing.{InjectsWhereItStands, IsSaid, written_clauses, written_state};
 ghost use Rattle.kp_symbolic_laws.specs.Runs.{IsSortedState, IsWrittenAtom};
 ghost use Rattle.kp_outward.specs.Arranged.{AreArranged, with_clauses};
 
@@ -21,11 +20,11 @@ pub fn arranged_clauses_say_what_they_said()
 {}
 
 /// What is written for a state, its clauses arranged, has exactly the state's instances, where the variables at hand have
-/// values of their sorts and `inj` is what it should be: of equalities, tests of heads, and verified predicates that aren't
+/// values of their sorts and `inj` is what it should be or isn't written: of equalities, tests of heads, and verified predicates that aren't
 /// opened.
-#[tactic(auto, using(crate::proofs::LawLemmas::state_says))]
+#[tactic(auto, using(crate::proofs::LawLemmas::arranged_state_says))]
 pub fn a_written_state_has_the_instances()
-    ensures { (g : KoreSignature) (v : Valuation) (s : SymbolicState) (ds : List (List Literal)) (u : Value) → meaning_of g injection_name ≡ injection → GivesSorts g v s.variables →
+    ensures { (g : KoreSignature) (v : Valuation) (s : SymbolicState) (ds : List (List Literal)) (u : Value) → InjectsWhereItStands g (written_state g (with_clauses s ds)) → GivesSorts g v s.variables →
         IsSortedState g s → AllByRecursion (AllByRecursion (λ l. IsWrittenAtom g l.atom)) s.clauses → AreArranged g s.sort s.clauses ds →
         IsInstance g v (written_state g (with_clauses s ds)) u ↔ IsStateInstance g v s u }
 {}

@@ -1,11 +1,17 @@
 // Predicates and states as patterns.
-ghost use Rattle.std.specs.Prelude.{◌≡◌, List, IfOk, IfErr, map};
-ghost use Rattle.std.specs.List.{AllZip};
+ghost use Rattle.std.specs.Prelude.{◌≡◌, ◌↔◌, List, IfOk, IfErr, OnOk, map};
+ghost use Rattle.std.specs.List.{AllByRecursion, AllZip};
 ghost use Rattle.kp_compile.specs.declared.error.CompileError.TheVariants.{Memory};
 ghost use Rattle.std.specs.Option.{option_map};
+ghost use Rattle.kp_kore.specs.Parts.{free_variables};
 ghost use Rattle.kp_kore.specs.View.{view, sort_view};
+ghost use Rattle.kp_semantics.specs.Instance.{Valuation, GivesSorts, IsInstance};
+ghost use Rattle.kp_semantics.specs.Value.{Value};
 ghost use Rattle.kp_signature.specs.View.{signature_view};
 ghost use Rattle.kp_symbolic.specs.States as states;
+ghost use Rattle.kp_symbolic.specs.States.{IsStateInstance};
+ghost use Rattle.kp_symbolic.specs.WellFormed.{AreAtHand};
+ghost use Rattle.kp_symbolic_laws.specs.Runs.{HasRoomClause, IsSoundState};
 ghost use Rattle.kp_symbolic.specs.Writing.{InjectsWhereItStands, written_clause, written_predicate, written_state};
 ghost use Rattle.kp_terms.specs.Languages.{language_view};
 ghost use Rattle.kp_terms.specs.View.{clauses_view, state_view};
@@ -34,6 +40,7 @@ fn clauses_out(
     clauses: &[Clause],
 ) -> Result<Vec<Spelled>, CompileError>
     ensures written { let g = language_view language.now in IfOk result (λ ps. AllZip (IsSpelledClause g (sort_view sort.now)) clauses.now ps.items) }
+    ensures room { OnOk result (AllByRecursion (HasRoomClause (language_view language.now)) (clauses_view clauses.now)) }
     ensures refused { IfErr result (λ e. AreFaultlessIn (language_view language.now) clauses.now → e ≡ Memory) }
 {
     let mut found = Vec::new(alloc);
@@ -51,6 +58,7 @@ fn arranged_out(
     clauses: &[Clause],
 ) -> Result<Vec<Spelled>, CompileError>
     ensures written { let g = language_view language.now in let s = sort_view sort.now in IfOk result (λ ps. (ds : List (List states.Literal)) × AreArranged g s (clauses_view clauses.now) ds × (patterns_in ps.items ≡ map (written_clause g s) ds)) }
+    ensures room { OnOk result (AllByRecursion (HasRoomClause (language_view language.now)) (clauses_view clauses.now)) }
     ensures refused { IfErr result (λ e. AreFaultlessIn (language_view language.now) clauses.now → e ≡ Memory) }
 {
     let mut spelled = clauses_out(alloc, language, sort, clauses)?;
@@ -106,6 +114,7 @@ fn predicate_unchecked(
     clauses: &[Clause],
 ) -> Result<Option<Box<Pattern>>, CompileError>
     ensures written { let g = language_view language.now in let s = sort_view sort.now in IfOk result (λ o. (ds : List (List states.Literal)) × AreArranged g s (clauses_view clauses.now) ds × (option_map (λ p. view p.value) o ≡ written_predicate g s ds)) }
+    ensures room { OnOk result (AllByRecursion (HasRoomClause (language_view language.now)) (clauses_view clauses.now)) }
     ensures refused { IfErr result (λ e. AreFaultlessIn (language_view language.now) clauses.now → e ≡ Memory) }
 {
     let spelled = arranged_out(alloc, language, sort, clauses)?;
@@ -126,6 +135,7 @@ pub fn predicate_out(
 ) -> Result<Option<Box<Pattern>>, WritingError>
     ensures written { let g = language_view language.now in let s = sort_view sort.now in IfOk result (λ o. (ds : List (List states.Literal)) × AreArranged g s (clauses_view clauses.now) ds × (option_map (λ p. view p.value) o ≡ written_predicate g s ds)) }
     ensures injects { IfOk result (λ o. InjectsIfThere (language_view language.now) (option_map (λ p. view p.value) o)) }
+    ensures room { OnOk result (AllByRecursion (HasRoomClause (language_view language.now)) (clauses_view clauses.now)) }
     ensures refused { let g = language_view language.now in let s = sort_view sort.now in IfErr result (λ e. IsNoInjection e → (ds : List (List states.Literal)) × AreArranged g s (clauses_view clauses.now) ds × ¬ InjectsIfThere g (written_predicate g s ds)) }
     ensures unread { IfErr result (λ e. IsUnread e → ¬ AreFaultless (language_view language.now) (clauses_view clauses.now)) }
 {
@@ -140,6 +150,7 @@ fn unchecked(
     state: &State,
 ) -> Result<Box<Pattern>, CompileError>
     ensures written { let g = language_view language.now in let s = state_view state.now in IfOk result (λ p. (ds : List (List states.Literal)) × AreArranged g s.sort s.clauses ds × (view p.value ≡ written_state g (with_clauses s ds))) }
+    ensures room { OnOk result (AllByRecursion (HasRoomClause (language_view language.now)) (state_view state.now).clauses) }
     ensures refused { IfErr result (λ e. AreFaultlessIn (language_view language.now) state.now.clauses.items → e ≡ Memory) }
 {
     let spelled = arranged_out(alloc, language, &state.sort, &state.clauses)?;
@@ -159,6 +170,9 @@ pub fn state_out(
 ) -> Result<Box<Pattern>, WritingError>
     ensures written { let g = language_view language.now in let s = state_view state.now in IfOk result (λ p. (ds : List (List states.Literal)) × AreArranged g s.sort s.clauses ds × (view p.value ≡ written_state g (with_clauses s ds))) }
     ensures injects { IfOk result (λ p. InjectsWhereItStands (language_view language.now) (view p.value)) }
+    ensures room { OnOk result (AllByRecursion (HasRoomClause (language_view language.now)) (state_view state.now).clauses) }
+    ensures instances { let g = language_view language.now in let s = state_view state.now in IfOk result (λ p. IsSoundState g s → (v : Valuation) (u : Value) → GivesSorts g v s.variables → IsInstance g v (view p.value) u ↔ IsStateInstance g v s u) }
+    ensures variables { let g = language_view language.now in let s = state_view state.now in IfOk result (λ p. IsSoundState g s → AreAtHand (free_variables (view p.value)) s.variables) }
     ensures refused { let g = language_view language.now in let s = state_view state.now in IfErr result (λ e. IsNoInjection e → (ds : List (List states.Literal)) × AreArranged g s.sort s.clauses ds × ¬ InjectsWhereItStands g (written_state g (with_clauses s ds))) }
     ensures unread { IfErr result (λ e. IsUnread e → ¬ AreFaultless (language_view language.now) (state_view state.now).clauses) }
 {

@@ -4,6 +4,7 @@ use Rattle.kp_kore.specs.View.{view, sort_view}
 use Rattle.kp_signature.specs.View.{signature_view}
 use Rattle.kp_outward.proofs.ArrangedLemmas.{none_written, one_written_ok, two_written_ok}
 use Rattle.kp_outward.proofs.FaultlessLemmas.{only_faultless}
+use Rattle.kp_outward.proofs.RoomLemmas.{on_ok, none_room, one_room}
 use Rattle.kp_outward.proofs.clause.of_literals.Goals as goal
 
 pub returns-then-is_empty-clause-written : goal.returns-then-is_empty-clause-written
@@ -27,3 +28,14 @@ returns-then-literals-eq1-clause-refused c =
     let g = signature_view c.args.language.now.signature.now in
     let one : length c.args.literals.now ≡ 1 = search rules in
     IfErr-weaker c.alone_out.result _ _ (λ e told all. told (only_faultless g c.args.literals.now c.index-literals-0.result one c.index-literals-0.is all)) c.alone_out.ensures.refused
+
+pub returns-then-is_empty-clause-room : goal.returns-then-is_empty-clause-room
+returns-then-is_empty-clause-room c =
+    let none : length c.args.literals.now ≡ 0 = search rules in
+    none_room (signature_view c.args.language.now.signature.now) c.args.literals.now none
+
+pub returns-then-literals-eq1-clause-room : goal.returns-then-literals-eq1-clause-room
+returns-then-literals-eq1-clause-room c =
+    let g = signature_view c.args.language.now.signature.now in
+    let one : length c.args.literals.now ≡ 1 = search rules in
+    on_ok c.alone_out.result (one_room g c.args.literals.now c.index-literals-0.result one c.index-literals-0.is) c.alone_out.ensures.room

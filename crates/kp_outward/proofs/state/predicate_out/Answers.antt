@@ -5,6 +5,7 @@ use Rattle.kp_signature.specs.View.{signature_view}
 use Rattle.kp_terms.specs.View.{clauses_view}
 use Rattle.kp_outward.proofs.FaultlessLemmas.{clauses_faultless}
 use Rattle.kp_outward.proofs.InjectionLemmas.{refused_predicate, handed_predicate}
+use Rattle.kp_outward.proofs.RoomLemmas.{ok_always}
 use Rattle.kp_outward.proofs.state.predicate_out.Goals as goal
 
 pub returns-clause-written : goal.returns-clause-written
@@ -24,3 +25,6 @@ returns-in_err-predicate-clause-unread c =
     let g = signature_view c.args.language.now.signature.now in
     let p = err_from_is_err_and c.from_residual.result c.from_residual.ensures.1 in
     rw (p.1) (λ unread faultless. absurd (cc (unread, p.2.0 (c.in_err-predicate.ensures.refused (clauses_faultless g c.args.clauses.now faultless)))))
+
+pub returns-clause-room : goal.returns-clause-room
+returns-clause-room c = ok_always c.checked_if_any.result c.in_ok-predicate.ensures.room

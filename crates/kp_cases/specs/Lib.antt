@@ -1,0 +1,6 @@
+pub mod Parts
+pub mod Narrowings
+pub mod Cases
+pub mod Courses
+pub mod Rows
+pub mod Examples

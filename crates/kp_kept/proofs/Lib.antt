@@ -1,0 +1,3 @@
+pub mod BareTerms
+pub mod BareWritten
+pub mod KeptCourse

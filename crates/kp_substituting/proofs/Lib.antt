@@ -1,0 +1,4 @@
+pub mod ClauseLemmas
+pub mod InstanceLemmas
+pub mod SortedLemmas
+pub mod StateLemmas

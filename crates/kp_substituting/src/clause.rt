@@ -1,0 +1,115 @@
+// A clause with terms in the place of variables.
+ghost use Rattle.std.specs.Prelude.{◌≡◌, not, [], ◌∷◌, IfOk, map};
+ghost use Rattle.kp_kore.specs.View.{view, sort_view};
+ghost use Rattle.kp_symbolic.specs.Clauses.{is_too_large};
+ghost use Rattle.kp_symbolic.specs.Formulas.{Formula};
+ghost use Rattle.kp_symbolic.specs.States as states;
+ghost use Rattle.kp_symbolic.specs.Writing.{written_clause};
+ghost use Rattle.kp_terms.specs.Languages.{language_view};
+ghost use Rattle.kp_terms.specs.View.{literal_view, clause_view, clauses_view, replaced_view};
+ghost use Rattle.kp_distribution.specs.Distribution.{distribution_of};
+ghost use Rattle.kp_distribution.specs.View.{distributed_view};
+ghost use Rattle.kp_replacing.specs.Substituted as model;
+ghost use Rattle.kp_substituting.specs.Holding as holding;
+ghost use Rattle.kp_substituting.specs.Holding.{quoted_under, substituted_holding};
+
+use kp_compile::CompileError;
+use kp_distribution::Distributed;
+use kp_distribution::count::MOST_OPENED;
+use kp_distribution::joined::make_clause;
+use kp_kore::{Pattern, Sort};
+use kp_leaves::quotation::quoted_literal;
+use kp_readings::names::some_has_name;
+use kp_replacing::open_clause;
+use kp_solving::clause::clause_alone;
+use kp_solving::whole::whole_out;
+use kp_terms::{Clause, Language, Literal, Replaced};
+use std::alloc::{AllocError, Global};
+
+/// Whether one of the variables in the place of which a term stands is in one of the literals.
+fn holds_one(alloc: Global, by: &[Replaced], literals: &[Literal]) -> Result<bool, AllocError>
+    ensures { IfOk result (λ b. b ≡ holding.holds_one (map replaced_view by.now) (map literal_view literals.now)) }
+{
+    for one in by {
+        if some_has_name(alloc, literals, &one.name)? {
+            return Ok(true);
+        }
+    }
+    Ok(false)
+}
+
+/// Whether the clauses of a formula, behind so many literals, aren't too many for a state.
+fn is_room(so_far: u64, opened: &Distributed) -> bool
+    ensures { (f : Formula states.Literal) → distributed_view opened.now ≡ distribution_of f → result ≡ not (is_too_large so_far f) }
+{
+    so_far.saturating_add(opened.count.literals) <= MOST_OPENED
+}
+
+/// The clauses that are kept of a formula.
+fn clauses_of(opened: Distributed) -> Vec<Clause>
+    ensures { clauses_view result.items ≡ (distributed_view opened).clauses }
+{
+    let Distributed { clauses, .. } = opened;
+    clauses
+}
+
+/// A predicate with terms in the place of its variables, as a clause of one literal, alone.
+fn quote_alone(alloc: Global, by: &[Replaced], pattern: &Pattern) -> Result<Vec<Clause>, AllocError>
+    ensures { IfOk result (λ cs. clauses_view cs.items ≡ quoted_under (map replaced_view by.now) (view pattern.now) ∷ []) }
+{
+    let literal = quoted_literal(alloc, by, true, pattern)?;
+    let mut clauses = Vec::new(alloc);
+    clauses.push(make_clause(alloc, literal)?)?;
+    Ok(clauses)
+}
+
+/// What is written for a clause, with terms in the place of variables, as one literal.
+fn quote_clause(
+    alloc: Global,
+    language: &Language,
+    sort: &Sort,
+    by: &[Replaced],
+    clause: &Clause,
+) -> Result<Vec<Clause>, CompileError>
+    ensures { let pattern = written_clause (language_view language.now) (sort_view sort.now) (clause_view clause.now) in IfOk result (λ cs. clauses_view cs.items ≡ quoted_under (map replaced_view by.now) pattern ∷ []) }
+{
+    let pattern = whole_out(alloc, language, sort, clause)?;
+    Ok(quote_alone(alloc, by, &pattern)?)
+}
+
+/// The clauses of a clause that holds one of the variables, behind so many literals: opened again with the terms in their
+/// places, or as one literal where that makes too many.
+fn substitute_holding(
+    alloc: Global,
+    language: &Language,
+    sort: &Sort,
+    by: &[Replaced],
+    so_far: u64,
+    clause: &Clause,
+) -> Result<Vec<Clause>, CompileError>
+    ensures { let substituted = substituted_holding (language_view language.now) (sort_view sort.now) (map replaced_view by.now) so_far (clause_view clause.now) in IfOk result (λ cs. clauses_view cs.items ≡ substituted) }
+{
+    let opened = open_clause(alloc, language, by, clause)?;
+    if is_room(so_far, &opened) {
+        return Ok(clauses_of(opened));
+    }
+    quote_clause(alloc, language, sort, by, clause)
+}
+
+/// The clauses of a clause with terms in the place of variables, behind so many literals; a clause in which none of them
+/// stands is shared. Refused where a sum in it can't be written, or for want of memory.
+pub fn substitute_clause(
+    alloc: Global,
+    language: &Language,
+    sort: &Sort,
+    by: &[Replaced],
+    so_far: u64,
+    clause: &Clause,
+) -> Result<Vec<Clause>, CompileError>
+    ensures { let substituted = model.substituted_clause (language_view language.now) (sort_view sort.now) (map replaced_view by.now) so_far (clause_view clause.now) in IfOk result (λ cs. clauses_view cs.items ≡ substituted) }
+{
+    if holds_one(alloc, by, &clause.literals)? {
+        return substitute_holding(alloc, language, sort, by, so_far, clause);
+    }
+    Ok(clause_alone(alloc, clause)?)
+}

@@ -1,0 +1,69 @@
+// A state with terms in the place of variables.
+ghost use Rattle.std.specs.Prelude.{◌≡◌, ◌+◌, min, IfOk, map};
+ghost use Rattle.kp_kore.specs.View.{sort_view};
+ghost use Rattle.kp_symbolic.specs.Solving.{literals_in as literals_of};
+ghost use Rattle.kp_terms.specs.Languages.{language_view};
+ghost use Rattle.kp_terms.specs.View.{clauses_view, replaced_view, state_view};
+ghost use Rattle.kp_distribution.specs.Distribution.{most_counted};
+ghost use Rattle.kp_replacing.specs.Substituted as model;
+
+use crate::clause::substitute_clause;
+use crate::variables::variables_under;
+use kp_compile::CompileError;
+use kp_distribution::count::at_most;
+use kp_distribution::joined::kept_once;
+use kp_kore::Sort;
+use kp_solving::first::literals_in;
+use kp_terms::{Clause, Language, Replaced, State};
+use std::alloc::Global;
+
+/// The literals of clauses behind so many, up to one more than a state may have.
+fn with_literals(so_far: u64, clauses: &[Clause]) -> u64
+    ensures { result ≡ min (so_far + literals_of (clauses_view clauses.now)) most_counted }
+{
+    at_most(so_far.saturating_add(literals_in(clauses) as u64))
+}
+
+/// The clauses with terms in the place of variables, repeats included.
+fn substitute_clauses(
+    alloc: Global,
+    language: &Language,
+    sort: &Sort,
+    by: &[Replaced],
+    clauses: &[Clause],
+) -> Result<Vec<Clause>, CompileError>
+    ensures { let substituted = model.substituted_clauses (language_view language.now) (sort_view sort.now) (map replaced_view by.now) 0 (clauses_view clauses.now) in IfOk result (λ cs. clauses_view cs.items ≡ substituted) }
+{
+    let mut found = Vec::new(alloc);
+    let mut so_far: u64 = 0;
+    for i in 0..clauses.len() {
+        let mut substituted = substitute_clause(alloc, language, sort, by, so_far, &clauses[i])?;
+        so_far = with_literals(so_far, &substituted);
+        found.append(&mut substituted)?;
+    }
+    Ok(found)
+}
+
+/// The state with these terms in the place of the variables of their names, all at once; of two for one name the first. The
+/// clauses in which one of the variables stands are opened again, and none is solved. Refused where a sum can't be written, or
+/// for want of memory.
+pub fn substitute(
+    alloc: Global,
+    language: &Language,
+    by: &[Replaced],
+    state: &State,
+) -> Result<State, CompileError>
+    ensures { IfOk result (λ s. state_view s ≡ model.substituted (language_view language.now) (map replaced_view by.now) (state_view state.now)) }
+{
+    let sort = state.sort.clone()?;
+    let clauses = substitute_clauses(alloc, language, &sort, by, &state.clauses)?;
+    let clauses = kept_once(alloc, clauses)?;
+    let variables = variables_under(alloc, by, &state.variables)?;
+    let term = state.term.replaced(alloc, language, by)?;
+    Ok(State {
+        term,
+        sort,
+        clauses,
+        variables,
+    })
+}
