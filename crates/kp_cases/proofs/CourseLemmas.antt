@@ -174,7 +174,7 @@ put_once : (g : KoreSignature) (e : Equation) (all bs : List Replaced) → AllBy
 put_once g e all [] h = tt
 put_once g e all (b ∷ bs) h = (put_for g e all b.name b.term h.0, put_once g e all bs h.1)
 
-found_before : (bs ds : List Replaced) (x : Text) (t : SymbolicTerm) → replacement_for bs x ≡ Some t → replacement_for (bs ++ ds) x ≡ Some t
+pub found_before : (bs ds : List Replaced) (x : Text) (t : SymbolicTerm) → replacement_for bs x ≡ Some t → replacement_for (bs ++ ds) x ≡ Some t
 found_before [] ds x t e = absurd (cc)
 found_before (b ∷ bs) ds x t e = by (bytes_eq b.name x) (found_before bs ds x t) e
   where
@@ -182,7 +182,7 @@ found_before (b ∷ bs) ds x t e = by (bytes_eq b.name x) (found_before bs ds x 
     by true rest f = f
     by false rest f = rest f
 
-found_behind : (bs ds : List Replaced) (x : Text) → replacement_for bs x ≡ None → replacement_for (bs ++ ds) x ≡ replacement_for ds x
+pub found_behind : (bs ds : List Replaced) (x : Text) → replacement_for bs x ≡ None → replacement_for (bs ++ ds) x ≡ replacement_for ds x
 found_behind [] ds x e = refl
 found_behind (b ∷ bs) ds x e = by (bytes_eq b.name x) (found_behind bs ds x) e
   where

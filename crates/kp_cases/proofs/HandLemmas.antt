@@ -34,7 +34,7 @@ still_at_hand hand new (x ∷ xs) a = (Contains-append_left hand new x a.0, stil
 -- ---- terms and literals
 
 mutual
-  term_agrees : (g : KoreSignature) (v w : Valuation) (t : SymbolicTerm) → AgreesOn (term_variables t) v w → term_instance g w t ≡ term_instance g v t
+  pub term_agrees : (g : KoreSignature) (v w : Valuation) (t : SymbolicTerm) → AgreesOn (term_variables t) v w → term_instance g w t ≡ term_instance g v t
   term_agrees g v w (unknown x) h = h.0
   term_agrees g v w (offset x c) h = ap (λ u. interpreted (whole_arithmetic addition) (two u (whole c))) h.0
   term_agrees g v w (known u) h = refl

@@ -15,4 +15,5 @@ pub mod OnRows
 pub mod OnNarrowed
 pub mod Excluding
 pub mod Firing
+pub mod NextLemmas
 pub mod ExampleLemmas

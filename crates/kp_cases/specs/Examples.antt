@@ -9,7 +9,7 @@ use Rattle.kp_symbolic.specs.Solving.{Equation}
 use Rattle.kp_symbolic.specs.Examples.{x_name, p_name, one_term, alone, equality}
 use Rattle.kp_rules.specs.Skeletons.{one_of, built, Forms, no_forms, next_form}
 use Rattle.kp_cases.specs.Parts.{StatePart, whole, with_clauses}
-use Rattle.kp_cases.specs.Courses.{Equality}
+use Rattle.kp_cases.specs.Courses.{FormPair, Equality}
 
 -- pick(P)
 abbrev pub picks : StatePart
@@ -48,3 +48,9 @@ counter_of_x = headed (codes "Lblcount") (one_term (unknown x_name))
 -- S is count(X)
 abbrev pub s_counts : Equation
 s_counts = record { variable = s_name; term = counter_of_x }
+
+-- of both against S and S: the first pair is the last
+abbrev pub pairs_of_s : List FormPair
+pairs_of_s =
+    record { form = one_of (codes "M") sort_s; term = unknown s_name } ∷
+    record { form = built (codes "Lblcount") (next_form (one_of (codes "N") sort_int) no_forms); term = unknown s_name } ∷ []

@@ -1,15 +1,15 @@
 // Examples over the example definition, and what isn't a division.
 ghost use Rattle.std.specs.Prelude.{◌≡◌, List, [], ◌∷◌, Some, codes, false, true};
-ghost use Rattle.kp_toys.specs.Toys.{sort_int, sort_s};
+ghost use Rattle.kp_toys.specs.Toys.{sort_int};
 ghost use Rattle.kp_toys.specs.ToysTheory.{toys_signature};
 ghost use Rattle.kp_symbolic.specs.Terms.{unknown, known};
 ghost use Rattle.kp_symbolic.specs.States.{head_of_sort, has_head};
 ghost use Rattle.kp_symbolic.specs.Examples.{x_name, p_name, q_name, one_term, two_terms, alone};
-ghost use Rattle.kp_rules.specs.Skeletons.{one_of, built, no_forms, next_form};
+ghost use Rattle.kp_rules.specs.Skeletons.{one_of, no_forms, next_form};
 ghost use Rattle.kp_cases.specs.Parts.{IsDivided};
 ghost use Rattle.kp_cases.specs.Narrowings.{are_never, constructor_term, has_other_head, head_clauses, heads_outside};
 ghost use Rattle.kp_cases.specs.Courses.{equality_clauses, paired, put_in};
-ghost use Rattle.kp_cases.specs.Examples.{picks, pa, pb, p_is, picks_where, pa_pb, s_name, counter_and_any, counter_of_x, s_counts};
+ghost use Rattle.kp_cases.specs.Examples.{picks, pa, pb, p_is, picks_where, pa_pb, s_name, counter_and_any, pairs_of_s, counter_of_x, s_counts};
 
 /// pick(P) is divided into P = pa and P not pa. It isn't divided into pa and pb, where pc is left out, nor into pa and all of it.
 pub fn a_state_is_divided_by_a_constructor()
@@ -31,9 +31,7 @@ pub fn variables_of_the_example_are_narrowed()
 /// and M for count(X).
 pub fn variables_that_stand_twice()
     ensures never { are_never (equality_clauses toys_signature pa_pb) ≡ true }
-    ensures pairs { paired counter_and_any (two_terms (unknown s_name) (unknown s_name)) ≡
-        Some (record { form = one_of (codes "M") sort_s; term = unknown s_name } ∷
-        record { form = built (codes "Lblcount") (next_form (one_of (codes "N") sort_int) no_forms); term = unknown s_name } ∷ []) }
+    ensures pairs { paired counter_and_any (two_terms (unknown s_name) (unknown s_name)) ≡ Some pairs_of_s }
     ensures put { put_in toys_signature s_counts (unknown s_name) ≡ counter_of_x }
     ensures members { paired (next_form (one_of (codes "N") sort_int) no_forms) (one_term (unknown x_name)) ≡ Some (record { form = one_of (codes "N") sort_int; term = unknown x_name } ∷ []) }
 {}

@@ -1,24 +1,21 @@
 // Laws of parts of states, of narrowing, and of the cases of a part under a left side.
-ghost use Rattle.std.specs.Prelude.{◌↔◌, List, [], ◌∷◌, ◌++◌, Option, Some, None, false, true};
-ghost use Rattle.std.specs.List.{AllByRecursion};
+ghost use Rattle.std.specs.Prelude.{◌↔◌, List, [], ◌∷◌, ◌++◌, Some, None, false, true};
 ghost use Rattle.kp_kore.specs.Syntax.{Text, KoreSort};
-ghost use Rattle.kp_kore.specs.Parts.{SortedName, free_variables};
+ghost use Rattle.kp_kore.specs.Parts.{SortedName};
 ghost use Rattle.kp_kore.specs.Signature.{KoreSignature};
 ghost use Rattle.kp_semantics.specs.Value.{HasSort};
-ghost use Rattle.kp_semantics.specs.Instance.{Valuation, GivesSorts, IsTrueUnder};
-ghost use Rattle.kp_semantics.specs.Rules.{Rewrite, RuleBody, rewrite};
+ghost use Rattle.kp_semantics.specs.Instance.{Valuation};
+ghost use Rattle.kp_semantics.specs.Rules.{Rewrite, rewrite};
 ghost use Rattle.kp_semantics.specs.Steps.{Fires};
-ghost use Rattle.kp_semantics.specs.Division.{NoneOf};
 ghost use Rattle.kp_semantics.specs.Scopes.{IsWithin};
 ghost use Rattle.kp_symbolic.specs.Terms.{unknown, under_replaced};
 ghost use Rattle.kp_symbolic.specs.States.{HeadTest, head_of_sort, Literal, AreTrue, SymbolicState};
-ghost use Rattle.kp_symbolic.specs.Solving.{Equation};
-ghost use Rattle.kp_symbolic_laws.specs.Runs.{HasOneSortEach, IsSortedState};
+ghost use Rattle.kp_symbolic_laws.specs.Runs.{IsSortedState};
 ghost use Rattle.kp_rules.specs.Skeletons.{Form, Admits};
-ghost use Rattle.kp_cases.specs.Parts.{StatePart, OfEachInstance, IsPartBelow, IsDividedWhere, IsDivided, IsRestricted, with_clauses, IsTold, DependsOnHand, HoldsWhere, IsSortedPart, AreNew, IsGrown};
-ghost use Rattle.kp_cases.specs.Narrowings.{IsNarrowing, equates, head_clauses, constructor_term, has_other_head, IsForConstructor, part_with_term, heads_inside, heads_outside};
-ghost use Rattle.kp_cases.specs.Courses.{MayBePut};
-ghost use Rattle.kp_cases.specs.Cases.{MetPart, IsMetBy, IsApart, AreCases, left_side, IsLeftOf, AreBoundIn};
+ghost use Rattle.kp_cases.specs.Parts.{StatePart, OfEachInstance, IsPartBelow, IsDivided, IsRestricted, with_clauses, IsTold, DependsOnHand, AreNew, IsGrown};
+ghost use Rattle.kp_cases.specs.Narrowings.{IsNarrowing, equates, head_clauses, heads_inside, heads_outside};
+ghost use Rattle.kp_cases.specs.Cases.{MetPart, IsMetBy, IsApart, AreCases, left_side, IsLeftOf};
+ghost use Rattle.kp_cases.specs.Laws.{IsDividedInTwo, IsDividedInOne, IsNarrowedByConstructor, IsRestrictedByTerm, IsSortedWithTerm, AreCasesOfParts, FiresByItsCondition, LiesWhereItFires, LiesWhereItIsSilent, IsSilentInTheOpposite, IsExcludedOnceMore, NextIsFound, NextFollows};
 
 /// A part of a part is a part, and what was added is true of each of its instances.
 pub fn parts_of_parts_are_parts()
@@ -54,19 +51,14 @@ pub fn instances_depend_on_variables_at_hand()
 /// A narrowing divides a part in two: where its clauses are true for some values of the new variables, and where the others
 /// are true; where these never are, the first is all of it.
 pub fn a_narrowing_divides()
-    ensures two { (g : KoreSignature) (p r q : StatePart) (new : List SortedName) (clauses others : List (List Literal)) →
-        IsNarrowing g p.state.variables new clauses others → IsTold g p → DependsOnHand g p.state →
-        IsRestricted g p clauses new r → IsRestricted g p others [] q → IsDivided g p (r ∷ q ∷ []) }
-    ensures one { (g : KoreSignature) (p r : StatePart) (new : List SortedName) (clauses others : List (List Literal)) →
-        IsNarrowing g p.state.variables new clauses others → IsTold g p → DependsOnHand g p.state → IsRestricted g p clauses new r →
-        ((w : Valuation) → GivesSorts g w p.state.variables → ¬ AreTrue g w others) → IsDivided g p (r ∷ []) }
+    ensures two { (g : KoreSignature) → IsDividedInTwo g }
+    ensures one { (g : KoreSignature) → IsDividedInOne g }
 {}
 
 /// A variable is narrowed by a constructor of new variables, by a new variable of another sort, or its head is asked for: by a
 /// test, or by all heads that it may share with another sort.
 pub fn variables_are_narrowed()
-    ensures constructor { (g : KoreSignature) (scope : List SortedName) (x : SortedName) (c : Text) (new : List SortedName) →
-        IsForConstructor g scope x c new → IsNarrowing g scope new (equates x (constructor_term g c new)) (has_other_head g x c new) }
+    ensures constructor { (g : KoreSignature) → IsNarrowedByConstructor g }
     ensures sort { (g : KoreSignature) (scope : List SortedName) (x y : SortedName) → IsWithin g (x ∷ []) scope → AreNew scope (y ∷ []) →
         IsNarrowing g scope (y ∷ []) (equates x (unknown y)) (head_clauses g false x (head_of_sort y.sort)) }
     ensures head { (g : KoreSignature) (scope : List SortedName) (x : SortedName) (test : HeadTest) → IsWithin g (x ∷ []) scope →
@@ -87,18 +79,14 @@ pub fn shared_heads_tell_the_sort()
 /// The part in which a variable is a term has the instances of the part in which its value is the term's, and the sorts of its
 /// places.
 pub fn a_term_stands_for_a_variable()
-    ensures instances { (g : KoreSignature) (p : StatePart) (e : Equation) (new : List SortedName) → IsSortedPart g p → HasOneSortEach (p.state.variables ++ new) →
-        MayBePut g (part_with_term g e new p) e → IsRestricted g p (equates e.variable e.term) new (part_with_term g e new p) }
-    ensures sorts { (g : KoreSignature) (p : StatePart) (e : Equation) (new : List SortedName) → IsSortedPart g p → HasOneSortEach (p.state.variables ++ new) →
-        MayBePut g (part_with_term g e new p) e → IsSortedPart g (part_with_term g e new p) }
+    ensures instances { (g : KoreSignature) → IsRestrictedByTerm g }
+    ensures sorts { (g : KoreSignature) → IsSortedWithTerm g }
 {}
 
 /// The cases of a part are those of one of its parts and the others, where these are apart. A part that is met, and one that
 /// is apart, is its own case.
 pub fn cases_are_those_of_the_parts()
-    ensures parts { (g : KoreSignature) (left : Form) (p q : StatePart) (others : List StatePart) (met : Option MetPart) (apart : List StatePart) →
-        IsDivided g p (q ∷ others) → AllByRecursion (IsApart g (left_side g left)) others →
-        AreCases g (left_side g left) q met apart → AreCases g (left_side g left) p met (apart ++ others) }
+    ensures parts { (g : KoreSignature) → AreCasesOfParts g }
     ensures met { (g : KoreSignature) (left : Form) (m : MetPart) →
         IsTold g m.part → IsMetBy g (left_side g left) m → AreCases g (left_side g left) m.part (Some m) [] }
     ensures apart { (g : KoreSignature) (left : Form) (p : StatePart) →
@@ -115,10 +103,7 @@ pub fn a_met_part_gives_the_rules_valuation()
 /// A rule whose left side the form is fires on an instance of the part that is met exactly where the equations and clauses that
 /// say its condition are true, and on none of a part that is apart.
 pub fn a_rule_fires_where_its_condition_is_true()
-    ensures met { (g : KoreSignature) (r : Rewrite) (left : Form) (m : MetPart) (cs : List (List Literal)) → IsLeftOf g left r m.part →
-        IsMetBy g (left_side g left) m → AllByRecursion (λ p. AreBoundIn m.bindings (free_variables p)) r.condition →
-        OfEachInstance g m.part (λ w c. AreTrue g w cs ↔ AllByRecursion (IsTrueUnder g (under_replaced g m.bindings w)) r.condition) →
-        HoldsWhere g (Fires g (rewrite r)) m.part (m.equations ++ cs) }
+    ensures met { (g : KoreSignature) → FiresByItsCondition g }
     ensures apart { (g : KoreSignature) (r : Rewrite) (left : Form) (p : StatePart) → IsLeftOf g left r p →
         IsApart g (left_side g left) p → OfEachInstance g p (λ w c. ¬ Fires g (rewrite r) c) }
 {}
@@ -126,22 +111,20 @@ pub fn a_rule_fires_where_its_condition_is_true()
 /// Where a rule fires exactly where these clauses are true in the part that is met, and in none that is apart: the instances on
 /// which it fires are those of the part by the clauses, the others those of the part by their opposite and of those apart.
 pub fn a_rule_fires_in_one_part()
-    ensures fires { (g : KoreSignature) (body : RuleBody) (p m r : StatePart) (apart : List StatePart) (clauses : List (List Literal)) →
-        IsDivided g p (m ∷ apart) → HoldsWhere g (Fires g body) m clauses → AllByRecursion (λ x. OfEachInstance g x (λ w c. ¬ Fires g body c)) apart →
-        IsRestricted g m clauses [] r → IsDividedWhere g (Fires g body) p (r ∷ []) }
-    ensures others { (g : KoreSignature) (body : RuleBody) (p m r : StatePart) (apart : List StatePart) (clauses opposite : List (List Literal)) →
-        IsDivided g p (m ∷ apart) → HoldsWhere g (Fires g body) m clauses →
-        OfEachInstance g m (λ w c. (¬ AreTrue g w clauses) → AreTrue g w opposite) →
-        IsRestricted g m opposite [] r → IsDividedWhere g (λ c. ¬ Fires g body c) p (r ∷ apart) }
-    ensures silent { (g : KoreSignature) (body : RuleBody) (m r : StatePart) (clauses opposite : List (List Literal)) →
-        HoldsWhere g (Fires g body) m clauses → OfEachInstance g m (λ w c. AreTrue g w opposite → ¬ AreTrue g w clauses) →
-        IsRestricted g m opposite [] r → OfEachInstance g r (λ w c. ¬ Fires g body c) }
+    ensures fires { (g : KoreSignature) → LiesWhereItFires g }
+    ensures others { (g : KoreSignature) → LiesWhereItIsSilent g }
+    ensures silent { (g : KoreSignature) → IsSilentInTheOpposite g }
 {}
 
 /// Where parts divide the instances on which none of some rules fires, and one of them is divided by where one more doesn't
 /// fire, they divide those on which that rule doesn't fire either.
 pub fn rules_are_excluded_one_by_one()
-    ensures { (g : KoreSignature) (bodies : List RuleBody) (body : RuleBody) (s p : StatePart) (ps qs rs : List StatePart) →
-        IsDividedWhere g (NoneOf g bodies) s (ps ++ p ∷ qs) → IsDividedWhere g (λ c. ¬ Fires g body c) p rs →
-        IsDividedWhere g (NoneOf g (body ∷ bodies)) s (ps ++ (rs ++ qs)) }
+    ensures { (g : KoreSignature) → IsExcludedOnceMore g }
+{}
+
+/// The next state of a part in which a rule fires has exactly the configurations that the rule leads to: each is an instance of
+/// it for some values of the new variables, and each of its instances is one.
+pub fn a_rule_leads_to_its_next_state()
+    ensures found { (g : KoreSignature) → NextIsFound g }
+    ensures only { (g : KoreSignature) → NextFollows g }
 {}

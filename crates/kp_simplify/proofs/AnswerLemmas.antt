@@ -13,7 +13,7 @@ use Rattle.kp_semantics.specs.Implied.{state, nothing}
 use Rattle.kp_symbolic.specs.States.{Literal, SymbolicState}
 use Rattle.kp_symbolic.specs.Shown.{unknown_clauses, weight_passed, wide_number, deep, most_told}
 use Rattle.kp_symbolic.specs.Verdicts.{Verdict, some_valuation, no_valuation, undecided, Weighed, IsRightVerdict}
-use Rattle.kp_symbolic.specs.Writing.{written_predicate, written_state}
+use Rattle.kp_symbolic.specs.Writing.{InjectsWhereItStands, written_predicate, written_state}
 use Rattle.kp_symbolic.specs.Endings.{answered, left_open}
 use Rattle.kp_terms.specs.View.{clauses_view}
 use Rattle.kp_decide.specs.Answers as decide
@@ -21,9 +21,10 @@ use Rattle.kp_decide.specs.Answers.{IsRightAnswer, IsWeighedAs}
 use Rattle.kp_decide.specs.declared.verdict.Verdict.TheVariants as code
 use Rattle.kp_wide.specs.Wide.{WideCall, first_wide}
 use Rattle.kp_outward.specs.Arranged.{AreArranged, with_clauses}
+use Rattle.kp_outward.specs.Errors.{InjectsIfThere}
 use Rattle.kp_simplify.specs.Answers.{IsArrangedPredicate, empty, wide, rough, heavy, deeper, some, first_deep, state_sides}
 use Rattle.kp_simplify.specs.Spelled.{parts_of_cause}
-use Rattle.kp_simplify.specs.Told.{IsAnswered, IsToldAs, ShowsPredicate, parts_of_call}
+use Rattle.kp_simplify.specs.Told.{IsAnswered, IsSpelledState, IsToldAs, ShowsPredicate, parts_of_call, WantsInjection}
 use Rattle.kp_simplify.specs.declared.answer.Simplified.{Simplified}
 use Rattle.kp_simplify.specs.declared.answer.Simplified.TheVariants as found
 
@@ -37,10 +38,10 @@ if_ok (Err e) P Q f h = tt
 -- ---- answers
 
 pub none_answered : (g : KoreSignature) (s : SymbolicState) → IsRightVerdict g s no_valuation → IsAnswered g s found.Nothing
-none_answered g s h = record { answer = answered (nothing s.sort); is = empty h; is_told = tt }
+none_answered g s h = record { answer = answered (nothing s.sort); is = empty h; is_told = tt; spelled = tt }
 
 wide_here : (g : KoreSignature) (s : SymbolicState) (u : told.Undecided) (o : Option WideCall) → first_wide g s ≡ o → Some (undecided_view u) ≡ option_map parts_of_call o → IsAnswered g s (found.LeftOpen u)
-wide_here g s u (Some c) f k = record { answer = left_open (wide_number c.symbol c.first c.second); is = wide c f; is_told = inside k }
+wide_here g s u (Some c) f k = record { answer = left_open (wide_number c.symbol c.first c.second); is = wide c f; is_told = inside k; spelled = tt }
 wide_here g s u None f k = absurd (cc)
 
 pub wide_answered : (g : KoreSignature) (s : SymbolicState) (call : Option told.Undecided) (u : told.Undecided) → call ≡ Some u → option_map undecided_view call ≡ option_map parts_of_call (first_wide g s) → IsAnswered g s (found.LeftOpen u)
@@ -54,11 +55,11 @@ pub none_wide : (g : KoreSignature) (s : SymbolicState) (call : Option told.Unde
 none_wide g s call is e = no_wide (first_wide g s) (sym (ap (option_map undecided_view) is) ∙ e)
 
 pub deep_answered : (g : KoreSignature) (s : SymbolicState) (n : ℕ) (u : told.Undecided) → (o : Option ℕ) → o ≡ Some n → o ≡ first_deep g (state_sides s) → undecided_view u ≡ parts_of_cause (deep n) → IsAnswered g s (found.LeftOpen u)
-deep_answered g s n u o is e k = record { answer = left_open (deep n); is = deeper n (sym e ∙ is); is_told = k }
+deep_answered g s n u o is e k = record { answer = left_open (deep n); is = deeper n (sym e ∙ is); is_told = k; spelled = tt }
 
 pub written_answered : (g : KoreSignature) (s : SymbolicState) (p : KorePattern) (a : Simplified) → IsToldAs (answered (state p)) a → IsRightVerdict g s some_valuation → first_wide g s ≡ None → first_deep g (state_sides s) ≡ None →
-    (ds : List (List Literal)) × AreArranged g s.sort s.clauses ds × (p ≡ written_state g (with_clauses s ds)) → IsAnswered g s a
-written_answered g s p a is_told h w d is = record { answer = answered (state p); is = some p h w d is; is_told = is_told }
+    (ds : List (List Literal)) × AreArranged g s.sort s.clauses ds × (p ≡ written_state g (with_clauses s ds)) → IsSpelledState g s p → IsAnswered g s a
+written_answered g s p a is_told h w d is spelled = record { answer = answered (state p); is = some p h w d is; is_told = is_told; spelled = spelled }
 
 -- ---- clauses that are shown
 
@@ -70,10 +71,33 @@ turned g s cs p (ds, arranged, is) = (ds, arranged, sym is)
 
 pub shown_answered : (g : KoreSignature) (s : SymbolicState) (cs : List (List Literal)) (p : KorePattern) (a : Simplified) (h : Option Weighed) → ShowsPredicate p h a →
     IsRightVerdict g s (undecided cs h) → IsShownPredicate g s cs p → IsAnswered g s a
-shown_answered g s cs p (found.LeftOpen u) None e right is = record { answer = left_open (unknown_clauses p); is = rough cs p right (turned g s cs p is); is_told = e }
-shown_answered g s cs p (found.LeftOpen u) (Some h) e right is = record { answer = left_open (weight_passed p h.weight (min h.number most_told)); is = heavy cs h p right (turned g s cs p is); is_told = e }
+shown_answered g s cs p (found.LeftOpen u) None e right is = record { answer = left_open (unknown_clauses p); is = rough cs p right (turned g s cs p is); is_told = e; spelled = tt }
+shown_answered g s cs p (found.LeftOpen u) (Some h) e right is = record { answer = left_open (weight_passed p h.weight (min h.number most_told)); is = heavy cs h p right (turned g s cs p is); is_told = e; spelled = tt }
 shown_answered g s cs p found.Nothing h e right is = absurd e
 shown_answered g s cs p (found.State q) h e right is = absurd e
+
+-- ---- answers that want inj
+
+pub state_wants : (g : KoreSignature) (s : SymbolicState) → (ds : List (List Literal)) × AreArranged g s.sort s.clauses ds × (InjectsWhereItStands g (written_state g (with_clauses s ds)) → ⊥) →
+    IsRightVerdict g s some_valuation → first_wide g s ≡ None → first_deep g (state_sides s) ≡ None → WantsInjection g s
+state_wants g s (ds, arranged, wants) h w d = record {
+  answer = answered (state (written_state g (with_clauses s ds)));
+  is = some (written_state g (with_clauses s ds)) h w d (ds, arranged, refl);
+  wants = wants;
+}
+
+-- of some clauses that are shown
+predicate_is_wanted : (g : KoreSignature) (s : SymbolicState) (cs : List (List Literal)) (h : Option Weighed) (p : KorePattern) → IsRightVerdict g s (undecided cs h) → IsArrangedPredicate g s.sort cs p → (InjectsWhereItStands g p → ⊥) → WantsInjection g s
+predicate_is_wanted g s cs None p right is wants = record { answer = left_open (unknown_clauses p); is = rough cs p right is; wants = wants }
+predicate_is_wanted g s cs (Some h) p right is wants = record { answer = left_open (weight_passed p h.weight (min h.number most_told)); is = heavy cs h p right is; wants = wants }
+
+pub predicate_wants : (g : KoreSignature) (s : SymbolicState) (cs : List (List Literal)) → (ds : List (List Literal)) × AreArranged g s.sort cs ds × (InjectsIfThere g (written_predicate g s.sort ds) → ⊥) →
+    (h : Option Weighed) → IsRightVerdict g s (undecided cs h) → WantsInjection g s
+predicate_wants g s cs (ds, arranged, wants) h right = by (written_predicate g s.sort ds) refl wants
+  where
+    by : (o : Option KorePattern) → written_predicate g s.sort ds ≡ o → (InjectsIfThere g o → ⊥) → WantsInjection g s
+    by (Some p) e wanted = predicate_is_wanted g s cs h p right (ds, arranged, e) wanted
+    by None e wanted = absurd (wanted tt)
 
 -- ---- what decide tells
 

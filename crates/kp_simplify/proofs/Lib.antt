@@ -1,5 +1,4 @@
 pub mod AnswerLemmas
-pub mod ClearLemmas
 pub mod DeepLemmas
 pub mod EmptyLemmas
 pub mod FirstDeep

@@ -12,7 +12,7 @@ ghost use Rattle.kp_states.specs.Spelled.{injection_name};
 ghost use Rattle.kp_symbolic.specs.WellFormed.{IsWellFormed};
 ghost use Rattle.kp_terms.specs.Languages.{language_view};
 ghost use Rattle.kp_terms.specs.View.{state_view};
-ghost use Rattle.kp_simplify.specs.Told.{IsAnswered, IsFound, IsUnsimplified};
+ghost use Rattle.kp_simplify.specs.Told.{IsAnswered, IsFound, IsUnsimplified, LacksInjection, TellsNoInjection, WantsInjection};
 
 use crate::answer::Simplified;
 use crate::stated::answer_of;
@@ -38,7 +38,8 @@ pub enum SimplifyError {
 
 /// Why the pattern isn't read. The literals of a verified pattern can be read.
 fn unread(error: TermFault) -> SimplifyError
-    ensures { (g : KoreSignature) (p : KorePattern) → IsToldOf (state_fault g p) error → IsUnsimplified g p result }
+    ensures told { (g : KoreSignature) (p : KorePattern) → IsToldOf (state_fault g p) error → IsUnsimplified g p result }
+    ensures wants { ¬ TellsNoInjection result }
 {
     match error {
         TermFault::Memory | TermFault::Unread => SimplifyError::Memory,
@@ -49,7 +50,8 @@ fn unread(error: TermFault) -> SimplifyError
 
 /// Why the answer isn't written. The numbers of a verified pattern can be read.
 fn unwritten(error: WritingError) -> SimplifyError
-    ensures { (g : KoreSignature) (p : KorePattern) → (IsNoInjection error → meaning_of g injection_name ≢ injection) → IsUnsimplified g p result }
+    ensures told { (g : KoreSignature) (p : KorePattern) → (IsNoInjection error → meaning_of g injection_name ≢ injection) → IsUnsimplified g p result }
+    ensures wants { TellsNoInjection result → IsNoInjection error }
 {
     match error {
         WritingError::Memory | WritingError::Shape => SimplifyError::Memory,
@@ -67,6 +69,7 @@ fn answered(
     requires { IsHeadTableOf (language_view language.now) table.now }
     ensures found { let g = language_view language.now in let s = state_view state.now in IfOk result (λ a. IsWellFormed g s → IsAnswered g s a) }
     ensures refused { let g = language_view language.now in IfErr result (λ e. (p : KorePattern) → IsUnsimplified g p e) }
+    ensures wants { let g = language_view language.now in let s = state_view state.now in IfErr result (λ e. TellsNoInjection e → IsWellFormed g s → WantsInjection g s) }
 {
     match answer_of(alloc, language, table, state) {
         Ok(simplified) => Ok(simplified),
@@ -84,6 +87,7 @@ fn finished(
     requires { IsHeadTableOf (language_view language.now) table.now }
     ensures found { let g = language_view language.now in let s = state_view state in IfOk result (λ a. IsWellFormed g s → IsAnswered g s a) }
     ensures refused { let g = language_view language.now in IfErr result (λ e. (p : KorePattern) → IsUnsimplified g p e) }
+    ensures wants { let g = language_view language.now in let s = state_view state in IfErr result (λ e. TellsNoInjection e → IsWellFormed g s → WantsInjection g s) }
 {
     answered(alloc, language, table, &state)
 }
@@ -104,6 +108,7 @@ pub fn simplify(
     ensures found { let g = language_view language.now in let p = view pattern.now in VerifiesAs g p (sort_view sort) → IfOk result (IsFound g p) }
     ensures clear { OnOk result (state_fault (language_view language.now) (view pattern.now) ≡ None) }
     ensures refused { IfErr result (IsUnsimplified (language_view language.now) (view pattern.now)) }
+    ensures wants { let g = language_view language.now in let p = view pattern.now in VerifiesAs g p (sort_view sort) → IfErr result (λ e. TellsNoInjection e → LacksInjection g p) }
 {
     match inward(alloc, language, pattern, sort) {
         Ok(state) => finished(alloc, language, table, state),

@@ -16,7 +16,7 @@ ghost use Rattle.kp_terms.specs.Languages.{language_view};
 ghost use Rattle.kp_terms.specs.View.{clauses_view, state_view};
 ghost use Rattle.kp_wide.specs.Wide as wide;
 ghost use Rattle.kp_simplify.specs.Answers as model;
-ghost use Rattle.kp_simplify.specs.Told.{IsAnswered, ShowsPredicate, parts_of_call};
+ghost use Rattle.kp_simplify.specs.Told.{IsAnswered, ShowsPredicate, WantsInjection, WantsInjectionFor, WantsInjectionAsState, parts_of_call};
 
 use crate::answer::Simplified;
 use crate::depth::deep_in;
@@ -70,6 +70,7 @@ fn shown(
     ensures answered { let g = language_view language.now in let s = state_view state.now in let cs = clauses_view clauses.now in
         IfOk result (λ a. (h : Option verdicts.Weighed) → verdicts.IsRightVerdict g s (verdicts.undecided cs h) → IsWeighedAs h over → IsAnswered g s a) }
     ensures refused { IfErr result (λ e. IsNoInjection e → meaning_of (language_view language.now) injection_name ≢ injection) }
+    ensures wants { let g = language_view language.now in IfErr result (λ e. IsNoInjection e → WantsInjectionFor g (state_view state.now) (clauses_view clauses.now)) }
 {
     let written = predicate_out(alloc, language, &state.sort, clauses)?;
     match written {
@@ -89,6 +90,7 @@ fn left_open(
     ensures answered { let g = language_view language.now in let s = state_view state.now in let cs = clauses_view clauses.now in
         IfOk result (λ a. (h : Option verdicts.Weighed) → verdicts.IsRightVerdict g s (verdicts.undecided cs h) → IsWeighedAs h over → IsAnswered g s a) }
     ensures refused { IfErr result (λ e. IsNoInjection e → meaning_of (language_view language.now) injection_name ≢ injection) }
+    ensures wants { let g = language_view language.now in IfErr result (λ e. IsNoInjection e → WantsInjectionFor g (state_view state.now) (clauses_view clauses.now)) }
 {
     let call = wide_in(alloc, language.signature, state)?;
     match call {
@@ -106,6 +108,7 @@ fn state_shown(
     ensures answered { let g = language_view language.now in let s = state_view state.now in
         IfOk result (λ a. verdicts.IsRightVerdict g s verdicts.some_valuation → wide.first_wide g s ≡ None → model.first_deep g (model.state_sides s) ≡ None → IsAnswered g s a) }
     ensures refused { IfErr result (λ e. IsNoInjection e → meaning_of (language_view language.now) injection_name ≢ injection) }
+    ensures wants { IfErr result (λ e. IsNoInjection e → WantsInjectionAsState (language_view language.now) (state_view state.now)) }
 {
     match state_out(alloc, language, state) {
         Ok(pattern) => Ok(Simplified::State { pattern }),
@@ -118,6 +121,8 @@ fn written(alloc: Global, language: &Language, state: &State) -> Result<Simplifi
     ensures answered { let g = language_view language.now in let s = state_view state.now in
         IfOk result (λ a. verdicts.IsRightVerdict g s verdicts.some_valuation → wide.first_wide g s ≡ None → IsAnswered g s a) }
     ensures refused { IfErr result (λ e. IsNoInjection e → meaning_of (language_view language.now) injection_name ≢ injection) }
+    ensures wants { let g = language_view language.now in let s = state_view state.now in
+        IfErr result (λ e. IsNoInjection e → verdicts.IsRightVerdict g s verdicts.some_valuation → wide.first_wide g s ≡ None → WantsInjection g s) }
 {
     let deep = deep_in(alloc, language, state)?;
     match deep {
@@ -133,6 +138,8 @@ fn found(alloc: Global, language: &Language, state: &State) -> Result<Simplified
     ensures answered { let g = language_view language.now in let s = state_view state.now in
         IfOk result (λ a. verdicts.IsRightVerdict g s verdicts.some_valuation → IsAnswered g s a) }
     ensures refused { IfErr result (λ e. IsNoInjection e → meaning_of (language_view language.now) injection_name ≢ injection) }
+    ensures wants { let g = language_view language.now in let s = state_view state.now in
+        IfErr result (λ e. IsNoInjection e → verdicts.IsRightVerdict g s verdicts.some_valuation → WantsInjection g s) }
 {
     let call = wide_in(alloc, language.signature, state)?;
     match call {
@@ -155,6 +162,7 @@ pub fn answer_of(
     requires { IsHeadTableOf (language_view language.now) table.now }
     ensures answered { let g = language_view language.now in let s = state_view state.now in IfOk result (λ a. IsWellFormed g s → IsAnswered g s a) }
     ensures refused { IfErr result (λ e. IsNoInjection e → meaning_of (language_view language.now) injection_name ≢ injection) }
+    ensures wants { let g = language_view language.now in let s = state_view state.now in IfErr result (λ e. IsNoInjection e → IsWellFormed g s → WantsInjection g s) }
 {
     let verdict = decide(alloc, language.signature, table, state)?;
     match verdict {

@@ -10,14 +10,12 @@ use Rattle.kp_kore.specs.Signature.{KoreSignature}
 use Rattle.kp_kore.specs.View.{view}
 use Rattle.kp_json.specs.Faults.{Reading, read}
 use Rattle.kp_semantics.specs.Implied as theory
-use Rattle.kp_semantics.specs.Implied.{IsOfSort, state, nothing}
+use Rattle.kp_semantics.specs.Implied.{state, nothing}
 use Rattle.kp_signature.specs.Faults.{fault_view}
 use Rattle.kp_signature.specs.Verify as verify
 use Rattle.kp_signature.specs.Verify.{VerifiesAs}
 use Rattle.kp_signature.specs.declared.error.VerifyError.{VerifyError}
 use Rattle.kp_clauses.specs.Faults.{state_fault}
-use Rattle.kp_symbolic.specs.States.{SymbolicState}
-use Rattle.kp_symbolic.specs.Solving.{IsReadAs}
 use Rattle.kp_symbolic.specs.Endings.{Result as Answer, answered, left_open}
 use Rattle.kp_symbolic.specs.Shown.{Undecided}
 use Rattle.kp_rpc.specs.Request.{RequestId}
@@ -31,14 +29,12 @@ use Rattle.kp_results.specs.View.{undecided_view}
 use Rattle.kp_server.specs.Ends.{IsWrongPattern, TellsFault}
 use Rattle.kp_server.specs.Right.{NoneLeftOut}
 use Rattle.kp_server.specs.declared.failure.Failure.TheVariants as failure
-use Rattle.kp_simplify.specs.Answers.{IsAnswer, empty, wide, rough, heavy, deeper, some}
 use Rattle.kp_simplify.specs.Spelled.{parts_of_cause}
-use Rattle.kp_simplify.specs.Told.{IsFound, IsToldAs, IsUnsimplified}
+use Rattle.kp_simplify.specs.Told.{IsFound, IsToldAs, IsUnsimplified, LacksInjection}
 use Rattle.kp_simplify.specs.declared.answer.Simplified.{Simplified}
 use Rattle.kp_simplify.specs.declared.answer.Simplified.TheVariants as found
 use Rattle.kp_simplify.specs.declared.pattern.SimplifyError.{SimplifyError}
 use Rattle.kp_simplify.specs.declared.pattern.SimplifyError.TheVariants as error
-use Rattle.kp_simplify_reply.proofs.ReadSorts.{has_sort}
 use Rattle.kp_simplify_reply.specs.Answered.{IsRightAnswer, pattern_of, IsUntold, no_state, no_injection, no_tag, IsUnderstoodAs, told, foreign, left_out, IsSimplifiedAs, faulty, IsReplyLine}
 use Rattle.kp_simplify_reply.proofs.Sorts.{sort_is}
 
@@ -85,14 +81,12 @@ fault_line r g p id (fault.NoModule name) w fails l = absurd w
 record Found (g : KoreSignature) (p : KorePattern) (a : Simplified) : Type 0 where
   pub answer : Answer theory.Simplified
   pub right : IsRightAnswer g p answer
-  pub is : IsAnswer g right.read_as answer
   pub is_told : IsToldAs answer a
 
 found_in : (g : KoreSignature) (p : KorePattern) (a : Simplified) → state_fault g p ≡ None → IsFound g p a → Found g p a
 found_in g p a clear h = record {
   answer = h.answer;
-  right = record { clear = clear; read_as = h.read_as; read = h.read; right = h.right; floor = h.floor };
-  is = h.is;
+  right = record { clear = clear; right = h.right; floor = h.floor };
   is_told = h.is_told;
 }
 
@@ -104,26 +98,13 @@ state_found g p a q is clear h = let f = found_in g p (found.State q) clear (sub
     by (answered (nothing s)) right same = absurd same
     by (left_open cause) right same = absurd same
 
--- \bottom is told of a sort of the pattern's term
-sort_of_nothing : (g : KoreSignature) (p : KorePattern) (s : SymbolicState) (t : KoreSort) (r : Answer theory.Simplified) → IsReadAs g p s → IsAnswer g s r → r ≡ answered (nothing t) → IsOfSort g t p
-sort_of_nothing g p s t r is_read (empty h) e = subst (λ k. IsOfSort g k p) (of_nothing e) (has_sort g p s is_read)
-  where
-    of_nothing : {a b : KoreSort} → answered (nothing a) ≡ answered (nothing b) → a ≡ b
-    of_nothing e = cc
-sort_of_nothing g p s t r is_read (wide c w) e = absurd (cc)
-sort_of_nothing g p s t r is_read (rough cs q h is) e = absurd (cc)
-sort_of_nothing g p s t r is_read (heavy cs k q h is) e = absurd (cc)
-sort_of_nothing g p s t r is_read (deeper n d) e = absurd (cc)
-sort_of_nothing g p s t r is_read (some q h n d is) e = absurd (cc)
-
 pub nothing_found : (g : KoreSignature) (p : KorePattern) (a : Simplified) (s : KoreSort) → a ≡ found.Nothing → VerifiesAs g p s → state_fault g p ≡ None → IsFound g p a → IsRightAnswer g p (answered (nothing s))
-nothing_found g p a s is verified clear h = let f = found_in g p found.Nothing clear (subst (IsFound g p) is h) in by f.answer f.right f.is f.is_told
+nothing_found g p a s is verified clear h = let f = found_in g p found.Nothing clear (subst (IsFound g p) is h) in by f.answer f.right f.is_told
   where
-    by : (r : Answer theory.Simplified) → (a : IsRightAnswer g p r) → IsAnswer g a.read_as r → IsToldAs r found.Nothing → IsRightAnswer g p (answered (nothing s))
-    by (answered (state x)) a is_answer same = absurd same
-    by (answered (nothing t)) a is_answer same =
-        subst (λ k. IsRightAnswer g p (answered (nothing k))) (sort_is g p s t verified (sort_of_nothing g p a.read_as t (answered (nothing t)) a.read is_answer refl)) a
-    by (left_open cause) a is_answer same = absurd same
+    by : (r : Answer theory.Simplified) → IsRightAnswer g p r → IsToldAs r found.Nothing → IsRightAnswer g p (answered (nothing s))
+    by (answered (state x)) right same = absurd same
+    by (answered (nothing t)) right same = subst (λ k. IsRightAnswer g p (answered (nothing k))) (sort_is g p s t verified right.right.0) right
+    by (left_open cause) right same = absurd same
 
 pub left_open_found : (g : KoreSignature) (p : KorePattern) (a : Simplified) (u : _) → a ≡ found.LeftOpen u → state_fault g p ≡ None → IsFound g p a → (cause : Undecided) × IsRightAnswer g p (left_open cause) × (undecided_view u ≡ parts_of_cause cause)
 left_open_found g p a u is clear h = let f = found_in g p (found.LeftOpen u) clear (subst (IsFound g p) is h) in by f.answer f.right f.is_told
@@ -183,5 +164,5 @@ foreign_line r g p id e name is h l =
 pub other_shape_untold : (g : KoreSignature) (p : KorePattern) (e : SimplifyError) → e ≡ error.OtherShape → IsUnsimplified g p e → IsUntold g p
 other_shape_untold g p e is h = no_state (subst (IsUnsimplified g p) is h)
 
-pub no_injection_untold : (g : KoreSignature) (p : KorePattern) (e : SimplifyError) → e ≡ error.NoInjection → IsUnsimplified g p e → IsUntold g p
-no_injection_untold g p e is h = no_injection (subst (IsUnsimplified g p) is h)
+pub no_injection_untold : (g : KoreSignature) (p : KorePattern) (e : SimplifyError) → e ≡ error.NoInjection → IsUnsimplified g p e → LacksInjection g p → IsUntold g p
+no_injection_untold g p e is h wants = no_injection (subst (IsUnsimplified g p) is h) wants

@@ -9,9 +9,7 @@ use Rattle.kp_json.specs.Faults.{Reading, read, fault, TreeFault}
 use Rattle.kp_signature.specs.Verify.{VerifiesAs}
 use Rattle.kp_states.specs.Spelled.{injection_name}
 use Rattle.kp_semantics.specs.Implied.{Simplified, state, nothing}
-use Rattle.kp_symbolic.specs.States.{SymbolicState}
-use Rattle.kp_symbolic.specs.Solving.{IsReadAs}
-use Rattle.kp_symbolic.specs.Endings.{Result, answered, left_open, IsSimplifyFloorKept}
+use Rattle.kp_symbolic.specs.Endings.{Result, answered, left_open, IsRightOfSimplify, IsSimplifyFloorKept}
 use Rattle.kp_clauses.specs.Faults as place
 use Rattle.kp_clauses.specs.Faults.{state_fault}
 use Rattle.kp_rpc.specs.Request.{RequestId}
@@ -20,17 +18,14 @@ use Rattle.kp_replies.specs.Failures.{undecided, failure_reply}
 use Rattle.kp_replies.specs.Written.{simplified_tree}
 use Rattle.kp_server.specs.Right.{IsPatternFault, NoneLeftOut}
 use Rattle.kp_simplify.specs.Spelled.{parts_of_cause}
-use Rattle.kp_simplify.specs.Told.{IsRightWhereThereIsRoom}
+use Rattle.kp_simplify.specs.Told.{LacksInjection}
 
 -- ---- answers
 
--- An answer for the pattern, in which nothing is misplaced: it is right, a result where inj is what it should be and new names
--- are new in what is written; it leaves no state open that must be decided.
+-- a right answer for the pattern, in which nothing is misplaced; it leaves no state open that must be decided
 pub record IsRightAnswer (g : KoreSignature) (p : KorePattern) (r : Result Simplified) : Type 0 where
   pub clear : state_fault g p ≡ None
-  pub read_as : SymbolicState
-  pub read : IsReadAs g p read_as
-  pub right : IsRightWhereThereIsRoom g p read_as read r
+  pub right : IsRightOfSimplify g p r
   pub floor : IsSimplifyFloorKept g p r
 
 -- the pattern that is told of a result: the state, or \bottom of its sort
@@ -50,11 +45,11 @@ pub record IsFirstFault (g : KoreSignature) (p : KorePattern) (f : VerifyFault) 
   pub tells : IsPatternFault g NoneLeftOut p f
   pub unverified : (sort : KoreSort) → ¬ VerifiesAs g p sort
 
--- why no answer is told of a verified pattern: it isn't one term and predicates; the signature has no inj; Kore JSON has no
--- tag for a pattern in the answer
+-- why no answer is told of a verified pattern: it isn't one term and predicates; an inj would stand in the answer, and the
+-- signature has none; Kore JSON has no tag for a pattern in the answer
 pub data IsUntold (g : KoreSignature) (p : KorePattern) : Type 0 where
   no_state : state_fault g p ≡ Some place.other_shape → IsUntold g p
-  no_injection : meaning_of g injection_name ≢ injection → IsUntold g p
+  no_injection : meaning_of g injection_name ≢ injection → LacksInjection g p → IsUntold g p
   no_tag : (id : RequestId) (r : Result Simplified) → IsRightAnswer g p r → reply_of id r ≡ None → IsUntold g p
 
 -- ---- replies

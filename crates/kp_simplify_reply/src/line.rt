@@ -17,7 +17,7 @@ ghost use Rattle.kp_signature.specs.Faults.{fault_view};
 ghost use Rattle.kp_signature.specs.Verify.{VerifiesAs};
 ghost use Rattle.kp_signature.specs.View.{signature_view};
 ghost use Rattle.kp_simplify.specs.Spelled.{parts_of_cause};
-ghost use Rattle.kp_simplify.specs.Told.{IsFound, IsUnsimplified};
+ghost use Rattle.kp_simplify.specs.Told.{IsFound, IsUnsimplified, LacksInjection, TellsNoInjection};
 ghost use Rattle.kp_symbolic.specs.Endings.{answered, left_open};
 ghost use Rattle.kp_symbolic.specs.Shown as shown;
 ghost use Rattle.kp_terms.specs.Languages.{language_view};
@@ -175,7 +175,7 @@ fn undecided_line(alloc: Global, id: &Id, cause: &ReplyFailure) -> Result<Vec<u8
 
 /// The line that tells why a pattern isn't simplified.
 fn unsimplified_line(alloc: Global, id: &Id, error: SimplifyError) -> Result<Vec<u8>, AllocError>
-    ensures { (g : KoreSignature) (p : KorePattern) → IsUnsimplified g p error → IfOk result (λ line. IsReplyLine (IsUnderstoodAs g (id_view id.now) p) line.items) }
+    ensures { (g : KoreSignature) (p : KorePattern) → IsUnsimplified g p error → (TellsNoInjection error → LacksInjection g p) → IfOk result (λ line. IsReplyLine (IsUnderstoodAs g (id_view id.now) p) line.items) }
 {
     match error {
         SimplifyError::Memory => Err(AllocError),

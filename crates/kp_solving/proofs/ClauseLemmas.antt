@@ -75,6 +75,13 @@ holding_opened g sort e by n c d p is room = opened (clause_under g by c) (ap (�
     opened f same is h = ap (λ x. x.clauses) is ∙ kept n f h ∙ ap distributed same
         ∙ sym (ap (λ b. if b then quoted_clause (written_clause g sort c) (replacement e) ∷ [] else distributed (opened_clause g e c)) (ap (is_too_large n) (sym same) ∙ h))
 
+pub never_too_large : (g : KoreSignature) (e : Equation) (by : List Replaced) (n : ℕ) (c : List Literal) → by ≡ replacement e →
+    true ≡ not (is_too_large n (clause_under g by c)) → is_too_large n (opened_clause g e c) ≡ true → ⊥
+never_too_large g e by n c p room full = not_both (is_too_large n (clause_under g by c)) (turned true (is_too_large n (clause_under g by c)) room) (ap (is_too_large n) (ap (λ rs. clause_under g rs c) p ∙ clause_solved g e c) ∙ full)
+  where
+    not_both : (b : Bool) → b ≡ false → b ≡ true → ⊥
+    not_both b e d = cc
+
 pub holding_quoted : (g : KoreSignature) (sort : KoreSort) (e : Equation) (by : List Replaced) (n : ℕ) (c : List Literal) → by ≡ replacement e →
     false ≡ not (is_too_large n (clause_under g by c)) → quoted_clause (written_clause g sort c) by ∷ [] ≡ solved_holding g sort e n c
 holding_quoted g sort e by n c p full = ap (λ rs. quoted_clause (written_clause g sort c) rs ∷ []) p

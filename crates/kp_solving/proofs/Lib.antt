@@ -3,6 +3,8 @@ pub mod FirstLemmas
 pub mod FurtherLemmas
 pub mod ReadLemmas
 pub mod RefinedLemmas
+pub mod RoomLemmas
 pub mod RoundLemmas
 pub mod SettleLemmas
+pub mod WayLemmas
 pub mod WholeLemmas

@@ -17,7 +17,7 @@ use Rattle.kp_solving.specs.Solvables.{quoted_clause, solved_or_kept}
 
 -- ---- literals before, as they are counted
 
-same_test : (m n l : ℕ) → min m 16385 ≡ min n 16385 → nat_lt 16384 (m + l) ≡ nat_lt 16384 (n + l)
+pub same_test : (m n l : ℕ) → min m 16385 ≡ min n 16385 → nat_lt 16384 (m + l) ≡ nat_lt 16384 (n + l)
 same_test m n l e = by (nat_lt 16384 (m + l)) (nat_lt 16384 (n + l)) refl refl
   where
     by : (a b : Bool) → nat_lt 16384 (m + l) ≡ a → nat_lt 16384 (n + l) ≡ b → nat_lt 16384 (m + l) ≡ nat_lt 16384 (n + l)
@@ -26,10 +26,10 @@ same_test m n l e = by (nat_lt 16384 (m + l)) (nat_lt 16384 (n + l)) refl refl
     by true false p q = absurd (grind (arith, nat_tests))
     by false true p q = absurd (grind (arith, nat_tests))
 
-still_same : (m n k l : ℕ) → min m 16385 ≡ min n 16385 → k ≡ l → min (m + k) 16385 ≡ min (n + l) 16385
+pub still_same : (m n k l : ℕ) → min m 16385 ≡ min n 16385 → k ≡ l → min (m + k) 16385 ≡ min (n + l) 16385
 still_same m n k l e d = omega (arith, e, d)
 
-clause_alike : (g : KoreSignature) (sort : KoreSort) (e : Equation) (m n : ℕ) (c : List Literal) → min m 16385 ≡ min n 16385 → solved_clause g sort e m c ≡ solved_clause g sort e n c
+pub clause_alike : (g : KoreSignature) (sort : KoreSort) (e : Equation) (m n : ℕ) (c : List Literal) → min m 16385 ≡ min n 16385 → solved_clause g sort e m c ≡ solved_clause g sort e n c
 clause_alike g sort e m n c same =
     ap (λ b. if not (is_named e.variable.name (clause_variables c)) then c ∷ [] else if b then quoted_clause (written_clause g sort c) (replacement e) ∷ [] else distributed (opened_clause g e c))
     (same_test m n (size_of (opened_clause g e c)).literals same)
@@ -58,10 +58,10 @@ one_behind n k g sort e cs = ap (λ m. solved_clauses g sort e m None cs) (omega
 abbrev with_rest : KoreSignature → KoreSort → Equation → ℕ → Bool → Option ℕ → List Literal → List (List Literal) → List (List Literal)
 with_rest g sort e n own o c cs = solved_or_kept g sort e n own c ++ solved_clauses g sort e (n + literals_in (solved_or_kept g sort e n own c)) o cs
 
-equal_so : (i p : ℕ) → nat_eq i p ≡ true → i ≡ p
+pub equal_so : (i p : ℕ) → nat_eq i p ≡ true → i ≡ p
 equal_so i p h = grind (arith, nat_tests)
 
-other_so : (i p : ℕ) → nat_eq i p ≡ false → i ≡ p → ⊥
+pub other_so : (i p : ℕ) → nat_eq i p ≡ false → i ≡ p → ⊥
 other_so i p h e = absurd (grind (arith, nat_tests))
 
 own_step : (g : KoreSignature) (sort : KoreSort) (e : Equation) (n i : ℕ) (c : List Literal) (cs : List (List Literal)) → solved_clauses g sort e n (ahead i i) (c ∷ cs) ≡ with_rest g sort e n true (ahead (suc i) i) c cs
@@ -78,19 +78,19 @@ step : (g : KoreSignature) (sort : KoreSort) (e : Equation) (n i p : ℕ) (own :
 step g sort e n i p true c cs is = subst (λ k. solved_clauses g sort e n (ahead i k) (c ∷ cs) ≡ with_rest g sort e n true (ahead (suc i) k) c cs) (equal_so i p (sym is)) (own_step g sort e n i c cs)
 step g sort e n i p false c cs is = other_step g sort e n i p c cs (other_so i p (sym is))
 
-one_left : {X : Type 0} (xs : List X) (i : ℕ) (x : X) → i < length xs → x ≡ get_or xs i x → drop i xs ≡ x ∷ drop (i + 1) xs
+pub one_left : {X : Type 0} (xs : List X) (i : ℕ) (x : X) → i < length xs → x ≡ get_or xs i x → drop i xs ≡ x ∷ drop (i + 1) xs
 one_left xs i x h e = drop_more xs i x h ∙ ap (λ y. y ∷ drop (i + 1) xs) (sym e)
 
-none_left : {X : Type 0} (xs : List X) (i : ℕ) → length xs ≤ i → drop i xs ≡ []
+pub none_left : {X : Type 0} (xs : List X) (i : ℕ) → length xs ≤ i → drop i xs ≡ []
 none_left [] zero h = refl
 none_left [] (suc i) h = refl
 none_left (x ∷ xs) zero h = absurd (omega arith)
 none_left (x ∷ xs) (suc i) h = none_left xs i (omega arith)
 
-after : (i : ℕ) → suc i ≡ i + 1
+pub after : (i : ℕ) → suc i ≡ i + 1
 after i = omega arith
 
-capped : (n new : ℕ) → new ≡ min n 16385 → min n 16385 ≡ min new 16385
+pub capped : (n new : ℕ) → new ≡ min n 16385 → min n 16385 ≡ min new 16385
 capped n new e = omega (arith, e)
 
 -- the clauses from a place on

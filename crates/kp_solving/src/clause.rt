@@ -1,19 +1,25 @@
 // A clause in which an equation is solved.
-ghost use Rattle.std.specs.Prelude.{◌≡◌, not, [], ◌∷◌, IfOk, map};
+ghost use Rattle.std.specs.Prelude.{◌≡◌, true, not, [], ◌∷◌, IfOk, IfErr, OnOk, map};
+ghost use Rattle.std.specs.List.{AllByRecursion};
+ghost use Rattle.kp_compile.specs.declared.error.CompileError.TheVariants.{Memory};
 ghost use Rattle.kp_kore.specs.View.{view, sort_view};
 ghost use Rattle.kp_symbolic.specs.Clauses.{is_too_large};
 ghost use Rattle.kp_symbolic.specs.Formulas.{Formula};
 ghost use Rattle.kp_symbolic.specs.Solving as model;
 ghost use Rattle.kp_symbolic.specs.States as states;
 ghost use Rattle.kp_symbolic.specs.Writing.{written_clause};
+ghost use Rattle.kp_symbolic_laws.specs.Runs.{IfKeptWhole};
+ghost use Rattle.kp_kept.specs.Kept.{CanBeWrittenAt};
 ghost use Rattle.kp_terms.specs.Languages.{language_view};
-ghost use Rattle.kp_terms.specs.View.{clause_view, clauses_view, replaced_view};
+ghost use Rattle.kp_terms.specs.View.{clause_view, clauses_view, literal_view, replaced_view};
 ghost use Rattle.kp_distribution.specs.Distribution.{distribution_of};
 ghost use Rattle.kp_distribution.specs.View.{distributed_view};
 ghost use Rattle.kp_readings.specs.Equations.{equation_view};
 ghost use Rattle.kp_solving.specs.Solvables.{quoted_clause, solved_holding};
+ghost use Rattle.kp_replacing.specs.Sums.{HasWrittenSums};
+ghost use Rattle.kp_writing.specs.Parts.{IsFaultlessAtom};
 
-use crate::whole::whole_out;
+use crate::whole::kept_out;
 use kp_compile::CompileError;
 use kp_distribution::Distributed;
 use kp_distribution::count::MOST_OPENED;
@@ -89,9 +95,11 @@ fn quote_clause(
     by: &Arc<Vec<Replaced>>,
     clause: &Clause,
 ) -> Result<Vec<Clause>, CompileError>
-    ensures { let pattern = written_clause (language_view language.now) (sort_view sort.now) (clause_view clause.now) in IfOk result (λ cs. clauses_view cs.items ≡ quoted_clause pattern (map replaced_view by.now.value.items) ∷ []) }
+    ensures quoted { let pattern = written_clause (language_view language.now) (sort_view sort.now) (clause_view clause.now) in IfOk result (λ cs. clauses_view cs.items ≡ quoted_clause pattern (map replaced_view by.now.value.items) ∷ []) }
+    ensures right { OnOk result (CanBeWrittenAt (language_view language.now) (sort_view sort.now) (clause_view clause.now)) }
+    ensures refused { IfErr result (λ e. AllByRecursion (λ l. IsFaultlessAtom (language_view language.now) (literal_view l).atom) clause.now.literals.value.items → e ≡ Memory) }
 {
-    let pattern = Arc::new(alloc, whole_out(alloc, language, sort, clause)?)?;
+    let pattern = Arc::new(alloc, kept_out(alloc, language, sort, clause)?)?;
     Ok(quote_alone(alloc, &pattern, by)?)
 }
 
@@ -107,7 +115,9 @@ fn solve_holding(
     clause: &Clause,
 ) -> Result<Vec<Clause>, CompileError>
     requires { map replaced_view by.now.value.items ≡ model.replacement (equation_view equation.now) }
-    ensures { let e = equation_view equation.now in let solved = solved_holding (language_view language.now) (sort_view sort.now) e so_far (clause_view clause.now) in IfOk result (λ cs. clauses_view cs.items ≡ solved) }
+    ensures solved { let e = equation_view equation.now in let solved = solved_holding (language_view language.now) (sort_view sort.now) e so_far (clause_view clause.now) in IfOk result (λ cs. clauses_view cs.items ≡ solved) }
+    ensures right { let g = language_view language.now in let c = clause_view clause.now in OnOk result (is_too_large so_far (model.opened_clause g (equation_view equation.now) c) ≡ true → CanBeWrittenAt g (sort_view sort.now) c) }
+    ensures refused { let g = language_view language.now in let ls = clause.now.literals.value.items in IfErr result (λ e. AllByRecursion (λ l. HasWrittenSums g (literal_view l).atom) ls → AllByRecursion (λ l. IsFaultlessAtom g (literal_view l).atom) ls → e ≡ Memory) }
 {
     let opened = open_clause(alloc, language, by, clause)?;
     if is_room(so_far, &opened) {
@@ -117,7 +127,8 @@ fn solve_holding(
 }
 
 /// The clauses of a clause in which the equation is solved, behind so many literals; a clause in which the variable doesn't
-/// stand is shared. Refused where a sum in it can't be written, or for want of memory.
+/// stand is shared. Where each sum in it can be written and no predicate in it has a verify fault, it is refused for want of
+/// memory alone.
 pub fn solve_clause(
     alloc: Global,
     language: &Language,
@@ -128,7 +139,9 @@ pub fn solve_clause(
     clause: &Clause,
 ) -> Result<Vec<Clause>, CompileError>
     requires { map replaced_view by.now.value.items ≡ model.replacement (equation_view equation.now) }
-    ensures { let e = equation_view equation.now in let solved = model.solved_clause (language_view language.now) (sort_view sort.now) e so_far (clause_view clause.now) in IfOk result (λ cs. clauses_view cs.items ≡ solved) }
+    ensures solved { let e = equation_view equation.now in let solved = model.solved_clause (language_view language.now) (sort_view sort.now) e so_far (clause_view clause.now) in IfOk result (λ cs. clauses_view cs.items ≡ solved) }
+    ensures right { let g = language_view language.now in let e = equation_view equation.now in OnOk result (IfKeptWhole g e (CanBeWrittenAt g (sort_view sort.now)) so_far (clause_view clause.now)) }
+    ensures refused { let g = language_view language.now in let ls = clause.now.literals.value.items in IfErr result (λ e. AllByRecursion (λ l. HasWrittenSums g (literal_view l).atom) ls → AllByRecursion (λ l. IsFaultlessAtom g (literal_view l).atom) ls → e ≡ Memory) }
 {
     if some_has_name(alloc, &clause.literals, &equation.variable.name)? {
         return solve_holding(alloc, language, sort, equation, by, so_far, clause);

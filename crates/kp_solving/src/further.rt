@@ -1,9 +1,11 @@
 // A state with further clauses, and one in which a variable is a term.
-ghost use Rattle.std.specs.Prelude.{◌≡◌, ◌∷◌, [], ◌++◌, IfOk};
+ghost use Rattle.std.specs.Prelude.{◌≡◌, ◌∷◌, [], ◌++◌, IfOk, IfErr};
+ghost use Rattle.kp_compile.specs.declared.error.CompileError.TheVariants.{Memory};
 ghost use Rattle.kp_terms.specs.Languages.{language_view};
 ghost use Rattle.kp_terms.specs.View.{variable_view, term_view, clause_view, clauses_view, variables_view, state_view};
 ghost use Rattle.kp_readings.specs.Equations.{equation_view};
 ghost use Rattle.kp_solving.specs.Further as model;
+ghost use Rattle.kp_solving.specs.Readable.{IsReadable};
 
 use crate::round::solve_at;
 use kp_compile::CompileError;
@@ -105,8 +107,8 @@ fn with_equality(
 }
 
 /// The state in which a variable is a term: the clause that says so stands behind the others, the term stands in the
-/// variable's place in all else, and the new variables are at hand. Refused where a sum can't be written, or for want of
-/// memory.
+/// variable's place in all else, and the new variables are at hand. A state whose sums can be written and whose predicates have
+/// no verify fault is refused for want of memory alone.
 pub fn refine(
     alloc: Global,
     language: &Language,
@@ -115,7 +117,8 @@ pub fn refine(
     term: &Term,
     new: &[Arc<Variable>],
 ) -> Result<State, CompileError>
-    ensures { let e = model.equation_of (variable_view variable.now.value) (term_view term.now) in IfOk result (λ s. state_view s ≡ model.refined (language_view language.now) e (variables_view new.now) (state_view state.now)) }
+    ensures refined { let e = model.equation_of (variable_view variable.now.value) (term_view term.now) in IfOk result (λ s. state_view s ≡ model.refined (language_view language.now) e (variables_view new.now) (state_view state.now)) }
+    ensures refused { let q = model.equation_of (variable_view variable.now.value) (term_view term.now) in let larger = model.with_equality q (variables_view new.now) (state_view state.now) in IfErr result (λ e. IsReadable (language_view language.now) larger → e ≡ Memory) }
 {
     let larger = with_equality(alloc, state, variable, term, new)?;
     let equation = make_equation(variable, term);

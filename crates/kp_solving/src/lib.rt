@@ -9,6 +9,7 @@ pub mod further;
 pub mod laws;
 pub mod reading;
 pub mod round;
+mod size;
 pub mod solving;
 pub mod whole;
 

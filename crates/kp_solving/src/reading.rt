@@ -1,10 +1,16 @@
 // A pattern read as a symbolic state: opened, and its equations solved.
-ghost use Rattle.std.specs.Prelude.{◌≡◌, None, Option, IfErr, IfOk, OnOk};
+ghost use Rattle.std.specs.Prelude.{◌≡◌, None, Option, Some, IfErr, IfOk, OnOk};
+ghost use Rattle.kp_compile.specs.declared.error.CompileError.TheVariants.{Memory};
 ghost use Rattle.kp_clauses.specs.Faults.{StateFault, state_fault};
-ghost use Rattle.kp_clauses.specs.View.{IsToldOf};
+ghost use Rattle.kp_clauses.specs.View.{IsToldOf, IsUnread};
 ghost use Rattle.kp_kore.specs.View.{view, sort_view};
 ghost use Rattle.kp_signature.specs.Verify.{VerifiesAs};
-ghost use Rattle.kp_symbolic.specs.Solving.{Solving, IsReadAs};
+ghost use Rattle.kp_symbolic.specs.Solving.{Solving, IsReadAs, opened_state};
+ghost use Rattle.kp_symbolic.specs.States.{SymbolicState, HasInstancesOf};
+ghost use Rattle.kp_symbolic.specs.WellFormed.{IsWellFormed};
+ghost use Rattle.kp_kept.specs.Kept.{CanBeWritten};
+ghost use Rattle.kp_symbolic_laws.specs.Runs.{ComesBy, IsSoundState, OfEachKept};
+ghost use Rattle.kp_solving.specs.Readable.{IsReadable, IsOnTheWay};
 ghost use Rattle.kp_terms.specs.Languages.{language_view};
 ghost use Rattle.kp_terms.specs.View.{state_view};
 
@@ -17,7 +23,8 @@ use std::alloc::Global;
 
 /// What is told where the equations aren't solved: nothing of the pattern's shape.
 fn unsolved(error: CompileError) -> TermFault
-    ensures { (first : Option StateFault) → IsToldOf first result }
+    ensures told { (first : Option StateFault) → IsToldOf first result }
+    ensures read { error ≡ Memory → ¬ IsUnread result }
 {
     match error {
         CompileError::Memory => TermFault::Memory,
@@ -28,7 +35,9 @@ fn unsolved(error: CompileError) -> TermFault
 /// The state that was opened, its equations solved.
 fn solved(alloc: Global, language: &Language, opened: State) -> Result<State, TermFault>
     ensures solving { IfOk result (λ s. Solving (language_view language.now) (state_view opened) (state_view s)) }
+    ensures right { OnOk result (OfEachKept (language_view language.now) (CanBeWritten (language_view language.now)) (state_view opened)) }
     ensures refused { (first : Option StateFault) → IfErr result (IsToldOf first) }
+    ensures unread { IfErr result (λ e. IsUnread e → ¬ ((s : SymbolicState) → ComesBy (language_view language.now) (state_view opened) s → IsReadable (language_view language.now) s)) }
 {
     match settle(alloc, language, opened) {
         Ok(state) => Ok(state),
@@ -47,8 +56,12 @@ pub fn inward(
     sort: Sort,
 ) -> Result<State, TermFault>
     ensures read { VerifiesAs (language_view language.now) (view pattern.now) (sort_view sort) → IfOk result (λ s. IsReadAs (language_view language.now) (view pattern.now) (state_view s)) }
+    ensures right { let g = language_view language.now in let p = view pattern.now in VerifiesAs g p (sort_view sort) → OnOk result ((o : SymbolicState) → opened_state g p ≡ Some o → OfEachKept g (CanBeWritten g) o) }
+    ensures instances { let g = language_view language.now in let p = view pattern.now in VerifiesAs g p (sort_view sort) → IfOk result (λ s. IsSoundState g (state_view s) × HasInstancesOf g p (state_view s)) }
+    ensures formed { let g = language_view language.now in VerifiesAs g (view pattern.now) (sort_view sort) → IfOk result (λ s. IsWellFormed g (state_view s)) }
     ensures clear { OnOk result (state_fault (language_view language.now) (view pattern.now) ≡ None) }
     ensures refused { IfErr result (IsToldOf (state_fault (language_view language.now) (view pattern.now))) }
+    ensures unread { VerifiesAs (language_view language.now) (view pattern.now) (sort_view sort) → IfErr result (λ e. IsUnread e → ¬ ((s : SymbolicState) → IsOnTheWay (language_view language.now) (view pattern.now) s → IsReadable (language_view language.now) s)) }
 {
     match open_state(alloc, language, pattern, sort) {
         Ok(opened) => solved(alloc, language, opened),

@@ -1,26 +1,27 @@
 -- A state with terms in the place of variables has the instances that it has where the variables stand for those of the terms.
-use Rattle.std.proofs.Common.{◌≡◌, ◌↔◌, refl, inl, subst, List, [], ◌∷◌, Option, Some, None}
+use Rattle.std.proofs.Common.{◌≡◌, refl, inl, subst, List, [], ◌∷◌, Option, Some, None}
 use Rattle.std.specs.List.{AllByRecursion, Contains, flat_map}
 use Rattle.std.proofs.lemmas.List.Elements.{All-from_recursion, All-contains}
 use Rattle.kp_kore.specs.Syntax.{KoreSort}
 use Rattle.kp_kore.specs.Parts.{SortedName, free_variables}
 use Rattle.kp_kore.specs.Signature.{KoreSignature}
-use Rattle.kp_semantics.specs.Value.{Value, HasSort}
+use Rattle.kp_semantics.specs.Value.{HasSort}
 use Rattle.kp_semantics.specs.Instance.{Valuation, GivesSorts}
 use Rattle.kp_symbolic.specs.Terms.{SymbolicTerm, Replaced, replacement_for, under_replaced}
-use Rattle.kp_symbolic.specs.States.{one_head, head_of_sort, Atom, same, has_head, quoted, variables_for, atom_variables, AreGiven, Literal, SymbolicState, IsStateInstance}
+use Rattle.kp_symbolic.specs.States.{one_head, head_of_sort, Atom, same, has_head, quoted, variables_for, atom_variables, AreGiven, Literal, SymbolicState}
 use Rattle.kp_symbolic.specs.WellFormed.{IsWellSorted, IsWellSortedAtom, AreWellPlaced, AreAtHand}
 use Rattle.kp_symbolic.specs.Folding.{term_for}
 use Rattle.kp_symbolic.specs.Writing.{IsSaid}
 use Rattle.kp_symbolic.proofs.Distribution.{all_first, all_second}
 use Rattle.kp_symbolic.proofs.WellSorted.{term_sorted}
 use Rattle.kp_symbolic.proofs.Written.{equality_is_said}
-use Rattle.kp_symbolic_laws.specs.Runs.{IsSortedLiteral, IsSortedState, IsWrittenAtom}
+use Rattle.kp_symbolic_laws.specs.Runs.{IsSortedLiteral, IsWrittenAtom}
 use Rattle.kp_symbolic_laws.proofs.HeadTests.{constructor_said, sort_said}
 use Rattle.kp_symbolic_laws.proofs.Step.{at_hand_given}
 use Rattle.kp_symbolic_laws.proofs.WrittenUnder.{IsInj, written_says}
-use Rattle.kp_replacing.specs.Substituted.{substituted, IsReady}
+use Rattle.kp_replacing.specs.Substituted.{IsReady}
 use Rattle.kp_replacing.proofs.StateLemmas.{substituted_instance}
+use Rattle.kp_substituting.specs.Placing.{CanBePlaced, HasWrittenLiterals, HasInstancesUnder}
 
 -- ---- what holds of the variables at hand
 
@@ -83,6 +84,6 @@ clauses_ready g v hand sort qs (c ∷ cs) i p h w o = (literals_ready g v hand s
 
 -- ---- states
 
-pub sorted_instance : (g : KoreSignature) (v : Valuation) (qs : List Replaced) (s : SymbolicState) (u : Value) → IsInj g → IsSortedState g s → AllByRecursion (AllByRecursion (λ l. IsWrittenAtom g l.atom)) s.clauses → AreWellPlaced g qs s.variables → AreGiven g qs v s.variables →
-    IsStateInstance g v (substituted g qs s) u ↔ IsStateInstance g (under_replaced g qs v) s u
-sorted_instance g v qs s u i w o p h = substituted_instance g v qs s u (clauses_ready g v s.variables s.sort qs s.clauses i p h w.literals o) w.term (holds_at_hand (Sorted g qs v) s.variables _ h w.term_at_hand)
+pub sorted_instance : (g : KoreSignature) (v : Valuation) (qs : List Replaced) (s : SymbolicState) → IsInj g → CanBePlaced g qs s → HasWrittenLiterals g s → AreGiven g qs v s.variables → HasInstancesUnder g v qs s
+sorted_instance g v qs s i can o h = λ u. substituted_instance g v qs s u (clauses_ready g v s.variables s.sort qs s.clauses i can.placed h can.sorted.literals o) can.sorted.term
+    (holds_at_hand (Sorted g qs v) s.variables _ h can.sorted.term_at_hand)

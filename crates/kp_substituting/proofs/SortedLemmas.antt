@@ -37,6 +37,7 @@ use Rattle.kp_symbolic_laws.proofs.WrittenVariables.{written_of_these}
 use Rattle.kp_replacing.specs.Replacing.{with_terms, beside, opened_under, all_opened_under, clause_under}
 use Rattle.kp_replacing.specs.Substituted.{substituted_clause, substituted_clauses, substituted}
 use Rattle.kp_substituting.specs.Holding.{holds_one, quoted_under}
+use Rattle.kp_substituting.specs.Placing.{CanBePlaced, HasPredicates, HasOneSortThen}
 
 -- ---- what is put in the variables' places
 
@@ -278,5 +279,5 @@ all_of_these : (g : KoreSignature) (s : SymbolicState) (cs : List (List Literal)
 all_of_these g s [] w i = tt
 all_of_these g s (c ∷ cs) w i = (written_of_these g s c w.0 i.0, all_of_these g s cs w.1 i.1)
 
-pub sorted_kept : (g : KoreSignature) (qs : List Replaced) (s : SymbolicState) → IsSortedState g s → AllByRecursion (AllByRecursion (λ l. IsPredicateAtom l.atom)) s.clauses → AreWellPlaced g qs s.variables → HasOneSortEach (substituted g qs s).variables → IsSortedState g (substituted g qs s)
-sorted_kept g qs s w i p one = state_keeps g qs s w (all_of_these g s s.clauses w.literals i) p one
+pub sorted_kept : (g : KoreSignature) (qs : List Replaced) (s : SymbolicState) → CanBePlaced g qs s → HasPredicates s → HasOneSortThen g qs s → IsSortedState g (substituted g qs s)
+sorted_kept g qs s can i one = state_keeps g qs s can.sorted (all_of_these g s s.clauses can.sorted.literals i) can.placed one

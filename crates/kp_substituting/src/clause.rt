@@ -1,5 +1,7 @@
 // A clause with terms in the place of variables.
-ghost use Rattle.std.specs.Prelude.{◌≡◌, not, [], ◌∷◌, IfOk, map};
+ghost use Rattle.std.specs.Prelude.{◌≡◌, not, [], ◌∷◌, IfOk, IfErr, map};
+ghost use Rattle.std.specs.List.{AllByRecursion};
+ghost use Rattle.kp_compile.specs.declared.error.CompileError.TheVariants.{Memory};
 ghost use Rattle.kp_kore.specs.View.{view, sort_view};
 ghost use Rattle.kp_symbolic.specs.Clauses.{is_too_large};
 ghost use Rattle.kp_symbolic.specs.Formulas.{Formula};
@@ -10,6 +12,8 @@ ghost use Rattle.kp_terms.specs.View.{literal_view, clause_view, clauses_view, r
 ghost use Rattle.kp_distribution.specs.Distribution.{distribution_of};
 ghost use Rattle.kp_distribution.specs.View.{distributed_view};
 ghost use Rattle.kp_replacing.specs.Substituted as model;
+ghost use Rattle.kp_replacing.specs.Sums.{HasWrittenSums};
+ghost use Rattle.kp_writing.specs.Parts.{IsFaultlessAtom};
 ghost use Rattle.kp_substituting.specs.Holding as holding;
 ghost use Rattle.kp_substituting.specs.Holding.{quoted_under, substituted_holding};
 
@@ -71,7 +75,8 @@ fn quote_clause(
     by: &[Replaced],
     clause: &Clause,
 ) -> Result<Vec<Clause>, CompileError>
-    ensures { let pattern = written_clause (language_view language.now) (sort_view sort.now) (clause_view clause.now) in IfOk result (λ cs. clauses_view cs.items ≡ quoted_under (map replaced_view by.now) pattern ∷ []) }
+    ensures quoted { let pattern = written_clause (language_view language.now) (sort_view sort.now) (clause_view clause.now) in IfOk result (λ cs. clauses_view cs.items ≡ quoted_under (map replaced_view by.now) pattern ∷ []) }
+    ensures refused { IfErr result (λ e. AllByRecursion (λ l. IsFaultlessAtom (language_view language.now) (literal_view l).atom) clause.now.literals.value.items → e ≡ Memory) }
 {
     let pattern = whole_out(alloc, language, sort, clause)?;
     Ok(quote_alone(alloc, by, &pattern)?)
@@ -87,7 +92,8 @@ fn substitute_holding(
     so_far: u64,
     clause: &Clause,
 ) -> Result<Vec<Clause>, CompileError>
-    ensures { let substituted = substituted_holding (language_view language.now) (sort_view sort.now) (map replaced_view by.now) so_far (clause_view clause.now) in IfOk result (λ cs. clauses_view cs.items ≡ substituted) }
+    ensures substituted { let substituted = substituted_holding (language_view language.now) (sort_view sort.now) (map replaced_view by.now) so_far (clause_view clause.now) in IfOk result (λ cs. clauses_view cs.items ≡ substituted) }
+    ensures refused { let g = language_view language.now in let ls = clause.now.literals.value.items in IfErr result (λ e. AllByRecursion (λ l. HasWrittenSums g (literal_view l).atom) ls → AllByRecursion (λ l. IsFaultlessAtom g (literal_view l).atom) ls → e ≡ Memory) }
 {
     let opened = open_clause(alloc, language, by, clause)?;
     if is_room(so_far, &opened) {
@@ -97,7 +103,8 @@ fn substitute_holding(
 }
 
 /// The clauses of a clause with terms in the place of variables, behind so many literals; a clause in which none of them
-/// stands is shared. Refused where a sum in it can't be written, or for want of memory.
+/// stands is shared. Refused where a sum in it can't be written, where a number in a predicate that isn't opened can't be
+/// read, or for want of memory.
 pub fn substitute_clause(
     alloc: Global,
     language: &Language,
@@ -106,7 +113,8 @@ pub fn substitute_clause(
     so_far: u64,
     clause: &Clause,
 ) -> Result<Vec<Clause>, CompileError>
-    ensures { let substituted = model.substituted_clause (language_view language.now) (sort_view sort.now) (map replaced_view by.now) so_far (clause_view clause.now) in IfOk result (λ cs. clauses_view cs.items ≡ substituted) }
+    ensures substituted { let substituted = model.substituted_clause (language_view language.now) (sort_view sort.now) (map replaced_view by.now) so_far (clause_view clause.now) in IfOk result (λ cs. clauses_view cs.items ≡ substituted) }
+    ensures refused { let g = language_view language.now in let ls = clause.now.literals.value.items in IfErr result (λ e. AllByRecursion (λ l. HasWrittenSums g (literal_view l).atom) ls → AllByRecursion (λ l. IsFaultlessAtom g (literal_view l).atom) ls → e ≡ Memory) }
 {
     if holds_one(alloc, by, &clause.literals)? {
         return substitute_holding(alloc, language, sort, by, so_far, clause);

@@ -1,11 +1,16 @@
 // A state with terms in the place of variables.
-ghost use Rattle.std.specs.Prelude.{◌≡◌, ◌+◌, min, IfOk, map};
+ghost use Rattle.std.specs.Prelude.{◌≡◌, ◌+◌, min, IfOk, IfErr, map};
+ghost use Rattle.std.specs.List.{AllByRecursion};
+ghost use Rattle.kp_compile.specs.declared.error.CompileError.TheVariants.{Memory};
 ghost use Rattle.kp_kore.specs.View.{sort_view};
 ghost use Rattle.kp_symbolic.specs.Solving.{literals_in as literals_of};
 ghost use Rattle.kp_terms.specs.Languages.{language_view};
-ghost use Rattle.kp_terms.specs.View.{clauses_view, replaced_view, state_view};
+ghost use Rattle.kp_terms.specs.View.{clauses_view, literal_view, replaced_view, state_view};
 ghost use Rattle.kp_distribution.specs.Distribution.{most_counted};
 ghost use Rattle.kp_replacing.specs.Substituted as model;
+ghost use Rattle.kp_replacing.specs.Sums.{HasWrittenSums};
+ghost use Rattle.kp_outward.specs.Errors.{AreFaultlessIn};
+ghost use Rattle.kp_solving.specs.Readable.{IsReadable};
 
 use crate::clause::substitute_clause;
 use crate::variables::variables_under;
@@ -32,7 +37,8 @@ fn substitute_clauses(
     by: &[Replaced],
     clauses: &[Clause],
 ) -> Result<Vec<Clause>, CompileError>
-    ensures { let substituted = model.substituted_clauses (language_view language.now) (sort_view sort.now) (map replaced_view by.now) 0 (clauses_view clauses.now) in IfOk result (λ cs. clauses_view cs.items ≡ substituted) }
+    ensures substituted { let substituted = model.substituted_clauses (language_view language.now) (sort_view sort.now) (map replaced_view by.now) 0 (clauses_view clauses.now) in IfOk result (λ cs. clauses_view cs.items ≡ substituted) }
+    ensures refused { let g = language_view language.now in let cs = clauses.now in IfErr result (λ e. AllByRecursion (λ c. AllByRecursion (λ l. HasWrittenSums g (literal_view l).atom) c.literals.value.items) cs → AreFaultlessIn g cs → e ≡ Memory) }
 {
     let mut found = Vec::new(alloc);
     let mut so_far: u64 = 0;
@@ -45,15 +51,16 @@ fn substitute_clauses(
 }
 
 /// The state with these terms in the place of the variables of their names, all at once; of two for one name the first. The
-/// clauses in which one of the variables stands are opened again, and none is solved. Refused where a sum can't be written, or
-/// for want of memory.
+/// clauses in which one of the variables stands are opened again, and none is solved. Refused where a sum can't be written,
+/// where a number in a predicate that isn't opened can't be read, or for want of memory.
 pub fn substitute(
     alloc: Global,
     language: &Language,
     by: &[Replaced],
     state: &State,
 ) -> Result<State, CompileError>
-    ensures { IfOk result (λ s. state_view s ≡ model.substituted (language_view language.now) (map replaced_view by.now) (state_view state.now)) }
+    ensures substituted { IfOk result (λ s. state_view s ≡ model.substituted (language_view language.now) (map replaced_view by.now) (state_view state.now)) }
+    ensures refused { IfErr result (λ e. IsReadable (language_view language.now) (state_view state.now) → e ≡ Memory) }
 {
     let sort = state.sort.clone()?;
     let clauses = substitute_clauses(alloc, language, &sort, by, &state.clauses)?;

@@ -1,4 +1,5 @@
 use Rattle.std.proofs.Common.{sym, subst}
+use Rattle.std.proofs.lemmas.Result.{IfErr-weaker}
 use Rattle.kp_symbolic.specs.Verdicts.{IsRightVerdict, undecided}
 use Rattle.kp_terms.specs.Languages.{language_view}
 use Rattle.kp_terms.specs.View.{state_view, clauses_view}
@@ -27,3 +28,19 @@ returns-in-Undecided-clause-answered c =
     let k = shown_of g s c.in-Undecided.shown c.in-Undecided.over (subst (IsRightAnswer g s) c.in-Undecided.is (c.in_ok-verdict.ensures well)) in
     h k.weight (subst (λ cs. IsRightVerdict g s (undecided (clauses_view cs) k.weight)) (sym c.deref.ensures.value) k.right) k.weighed)
     c.left_open.ensures.answered
+
+pub returns-in-SomeValuation-clause-wants : goal.returns-in-SomeValuation-clause-wants
+returns-in-SomeValuation-clause-wants c =
+    let g = language_view c.args.language.now in
+    let s = state_view c.args.state.now in
+    IfErr-weaker c.found.result _ _ (λ e h is well. h is (right_some g s (subst (IsRightAnswer g s) c.in-SomeValuation.is (c.in_ok-verdict.ensures well)))) c.found.ensures.wants
+
+pub returns-in-Undecided-clause-wants : goal.returns-in-Undecided-clause-wants
+returns-in-Undecided-clause-wants c =
+    let g = language_view c.args.language.now in
+    let s = state_view c.args.state.now in
+    IfErr-weaker c.left_open.result _ _
+    (λ e h is well.
+    let k = shown_of g s c.in-Undecided.shown c.in-Undecided.over (subst (IsRightAnswer g s) c.in-Undecided.is (c.in_ok-verdict.ensures well)) in
+    h is k.weight (subst (λ cs. IsRightVerdict g s (undecided (clauses_view cs) k.weight)) (sym c.deref.ensures.value) k.right))
+    c.left_open.ensures.wants

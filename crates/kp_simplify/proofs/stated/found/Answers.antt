@@ -1,3 +1,4 @@
+use Rattle.std.proofs.lemmas.Result.{IfErr-weaker}
 use Rattle.kp_terms.specs.Languages.{language_view}
 use Rattle.kp_terms.specs.View.{state_view}
 use Rattle.kp_simplify.proofs.AnswerLemmas.{if_ok, wide_answered, none_wide}
@@ -10,3 +11,8 @@ pub returns-in-None-clause-answered : goal.returns-in-None-clause-answered
 returns-in-None-clause-answered c =
     let none = none_wide (language_view c.args.language.now) (state_view c.args.state.now) c.in_ok-call.call c.in-None.is c.in_ok-call.ensures in
     if_ok c.written.result _ _ (λ a h right. h right none) c.written.ensures.answered
+
+pub returns-in-None-clause-wants : goal.returns-in-None-clause-wants
+returns-in-None-clause-wants c =
+    let none = none_wide (language_view c.args.language.now) (state_view c.args.state.now) c.in_ok-call.call c.in-None.is c.in_ok-call.ensures in
+    IfErr-weaker c.written.result _ _ (λ e h is right. h is right none) c.written.ensures.wants

@@ -1,4 +1,5 @@
 use Rattle.std.proofs.Common.{◌≡◌, ◌∙◌, sym, None}
+use Rattle.std.proofs.lemmas.Result.{IfErr-weaker}
 use Rattle.kp_terms.specs.Languages.{language_view}
 use Rattle.kp_terms.specs.View.{state_view}
 use Rattle.kp_simplify.specs.Answers.{first_deep, state_sides}
@@ -12,3 +13,8 @@ pub returns-in-None-clause-answered : goal.returns-in-None-clause-answered
 returns-in-None-clause-answered c =
     let shallow : first_deep (language_view c.args.language.now) (state_sides (state_view c.args.state.now)) ≡ None = sym c.in_ok-deep.ensures ∙ c.in-None.is in
     if_ok c.state_shown.result _ _ (λ a h right none. h right none shallow) c.state_shown.ensures.answered
+
+pub returns-in-None-clause-wants : goal.returns-in-None-clause-wants
+returns-in-None-clause-wants c =
+    let shallow : first_deep (language_view c.args.language.now) (state_sides (state_view c.args.state.now)) ≡ None = sym c.in_ok-deep.ensures ∙ c.in-None.is in
+    IfErr-weaker c.state_shown.result _ _ (λ e h is right none. h is right none shallow) c.state_shown.ensures.wants

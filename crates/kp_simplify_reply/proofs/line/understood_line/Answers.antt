@@ -11,4 +11,7 @@ returns-in-Ok c = λ verified.
     c.found_line.ensures g p verified c.in-Ok.ensures.clear (c.in-Ok.ensures.found (subst (VerifiesAs g p) (sym c.in_ok-own.ensures) verified))
 
 pub returns-in-Err : goal.returns-in-Err
-returns-in-Err c = λ verified. c.unsimplified_line.ensures (language_view c.args.language.now) (view c.args.pattern.now) c.in-Err.ensures.refused
+returns-in-Err c = λ verified.
+    let g = language_view c.args.language.now in
+    let p = view c.args.pattern.now in
+    c.unsimplified_line.ensures g p c.in-Err.ensures.refused (c.in-Err.ensures.wants (subst (VerifiesAs g p) (sym c.in_ok-own.ensures) verified))

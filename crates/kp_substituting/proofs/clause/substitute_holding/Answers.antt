@@ -10,8 +10,8 @@ use Rattle.kp_replacing.specs.Replacing.{clause_under}
 use Rattle.kp_substituting.proofs.ClauseLemmas.{holding_opened, holding_quoted}
 use Rattle.kp_substituting.proofs.clause.substitute_holding.Goals as goal
 
-pub returns-then-is_room : goal.returns-then-is_room
-returns-then-is_room c =
+pub returns-then-is_room-clause-substituted : goal.returns-then-is_room-clause-substituted
+returns-then-is_room-clause-substituted c =
     let g = language_view c.args.language.now in
     let qs = map replaced_view c.args.by.now in
     let old = clause_view c.args.clause.now in
@@ -19,11 +19,11 @@ returns-then-is_room c =
     let room : true ≡ not (is_too_large c.args.so_far (clause_under g qs old)) = sym c.if-is_room.true ∙ c.is_room.ensures (clause_under g qs old) is in
     c.clauses_of.ensures ∙ holding_opened g (sort_view c.args.sort.now) qs c.args.so_far old (distributed_view c.in_ok-opened.opened) is room
 
-pub returns : goal.returns
-returns c =
+pub returns-clause-substituted : goal.returns-clause-substituted
+returns-clause-substituted c =
     let g = language_view c.args.language.now in
     let qs = map replaced_view c.args.by.now in
     let old = clause_view c.args.clause.now in
     let is : distributed_view c.in_ok-opened.opened ≡ distribution_of (clause_under g qs old) = search rules in
     let full : false ≡ not (is_too_large c.args.so_far (clause_under g qs old)) = sym c.if-is_room.false ∙ c.is_room.ensures (clause_under g qs old) is in
-    subst (λ x. IfOk c.quote_clause.result (λ cs. clauses_view cs.items ≡ x)) (holding_quoted g (sort_view c.args.sort.now) qs c.args.so_far old full) c.quote_clause.ensures
+    subst (λ x. IfOk c.quote_clause.result (λ cs. clauses_view cs.items ≡ x)) (holding_quoted g (sort_view c.args.sort.now) qs c.args.so_far old full) c.quote_clause.ensures.quoted

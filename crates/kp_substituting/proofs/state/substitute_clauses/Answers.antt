@@ -1,9 +1,14 @@
 use Rattle.std.proofs.Common.{rules, ◌≡◌, ◌+◌, min, map}
+use Rattle.std.specs.List.{AllByRecursion}
+use Rattle.std.proofs.lemmas.Result.{err_from_is_err_and}
 use Rattle.kp_kore.specs.View.{sort_view}
 use Rattle.kp_symbolic.specs.Solving.{literals_in}
 use Rattle.kp_terms.specs.Languages.{language_view}
-use Rattle.kp_terms.specs.View.{clause_view, clauses_view, replaced_view}
+use Rattle.kp_terms.specs.View.{clause_view, clauses_view, literal_view, replaced_view}
 use Rattle.kp_replacing.specs.Substituted.{substituted_clause}
+use Rattle.kp_replacing.specs.Sums.{HasWrittenSums}
+use Rattle.kp_writing.specs.Parts.{IsFaultlessAtom}
+use Rattle.kp_solving.proofs.WayLemmas.{has_at}
 use Rattle.kp_substituting.proofs.StateLemmas.{clauses_on}
 use Rattle.kp_substituting.proofs.state.substitute_clauses.Goals as goal
 
@@ -19,3 +24,11 @@ loop-i-preserved c =
     let counted : c.with_literals-so_far.result ≡ min (n + literals_in (clauses_view made)) 16385 = search rules in
     clauses_on g sort qs c.args.clauses.now c.loop-i.i n c.with_literals-so_far.result old c.loop-i.found.items made c.append.new.self.items _
     c.loop-i-test.true c.index-clauses-i.is is counted c.in_ok-append.ensures.items c.loop-i.invariant
+
+pub returns-in_err-substituted-clause-refused : goal.returns-in_err-substituted-clause-refused
+returns-in_err-substituted-clause-refused c =
+    let g = language_view c.args.language.now in
+    let p = err_from_is_err_and c.from_residual.result c.from_residual.ensures.1 in
+    rw (p.1, p.2) (λ written faultless. c.in_err-substituted.ensures.refused
+    (has_at (λ d. AllByRecursion (λ l. HasWrittenSums g (literal_view l).atom) d.literals.value.items) c.args.clauses.now c.loop-i.i c.index-clauses-i.result c.loop-i-test.true c.index-clauses-i.is written)
+    (has_at (λ d. AllByRecursion (λ l. IsFaultlessAtom g (literal_view l).atom) d.literals.value.items) c.args.clauses.now c.loop-i.i c.index-clauses-i.result c.loop-i-test.true c.index-clauses-i.is faultless))

@@ -1,0 +1,5 @@
+pub mod LeftSides
+pub mod Firing
+pub mod Turns
+pub mod NextStates
+pub mod Laws
