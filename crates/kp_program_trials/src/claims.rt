@@ -192,13 +192,18 @@ static ROWS: [(&str, &str, &[&str], &str); 15] = [
     ),
 ];
 
+/// What is told of the first claims of which something else is told.
+fn failing(alloc: Global) -> Result<Option<&'static str>, Fail> {
+    for (definition, claims, more, wanted) in &ROWS {
+        if proved(alloc, definition, claims, more)?.as_slice() != wanted.as_bytes() {
+            return Ok(Some(*wanted));
+        }
+    }
+    Ok(None)
+}
+
 #[test]
 fn claims_are_told(rt: HostRuntime) -> Result<(), Fail> {
-    for (definition, claims, more, wanted) in &ROWS {
-        assert_eq!(rt;
-            proved(rt.alloc(), definition, claims, more)?.as_slice(),
-            wanted.as_bytes()
-        );
-    }
+    assert_eq!(rt; failing(rt.alloc())?, None);
     Ok(())
 }

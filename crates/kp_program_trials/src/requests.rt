@@ -93,18 +93,6 @@ fn request(alloc: Global, term: &str, members: &str) -> Result<String, AllocErro
     )
 }
 
-/// What is told to who asks to run a term, with more members of the params.
-fn run_told(alloc: Global, term: &str, members: &str) -> Result<Vec<u8>, Fail> {
-    let asked = request(alloc, term, members)?;
-    served(alloc, &asked)
-}
-
-/// The same of a symbol applied to a number.
-fn run_of(alloc: Global, symbol: &str, number: &str, members: &str) -> Result<Vec<u8>, Fail> {
-    let term = applied(alloc, symbol, number)?;
-    run_told(alloc, &term, members)
-}
-
 /// The reply of a run that ended so.
 fn result(alloc: Global, told: &str, term: &str) -> Result<String, AllocError> {
     joined(
@@ -120,17 +108,10 @@ fn result(alloc: Global, told: &str, term: &str) -> Result<String, AllocError> {
 }
 
 /// The reply with an error.
-fn error(alloc: Global, told: &str, id: &str) -> Result<String, AllocError> {
+fn error(alloc: Global, told: &str) -> Result<String, AllocError> {
     joined(
         alloc,
-        &[
-            r#"{"error":{"#,
-            told,
-            r#"},"id":"#,
-            id,
-            r#","jsonrpc":"2.0"}"#,
-            "\n",
-        ],
+        &["{\"error\":{", told, "},\"id\":1,\"jsonrpc\":\"2.0\"}\n"],
     )
 }
 
@@ -143,128 +124,6 @@ fn result_at(alloc: Global, told: &str, symbol: &str, number: &str) -> Result<St
 const WIDEST: &str = "170141183460469231731687303715884105727";
 
 const ABORTED: &str = r#""depth":0,"foreign-rule":"odd","reason":"aborted""#;
-
-/// A symbol and the number that it is applied to, more members of the params, how the run ends, and where.
-static RUNS: [(&str, &str, &str, &str, &str, &str); 15] = [
-    (
-        "Lblcount",
-        "+2",
-        "",
-        r#""depth":2,"reason":"stuck""#,
-        "Lblcount",
-        "0",
-    ),
-    (
-        "Lblcount",
-        "002",
-        "",
-        r#""depth":2,"reason":"stuck""#,
-        "Lblcount",
-        "0",
-    ),
-    (
-        "Lblpicked",
-        "+5",
-        "",
-        r#""depth":0,"reason":"stuck""#,
-        "Lblpicked",
-        "5",
-    ),
-    (
-        "Lblpick",
-        "9",
-        "",
-        r#""depth":1,"reason":"stuck""#,
-        "Lblpicked",
-        "1",
-    ),
-    (
-        "Lblpick",
-        "4",
-        "",
-        r#""depth":1,"reason":"stuck""#,
-        "Lblpicked",
-        "2",
-    ),
-    (
-        "Lblpick",
-        "0",
-        "",
-        r#""depth":1,"reason":"stuck""#,
-        "Lblpicked",
-        "3",
-    ),
-    (
-        "Lblcount",
-        "2",
-        r#","max-depth":0"#,
-        r#""depth":0,"reason":"depth-bound""#,
-        "Lblcount",
-        "2",
-    ),
-    (
-        "Lblcount",
-        "0",
-        r#","max-depth":0"#,
-        r#""depth":0,"reason":"depth-bound""#,
-        "Lblcount",
-        "0",
-    ),
-    (
-        "Lblcount",
-        "2",
-        r#","max-depth":1"#,
-        r#""depth":1,"reason":"depth-bound""#,
-        "Lblcount",
-        "1",
-    ),
-    (
-        "Lblcount",
-        "2",
-        r#","max-depth":3"#,
-        r#""depth":2,"reason":"stuck""#,
-        "Lblcount",
-        "0",
-    ),
-    (
-        "Lblcount",
-        "2",
-        r#","max-depth":null"#,
-        r#""depth":2,"reason":"stuck""#,
-        "Lblcount",
-        "0",
-    ),
-    (
-        "Lblcount",
-        "2",
-        r#","module":"COUNTING""#,
-        r#""depth":2,"reason":"stuck""#,
-        "Lblcount",
-        "0",
-    ),
-    ("Lblodd", "1", "", ABORTED, "Lblodd", "1"),
-    ("Lblodd", WIDEST, "", ABORTED, "Lblodd", WIDEST),
-    (
-        "Lblcount",
-        "1",
-        r#","module":"BASE""#,
-        r#""depth":1,"reason":"stuck""#,
-        "Lblcount",
-        "0",
-    ),
-];
-
-#[test]
-fn runs_end_as_they_are_told(rt: HostRuntime) -> Result<(), Fail> {
-    for (symbol, number, members, told, end, last) in &RUNS {
-        let wanted = result_at(rt.alloc(), told, end, last)?;
-        assert_eq!(rt;
-            run_of(rt.alloc(), symbol, number, members)?.as_slice(),
-            wanted.as_bytes()
-        );
-    }
-    Ok(())
-}
 
 const DONE: &str = r#"{"args":[],"name":"Lbldone","sorts":[],"tag":"App"}"#;
 
@@ -316,42 +175,8 @@ const NO_MODULE: &str = r#""code":3,"data":{"name":"NOPE"},"message":"Could not 
 
 const PARAMS: &str = r#""code":-32602,"message":"Invalid params""#;
 
-/// A term, more members of the params, and the error that is told.
-static REFUSED: [(&str, &str, &str); 4] = [
-    (FOREIGN, "", T1),
-    (FOREIGN, r#","module":"NOPE""#, NO_MODULE),
-    (COUNTED, r#","terminal-rules":["dec"]"#, T2),
-    (COUNTED, r#","max-depth":-1"#, PARAMS),
-];
-
-#[test]
-fn runs_are_refused(rt: HostRuntime) -> Result<(), Fail> {
-    for (term, members, told) in &REFUSED {
-        let reply = error(rt.alloc(), told, "1")?;
-        assert_eq!(rt;
-            run_told(rt.alloc(), term, members)?.as_slice(),
-            reply.as_bytes()
-        );
-    }
-    Ok(())
-}
-
 const PARSE: &str =
     "{\"error\":{\"code\":-32700,\"message\":\"Parse error\"},\"id\":null,\"jsonrpc\":\"2.0\"}\n";
-
-/// Other inputs, and their replies.
-static INPUTS: [(&str, &str); 4] = [
-    (
-        r#"{"jsonrpc":"2.0","id":1,"method":"get-model","params":{}}"#,
-        "{\"error\":{\"code\":-32601,\"message\":\"Method not found\"},\"id\":1,\"jsonrpc\":\"2.0\"}\n",
-    ),
-    (
-        "[]",
-        "{\"error\":{\"code\":-32600,\"message\":\"Invalid Request\"},\"id\":null,\"jsonrpc\":\"2.0\"}\n",
-    ),
-    (r#"{"jsonrpc":"2.0","method":"exec"#, PARSE),
-    (" \n", ""),
-];
 
 /// So many `[` and as many `]`.
 fn nested(alloc: Global, depth: usize) -> Result<String, AllocError> {
@@ -363,16 +188,6 @@ fn nested(alloc: Global, depth: usize) -> Result<String, AllocError> {
         text.push_str("]")?;
     }
     Ok(text)
-}
-
-#[test]
-fn other_inputs_have_their_replies(rt: HostRuntime) -> Result<(), Fail> {
-    for (input, reply) in &INPUTS {
-        assert_eq!(rt; served(rt.alloc(), input)?.as_slice(), reply.as_bytes());
-    }
-    let deep = nested(rt.alloc(), 128)?;
-    assert_eq!(rt; served(rt.alloc(), &deep)?.as_slice(), PARSE.as_bytes());
-    Ok(())
 }
 
 /// The request whether one term implies another, with more members of its params.
@@ -396,62 +211,224 @@ fn question(
     )
 }
 
-/// What is told to who asks whether one term implies another, with more members of the params.
-fn implied(
-    alloc: Global,
-    antecedent: &str,
-    consequent: &str,
-    members: &str,
-) -> Result<Vec<u8>, Fail> {
-    let asked = question(alloc, antecedent, consequent, members)?;
-    served(alloc, &asked)
+/// What is asked.
+#[derive(Clone, Copy)]
+enum Asked {
+    /// To run a symbol applied to a number, with more members of the params.
+    Run(&'static str, &'static str, &'static str),
+    /// To run a term, with more members of the params.
+    Term(&'static str, &'static str),
+    /// Whether one term implies another, with more members of the params.
+    Implies(&'static str, &'static str, &'static str),
+    /// By this input.
+    Input(&'static str),
 }
 
-/// Two terms, more members of the params, and the reply whether the first implies the second.
-static IMPLICATIONS: [(&str, &str, &str, &str); 7] = [
-    (DONE, DONE, "", VALID),
-    (DONE, DONE, r#","module":"COUNTING""#, VALID),
-    (DONE, DONE, r#","module":"BASE""#, VALID),
-    (DONE, GOAL, "", NOT_VALID),
-    (COMPUTED, TWO, "", VALID),
-    (TWO, COMPUTED, "", VALID),
-    (TWO, THREE, "", NOT_VALID),
+/// The request to run a symbol applied to a number, with more members of its params.
+fn request_of(
+    alloc: Global,
+    symbol: &str,
+    number: &str,
+    members: &str,
+) -> Result<String, AllocError> {
+    let term = applied(alloc, symbol, number)?;
+    request(alloc, &term, members)
+}
+
+/// The input that asks.
+fn input_of(alloc: Global, asked: Asked) -> Result<String, AllocError> {
+    match asked {
+        Asked::Run(symbol, number, members) => request_of(alloc, symbol, number, members),
+        Asked::Term(term, members) => request(alloc, term, members),
+        Asked::Implies(antecedent, consequent, members) => {
+            question(alloc, antecedent, consequent, members)
+        }
+        Asked::Input(input) => String::from_str(alloc, input),
+    }
+}
+
+/// What is replied.
+#[derive(Clone, Copy)]
+enum Reply {
+    /// The end of a run, at a symbol applied to a number.
+    Result(&'static str, &'static str, &'static str),
+    /// An error.
+    Error(&'static str),
+    /// This text.
+    Text(&'static str),
+}
+
+/// The text of a reply.
+fn text_of(alloc: Global, reply: Reply) -> Result<String, AllocError> {
+    match reply {
+        Reply::Result(told, symbol, number) => result_at(alloc, told, symbol, number),
+        Reply::Error(told) => error(alloc, told),
+        Reply::Text(text) => String::from_str(alloc, text),
+    }
+}
+
+/// Whether what is asked is answered so.
+fn is_told(alloc: Global, asked: Asked, reply: Reply) -> Result<bool, Fail> {
+    let input = input_of(alloc, asked)?;
+    let reply = text_of(alloc, reply)?;
+    Ok(served(alloc, &input)?.as_slice() == reply.as_bytes())
+}
+
+/// What is asked, and what is replied.
+static ROWS: [(Asked, Reply); 40] = [
+    // runs end as they are told
+    (
+        Asked::Run("Lblcount", "+2", ""),
+        Reply::Result(r#""depth":2,"reason":"stuck""#, "Lblcount", "0"),
+    ),
+    (
+        Asked::Run("Lblcount", "002", ""),
+        Reply::Result(r#""depth":2,"reason":"stuck""#, "Lblcount", "0"),
+    ),
+    (
+        Asked::Run("Lblpicked", "+5", ""),
+        Reply::Result(r#""depth":0,"reason":"stuck""#, "Lblpicked", "5"),
+    ),
+    (
+        Asked::Run("Lblpick", "9", ""),
+        Reply::Result(r#""depth":1,"reason":"stuck""#, "Lblpicked", "1"),
+    ),
+    (
+        Asked::Run("Lblpick", "4", ""),
+        Reply::Result(r#""depth":1,"reason":"stuck""#, "Lblpicked", "2"),
+    ),
+    (
+        Asked::Run("Lblpick", "0", ""),
+        Reply::Result(r#""depth":1,"reason":"stuck""#, "Lblpicked", "3"),
+    ),
+    (
+        Asked::Run("Lblcount", "2", r#","max-depth":0"#),
+        Reply::Result(r#""depth":0,"reason":"depth-bound""#, "Lblcount", "2"),
+    ),
+    (
+        Asked::Run("Lblcount", "0", r#","max-depth":0"#),
+        Reply::Result(r#""depth":0,"reason":"depth-bound""#, "Lblcount", "0"),
+    ),
+    (
+        Asked::Run("Lblcount", "2", r#","max-depth":1"#),
+        Reply::Result(r#""depth":1,"reason":"depth-bound""#, "Lblcount", "1"),
+    ),
+    (
+        Asked::Run("Lblcount", "2", r#","max-depth":3"#),
+        Reply::Result(r#""depth":2,"reason":"stuck""#, "Lblcount", "0"),
+    ),
+    (
+        Asked::Run("Lblcount", "2", r#","max-depth":null"#),
+        Reply::Result(r#""depth":2,"reason":"stuck""#, "Lblcount", "0"),
+    ),
+    (
+        Asked::Run("Lblcount", "2", r#","module":"COUNTING""#),
+        Reply::Result(r#""depth":2,"reason":"stuck""#, "Lblcount", "0"),
+    ),
+    (
+        Asked::Run("Lblodd", "1", ""),
+        Reply::Result(ABORTED, "Lblodd", "1"),
+    ),
+    (
+        Asked::Run("Lblodd", WIDEST, ""),
+        Reply::Result(ABORTED, "Lblodd", WIDEST),
+    ),
+    (
+        Asked::Run("Lblcount", "1", r#","module":"BASE""#),
+        Reply::Result(r#""depth":1,"reason":"stuck""#, "Lblcount", "0"),
+    ),
+    // runs are refused
+    (Asked::Term(FOREIGN, ""), Reply::Error(T1)),
+    (
+        Asked::Term(FOREIGN, r#","module":"NOPE""#),
+        Reply::Error(NO_MODULE),
+    ),
+    (
+        Asked::Term(COUNTED, r#","terminal-rules":["dec"]"#),
+        Reply::Error(T2),
+    ),
+    (
+        Asked::Term(COUNTED, r#","max-depth":-1"#),
+        Reply::Error(PARAMS),
+    ),
+    // other inputs
+    (
+        Asked::Input(r#"{"jsonrpc":"2.0","id":1,"method":"get-model","params":{}}"#),
+        Reply::Text(
+            "{\"error\":{\"code\":-32601,\"message\":\"Method not found\"},\"id\":1,\"jsonrpc\":\"2.0\"}\n",
+        ),
+    ),
+    (
+        Asked::Input("[]"),
+        Reply::Text(
+            "{\"error\":{\"code\":-32600,\"message\":\"Invalid Request\"},\"id\":null,\"jsonrpc\":\"2.0\"}\n",
+        ),
+    ),
+    (
+        Asked::Input(r#"{"jsonrpc":"2.0","method":"exec"#),
+        Reply::Text(PARSE),
+    ),
+    (Asked::Input(" \n"), Reply::Text("")),
+    // a term implies those of its value
+    (Asked::Implies(DONE, DONE, ""), Reply::Text(VALID)),
+    (
+        Asked::Implies(DONE, DONE, r#","module":"COUNTING""#),
+        Reply::Text(VALID),
+    ),
+    (
+        Asked::Implies(DONE, DONE, r#","module":"BASE""#),
+        Reply::Text(VALID),
+    ),
+    (Asked::Implies(DONE, GOAL, ""), Reply::Text(NOT_VALID)),
+    (Asked::Implies(COMPUTED, TWO, ""), Reply::Text(VALID)),
+    (Asked::Implies(TWO, COMPUTED, ""), Reply::Text(VALID)),
+    (Asked::Implies(TWO, THREE, ""), Reply::Text(NOT_VALID)),
+    // faults of implications are told in order
+    (Asked::Implies(DONE, NOPE, ""), Reply::Error(V2)),
+    (Asked::Implies(NOPE, NO_TAG, ""), Reply::Error(J1)),
+    (Asked::Implies(NO_TAG, NOPE, ""), Reply::Error(J1)),
+    (Asked::Implies(DONE, FOREIGN, ""), Reply::Error(T1)),
+    (Asked::Implies(OPEN, NOPE, ""), Reply::Error(V2)),
+    (Asked::Implies(OPEN, DONE, ""), Reply::Error(T2)),
+    (Asked::Implies(DONE, ONE, ""), Reply::Error(T2)),
+    (
+        Asked::Implies(NOPE, DONE, r#","module":"NOPE""#),
+        Reply::Error(NO_MODULE),
+    ),
+    (Asked::Implies(NOPE, FOREIGN, ""), Reply::Error(V2)),
+    (
+        Asked::Implies(DONE, DONE, r#","module":7"#),
+        Reply::Error(PARAMS),
+    ),
 ];
 
-#[test]
-fn a_term_implies_those_of_its_value(rt: HostRuntime) -> Result<(), Fail> {
-    for (antecedent, consequent, members, reply) in &IMPLICATIONS {
-        assert_eq!(rt;
-            implied(rt.alloc(), antecedent, consequent, members)?.as_slice(),
-            reply.as_bytes()
-        );
+/// How many rows stand before the first of which something else is told, if there is one.
+fn failing(alloc: Global) -> Result<Option<usize>, Fail> {
+    let mut place: usize = 0;
+    for (asked, reply) in &ROWS {
+        if !is_told(alloc, *asked, *reply)? {
+            return Ok(Some(place));
+        }
+        place = place.saturating_add(1);
     }
+    Ok(None)
+}
+
+#[test]
+fn requests_have_their_replies(rt: HostRuntime) -> Result<(), Fail> {
+    assert_eq!(rt; failing(rt.alloc())?, None);
     Ok(())
 }
 
-/// Two terms, more members of the params, and the error that is told.
-static FAULTY_IMPLICATIONS: [(&str, &str, &str, &str); 10] = [
-    (DONE, NOPE, "", V2),
-    (NOPE, NO_TAG, "", J1),
-    (NO_TAG, NOPE, "", J1),
-    (DONE, FOREIGN, "", T1),
-    (OPEN, NOPE, "", V2),
-    (OPEN, DONE, "", T2),
-    (DONE, ONE, "", T2),
-    (NOPE, DONE, r#","module":"NOPE""#, NO_MODULE),
-    (NOPE, FOREIGN, "", V2),
-    (DONE, DONE, r#","module":7"#, PARAMS),
-];
+/// Whether arrays beyond the limit are no request.
+fn is_too_deep(alloc: Global) -> Result<bool, Fail> {
+    let deep = nested(alloc, 128)?;
+    Ok(served(alloc, &deep)?.as_slice() == PARSE.as_bytes())
+}
 
 #[test]
-fn faults_of_implications_are_told_in_order(rt: HostRuntime) -> Result<(), Fail> {
-    for (antecedent, consequent, members, told) in &FAULTY_IMPLICATIONS {
-        let reply = error(rt.alloc(), told, "1")?;
-        assert_eq!(rt;
-            implied(rt.alloc(), antecedent, consequent, members)?.as_slice(),
-            reply.as_bytes()
-        );
-    }
+fn arrays_beyond_the_limit_are_no_request(rt: HostRuntime) -> Result<(), Fail> {
+    assert!(rt; is_too_deep(rt.alloc())?);
     Ok(())
 }
 
@@ -521,13 +498,18 @@ fn ending(alloc: Global, command: &str, name: &str, definition: &str) -> Result<
     ran(alloc, &words, &mut files, "")
 }
 
+/// The first line that isn't told.
+fn line_failing(alloc: Global) -> Result<Option<&'static str>, Fail> {
+    for (command, name, definition, line) in &ENDINGS {
+        if ending(alloc, command, name, definition)?.as_slice() != line.as_bytes() {
+            return Ok(Some(*line));
+        }
+    }
+    Ok(None)
+}
+
 #[test]
 fn other_endings_are_told(rt: HostRuntime) -> Result<(), Fail> {
-    for (command, name, definition, line) in &ENDINGS {
-        assert_eq!(rt;
-            ending(rt.alloc(), command, name, definition)?.as_slice(),
-            line.as_bytes()
-        );
-    }
+    assert_eq!(rt; line_failing(rt.alloc())?, None);
     Ok(())
 }

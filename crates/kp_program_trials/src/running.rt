@@ -9,7 +9,11 @@ fn add_words(alloc: Global, words: &mut Vec<String>, more: &[&str]) -> Result<()
 }
 
 /// The words of a command line, in two parts.
-pub fn spelled(alloc: Global, first: &[&str], more: &[&str]) -> Result<Vec<String>, AllocError> {
+pub(crate) fn spelled(
+    alloc: Global,
+    first: &[&str],
+    more: &[&str],
+) -> Result<Vec<String>, AllocError> {
     let mut words = Vec::new(alloc);
     add_words(alloc, &mut words, first)?;
     add_words(alloc, &mut words, more)?;
@@ -18,7 +22,12 @@ pub fn spelled(alloc: Global, first: &[&str], more: &[&str]) -> Result<Vec<Strin
 
 /// What the program wrote, and behind it, unless the status is 0 and standard error got nothing, `status`, the status, and
 /// what standard error got.
-pub fn told(alloc: Global, status: u8, out: &[u8], err: &[u8]) -> Result<Vec<u8>, AllocError> {
+pub(crate) fn told(
+    alloc: Global,
+    status: u8,
+    out: &[u8],
+    err: &[u8],
+) -> Result<Vec<u8>, AllocError> {
     let mut told = Vec::from_slice(alloc, out)?;
     if status != 0 || !err.is_empty() {
         let ending = format!(in alloc; "status {status}: ")?;
@@ -29,7 +38,7 @@ pub fn told(alloc: Global, status: u8, out: &[u8], err: &[u8]) -> Result<Vec<u8>
 }
 
 /// The parts, one behind the other.
-pub fn joined(alloc: Global, parts: &[&str]) -> Result<String, AllocError> {
+pub(crate) fn joined(alloc: Global, parts: &[&str]) -> Result<String, AllocError> {
     let mut text = String::new(alloc);
     for part in parts {
         text.push_str(*part)?;

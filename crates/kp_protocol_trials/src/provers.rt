@@ -12,8 +12,9 @@ use std::test::Fail;
 
 /// A state: a symbol without arguments.
 fn state(alloc: Global, name: &str) -> Result<Pattern, AllocError> {
+    let symbol = String::from_str(alloc, name)?;
     Ok(Pattern::Application {
-        symbol: String::from_str(alloc, name)?,
+        symbol,
         sorts: Vec::new(alloc),
         arguments: Vec::new(alloc),
     })
@@ -57,10 +58,11 @@ fn executed(alloc: Global, executed: &Executed) -> Result<Vec<u8>, Fail> {
 
 /// The line that a run of so many steps ended in a state.
 fn ran(alloc: Global, depth: u64, name: &str, reason: Reason) -> Result<Vec<u8>, Fail> {
+    let term = state(alloc, name)?;
     let ended = Executed {
         depth,
         state: State {
-            term: state(alloc, name)?,
+            term,
             predicate: None,
         },
         reason,
@@ -181,7 +183,7 @@ const PASSING: [Reply; 5] = [
 ];
 
 /// Replies, the most steps of an edge, the place of a question, and what is told.
-const PROOFS: [(&[Reply], u64, usize, &str); 4] = [
+static PROOFS: [(&[Reply], u64, usize, &str); 4] = [
     (
         &PASSING,
         2,
@@ -210,12 +212,20 @@ const PROOFS: [(&[Reply], u64, usize, &str); 4] = [
     ),
 ];
 
+/// What is told of the first proof that ends otherwise.
+fn ended_otherwise(alloc: Global) -> Result<Option<&'static str>, Fail> {
+    for (replies, max_depth, place, wanted) in &PROOFS {
+        let told = played(alloc, replies, *max_depth, *place)?;
+        if told.as_slice() != wanted.as_bytes() {
+            return Ok(Some(*wanted));
+        }
+    }
+    Ok(None)
+}
+
 #[test]
 fn proofs_end_as_they_are_told(rt: HostRuntime) -> Result<(), Fail> {
-    for (replies, max_depth, place, wanted) in PROOFS {
-        let told = played(rt.alloc(), replies, max_depth, place)?;
-        assert_eq!(rt; told.as_slice(), wanted.as_bytes(), "{wanted}");
-    }
+    assert_eq!(rt; ended_otherwise(rt.alloc())?, None);
     Ok(())
 }
 

@@ -138,36 +138,87 @@ fn circle(alloc: Global, size: usize, c: i128) -> Result<Vec<Bound>, AllocError>
     Ok(bounds)
 }
 
-#[test]
-fn two_places_in_a_circle(rt: HostRuntime) -> Result<(), Fail> {
+/// Whether bounds have values, which the matrix gives.
+fn has_met(alloc: Global, size: usize, bounds: &[Bound]) -> Result<bool, AllocError> {
+    let mut matrix = matrix_of(alloc, size, bounds)?;
+    Ok(ask(&mut matrix) == Some(true) && meets_all(&matrix, bounds))
+}
+
+/// Whether bounds have no values.
+fn has_none(alloc: Global, size: usize, bounds: &[Bound]) -> Result<bool, AllocError> {
+    let mut matrix = matrix_of(alloc, size, bounds)?;
+    Ok(ask(&mut matrix) == Some(false))
+}
+
+/// Whether a bound alone has values, and none with the one back.
+fn is_circle_of_two(alloc: Global) -> Result<bool, AllocError> {
     let first = Bound { x: 1, y: 2, c: -1 };
-    let mut matrix = matrix_of(rt.alloc(), 2, &[first])?;
-    assert_eq!(rt; ask(&mut matrix), Some(true));
-    assert!(rt; meets_all(&matrix, &[first]));
     let second = Bound { x: 2, y: 1, c: 0 };
-    let mut matrix = matrix_of(rt.alloc(), 2, &[first, second])?;
-    assert_eq!(rt; ask(&mut matrix), Some(false));
-    Ok(())
+    Ok(has_met(alloc, 2, &[first])? && has_none(alloc, 2, &[first, second])?)
+}
+
+#[test]
+fn two_places_in_a_circle(rt: HostRuntime) {
+    assert_eq!(rt; is_circle_of_two(rt.alloc()), Ok(true));
+}
+
+const AT_LEAST_5: Bound = Bound { x: 0, y: 1, c: -5 };
+
+const AT_MOST_5: Bound = Bound { x: 1, y: 0, c: 5 };
+
+const AT_MOST_7: Bound = Bound { x: 1, y: 0, c: 7 };
+
+const AT_MOST_4: Bound = Bound { x: 1, y: 0, c: 4 };
+
+/// The answer with one more bound.
+fn ask_with(matrix: &mut Matrix, bound: Bound) -> Option<bool> {
+    add(matrix, bound);
+    ask(matrix)
+}
+
+/// The answer to one bound alone, and whether the values meet it.
+fn ask_alone(matrix: &mut Matrix, bound: Bound) -> (Option<bool>, bool) {
+    matrix.clear();
+    let answer = ask_with(matrix, bound);
+    (answer, meets_all(matrix, &[bound]))
+}
+
+/// A bound from a place to itself that has no values.
+const BELOW_ITSELF: Bound = Bound { x: 1, y: 1, c: -1 };
+
+/// Whether the place is 5 by bounds from both sides, has no value with a third, and has one with that alone.
+fn is_circle_through_zero(matrix: &mut Matrix) -> bool {
+    ask(matrix) == Some(true)
+        && value(matrix, 1) == Some(5)
+        && ask_with(matrix, AT_MOST_4) == Some(false)
+        && ask_alone(matrix, AT_MOST_4) == (Some(true), true)
+        && ask_with(matrix, BELOW_ITSELF) == Some(false)
 }
 
 #[test]
 fn a_circle_through_zero(rt: HostRuntime) -> Result<(), Fail> {
-    let at_least_5 = Bound { x: 0, y: 1, c: -5 };
-    let at_most_5 = Bound { x: 1, y: 0, c: 5 };
-    let at_most_7 = Bound { x: 1, y: 0, c: 7 };
-    let at_most_4 = Bound { x: 1, y: 0, c: 4 };
-    let mut matrix = matrix_of(rt.alloc(), 1, &[at_least_5, at_most_5, at_most_7])?;
-    assert_eq!(rt; ask(&mut matrix), Some(true));
-    assert_eq!(rt; value(&matrix, 1), Some(5));
-    add(&mut matrix, at_most_4);
-    assert_eq!(rt; ask(&mut matrix), Some(false));
-    matrix.clear();
-    add(&mut matrix, at_most_4);
-    assert_eq!(rt; ask(&mut matrix), Some(true));
-    assert!(rt; meets_all(&matrix, &[at_most_4]));
-    add(&mut matrix, Bound { x: 1, y: 1, c: -1 });
-    assert_eq!(rt; ask(&mut matrix), Some(false));
+    let mut matrix = matrix_of(rt.alloc(), 1, &[AT_LEAST_5, AT_MOST_5, AT_MOST_7])?;
+    assert!(rt; is_circle_through_zero(&mut matrix));
     Ok(())
+}
+
+/// Whether the matrix finds values for bounds, which it gives, or none, where there are none: whether there are values,
+/// unless it is wrong.
+fn is_right(alloc: Global, size: usize, bounds: &[Bound]) -> Result<Option<bool>, AllocError> {
+    let wanted = has_values(alloc, size, bounds)?;
+    let told = if wanted {
+        has_met(alloc, size, bounds)?
+    } else {
+        has_none(alloc, size, bounds)?
+    };
+    Ok(if told { Some(wanted) } else { None })
+}
+
+/// The same of random bounds over so many places.
+fn is_right_at(alloc: Global, seed: &mut u64, size: u8) -> Result<Option<bool>, AllocError> {
+    let count = next(seed, size.saturating_mul(3).saturating_add(2));
+    let bounds = some_bounds(alloc, seed, size, count)?;
+    is_right(alloc, size as usize, &bounds)
 }
 
 #[test]
@@ -176,13 +227,9 @@ fn a_thousand_random_systems(rt: HostRuntime) -> Result<(), Fail> {
     let mut yes = 0u32;
     for size in 0..13u8 {
         for _ in 0..77 {
-            let count = next(&mut seed, size.saturating_mul(3).saturating_add(2));
-            let bounds = some_bounds(rt.alloc(), &mut seed, size, count)?;
-            let mut matrix = matrix_of(rt.alloc(), size as usize, &bounds)?;
-            let wanted = has_values(rt.alloc(), size as usize, &bounds)?;
-            assert_eq!(rt; ask(&mut matrix), Some(wanted));
-            if wanted {
-                assert!(rt; meets_all(&matrix, &bounds));
+            let told = is_right_at(rt.alloc(), &mut seed, size)?;
+            assert!(rt; told.is_some(), "{size}");
+            if told == Some(true) {
                 yes = yes.saturating_add(1);
             }
         }
@@ -191,39 +238,69 @@ fn a_thousand_random_systems(rt: HostRuntime) -> Result<(), Fail> {
     Ok(())
 }
 
-#[test]
-fn a_weight_of_126_with_the_largest_constants(rt: HostRuntime) -> Result<(), Fail> {
-    // 2^(126 - size) - 1; from 2^(126 - size) on the weight is 127
-    let rows = [
-        (1, i128::MAX >> 2),
-        (5, i128::MAX >> 6),
-        (62, i128::MAX >> 63),
-        (125, 1),
-    ];
-    for (size, most) in rows {
-        let upward = circle(rt.alloc(), size, most)?;
-        let mut matrix = matrix_of(rt.alloc(), size, &upward)?;
-        assert_eq!(rt; ask(&mut matrix), Some(true));
-        assert!(rt; meets_all(&matrix, &upward));
-        let mut downward = circle(rt.alloc(), size, 0i128.saturating_sub(most))?;
-        let mut matrix = matrix_of(rt.alloc(), size, &downward)?;
-        assert_eq!(rt; ask(&mut matrix), Some(false));
-        let _ = downward.pop();
-        let mut matrix = matrix_of(rt.alloc(), size, &downward)?;
-        assert_eq!(rt; ask(&mut matrix), Some(true));
-        assert_eq!(rt;
-            value(&matrix, size),
-            Some(most.saturating_mul(size as i128))
-        );
-        add(
-            &mut matrix,
-            Bound {
-                x: size,
-                y: 0,
-                c: i128::MIN,
-            },
-        );
-        assert_eq!(rt; ask(&mut matrix), None);
+/// Whether a circle of a constant downward has no values.
+fn is_no_circle(alloc: Global, size: usize, most: i128) -> Result<bool, AllocError> {
+    let downward = circle(alloc, size, 0i128.saturating_sub(most))?;
+    has_none(alloc, size, &downward)
+}
+
+/// Whether a circle of a constant upward has values.
+fn is_circle(alloc: Global, size: usize, most: i128) -> Result<bool, AllocError> {
+    let upward = circle(alloc, size, most)?;
+    has_met(alloc, size, &upward)
+}
+
+/// What the last place is without the circle's end, and the answer with a bound beyond the limit.
+fn open_circle(
+    alloc: Global,
+    size: usize,
+    most: i128,
+) -> Result<(Option<i128>, Option<bool>), AllocError> {
+    let mut downward = circle(alloc, size, 0i128.saturating_sub(most))?;
+    let _ = downward.pop();
+    let mut matrix = matrix_of(alloc, size, &downward)?;
+    if ask(&mut matrix) != Some(true) {
+        return Ok((None, None));
     }
-    Ok(())
+    let last = value(&matrix, size);
+    let lowest = Bound {
+        x: size,
+        y: 0,
+        c: i128::MIN,
+    };
+    Ok((last, ask_with(&mut matrix, lowest)))
+}
+
+/// Numbers of places and the largest constants that they may have: 2^(126 - size) - 1; from 2^(126 - size) on the weight
+/// is 127.
+static LARGEST: [(usize, i128); 4] = [
+    (1, i128::MAX >> 2),
+    (5, i128::MAX >> 6),
+    (62, i128::MAX >> 63),
+    (125, 1),
+];
+
+/// Whether so many places with these constants are told right.
+fn is_largest(alloc: Global, size: usize, most: i128) -> Result<bool, AllocError> {
+    let last = most.saturating_mul(size as i128);
+    Ok(
+        is_circle(alloc, size, most)?
+            && is_no_circle(alloc, size, most)?
+            && open_circle(alloc, size, most)? == (Some(last), None),
+    )
+}
+
+/// The first number of places of which something else is told.
+fn largest_failing(alloc: Global) -> Result<Option<usize>, AllocError> {
+    for (size, most) in &LARGEST {
+        if !is_largest(alloc, *size, *most)? {
+            return Ok(Some(*size));
+        }
+    }
+    Ok(None)
+}
+
+#[test]
+fn a_weight_of_126_with_the_largest_constants(rt: HostRuntime) {
+    assert_eq!(rt; largest_failing(rt.alloc()), Ok(None));
 }

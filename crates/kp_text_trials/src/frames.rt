@@ -1,6 +1,5 @@
 use kp_frames::Cutter;
 use std::alloc::{AllocError, Global};
-use std::test::Fail;
 
 /// The most bytes of a frame.
 const LIMIT: usize = 4_194_304;
@@ -70,50 +69,45 @@ fn wide(alloc: Global, count: usize, end: &str) -> Result<Vec<u8>, AllocError> {
     Ok(text)
 }
 
+/// Malformed lines, brackets of both kinds and in strings, a request without version: texts, and the frame of each.
+static ROWS: [(&[u8], &[u8]); 7] = [
+    (b"hello\n", b"hello"),
+    (b"}\n", b"}"),
+    (&[255, 10], &[255]),
+    (b"{]", b"{]"),
+    (b" \r\n\t[{}]\n", b"[{}]"),
+    (b"{\"a\":\"\\\"}\"}", b"{\"a\":\"\\\"}\"}"),
+    (
+        b"{\"jsonrpc\":\"1.0\",\"id\":1,\"method\":\"execute\"}",
+        b"{\"jsonrpc\":\"1.0\",\"id\":1,\"method\":\"execute\"}",
+    ),
+];
+
 #[test]
-fn malformed_lines(rt: HostRuntime) -> Result<(), Fail> {
-    assert!(rt; is_row(rt.alloc(), "hello\n".as_bytes(), "hello".as_bytes())?);
-    assert!(rt; is_row(rt.alloc(), "}\n".as_bytes(), "}".as_bytes())?);
-    assert!(rt; is_row(rt.alloc(), &[255, 10], &[255])?);
-    Ok(())
+fn streams_are_cut_into_frames(rt: HostRuntime) {
+    for (text, frame) in &ROWS {
+        assert_eq!(rt; is_row(rt.alloc(), text, frame), Ok(true), "{frame:?}");
+    }
+}
+
+/// How many frames a frame of all bytes and one more byte have.
+fn most_bytes(alloc: Global) -> Result<usize, AllocError> {
+    let text = wide(alloc, LIMIT - 2, "}{")?;
+    let frames = byte_by_byte(alloc, &text)?;
+    Ok(frames.len())
+}
+
+/// How many frames a longer one has, whether the cutter is full, and what is left.
+fn more_bytes(alloc: Global) -> Result<(usize, bool, usize), AllocError> {
+    let text = wide(alloc, LIMIT - 1, "}{}")?;
+    let mut cutter = Cutter::new(alloc, LIMIT);
+    let count = cutter.feed(alloc, &text)?.len();
+    let is_full = cutter.is_full();
+    Ok((count, is_full, cutter.finish().len()))
 }
 
 #[test]
-fn brackets_of_both_kinds(rt: HostRuntime) -> Result<(), Fail> {
-    assert!(rt; is_row(rt.alloc(), "{]".as_bytes(), "{]".as_bytes())?);
-    assert!(rt; is_row(rt.alloc(), " \r\n\t[{}]\n".as_bytes(), "[{}]".as_bytes())?);
-    Ok(())
-}
-
-#[test]
-fn brackets_in_strings(rt: HostRuntime) -> Result<(), Fail> {
-    let text = "{\"a\":\"\\\"}\"}";
-    assert!(rt; is_row(rt.alloc(), text.as_bytes(), text.as_bytes())?);
-    Ok(())
-}
-
-#[test]
-fn a_request_without_version(rt: HostRuntime) -> Result<(), Fail> {
-    let text = "{\"jsonrpc\":\"1.0\",\"id\":1,\"method\":\"execute\"}";
-    assert!(rt; is_row(rt.alloc(), text.as_bytes(), text.as_bytes())?);
-    Ok(())
-}
-
-#[test]
-fn a_frame_of_all_bytes(rt: HostRuntime) -> Result<(), Fail> {
-    let text = wide(rt.alloc(), LIMIT - 2, "}{")?;
-    let frames = byte_by_byte(rt.alloc(), &text)?;
-    assert_eq!(rt; frames.len(), 1);
-    Ok(())
-}
-
-#[test]
-fn a_frame_that_is_too_long(rt: HostRuntime) -> Result<(), Fail> {
-    let text = wide(rt.alloc(), LIMIT - 1, "}{}")?;
-    let mut cutter = Cutter::new(rt.alloc(), LIMIT);
-    let frames = cutter.feed(rt.alloc(), &text)?;
-    assert_eq!(rt; frames.len(), 0);
-    assert!(rt; cutter.is_full());
-    assert_eq!(rt; cutter.finish().len(), LIMIT);
-    Ok(())
+fn a_frame_has_at_most_all_bytes(rt: HostRuntime) {
+    assert_eq!(rt; most_bytes(rt.alloc()), Ok(1));
+    assert_eq!(rt; more_bytes(rt.alloc()), Ok((0, true, LIMIT)));
 }

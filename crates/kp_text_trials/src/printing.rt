@@ -7,7 +7,7 @@ use std::alloc::Global;
 use std::test::Fail;
 
 /// Texts of patterns, and what is printed of the patterns that they spell.
-const FORMS: [(&str, &str); 29] = [
+static FORMS: [(&str, &str); 37] = [
     ("X : S", "X:S"),
     ("X : S { } // the end", "X:S{}"),
     ("@ X : S{ T { R , Q } }", "@X:S{T{R,Q}}"),
@@ -64,10 +64,7 @@ const FORMS: [(&str, &str); 29] = [
         "\\left-assoc{}(\\or{S{}}(A:S{}, B:S{}))",
         "\\or{S{}}(A:S{},B:S{})",
     ),
-];
-
-/// Strings as they are read and as they are printed.
-const STRINGS: [(&str, &str); 8] = [
+    // strings as they are read and as they are printed
     ("\"\\n\\r\\t\\f\\\"\\\\\"", "\"\\n\\r\\t\\f\\\"\\\\\""),
     ("\"\\x0A\\u000d\\U00000009\"", "\"\\n\\r\\t\""),
     ("\"\\x20\\x7e'#/*\"", "\" ~'#/*\""),
@@ -94,25 +91,35 @@ fn is_printed(alloc: Global, text: &str, wanted: &str) -> Result<bool, Fail> {
     Ok(printed.as_slice() == wanted.as_bytes() && again.equal(&read))
 }
 
-#[test]
-fn each_form_is_printed_and_read_back(rt: HostRuntime) -> Result<(), Fail> {
-    for (text, wanted) in FORMS {
-        assert!(rt; is_printed(rt.alloc(), text, wanted)?);
+/// The first text that isn't printed so and read back.
+fn misprinted(alloc: Global) -> Result<Option<&'static str>, Fail> {
+    for (text, wanted) in &FORMS {
+        if !is_printed(alloc, text, wanted)? {
+            return Ok(Some(*text));
+        }
     }
-    for (text, wanted) in STRINGS {
-        assert!(rt; is_printed(rt.alloc(), text, wanted)?);
-    }
-    Ok(())
+    Ok(None)
 }
 
 #[test]
-fn a_long_name_is_printed(rt: HostRuntime) -> Result<(), Fail> {
-    let mut text = String::new(rt.alloc());
+fn each_form_is_printed_and_read_back(rt: HostRuntime) -> Result<(), Fail> {
+    assert_eq!(rt; misprinted(rt.alloc())?, None);
+    Ok(())
+}
+
+/// Whether a long name is printed.
+fn is_long_printed(alloc: Global) -> Result<bool, Fail> {
+    let mut text = String::new(alloc);
     for _i in 0..100000 {
         text.push('a')?;
     }
     text.push_str(":S{}")?;
-    assert!(rt; is_printed(rt.alloc(), &text, &text)?);
+    is_printed(alloc, &text, &text)
+}
+
+#[test]
+fn a_long_name_is_printed(rt: HostRuntime) -> Result<(), Fail> {
+    assert!(rt; is_long_printed(rt.alloc())?);
     Ok(())
 }
 
@@ -127,19 +134,33 @@ const SENTENCES_PRINTED: &str =
     r#"module M import N [] hooked-sort S{R,Q} [hook{}("a")] sort T{} [] symbol f{}(S{},R):T{} [] hooked-symbol g{R}():R [a{}(),b{}("x")] alias h{}(S{}):R where h{}(X:S{}):=f{}(X:S{}) [] alias i{R}():R where X:R:=Y:R [c{}()] axiom{} \top{S{}}() [] axiom{R,Q} X:R [d{}()] claim{} "a" [e{}("1"),e{}("2")] endmodule [z{}()]"#;
 
 /// What is printed of a module's text.
-fn printed(alloc: Global, text: &[u8]) -> Result<Vec<u8>, Fail> {
-    let module = read_module(alloc, text).map_err(|_| "no module")?;
-    Ok(print_module(alloc, &module)?)
+fn printed(alloc: Global, text: &str) -> Result<Vec<u8>, Fail> {
+    match read_module(alloc, text.as_bytes()) {
+        Ok(module) => Ok(print_module(alloc, &module)?),
+        Err(_) => Err(Fail::from("no module")),
+    }
+}
+
+/// Texts of modules, and what is printed of them.
+static MODULES: [(&str, &str); 3] = [
+    (SENTENCES, SENTENCES_PRINTED),
+    (SENTENCES_PRINTED, SENTENCES_PRINTED),
+    ("module M  endmodule  []", "module M endmodule []"),
+];
+
+/// The first module's text of which something else is printed.
+fn module_misprinted(alloc: Global) -> Result<Option<&'static str>, Fail> {
+    for (text, wanted) in &MODULES {
+        if printed(alloc, text)?.as_slice() != wanted.as_bytes() {
+            return Ok(Some(*text));
+        }
+    }
+    Ok(None)
 }
 
 #[test]
 fn each_sentence_is_printed_and_read_back(rt: HostRuntime) -> Result<(), Fail> {
-    let once = printed(rt.alloc(), SENTENCES.as_bytes())?;
-    assert!(rt; once.as_slice() == SENTENCES_PRINTED.as_bytes());
-    let twice = printed(rt.alloc(), &once)?;
-    assert!(rt; twice.as_slice() == once.as_slice());
-    let empty = printed(rt.alloc(), b"module M  endmodule  []")?;
-    assert!(rt; empty.as_slice() == "module M endmodule []".as_bytes());
+    assert_eq!(rt; module_misprinted(rt.alloc())?, None);
     Ok(())
 }
 
@@ -182,14 +203,24 @@ fn rules_in(alloc: Global, text: &[u8]) -> Result<usize, Fail> {
     rules_of(alloc, &definition)
 }
 
+/// Whether what is printed of a text is printed again as it is.
+fn is_printed_again(alloc: Global, text: &[u8]) -> Result<bool, Fail> {
+    let again = reprinted(alloc, text)?;
+    Ok(again.as_slice() == text)
+}
+
+/// How many rules the example has, how many what is printed of it has, and whether that is printed again as it is.
+fn example(alloc: Global) -> Result<(usize, usize, bool), Fail> {
+    let text = reprinted(alloc, TOYS.as_bytes())?;
+    let is_again = is_printed_again(alloc, &text)?;
+    let before = rules_in(alloc, TOYS.as_bytes())?;
+    let after = rules_in(alloc, &text)?;
+    Ok((before, after, is_again))
+}
+
 #[test]
 fn the_example_is_printed_and_loaded_again(rt: HostRuntime) -> Result<(), Fail> {
-    let text = reprinted(rt.alloc(), TOYS.as_bytes())?;
-    let again = reprinted(rt.alloc(), &text)?;
-    assert!(rt; again.as_slice() == text.as_slice());
-    let old = rules_in(rt.alloc(), TOYS.as_bytes())?;
-    assert_eq!(rt; old, 10);
-    assert_eq!(rt; rules_in(rt.alloc(), &text)?, old);
+    assert_eq!(rt; example(rt.alloc())?, (10, 10, true));
     Ok(())
 }
 

@@ -7,11 +7,16 @@ use std::test::Fail;
 
 /// The pattern of a text.
 pub(crate) fn pattern(alloc: Global, text: &str) -> Result<Pattern, Fail> {
-    Ok(read_pattern(alloc, text.as_bytes()).map_err(|_| "no pattern")?)
+    match read_pattern(alloc, text.as_bytes()) {
+        Ok(pattern) => Ok(pattern),
+        Err(_) => Err(Fail::from("no pattern")),
+    }
 }
 
 /// The signature of a module's text.
 pub(crate) fn signature(alloc: Global, text: &str) -> Result<Signature, Fail> {
-    let module = read_module(alloc, text.as_bytes()).map_err(|_| "no module")?;
-    Ok(Signature::new(alloc, &[&module])?)
+    match read_module(alloc, text.as_bytes()) {
+        Ok(module) => Ok(Signature::new(alloc, &[&module])?),
+        Err(_) => Err(Fail::from("no module")),
+    }
 }
