@@ -1,8 +1,7 @@
-use crate::texts::{add_literal, folded, signature, sort};
+use crate::texts::{folded, signature};
 use kp_kore::Sort;
 use kp_opening::{Formula, open_same, open_truth};
-use kp_signature::Signature;
-use kp_terms::{Language, Term};
+use kp_terms::{Atom, Language, Literal, Term};
 use std::alloc::{AllocError, Global};
 use std::test::Fail;
 
@@ -26,13 +25,32 @@ const SMALL: &str = r#"module SMALL
 endmodule []
 "#;
 
+/// A sort without arguments.
+fn sort(alloc: Global, name: &str) -> Result<Sort, AllocError> {
+    let name = String::from_str(alloc, name)?;
+    Ok(Sort::App {
+        name,
+        arguments: Vec::new(alloc),
+    })
+}
+
+/// The mark of a literal's kind: none for an equality.
+fn kind(literal: &Literal) -> &'static str {
+    match literal.atom {
+        Atom::Same { .. } => "",
+        Atom::Head { .. } => "h",
+        Atom::Quoted { .. } => "q",
+    }
+}
+
 /// Adds the formula's form: facts by their signs and kinds, what is under 'all of' in round brackets, under 'one of' in
 /// square ones.
 #[cycle(form)]
 fn add_form(formula: &Formula, form: &mut String) -> Result<(), AllocError> {
     match formula {
         Formula::Fact { literal } => {
-            add_literal(literal, form)?;
+            form.push_str(if literal.holds { "+" } else { "-" })?;
+            form.push_str(kind(literal))?;
         }
         Formula::AllOf { parts } => {
             form.push_str("(")?;
@@ -241,25 +259,13 @@ static ROWS: [(Opened, &str); 28] = [
     ),
 ];
 
-/// The text of what opens to another form first, over a signature.
-fn failing_over(alloc: Global, signature: &Signature) -> Result<Option<&'static str>, Fail> {
-    let language = Language::new(alloc, signature)?;
-    for (opened, wanted) in &ROWS {
-        if form_of(alloc, &language, *opened)?.as_str() != *wanted {
-            return Ok(Some(text_of(*opened)));
-        }
-    }
-    Ok(None)
-}
-
-/// The same over the module.
-fn failing(alloc: Global) -> Result<Option<&'static str>, Fail> {
-    let signature = signature(alloc, SMALL)?;
-    failing_over(alloc, &signature)
-}
-
 #[test]
 fn predicates_are_opened(rt: HostRuntime) -> Result<(), Fail> {
-    assert_eq!(rt; failing(rt.alloc())?, None);
+    let signature = signature(rt.alloc(), SMALL)?;
+    let language = Language::new(rt.alloc(), &signature)?;
+    for (opened, wanted) in &ROWS {
+        let form = form_of(rt.alloc(), &language, *opened)?;
+        assert_eq!(rt; form.as_str(), *wanted, "{}", text_of(*opened));
+    }
     Ok(())
 }

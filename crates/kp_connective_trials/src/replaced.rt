@@ -1,21 +1,22 @@
-use crate::clauses::{SMALL, have_form};
-use crate::texts::{pattern, signature};
+use crate::clauses::{have_form, signature};
 use kp_clauses::clauses_of;
 use kp_kore::Pattern;
 use kp_replacing::open_clause;
 use kp_signature::Signature;
 use kp_terms::{Clause, Language, Replaced, term_under};
+use kp_text::read_pattern;
 use std::alloc::Global;
 use std::sync::Arc;
 use std::test::Fail;
 
 /// The term in the place of the variable `Z`.
 fn for_z(alloc: Global, language: &Language, term: &Pattern) -> Result<Vec<Replaced>, Fail> {
-    let name = Arc::new(alloc, String::from_str(alloc, "Z")?)?;
-    match term_under(term, alloc, language, &[]) {
-        Ok(term) => Ok(vec![in alloc; Replaced { name, term }]?),
-        Err(_) => Err(Fail::from("no term")),
-    }
+    let mut found = Vec::new(alloc);
+    found.push(Replaced {
+        name: Arc::new(alloc, String::from_str(alloc, "Z")?)?,
+        term: term_under(term, alloc, language, &[]).map_err(|_| "no term")?,
+    })?;
+    Ok(found)
 }
 
 /// The clauses that the clause is opened to with the term in the place of `Z`.
@@ -26,10 +27,8 @@ fn replaced_in(
     term: &Pattern,
 ) -> Result<Vec<Clause>, Fail> {
     let by = for_z(alloc, language, term)?;
-    match open_clause(alloc, language, &by, clause) {
-        Ok(opened) => Ok(opened.clauses),
-        Err(_) => Err(Fail::from("not opened")),
-    }
+    let opened = open_clause(alloc, language, &by, clause).map_err(|_| "not opened")?;
+    Ok(opened.clauses)
 }
 
 /// The same of the one clause of a list, and none of other lists.
@@ -52,10 +51,8 @@ fn opened(
     predicate: &Pattern,
     term: &Pattern,
 ) -> Result<Vec<Clause>, Fail> {
-    match clauses_of(alloc, language, &[], predicate) {
-        Ok(clauses) => replaced_in_one(alloc, language, &clauses, term),
-        Err(_) => Err(Fail::from("no clauses")),
-    }
+    let clauses = clauses_of(alloc, language, &[], predicate).map_err(|_| "no clauses")?;
+    replaced_in_one(alloc, language, &clauses, term)
 }
 
 /// Whether these have this form, over a signature.
@@ -78,14 +75,14 @@ fn opens_to(
     term: &Pattern,
     wanted: &str,
 ) -> Result<bool, Fail> {
-    let signature = signature(alloc, SMALL)?;
+    let signature = signature(alloc)?;
     opens_over(alloc, &signature, predicate, term, wanted)
 }
 
 /// The same of two texts.
 fn row(alloc: Global, predicate: &str, term: &str, wanted: &str) -> Result<bool, Fail> {
-    let predicate = pattern(alloc, predicate)?;
-    let term = pattern(alloc, term)?;
+    let predicate = read_pattern(alloc, predicate.as_bytes()).map_err(|_| "no pattern")?;
+    let term = read_pattern(alloc, term.as_bytes()).map_err(|_| "no pattern")?;
     opens_to(alloc, &predicate, &term, wanted)
 }
 
@@ -98,31 +95,21 @@ const HEAD: &str = r"\exists{S{}}(X:Int{}, \equals{S{},S{}}(Z:S{}, f{}(X:Int{}))
 
 const FLOOR: &str = r"\floor{S{},S{}}(Z:S{})";
 
-/// A predicate, a term in the place of `Z`, and the clauses.
-static ROWS: [(&str, &str, &str); 9] = [
-    (EQUALITY, r#"f{}(\dv{Int{}}("1"))"#, "[+]"),
-    (EQUALITY, r"f{}(X:Int{})", ""),
-    (EQUALITY, r"g{}(W:S{})", "[]"),
-    (EITHER, r"pair{}(X:Int{}, W:S{})", "[+]"),
-    (EITHER, r"f{}(W:Int{})", "[++]"),
-    (HEAD, r"f{}(Y:Int{})", ""),
-    (HEAD, r"g{}(W:S{})", "[]"),
-    (HEAD, r"W:S{}", "[+h]"),
-    (FLOOR, r"g{}(W:S{})", "[+q]"),
-];
-
-/// The first predicate and term that aren't opened as it is said.
-fn misopened(alloc: Global) -> Result<Option<(&'static str, &'static str)>, Fail> {
-    for (predicate, term, wanted) in &ROWS {
-        if !row(alloc, predicate, term, wanted)? {
-            return Ok(Some((*predicate, *term)));
-        }
-    }
-    Ok(None)
-}
-
 #[test]
 fn a_clause_is_opened_again(rt: HostRuntime) -> Result<(), Fail> {
-    assert_eq!(rt; misopened(rt.alloc())?, None);
+    let rows = [
+        (EQUALITY, r#"f{}(\dv{Int{}}("1"))"#, "[+]"),
+        (EQUALITY, r"f{}(X:Int{})", ""),
+        (EQUALITY, r"g{}(W:S{})", "[]"),
+        (EITHER, r"pair{}(X:Int{}, W:S{})", "[+]"),
+        (EITHER, r"f{}(W:Int{})", "[++]"),
+        (HEAD, r"f{}(Y:Int{})", ""),
+        (HEAD, r"g{}(W:S{})", "[]"),
+        (HEAD, r"W:S{}", "[+h]"),
+        (FLOOR, r"g{}(W:S{})", "[+q]"),
+    ];
+    for (predicate, term, wanted) in rows {
+        assert!(rt; row(rt.alloc(), predicate, term, wanted)?);
+    }
     Ok(())
 }

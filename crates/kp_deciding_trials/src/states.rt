@@ -1,9 +1,9 @@
-use crate::texts::{folded, signature, sort};
 use kp_decide::{Verdict, decide};
 use kp_heads::HeadTable;
 use kp_kore::Sort;
 use kp_signature::Signature;
-use kp_terms::{Atom, Clause, Language, Literal, State, Variable};
+use kp_terms::{Atom, Clause, Language, Literal, State, Term, Variable, term_under};
+use kp_text::{read_module, read_pattern};
 use kp_weights::Weight;
 use std::alloc::Global;
 use std::sync::Arc;
@@ -50,7 +50,7 @@ const YES: &str = r#"\dv{B{}}("true")"#;
 const NO: &str = r#"\dv{B{}}("false")"#;
 
 /// The literals of the letters a to z.
-static LITERALS: [Row; 26] = [
+const LITERALS: [Row; 26] = [
     (true, "B", "lt{}(X:I{}, Y:I{})", YES),
     (true, "B", "lt{}(Y:I{}, X:I{})", YES),
     (true, "I", "X:I{}", "Y:I{}"),
@@ -90,7 +90,7 @@ static LITERALS: [Row; 26] = [
 ];
 
 /// Literals over X and Y from 0 to 2, and P, of the letters A to P.
-static SMALL_LITERALS: [Row; 16] = [
+const SMALL_LITERALS: [Row; 16] = [
     (true, "B", "lt{}(X:I{}, Y:I{})", YES),
     (false, "B", "lt{}(X:I{}, Y:I{})", YES),
     (true, "B", "le{}(Y:I{}, X:I{})", NO),
@@ -123,17 +123,32 @@ fn row_of(letter: u8) -> Row {
     }
 }
 
-/// A sort without arguments, shared.
-fn shared_sort(alloc: Global, name: &str) -> Result<Arc<Sort>, Fail> {
-    Ok(Arc::new(alloc, sort(alloc, name)?)?)
+/// The signature of the module.
+fn signature(alloc: Global) -> Result<Signature, Fail> {
+    let module = read_module(alloc, SMALL.as_bytes()).map_err(|_| "no module")?;
+    Ok(Signature::new(alloc, &[&module])?)
+}
+
+/// The term of a text.
+fn folded(alloc: Global, language: &Language, text: &str) -> Result<Term, Fail> {
+    let pattern = read_pattern(alloc, text.as_bytes()).map_err(|_| "no pattern")?;
+    Ok(term_under(&pattern, alloc, language, &[]).map_err(|_| "no term")?)
+}
+
+/// A sort without arguments.
+fn sort(alloc: Global, name: &str) -> Result<Sort, Fail> {
+    Ok(Sort::App {
+        name: String::from_str(alloc, name)?,
+        arguments: Vec::new(alloc),
+    })
 }
 
 /// A literal of a row.
 fn literal(alloc: Global, language: &Language, row: Row) -> Result<Literal, Fail> {
     let (holds, place, left, right) = row;
-    let sort = shared_sort(alloc, place)?;
-    let left = folded(alloc, language, &[], left)?;
-    let right = folded(alloc, language, &[], right)?;
+    let left = folded(alloc, language, left)?;
+    let right = folded(alloc, language, right)?;
+    let sort = Arc::new(alloc, sort(alloc, place)?)?;
     Ok(Literal {
         holds,
         atom: Atom::Same { sort, left, right },
@@ -148,8 +163,9 @@ fn clause(alloc: Global, language: &Language, letters: &str) -> Result<Clause, F
             literals.push(literal(alloc, language, row_of(letter))?)?;
         }
     }
-    let literals = Arc::new(alloc, literals)?;
-    Ok(Clause { literals })
+    Ok(Clause {
+        literals: Arc::new(alloc, literals)?,
+    })
 }
 
 /// The clauses of `"ab;c"`: one of a and b, and one of c. No letters are no clauses.
@@ -173,13 +189,12 @@ fn variable(alloc: Global, name: &str, place: &str) -> Result<Arc<Variable>, Fai
 
 /// A state over the variable N of S, with clauses of letters and one variable at hand.
 fn state(alloc: Global, language: &Language, text: &str, hand: &str) -> Result<State, Fail> {
-    let variables = vec![in alloc; variable(alloc, "H", hand)?]?;
-    let sort = shared_sort(alloc, "S")?;
     let clauses = clauses(alloc, language, text)?;
-    let term = folded(alloc, language, &[], "g{}(N:S{})")?;
+    let mut variables = Vec::new(alloc);
+    variables.push(variable(alloc, "H", hand)?)?;
     Ok(State {
-        term,
-        sort,
+        term: folded(alloc, language, "g{}(N:S{})")?,
+        sort: Arc::new(alloc, sort(alloc, "S")?)?,
         clauses,
         variables,
     })
@@ -231,7 +246,7 @@ pub(crate) fn decided_with(
     text: &str,
     hand: &str,
 ) -> Result<(&'static str, u64), Fail> {
-    let signature = signature(alloc, SMALL)?;
+    let signature = signature(alloc)?;
     let verdict = decided_over(alloc, &signature, text, hand)?;
     Ok((word(&verdict), number(&verdict)))
 }
