@@ -1,11 +1,7 @@
-// Tests of the public calls with ample memory, by values from outside: of Kore JSON, requests and replies, what frames ask
-// and a client writes, proofs and the outside. They stand here together, since a crate with tests is proved twice.
+// Tests of the public calls with ample memory, by values from outside: of Kore JSON, requests and replies, proofs and the
+// outside. They stand here together, since a crate with tests is proved twice.
 #![tactic(auto)]
 
-#[cfg(test)]
-mod answers;
-#[cfg(test)]
-mod frames;
 #[cfg(test)]
 mod outside;
 #[cfg(test)]
@@ -18,5 +14,3 @@ mod replies;
 mod results;
 #[cfg(test)]
 mod trees;
-#[cfg(test)]
-mod written;

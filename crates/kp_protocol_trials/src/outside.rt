@@ -49,13 +49,10 @@ fn a_failed_call_fails_the_reading(alloc: Global) -> Result<bool, Fail> {
 #[test]
 fn sources_give_their_bytes(rt: HostRuntime) -> Result<(), Fail> {
     let alloc = rt.alloc();
-    let told = [
-        all_bytes_are_read(alloc)?,
-        more_is_too_long(alloc)?,
-        a_failed_call_takes_nothing(alloc)?,
-        a_failed_call_fails_the_reading(alloc)?,
-    ];
-    assert_eq!(rt; told, [true, true, true, true]);
+    assert!(rt; all_bytes_are_read(alloc)?);
+    assert!(rt; more_is_too_long(alloc)?);
+    assert!(rt; a_failed_call_takes_nothing(alloc)?);
+    assert!(rt; a_failed_call_fails_the_reading(alloc)?);
     Ok(())
 }
 
@@ -111,12 +108,9 @@ fn files_are_loaded(alloc: Global) -> Result<bool, Fail> {
 #[test]
 fn sinks_and_files_hold_what_was_put(rt: HostRuntime) -> Result<(), Fail> {
     let alloc = rt.alloc();
-    let told = [
-        what_was_put_is_held(alloc),
-        a_failed_put_puts_nothing(alloc)?,
-        files_are_loaded(alloc)?,
-    ];
-    assert_eq!(rt; told, [true, true, true]);
+    assert!(rt; what_was_put_is_held(alloc));
+    assert!(rt; a_failed_put_puts_nothing(alloc)?);
+    assert!(rt; files_are_loaded(alloc)?);
     Ok(())
 }
 
@@ -135,11 +129,8 @@ fn a_writer_is_a_sink(alloc: Global) -> bool {
 
 #[test]
 fn the_hosts_streams_serve(rt: HostRuntime) -> Result<(), Fail> {
-    let told = [
-        a_reader_is_a_source(rt.alloc())?,
-        a_writer_is_a_sink(rt.alloc()),
-    ];
-    assert_eq!(rt; told, [true, true]);
+    assert!(rt; a_reader_is_a_source(rt.alloc())?);
+    assert!(rt; a_writer_is_a_sink(rt.alloc()));
     Ok(())
 }
 
@@ -147,14 +138,14 @@ fn the_hosts_streams_serve(rt: HostRuntime) -> Result<(), Fail> {
 fn the_hosts_files_serve(rt: HostRuntime) {
     let alloc = rt.alloc();
     let mut disk = Disk::new(&rt);
-    let told = [
-        lacks(alloc, &mut disk, "kp_io_test_none"),
-        disk.store("kp_io_test", &[1, 2, 3]) == Ok(()),
-        holds(alloc, &mut disk, "kp_io_test", &[1, 2, 3]),
-        disk.store("kp_io_none/kp_io_test", &[1]) == Err(OutsideFault::Failed),
-        disk.faults() == 1,
-        fails(alloc, &mut disk, "kp_io_test/kp_io_test"),
-        disk.faults() == 2,
-    ];
-    assert_eq!(rt; told, [true, true, true, true, true, true, true]);
+    assert!(rt; lacks(alloc, &mut disk, "kp_io_test_none"));
+    assert_eq!(rt; disk.store("kp_io_test", &[1, 2, 3]), Ok(()));
+    assert!(rt; holds(alloc, &mut disk, "kp_io_test", &[1, 2, 3]));
+    assert_eq!(rt;
+        disk.store("kp_io_none/kp_io_test", &[1]),
+        Err(OutsideFault::Failed)
+    );
+    assert_eq!(rt; disk.faults(), 1);
+    assert!(rt; fails(alloc, &mut disk, "kp_io_test/kp_io_test"));
+    assert_eq!(rt; disk.faults(), 2);
 }

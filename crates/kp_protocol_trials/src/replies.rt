@@ -25,7 +25,7 @@ fn told(alloc: Global, bytes: &[u8]) -> Result<Vec<u8>, Fail> {
 }
 
 /// Frames, and their replies or what is told of them.
-static FRAMES: [(&[u8], &[u8]); 5] = [
+const FRAMES: [(&[u8], &[u8]); 5] = [
     (
         br#"{"jsonrpc":"2.0","method":"exec"#,
         b"{\"error\":{\"code\":-32700,\"message\":\"Parse error\"},\"id\":null,\"jsonrpc\":\"2.0\"}\n",
@@ -48,19 +48,11 @@ static FRAMES: [(&[u8], &[u8]); 5] = [
     ),
 ];
 
-/// The first reply that isn't told.
-fn not_told(alloc: Global) -> Result<Option<&'static [u8]>, Fail> {
-    for (frame, reply) in &FRAMES {
-        if told(alloc, frame)?.as_slice() != *reply {
-            return Ok(Some(*reply));
-        }
-    }
-    Ok(None)
-}
-
 #[test]
 fn frames_are_refused_or_accepted(rt: HostRuntime) -> Result<(), Fail> {
-    assert_eq!(rt; not_told(rt.alloc())?, None);
+    for (frame, reply) in FRAMES {
+        assert_eq!(rt; told(rt.alloc(), frame)?.as_slice(), reply);
+    }
     Ok(())
 }
 
@@ -95,9 +87,8 @@ fn ran(alloc: Global, id: Id, depth: u64, reason: Reason, term: Pattern) -> Resu
 
 /// The line of a run that got stuck at `Lbldone`.
 fn stuck(alloc: Global) -> Result<Vec<u8>, Fail> {
-    let symbol = String::from_str(alloc, "Lbldone")?;
     let done = Pattern::Application {
-        symbol,
+        symbol: String::from_str(alloc, "Lbldone")?,
         sorts: Vec::new(alloc),
         arguments: Vec::new(alloc),
     };
@@ -107,8 +98,9 @@ fn stuck(alloc: Global) -> Result<Vec<u8>, Fail> {
 /// The line of a run that ended at its bound in a variable.
 fn bounded(alloc: Global) -> Result<Vec<u8>, Fail> {
     let name = String::from_str(alloc, "X")?;
-    let place = String::from_str(alloc, "S")?;
-    let sort = Sort::Variable { name: place };
+    let sort = Sort::Variable {
+        name: String::from_str(alloc, "S")?,
+    };
     let open = Pattern::Variable { name, sort };
     ran(alloc, Id::Signed(-1), 10_000, Reason::DepthBound, open)
 }
@@ -133,7 +125,7 @@ fn bytes_of(alloc: Global, line: Line) -> Result<Vec<u8>, Fail> {
 }
 
 /// Faults and results, and their lines.
-static LINES: [(Line, &str); 4] = [
+const LINES: [(Line, &str); 4] = [
     (
         Line::NoModule,
         "{\"error\":{\"code\":3,\"data\":{\"name\":\"NOPE\"},\"message\":\"Could not find module\"},\"id\":\"a\",\"jsonrpc\":\"2.0\"}\n",
@@ -152,18 +144,14 @@ static LINES: [(Line, &str); 4] = [
     ),
 ];
 
-/// The first line that is written otherwise.
-fn written_otherwise(alloc: Global) -> Result<Option<&'static str>, Fail> {
-    for (which, wanted) in &LINES {
-        if bytes_of(alloc, *which)?.as_slice() != wanted.as_bytes() {
-            return Ok(Some(*wanted));
-        }
-    }
-    Ok(None)
-}
-
 #[test]
 fn faults_and_results_by_their_bytes(rt: HostRuntime) -> Result<(), Fail> {
-    assert_eq!(rt; written_otherwise(rt.alloc())?, None);
+    for (which, wanted) in LINES {
+        assert_eq!(rt;
+            bytes_of(rt.alloc(), which)?.as_slice(),
+            wanted.as_bytes(),
+            "{wanted}"
+        );
+    }
     Ok(())
 }

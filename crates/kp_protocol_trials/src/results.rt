@@ -49,7 +49,7 @@ const TWO_LINES: &str =
 "#;
 
 /// What is asked for, a line, and what it tells.
-static TOLD: [(Method, &str, &str); 10] = [
+const TOLD: [(Method, &str, &str); 10] = [
     (Method::Execute, BRANCHING, BRANCHING),
     (Method::Execute, CUT_POINT, CUT_POINT),
     (Method::Execute, TERMINAL, TERMINAL),
@@ -62,19 +62,14 @@ static TOLD: [(Method, &str, &str); 10] = [
     (Method::Implies, UNKNOWN, "failed 5"),
 ];
 
-/// The first line that tells something else.
-fn told_otherwise(alloc: Global) -> Result<Option<&'static str>, Fail> {
-    for (method, line, wanted) in &TOLD {
-        if told(alloc, *method, line)?.as_slice() != wanted.as_bytes() {
-            return Ok(Some(*line));
-        }
-    }
-    Ok(None)
-}
-
 #[test]
 fn replies_are_told(rt: HostRuntime) -> Result<(), Fail> {
-    assert_eq!(rt; told_otherwise(rt.alloc())?, None);
+    for (method, line, wanted) in TOLD {
+        assert_eq!(rt;
+            told(rt.alloc(), method, line)?.as_slice(),
+            wanted.as_bytes()
+        );
+    }
     Ok(())
 }
 
@@ -116,14 +111,12 @@ fn three_next_states_are_told(rt: HostRuntime) -> Result<(), Fail> {
 }
 
 #[test]
-fn a_rule_is_one_word(rt: HostRuntime) {
-    let told = [
-        is_rule_id("TOYS.stop"),
-        is_rule_id(""),
-        is_rule_id("two words"),
-        is_rule_id("passed T.down\nfailed"),
-    ];
-    assert_eq!(rt; told, [true, false, false, false]);
+fn a_rule_is_one_word(rt: HostRuntime) -> Result<(), Fail> {
+    assert!(rt; is_rule_id("TOYS.stop"));
+    assert!(rt; !is_rule_id(""));
+    assert!(rt; !is_rule_id("two words"));
+    assert!(rt; !is_rule_id("passed T.down\nfailed"));
+    Ok(())
 }
 
 /// The pattern of a tree of Kore JSON.
@@ -244,7 +237,7 @@ fn bytes_of(alloc: Global, line: Line) -> Result<Vec<u8>, Fail> {
 }
 
 /// Failures and results, and their lines.
-static LINES: [(Line, &str); 8] = [
+const LINES: [(Line, &str); 8] = [
     (Line::Weighed, UNKNOWN),
     (Line::Unknown, UNKNOWN_ALONE),
     (
@@ -267,19 +260,15 @@ static LINES: [(Line, &str); 8] = [
     (Line::Simplified, SIMPLIFIED),
 ];
 
-/// The first line that is written otherwise.
-fn written_otherwise(alloc: Global) -> Result<Option<&'static str>, Fail> {
-    for (which, wanted) in &LINES {
-        if bytes_of(alloc, *which)?.as_slice() != wanted.as_bytes() {
-            return Ok(Some(*wanted));
-        }
-    }
-    Ok(None)
-}
-
 #[test]
 fn failures_and_results_are_written(rt: HostRuntime) -> Result<(), Fail> {
-    assert_eq!(rt; written_otherwise(rt.alloc())?, None);
+    for (which, wanted) in LINES {
+        assert_eq!(rt;
+            bytes_of(rt.alloc(), which)?.as_slice(),
+            wanted.as_bytes(),
+            "{wanted}"
+        );
+    }
     Ok(())
 }
 

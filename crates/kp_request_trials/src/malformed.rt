@@ -1,5 +1,6 @@
 use crate::answers::{FIRST, failing, in_two, is_row};
 use std::alloc::{AllocError, Global};
+use std::test::Fail;
 
 const PARSE: &str =
     "{\"error\":{\"code\":-32700,\"message\":\"Parse error\"},\"id\":null,\"jsonrpc\":\"2.0\"}\n";
@@ -10,8 +11,8 @@ const INVALID: &str =
 const PARAMS: &str =
     "{\"error\":{\"code\":-32602,\"message\":\"Invalid params\"},\"id\":\"a\",\"jsonrpc\":\"2.0\"}\n";
 
-/// Frames, and their replies: those to a batch stand between lines of brackets.
-static ROWS: [(&str, &str); 35] = [
+/// Frames that are no request, and their replies.
+const NO_REQUESTS: [(&str, &str); 16] = [
     // what is no JSON is a parse error
     ("hello\n", PARSE),
     ("}\n", PARSE),
@@ -41,6 +42,16 @@ static ROWS: [(&str, &str); 35] = [
     (r#"{"jsonrpc":"2.0","id":true,"method":"x"}"#, INVALID),
     (r#"{"jsonrpc":"2.0","id":[],"method":"x"}"#, INVALID),
     (r#"{"jsonrpc":"2.0","id":{},"method":"x"}"#, INVALID),
+];
+
+#[test]
+fn what_is_no_request_is_told(rt: HostRuntime) {
+    assert_eq!(rt; failing(rt.alloc(), &NO_REQUESTS), Ok(None));
+    assert_eq!(rt; is_row(rt.alloc(), &[255, 10], PARSE), Ok(true));
+}
+
+/// Requests that can't be served, and notifications, and their replies.
+const REQUESTS: [(&str, &str); 13] = [
     // other methods are not found
     (
         r#"{"jsonrpc":"2.0","id":18446744073709551615,"method":"x"}"#,
@@ -88,39 +99,11 @@ static ROWS: [(&str, &str); 35] = [
         r#"{"jsonrpc":"2.0","id":"a","method":"simplify","params":{"state":{"format":"KORE","version":1,"term":{"tag":"App"}}}}"#,
         "{\"error\":{\"code\":1,\"data\":{\"kind\":\"J2\",\"name\":\"name\"},\"message\":\"Could not parse pattern\"},\"id\":\"a\",\"jsonrpc\":\"2.0\"}\n",
     ),
-    // of a batch, each member is a call of its own
-    (
-        "[1]",
-        "[\n{\"error\":{\"code\":-32600,\"message\":\"Invalid Request\"},\"id\":null,\"jsonrpc\":\"2.0\"}\n]\n",
-    ),
-    (
-        r#"[[{"jsonrpc":"2.0","id":1,"method":"x"}]]"#,
-        "[\n{\"error\":{\"code\":-32600,\"message\":\"Invalid Request\"},\"id\":null,\"jsonrpc\":\"2.0\"}\n]\n",
-    ),
-    // replies stand in the order of their calls
-    (
-        r#"[{"jsonrpc":"2.0","id":1,"method":"add-module","params":{"module":"m"}},{"jsonrpc":"2.0","id":2,"method":"get-model"}]"#,
-        "[\nread\n{\"error\":{\"code\":-32601,\"message\":\"Method not found\"},\"id\":2,\"jsonrpc\":\"2.0\"}\n]\n",
-    ),
-    (
-        r#"[{"jsonrpc":"2.0","id":2,"method":"x"},{"jsonrpc":"2.0","id":1,"method":"execute"}]"#,
-        "[\n{\"error\":{\"code\":-32601,\"message\":\"Method not found\"},\"id\":2,\"jsonrpc\":\"2.0\"}\n{\"error\":{\"code\":-32602,\"message\":\"Invalid params\"},\"id\":1,\"jsonrpc\":\"2.0\"}\n]\n",
-    ),
-    // notifications in a batch have no reply
-    (
-        r#"[{"jsonrpc":"2.0","method":"x"},{"jsonrpc":"2.0","method":"execute"}]"#,
-        "[\n]\n",
-    ),
-    (
-        r#"[{"jsonrpc":"2.0","method":"x"},{"jsonrpc":"2.0","id":null,"method":"x"}]"#,
-        "[\n{\"error\":{\"code\":-32601,\"message\":\"Method not found\"},\"id\":null,\"jsonrpc\":\"2.0\"}\n]\n",
-    ),
 ];
 
 #[test]
-fn frames_are_answered(rt: HostRuntime) {
-    assert_eq!(rt; failing(rt.alloc(), &ROWS), Ok(None));
-    assert_eq!(rt; is_row(rt.alloc(), &[255, 10], PARSE), Ok(true));
+fn what_cannot_be_served_is_told(rt: HostRuntime) {
+    assert_eq!(rt; failing(rt.alloc(), &REQUESTS), Ok(None));
 }
 
 /// A text, so many copies of another behind it, and a third.
@@ -157,54 +140,43 @@ fn arrays(alloc: Global, count: usize) -> Result<String, AllocError> {
     around(alloc, &open, "]", count, "")
 }
 
-/// Whether a deep pattern is told, and arrays up to a level are read.
-fn deep_frames(alloc: Global) -> Result<bool, AllocError> {
-    let pattern = deep_request(alloc)?;
-    let is_told = is_row(
-        alloc,
-        pattern.as_bytes(),
-        "{\"error\":{\"code\":1,\"data\":{\"kind\":\"J5\"},\"message\":\"Could not parse pattern\"},\"id\":1,\"jsonrpc\":\"2.0\"}\n",
-    )?;
-    let is_batch = are_arrays(
-        alloc,
-        127,
-        "[\n{\"error\":{\"code\":-32600,\"message\":\"Invalid Request\"},\"id\":null,\"jsonrpc\":\"2.0\"}\n]\n",
-    )?;
-    Ok(is_told && is_batch && are_arrays(alloc, 128, PARSE)?)
+#[test]
+fn deep_frames_are_told(rt: HostRuntime) -> Result<(), Fail> {
+    let pattern = deep_request(rt.alloc())?;
+    let batch = arrays(rt.alloc(), 127)?;
+    let beyond = arrays(rt.alloc(), 128)?;
+    let rows = [
+        (
+            pattern.as_str(),
+            "{\"error\":{\"code\":1,\"data\":{\"kind\":\"J5\"},\"message\":\"Could not parse pattern\"},\"id\":1,\"jsonrpc\":\"2.0\"}\n",
+        ),
+        (
+            batch.as_str(),
+            "[\n{\"error\":{\"code\":-32600,\"message\":\"Invalid Request\"},\"id\":null,\"jsonrpc\":\"2.0\"}\n]\n",
+        ),
+        (beyond.as_str(), PARSE),
+    ];
+    assert_eq!(rt; failing(rt.alloc(), &rows), Ok(None));
+    Ok(())
 }
 
-/// Whether so many arrays have this reply.
-fn are_arrays(alloc: Global, count: usize, reply: &str) -> Result<bool, AllocError> {
-    let frame = arrays(alloc, count)?;
-    is_row(alloc, frame.as_bytes(), reply)
-}
-
-/// Whether the largest request is read, and what stands behind it.
-fn largest(alloc: Global) -> Result<bool, AllocError> {
+#[test]
+fn the_largest_request_is_read(rt: HostRuntime) -> Result<(), Fail> {
     let behind = r#""jsonrpc":"2.0","id":1,"method":"x"}"#;
     let spaces = 4_194_304 - r#"{"jsonrpc":"2.0","id":1,"method":"x"}"#.len();
-    let frame = around(alloc, "{", " ", spaces, behind)?;
-    let out = in_two(alloc, frame.as_bytes(), FIRST.as_bytes())?;
-    Ok(
-        out.as_slice()
-            == b"{\"error\":{\"code\":-32601,\"message\":\"Method not found\"},\"id\":1,\"jsonrpc\":\"2.0\"}\nread\n".as_slice(),
-    )
-}
-
-/// Whether what never ends is a parse error.
-fn endless(alloc: Global) -> Result<bool, AllocError> {
-    let stream = around(alloc, "{", " ", 4_194_303, "")?;
-    let out = in_two(alloc, stream.as_bytes(), b" }")?;
-    Ok(out.as_slice() == PARSE.as_bytes())
+    let frame = around(rt.alloc(), "{", " ", spaces, behind)?;
+    let out = in_two(rt.alloc(), frame.as_bytes(), FIRST.as_bytes())?;
+    assert_eq!(rt;
+        out.as_slice(),
+        b"{\"error\":{\"code\":-32601,\"message\":\"Method not found\"},\"id\":1,\"jsonrpc\":\"2.0\"}\nread\n".as_slice()
+    );
+    Ok(())
 }
 
 #[test]
-fn deep_frames_are_told(rt: HostRuntime) {
-    assert_eq!(rt; deep_frames(rt.alloc()), Ok(true));
-}
-
-#[test]
-fn the_largest_request_is_read_and_what_never_ends_is_a_parse_error(rt: HostRuntime) {
-    assert_eq!(rt; largest(rt.alloc()), Ok(true));
-    assert_eq!(rt; endless(rt.alloc()), Ok(true));
+fn what_never_ends_is_a_parse_error(rt: HostRuntime) -> Result<(), Fail> {
+    let stream = around(rt.alloc(), "{", " ", 4_194_303, "")?;
+    let out = in_two(rt.alloc(), stream.as_bytes(), b" }")?;
+    assert_eq!(rt; out.as_slice(), PARSE.as_bytes());
+    Ok(())
 }

@@ -10,7 +10,7 @@ const LIMIT: usize = 4_194_304;
 const READ: &str = "read\n";
 
 /// The first example's request.
-pub(crate) const FIRST: &str =
+pub const FIRST: &str =
     r#"{"jsonrpc":"2.0","id":1,"method":"execute","params":{"state":{"format":"KORE","version":1,"term":{"tag":"App","name":"Lblcount","sorts":[],"args":[{"tag":"DV","sort":{"tag":"SortApp","name":"SortInt","args":[]},"value":"2"}]}}}}"#;
 
 /// What stands for the reply to a request that was read.
@@ -82,7 +82,7 @@ fn add_batch(alloc: Global, calls: Vec<Call>, out: &mut Vec<u8>) -> Result<(), A
 }
 
 /// Adds the reply to a frame.
-fn add_frame(alloc: Global, frame: &[u8], out: &mut Vec<u8>) -> Result<(), AllocError> {
+pub fn add_frame(alloc: Global, frame: &[u8], out: &mut Vec<u8>) -> Result<(), AllocError> {
     match request_of(alloc, frame)? {
         Parsed::Single(call) => add_call(alloc, call, out),
         Parsed::Batch(calls) => add_batch(alloc, calls, out),
@@ -117,7 +117,7 @@ fn finish(alloc: Global, cutter: Cutter, out: &mut Vec<u8>) -> Result<(), AllocE
 }
 
 /// The replies to a stream that comes in two pieces.
-pub(crate) fn in_two(alloc: Global, first: &[u8], second: &[u8]) -> Result<Vec<u8>, AllocError> {
+pub fn in_two(alloc: Global, first: &[u8], second: &[u8]) -> Result<Vec<u8>, AllocError> {
     let mut out = Vec::new(alloc);
     let mut cutter = Cutter::new(alloc, LIMIT);
     feed(alloc, &mut cutter, first, &mut out)?;
@@ -145,14 +145,14 @@ fn joined(alloc: Global, first: &[u8], second: &str) -> Result<Vec<u8>, AllocErr
 }
 
 /// Whether a frame has this reply, and the first example's request behind it is read, cut after each byte.
-pub(crate) fn is_row(alloc: Global, frame: &[u8], reply: &str) -> Result<bool, AllocError> {
+pub fn is_row(alloc: Global, frame: &[u8], reply: &str) -> Result<bool, AllocError> {
     let stream = joined(alloc, frame, FIRST)?;
     let replies = joined(alloc, reply.as_bytes(), READ)?;
     are_replies(alloc, &stream, &replies)
 }
 
 /// The first frame of which this doesn't hold.
-pub(crate) fn failing<'a>(
+pub fn failing<'a>(
     alloc: Global,
     rows: &'a [(&'a str, &'a str)],
 ) -> Result<Option<&'a str>, AllocError> {
