@@ -1,39 +1,28 @@
 use kp_imports::LoadError;
-use kp_kore::{Definition, Module};
 use kp_modules::reached;
 use kp_text::read_definition;
-use std::alloc::{AllocError, Global};
+use std::alloc::Global;
 use std::test::Fail;
 
-/// The names of modules, each ended by a space.
-fn names(alloc: Global, modules: &[&Module]) -> Result<String, AllocError> {
+/// The names in order, each ended by a space, or the fault's code.
+fn order(alloc: Global, text: &str, main: &str) -> Result<String, Fail> {
+    let definition = read_definition(alloc, text.as_bytes()).map_err(|_| "no definition")?;
     let mut text = String::new(alloc);
-    for module in modules {
-        text.push_str(module.name.as_str())?;
-        text.push_str(" ")?;
+    match reached(alloc, &definition, main) {
+        Ok(found) => {
+            for module in found {
+                text.push_str(module.name.as_str())?;
+                text.push_str(" ")?;
+            }
+        }
+        Err(LoadError::Memory) => text.push_str("memory")?,
+        Err(LoadError::Fault(fault)) => text.push_str(fault.code())?,
     }
     Ok(text)
 }
 
-/// The names of the modules that are reached in order, or the fault's code.
-fn order_in(alloc: Global, definition: &Definition, main: &str) -> Result<String, AllocError> {
-    match reached(alloc, definition, main) {
-        Ok(found) => names(alloc, &found),
-        Err(LoadError::Memory) => Err(AllocError),
-        Err(LoadError::Fault(fault)) => String::from_str(alloc, fault.code()),
-    }
-}
-
-/// The same of a definition's text.
-fn order(alloc: Global, text: &str, main: &str) -> Result<String, Fail> {
-    match read_definition(alloc, text.as_bytes()) {
-        Ok(definition) => Ok(order_in(alloc, &definition, main)?),
-        Err(_) => Err(Fail::from("no definition")),
-    }
-}
-
 /// Modules, and what is reached of MAIN.
-static ROWS: [(&str, &str); 5] = [
+const ROWS: [(&str, &str); 5] = [
     (
         "[] module MAIN import B [] import A [] import B [] endmodule [] module A import C [] endmodule [] module B import D [] import C [] endmodule [] module C endmodule [] module D endmodule [] module E import NOPE [] endmodule []",
         "D C B A MAIN ",
@@ -50,18 +39,11 @@ static ROWS: [(&str, &str); 5] = [
     ("[] module A endmodule [] module A endmodule []", "M5"),
 ];
 
-/// The first modules of which something else is reached.
-fn failing(alloc: Global) -> Result<Option<&'static str>, Fail> {
-    for (text, wanted) in &ROWS {
-        if order(alloc, text, "MAIN")?.as_str() != *wanted {
-            return Ok(Some(*text));
-        }
-    }
-    Ok(None)
-}
-
 #[test]
 fn imports_come_first_and_once(rt: HostRuntime) -> Result<(), Fail> {
-    assert_eq!(rt; failing(rt.alloc())?, None);
+    for (text, wanted) in ROWS {
+        let found = order(rt.alloc(), text, "MAIN")?;
+        assert_eq!(rt; found.as_str(), wanted);
+    }
     Ok(())
 }

@@ -37,38 +37,28 @@ fn is_below(alloc: Global, text: &str, lower: &str, upper: &str) -> Result<bool,
     Ok(signature.subsort(&lower, &upper))
 }
 
-/// A definition, two sorts, and whether the first lies below the second.
-static ROWS: [(&str, &str, &str, bool); 16] = [
-    (LADDER, "A", "C", true),
-    (LADDER, "D", "C", true),
-    (LADDER, "C", "A", false),
-    (LADDER, "A", "D", false),
-    (LADDER, "N", "N", true),
-    (LADDER, "N", "C", false),
-    (OVERLAP, "A", "D", true),
-    (OVERLAP, "E", "D", true),
-    (OVERLAP, "E", "C", false),
-    (OVERLAP, "B", "C", false),
-    (RING, "A", "C", true),
-    (RING, "C", "B", true),
-    (RING, "D", "A", true),
-    (RING, "B", "E", true),
-    (RING, "A", "D", false),
-    (RING, "E", "A", false),
-];
-
-/// The first two sorts of which something else is told.
-fn failing(alloc: Global) -> Result<Option<(&'static str, &'static str)>, Fail> {
-    for (text, lower, upper, told) in &ROWS {
-        if is_below(alloc, text, lower, upper)? != *told {
-            return Ok(Some((*lower, *upper)));
-        }
-    }
-    Ok(None)
-}
-
 #[test]
 fn sorts_lie_below_others_by_all_pairs(rt: HostRuntime) -> Result<(), Fail> {
-    assert_eq!(rt; failing(rt.alloc())?, None);
+    let rows = [
+        (LADDER, "A", "C", true),
+        (LADDER, "D", "C", true),
+        (LADDER, "C", "A", false),
+        (LADDER, "A", "D", false),
+        (LADDER, "N", "N", true),
+        (LADDER, "N", "C", false),
+        (OVERLAP, "A", "D", true),
+        (OVERLAP, "E", "D", true),
+        (OVERLAP, "E", "C", false),
+        (OVERLAP, "B", "C", false),
+        (RING, "A", "C", true),
+        (RING, "C", "B", true),
+        (RING, "D", "A", true),
+        (RING, "B", "E", true),
+        (RING, "A", "D", false),
+        (RING, "E", "A", false),
+    ];
+    for (text, lower, upper, told) in &rows {
+        assert_eq!(rt; is_below(rt.alloc(), *text, *lower, *upper)?, *told);
+    }
     Ok(())
 }

@@ -4,7 +4,7 @@ use std::alloc::Global;
 use std::test::Fail;
 
 /// A pattern, and what it is with 2 for X and f() for Y.
-static ROWS: [(&str, &str); 5] = [
+const ROWS: [(&str, &str); 5] = [
     (
         r#"Lblpair{}(X:SortInt{}, Z:SortInt{})"#,
         r#"Lblpair{}(\dv{SortInt{}}("2"), Z:SortInt{})"#,
@@ -24,45 +24,28 @@ static ROWS: [(&str, &str); 5] = [
     (r#"@X:SortInt{}"#, r#"@X:SortInt{}"#),
 ];
 
-/// A term in the place of a variable.
 fn replacement(alloc: Global, name: &str, term: &str) -> Result<Replacement, Fail> {
-    let name = String::from_str(alloc, name)?;
-    let term = pattern(alloc, term)?;
-    Ok(Replacement { name, term })
-}
-
-/// Whether a text's pattern becomes another's.
-fn becomes(
-    alloc: Global,
-    replacements: &[Replacement],
-    text: &str,
-    wanted: &str,
-) -> Result<bool, Fail> {
-    let before = pattern(alloc, text)?;
-    let wanted = pattern(alloc, wanted)?;
-    let found = substitute(alloc, &before, replacements)?;
-    Ok(found.equal(&wanted))
-}
-
-/// The first text that becomes something else.
-fn failing_with(alloc: Global, replacements: &[Replacement]) -> Result<Option<&'static str>, Fail> {
-    for (text, wanted) in &ROWS {
-        if !becomes(alloc, replacements, text, wanted)? {
-            return Ok(Some(*text));
-        }
-    }
-    Ok(None)
-}
-
-/// The same with a number in the place of X and a call in that of Y.
-fn failing(alloc: Global) -> Result<Option<&'static str>, Fail> {
-    let two = replacement(alloc, "X", r#"\dv{SortInt{}}("2")"#)?;
-    let call = replacement(alloc, "Y", r#"Lblf{}()"#)?;
-    failing_with(alloc, &[two, call])
+    Ok(Replacement {
+        name: String::from_str(alloc, name)?,
+        term: pattern(alloc, term)?,
+    })
 }
 
 #[test]
 fn closed_terms_are_put_in_for_free_variables(rt: HostRuntime) -> Result<(), Fail> {
-    assert_eq!(rt; failing(rt.alloc())?, None);
+    let alloc = rt.alloc();
+    let mut replacements = Vec::new(alloc);
+    replacements
+        .push(replacement(alloc, "X", r#"\dv{SortInt{}}("2")"#)?)
+        .map_err(|_| "memory")?;
+    replacements
+        .push(replacement(alloc, "Y", r#"Lblf{}()"#)?)
+        .map_err(|_| "memory")?;
+    for (text, wanted) in ROWS {
+        let before = pattern(alloc, text)?;
+        let wanted = pattern(alloc, wanted)?;
+        let found = substitute(alloc, &before, &replacements)?;
+        assert!(rt; found.equal(&wanted));
+    }
     Ok(())
 }

@@ -7,16 +7,11 @@ use std::test::Fail;
 
 /// The pattern of a text.
 pub(crate) fn pattern(alloc: Global, text: &str) -> Result<Pattern, Fail> {
-    match read_pattern(alloc, text.as_bytes()) {
-        Ok(pattern) => Ok(pattern),
-        Err(_) => Err(Fail::from("no pattern")),
-    }
+    Ok(read_pattern(alloc, text.as_bytes()).map_err(|_| "no pattern")?)
 }
 
 /// The signature of a module's text.
 pub(crate) fn signature(alloc: Global, text: &str) -> Result<Signature, Fail> {
-    match read_module(alloc, text.as_bytes()) {
-        Ok(module) => Ok(Signature::new(alloc, &[&module])?),
-        Err(_) => Err(Fail::from("no module")),
-    }
+    let module = read_module(alloc, text.as_bytes()).map_err(|_| "no module")?;
+    Ok(Signature::new(alloc, &[&module])?)
 }

@@ -1,5 +1,4 @@
-use crate::claim_files::toys;
-use crate::claims::error_text;
+use crate::files::{definition, error_text, signature_of};
 use kp_claim_files::read_claims;
 use kp_signature::Signature;
 use std::alloc::Global;
@@ -13,7 +12,6 @@ const NEEDS: &str = r#""),depends{}(""#;
 
 const END: &str = r#"")]"#;
 
-/// Adds a number.
 fn add_number(alloc: Global, text: &mut String, number: usize) -> Result<(), Fail> {
     let digits = format!(in alloc; "{number}")?;
     Ok(text.push_str(digits.as_str())?)
@@ -59,30 +57,29 @@ fn add_end(alloc: Global, text: &mut String, last: usize, ring: bool) -> Result<
 fn told_by(alloc: Global, signature: &Signature, file: &[u8]) -> Result<String, Fail> {
     match read_claims(alloc, file, signature) {
         Ok(items) => Ok(format!(in alloc; "{}", items.len())?),
-        Err(error) => Ok(error_text(alloc, &error)?),
+        Err(error) => error_text(alloc, &error),
     }
 }
 
-/// The same over the definition.
 fn told(alloc: Global, file: &[u8]) -> Result<String, Fail> {
-    let signature = toys(alloc)?;
+    let definition = definition(alloc)?;
+    let signature = signature_of(alloc, &definition.modules)?;
     told_by(alloc, &signature, file)
 }
 
-/// The same of a chain or a ring.
 fn told_of(alloc: Global, last: usize, ring: bool) -> Result<String, Fail> {
     let file = chain(alloc, last, ring)?;
     told(alloc, file.as_bytes())
 }
 
-/// Whether a chain of 100,000 claims is read, and a ring of 50,000 told as one.
-fn chain_and_ring(alloc: Global) -> Result<bool, Fail> {
-    let is_read = told_of(alloc, 99_999, false)?.as_str() == "100000";
-    Ok(is_read && told_of(alloc, 49_999, true)?.as_str() == "C5")
+#[test]
+fn a_file_of_a_hundred_thousand_claims_in_a_chain(rt: HostRuntime) -> Result<(), Fail> {
+    assert_eq!(rt; told_of(rt.alloc(), 99_999, false)?.as_str(), "100000");
+    Ok(())
 }
 
 #[test]
-fn files_of_many_claims_in_a_chain_and_in_a_ring(rt: HostRuntime) -> Result<(), Fail> {
-    assert!(rt; chain_and_ring(rt.alloc())?);
+fn a_file_of_fifty_thousand_claims_in_a_ring(rt: HostRuntime) -> Result<(), Fail> {
+    assert_eq!(rt; told_of(rt.alloc(), 49_999, true)?.as_str(), "C5");
     Ok(())
 }

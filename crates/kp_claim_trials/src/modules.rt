@@ -1,93 +1,93 @@
-use crate::texts::pattern;
 use kp_claim_files::module_text;
 use kp_claim_sentences::{ClaimItem, comma_parts};
-use kp_kore::Sort;
+use kp_kore::{Pattern, Sort};
 use kp_semantics::Claim;
+use kp_text::read_pattern;
 use std::alloc::Global;
 use std::test::Fail;
 
-/// The sort of configurations.
+fn pattern(alloc: Global, text: &str) -> Result<Pattern, Fail> {
+    match read_pattern(alloc, text.as_bytes()) {
+        Ok(pattern) => Ok(pattern),
+        Err(_) => Err(Fail::from("no pattern")),
+    }
+}
+
 fn sort(alloc: Global) -> Result<Sort, Fail> {
-    let name = String::from_str(alloc, "SortS")?;
     Ok(Sort::App {
-        name,
+        name: String::from_str(alloc, "SortS")?,
         arguments: Vec::new(alloc),
     })
 }
 
-/// The sides of a claim.
-fn sides(alloc: Global, left: &str, right: &str) -> Result<Claim, Fail> {
-    let left = pattern(alloc, left)?;
-    let right = pattern(alloc, right)?;
-    Ok(Claim { left, right })
-}
-
 /// A claim of these sides, with a label that its rule doesn't have.
 fn claim(alloc: Global, left: &str, right: &str) -> Result<ClaimItem, Fail> {
-    let label = String::from_str(alloc, "T.claim")?;
-    let sort = sort(alloc)?;
-    let pattern = pattern(alloc, left)?;
-    let claim = sides(alloc, left, right)?;
+    let sides = Claim {
+        left: pattern(alloc, left)?,
+        right: pattern(alloc, right)?,
+    };
     Ok(ClaimItem {
-        label,
-        sort,
-        pattern,
-        claim,
+        label: String::from_str(alloc, "T.claim")?,
+        sort: sort(alloc)?,
+        pattern: pattern(alloc, left)?,
+        claim: sides,
         circular: true,
         depends: Vec::new(alloc),
     })
 }
 
-/// Two claims.
 fn two(alloc: Global) -> Result<Vec<ClaimItem>, Fail> {
     let mut claims = Vec::new(alloc);
-    for (left, right) in &SIDES {
-        claims.push(claim(alloc, left, right)?)?;
-    }
+    claims.push(claim(alloc, DOWN, "Lbldone{}()")?)?;
+    claims.push(claim(
+        alloc,
+        "Lbllone{}()",
+        r"\exists{SortS{}}(Z:SortInt{},Lblvh{}(Z:SortInt{}))",
+    )?)?;
     Ok(claims)
 }
 
-/// The sides of two claims.
-static SIDES: [(&str, &str); 2] = [
-    (DOWN, "Lbldone{}()"),
-    (
-        "Lbllone{}()",
-        r"\exists{SortS{}}(Z:SortInt{},Lblvh{}(Z:SortInt{}))",
-    ),
-];
-
-/// The left side of the first claim.
 const DOWN: &str =
     r#"\and{SortS{}}(Lblcount{}(X:SortInt{}), \equals{SortBool{}, SortS{}}(Lblge{}(X:SortInt{}, \dv{SortInt{}}("0")), \dv{SortBool{}}("true")))"#;
 
-/// The module of the second claim and the first.
 const SECOND_AND_FIRST: &str =
     r#"module CLAIMS import TOYS [] axiom{} \rewrites{SortS{}}(Lbllone{}(),\exists{SortS{}}(Z:SortInt{},Lblvh{}(Z:SortInt{}))) [priority{}("20")] axiom{} \rewrites{SortS{}}(\and{SortS{}}(Lblcount{}(X:SortInt{}),\equals{SortBool{},SortS{}}(Lblge{}(X:SortInt{},\dv{SortInt{}}("0")),\dv{SortBool{}}("true"))),Lbldone{}()) [priority{}("20")] endmodule []"#;
 
-/// Whether the claims are written as rules, the second first.
-fn second_and_first(alloc: Global) -> Result<bool, Fail> {
-    let claims = two(alloc)?;
-    if claims.len() < 2 {
-        return Ok(false);
+fn read(alloc: Global, bytes: Vec<u8>) -> Result<String, Fail> {
+    match String::from_utf8(bytes) {
+        Ok(text) => Ok(text),
+        Err(_) => Err(Fail::from("no UTF-8")),
     }
-    let bytes = module_text(alloc, "TOYS", &claims, &[1, 0])?;
-    Ok(bytes.as_slice() == SECOND_AND_FIRST.as_bytes())
 }
 
-/// Whether a module without claims is written so.
-fn none(alloc: Global) -> Result<bool, Fail> {
+fn second_and_first(alloc: Global) -> Result<String, Fail> {
+    let claims = two(alloc)?;
+    if claims.len() < 2 {
+        return Err(Fail::from("no claims"));
+    }
+    let bytes = module_text(alloc, "TOYS", &claims, &[1, 0])?;
+    read(alloc, bytes)
+}
+
+fn none(alloc: Global) -> Result<String, Fail> {
     let bytes = module_text(alloc, "TOYS", &[], &[])?;
-    Ok(bytes.as_slice() == b"module CLAIMS import TOYS [] endmodule []".as_slice())
+    read(alloc, bytes)
 }
 
 #[test]
 fn claims_are_written_as_rules(rt: HostRuntime) -> Result<(), Fail> {
-    let told = (second_and_first(rt.alloc())?, none(rt.alloc())?);
-    assert_eq!(rt; told, (true, true));
+    let found = second_and_first(rt.alloc())?;
+    assert_eq!(rt; found.as_str(), SECOND_AND_FIRST);
     Ok(())
 }
 
-/// The labels that stand between commas, each ended by a semicolon.
+#[test]
+fn a_module_without_claims(rt: HostRuntime) -> Result<(), Fail> {
+    let found = none(rt.alloc())?;
+    assert_eq!(rt; found.as_str(), "module CLAIMS import TOYS [] endmodule []");
+    Ok(())
+}
+
 fn parts(alloc: Global, labels: &str) -> Result<String, Fail> {
     let mut text = String::new(alloc);
     for part in comma_parts(alloc, labels)? {
@@ -97,26 +97,18 @@ fn parts(alloc: Global, labels: &str) -> Result<String, Fail> {
     Ok(text)
 }
 
-/// Texts, and their labels.
-static LABELS: [(&str, &str); 4] = [
+const LABELS: [(&str, &str); 4] = [
     ("", ";"),
     ("a", "a;"),
     ("T.a,T.b", "T.a;T.b;"),
     (",a,", ";a;;"),
 ];
 
-/// The first text of other labels.
-fn failing(alloc: Global) -> Result<Option<&'static str>, Fail> {
-    for (labels, wanted) in &LABELS {
-        if parts(alloc, labels)?.as_str() != *wanted {
-            return Ok(Some(*labels));
-        }
-    }
-    Ok(None)
-}
-
 #[test]
 fn labels_stand_between_commas(rt: HostRuntime) -> Result<(), Fail> {
-    assert_eq!(rt; failing(rt.alloc())?, None);
+    for (labels, wanted) in LABELS {
+        let found = parts(rt.alloc(), labels)?;
+        assert_eq!(rt; found.as_str(), wanted);
+    }
     Ok(())
 }

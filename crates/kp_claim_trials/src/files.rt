@@ -1,7 +1,7 @@
-use crate::claims::error_text;
 use kp_claim_files::read_claims;
 use kp_claim_sentences::ClaimItem;
-use kp_kore::Module;
+use kp_claims::ClaimError;
+use kp_kore::{Definition, Module};
 use kp_signature::Signature;
 use kp_text::read_definition;
 use std::alloc::Global;
@@ -32,20 +32,21 @@ module TOYS
 endmodule []
 "#;
 
-/// The signature of these modules.
-fn signature_of(alloc: Global, modules: &[Module]) -> Result<Signature, Fail> {
+pub fn definition(alloc: Global) -> Result<Definition, Fail> {
+    match read_definition(alloc, TOYS.as_bytes()) {
+        Ok(definition) => Ok(definition),
+        Err(_) => Err(Fail::from("no definition")),
+    }
+}
+
+pub fn signature_of(alloc: Global, modules: &[Module]) -> Result<Signature, Fail> {
     let mut all = Vec::new(alloc);
     for module in modules {
         all.push(module)?;
     }
-    Ok(Signature::new(alloc, &all)?)
-}
-
-/// The signature of the definition.
-pub(crate) fn toys(alloc: Global) -> Result<Signature, Fail> {
-    match read_definition(alloc, TOYS.as_bytes()) {
-        Ok(definition) => signature_of(alloc, &definition.modules),
-        Err(_) => Err(Fail::from("no definition")),
+    match Signature::new(alloc, &all) {
+        Ok(signature) => Ok(signature),
+        Err(_) => Err(Fail::from("no signature")),
     }
 }
 
@@ -58,7 +59,6 @@ fn labels(alloc: Global, items: &[ClaimItem]) -> Result<String, Fail> {
     Ok(text)
 }
 
-/// Adds the label of a claim, its dependencies and `!` where it is its own circularity.
 fn add_item(text: &mut String, item: &ClaimItem) -> Result<(), Fail> {
     text.push_str(item.label.as_str())?;
     if item.circular {
@@ -71,17 +71,28 @@ fn add_item(text: &mut String, item: &ClaimItem) -> Result<(), Fail> {
     Ok(text.push_str(" ")?)
 }
 
-/// The labels of a file's claims over a signature, or what is wrong with it.
-fn told_by(alloc: Global, signature: &Signature, file: &[u8]) -> Result<String, Fail> {
-    match read_claims(alloc, file, signature) {
-        Ok(items) => labels(alloc, &items),
-        Err(error) => Ok(error_text(alloc, &error)?),
+/// What is wrong with a file of claims.
+pub fn error_text(alloc: Global, error: &ClaimError) -> Result<String, Fail> {
+    match error {
+        ClaimError::Memory => Err(Fail::from("memory")),
+        ClaimError::Text(fault) => {
+            Ok(format!(in alloc; "text {} at {}", fault.kind.number(), fault.at)?)
+        }
+        ClaimError::Fault(fault) => Ok(String::from_str(alloc, fault.code())?),
     }
 }
 
-/// The same over the definition.
+fn told_by(alloc: Global, signature: &Signature, file: &[u8]) -> Result<String, Fail> {
+    match read_claims(alloc, file, signature) {
+        Ok(items) => labels(alloc, &items),
+        Err(error) => error_text(alloc, &error),
+    }
+}
+
+/// The labels of a file's claims, or what is wrong with it.
 fn told(alloc: Global, file: &[u8]) -> Result<String, Fail> {
-    let signature = toys(alloc)?;
+    let definition = definition(alloc)?;
+    let signature = signature_of(alloc, &definition.modules)?;
     told_by(alloc, &signature, file)
 }
 
@@ -109,7 +120,6 @@ fn claim(alloc: Global, row: &str) -> Result<String, Fail> {
     Ok(text)
 }
 
-/// Adds a claim whose left side, and right side with attributes, are given.
 fn add_claim(text: &mut String, left: &str, rest: &str) -> Result<(), Fail> {
     match rest.split_once(" [") {
         Some((right, attributes)) => add_parts(text, left, right, attributes),
@@ -117,7 +127,6 @@ fn add_claim(text: &mut String, left: &str, rest: &str) -> Result<(), Fail> {
     }
 }
 
-/// Adds a claim of its parts.
 fn add_parts(text: &mut String, left: &str, right: &str, attributes: &str) -> Result<(), Fail> {
     text.push_str(r"claim{} \implies{SortS{}}(")?;
     text.push_str(left)?;
@@ -150,8 +159,7 @@ Lblsq{}(X:SortInt{}) => Lbldone{}() [label{}("T.sq")]"#;
 const SAME_AND_LONE: &str = r#"Lbllone{}() => Lbllone{}() [label{}("T.same")]
 Lbllone{}() => Lblgoal{}() [label{}("T.lone"), circularity{}(), depends{}("T.same")]"#;
 
-/// Claims, and the labels that are read or the first fault.
-static ROWS: [(&str, &str); 59] = [
+const READ: [(&str, &str); 12] = [
     (DOWN, "T.down! "),
     (ALL_AND_LOOP, "T.all! T.loop! T.back T.sq "),
     (SAME_AND_LONE, "T.same T.lone!<T.same "),
@@ -190,6 +198,17 @@ static ROWS: [(&str, &str); 59] = [
         "a ",
     ),
     ("", ""),
+];
+
+#[test]
+fn claims_are_read(rt: HostRuntime) -> Result<(), Fail> {
+    for (claims, wanted) in READ {
+        assert_eq!(rt; of_claims(rt.alloc(), claims)?.as_str(), wanted);
+    }
+    Ok(())
+}
+
+const FAULTS: [(&str, &str); 47] = [
     // C1
     (
         r#"claim{} \implies{SortS{}}(Lbldone{}(), weakExistsFinally{SortS{}}(Lbldone{}())) []"#,
@@ -371,24 +390,16 @@ static ROWS: [(&str, &str); 59] = [
     ),
 ];
 
-/// The first claims of which something else is said.
-fn failing(alloc: Global) -> Result<Option<&'static str>, Fail> {
-    for (claims, wanted) in &ROWS {
-        if of_claims(alloc, claims)?.as_str() != *wanted {
-            return Ok(Some(*claims));
-        }
-    }
-    Ok(None)
-}
-
 #[test]
-fn claims_are_read_or_the_first_fault_is_told(rt: HostRuntime) -> Result<(), Fail> {
-    assert_eq!(rt; failing(rt.alloc())?, None);
+fn the_first_fault_is_told(rt: HostRuntime) -> Result<(), Fail> {
+    for (claims, wanted) in FAULTS {
+        assert_eq!(rt; of_claims(rt.alloc(), claims)?.as_str(), wanted);
+    }
     Ok(())
 }
 
 /// Bytes that are neither a definition nor modules alone, with the fault of both.
-static TEXTS: [(&str, &str); 5] = [
+const TEXTS: [(&str, &str); 5] = [
     ("", "text 5 at 0"),
     ("sort", "text 2 at 0"),
     ("module A endmodule", "text 5 at 18"),
@@ -396,18 +407,10 @@ static TEXTS: [(&str, &str); 5] = [
     ("module A endmodule [] x", "text 2 at 22"),
 ];
 
-/// The first text of which something else is told.
-fn told_otherwise(alloc: Global) -> Result<Option<&'static str>, Fail> {
-    for (text, wanted) in &TEXTS {
-        if told(alloc, text.as_bytes())?.as_str() != *wanted {
-            return Ok(Some(*text));
-        }
-    }
-    Ok(None)
-}
-
 #[test]
 fn a_text_fault_is_told_with_its_place(rt: HostRuntime) -> Result<(), Fail> {
-    assert_eq!(rt; told_otherwise(rt.alloc())?, None);
+    for (text, wanted) in TEXTS {
+        assert_eq!(rt; told(rt.alloc(), text.as_bytes())?.as_str(), wanted);
+    }
     Ok(())
 }
