@@ -23,13 +23,23 @@ pub enum Ask<'a> {
     Anything,
     Nothing,
     /// Any value of the sort.
-    Any { sort: &'a Sort },
+    Any {
+        sort: &'a Sort,
+    },
     /// The value of the rule's variable.
-    Variable { name: &'a Arc<String>, sort: &'a Sort },
+    Variable {
+        name: &'a Arc<String>,
+        sort: &'a Sort,
+    },
     /// A whole number, a truth value or a token.
-    Literal { value: &'a Value },
+    Literal {
+        value: &'a Value,
+    },
     /// A constructor and its members.
-    Constructor { symbol: &'a Arc<String>, members: Members<'a> },
+    Constructor {
+        symbol: &'a Arc<String>,
+        members: Members<'a>,
+    },
 }
 
 /// The members of a constructor in a left side.

@@ -21,11 +21,7 @@ use std::alloc::{AllocError, Global};
 use std::sync::Arc;
 
 /// Both lists of clauses, the second behind the first, sharing them.
-pub fn behind(
-    alloc: Global,
-    first: &[Clause],
-    second: &[Clause],
-) -> Result<Vec<Clause>, AllocError>
+pub fn behind(alloc: Global, first: &[Clause], second: &[Clause]) -> Result<Vec<Clause>, AllocError>
     ensures { IfOk result (λ cs. clauses_view cs.items ≡ clauses_view first.now ++ clauses_view second.now) }
 {
     let mut clauses = Clause::share_all(alloc, first)?;

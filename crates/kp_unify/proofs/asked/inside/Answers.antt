@@ -41,4 +41,3 @@ loop-head-preserved c =
     let e : before ≡ h ∷ after = subst (λ o. IsNext (option_map head_view o) before after) c.in-Some.is c.next.ensures.next in
     let k : is_head g (sort_view c.args.sort.now) h ≡ true = let p = c.if-not-is_head.false in let q = c.is_head.ensures in cc in
     (left_out (clause_without g x (sort_view c.args.sort.now)) (λ h. not (is_head g (sort_view c.args.sort.now) h)) (clauses_view c.loop-head.found.items) _ before after h e (ap not k) c.loop-head.invariant.0, c.next.ensures.signature ∙ c.loop-head.invariant.1)
-

@@ -39,4 +39,3 @@ loop-head-preserved c =
     let after = left_of c.next.new.self in
     let e : before ≡ h ∷ after = subst (λ o. IsNext (option_map head_view o) before after) c.in-Some.is c.next.ensures.next in
     (left_out (λ h. tested g false x h ∷ []) (is_head g (sort_view c.args.sort.now)) (clauses_view c.loop-head.found.items) _ before after h e (sym c.is_head.ensures ∙ c.if-is_head.false) c.loop-head.invariant.0, c.next.ensures.signature ∙ c.loop-head.invariant.1)
-

@@ -13,6 +13,6 @@ returns-in-Constructed c =
     let us = c.in-Constructed.arguments.value.items in
     let seen : value_view c.args.value.now ≡ constructed name (values_of (map value_view us)) = search (rules, the_lemmas, c.in-Constructed.is) in
     let told : HasMembers (model.fixed (value_view c.args.value.now)) name (model.forms_of (map (λ u. model.fixed (value_view u)) us)) =
-        subst (λ w. HasMembers (model.fixed w) name (model.forms_of (map (λ u. model.fixed (value_view u)) us))) (sym seen) (members_of_value name us) in
+    subst (λ w. HasMembers (model.fixed w) name (model.forms_of (map (λ u. model.fixed (value_view u)) us))) (sym seen) (members_of_value name us) in
     let same : us ≡ c.deref-in-Constructed.result.now = search rules in
     subst (λ vs. HasMembers (model.fixed (value_view c.args.value.now)) name (model.forms_of (map (λ u. model.fixed (value_view u)) vs))) same told
