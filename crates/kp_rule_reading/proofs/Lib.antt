@@ -2,6 +2,7 @@ pub mod Bindings
 pub mod Constrained
 pub mod Declared
 pub mod KnownSides
+pub mod LeftForms
 pub mod LeftTerms
 pub mod NameSets
 pub mod Named

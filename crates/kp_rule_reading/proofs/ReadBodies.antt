@@ -27,6 +27,11 @@ use Rattle.kp_rules.specs.declared.rule.Rewrite as code
 use Rattle.kp_rules.specs.declared.shape.Shape.{Shape}
 use Rattle.kp_rule_reading.proofs.ReadParts.{is_read, statement_read, side_read}
 use Rattle.kp_rule_reading.proofs.Declared.{none_foreign}
+use Rattle.kp_rules.specs.LeftSides.{IsLeftSide, IsOverLeft}
+use Rattle.kp_rules.specs.Sides.{AreSidesOf}
+use Rattle.kp_rules.specs.declared.sides.Sides.{Sides}
+use Rattle.kp_rule_reading.specs.LeftForms.{AreMadeSides}
+use Rattle.kp_rule_reading.proofs.LeftForms.{is_left_side}
 use Rattle.kp_rule_reading.proofs.Constrained.{is_constrained}
 use Rattle.kp_rule_reading.proofs.LeftTerms.{left_is, constrained_is_term, left_passes}
 use Rattle.kp_rule_reading.proofs.PlainRules.{plain, is_plain}
@@ -50,11 +55,11 @@ opposite : (b : Bool) → not b ≡ false → b ≡ true
 opposite true h = refl
 opposite false h = absurd (cc)
 
-rewrite_is : (g : KoreSignature) (s : KoreSort) (r : KorePattern) (m : model.Rewrite) (w : code.Rewrite) → IsConstrained m → IsMadeOf g s m w → IsVerifiedLeft g m.left →
+rewrite_is : (g : KoreSignature) (s : KoreSort) (r : KorePattern) (m : model.Rewrite) (w : code.Rewrite) → IsConstrained m → IsMadeOf g s m w → IsVerifiedLeft g m.left → AreSidesOf g m w.sides →
     m.new_variables ≡ model.new_variables_of m.left r → w.chooses ≡ not (is_plain_by (λ y. is_named y (free_variables m.left)) r m.ensured) →
     sort_of_term g m.right ≡ Some s →
     ((v : Valuation) → GivesSorts g v (free_variables m.left) → m.new_variables ≡ [] → HasSort g s (instance g v m.right)) → IsRewriteOf g m w
-rewrite_is g s r m w constrained h verified new e right sorted = record {
+rewrite_is g s r m w constrained h verified sides new e right sorted = record {
   left = h.left;
   tests = h.tests verified;
   condition = h.condition;
@@ -66,6 +71,7 @@ rewrite_is g s r m w constrained h verified new e right sorted = record {
   chooses = λ t p. let so : is_plain_by (λ y. is_named y (free_variables m.left)) r m.ensured ≡ true = is_plain m r new p in
       let f : w.chooses ≡ false = e ∙ ap not so in absurd (cc);
   choice = h.choice;
+  sides = sides;
   constrained = constrained;
   sorted = λ v gives none. subst (λ t. HasSort g t (instance g v m.right)) (sym h.right_sort) (sorted v gives none);
 }
@@ -80,6 +86,17 @@ verified_left g a s l r m e shape h declared place =
       place,
     )
 
+-- the sides that are made are the rule's
+sides_are : (g : KoreSignature) (m : model.Rewrite) (w : Sides) → IsVerifiedLeft g m.left → none_within (misapplies_injection g) m.left ≡ true → IsOverLeft m → AreMadeSides g m w → AreSidesOf g m w
+sides_are g m w verified injections over made = record {
+  left = subst (IsLeftSide g m) (sym made.left) (is_left_side g m (record { term = verified.0; known = verified.1; uninterpreted = verified.2; injections = injections }));
+  over_left = over;
+  condition = made.condition;
+  right = made.right;
+  ensured = made.ensured;
+  new_variables = made.new_variables;
+}
+
 pub rewrite_body : (g : KoreSignature) (a : Statement) (s : KoreSort) (l r : KorePattern) (m : model.Rewrite) (w : code.Rewrite) → a.pattern ≡ rewriting s l r →
     (first_fault g the_top (rewriting s l r) ≡ None → model.rewrite_of (rewriting s l r) ≡ Some m → (c : Place) × (first_fault g c m.left ≡ None)) →
     (first_fault g the_top (rewriting s l r) ≡ None → model.rewrite_of (rewriting s l r) ≡ Some m → IsTrue (none_within (has_foreign_head g) (rewriting s l r)) → (v : Valuation) → GivesSorts g v (free_variables m.left) → m.new_variables ≡ [] → HasSort g s (instance g v m.right)) →
@@ -89,10 +106,12 @@ rewrite_body g a s l r m w e place sorted statement shape side fault injections 
     let read : IsRead g a.parameters a.attributes a.pattern m = is_read g a m statement (ap model.rewrite_of e ∙ shape) side in
     let none : first_fault g the_top (rewriting s l r) ≡ None = subst (λ p. first_fault g the_top p ≡ None) e fault in
     let own : IsTrue (none_within (has_foreign_head g) (rewriting s l r)) = subst (λ p. IsTrue (none_within (has_foreign_head g) p)) e (none_foreign g (subpatterns a.pattern) read.no_foreign_symbol declared) in
+    let left : IsVerifiedLeft g m.left = verified_left g a s l r m e shape read declared (place none shape) in
+    let passes : none_within (misapplies_injection g) m.left ≡ true = left_passes (λ q. not (misapplies_injection g q)) s l r m.left (left_is s l r m shape) (subst (λ p. none_within (misapplies_injection g) p ≡ true) e injections) in
     record {
       meant = model.rewrite m;
       reads = read;
-      is_body = rewrite_is g s r m w (is_constrained s l r m shape) made (verified_left g a s l r m e shape read declared (place none shape)) new chooses (right_has_sort g a s l r m e read fault injections declared) (sorted none shape own);
+      is_body = rewrite_is g s r m w (is_constrained s l r m shape) made left (sides_are g m w.sides left passes read.condition_variables made.sides) new chooses (right_has_sort g a s l r m e read fault injections declared) (sorted none shape own);
     }
 
 -- ---- faults

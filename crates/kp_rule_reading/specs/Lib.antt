@@ -1,4 +1,5 @@
 pub mod Compiled
+pub mod LeftForms
 pub mod Priorities
 pub mod Reading
 pub mod Tests

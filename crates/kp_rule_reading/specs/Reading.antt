@@ -22,6 +22,7 @@ use Rattle.kp_signature.specs.Verify.{VerifyFault}
 use Rattle.kp_rule_reading.specs.declared.read.RuleError.{RuleError}
 use Rattle.kp_rule_reading.specs.declared.read.RuleError.TheVariants.{Memory, Fault}
 use Rattle.kp_rules.specs.Heads.{HasHead}
+use Rattle.kp_rule_reading.specs.LeftForms.{AreMadeSides}
 use Rattle.kp_rules.specs.Bodies.{IsBodyOf, IsVerifiedLeft, IsChoiceOf}
 use Rattle.kp_rules.specs.Shapes.{seen, rewrite_seen}
 use Rattle.kp_rules.specs.declared.rule.RuleBody.{RuleBody}
@@ -86,6 +87,7 @@ pub record IsMadeOf (g : KoreSignature) (s : KoreSort) (m : model.Rewrite) (r : 
   pub condition_narrow : (v : Valuation) → is_condition_narrow v (condition_view r.condition) ≡ not (list_any (computes_wide g v) m.condition)
   pub right_sort : sort_view r.right_sort ≡ s
   pub choice : IsChoiceOf g m r.chooses r.choice
+  pub sides : AreMadeSides g m r.sides
 
 -- what is compiled of a rewrite is verified
 pub record IsSound (g : KoreSignature) (m : model.Rewrite) : Type 0 where

@@ -80,7 +80,7 @@ fn right_side(
 }
 
 /// The patterns once more.
-fn copies(alloc: Global, patterns: &[&Pattern]) -> Result<Vec<Pattern>, AllocError>
+pub fn copies(alloc: Global, patterns: &[&Pattern]) -> Result<Vec<Pattern>, AllocError>
     ensures { IfOk result (λ ps. map view ps.items ≡ seen patterns.now) }
 {
     let mut copies = Vec::new(alloc);
@@ -91,7 +91,7 @@ fn copies(alloc: Global, patterns: &[&Pattern]) -> Result<Vec<Pattern>, AllocErr
 }
 
 /// The variables of a right side that aren't named: those that `\exists` binds at the top, then those without a name.
-fn new_variables(
+pub fn new_variables(
     alloc: Global,
     right: &Pattern,
     names: &NameSet,

@@ -4,12 +4,14 @@
 mod choice;
 mod depth;
 mod label;
+mod left_side;
 mod names;
 mod old_parts;
 mod parts_read;
 pub mod priority;
 mod read;
 mod rewrite_parts;
+mod sides;
 mod sort_test;
 
 pub use label::label_of;

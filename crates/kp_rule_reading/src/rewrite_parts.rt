@@ -13,6 +13,7 @@ ghost use Rattle.kp_rule_reading.specs.Compiled.{IsKnownRight, IsRightOf, ArePar
 ghost use Rattle.kp_rule_reading.specs.Reading.{IsMadeOf, IsSound};
 
 use crate::choice::choice_of;
+use crate::sides::sides_of;
 use crate::sort_test::sort_tests;
 use kp_compile::{CompileError, NameSet, compile_condition, compile_left, compile_term};
 use kp_ground::{Condition, Term};
@@ -47,6 +48,7 @@ pub fn compiled(
     ensures sound { IfErr result (λ e. IsSound (signature_view signature.now) (rewrite_seen (view right.now) shape.now) → e ≡ compiling.Memory) }
 {
     let right_sort = sort.copy(alloc)?;
+    let sides = sides_of(alloc, signature, shape, right)?;
     let (left, names) = compile_left(alloc, signature, shape.left.term)?;
     let parts = compile_parts(alloc, signature, shape, right, names, chooses)?;
     Ok(Rewrite {
@@ -57,6 +59,7 @@ pub fn compiled(
         right_sort,
         chooses,
         choice: parts.choice,
+        sides,
     })
 }
 

@@ -2,6 +2,6 @@ pub mod Fired
 pub mod Firing
 pub mod Forms
 pub mod HeadSorts
+pub mod ShapeSides
 pub mod Showing
-pub mod Sides
 pub mod SkeletonLemmas

@@ -2,7 +2,9 @@ pub mod Bodies
 pub mod Bound
 pub mod Heads
 pub mod Known
+pub mod LeftSides
 pub mod OwnSorts
 pub mod Shapes
+pub mod Sides
 pub mod Skeletons
 pub mod WideParts

@@ -8,10 +8,12 @@ mod may_be;
 pub mod right_side;
 pub mod rule;
 pub mod shape;
+pub mod sides;
 pub mod skeleton;
 mod values;
 
 pub use right_side::{RightSide, is_named};
 pub use rule::{Rewrite, Rule, RuleBody, RuleSource, SortTest};
+pub use sides::Sides;
 pub use skeleton::Skeleton;
 pub use values::has_sort;

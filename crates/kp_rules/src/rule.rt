@@ -4,6 +4,7 @@ ghost use Rattle.kp_ground.specs.Slots.{left_variables};
 ghost use Rattle.kp_rules.specs.Bound.{is_left_bound, is_right_bound, names_of_choice};
 
 use crate::right_side::RightSide;
+use crate::sides::Sides;
 use crate::skeleton::Skeleton;
 use kp_ground::{Condition, Left, Term};
 use kp_kore::{Name, Sort};
@@ -59,6 +60,8 @@ pub struct Rewrite {
     pub chooses: bool,
     /// The right side of a rule that chooses, as its axiom has it.
     pub choice: Option<RightSide>,
+    /// What it says of states with variables.
+    pub sides: Sides,
     pub ghost left_bound: { is_left_bound left tests.items condition ≡ true } by { Prim.hlevel props },
     pub ghost right_bound: { is_right_bound left chooses choice right ≡ true } by { Prim.hlevel props },
     pub ghost choice_bound: { names_of_choice (left_variables left) choice ≡ left_variables left } by { Prim.hlevel props },
@@ -75,6 +78,7 @@ impl Drop for Rewrite {
             right_sort: _right_sort,
             chooses: _chooses,
             choice: _choice,
+            sides: _sides,
         } = self;
     }
 }

@@ -30,7 +30,7 @@ use std::sync::Arc;
 /// The most levels that a term has.
 pub const MOST_DEPTH: usize = 48;
 
-/// What a foreign rule's left side may stand for.
+/// What a rule's left side may stand for.
 #[derive(Drop)]
 pub enum Skeleton {
     /// Any value.
@@ -40,7 +40,7 @@ pub enum Skeleton {
     Any {
         sort: Sort,
     },
-    /// One value of a sort with literals, the same wherever the variable stands.
+    /// One value of the sort, the same wherever the variable stands.
     Variable {
         name: Arc<String>,
         sort: Sort,
@@ -145,7 +145,7 @@ fn variable(
 }
 
 /// The one value of a variable's name at its sort.
-fn one_value(alloc: Global, name: &Name, sort: &Sort) -> Result<Skeleton, AllocError>
+pub fn one_value(alloc: Global, name: &Name, sort: &Sort) -> Result<Skeleton, AllocError>
     ensures { IfOk result (λ k. skeleton_view k ≡ one_of (string_bytes name.now) (sort_view sort.now)) }
 {
     Ok(Skeleton::Variable {
@@ -227,7 +227,7 @@ fn literal(
 }
 
 /// A constructor with its arguments.
-fn built(alloc: Global, symbol: &Name, arguments: Vec<Skeleton>) -> Result<Skeleton, AllocError>
+pub fn built(alloc: Global, symbol: &Name, arguments: Vec<Skeleton>) -> Result<Skeleton, AllocError>
     ensures { IfOk result (λ k. skeleton_view k ≡ built_form (string_bytes symbol.now) (forms_of (map skeleton_view arguments.items))) }
 {
     Ok(Skeleton::Built {

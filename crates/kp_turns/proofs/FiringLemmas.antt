@@ -23,7 +23,7 @@ use Rattle.kp_cases.specs.Cases.{MetPart, IsMetBy, IsApart, AreCases, left_side}
 use Rattle.kp_cases.proofs.PartLemmas.{divides_of_these, undivided_where}
 use Rattle.kp_cases.proofs.Excluding.{holding_part, other_parts, none_holds}
 use Rattle.kp_cases.proofs.CaseLemmas.{gives_valuation}
-use Rattle.kp_turns.specs.LeftSides.{IsLeftInstance, IsLeftSide, IsOverLeft}
+use Rattle.kp_rules.specs.LeftSides.{IsLeftInstance, IsLeftSide, IsOverLeft}
 use Rattle.kp_turns.specs.Firing.{SaysCondition, FiringPart, IsFiringPart, FiresNowhere, AreFiringCases, HasNoInstance, AreWhere, AreOpposites}
 
 -- ---- where a rule fires

@@ -13,7 +13,7 @@ use Rattle.kp_symbolic.specs.States.{Literal, AreTrue, SymbolicState}
 use Rattle.kp_rules.specs.Skeletons.{Form}
 use Rattle.kp_cases.specs.Parts.{StatePart, IsRestricted, OfEachInstance, whole}
 use Rattle.kp_cases.specs.Cases.{MetPart, AreCases, left_side}
-use Rattle.kp_turns.specs.LeftSides.{IsLeftSide, IsOverLeft}
+use Rattle.kp_rules.specs.LeftSides.{IsLeftSide, IsOverLeft}
 use Rattle.kp_turns.specs.Firing.{SaysCondition, FiringPart, FiresNowhere, AreFiringCases, HasNoInstance, AreWhere, AreDividedSoFar, AreOpposites}
 use Rattle.kp_turns.specs.Turns.{FiresFirst, NoneOfThese, IsLeftTo, TakesFrom, AreAllTurns}
 use Rattle.kp_turns.specs.NextStates.{StepCase, AreStepCases, IsPatternOf, IsAtHand, IsWritten, IsWithinHand}

@@ -1,4 +1,3 @@
-pub mod LeftSides
 pub mod Firing
 pub mod Turns
 pub mod NextStates

@@ -23,9 +23,15 @@ returns-clause-made c =
         condition_narrow = made.narrow;
         right_sort = c.in_ok-right_sort.ensures;
         choice = made.right.choice;
+        sides = c.in_ok-sides.ensures.made;
       },
       refl,
     )
+
+pub returns-in_err-sides-clause-sound : goal.returns-in_err-sides-clause-sound
+returns-in_err-sides-clause-sound c =
+    let p = err_from_is_err_and c.from_residual-in_err-sides.result c.from_residual-in_err-sides.ensures.1 in
+    rw (p.1, p.2) (λ sound. c.in_err-sides.ensures.refused sound.left)
 
 pub returns-in_err-left-clause-sound : goal.returns-in_err-left-clause-sound
 returns-in_err-left-clause-sound c =

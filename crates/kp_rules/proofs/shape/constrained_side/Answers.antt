@@ -4,7 +4,7 @@ use Rattle.std.specs.Option.{option_map}
 use Rattle.kp_kore.specs.Parts.{is_term}
 use Rattle.kp_kore.specs.View.{view}
 use Rattle.kp_rules.specs.Shapes.{seen, side_view}
-use Rattle.kp_rules.proofs.Sides.{side_from, side_among}
+use Rattle.kp_rules.proofs.ShapeSides.{side_from, side_among}
 use Rattle.kp_rules.proofs.shape.constrained_side.Goals as goal
 
 pub returns : goal.returns

@@ -1,7 +1,7 @@
 use Rattle.std.proofs.Common.{◌∙◌, ap, sym}
 use Rattle.std.specs.Option.{option_map}
 use Rattle.kp_rules.specs.Shapes.{side_view}
-use Rattle.kp_rules.proofs.Sides.{both_sides, no_left, no_right}
+use Rattle.kp_rules.proofs.ShapeSides.{both_sides, no_left, no_right}
 use Rattle.kp_rules.proofs.shape.joined.Goals as goal
 
 pub returns-in-Some-right : goal.returns-in-Some-right
