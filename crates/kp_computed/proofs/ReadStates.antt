@@ -12,8 +12,8 @@ use Rattle.kp_semantics.specs.Replies.{is_open_call, is_wide_value, IsComputed}
 use Rattle.kp_semantics.proofs.InstanceLemmas.{first_true, second_true}
 use Rattle.kp_signature.specs.Places.{Place, part_at, after}
 use Rattle.kp_signature.specs.Verify.{first_fault, members_fault}
-use Rattle.kp_sorts.proofs.FaultLemmas.{nothing_earlier, nothing_later}
-use Rattle.kp_sorts.proofs.ListLemmas.{all_filtered}
+use Rattle.kp_signature.proofs.FaultLemmas.{nothing_earlier, nothing_later}
+use Rattle.kp_signature.proofs.ListLemmas.{all_filtered}
 use Rattle.kp_states.specs.Spelled.{injection_name, has_two_sorts}
 use Rattle.kp_symbolic.specs.States.{SymbolicState}
 use Rattle.kp_symbolic.specs.Folding.{folded}
