@@ -95,7 +95,7 @@ all_fit : (g : KoreSignature) (ps : List KorePattern) → AllByRecursion (λ q. 
 all_fit g [] a b = tt
 all_fit g (p ∷ ps) a b = (predicate_fit g a.0.0.0 p a.0.0.1 b.0, all_fit g ps a.1 b.1)
 
-opened_is_settled : (g : KoreSignature) (c : Place) (p : KorePattern) (s : SymbolicState) → first_fault g c p ≡ None → AllByRecursion (λ q. is_predicate q ≡ true) (conjoined_predicates p) → opened_state g p ≡ Some s → IsSettledState g s
+pub opened_is_settled : (g : KoreSignature) (c : Place) (p : KorePattern) (s : SymbolicState) → first_fault g c p ≡ None → AllByRecursion (λ q. is_predicate q ≡ true) (conjoined_predicates p) → opened_state g p ≡ Some s → IsSettledState g s
 opened_is_settled g c p s e b q =
     let o = opened_as g p s q in
     let all = members g p (c, e) in
