@@ -1,6 +1,6 @@
 # Conditions for kp_decide and for Z3, both from the same random draws.
 # python3 decide.py crate        writes the crate crates/decided, a program that decides a condition a line; to be
-#                                added to crates.txt as decided: and what kp_deciding_trials stands on
+#                                added to crates.txt as decided: and kp_kore kp_text kp_signature kp_heads kp_terms kp_weights kp_decide
 # python3 decide.py FIRST LAST LINES SMT   a condition for each number from FIRST to below LAST: to LINES as the program
 #                                reads them, to SMT as SMT-LIB, with a push and a pop each
 # python3 decide.py halves LINES SMT       one of the longest conditions within the limits; or apart, tokens

@@ -8,7 +8,7 @@ use Rattle.kp_semantics.specs.Value.{HasSort, head_of}
 use Rattle.kp_semantics.specs.Instance.{Valuation, GivesSorts}
 use Rattle.kp_semantics.specs.Scopes.{IsWithin}
 use Rattle.kp_subsorts.proofs.Below.{onwards}
-use Rattle.kp_sorts.proofs.HeadLemmas.{is_head-Decides, passed_by_heads}
+use Rattle.kp_signature.proofs.HeadLemmas.{is_head-Decides, passed_by_heads}
 use Rattle.kp_symbolic.specs.States.{PassesHead, IsLiteralTrue, IsClauseTrue, AreTrue}
 use Rattle.kp_symbolic.specs.Heads.{passes_head}
 use Rattle.kp_symbolic.proofs.Distribution.{all_both, all_first}

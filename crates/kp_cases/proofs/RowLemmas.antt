@@ -16,7 +16,7 @@ use Rattle.kp_semantics.specs.Instance.{Valuation, GivesSorts, applied}
 use Rattle.kp_semantics.specs.Foreign.{IsConstructedBy}
 use Rattle.kp_semantics.proofs.InstanceLemmas.{first_true, second_true}
 use Rattle.kp_semantics.proofs.SameLemmas.{sorts_equal-Decides}
-use Rattle.kp_sorts.proofs.NumberLemmas.{number_value, truth_value}
+use Rattle.kp_signature.proofs.NumberLemmas.{number_value, truth_value}
 use Rattle.kp_states.specs.Spelled.{places_of}
 use Rattle.kp_symbolic.specs.Terms.{SymbolicTerm, unknown, offset, known, headed, SymbolicTerms, no_terms, next_term, term_instance, term_instances, term_variables, Replaced, replacement_for}
 use Rattle.kp_symbolic.specs.States.{head_of_sort, AreTrue}

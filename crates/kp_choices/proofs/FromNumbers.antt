@@ -14,7 +14,7 @@ use Rattle.kp_ground.specs.View.{value_view}
 use Rattle.kp_semantics.specs.Value.{Value, whole, truth, token, HasSort}
 use Rattle.kp_semantics.specs.Instance.{Valuation, GivesSorts}
 use Rattle.kp_semantics.proofs.TurnLemmas.{each_member}
-use Rattle.kp_sorts.proofs.NumberLemmas.{only_numbers, only_truths}
+use Rattle.kp_signature.proofs.NumberLemmas.{only_numbers, only_truths}
 use Rattle.kp_symbolic.specs.Plain as model
 use Rattle.kp_symbolic.specs.Plain.{has_only_tokens}
 use Rattle.kp_demands.specs.Demands.{Assignment, IsLawful}

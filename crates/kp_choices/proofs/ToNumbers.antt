@@ -10,7 +10,7 @@ use Rattle.kp_kore.specs.Signature.{KoreSignature}
 use Rattle.kp_semantics.specs.Value.{Value, truth, values_same, HasSort}
 use Rattle.kp_semantics.specs.Instance.{Valuation, GivesSorts}
 use Rattle.kp_semantics.proofs.SameLemmas.{values_same-Decides}
-use Rattle.kp_sorts.proofs.NumberLemmas.{only_truths}
+use Rattle.kp_signature.proofs.NumberLemmas.{only_truths}
 use Rattle.kp_symbolic.specs.Plain as model
 use Rattle.kp_demands.specs.Demands.{Assignment, IsLawful}
 use Rattle.kp_demands.specs.Classes.{AreFixed}

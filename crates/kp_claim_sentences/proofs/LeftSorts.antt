@@ -5,7 +5,7 @@ use Rattle.kp_kore.specs.Signature.{KoreSignature}
 use Rattle.kp_semantics.specs.Cases.{HaveOneSort}
 use Rattle.kp_signature.specs.Places.{the_top, part_at, after}
 use Rattle.kp_signature.specs.Verify.{first_fault, fault_at}
-use Rattle.kp_sorts.proofs.OneSort.{agrees, one_sort_among, two_parts}
+use Rattle.kp_signature.proofs.OneSort.{agrees, one_sort_among, two_parts}
 use Rattle.kp_claims.specs.Claims.{ClaimSides}
 use Rattle.kp_claims.specs.Faults.{bare_claim}
 

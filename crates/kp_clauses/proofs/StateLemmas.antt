@@ -15,10 +15,10 @@ use Rattle.kp_semantics.specs.Foreign.{none_within, has_foreign_head, is_foreign
 use Rattle.kp_semantics.specs.Instance.{is_predicate, conjuncts, all_conjuncts, conjoined_terms, conjoined_predicates}
 use Rattle.kp_signature.specs.Places.{earlier, own_sort, the_top, part_at}
 use Rattle.kp_signature.specs.Verify.{VerifiesAs}
-use Rattle.kp_sorts.proofs.FaultLemmas.{nothing_later as nothing_below, term_has_wanted_sort}
-use Rattle.kp_sorts.proofs.ListLemmas.{all_filtered, all_weaker}
-use Rattle.kp_sorts.proofs.SortedInstances.{none_among}
-use Rattle.kp_sorts.proofs.VerifiedMembers.{StandsVerified, all_conjuncts_stand}
+use Rattle.kp_signature.proofs.FaultLemmas.{nothing_later as nothing_below, term_has_wanted_sort}
+use Rattle.kp_signature.proofs.ListLemmas.{all_filtered, all_weaker}
+use Rattle.kp_signature.proofs.SortedInstances.{none_among}
+use Rattle.kp_signature.proofs.VerifiedMembers.{StandsVerified, all_conjuncts_stand}
 use Rattle.kp_symbolic.specs.Solving.{opened_state}
 use Rattle.kp_symbolic.specs.States.{SymbolicState, HasInstancesOf}
 use Rattle.kp_symbolic.proofs.Distribution.{all_first, all_second}

@@ -8,7 +8,7 @@ use Rattle.kp_kore.specs.Signature.{KoreSignature, is_integer_sort, is_boolean_s
 use Rattle.kp_signature.specs.Places.{Place, own_sort}
 use Rattle.kp_kore.specs.Limits.{writes_number, fits_number}
 use Rattle.kp_signature.specs.Verify.{first_fault, fault_at, sort_fault, symbol_fault, difference, variable_fault, injection_fault, literal_fault, width_fault, is_literal_of, no_literal, number_too_wide}
-use Rattle.kp_sorts.proofs.FaultLemmas.{nothing_earlier, nothing_later, no_fault_unless}
+use Rattle.kp_signature.proofs.FaultLemmas.{nothing_earlier, nothing_later, no_fault_unless}
 
 from_literals : (g : KoreSignature) (c : Place) (p : KorePattern) → fault_at g c p ≡ None → (literal_fault g p ≡ None) × (width_fault g p ≡ None)
 from_literals g c p e =

@@ -15,8 +15,8 @@ use Rattle.kp_signature.specs.Places.{Profile}
 use Rattle.kp_signature.specs.Verify.{symbol_fault, wrong_number}
 use Rattle.kp_signature.proofs.Applied.{of_profile}
 use Rattle.kp_signature.proofs.KnownSorts.{number_of_sorts}
-use Rattle.kp_sorts.proofs.FaultLemmas.{no_fault_unless}
-use Rattle.kp_sorts.proofs.MeaningLemmas.{an_interpretation, it_fits}
+use Rattle.kp_signature.proofs.FaultLemmas.{no_fault_unless}
+use Rattle.kp_signature.proofs.MeaningLemmas.{an_interpretation, it_fits}
 use Rattle.kp_hooks.specs.HookView.{hook_view}
 use Rattle.kp_hooks.specs.declared.hook.Hook as code
 use Rattle.kp_hooks.specs.declared.hook.Hook.TheVariants as hook

@@ -13,9 +13,9 @@ use Rattle.kp_semantics.specs.Foreign.{none_within, has_foreign_head, has_interp
 use Rattle.kp_semantics.proofs.InstanceLemmas.{first_true, second_true}
 use Rattle.kp_signature.specs.Places.{Place, argument_sorts, argument_at, part_at, after}
 use Rattle.kp_signature.specs.Verify.{first_fault, fault_at, arguments_fault, members_fault, symbol_fault}
-use Rattle.kp_sorts.proofs.FaultLemmas.{nothing_earlier, nothing_later, keeps_rules}
-use Rattle.kp_sorts.proofs.ApplicationLemmas.{as_many_arguments}
-use Rattle.kp_sorts.proofs.SortedInstances.{none_among, none_in_first, none_in_others, same_rest}
+use Rattle.kp_signature.proofs.FaultLemmas.{nothing_earlier, nothing_later, keeps_rules}
+use Rattle.kp_signature.proofs.ApplicationLemmas.{as_many_arguments}
+use Rattle.kp_signature.proofs.SortedInstances.{none_among, none_in_first, none_in_others, same_rest}
 use Rattle.kp_compile.specs.Exact.{IsPairOf}
 use Rattle.kp_compile.specs.Parts.{seen}
 use Rattle.kp_compile.specs.Verified.{misapplies_injection, IsVerified, IsVerifiedTerm, IsVerifiedLeftTerm, IsVerifiedPredicate}

@@ -12,10 +12,10 @@ use Rattle.kp_semantics.specs.Foreign.{is_interpretation}
 use Rattle.kp_semantics.proofs.InstanceLemmas.{first_true, second_true}
 use Rattle.kp_signature.specs.Places.{Place, argument_sorts, argument_at, part_at, after, under_binder}
 use Rattle.kp_signature.specs.Verify.{first_fault, arguments_fault, members_fault}
-use Rattle.kp_sorts.proofs.ApplicationLemmas.{as_many_arguments}
-use Rattle.kp_sorts.proofs.FaultLemmas.{nothing_earlier, nothing_later, keeps_rules}
-use Rattle.kp_sorts.proofs.SortLemmas.{is_that_sort}
-use Rattle.kp_sorts.proofs.SortedInstances.{same_rest}
+use Rattle.kp_signature.proofs.ApplicationLemmas.{as_many_arguments}
+use Rattle.kp_signature.proofs.FaultLemmas.{nothing_earlier, nothing_later, keeps_rules}
+use Rattle.kp_signature.proofs.SortLemmas.{is_that_sort}
+use Rattle.kp_signature.proofs.SortedInstances.{same_rest}
 use Rattle.kp_compile.proofs.Literals.{whole_literal}
 use Rattle.kp_states.specs.Spelled.{places_of}
 use Rattle.kp_symbolic.specs.Terms.{Replaced}

@@ -12,8 +12,8 @@ use Rattle.kp_semantics.specs.Replies.{is_open_call, is_wide_value, IsComputed}
 use Rattle.kp_semantics.proofs.InstanceLemmas.{first_true, second_true}
 use Rattle.kp_signature.specs.Places.{Place, part_at, after}
 use Rattle.kp_signature.specs.Verify.{first_fault, members_fault}
-use Rattle.kp_sorts.proofs.FaultLemmas.{nothing_earlier, nothing_later}
-use Rattle.kp_sorts.proofs.ListLemmas.{all_filtered}
+use Rattle.kp_signature.proofs.FaultLemmas.{nothing_earlier, nothing_later}
+use Rattle.kp_signature.proofs.ListLemmas.{all_filtered}
 use Rattle.kp_states.specs.Spelled.{injection_name, has_two_sorts}
 use Rattle.kp_symbolic.specs.States.{SymbolicState}
 use Rattle.kp_symbolic.specs.Folding.{folded}
@@ -95,7 +95,7 @@ all_fit : (g : KoreSignature) (ps : List KorePattern) → AllByRecursion (λ q. 
 all_fit g [] a b = tt
 all_fit g (p ∷ ps) a b = (predicate_fit g a.0.0.0 p a.0.0.1 b.0, all_fit g ps a.1 b.1)
 
-opened_is_settled : (g : KoreSignature) (c : Place) (p : KorePattern) (s : SymbolicState) → first_fault g c p ≡ None → AllByRecursion (λ q. is_predicate q ≡ true) (conjoined_predicates p) → opened_state g p ≡ Some s → IsSettledState g s
+pub opened_is_settled : (g : KoreSignature) (c : Place) (p : KorePattern) (s : SymbolicState) → first_fault g c p ≡ None → AllByRecursion (λ q. is_predicate q ≡ true) (conjoined_predicates p) → opened_state g p ≡ Some s → IsSettledState g s
 opened_is_settled g c p s e b q =
     let o = opened_as g p s q in
     let all = members g p (c, e) in

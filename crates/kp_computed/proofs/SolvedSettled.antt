@@ -148,7 +148,7 @@ pub record IsSettledState (g : KoreSignature) (s : SymbolicState) : Type 0 where
   pub term : IsSettled g s.term
   pub clauses : AreSettledClauses g s.clauses
 
-step_settled : (g : KoreSignature) (s : SymbolicState) (o : Solvable) → IsSettledState g s → first_solvable g s ≡ Some o → IsSettledState g (solved_at g o s)
+pub step_settled : (g : KoreSignature) (s : SymbolicState) (o : Solvable) → IsSettledState g s → first_solvable g s ≡ Some o → IsSettledState g (solved_at g o s)
 step_settled g s o h q =
     let i : ArePutSettled g (replacement o.equation) = (subst (IsSettledSolvable g) q (found_settled g s h.clauses), tt) in
     record {

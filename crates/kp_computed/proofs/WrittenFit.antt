@@ -20,7 +20,7 @@ use Rattle.kp_semantics.specs.Foreign.{is_interpretation}
 use Rattle.kp_semantics.specs.Replies.{are_literals, is_open_call, is_wide_value}
 use Rattle.kp_semantics.proofs.InstanceLemmas.{first_true, second_true}
 use Rattle.kp_semantics.proofs.SameLemmas.{sorts_equal-Decides}
-use Rattle.kp_sorts.proofs.SortLemmas.{is_that_sort}
+use Rattle.kp_signature.proofs.SortLemmas.{is_that_sort}
 use Rattle.kp_states.specs.Spelled.{placed, places_of, home_of, spelling, spellings, injected, injection_name, has_two_sorts, truth_text}
 use Rattle.kp_states.proofs.SpelledMeaning.{InjectsWell, said}
 use Rattle.kp_symbolic.specs.Terms.{SymbolicTerm, unknown, offset, known, headed, SymbolicTerms, no_terms, next_term, Replaced}

@@ -13,7 +13,7 @@ use Rattle.kp_semantics.specs.Forms.{two}
 use Rattle.kp_semantics.specs.Interpretation.{compared, interpreted}
 use Rattle.kp_semantics.specs.Instance.{Valuation, GivesSorts, applied}
 use Rattle.kp_semantics.proofs.SameLemmas.{same_values_decide}
-use Rattle.kp_sorts.proofs.NumberLemmas.{only_numbers, only_truths}
+use Rattle.kp_signature.proofs.NumberLemmas.{only_numbers, only_truths}
 use Rattle.kp_symbolic.specs.Terms.{SymbolicTerm, unknown, offset, known, headed, no_terms, next_term, term_instance, term_variables}
 use Rattle.kp_symbolic.specs.States.{Atom, same, has_head, quoted, Literal, IsAtomTrue, IsLiteralTrue}
 use Rattle.kp_symbolic.specs.WellFormed.{IsGivenAtom}

@@ -14,7 +14,7 @@ use Rattle.kp_semantics.specs.Instance.{Valuation, GivesSorts, assigned}
 use Rattle.kp_semantics.proofs.InstanceLemmas.{first_true, second_true}
 use Rattle.kp_semantics.proofs.ListLemmas.{all_left, all_right, all_map, all_append}
 use Rattle.kp_semantics.proofs.TurnLemmas.{of_member}
-use Rattle.kp_sorts.proofs.HeadLemmas.{is_head-Decides}
+use Rattle.kp_signature.proofs.HeadLemmas.{is_head-Decides}
 use Rattle.kp_symbolic.specs.States.{HeadTest, PassesHead}
 use Rattle.kp_symbolic.specs.Heads.{passes_head}
 use Rattle.kp_symbolic.specs.Plain.{Form, compares, is_truth, equates, asks, gives, ReadLiteral}

@@ -11,7 +11,7 @@ use Rattle.kp_kore.specs.Signature.{KoreSignature, has_only_numbers, has_only_tr
 use Rattle.kp_semantics.specs.Value.{HasSort, head_of}
 use Rattle.kp_semantics.specs.Instance.{Valuation, GivesSorts}
 use Rattle.kp_semantics.proofs.ListLemmas.{all_append, all_left, all_right}
-use Rattle.kp_sorts.proofs.NumberLemmas.{only_numbers, only_truths}
+use Rattle.kp_signature.proofs.NumberLemmas.{only_numbers, only_truths}
 use Rattle.kp_symbolic.specs.Plain.{has_only_tokens}
 use Rattle.kp_symbolic.specs.Weights.{name_in}
 use Rattle.kp_terms.specs.View.{variable_view}

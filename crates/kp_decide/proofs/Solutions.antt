@@ -15,7 +15,7 @@ use Rattle.kp_semantics.specs.Interpretation.{interpreted}
 use Rattle.kp_semantics.specs.Instance.{Valuation, GivesSorts, applied}
 use Rattle.kp_semantics.proofs.InstanceLemmas.{first_true, second_true}
 use Rattle.kp_semantics.proofs.SameLemmas.{equal_call, different_call}
-use Rattle.kp_sorts.proofs.NumberLemmas.{number_value}
+use Rattle.kp_signature.proofs.NumberLemmas.{number_value}
 use Rattle.kp_symbolic.specs.Terms.{SymbolicTerm, unknown, offset, known, headed, no_terms, next_term, term_instance, term_variables}
 use Rattle.kp_symbolic.specs.States.{Atom, same, has_head, quoted, IsAtomTrue, Literal, IsLiteralTrue}
 use Rattle.kp_symbolic.specs.WellFormed.{IsWellSorted}

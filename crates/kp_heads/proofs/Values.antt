@@ -12,7 +12,7 @@ use Rattle.kp_semantics.specs.Value.{Value, whole, truth, token, constructed, Va
 use Rattle.kp_subsorts.proofs.Same.{sorts_equal-Decides}
 use Rattle.kp_subsorts.proofs.Below.{onwards}
 use Rattle.kp_heads.specs.Heads.{HasValue}
-use Rattle.kp_sorts.proofs.MeaningLemmas.{constructor_constructs, makes_what_it_means}
+use Rattle.kp_signature.proofs.MeaningLemmas.{constructor_constructs, makes_what_it_means}
 use Rattle.kp_heads.specs.Steps.{if_making, constructor_declared, Step, pair_step, constructor_step, constructor_steps, symbol_steps, steps_of}
 
 -- ---- lists

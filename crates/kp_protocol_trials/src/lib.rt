@@ -1,7 +1,13 @@
-// Tests of the public calls with ample memory, by values from outside: of Kore JSON, requests and replies, proofs and the
+// Tests of the public calls with ample memory, by values from outside: of Kore JSON, frames, requests and replies, proofs and the
 // outside. They stand here together, since a crate with tests is proved twice.
 #![tactic(auto)]
 
+#[cfg(test)]
+mod answers;
+#[cfg(test)]
+mod batches;
+#[cfg(test)]
+mod malformed;
 #[cfg(test)]
 mod outside;
 #[cfg(test)]
@@ -14,3 +20,5 @@ mod replies;
 mod results;
 #[cfg(test)]
 mod trees;
+#[cfg(test)]
+mod written;

@@ -5,8 +5,8 @@ use Rattle.kp_kore.specs.Syntax.{KoreSort, KorePattern, KorePatterns, variable, 
 use Rattle.kp_kore.specs.Parts.{is_term}
 use Rattle.kp_semantics.specs.Instance.{conjuncts, all_conjuncts, conjoined_predicates}
 use Rattle.kp_semantics.specs.Rules.{Rewrite, constrained_term, under_binders, top_binders, have_distinct_names, new_variables_of, rewrite_of, joined}
-use Rattle.kp_sorts.proofs.SortLemmas.{same_inside}
-use Rattle.kp_sorts.proofs.RuleSides.{sides_of}
+use Rattle.kp_signature.proofs.SortLemmas.{same_inside}
+use Rattle.kp_signature.proofs.RuleSides.{sides_of}
 use Rattle.kp_rules.specs.Bodies.{IsLonePredicate, IsConstrained, is_conjunction}
 use Rattle.kp_rule_reading.proofs.LeftTerms.{constrained_is_term}
 

@@ -14,12 +14,12 @@ use Rattle.kp_semantics.specs.Rules.{Rewrite, rewrite_of, constrained_term, top_
 use Rattle.kp_semantics.proofs.SameLemmas.{same_sorts_decide}
 use Rattle.kp_signature.specs.Places.{Place, the_top, part_at, after, under_binder, sort_in_scope}
 use Rattle.kp_signature.specs.Verify.{first_fault, fault_at}
-use Rattle.kp_sorts.proofs.FaultLemmas.{nothing_earlier, nothing_later}
-use Rattle.kp_sorts.proofs.ListLemmas.{all_weaker, all_both, all_filtered}
-use Rattle.kp_sorts.proofs.OneSort.{agrees}
-use Rattle.kp_sorts.proofs.RuleSides.{sides_of, holds_of_term}
-use Rattle.kp_sorts.proofs.SortLemmas.{same_inside}
-use Rattle.kp_sorts.proofs.VariableSorts.{HasItsSort}
+use Rattle.kp_signature.proofs.FaultLemmas.{nothing_earlier, nothing_later}
+use Rattle.kp_signature.proofs.ListLemmas.{all_weaker, all_both, all_filtered}
+use Rattle.kp_signature.proofs.OneSort.{agrees}
+use Rattle.kp_signature.proofs.RuleSides.{sides_of, holds_of_term}
+use Rattle.kp_signature.proofs.SortLemmas.{same_inside}
+use Rattle.kp_signature.proofs.VariableSorts.{HasItsSort}
 use Rattle.kp_compile.proofs.Reading.{both_so}
 use Rattle.kp_rules.specs.Known.{is_among, is_known}
 use Rattle.kp_rule_reading.specs.Compiled.{IsKnownRight}

@@ -9,7 +9,7 @@ use Rattle.kp_kore.specs.Syntax.{Text, KoreSort, KorePattern, KorePatterns, vari
 use Rattle.kp_kore.specs.Parts.{SortedName, free_variables, all_free_variables}
 use Rattle.kp_semantics.specs.Instance.{is_named, conjuncts, all_conjuncts}
 use Rattle.kp_semantics.specs.Rules.{Rewrite, rewrite_of, constrained_term}
-use Rattle.kp_sorts.proofs.RuleSides.{sides_of, no_binders, holds_of_term}
+use Rattle.kp_signature.proofs.RuleSides.{sides_of, no_binders, holds_of_term}
 use Rattle.kp_ground.specs.Slots.{is_one_of}
 use Rattle.kp_compile.specs.Exact.{are_named}
 use Rattle.kp_compile.proofs.Reading.{both_so}

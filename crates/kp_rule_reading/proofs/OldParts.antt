@@ -16,10 +16,10 @@ use Rattle.kp_semantics.specs.Foreign.{none_within, has_foreign_head}
 use Rattle.kp_semantics.proofs.InstanceLemmas.{first_true, second_true}
 use Rattle.kp_signature.specs.Places.{Place, argument_sorts, argument_at, after}
 use Rattle.kp_signature.specs.Verify.{first_fault, fault_at, arguments_fault}
-use Rattle.kp_sorts.proofs.ApplicationLemmas.{as_many_arguments}
-use Rattle.kp_sorts.proofs.FaultLemmas.{nothing_earlier, nothing_later, keeps_rules}
-use Rattle.kp_sorts.proofs.ListLemmas.{all_weaker, all_append}
-use Rattle.kp_sorts.proofs.SortedInstances.{none_among, none_in_first, none_in_others, same_rest}
+use Rattle.kp_signature.proofs.ApplicationLemmas.{as_many_arguments}
+use Rattle.kp_signature.proofs.FaultLemmas.{nothing_earlier, nothing_later, keeps_rules}
+use Rattle.kp_signature.proofs.ListLemmas.{all_weaker, all_append}
+use Rattle.kp_signature.proofs.SortedInstances.{none_among, none_in_first, none_in_others, same_rest}
 use Rattle.kp_ground.specs.Slots.{term_reads}
 use Rattle.kp_ground.specs.Terms.{stays_narrow}
 use Rattle.kp_ground.specs.TermView.{term_view}

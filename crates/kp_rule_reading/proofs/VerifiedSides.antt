@@ -14,11 +14,11 @@ use Rattle.kp_semantics.specs.Foreign.{none_within, has_foreign_head, applies_un
 use Rattle.kp_semantics.proofs.InstanceLemmas.{first_true, second_true}
 use Rattle.kp_signature.specs.Places.{Place, own_sort, the_top, part_at, after, under_binder}
 use Rattle.kp_signature.specs.Verify.{first_fault, fault_at}
-use Rattle.kp_sorts.proofs.FaultLemmas.{nothing_earlier, nothing_later, keeps_rules, has_wanted_sort, term_has_wanted_sort}
-use Rattle.kp_sorts.proofs.SortLemmas.{same_inside}
-use Rattle.kp_sorts.proofs.ListLemmas.{all_both, all_filtered}
-use Rattle.kp_sorts.proofs.VerifiedMembers.{StandsVerified, conjuncts_stand, none_in_conjuncts}
-use Rattle.kp_sorts.proofs.RuleSides.{sides_of, holds_of_term}
+use Rattle.kp_signature.proofs.FaultLemmas.{nothing_earlier, nothing_later, keeps_rules, has_wanted_sort, term_has_wanted_sort}
+use Rattle.kp_signature.proofs.SortLemmas.{same_inside}
+use Rattle.kp_signature.proofs.ListLemmas.{all_both, all_filtered}
+use Rattle.kp_signature.proofs.VerifiedMembers.{StandsVerified, conjuncts_stand, none_in_conjuncts}
+use Rattle.kp_signature.proofs.RuleSides.{sides_of, holds_of_term}
 use Rattle.kp_compile.specs.Verified.{misapplies_injection, IsVerified, IsVerifiedTerm, IsVerifiedPredicate}
 use Rattle.kp_rule_reading.specs.Reading.{IsSound}
 use Rattle.kp_rule_reading.proofs.Declared.{none_foreign}

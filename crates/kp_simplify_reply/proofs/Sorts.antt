@@ -10,9 +10,9 @@ use Rattle.kp_semantics.specs.Instance.{conjuncts, all_conjuncts, conjoined_term
 use Rattle.kp_semantics.specs.Steps.{AnyByRecursion}
 use Rattle.kp_signature.specs.Places.{own_sort, the_top, part_at}
 use Rattle.kp_signature.specs.Verify.{VerifiesAs}
-use Rattle.kp_sorts.proofs.FaultLemmas.{nothing_later, term_has_wanted_sort}
-use Rattle.kp_sorts.proofs.ListLemmas.{all_filtered, all_weaker}
-use Rattle.kp_sorts.proofs.VerifiedMembers.{StandsVerified, all_conjuncts_stand}
+use Rattle.kp_signature.proofs.FaultLemmas.{nothing_later, term_has_wanted_sort}
+use Rattle.kp_signature.proofs.ListLemmas.{all_filtered, all_weaker}
+use Rattle.kp_signature.proofs.VerifiedMembers.{StandsVerified, all_conjuncts_stand}
 
 -- a term has this sort
 abbrev IsSorted : KoreSignature → KoreSort → KorePattern → Type 0

@@ -1,4 +1,5 @@
 pub mod ClauseLemmas
+pub mod FaultlessLemmas
 pub mod FirstLemmas
 pub mod FurtherLemmas
 pub mod ReadLemmas

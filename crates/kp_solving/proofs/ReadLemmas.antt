@@ -18,16 +18,19 @@ use Rattle.kp_kept.specs.Kept.{CanBeWritten}
 use Rattle.kp_symbolic_laws.specs.Runs.{ComesBy, IsSoundState, OfEachKept}
 use Rattle.kp_terms.specs.View.{state_view}
 use Rattle.kp_terms.specs.declared.state.State.{State}
-use Rattle.kp_solving.specs.Readable.{IsReadable, IsOnTheWay}
+use Rattle.kp_solving.specs.Readable.{IsReadable, IsWrittenFaultless}
+use Rattle.kp_solving.proofs.FaultlessLemmas.{all_readable}
 
 pub read_where_solved : (g : KoreSignature) (p : KorePattern) (s : SymbolicState) (r : Result State TermFault) → opened_state g p ≡ Some s → IfOk r (λ t. Solving g s (state_view t)) → IfOk r (λ t. IsReadAs g p (state_view t))
 read_where_solved g p s (Ok t) e solving = record { opened = s; is_opened = e; solving = solving }
 read_where_solved g p s (Err f) e solving = tt
 
-pub unread_on_the_way : (g : KoreSignature) (p : KorePattern) (o : SymbolicState) (r : Result State TermFault) → opened_state g p ≡ Some o →
-    IfErr r (λ e. IsUnread e → ¬ ((s : SymbolicState) → ComesBy g o s → IsReadable g s)) → IfErr r (λ e. IsUnread e → ¬ ((s : SymbolicState) → IsOnTheWay g p s → IsReadable g s))
-unread_on_the_way g p o (Ok t) is told = tt
-unread_on_the_way g p o (Err e) is told = λ unread each. told unread (λ s comes. each s (record { opened = o; is_opened = is; comes = comes }))
+pub unread_where_kept : (g : KoreSignature) (p : KorePattern) (s : SymbolicState) (r : Result State TermFault) → first_fault g the_top p ≡ None → state_fault g p ≡ None → opened_state g p ≡ Some s →
+    IfErr r (λ e. IsUnread e → ¬ ((x : SymbolicState) → ComesBy g s x → IsReadable g x)) → IfErr r (λ e. IsUnread e → ¬ ((o : SymbolicState) → opened_state g p ≡ Some o → OfEachKept g (IsWrittenFaultless g) o))
+unread_where_kept g p s (Ok t) verified clear is told = tt
+unread_where_kept g p s (Err e) verified clear is told =
+    let placed = nothing_misplaced g p clear in
+    λ unread each. told unread (all_readable g the_top p s verified placed.0 placed.1 is (each s is))
 
 one_opened : (s o : SymbolicState) → Some s ≡ Some o → s ≡ o
 one_opened s o e = cc

@@ -1,12 +1,11 @@
--- States that are refused for want of memory alone, and those on the way from a pattern.
-use Rattle.std.specs.Prelude.{◌≡◌, Some}
+-- States that are refused for want of memory alone.
+use Rattle.std.specs.Prelude.{List}
 use Rattle.std.specs.List.{AllByRecursion}
-use Rattle.kp_kore.specs.Syntax.{KorePattern}
 use Rattle.kp_kore.specs.Signature.{KoreSignature}
 use Rattle.kp_symbolic.specs.Folding.{AreWritten}
-use Rattle.kp_symbolic.specs.Solving.{opened_state}
-use Rattle.kp_symbolic.specs.States.{SymbolicState}
-use Rattle.kp_symbolic_laws.specs.Runs.{ComesBy}
+use Rattle.kp_symbolic.specs.States.{Literal, SymbolicState}
+use Rattle.kp_symbolic.specs.Writing.{written_clause}
+use Rattle.kp_terms.specs.Faultless.{IsFaultless}
 use Rattle.kp_replacing.specs.Sums.{HasWrittenSums}
 use Rattle.kp_writing.specs.Parts.{IsFaultlessAtom}
 
@@ -16,8 +15,6 @@ pub record IsReadable (g : KoreSignature) (s : SymbolicState) : Type 0 where
   pub sums : AllByRecursion (AllByRecursion (λ l. HasWrittenSums g l.atom)) s.clauses
   pub faultless : AllByRecursion (AllByRecursion (λ l. IsFaultlessAtom g l.atom)) s.clauses
 
--- a state that solving comes by, from what the pattern is opened as
-pub record IsOnTheWay (g : KoreSignature) (p : KorePattern) (s : SymbolicState) : Type 0 where
-  pub opened : SymbolicState
-  pub is_opened : opened_state g p ≡ Some opened
-  pub comes : ComesBy g opened s
+-- what is written for a clause of the state has no verify fault
+abbrev pub IsWrittenFaultless : KoreSignature → SymbolicState → List Literal → Type 0
+IsWrittenFaultless g s c = IsFaultless g (written_clause g s.sort c)

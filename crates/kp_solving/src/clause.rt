@@ -46,14 +46,14 @@ pub fn replacement(alloc: Global, equation: &Equation<'_>) -> Result<Arc<Vec<Rep
 }
 
 /// Whether the clauses of a formula, behind so many literals, aren't too many for a state.
-fn is_room(so_far: u64, opened: &Distributed) -> bool
+pub fn is_room(so_far: u64, opened: &Distributed) -> bool
     ensures { (f : Formula states.Literal) → distributed_view opened.now ≡ distribution_of f → result ≡ not (is_too_large so_far f) }
 {
     so_far.saturating_add(opened.count.literals) <= MOST_OPENED
 }
 
 /// The clauses that are kept of a formula.
-fn clauses_of(opened: Distributed) -> Vec<Clause>
+pub fn clauses_of(opened: Distributed) -> Vec<Clause>
     ensures { clauses_view result.items ≡ (distributed_view opened).clauses }
 {
     let Distributed { clauses, .. } = opened;

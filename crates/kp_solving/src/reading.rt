@@ -10,7 +10,7 @@ ghost use Rattle.kp_symbolic.specs.States.{SymbolicState, HasInstancesOf};
 ghost use Rattle.kp_symbolic.specs.WellFormed.{IsWellFormed};
 ghost use Rattle.kp_kept.specs.Kept.{CanBeWritten};
 ghost use Rattle.kp_symbolic_laws.specs.Runs.{ComesBy, IsSoundState, OfEachKept};
-ghost use Rattle.kp_solving.specs.Readable.{IsReadable, IsOnTheWay};
+ghost use Rattle.kp_solving.specs.Readable.{IsReadable, IsWrittenFaultless};
 ghost use Rattle.kp_terms.specs.Languages.{language_view};
 ghost use Rattle.kp_terms.specs.View.{state_view};
 
@@ -48,7 +48,8 @@ fn solved(alloc: Global, language: &Language, opened: State) -> Result<State, Te
 /// The state that a verified pattern of this sort is read as.
 ///
 /// # Errors
-/// T1 or T2 of the first thing from the left that can't stand in a state.
+/// T1 or T2 of the first thing from the left that can't stand in a state; `Unread` where a clause that solving keeps whole has a
+/// verify fault, as it is written, and a number in it can't be read.
 pub fn inward(
     alloc: Global,
     language: &Language,
@@ -61,7 +62,7 @@ pub fn inward(
     ensures formed { let g = language_view language.now in VerifiesAs g (view pattern.now) (sort_view sort) → IfOk result (λ s. IsWellFormed g (state_view s)) }
     ensures clear { OnOk result (state_fault (language_view language.now) (view pattern.now) ≡ None) }
     ensures refused { IfErr result (IsToldOf (state_fault (language_view language.now) (view pattern.now))) }
-    ensures unread { VerifiesAs (language_view language.now) (view pattern.now) (sort_view sort) → IfErr result (λ e. IsUnread e → ¬ ((s : SymbolicState) → IsOnTheWay (language_view language.now) (view pattern.now) s → IsReadable (language_view language.now) s)) }
+    ensures unread { let g = language_view language.now in let p = view pattern.now in VerifiesAs g p (sort_view sort) → IfErr result (λ e. IsUnread e → ¬ ((o : SymbolicState) → opened_state g p ≡ Some o → OfEachKept g (IsWrittenFaultless g) o)) }
 {
     match open_state(alloc, language, pattern, sort) {
         Ok(opened) => solved(alloc, language, opened),

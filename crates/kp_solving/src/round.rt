@@ -30,7 +30,7 @@ use std::alloc::Global;
 use std::sync::Arc;
 
 /// The literals of clauses behind so many, up to one more than a state may have.
-fn with_literals(so_far: u64, clauses: &[Clause]) -> u64
+pub fn with_literals(so_far: u64, clauses: &[Clause]) -> u64
     ensures { result ≡ min (so_far + model.literals_in (clauses_view clauses.now)) most_counted }
 {
     at_most(so_far.saturating_add(literals_in(clauses) as u64))

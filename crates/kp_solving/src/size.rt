@@ -114,7 +114,7 @@ fn behind_clauses(alloc: Global, clauses: &[Clause], left: u64) -> Option<u64> {
 }
 
 /// Whether a state with this term and these clauses has more parts than there may be, or memory runs out.
-pub fn is_too_large(alloc: Global, term: &Term, clauses: &[Clause]) -> bool {
+pub(crate) fn is_too_large(alloc: Global, term: &Term, clauses: &[Clause]) -> bool {
     match behind_term(term, MOST_PARTS) {
         Some(left) => behind_clauses(alloc, clauses, left).is_none(),
         None => true,

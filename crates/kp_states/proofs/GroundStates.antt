@@ -25,7 +25,7 @@ use Rattle.kp_semantics.specs.Instance.{Valuation, instance, GivesSorts}
 use Rattle.kp_semantics.specs.Foreign.{none_within, has_foreign_head, is_foreign_meaning}
 use Rattle.kp_semantics.specs.Numbers.{computes_wide}
 use Rattle.kp_compile.specs.Parts.{seen}
-use Rattle.kp_sorts.proofs.SortedInstances.{term_is_sorted}
+use Rattle.kp_signature.proofs.SortedInstances.{term_is_sorted}
 use Rattle.kp_states.proofs.SpelledForms.{both_true}
 use Rattle.kp_states.specs.Spelled.{foreign_name, first_member, first_foreign, IsGroundState, IsOtherShape, no_term, not_closed, wide}
 use Rattle.kp_states.specs.declared.error.StateError.{StateError}

@@ -12,11 +12,11 @@ use Rattle.kp_semantics.proofs.InstanceLemmas.{first_true, second_true}
 use Rattle.kp_signature.specs.Places.{Place, Profile, argument_sorts, argument_at, after}
 use Rattle.kp_signature.specs.Verify.{first_fault, fault_at, arguments_fault, symbol_fault}
 use Rattle.kp_signature.proofs.Applied.{as_many}
-use Rattle.kp_sorts.proofs.ApplicationLemmas.{as_many_arguments}
-use Rattle.kp_sorts.proofs.InjLemmas.{inj_goes_across}
-use Rattle.kp_sorts.proofs.MeaningLemmas.{meaning_by_tests}
-use Rattle.kp_sorts.proofs.SortedInstances.{same_rest}
-use Rattle.kp_sorts.proofs.FaultLemmas.{nothing_earlier, nothing_later, keeps_rules}
+use Rattle.kp_signature.proofs.ApplicationLemmas.{as_many_arguments}
+use Rattle.kp_signature.proofs.InjLemmas.{inj_goes_across}
+use Rattle.kp_signature.proofs.MeaningLemmas.{meaning_by_tests}
+use Rattle.kp_signature.proofs.SortedInstances.{same_rest}
+use Rattle.kp_signature.proofs.FaultLemmas.{nothing_earlier, nothing_later, keeps_rules}
 use Rattle.std.proofs.lemmas.List.Folds.{list_all-append}
 use Rattle.kp_compile.specs.Verified.{is_injection_meaning, misapplies_injection, IsVerifiedTerm}
 use Rattle.kp_states.proofs.SpelledForms.{both_true}

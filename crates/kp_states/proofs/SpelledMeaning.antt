@@ -15,7 +15,7 @@ use Rattle.kp_kore.specs.Parts.{subpatterns, all_subpatterns}
 use Rattle.kp_kore.specs.Signature.{KoreSignature, injection, construction, meaning_of, integer_sort, boolean_sort, is_the, is_integer_sort, is_boolean_sort, is_token_sort, IsSortOfHead, constructor_of}
 use Rattle.kp_semantics.specs.Value.{Value, whole, truth, token, constructed, Values, no_values, next_value, HasSort, HaveSorts, ArgumentSorts}
 use Rattle.kp_semantics.specs.Instance.{Valuation, instance, instances, applied, literal_value}
-use Rattle.kp_sorts.proofs.SortLemmas.{boolean_is_no_integer}
+use Rattle.kp_signature.proofs.SortLemmas.{boolean_is_no_integer}
 use Rattle.kp_semantics.specs.Foreign.{has_interpreted_head, is_interpretation}
 use Rattle.kp_semantics.proofs.SameLemmas.{sorts_equal-Decides}
 use Rattle.kp_states.specs.Spelled.{spelling, spellings, places_of, home_of, injected, injection_name, truth_text, has_two_sorts, NumbersFit, AllNumbersFit, IsSpellingOf}

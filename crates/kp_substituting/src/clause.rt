@@ -1,16 +1,11 @@
 // A clause with terms in the place of variables.
-ghost use Rattle.std.specs.Prelude.{◌≡◌, not, [], ◌∷◌, IfOk, IfErr, map};
+ghost use Rattle.std.specs.Prelude.{◌≡◌, [], ◌∷◌, IfOk, IfErr, map};
 ghost use Rattle.std.specs.List.{AllByRecursion};
 ghost use Rattle.kp_compile.specs.declared.error.CompileError.TheVariants.{Memory};
 ghost use Rattle.kp_kore.specs.View.{view, sort_view};
-ghost use Rattle.kp_symbolic.specs.Clauses.{is_too_large};
-ghost use Rattle.kp_symbolic.specs.Formulas.{Formula};
-ghost use Rattle.kp_symbolic.specs.States as states;
 ghost use Rattle.kp_symbolic.specs.Writing.{written_clause};
 ghost use Rattle.kp_terms.specs.Languages.{language_view};
 ghost use Rattle.kp_terms.specs.View.{literal_view, clause_view, clauses_view, replaced_view};
-ghost use Rattle.kp_distribution.specs.Distribution.{distribution_of};
-ghost use Rattle.kp_distribution.specs.View.{distributed_view};
 ghost use Rattle.kp_replacing.specs.Substituted as model;
 ghost use Rattle.kp_replacing.specs.Sums.{HasWrittenSums};
 ghost use Rattle.kp_writing.specs.Parts.{IsFaultlessAtom};
@@ -18,14 +13,12 @@ ghost use Rattle.kp_substituting.specs.Holding as holding;
 ghost use Rattle.kp_substituting.specs.Holding.{quoted_under, substituted_holding};
 
 use kp_compile::CompileError;
-use kp_distribution::Distributed;
-use kp_distribution::count::MOST_OPENED;
 use kp_distribution::joined::make_clause;
 use kp_kore::{Pattern, Sort};
 use kp_leaves::quotation::quoted_literal;
 use kp_readings::names::some_has_name;
 use kp_replacing::open_clause;
-use kp_solving::clause::clause_alone;
+use kp_solving::clause::{clause_alone, clauses_of, is_room};
 use kp_solving::whole::whole_out;
 use kp_terms::{Clause, Language, Literal, Replaced};
 use std::alloc::{AllocError, Global};
@@ -40,21 +33,6 @@ fn holds_one(alloc: Global, by: &[Replaced], literals: &[Literal]) -> Result<boo
         }
     }
     Ok(false)
-}
-
-/// Whether the clauses of a formula, behind so many literals, aren't too many for a state.
-fn is_room(so_far: u64, opened: &Distributed) -> bool
-    ensures { (f : Formula states.Literal) → distributed_view opened.now ≡ distribution_of f → result ≡ not (is_too_large so_far f) }
-{
-    so_far.saturating_add(opened.count.literals) <= MOST_OPENED
-}
-
-/// The clauses that are kept of a formula.
-fn clauses_of(opened: Distributed) -> Vec<Clause>
-    ensures { clauses_view result.items ≡ (distributed_view opened).clauses }
-{
-    let Distributed { clauses, .. } = opened;
-    clauses
 }
 
 /// A predicate with terms in the place of its variables, as a clause of one literal, alone.

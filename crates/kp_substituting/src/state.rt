@@ -1,12 +1,10 @@
 // A state with terms in the place of variables.
-ghost use Rattle.std.specs.Prelude.{◌≡◌, ◌+◌, min, IfOk, IfErr, map};
+ghost use Rattle.std.specs.Prelude.{◌≡◌, IfOk, IfErr, map};
 ghost use Rattle.std.specs.List.{AllByRecursion};
 ghost use Rattle.kp_compile.specs.declared.error.CompileError.TheVariants.{Memory};
 ghost use Rattle.kp_kore.specs.View.{sort_view};
-ghost use Rattle.kp_symbolic.specs.Solving.{literals_in as literals_of};
 ghost use Rattle.kp_terms.specs.Languages.{language_view};
 ghost use Rattle.kp_terms.specs.View.{clauses_view, literal_view, replaced_view, state_view};
-ghost use Rattle.kp_distribution.specs.Distribution.{most_counted};
 ghost use Rattle.kp_replacing.specs.Substituted as model;
 ghost use Rattle.kp_replacing.specs.Sums.{HasWrittenSums};
 ghost use Rattle.kp_outward.specs.Errors.{AreFaultlessIn};
@@ -15,19 +13,11 @@ ghost use Rattle.kp_solving.specs.Readable.{IsReadable};
 use crate::clause::substitute_clause;
 use crate::variables::variables_under;
 use kp_compile::CompileError;
-use kp_distribution::count::at_most;
 use kp_distribution::joined::kept_once;
 use kp_kore::Sort;
-use kp_solving::first::literals_in;
+use kp_solving::round::with_literals;
 use kp_terms::{Clause, Language, Replaced, State};
 use std::alloc::Global;
-
-/// The literals of clauses behind so many, up to one more than a state may have.
-fn with_literals(so_far: u64, clauses: &[Clause]) -> u64
-    ensures { result ≡ min (so_far + literals_of (clauses_view clauses.now)) most_counted }
-{
-    at_most(so_far.saturating_add(literals_in(clauses) as u64))
-}
 
 /// The clauses with terms in the place of variables, repeats included.
 fn substitute_clauses(

@@ -11,8 +11,8 @@ use Rattle.kp_semantics.specs.Interpretation.{compared, connected, interpreted}
 use Rattle.kp_semantics.specs.Instance.{Valuation, GivesSorts, applied}
 use Rattle.kp_semantics.proofs.InstanceLemmas.{first_true, second_true}
 use Rattle.kp_semantics.proofs.SameLemmas.{sorts_equal-Decides, same_values_decide, equal_call}
-use Rattle.kp_sorts.proofs.MeaningLemmas.{an_interpretation, it_fits}
-use Rattle.kp_sorts.proofs.SortLemmas.{boolean_is_plain}
+use Rattle.kp_signature.proofs.MeaningLemmas.{an_interpretation, it_fits}
+use Rattle.kp_signature.proofs.SortLemmas.{boolean_is_plain}
 use Rattle.kp_states.specs.Spelled.{places_of}
 use Rattle.kp_symbolic.specs.Terms.{SymbolicTerm, unknown, offset, known, headed, SymbolicTerms, no_terms, next_term, term_instance, term_instances, term_variables, all_term_variables}
 use Rattle.kp_symbolic.specs.Formulas.{Formula, all_of, one_of, Holds}

@@ -13,7 +13,7 @@ use Rattle.kp_kore.specs.Signature.{KoreSignature, SymbolMeaning, injection, con
 use Rattle.kp_semantics.specs.Value.{Value, whole, truth, token, constructed, Values, no_values, next_value, HasSort, HaveSorts, ArgumentSorts}
 use Rattle.kp_semantics.proofs.InstanceLemmas.{first_true, second_true}
 use Rattle.kp_semantics.proofs.SameLemmas.{sorts_equal-Decides}
-use Rattle.kp_sorts.proofs.SortLemmas.{is_that_sort, boolean_is_plain}
+use Rattle.kp_signature.proofs.SortLemmas.{is_that_sort, boolean_is_plain}
 use Rattle.kp_states.specs.Spelled.{places_of, NumbersFit, AllNumbersFit}
 use Rattle.kp_symbolic.specs.Terms.{SymbolicTerm, unknown, offset, known, headed, SymbolicTerms, no_terms, next_term, term_variables, all_term_variables}
 use Rattle.kp_symbolic.specs.Formulas.{Formula, fact, all_of, one_of, Formulas, no_formulas, next_formula, crossed, joined, formula_clauses, joined_clauses, crossed_clauses}

@@ -18,7 +18,7 @@ use Rattle.kp_semantics.specs.Instance.{Valuation, GivesSorts, assigned, is_name
 use Rattle.kp_semantics.proofs.InstanceLemmas.{first_true, second_true}
 use Rattle.kp_semantics.proofs.SameLemmas.{sorts_equal-Decides}
 use Rattle.kp_semantics.proofs.TruthLemmas.{stable_truth}
-use Rattle.kp_sorts.proofs.NumberLemmas.{number_value, truth_value}
+use Rattle.kp_signature.proofs.NumberLemmas.{number_value, truth_value}
 use Rattle.kp_states.specs.Spelled.{places_of}
 use Rattle.kp_symbolic.specs.Terms.{SymbolicTerm, unknown, offset, known, headed, term_instance, term_instances, term_variables}
 use Rattle.kp_symbolic.specs.Formulas.{Formula}

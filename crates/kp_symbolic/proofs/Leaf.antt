@@ -15,8 +15,8 @@ use Rattle.kp_semantics.proofs.InstanceLemmas.{first_true, second_true}
 use Rattle.kp_semantics.proofs.TruthLemmas.{same_truth, stable_truth}
 use Rattle.kp_semantics.proofs.Conjuncts.{truth_of, of_truth}
 use Rattle.kp_signature.specs.Places.{part_at, after}
-use Rattle.kp_sorts.proofs.FaultLemmas.{same_as_wanted, keeps_rules, nothing_earlier, nothing_later}
-use Rattle.kp_sorts.proofs.SortedInstances.{none_in_first, none_in_others}
+use Rattle.kp_signature.proofs.FaultLemmas.{same_as_wanted, keeps_rules, nothing_earlier, nothing_later}
+use Rattle.kp_signature.proofs.SortedInstances.{none_in_first, none_in_others}
 use Rattle.kp_symbolic.specs.Terms.{term_instance, Replaced, replacement_for, under_replaced}
 use Rattle.kp_symbolic.specs.Formulas.{Formula, Holds}
 use Rattle.kp_symbolic.specs.States.{variables_for, PassesHead, Literal, IsLiteralTrue, IsClauseTrue, AreTrue}

@@ -11,7 +11,7 @@ use Rattle.kp_semantics.specs.Foreign.{none_within, has_foreign_head}
 use Rattle.kp_semantics.proofs.ClaimRuleLemmas.{met_of, conjunction_of}
 use Rattle.kp_signature.specs.Places.{Place, own_sort}
 use Rattle.kp_signature.specs.Verify.{first_fault}
-use Rattle.kp_sorts.proofs.ListLemmas.{all_filtered}
+use Rattle.kp_signature.proofs.ListLemmas.{all_filtered}
 use Rattle.kp_symbolic.specs.Terms.{term_instance}
 use Rattle.kp_symbolic.specs.States.{variables_for, AreGiven, AreTrue, SymbolicState, IsStateInstance}
 use Rattle.kp_symbolic.specs.WellFormed.{AreWellPlaced, IsWellSorted}

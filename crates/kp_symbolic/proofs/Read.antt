@@ -11,8 +11,8 @@ use Rattle.kp_semantics.specs.Foreign.{none_within, has_foreign_head}
 use Rattle.kp_semantics.proofs.InstanceLemmas.{first_true, second_true}
 use Rattle.kp_signature.specs.Places.{Place, part_at, after}
 use Rattle.kp_signature.specs.Verify.{first_fault, members_fault}
-use Rattle.kp_sorts.proofs.FaultLemmas.{nothing_earlier, nothing_later, term_has_wanted_sort}
-use Rattle.kp_sorts.proofs.SortedInstances.{none_among, none_in_first, none_in_others}
+use Rattle.kp_signature.proofs.FaultLemmas.{nothing_earlier, nothing_later, term_has_wanted_sort}
+use Rattle.kp_signature.proofs.SortedInstances.{none_among, none_in_first, none_in_others}
 use Rattle.kp_symbolic.specs.Terms.{term_instance, term_variables, Replaced, replacement_for, under_replaced}
 use Rattle.kp_symbolic.specs.States.{variables_for, AreGiven}
 use Rattle.kp_symbolic.specs.WellFormed.{IsWellSorted, AreWellPlaced}

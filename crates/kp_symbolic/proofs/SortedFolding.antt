@@ -23,12 +23,12 @@ use Rattle.kp_signature.specs.Places.{Place, own_sort, Profile, argument_sorts, 
 use Rattle.kp_signature.specs.Verify.{VerifyFault, first_fault, fault_at, arguments_fault, fault_unless, symbol_fault, injection_fault, wrong_number, sort_differs}
 use Rattle.kp_signature.proofs.Applied.{of_profile}
 use Rattle.kp_subsorts.proofs.Below.{is_below-Decides}
-use Rattle.kp_sorts.proofs.FaultLemmas.{nothing_earlier, nothing_later, keeps_rules, no_fault_unless, term_has_wanted_sort}
-use Rattle.kp_sorts.proofs.ApplicationLemmas.{as_many_arguments}
-use Rattle.kp_sorts.proofs.InjLemmas.{inj_goes_across}
-use Rattle.kp_sorts.proofs.MeaningLemmas.{an_injection, an_interpretation, it_fits}
-use Rattle.kp_sorts.proofs.NumberLemmas.{number_value, truth_value}
-use Rattle.kp_sorts.proofs.SortedInstances.{term_is_sorted, none_among, none_in_first, none_in_others, same_rest}
+use Rattle.kp_signature.proofs.FaultLemmas.{nothing_earlier, nothing_later, keeps_rules, no_fault_unless, term_has_wanted_sort}
+use Rattle.kp_signature.proofs.ApplicationLemmas.{as_many_arguments}
+use Rattle.kp_signature.proofs.InjLemmas.{inj_goes_across}
+use Rattle.kp_signature.proofs.MeaningLemmas.{an_injection, an_interpretation, it_fits}
+use Rattle.kp_signature.proofs.NumberLemmas.{number_value, truth_value}
+use Rattle.kp_signature.proofs.SortedInstances.{term_is_sorted, none_among, none_in_first, none_in_others, same_rest}
 use Rattle.kp_compile.proofs.Literals.{whole_literal}
 use Rattle.kp_states.specs.Spelled.{places_of, NumbersFit, AllNumbersFit}
 use Rattle.kp_symbolic.specs.Terms.{SymbolicTerm, unknown, offset, known, headed, SymbolicTerms, no_terms, next_term, term_variables, all_term_variables, Replaced, replacement_for}

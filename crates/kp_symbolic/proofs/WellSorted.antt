@@ -11,10 +11,10 @@ use Rattle.kp_semantics.specs.Instance.{Valuation, GivesSorts, applied}
 use Rattle.kp_semantics.proofs.InstanceLemmas.{first_true}
 use Rattle.kp_signature.specs.Places.{Profile, argument_sorts}
 use Rattle.kp_subsorts.proofs.Below.{onwards}
-use Rattle.kp_sorts.proofs.SortLemmas.{has_sort_above, at_no_arguments, all_at_no_arguments, is_that_sort}
-use Rattle.kp_sorts.proofs.CallLemmas.{call_is_sorted}
-use Rattle.kp_sorts.proofs.MeaningLemmas.{meaning_by_tests, an_interpretation, it_fits, no_parameters, constructor_is_plain}
-use Rattle.kp_sorts.proofs.NumberLemmas.{number_value}
+use Rattle.kp_signature.proofs.SortLemmas.{has_sort_above, at_no_arguments, all_at_no_arguments, is_that_sort}
+use Rattle.kp_signature.proofs.CallLemmas.{call_is_sorted}
+use Rattle.kp_signature.proofs.MeaningLemmas.{meaning_by_tests, an_interpretation, it_fits, no_parameters, constructor_is_plain}
+use Rattle.kp_signature.proofs.NumberLemmas.{number_value}
 use Rattle.kp_states.specs.Spelled.{places_of}
 use Rattle.kp_symbolic.specs.Terms.{SymbolicTerm, unknown, offset, known, headed, SymbolicTerms, no_terms, next_term, term_instance, term_instances, term_variables, all_term_variables}
 use Rattle.kp_symbolic.specs.WellFormed.{stands_in_terms, IsWellSorted, AreWellSorted, IsGivenSorts, AreGivenSorts}

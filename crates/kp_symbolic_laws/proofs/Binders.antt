@@ -10,14 +10,14 @@ use Rattle.kp_kore.specs.Signature.{KoreSignature, meaning_of, IsBelow, itself}
 use Rattle.kp_semantics.specs.Value.{Value, next_value, HasSort}
 use Rattle.kp_semantics.specs.Instance.{Valuation, GivesSorts, AgreesOn, assigned, applied}
 use Rattle.kp_signature.specs.Places.{sort_in_scope}
-use Rattle.kp_sorts.proofs.VariableSorts.{HasItsSort}
+use Rattle.kp_signature.proofs.VariableSorts.{HasItsSort}
 use Rattle.kp_symbolic.specs.Terms.{SymbolicTerm, unknown, offset, known, headed, SymbolicTerms, no_terms, next_term, term_instance, term_instances, term_variables, all_term_variables, Replaced, replacement_for, under_replaced}
 use Rattle.kp_symbolic.specs.States.{variables_for, AreGiven}
 use Rattle.kp_symbolic.specs.WellFormed.{IsWellSorted, AreWellPlaced}
 use Rattle.kp_symbolic.specs.Folding.{term_for}
 use Rattle.kp_symbolic.specs.Writing.{least_fresh, names_coming_in, bound_name, renamed}
 use Rattle.kp_symbolic.proofs.Folded.{for_instance}
-use Rattle.kp_sorts.proofs.OneSort.{Agree}
+use Rattle.kp_signature.proofs.OneSort.{Agree}
 use Rattle.kp_symbolic_laws.specs.Runs.{IsRoomAt}
 use Rattle.kp_symbolic_laws.proofs.NewNames.{least_is_new}
 

@@ -10,7 +10,7 @@ use Rattle.kp_semantics.specs.Foreign.{none_within, has_foreign_head}
 use Rattle.kp_semantics.proofs.TurnLemmas.{each_member}
 use Rattle.kp_signature.specs.Places.{Place}
 use Rattle.kp_signature.specs.Verify.{first_fault}
-use Rattle.kp_sorts.proofs.ListLemmas.{all_filtered}
+use Rattle.kp_signature.proofs.ListLemmas.{all_filtered}
 use Rattle.kp_symbolic.specs.Terms.{unknown, Replaced, replacement_for}
 use Rattle.kp_symbolic.specs.States.{Atom, same, has_head, quoted, Literal, clause_variables, SymbolicState}
 use Rattle.kp_symbolic.specs.WellFormed.{IsWellSortedAtom, AreAtHand, IsFoldedAtom, IsFolded, IsWellFormed}

@@ -11,8 +11,8 @@ use Rattle.kp_semantics.specs.Instance.{is_named, is_predicate, are_predicates, 
 use Rattle.kp_semantics.specs.Foreign.{has_foreign_head}
 use Rattle.kp_semantics.proofs.InstanceLemmas.{first_true, second_true}
 use Rattle.kp_signature.specs.Places.{part_at, after}
-use Rattle.kp_sorts.proofs.FaultLemmas.{same_as_wanted, keeps_rules, nothing_earlier, nothing_later, term_has_wanted_sort}
-use Rattle.kp_sorts.proofs.SortedInstances.{none_in_first, none_in_others}
+use Rattle.kp_signature.proofs.FaultLemmas.{same_as_wanted, keeps_rules, nothing_earlier, nothing_later, term_has_wanted_sort}
+use Rattle.kp_signature.proofs.SortedInstances.{none_in_first, none_in_others}
 use Rattle.kp_symbolic.specs.Terms.{replacement_for}
 use Rattle.kp_symbolic.specs.Formulas.{Formula}
 use Rattle.kp_symbolic.specs.States.{HeadTest, head_of_sort, variables_for, Literal}

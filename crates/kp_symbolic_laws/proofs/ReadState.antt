@@ -10,8 +10,8 @@ use Rattle.kp_semantics.specs.Foreign.{none_within, has_foreign_head}
 use Rattle.kp_semantics.proofs.TurnLemmas.{of_member, each_member}
 use Rattle.kp_signature.specs.Places.{Place, own_sort, sort_in_scope}
 use Rattle.kp_signature.specs.Verify.{first_fault}
-use Rattle.kp_sorts.proofs.VariableSorts.{HasItsSort}
-use Rattle.kp_sorts.proofs.ListLemmas.{all_filtered}
+use Rattle.kp_signature.proofs.VariableSorts.{HasItsSort}
+use Rattle.kp_signature.proofs.ListLemmas.{all_filtered}
 use Rattle.kp_symbolic.specs.Terms.{term_variables}
 use Rattle.kp_symbolic.specs.States.{SymbolicState, HasInstancesOf}
 use Rattle.kp_symbolic.specs.WellFormed.{IsWellSorted, AreAtHand}
@@ -24,7 +24,7 @@ use Rattle.kp_symbolic.proofs.Read.{Stands, StandAll, conjunction_stands, first_
 use Rattle.kp_symbolic.proofs.Leaf.{then_says}
 use Rattle.kp_symbolic.proofs.OpenedState.{placed_as_they_are, opened_as, opened_instances}
 use Rattle.kp_symbolic.proofs.Facts.{Good}
-use Rattle.kp_sorts.proofs.OneSort.{Agree, agrees}
+use Rattle.kp_signature.proofs.OneSort.{Agree, agrees}
 use Rattle.kp_symbolic_laws.specs.Runs.{HasOneSortEach, IsSortedState, IsWrittenOfThese, IsWrittenRight, OfEachKept}
 use Rattle.kp_symbolic_laws.proofs.OpenedGood.{IsAmong, predicates_have, each_itself}
 use Rattle.kp_symbolic_laws.proofs.Course.{solving_sorted, solving_instance}

@@ -9,8 +9,8 @@ use Rattle.kp_semantics.specs.Foreign.{none_within, has_foreign_head}
 use Rattle.kp_semantics.proofs.InstanceLemmas.{first_true, second_true}
 use Rattle.kp_signature.specs.Places.{Place, part_at, under_binder}
 use Rattle.kp_signature.specs.Verify.{fault_at, first_fault}
-use Rattle.kp_sorts.proofs.FaultLemmas.{nothing_later, term_has_wanted_sort}
-use Rattle.kp_sorts.proofs.OneSort.{agrees}
+use Rattle.kp_signature.proofs.FaultLemmas.{nothing_later, term_has_wanted_sort}
+use Rattle.kp_signature.proofs.OneSort.{agrees}
 use Rattle.kp_symbolic.proofs.SortedFolding.{folded_sorted}
 use Rattle.kp_symbolic.proofs.Read.{Stands, StandAll, StandBoth, equals_stand, membership_stands, negation_stands, conjunction_stands, disjunction_stands, implication_stands, equivalence_stands, ceil_stands, floor_stands, first_stands, others_stand}
 use Rattle.kp_symbolic.proofs.OpenedState.{placed_as_they_are}

@@ -9,9 +9,9 @@ use Rattle.kp_kore.specs.View.{view, patterns_view}
 use Rattle.kp_kore.specs.declared.pattern.Pattern.{Pattern}
 use Rattle.kp_signature.specs.Places.{Place, argument_sorts, argument_at, after}
 use Rattle.kp_signature.specs.Verify.{first_fault, fault_at, arguments_fault}
-use Rattle.kp_sorts.proofs.FaultLemmas.{nothing_earlier, nothing_later, keeps_rules}
-use Rattle.kp_sorts.proofs.ApplicationLemmas.{as_many_arguments}
-use Rattle.kp_sorts.proofs.SortedInstances.{same_rest}
+use Rattle.kp_signature.proofs.FaultLemmas.{nothing_earlier, nothing_later, keeps_rules}
+use Rattle.kp_signature.proofs.ApplicationLemmas.{as_many_arguments}
+use Rattle.kp_signature.proofs.SortedInstances.{same_rest}
 use Rattle.kp_symbolic.specs.Terms.{next_term, Replaced}
 use Rattle.kp_symbolic.specs.Folding.{folded, all_folded, replaced, all_replaced, AreWritten, AreAllWritten}
 use Rattle.kp_terms.specs.View.{term_view, terms_of}

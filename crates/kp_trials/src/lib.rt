@@ -1,11 +1,19 @@
-// Tests of the public calls with ample memory, by values from outside: of signatures, sorts, modules, substitution and
-// claims. They stand here together, since a crate with tests is proved twice.
+// Tests of the public calls with ample memory, by values from outside: of signatures, sorts, modules, substitution, claims and
+// files of claims. They stand here together, since a crate with tests is proved twice.
 #![tactic(auto)]
 
+#[cfg(test)]
+mod claim_files;
+#[cfg(test)]
+mod claim_modules;
 #[cfg(test)]
 mod claims;
 #[cfg(test)]
 mod definitions;
+#[cfg(test)]
+mod layers;
+#[cfg(test)]
+mod many;
 #[cfg(test)]
 mod subsorts;
 #[cfg(test)]

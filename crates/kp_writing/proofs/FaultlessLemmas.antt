@@ -7,7 +7,7 @@ use Rattle.kp_kore.specs.View.{view, patterns_view}
 use Rattle.kp_kore.specs.declared.pattern.Pattern.{Pattern}
 use Rattle.kp_signature.specs.Places.{Place, part_at, after, under_binder}
 use Rattle.kp_signature.specs.Verify.{VerifyFault, first_fault, fault_at, members_fault, first_of}
-use Rattle.kp_sorts.proofs.FaultLemmas.{nothing_earlier, nothing_later}
+use Rattle.kp_signature.proofs.FaultLemmas.{nothing_earlier, nothing_later}
 use Rattle.kp_terms.specs.Faultless.{IsFaultless}
 
 second_none : (a b c : Option VerifyFault) → first_of (a ∷ b ∷ c ∷ []) ≡ None → b ≡ None

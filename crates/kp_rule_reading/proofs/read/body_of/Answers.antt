@@ -16,7 +16,7 @@ use Rattle.kp_rule_reading.proofs.Named.{conditions_named, right_passes}
 use Rattle.kp_rules.specs.Shapes.{rewrite_seen}
 use Rattle.kp_rule_reading.proofs.ReadParts.{statement_read, both_true}
 use Rattle.kp_rule_reading.proofs.ReadBodies.{rewrite_body, foreign_by_statement, foreign_by_shape, shape_told, faulty, sound_where_read, no_fault, not_faulty, unread_by_shape, at_ok}
-use Rattle.kp_sorts.proofs.SortedRules.{rule_left_is_verified, rule_right_is_sorted}
+use Rattle.kp_signature.proofs.SortedRules.{rule_left_is_verified, rule_right_is_sorted}
 use Rattle.kp_rule_reading.proofs.read.body_of.Goals as goal
 
 pub returns-then-not-branch-clause-read : goal.returns-then-not-branch-clause-read

@@ -3,7 +3,7 @@ use Rattle.kp_kore.specs.View.{view}
 use Rattle.kp_terms.specs.Languages.{language_view}
 use Rattle.kp_terms.specs.View.{state_view}
 use Rattle.kp_signature.specs.Places.{the_top}
-use Rattle.kp_solving.proofs.ReadLemmas.{read_where_solved, right_where_solved, sound_where_solved, formed_where_solved, unread_on_the_way}
+use Rattle.kp_solving.proofs.ReadLemmas.{read_where_solved, right_where_solved, sound_where_solved, formed_where_solved, unread_where_kept}
 use Rattle.kp_solving.proofs.reading.inward.Goals as goal
 
 pub returns-in-Ok-clause-read : goal.returns-in-Ok-clause-read
@@ -19,7 +19,7 @@ returns-in-Ok-clause-right c verified =
 
 pub returns-in-Ok-clause-unread : goal.returns-in-Ok-clause-unread
 returns-in-Ok-clause-unread c verified =
-    unread_on_the_way (language_view c.args.language.now) (view c.args.pattern.now) (state_view c.in-Ok.opened) c.solved.result (c.in-Ok.ensures.state verified) c.solved.ensures.unread
+    unread_where_kept (language_view c.args.language.now) (view c.args.pattern.now) (state_view c.in-Ok.opened) c.solved.result verified.0 c.in-Ok.ensures.clear (c.in-Ok.ensures.state verified) c.solved.ensures.unread
 
 pub returns-in-Err-clause-unread : goal.returns-in-Err-clause-unread
 returns-in-Err-clause-unread c verified = λ unread each. c.in-Err.ensures.unread unread (record { place = the_top; faultless = verified.0 })

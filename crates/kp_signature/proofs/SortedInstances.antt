@@ -15,9 +15,9 @@ use Rattle.kp_semantics.proofs.InstanceLemmas.{first_true, second_true}
 use Rattle.kp_signature.specs.Places.{Place, own_sort, argument_sorts, argument_at, after}
 use Rattle.kp_kore.specs.Limits.{writes_number}
 use Rattle.kp_signature.specs.Verify.{first_fault, fault_at, arguments_fault, literal_fault, is_literal_of, no_literal}
-use Rattle.kp_sorts.proofs.FaultLemmas.{nothing_earlier, nothing_later, term_has_wanted_sort, keeps_rules, no_fault_unless}
-use Rattle.kp_sorts.proofs.SortLemmas.{is_that_sort, same_inside}
-use Rattle.kp_sorts.proofs.ApplicationLemmas.{as_many_arguments, application_is_sorted}
+use Rattle.kp_signature.proofs.FaultLemmas.{nothing_earlier, nothing_later, term_has_wanted_sort, keeps_rules, no_fault_unless}
+use Rattle.kp_signature.proofs.SortLemmas.{is_that_sort, same_inside}
+use Rattle.kp_signature.proofs.ApplicationLemmas.{as_many_arguments, application_is_sorted}
 
 -- ---- literals
 

@@ -1,4 +1,4 @@
-use crate::files::{definition, error_text, signature_of};
+use crate::claim_files::{definition, error_text, signature_of};
 use kp_claim_files::read_claims;
 use kp_signature::Signature;
 use std::alloc::Global;

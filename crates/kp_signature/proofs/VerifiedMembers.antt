@@ -10,9 +10,9 @@ use Rattle.kp_semantics.specs.Foreign.{none_within}
 use Rattle.kp_semantics.proofs.InstanceLemmas.{second_true}
 use Rattle.kp_signature.specs.Places.{Place, part_at, after}
 use Rattle.kp_signature.specs.Verify.{first_fault, members_fault}
-use Rattle.kp_sorts.proofs.FaultLemmas.{nothing_earlier, nothing_later, keeps_rules, has_wanted_sort}
-use Rattle.kp_sorts.proofs.ListLemmas.{all_weaker, all_append}
-use Rattle.kp_sorts.proofs.SortedInstances.{none_among, none_in_first, none_in_others}
+use Rattle.kp_signature.proofs.FaultLemmas.{nothing_earlier, nothing_later, keeps_rules, has_wanted_sort}
+use Rattle.kp_signature.proofs.ListLemmas.{all_weaker, all_append}
+use Rattle.kp_signature.proofs.SortedInstances.{none_among, none_in_first, none_in_others}
 
 -- a member that is verified at a place of the sort s: all variables are those before it, its own, and those behind
 -- it, and what is in scope there is what was at the start, and those before it

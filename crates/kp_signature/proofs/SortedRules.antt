@@ -14,13 +14,13 @@ use Rattle.kp_semantics.specs.Foreign.{none_within, has_foreign_head}
 use Rattle.kp_semantics.proofs.InstanceLemmas.{second_true}
 use Rattle.kp_signature.specs.Places.{Place, own_sort, the_top, part_at, after, sort_in_scope}
 use Rattle.kp_signature.specs.Verify.{first_fault, fault_at}
-use Rattle.kp_sorts.proofs.FaultLemmas.{nothing_earlier, nothing_later, term_has_wanted_sort}
-use Rattle.kp_sorts.proofs.SortLemmas.{same_inside}
-use Rattle.kp_sorts.proofs.ListLemmas.{all_weaker, all_both, all_first, all_second, none_passes, first_is_none, second_is_none}
-use Rattle.kp_sorts.proofs.SortedInstances.{term_is_sorted}
-use Rattle.kp_sorts.proofs.VerifiedMembers.{StandsVerified, conjuncts_stand, none_in_conjuncts}
-use Rattle.kp_sorts.proofs.VariableSorts.{HasItsSort, in_longer_scope, variables_have_sorts, named_has_sort}
-use Rattle.kp_sorts.proofs.RuleSides.{sides_of, no_binders, holds_of_term}
+use Rattle.kp_signature.proofs.FaultLemmas.{nothing_earlier, nothing_later, term_has_wanted_sort}
+use Rattle.kp_signature.proofs.SortLemmas.{same_inside}
+use Rattle.kp_signature.proofs.ListLemmas.{all_weaker, all_both, all_first, all_second, none_passes, first_is_none, second_is_none}
+use Rattle.kp_signature.proofs.SortedInstances.{term_is_sorted}
+use Rattle.kp_signature.proofs.VerifiedMembers.{StandsVerified, conjuncts_stand, none_in_conjuncts}
+use Rattle.kp_signature.proofs.VariableSorts.{HasItsSort, in_longer_scope, variables_have_sorts, named_has_sort}
+use Rattle.kp_signature.proofs.RuleSides.{sides_of, no_binders, holds_of_term}
 
 -- ---- the two sides are verified
 

@@ -1,4 +1,4 @@
-use crate::states::{decided, decided_with};
+use crate::decided::{decided, decided_with};
 use std::alloc::Global;
 use std::test::Fail;
 

@@ -6,8 +6,8 @@ use Rattle.kp_kore.specs.Signature.{KoreSignature, integer_sort, boolean_sort, i
 use Rattle.kp_semantics.specs.Value.{Value, whole, truth, Values, no_values, next_value, HasSort, HaveSorts, values_same}
 use Rattle.kp_semantics.specs.Interpretation.{computed, compared, connected, interpreted}
 use Rattle.kp_semantics.proofs.InstanceLemmas.{first_true, second_true}
-use Rattle.kp_sorts.proofs.SortLemmas.{is_that_sort}
-use Rattle.kp_sorts.proofs.NumberLemmas.{number_value, truth_value}
+use Rattle.kp_signature.proofs.SortLemmas.{is_that_sort}
+use Rattle.kp_signature.proofs.NumberLemmas.{number_value, truth_value}
 
 -- what holds of each two values of two sorts that pass a test
 two_values : (g : KoreSignature) (P : Values → Type 0) (test : KoreSort → Bool) (ss : KoreSorts) (us : Values) → are_two test ss ≡ true → HaveSorts g ss us →

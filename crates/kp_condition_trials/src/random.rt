@@ -1,4 +1,4 @@
-use crate::states::decided;
+use crate::decided::decided;
 use std::alloc::Global;
 use std::test::Fail;
 

@@ -11,9 +11,9 @@ use Rattle.kp_semantics.specs.Cases.{HaveOneSort}
 use Rattle.kp_signature.specs.Places.{earlier, Place, the_top, argument_at, part_at, after, under_binder, argument_sorts, sort_in_scope}
 use Rattle.kp_signature.specs.Verify.{VerifyFault, difference, fault_at, first_fault, arguments_fault, members_fault}
 use Rattle.kp_signature.proofs.ScopeLemmas.{scope_append}
-use Rattle.kp_sorts.proofs.ApplicationLemmas.{as_many_arguments}
-use Rattle.kp_sorts.proofs.FaultLemmas.{nothing_earlier, nothing_later, keeps_rules, same_as_wanted}
-use Rattle.kp_sorts.proofs.VariableSorts.{HasItsSort, in_longer_scope}
+use Rattle.kp_signature.proofs.ApplicationLemmas.{as_many_arguments}
+use Rattle.kp_signature.proofs.FaultLemmas.{nothing_earlier, nothing_later, keeps_rules, same_as_wanted}
+use Rattle.kp_signature.proofs.VariableSorts.{HasItsSort, in_longer_scope}
 
 -- the variables have the sorts that their names have among these
 abbrev pub Agree : List SortedName → List SortedName → Type 0

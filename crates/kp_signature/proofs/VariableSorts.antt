@@ -13,10 +13,10 @@ use Rattle.kp_semantics.proofs.InstanceLemmas.{first_true, second_true}
 use Rattle.kp_signature.specs.Places.{Place, earlier, argument_sorts, argument_at, after, sort_in_scope}
 use Rattle.kp_signature.specs.Verify.{difference, first_fault, fault_at, arguments_fault}
 use Rattle.kp_signature.proofs.ScopeLemmas.{scope_append}
-use Rattle.kp_sorts.proofs.FaultLemmas.{nothing_earlier, nothing_later, keeps_rules, same_as_wanted}
-use Rattle.kp_sorts.proofs.ListLemmas.{all_weaker, all_append}
-use Rattle.kp_sorts.proofs.ApplicationLemmas.{as_many_arguments}
-use Rattle.kp_sorts.proofs.SortedInstances.{same_rest}
+use Rattle.kp_signature.proofs.FaultLemmas.{nothing_earlier, nothing_later, keeps_rules, same_as_wanted}
+use Rattle.kp_signature.proofs.ListLemmas.{all_weaker, all_append}
+use Rattle.kp_signature.proofs.ApplicationLemmas.{as_many_arguments}
+use Rattle.kp_signature.proofs.SortedInstances.{same_rest}
 
 -- in this scope the variable's name has its sort
 abbrev pub HasItsSort : List SortedName → SortedName → Type 0

@@ -5,7 +5,7 @@ use Rattle.kp_kore.specs.Syntax.{KoreSort}
 use Rattle.kp_kore.specs.Signature.{KoreSignature, is_integer_sort, is_boolean_sort, Head, integers, booleans, tokens, constructor_of, heads_of, are_numbers, are_truths, has_only_numbers, has_only_truths, is_number_sort, is_truth_sort, IsHeadOf}
 use Rattle.kp_semantics.specs.Value.{Value, whole, truth, token, constructed, HasSort}
 use Rattle.kp_semantics.proofs.InstanceLemmas.{second_true}
-use Rattle.kp_sorts.proofs.HeadLemmas.{passed_by_heads}
+use Rattle.kp_signature.proofs.HeadLemmas.{passed_by_heads}
 
 abbrev is_number_head : Head → Bool
 is_number_head integers = true

@@ -14,11 +14,11 @@ use Rattle.kp_signature.specs.Places.{Profile, profile_of, argument_sorts}
 use Rattle.kp_signature.specs.Verify.{VerifyFault, fault_unless, symbol_fault, injection_fault, wrong_number, sort_differs}
 use Rattle.kp_signature.proofs.Applied.{of_profile, as_many}
 use Rattle.kp_subsorts.proofs.Below.{is_below-Decides}
-use Rattle.kp_sorts.proofs.FaultLemmas.{no_fault_unless}
-use Rattle.kp_sorts.proofs.SortLemmas.{has_sort_above, at_no_arguments, all_at_no_arguments, same_inside}
-use Rattle.kp_sorts.proofs.CallLemmas.{call_is_sorted}
-use Rattle.kp_sorts.proofs.InjLemmas.{inj_goes_across}
-use Rattle.kp_sorts.proofs.MeaningLemmas.{an_injection, a_construction, an_interpretation, it_fits, no_parameters, constructor_is_plain}
+use Rattle.kp_signature.proofs.FaultLemmas.{no_fault_unless}
+use Rattle.kp_signature.proofs.SortLemmas.{has_sort_above, at_no_arguments, all_at_no_arguments, same_inside}
+use Rattle.kp_signature.proofs.CallLemmas.{call_is_sorted}
+use Rattle.kp_signature.proofs.InjLemmas.{inj_goes_across}
+use Rattle.kp_signature.proofs.MeaningLemmas.{an_injection, a_construction, an_interpretation, it_fits, no_parameters, constructor_is_plain}
 
 -- ---- what the first declaration of a name gives
 

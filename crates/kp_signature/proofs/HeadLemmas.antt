@@ -10,7 +10,7 @@ use Rattle.kp_kore.specs.Signature.{KoreSignature, construction, symbol_meaning,
 use Rattle.kp_semantics.specs.Steps.{AnyByRecursion}
 use Rattle.kp_semantics.proofs.InstanceLemmas.{first_true, second_true}
 use Rattle.kp_subsorts.proofs.Below.{is_below-Decides}
-use Rattle.kp_sorts.proofs.MeaningLemmas.{constructor_constructs, makes_what_it_means}
+use Rattle.kp_signature.proofs.MeaningLemmas.{constructor_constructs, makes_what_it_means}
 
 -- ---- a head's own sort
 
