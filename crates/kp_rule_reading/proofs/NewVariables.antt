@@ -1,5 +1,6 @@
 -- The new variables of a right side, by a set of names.
 use Rattle.std.proofs.Common.{◌≡◌, refl, ap, ap₂, sym, ◌∙◌, Bool, true, false, not, cond, List, [], ◌∷◌, ◌++◌, map, String}
+use Rattle.std.specs.Prelude.{Result, Ok, Err, IfOk}
 use Rattle.std.specs.List.{filter}
 use Rattle.std.specs.declared.alloc.Global.{Global}
 use Rattle.std.proofs.lemmas.List.{append_assoc, map-append}
@@ -21,6 +22,11 @@ pub new_named : {S : Type 0} (names : IndexSet (String Global) S) (xs : List Sor
 new_named names xs left right n e =
     ap (λ l. top_binders right ++ l) (same_filter (λ x. not (contains_text names x.name)) (λ x. not (is_named x.name (free_variables left)))
     (λ x. ap not (n x.name ∙ ap (is_named x.name) e)) (free_variables right))
+
+-- what was made is seen as the same list by its other name
+pub seen_also : {A E : Type 0} (seen : A → List SortedName) (r : Result A E) (xs ys : List SortedName) → IfOk r (λ a. seen a ≡ xs) → xs ≡ ys → IfOk r (λ a. seen a ≡ ys)
+seen_also seen (Ok a) xs ys told e = told ∙ e
+seen_also seen (Err f) xs ys told e = tt
 
 -- ---- one more variable
 

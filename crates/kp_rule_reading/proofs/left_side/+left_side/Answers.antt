@@ -24,7 +24,7 @@ applied_side-returns-in_ok-built-in-Constructor-clause-form t c =
 
 pub applied_side-returns-in_err-forms-in-Constructor-clause-refused : goal.applied_side-returns-in_err-forms-in-Constructor-clause-refused
 applied_side-returns-in_err-forms-in-Constructor-clause-refused t c =
-    let p = err_from_is_err_and c.from_residual-in_err-forms-in-Constructor.result c.from_residual-in_err-forms-in-Constructor.ensures.1 in
+    let p = err_from_is_err_and c.from_residual.result c.from_residual.ensures.1 in
     rw (p.1, p.2) (λ ss verified. c.in_err-forms-in-Constructor.ensures.refused (left_arguments (signature_view c.args.signature.now) (string_bytes c.args.name.now) ss c.args.arguments.now verified))
 
 pub applied_side-returns-in-len1-clause-refused : goal.applied_side-returns-in-len1-clause-refused
