@@ -1,25 +1,25 @@
 -- The left term of a rule that is read, as a form, stands for exactly the term's instances, each under one valuation.
-use Rattle.std.proofs.Common.{◌≡◌, refl, sym, ◌∙◌, subst, ap, ap₂, map, ℕ, zero, suc, Bool, true, false, not, ◌&&◌, List, [], ◌∷◌, ◌++◌, ◌↔◌, length, arith}
+use Rattle.std.proofs.Common.{◌≡◌, refl, sym, ◌∙◌, subst, ap, ap₂, map, ℕ, zero, suc, Bool, true, false, not, ◌&&◌, List, [], ◌∷◌, ◌↔◌, length, arith}
 use Rattle.std.specs.Prelude.{◌==◌}
-use Rattle.std.specs.List.{AllByRecursion, list_all}
+use Rattle.std.specs.List.{list_all}
 use Rattle.std.proofs.lemmas.Bool.Decides.{Decides-eqb}
 use Rattle.std.proofs.lemmas.List.Folds.{list_all-append}
-use Rattle.kp_kore.specs.Syntax.{Text, KoreSort, KoreSorts, KorePattern, KorePatterns, variable, application, literal, set_variable, string_literal, top, bottom, negation, next, conjunction, disjunction, implication, equivalence, rewriting, exists, forall, ceil, floor, equals, membership, mu, nu, no_patterns, next_pattern}
+use Rattle.kp_kore.specs.Syntax.{Text, KoreSorts, KorePattern, KorePatterns, variable, application, literal, set_variable, string_literal, top, bottom, negation, next, conjunction, disjunction, implication, equivalence, rewriting, exists, forall, ceil, floor, equals, membership, mu, nu, no_patterns, next_pattern}
 use Rattle.kp_kore.specs.Parts.{SortedName, is_term, are_terms, all_subpatterns, subpatterns, free_variables, all_free_variables, pattern_list}
 use Rattle.kp_kore.specs.Signature.{KoreSignature, SymbolMeaning, injection, construction, interpretation, foreign, meaning_of}
 use Rattle.kp_semantics.specs.Value.{Value, whole, truth, token, constructed, Values, no_values, next_value, HasSort}
-use Rattle.kp_semantics.specs.Instance.{Valuation, instance, instances, applied, only_value, GivesSorts, AgreesOn}
+use Rattle.kp_semantics.specs.Instance.{Valuation, instance, instances, applied, GivesSorts, AgreesOn}
 use Rattle.kp_semantics.specs.Rules.{Rewrite}
 use Rattle.kp_semantics.specs.Foreign.{none_within, has_foreign_head, is_foreign_meaning, has_interpreted_head, is_interpretation}
 use Rattle.kp_semantics.proofs.InstanceLemmas.{first_true, second_true}
 use Rattle.kp_semantics.proofs.ListLemmas.{all_left, all_right, all_append}
 use Rattle.kp_compile.specs.Verified.{misapplies_injection, is_injection_meaning}
-use Rattle.kp_kore.specs.View.{view, patterns_view}
+use Rattle.kp_kore.specs.View.{patterns_view}
 use Rattle.kp_kore.specs.declared.pattern.Pattern.{Pattern}
 use Rattle.kp_rules.specs.Skeletons.{Form, built, next_form, forms_of, skeleton_view, Admits, AdmitAll}
 use Rattle.kp_rules.specs.declared.skeleton.Skeleton.{Skeleton}
 use Rattle.kp_rule_reading.specs.LeftForms.{left_form, left_forms, applied_form, AreLeftForms, IsLeftTerm}
-use Rattle.kp_rules.specs.LeftSides.{IsLeftInstance, IsLeftSide}
+use Rattle.kp_rules.specs.LeftSides.{IsLeftSide}
 
 abbrev Sorted : KoreSignature → Valuation → SortedName → Type 0
 Sorted g v x = HasSort g x.sort (v x.name)

@@ -1,4 +1,4 @@
-use Rattle.std.proofs.Common.{◌≡◌, subst, map, ◌++◌, not}
+use Rattle.std.proofs.Common.{subst, map, ◌++◌, not}
 use Rattle.std.specs.List.{filter}
 use Rattle.indexmap.specs.IndexSet.{contains_text}
 use Rattle.kp_kore.specs.Parts.{free_variables}
