@@ -9,7 +9,6 @@ use Rattle.kp_semantics.specs.Instance.{Valuation}
 use Rattle.kp_semantics.proofs.ListLemmas.{all_map}
 use Rattle.kp_heads.specs.Heads.{HasValue}
 use Rattle.kp_symbolic.specs.States.{Literal, AreTrue, SymbolicState, CanBeTrue}
-use Rattle.kp_symbolic.specs.WellFormed.{IsWellFormed}
 use Rattle.kp_symbolic.specs.Plain.{Form, compares, is_truth, equates, asks, gives, ReadLiteral, read_clause, read_from, read_clauses, is_plain_clause, has_form, plain_part, plain_clauses, rough_clauses}
 use Rattle.kp_kore.specs.Hooks.{equal, different, less, at_most, greater, at_least}
 use Rattle.kp_symbolic.specs.Weights.{IsWeight, IsOver, form_length, clause_length}
@@ -32,7 +31,7 @@ use Rattle.kp_decide.proofs.HeadsTrue.{heads_where_true, asked_at_hand, asked_al
 use Rattle.kp_decide.proofs.Parts.{as_many, plain_can_be_true, none_by_plain}
 use Rattle.kp_decide.specs.Answers.{IsToldAs, ShowsOver, IsRightAnswer}
 use Rattle.kp_decide.specs.Heads.{AreStanding}
-use Rattle.kp_decide.specs.Read.{has_literal, rough_in, AreReadOf}
+use Rattle.kp_decide.specs.Read.{has_literal, rough_in, AreReadOf, HasSortedClauses}
 use Rattle.kp_decide.specs.declared.verdict.Verdict.{Verdict}
 use Rattle.kp_decide.specs.declared.verdict.Verdict.TheVariants.{SomeValuation, NoValuation}
 
@@ -105,7 +104,7 @@ none_of_values g s n = none_right g s (λ h. n (all_map _ (λ x. HasValue g x.so
 pub none_of_literals : (g : KoreSignature) (s : SymbolicState) → list_all has_literal s.clauses ≡ false → IsRightAnswer g s NoValuation
 none_of_literals g s e = none_right g s (λ h. have_some g h.valuation s.clauses e h.are_true)
 
-pub none_of_heads : (g : KoreSignature) (s : SymbolicState) (rs : List (List ReadLiteral)) → rs ≡ read_clauses g s → list_all has_literal s.clauses ≡ true → ¬ AreStanding g rs → IsWellFormed g s → IsRightAnswer g s NoValuation
+pub none_of_heads : (g : KoreSignature) (s : SymbolicState) (rs : List (List ReadLiteral)) → rs ≡ read_clauses g s → list_all has_literal s.clauses ≡ true → ¬ AreStanding g rs → HasSortedClauses g s → IsRightAnswer g s NoValuation
 none_of_heads g s rs read e n well = none_right g s (λ h.
     n (subst (AreStanding g) (sym read) (stand_where_asked g h.valuation (read_clauses g s) (all_some g s [] s.clauses e) (heads_where_true g s well h)
     (gives_at_hand g h.valuation s.variables (asked_in (read_clauses g s)) (asked_at_hand g s well) h.sorts))))
@@ -113,7 +112,7 @@ none_of_heads g s rs read e n well = none_right g s (λ h.
 -- ---- by all clauses
 
 heads_of : (g : KoreSignature) (s : SymbolicState) (cs : Clauses) → AreReadOf g s cs → CanHaveHeads g (read_clauses g s)
-heads_of g s cs k = can_have_heads g s.variables (read_clauses g s) k.well_formed.one_sort_each (asked_at_hand g s k.well_formed) (asked_alone g s) (subst (AreStanding g) k.read k.heads)
+heads_of g s cs k = can_have_heads g s.variables (read_clauses g s) k.sorted.one_sort_each (asked_at_hand g s k.sorted) (asked_alone g s) (subst (AreStanding g) k.read k.heads)
 
 abbrev every : List ReadLiteral → Bool
 every c = true
@@ -123,19 +122,19 @@ keeps_every [] = refl
 keeps_every (c ∷ cs) = ap (λ ds. c ∷ ds) (keeps_every cs)
 
 all_these : (g : KoreSignature) (s : SymbolicState) (cs : Clauses) → AreReadOf g s cs → AreThese g s every cs
-all_these g s cs k = are_these g s every cs k.well_formed (k.read ∙ sym (keeps_every (read_clauses g s))) k.kinds
+all_these g s cs k = are_these g s every cs k.sorted (k.read ∙ sym (keeps_every (read_clauses g s))) k.kinds
 
 decided_of : (g : KoreSignature) (s : SymbolicState) (cs : Clauses) → AreReadOf g s cs → TellsOver (clauses_view cs) None → CanBeDecided g cs
-decided_of g s cs k light = can_be_decided g s every cs k.well_formed k.values (all_these g s cs k) (are_light cs light)
+decided_of g s cs k light = can_be_decided g s every cs k.sorted k.values (all_these g s cs k) (are_light cs light)
 
 pub right_where_all_met : (g : KoreSignature) (s : SymbolicState) (cs : Clauses) → TellsOver (clauses_view cs) None → (CanBeDecided g cs → CanBeAsked g cs) → AreReadOf g s cs → IsRightAnswer g s SomeValuation
 right_where_all_met g s cs light met k =
-    let can = true_where_met g s every cs k.well_formed k.values (heads_of g s cs k) (all_these g s cs k) (met (decided_of g s cs k light)) in
+    let can = true_where_met g s every cs k.sorted k.values (heads_of g s cs k) (all_these g s cs k) (met (decided_of g s cs k light)) in
     some_right g s (by_plain_can g s (subst (λ rs. CanBeTrue g s.variables (map plain_part rs)) (keeps_every (read_clauses g s)) can))
 
 pub open_where_none_met : (g : KoreSignature) (s : SymbolicState) (cs : Clauses) (a : Verdict) → IsToldAs (model.undecided (rough_in (clauses_view cs)) None) a → TellsOver (clauses_view cs) None → (CanBeDecided g cs → ¬ CanBeAsked g cs) → AreReadOf g s cs → CanBeTrue g s.variables (plain_clauses g s) → IsRightAnswer g s a
 open_where_none_met g s cs a shows light unmet k plain =
-    open_right g s a (rough_in (clauses_view cs)) plain (never_by_plain g s cs k.well_formed k.read (all_these g s cs k).at_hand (unmet (decided_of g s cs k light))) (ap rough_in k.read) shows
+    open_right g s a (rough_in (clauses_view cs)) plain (never_by_plain g s cs k.sorted k.read (all_these g s cs k).at_hand (unmet (decided_of g s cs k light))) (ap rough_in k.read) shows
 
 pub open_where_none_plain : (g : KoreSignature) (s : SymbolicState) (cs : Clauses) (a : Verdict) → IsToldAs (model.undecided (rough_in (clauses_view cs)) None) a → list_all (λ c. list_any has_form c) (clauses_view cs) ≡ false → AreReadOf g s cs → CanBeTrue g s.variables (plain_clauses g s) → IsRightAnswer g s a
 open_where_none_plain g s cs a shows e k plain =
@@ -152,16 +151,16 @@ pub record ArePlainOf (cs ps : Clauses) : Type 0 where
   pub same : clauses_of ps ≡ filter is_plain_read (clauses_of cs)
 
 plain_these : (g : KoreSignature) (s : SymbolicState) (cs ps : Clauses) → ArePlainOf cs ps → AreReadOf g s cs → AreThese g s is_plain_clause ps
-plain_these g s cs ps p k = are_these g s is_plain_clause ps k.well_formed (p.view ∙ ap (filter is_plain_clause) k.read) (some_of_kind g is_plain_read cs ps p.same k.kinds)
+plain_these g s cs ps p k = are_these g s is_plain_clause ps k.sorted (p.view ∙ ap (filter is_plain_clause) k.read) (some_of_kind g is_plain_read cs ps p.same k.kinds)
 
 plain_decided : (g : KoreSignature) (s : SymbolicState) (cs ps : Clauses) → ArePlainOf cs ps → TellsOver (clauses_view ps) None → AreReadOf g s cs → CanBeDecided g ps
-plain_decided g s cs ps p light k = can_be_decided g s is_plain_clause ps k.well_formed k.values (plain_these g s cs ps p k) (are_light ps light)
+plain_decided g s cs ps p light k = can_be_decided g s is_plain_clause ps k.sorted k.values (plain_these g s cs ps p k) (are_light ps light)
 
 pub none_where_unmet : (g : KoreSignature) (s : SymbolicState) (cs ps : Clauses) → ArePlainOf cs ps → TellsOver (clauses_view ps) None → (CanBeDecided g ps → ¬ CanBeAsked g ps) → AreReadOf g s cs → IsRightAnswer g s NoValuation
-none_where_unmet g s cs ps p light unmet k = none_right g s (never_where_unmet g s ps k.well_formed (plain_these g s cs ps p k) (unmet (plain_decided g s cs ps p light k)))
+none_where_unmet g s cs ps p light unmet k = none_right g s (never_where_unmet g s ps k.sorted (plain_these g s cs ps p k) (unmet (plain_decided g s cs ps p light k)))
 
 plain_met : (g : KoreSignature) (s : SymbolicState) (cs ps : Clauses) → ArePlainOf cs ps → TellsOver (clauses_view ps) None → (CanBeDecided g ps → CanBeAsked g ps) → AreReadOf g s cs → CanBeTrue g s.variables (map plain_part (filter is_plain_clause (read_clauses g s)))
-plain_met g s cs ps p light met k = true_where_met g s is_plain_clause ps k.well_formed k.values (heads_of g s cs k) (plain_these g s cs ps p k) (met (plain_decided g s cs ps p light k))
+plain_met g s cs ps p light met k = true_where_met g s is_plain_clause ps k.sorted k.values (heads_of g s cs k) (plain_these g s cs ps p k) (met (plain_decided g s cs ps p light k))
 
 pub plain_where_met : (g : KoreSignature) (s : SymbolicState) (cs ps : Clauses) → ArePlainOf cs ps → TellsOver (clauses_view ps) None → (CanBeDecided g ps → CanBeAsked g ps) → AreReadOf g s cs → CanBeTrue g s.variables (plain_clauses g s)
 plain_where_met g s cs ps p light met k = plain_can_be_true g s (plain_met g s cs ps p light met k)

@@ -6,7 +6,6 @@ use Rattle.std.specs.declared.alloc.Global.{Global}
 use Rattle.kp_kore.specs.Signature.{KoreSignature}
 use Rattle.kp_heads.specs.Heads.{HasValue}
 use Rattle.kp_symbolic.specs.States.{SymbolicState, CanBeTrue}
-use Rattle.kp_symbolic.specs.WellFormed.{IsWellFormed}
 use Rattle.kp_symbolic.specs.Plain.{is_plain_clause, read_clauses, plain_part}
 use Rattle.kp_symbolic.specs.Plain as model
 use Rattle.kp_symbolic.proofs.Exact.{plain_can}
@@ -15,6 +14,7 @@ use Rattle.kp_deciding.specs.Unknowns.{all_unknowns}
 use Rattle.kp_deciding.specs.declared.reading.ReadLiteral.{ReadLiteral}
 use Rattle.kp_choices.specs.Asking.{AreAskedTruly}
 use Rattle.kp_choices.specs.Holding.{CanBeAsked}
+use Rattle.kp_decide.specs.Read.{HasSortedClauses}
 use Rattle.kp_decide.proofs.Asked.{CanHaveHeads}
 use Rattle.kp_decide.proofs.AskedLemmas.{asked_where_true}
 use Rattle.kp_decide.proofs.Defaults.{some_values}
@@ -27,7 +27,7 @@ use Rattle.kp_decide.proofs.Placed.{are_placed}
 use Rattle.kp_decide.proofs.TrueWhereAsked.{can_be_true}
 
 -- where what some of the clauses ask can hold, they can be true by plain literals
-pub true_where_met : (g : KoreSignature) (s : SymbolicState) (test : List model.ReadLiteral → Bool) (cs : List (Vec ReadLiteral Global)) → IsWellFormed g s → AllByRecursion (λ x. HasValue g x.sort) s.variables → CanHaveHeads g (read_clauses g s) → AreThese g s test cs → CanBeAsked g cs → CanBeTrue g s.variables (map plain_part (filter test (read_clauses g s)))
+pub true_where_met : (g : KoreSignature) (s : SymbolicState) (test : List model.ReadLiteral → Bool) (cs : List (Vec ReadLiteral Global)) → HasSortedClauses g s → AllByRecursion (λ x. HasValue g x.sort) s.variables → CanHaveHeads g (read_clauses g s) → AreThese g s test cs → CanBeAsked g cs → CanBeTrue g s.variables (map plain_part (filter test (read_clauses g s)))
 true_where_met g s test cs well values can these h =
     let rs = filter test (read_clauses g s) in
     let heads = some_heads g test (read_clauses g s) can in
@@ -46,7 +46,7 @@ true_where_met g s test cs well values can these h =
     can_be_true g s well test (joined_of rs h.valuation heads.valuation others.0) j.sorts j.heads j.asked
 
 -- where what the plain clauses ask can't hold, the clauses can't be true
-pub never_where_unmet : (g : KoreSignature) (s : SymbolicState) (cs : List (Vec ReadLiteral Global)) → IsWellFormed g s → AreThese g s is_plain_clause cs → ¬ CanBeAsked g cs → ¬ CanBeTrue g s.variables s.clauses
+pub never_where_unmet : (g : KoreSignature) (s : SymbolicState) (cs : List (Vec ReadLiteral Global)) → HasSortedClauses g s → AreThese g s is_plain_clause cs → ¬ CanBeAsked g cs → ¬ CanBeTrue g s.variables s.clauses
 never_where_unmet g s cs well these none h =
     let p = plain_can g s h in
     none (record {
@@ -56,7 +56,7 @@ never_where_unmet g s cs well these none h =
     })
 
 -- where what all clauses ask can't hold, they can't be true by plain literals
-pub never_by_plain : (g : KoreSignature) (s : SymbolicState) (cs : List (Vec ReadLiteral Global)) → IsWellFormed g s → clauses_view cs ≡ read_clauses g s → AllByRecursion (Contains s.variables) (all_unknowns cs) → ¬ CanBeAsked g cs → ¬ CanBeTrue g s.variables (map plain_part (read_clauses g s))
+pub never_by_plain : (g : KoreSignature) (s : SymbolicState) (cs : List (Vec ReadLiteral Global)) → HasSortedClauses g s → clauses_view cs ≡ read_clauses g s → AllByRecursion (Contains s.variables) (all_unknowns cs) → ¬ CanBeAsked g cs → ¬ CanBeTrue g s.variables (map plain_part (read_clauses g s))
 never_by_plain g s cs well read at none h = none (record {
   valuation = h.valuation;
   sorts = gives_at_hand g h.valuation s.variables (all_unknowns cs) at h.sorts;

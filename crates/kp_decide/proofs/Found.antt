@@ -8,7 +8,6 @@ use Rattle.kp_semantics.proofs.ListLemmas.{all_map}
 use Rattle.kp_semantics.proofs.TurnLemmas.{of_member}
 use Rattle.kp_heads.specs.Heads.{HasValue}
 use Rattle.kp_symbolic.specs.States.{SymbolicState}
-use Rattle.kp_symbolic.specs.WellFormed.{IsWellFormed}
 use Rattle.kp_symbolic.specs.Plain as model
 use Rattle.kp_symbolic.specs.Plain.{read_clauses}
 use Rattle.kp_symbolic.specs.Weights.{Weight, IsOver}
@@ -17,6 +16,7 @@ use Rattle.kp_deciding.specs.Unknowns.{all_unknowns, AreSaidOfKind, AreReadOfKin
 use Rattle.kp_deciding.specs.declared.reading.ReadLiteral.{ReadLiteral}
 use Rattle.kp_readings.proofs.Unknowns.{said_of_kind, unknowns_at_hand}
 use Rattle.kp_choices.specs.Holding.{AreLight, CanBeDecided}
+use Rattle.kp_decide.specs.Read.{HasSortedClauses}
 use Rattle.kp_decide.proofs.Light.{is_light}
 
 -- the clauses of the code are these of the state, and their unknowns are of their kinds and at hand
@@ -25,7 +25,7 @@ pub record AreThese (g : KoreSignature) (s : SymbolicState) (test : List model.R
   pub forms : AllByRecursion (λ c. AreSaidOfKind g c.items) cs
   pub at_hand : AllByRecursion (Contains s.variables) (all_unknowns cs)
 
-pub are_these : (g : KoreSignature) (s : SymbolicState) (test : List model.ReadLiteral → Bool) (cs : List (Vec ReadLiteral Global)) → IsWellFormed g s → clauses_view cs ≡ filter test (read_clauses g s) → AreReadOfKind g cs → AreThese g s test cs
+pub are_these : (g : KoreSignature) (s : SymbolicState) (test : List model.ReadLiteral → Bool) (cs : List (Vec ReadLiteral Global)) → HasSortedClauses g s → clauses_view cs ≡ filter test (read_clauses g s) → AreReadOfKind g cs → AreThese g s test cs
 are_these g s test cs well read kinds = record {
   read = read;
   forms = said_of_kind g cs kinds;
@@ -35,7 +35,7 @@ are_these g s test cs well read kinds = record {
 pub are_light : (cs : List (Vec ReadLiteral Global)) → ((w : Weight) (n : ℕ) → ¬ IsOver w (clauses_view cs) n) → AreLight cs
 are_light cs none = let l = is_light (clauses_view cs) none in record { bits = l.digits; below = l.below; within = l.within }
 
-pub can_be_decided : (g : KoreSignature) (s : SymbolicState) (test : List model.ReadLiteral → Bool) (cs : List (Vec ReadLiteral Global)) → IsWellFormed g s → AllByRecursion (λ x. HasValue g x.sort) s.variables → AreThese g s test cs → AreLight cs → CanBeDecided g cs
+pub can_be_decided : (g : KoreSignature) (s : SymbolicState) (test : List model.ReadLiteral → Bool) (cs : List (Vec ReadLiteral Global)) → HasSortedClauses g s → AllByRecursion (λ x. HasValue g x.sort) s.variables → AreThese g s test cs → AreLight cs → CanBeDecided g cs
 can_be_decided g s test cs well values these light = record {
   forms = these.forms;
   one_sort_each = λ x y p q e. well.one_sort_each x y (of_member (Contains s.variables) (all_unknowns cs) x these.at_hand p) (of_member (Contains s.variables) (all_unknowns cs) y these.at_hand q) e;

@@ -11,6 +11,7 @@ use Rattle.kp_symbolic.specs.States.{Atom, same, has_head, quoted, Literal, atom
 use Rattle.kp_symbolic.specs.WellFormed.{IsWellSortedAtom, IsGivenAtom, AreGivenLiterals, AreAtHand, IsWellFormed}
 use Rattle.kp_symbolic.proofs.Distribution.{all_first, all_second}
 use Rattle.kp_symbolic.proofs.WellSorted.{term_sorted, term_given}
+use Rattle.kp_decide.specs.Read.{HasSortedClauses}
 
 pub gives_at_hand : (g : KoreSignature) (v : Valuation) (hand xs : List SortedName) → AreAtHand xs hand → GivesSorts g v hand → GivesSorts g v xs
 gives_at_hand g v hand [] h gives = tt
@@ -35,5 +36,10 @@ clauses_given : (g : KoreSignature) (v : Valuation) (hand : List SortedName) (cs
 clauses_given g v hand [] w at gives = tt
 clauses_given g v hand (c ∷ cs) w at gives = (clause_given g v c w.0 (gives_at_hand g v hand (clause_variables c) at.0 gives), clauses_given g v hand cs w.1 at.1 gives)
 
-pub literals_given : (g : KoreSignature) (s : SymbolicState) (v : Valuation) → IsWellFormed g s → GivesSorts g v s.variables → AreGivenLiterals g v s.clauses
+pub literals_given : (g : KoreSignature) (s : SymbolicState) (v : Valuation) → HasSortedClauses g s → GivesSorts g v s.variables → AreGivenLiterals g v s.clauses
 literals_given g s v w gives = clauses_given g v s.variables s.clauses w.literals w.clauses_at_hand gives
+
+-- ---- for callers
+
+pub well_formed_sorted : (g : KoreSignature) (s : SymbolicState) → IsWellFormed g s → HasSortedClauses g s
+well_formed_sorted g s w = record { literals = w.literals; clauses_at_hand = w.clauses_at_hand; one_sort_each = w.one_sort_each }

@@ -10,9 +10,10 @@ use Rattle.kp_semantics.specs.Instance.{Valuation}
 use Rattle.kp_semantics.proofs.ListLemmas.{all_append, all_left, all_right, all_filter}
 use Rattle.kp_symbolic.specs.Terms.{SymbolicTerm, unknown, known, term_variables}
 use Rattle.kp_symbolic.specs.States.{PassesHead, Atom, same, has_head, quoted, atom_variables, Literal, IsLiteralTrue, AreTrue, clause_variables, SymbolicState, CanBeTrue}
-use Rattle.kp_symbolic.specs.WellFormed.{IsGivenAtom, AreGivenLiterals, AreAtHand, IsWellFormed}
+use Rattle.kp_symbolic.specs.WellFormed.{IsGivenAtom, AreGivenLiterals, AreAtHand}
 use Rattle.kp_symbolic.specs.Solving.{Equation, equation_of}
 use Rattle.kp_symbolic.specs.Plain.{Form, compares, is_truth, equates, asks, gives, first_form, form_of, constant_form, head_form, solved_form, own_form, ReadLiteral, read_clause, read_from, read_clauses}
+use Rattle.kp_decide.specs.Read.{HasSortedClauses}
 use Rattle.kp_decide.proofs.Asked.{asked_of, asked_in, IsHeadAsked, AreHeadsAsked, CanHaveHeads}
 use Rattle.kp_decide.proofs.GivenLemmas.{literals_given}
 use Rattle.kp_decide.proofs.HeadLemmas.{AsksAlone}
@@ -126,7 +127,7 @@ all_heads : (g : KoreSignature) (v : Valuation) (s : SymbolicState) (before cs :
 all_heads g v s before [] given h = tt
 all_heads g v s before (c ∷ cs) given h = (clause_heads g v s (before ++ cs) c given.0 h.0, all_heads g v s (before ++ c ∷ []) cs given.1 h.1)
 
-pub heads_where_true : (g : KoreSignature) (s : SymbolicState) → IsWellFormed g s → (h : CanBeTrue g s.variables s.clauses) → AreHeadsAsked g h.valuation (read_clauses g s)
+pub heads_where_true : (g : KoreSignature) (s : SymbolicState) → HasSortedClauses g s → (h : CanBeTrue g s.variables s.clauses) → AreHeadsAsked g h.valuation (read_clauses g s)
 heads_where_true g s well h = all_heads g h.valuation s [] s.clauses (literals_given g s h.valuation well h.sorts) h.are_true
 
 -- ---- of which variables heads are asked
@@ -180,7 +181,7 @@ all_at g s hand before (c ∷ cs) h =
     all_append (Contains hand) (flat_map (λ l. asked_of l.form) (read_clause g s (before ++ cs) c)) (asked_in (read_from g s (before ++ c ∷ []) cs))
     (clause_at g s (before ++ cs) hand c h.0) (all_at g s hand (before ++ c ∷ []) cs h.1)
 
-pub asked_at_hand : (g : KoreSignature) (s : SymbolicState) → IsWellFormed g s → AllByRecursion (Contains s.variables) (asked_in (read_clauses g s))
+pub asked_at_hand : (g : KoreSignature) (s : SymbolicState) → HasSortedClauses g s → AllByRecursion (Contains s.variables) (asked_in (read_clauses g s))
 asked_at_hand g s well = all_at g s s.variables [] s.clauses well.clauses_at_hand
 
 clause_alone : (g : KoreSignature) (s : SymbolicState) (others : List (List Literal)) (c : List Literal) → AsksAlone (read_clause g s others c)

@@ -6,9 +6,10 @@ use Rattle.kp_kore.specs.Signature.{KoreSignature}
 use Rattle.kp_semantics.specs.Instance.{Valuation, GivesSorts}
 use Rattle.kp_symbolic.specs.Formulas.{NotAllFalse}
 use Rattle.kp_symbolic.specs.States.{Literal, IsClauseTrue, AreTrue, clause_variables, SymbolicState, CanBeTrue}
-use Rattle.kp_symbolic.specs.WellFormed.{AreGivenLiterals, IsWellSortedAtom, AreAtHand, IsWellFormed}
+use Rattle.kp_symbolic.specs.WellFormed.{AreGivenLiterals, IsWellSortedAtom, AreAtHand}
 use Rattle.kp_symbolic.specs.Plain.{ReadLiteral, read_clause, read_from, read_clauses, plain_part}
 use Rattle.kp_choices.specs.Asking.{IsAskedTruly, AreAskedTruly}
+use Rattle.kp_decide.specs.Read.{HasSortedClauses}
 use Rattle.kp_decide.proofs.Asked.{IsHeadAsked, AreHeadsAsked}
 use Rattle.kp_decide.proofs.GivenLemmas.{literals_given}
 use Rattle.kp_decide.proofs.Ready.{clause_ready}
@@ -43,7 +44,7 @@ all_known : (g : KoreSignature) (s : SymbolicState) (cs : List (List Literal)) �
 all_known g s [] w at = tt
 all_known g s (c ∷ cs) w at = (record { sorted = w.0; at_hand = at.0 }, all_known g s cs w.1 at.1)
 
-pub can_be_true : (g : KoreSignature) (s : SymbolicState) → IsWellFormed g s → (test : List ReadLiteral → Bool) (v : Valuation) → GivesSorts g v s.variables → AreHeadsAsked g v (filter test (read_clauses g s)) → AreAskedTruly g v (filter test (read_clauses g s)) → CanBeTrue g s.variables (map plain_part (filter test (read_clauses g s)))
+pub can_be_true : (g : KoreSignature) (s : SymbolicState) → HasSortedClauses g s → (test : List ReadLiteral → Bool) (v : Valuation) → GivesSorts g v s.variables → AreHeadsAsked g v (filter test (read_clauses g s)) → AreAskedTruly g v (filter test (read_clauses g s)) → CanBeTrue g s.variables (map plain_part (filter test (read_clauses g s)))
 can_be_true g s well test v sorts heads asked =
     let each = both_kept (λ c. AllByRecursion (λ r. IsHeadAsked g v r.form) c) (λ c. NotAllFalse (λ r. IsAskedTruly g v r.form) c) (filter test (read_clauses g s)) heads asked in
     let ready = ready_from g v s test [] s.clauses (literals_given g s v well sorts) (where_kept (λ c. AllByRecursion (λ r. IsHeadAsked g v r.form) c × NotAllFalse (λ r. IsAskedTruly g v r.form) c) test (read_clauses g s) each) in

@@ -7,14 +7,13 @@ ghost use Rattle.kp_heads.specs.Made.{IsHeadTableOf};
 ghost use Rattle.kp_symbolic.specs.States.{CanBeTrue};
 ghost use Rattle.kp_symbolic.specs.Plain as model;
 ghost use Rattle.kp_symbolic.specs.Verdicts.{undecided};
-ghost use Rattle.kp_symbolic.specs.WellFormed.{IsWellFormed};
 ghost use Rattle.kp_terms.specs.View as terms;
 ghost use Rattle.kp_terms.specs.View.{state_view, variable_view, variables_view};
 ghost use Rattle.kp_deciding.specs.Readings.{clauses_view};
 ghost use Rattle.kp_weights.specs.Told.{TellsWeight, weight_view};
 ghost use Rattle.kp_decide.specs.Answers.{IsRightAnswer, IsToldAs, ShowsOver};
 ghost use Rattle.kp_decide.specs.Read as spec;
-ghost use Rattle.kp_decide.specs.Read.{AreReadOf, rough_in};
+ghost use Rattle.kp_decide.specs.Read.{AreReadOf, HasSortedClauses, rough_in};
 
 use crate::heads::heads_stand;
 use crate::verdict::Verdict;
@@ -149,7 +148,7 @@ fn decide_read(
     decide_rough(alloc, signature, state, clauses)
 }
 
-/// Whether the clauses of a state can be true; where the state is well formed, the verdict is right.
+/// Whether the clauses of a state can be true; where they have the sorts of their places, the verdict is right.
 pub fn decide(
     alloc: Global,
     signature: &Signature,
@@ -157,7 +156,7 @@ pub fn decide(
     state: &State,
 ) -> Result<Verdict, AllocError>
     requires { IsHeadTableOf (signature_view signature.now) table.now }
-    ensures { let g = signature_view signature.now in let s = state_view state.now in IfOk result (λ a. IsWellFormed g s → IsRightAnswer g s a) }
+    ensures { let g = signature_view signature.now in let s = state_view state.now in IfOk result (λ a. HasSortedClauses g s → IsRightAnswer g s a) }
 {
     if !have_values(signature, table, &state.variables) {
         return Ok(Verdict::NoValuation);

@@ -4,6 +4,7 @@ use Rattle.kp_symbolic.specs.Verdicts.{IsRightVerdict, undecided}
 use Rattle.kp_terms.specs.Languages.{language_view}
 use Rattle.kp_terms.specs.View.{state_view, clauses_view}
 use Rattle.kp_decide.specs.Answers.{IsRightAnswer}
+use Rattle.kp_decide.proofs.GivenLemmas.{well_formed_sorted}
 use Rattle.kp_simplify.proofs.AnswerLemmas.{if_ok, none_answered, right_none, right_some, shown_of}
 use Rattle.kp_simplify.proofs.stated.answer_of.Goals as goal
 
@@ -11,13 +12,13 @@ pub returns-in-NoValuation-clause-answered : goal.returns-in-NoValuation-clause-
 returns-in-NoValuation-clause-answered c = λ well.
     let g = language_view c.args.language.now in
     let s = state_view c.args.state.now in
-    none_answered g s (right_none g s (subst (IsRightAnswer g s) c.in-NoValuation.is (c.in_ok-verdict.ensures well)))
+    none_answered g s (right_none g s (subst (IsRightAnswer g s) c.in-NoValuation.is (c.in_ok-verdict.ensures (well_formed_sorted g s well))))
 
 pub returns-in-SomeValuation-clause-answered : goal.returns-in-SomeValuation-clause-answered
 returns-in-SomeValuation-clause-answered c =
     let g = language_view c.args.language.now in
     let s = state_view c.args.state.now in
-    if_ok c.found.result _ _ (λ a h well. h (right_some g s (subst (IsRightAnswer g s) c.in-SomeValuation.is (c.in_ok-verdict.ensures well)))) c.found.ensures.answered
+    if_ok c.found.result _ _ (λ a h well. h (right_some g s (subst (IsRightAnswer g s) c.in-SomeValuation.is (c.in_ok-verdict.ensures (well_formed_sorted g s well))))) c.found.ensures.answered
 
 pub returns-in-Undecided-clause-answered : goal.returns-in-Undecided-clause-answered
 returns-in-Undecided-clause-answered c =
@@ -25,7 +26,7 @@ returns-in-Undecided-clause-answered c =
     let s = state_view c.args.state.now in
     if_ok c.left_open.result _ _
     (λ a h well.
-    let k = shown_of g s c.in-Undecided.shown c.in-Undecided.over (subst (IsRightAnswer g s) c.in-Undecided.is (c.in_ok-verdict.ensures well)) in
+    let k = shown_of g s c.in-Undecided.shown c.in-Undecided.over (subst (IsRightAnswer g s) c.in-Undecided.is (c.in_ok-verdict.ensures (well_formed_sorted g s well))) in
     h k.weight (subst (λ cs. IsRightVerdict g s (undecided (clauses_view cs) k.weight)) (sym c.deref.ensures.value) k.right) k.weighed)
     c.left_open.ensures.answered
 
@@ -33,7 +34,7 @@ pub returns-in-SomeValuation-clause-wants : goal.returns-in-SomeValuation-clause
 returns-in-SomeValuation-clause-wants c =
     let g = language_view c.args.language.now in
     let s = state_view c.args.state.now in
-    IfErr-weaker c.found.result _ _ (λ e h is well. h is (right_some g s (subst (IsRightAnswer g s) c.in-SomeValuation.is (c.in_ok-verdict.ensures well)))) c.found.ensures.wants
+    IfErr-weaker c.found.result _ _ (λ e h is well. h is (right_some g s (subst (IsRightAnswer g s) c.in-SomeValuation.is (c.in_ok-verdict.ensures (well_formed_sorted g s well))))) c.found.ensures.wants
 
 pub returns-in-Undecided-clause-wants : goal.returns-in-Undecided-clause-wants
 returns-in-Undecided-clause-wants c =
@@ -41,6 +42,6 @@ returns-in-Undecided-clause-wants c =
     let s = state_view c.args.state.now in
     IfErr-weaker c.left_open.result _ _
     (λ e h is well.
-    let k = shown_of g s c.in-Undecided.shown c.in-Undecided.over (subst (IsRightAnswer g s) c.in-Undecided.is (c.in_ok-verdict.ensures well)) in
+    let k = shown_of g s c.in-Undecided.shown c.in-Undecided.over (subst (IsRightAnswer g s) c.in-Undecided.is (c.in_ok-verdict.ensures (well_formed_sorted g s well))) in
     h is k.weight (subst (λ cs. IsRightVerdict g s (undecided (clauses_view cs) k.weight)) (sym c.deref.ensures.value) k.right))
     c.left_open.ensures.wants
