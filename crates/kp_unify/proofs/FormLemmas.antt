@@ -1,12 +1,12 @@
 -- Members of forms, one by one.
-use Rattle.std.proofs.Common.{◌≡◌, refl, sym, ap, ap₂, subst, ◌∙◌, ℕ, zero, suc, ◌+◌, ◌<◌, List, [], ◌∷◌, ◌++◌, map, length, drop, get_or, arith}
+use Rattle.std.proofs.Common.{◌≡◌, refl, sym, ap, ap₂, ◌∙◌, ℕ, zero, suc, ◌+◌, ◌<◌, List, [], ◌∷◌, ◌++◌, map, length, drop, get_or, arith}
 use Rattle.kp_kore.specs.Syntax.{Text}
-use Rattle.kp_semantics.specs.Value.{Values, next_value, constructed}
+use Rattle.kp_semantics.specs.Value.{constructed}
 use Rattle.kp_ground.specs.View.{value_view, values_of}
 use Rattle.kp_ground.specs.declared.value.Value.{Value}
 use Rattle.kp_symbolic.specs.Terms.{SymbolicTerm}
 use Rattle.kp_rules.specs.Skeletons.{Form, fixed, forms_of, next_form}
-use Rattle.kp_cases.specs.Courses.{FormPair, all_fixed}
+use Rattle.kp_cases.specs.Courses.{all_fixed}
 use Rattle.kp_cases.specs.Rows.{HasMembers}
 use Rattle.kp_unify.specs.Replaced.{pairs_of}
 

@@ -6,3 +6,11 @@ pub mod OpenedLemmas
 pub mod SharedLemmas
 pub mod ReplacedLemmas
 pub mod AddedLemmas
+pub mod ClashLemmas
+pub mod WayLemmas
+pub mod PlaceLemmas
+pub mod PairLemmas
+pub mod MemberLemmas
+pub mod EndLemmas
+pub mod NarrowedLemmas
+pub mod PairSteps

@@ -4,7 +4,7 @@ use Rattle.std.specs.Prelude.{MatchOption}
 use Rattle.std.specs.Option.{option_map}
 use Rattle.std.specs.List.{list_all, filter, find}
 use Rattle.kp_kore.specs.Syntax.{KoreSort}
-use Rattle.kp_kore.specs.Signature.{KoreSignature, Head, is_head, possible_heads, heads_of, IsHeadOf, IsBelow, itself, through, is_below}
+use Rattle.kp_kore.specs.Signature.{KoreSignature, Head, is_head, possible_heads, IsHeadOf, IsBelow, itself, through, is_below}
 use Rattle.kp_signature.proofs.HeadLemmas.{is_head-Decides, passed_by_heads}
 use Rattle.kp_subsorts.proofs.Below.{is_below-Decides}
 use Rattle.kp_semantics.proofs.InstanceLemmas.{first_true, second_true}

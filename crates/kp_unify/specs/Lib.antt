@@ -5,3 +5,5 @@ pub mod Names
 pub mod Narrowed
 pub mod Literals
 pub mod Replaced
+pub mod Clash
+pub mod Way

@@ -1,11 +1,13 @@
 -- A part in which a variable is a term, and the part that is split off.
 -- Source: narrowing; this project.
-use Rattle.std.specs.Prelude.{ℕ, List, [], ◌∷◌, ◌++◌, if◌then◌else◌}
+use Rattle.std.specs.Prelude.{ℕ, false, List, [], ◌∷◌, ◌++◌, if◌then◌else◌}
 use Rattle.std.specs.List.{flat_map}
+use Rattle.kp_kore.specs.Syntax.{Text}
 use Rattle.kp_kore.specs.Parts.{SortedName}
 use Rattle.kp_kore.specs.Signature.{KoreSignature}
-use Rattle.kp_symbolic.specs.Terms.{SymbolicTerm}
-use Rattle.kp_symbolic.specs.States.{Literal, SymbolicState}
+use Rattle.kp_semantics.specs.Value.{constructed, no_values}
+use Rattle.kp_symbolic.specs.Terms.{SymbolicTerm, unknown, known}
+use Rattle.kp_symbolic.specs.States.{same, Literal, SymbolicState}
 use Rattle.kp_symbolic.specs.Clauses.{distributed, is_too_large, without_repeats}
 use Rattle.kp_symbolic.specs.Solving.{Equation, opened_clause}
 use Rattle.kp_cases.specs.Parts.{StatePart, with_clauses}
@@ -36,3 +38,7 @@ pub record NumberedPart : Type 0 where
 -- with the part in which these clauses are true behind the others; none, where they never are
 abbrev pub with_split : NumberedPart → List (List Literal) → List NumberedPart → List NumberedPart
 with_split p others apart = if are_never others then apart else apart ++ record { part = with_clauses p.part others; next = p.next } ∷ []
+
+-- the variable isn't the constructor's only value
+abbrev pub another : SortedName → Text → List (List Literal)
+another x c = (record { holds = false; atom = same x.sort (unknown x) (known (constructed c no_values)) } ∷ []) ∷ []

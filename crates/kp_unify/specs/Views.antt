@@ -12,6 +12,7 @@ use Rattle.kp_cases.specs.Cases as cases
 use Rattle.kp_cases.specs.Courses as model
 use Rattle.kp_unify.specs.Forms.{form_view}
 use Rattle.kp_unify.specs.Narrowed.{NumberedPart}
+use Rattle.kp_unify.specs.Way.{Stage}
 use Rattle.kp_unify.specs.declared.part.Part.{Part}
 use Rattle.kp_unify.specs.declared.part.MetPart.{MetPart}
 use Rattle.kp_unify.specs.declared.part.Setting.{Setting}
@@ -41,6 +42,9 @@ course_view k = record {
   bindings = map replaced_view k.bindings.items;
   pairs = map pair_view k.pairs.items;
 }
+
+abbrev pub stage_view : Course → Stage
+stage_view k = record { course = course_view k; next = k.part.next; apart = map numbered_view k.apart.items }
 
 -- the signature, the names that were met, and the table of heads
 abbrev pub signature_of : Setting → KoreSignature

@@ -1,14 +1,21 @@
-// What the cases of a symbolic state under a rule's left side are made of: what a part of a left side asks, the sorts that
-// share heads, the clauses by which a variable is narrowed, new names, a part in which a variable is a term, and a left side
-// against a part, on its way, with a term in a variable's place.
+// The cases of a symbolic state under a rule's left side: its variables are narrowed by constructors and by sorts, what is
+// repeated becomes equations that stay apart, and each narrowing splits off the part without it.
 #![tactic(auto)]
 
 pub mod asked;
+pub mod clash;
 pub mod course;
 pub mod forms;
 pub mod heads;
 pub mod literals;
+pub mod meeting;
 pub mod names;
+pub mod narrow;
+pub mod pairs;
 pub mod part;
+pub mod place;
 pub mod put;
 pub mod sorts;
+
+pub use meeting::{cases, meet};
+pub use part::{Meeting, MetPart, Part, Setting};

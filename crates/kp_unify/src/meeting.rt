@@ -1,0 +1,140 @@
+// The cases of a part, and of a whole state, under a left side.
+ghost use Rattle.std.specs.Prelude.{◌≡◌, [], List, MatchOption, MatchBool, IfOk, map};
+ghost use Rattle.kp_kore.specs.Syntax.{Text};
+ghost use Rattle.kp_heads.specs.Made.{IsHeadTableOf};
+ghost use Rattle.kp_rules.specs.Skeletons as forms;
+ghost use Rattle.kp_rules.specs.Skeletons.{skeleton_view};
+ghost use Rattle.kp_terms.specs.View.{clauses_view, state_view};
+ghost use Rattle.kp_cases.specs.Parts as parts;
+ghost use Rattle.kp_cases.specs.Parts.{StatePart};
+ghost use Rattle.kp_cases.specs.Courses.{all_equality_clauses};
+ghost use Rattle.kp_unify.specs.Views.{signature_of, part_view, numbered_view, met_view, equality_view, stage_view, IsSetting};
+ghost use Rattle.kp_unify.specs.Way.{IsGone, IsMeetable, IsAllApart, IsMeeting};
+
+use crate::clash::clashes;
+use crate::course::{Course, Equality, begin};
+use crate::forms::Form;
+use crate::literals::{are_never, equal_clauses};
+use crate::part::{Meeting, MetPart, Part, Setting, whole};
+use kp_compile::CompileError;
+use kp_rules::skeleton::Skeleton;
+use kp_terms::{Clause, State};
+use std::alloc::{AllocError, Global};
+
+/// All pairs: whether the left side may meet the part. One with as many parts as there are numbers of 64 bits doesn't fit into
+/// memory.
+fn run<'a>(
+    alloc: Global,
+    setting: &Setting<'_>,
+    course: &mut Course<'a>,
+) -> Result<bool, CompileError>
+    requires heads { IsHeadTableOf (signature_of setting.now) setting.now.table.now }
+    ensures { (used : List Text) (left : forms.Form) (p : StatePart) → let g = signature_of setting.now in IsSetting used setting.now → IsGone g used left p (stage_view course.old) → IfOk result (λ b. MatchBool b (IsGone g used left p (stage_view course.new) × ((stage_view course.new).course.pairs ≡ [])) (IsAllApart g left p)) }
+{
+    for _step in 0..u64::MAX {
+        match course.pairs.pop() {
+            Some(pair) => {
+                if !course.meet_pair(alloc, setting, &pair)? {
+                    return Ok(false);
+                }
+            }
+            None => return Ok(true),
+        }
+    }
+    Err(CompileError::Memory)
+}
+
+/// The clauses of all equalities.
+fn equations(
+    alloc: Global,
+    setting: &Setting<'_>,
+    equalities: &[Equality],
+) -> Result<Vec<Clause>, AllocError>
+    ensures { IfOk result (λ cs. clauses_view cs.items ≡ all_equality_clauses (signature_of setting.now) (map equality_view equalities.now)) }
+{
+    let signature = setting.language.signature;
+    let mut found = Vec::new(alloc);
+    for equality in equalities {
+        let mut clauses = equal_clauses(
+            alloc,
+            signature,
+            &equality.sort,
+            &equality.left,
+            &equality.right,
+        )?;
+        found.append(&mut clauses)?;
+    }
+    Ok(found)
+}
+
+/// What was met, where no pair is left.
+fn make_meeting(course: Course<'_>, equations: Vec<Clause>) -> Meeting
+    ensures met { met_view result.met ≡ record { part = part_view course.entry.part; equations = clauses_view equations.items; bindings = (stage_view course.entry).course.bindings } }
+    ensures next { result.met.part.next ≡ course.entry.part.next }
+    ensures apart { map numbered_view result.apart.items ≡ (stage_view course.entry).apart }
+{
+    let Course {
+        part,
+        bindings,
+        apart,
+        ..
+    } = course;
+    let met = MetPart {
+        part,
+        equations,
+        bindings,
+    };
+    Meeting { met, apart }
+}
+
+/// What was met, where no pair is left; nothing, where the equalities are never true.
+fn met(
+    alloc: Global,
+    setting: &Setting<'_>,
+    course: Course<'_>,
+) -> Result<Option<Meeting>, AllocError>
+    ensures { (used : List Text) (left : forms.Form) (p : StatePart) → let g = signature_of setting.now in IsGone g used left p (stage_view course.entry) → (stage_view course.entry).course.pairs ≡ [] → IfOk result (λ o. MatchOption o (IsAllApart g left p) (λ m. IsMeeting g used left p (met_view m.met) m.met.part.next (map numbered_view m.apart.items))) }
+{
+    let equations = equations(alloc, setting, &course.equalities)?;
+    if are_never(&equations) {
+        return Ok(None);
+    }
+    Ok(Some(make_meeting(course, equations)))
+}
+
+/// What a left side makes of a part, of a read or a foreign rule alike: the part that it meets, where the equations are
+/// true, and those that it doesn't meet. None where it doesn't meet the part at all, which isn't divided then. Refused
+/// where a sum can't be written, or for want of memory.
+pub fn meet(
+    alloc: Global,
+    setting: &Setting<'_>,
+    part: &Part,
+    left: &Skeleton,
+) -> Result<Option<Meeting>, CompileError>
+    requires heads { IsHeadTableOf (signature_of setting.now) setting.now.table.now }
+    ensures { (used : List Text) → let g = signature_of setting.now in let l = skeleton_view left.now in let p = part_view part.now in IsSetting used setting.now → IsMeetable g used l (numbered_view part.now) → IfOk result (λ o. MatchOption o (IsAllApart g l p) (λ m. IsMeeting g used l p (met_view m.met) m.met.part.next (map numbered_view m.apart.items))) }
+{
+    if clashes(&part.state.term, Form::Skeleton { skeleton: left }) {
+        return Ok(None);
+    }
+    let mut course = begin(alloc, left, part)?;
+    if !run(alloc, setting, &mut course)? {
+        return Ok(None);
+    }
+    Ok(met(alloc, setting, course)?)
+}
+
+/// The same of a whole state; `Fresh` with each number from 1 below the next one is in use.
+pub fn cases(
+    alloc: Global,
+    setting: &Setting<'_>,
+    state: &State,
+    left: &Skeleton,
+    next: u64,
+) -> Result<Option<Meeting>, CompileError>
+    requires heads { IsHeadTableOf (signature_of setting.now) setting.now.table.now }
+    ensures { (used : List Text) → let g = signature_of setting.now in let l = skeleton_view left.now in let p = parts.whole (state_view state.now) in IsSetting used setting.now → IsMeetable g used l (record { part = p; next = next }) → IfOk result (λ o. MatchOption o (IsAllApart g l p) (λ m. IsMeeting g used l p (met_view m.met) m.met.part.next (map numbered_view m.apart.items))) }
+{
+    let part = whole(alloc, state, next)?;
+    meet(alloc, setting, &part, left)
+}
