@@ -111,8 +111,7 @@ of_injection : (g : KoreSignature) (v : Valuation) (f : Text) (ps : KorePatterns
 of_injection g v f no_patterns one all u = absurd (not_none one)
 of_injection g v f (next_pattern p (next_pattern q qs)) one all u = absurd (not_two p q (pattern_list qs) one)
 of_injection g v f (next_pattern p no_patterns) one all u =
-    let k = all (next_value u no_values) in
-    (
+    let k = all (next_value u no_values) in (
       (λ h. let j = k.0 (h, tt) in (j.0, first_value j.1)),
       (λ h. (k.1 (h.0, ap (λ w. next_value w no_values) h.1)).0),
     )
@@ -183,8 +182,7 @@ mutual
   stand_all g v (next_pattern p ps) no_values h = ((λ k. absurd k), (λ k. absurd (cc (k.1))))
   stand_all g v (next_pattern p ps) (next_value u us) h =
       let one = stands g v p u (first_term g p ps h) in
-      let others = stand_all g v ps us (other_terms g p ps h) in
-      (
+      let others = stand_all g v ps us (other_terms g p ps h) in (
         (λ k. let a = one.0 k.0 in let b = others.0 k.1 in (all_append (Sorted g v) (free_variables p) (all_free_variables ps) a.0 b.0, both_values a.1 b.1)),
         (λ k. (one.1 (all_left (Sorted g v) (free_variables p) (all_free_variables ps) k.0, first_value k.1), others.1 (all_right (Sorted g v) (free_variables p) (all_free_variables ps) k.0, other_values k.1))),
       )

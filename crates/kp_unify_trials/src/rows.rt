@@ -1,73 +1,69 @@
 use crate::texts::{signature, sort};
 use indexmap::IndexMap;
 use kp_heads::HeadTable;
-use kp_kore::{Name, Pattern, Sort};
 use kp_names::names::Names;
 use kp_rules::skeleton::Skeleton;
-use kp_terms::{Language, State, Term, term_under};
+use kp_terms::{Language, State, Term, Variable, term_under};
 use kp_text::read_pattern;
 use kp_unify::{Meeting, Setting, cases};
 use std::alloc::Global;
 use std::sync::Arc;
 use std::test::Fail;
 
-/// The pattern of a text.
-fn pattern_of(alloc: Global, text: &str) -> Result<Pattern, Fail> {
-    Ok(read_pattern(alloc, text.as_bytes()).map_err(|_| "no pattern")?)
-}
-
-/// The term of a pattern.
-fn term_of(alloc: Global, language: &Language, pattern: &Pattern) -> Result<Term, Fail> {
-    Ok(term_under(pattern, alloc, language, &[]).map_err(|_| "no term")?)
+/// The term of a text.
+fn term_of(alloc: Global, language: &Language, text: &str) -> Result<Term, Fail> {
+    let pattern = read_pattern(alloc, text.as_bytes()).map_err(|_| "no pattern")?;
+    Ok(term_under(&pattern, alloc, language, &[]).map_err(|_| "no term")?)
 }
 
 /// A variable as a left side: one named `Any` stands for any value of its sort.
-fn variable_of(alloc: Global, name: &Name, sort: &Sort) -> Result<Skeleton, Fail> {
-    let sort = sort.copy(alloc)?;
-    if name.as_str() == "Any" {
+fn variable_of(alloc: Global, variable: &Variable) -> Result<Skeleton, Fail> {
+    let sort = variable.sort.copy(alloc)?;
+    if variable.name.as_str() == "Any" {
         return Ok(Skeleton::Any { sort });
     }
-    Ok(Skeleton::Variable {
-        name: Arc::new(alloc, name.clone()?)?,
-        sort,
-    })
+    let name = Arc::new(alloc, variable.name.clone()?)?;
+    Ok(Skeleton::Variable { name, sort })
 }
 
-/// A pattern as a left side.
-fn left_of(alloc: Global, language: &Language, pattern: &Pattern) -> Result<Skeleton, Fail> {
-    match pattern {
-        Pattern::Variable { name, sort } => variable_of(alloc, name, sort),
-        Pattern::Application {
-            symbol,
-            arguments,
-            ..
-        } => {
-            let mut members = Vec::new(alloc);
-            for argument in arguments {
-                members.push(left_of(alloc, language, argument)?)?;
-            }
+/// A term as a left side.
+#[cycle(left)]
+fn left_of(term: &Term, alloc: Global) -> Result<Skeleton, Fail> {
+    match term {
+        Term::Unknown { variable } => variable_of(alloc, variable),
+        Term::Known { value } => Ok(Skeleton::Fixed {
+            value: value.share(alloc)?,
+        }),
+        Term::Headed { symbol, arguments } => {
+            let arguments = lefts_of(arguments, alloc)?;
             Ok(Skeleton::Built {
-                constructor: Arc::new(alloc, symbol.clone()?)?,
-                arguments: members,
+                constructor: symbol.clone()?,
+                arguments,
             })
         }
-        _ => match term_of(alloc, language, pattern)? {
-            Term::Known { value } => Ok(Skeleton::Fixed { value }),
-            _ => Err(Fail::from("no left side")),
-        },
+        Term::Offset { .. } => Err(Fail::from("no left side")),
     }
+}
+
+/// Terms as left sides, one by one.
+#[cycle(left)]
+fn lefts_of(terms: &[Term], alloc: Global) -> Result<Vec<Skeleton>, Fail> {
+    let mut found = Vec::new(alloc);
+    for term in terms {
+        found.push(left_of(term, alloc)?)?;
+    }
+    Ok(found)
 }
 
 /// A state of the term alone.
-fn state_of(alloc: Global, language: &Language, pattern: &Pattern) -> Result<State, Fail> {
-    let term = term_of(alloc, language, pattern)?;
-    let mut all = Vec::new(alloc);
-    term.add_variables(&mut all)?;
+fn state_of(alloc: Global, term: Term) -> Result<State, Fail> {
+    let mut variables = Vec::new(alloc);
+    term.add_variables(&mut variables)?;
     Ok(State {
         term,
         sort: Arc::new(alloc, sort(alloc, "K")?)?,
         clauses: Vec::new(alloc),
-        variables: all,
+        variables,
     })
 }
 
@@ -114,8 +110,8 @@ fn counts(
     state: &str,
     left: &str,
 ) -> Result<Option<Counts>, Fail> {
-    let state = state_of(alloc, language, &pattern_of(alloc, state)?)?;
-    let left = left_of(alloc, language, &pattern_of(alloc, left)?)?;
+    let state = state_of(alloc, term_of(alloc, language, state)?)?;
+    let left = left_of(&term_of(alloc, language, left)?, alloc)?;
     counts_over(alloc, language, &state, &left)
 }
 
