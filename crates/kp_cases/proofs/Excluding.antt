@@ -14,7 +14,7 @@ use Rattle.kp_cases.proofs.PartLemmas.{agrees_itself, told_below, below_below, d
 use Rattle.kp_cases.proofs.NarrowingLemmas.{restricted_below}
 use Rattle.kp_cases.proofs.SortLemmas.{given_before}
 
-restricted_alone : (g : KoreSignature) (p r : StatePart) (clauses : List (List Literal)) → IsTold g p → IsRestricted g p clauses [] r → IsPartBelow g p r
+pub restricted_alone : (g : KoreSignature) (p r : StatePart) (clauses : List (List Literal)) → IsTold g p → IsRestricted g p clauses [] r → IsPartBelow g p r
 restricted_alone g p r clauses told i = restricted_below g p r [] clauses told i (λ w x h k e t u. tt)
 
 -- an instance under which the clauses are true lies in the part by them

@@ -35,7 +35,7 @@ still_new : (xs : List SortedName) (y : SortedName) (ys new : List SortedName) �
 still_new xs y ys [] a = tt
 still_new xs y ys (z ∷ new) a = (without_member z.name xs y ys a.0, a.1, still_new xs y ys new a.2)
 
-new_further : (scope new more : List SortedName) → AreNew scope new → AreNew (scope ++ new) more → AreNew scope (new ++ more)
+pub new_further : (scope new more : List SortedName) → AreNew scope new → AreNew (scope ++ new) more → AreNew scope (new ++ more)
 new_further scope [] more a b = subst (λ xs. AreNew xs more) (append-nil scope) b
 new_further scope (y ∷ new) more a b = (a.0, not_in_both y.name new more a.1 (not_among_new scope y new more b), new_further scope new more a.2 (still_new scope y new more b))
 

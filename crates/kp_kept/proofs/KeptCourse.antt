@@ -12,13 +12,13 @@ use Rattle.kp_symbolic.specs.Writing.{InjectsWhereItStands, written_clause}
 use Rattle.kp_symbolic.specs.Solving.{Solvable, first_solvable, solved_at, Solving, finished, goes_on, IsReadAs}
 use Rattle.kp_symbolic.proofs.Facts.{Good}
 use Rattle.kp_symbolic_laws.specs.Runs.{ComesBy, begins, goes_by, OfKeptAt, OfEachKept, HasRoomClause, IsSoundPredicate, IsSoundAtom, IsSoundState, IsWrittenAtom, AreWrittenAtoms, IsWrittenOfThese, IsWrittenRight}
-use Rattle.kp_symbolic_laws.proofs.FormedFacts.{IsFormed, Formed}
+use Rattle.kp_symbolic_laws.specs.Safe.{Formed, IsFormed, IsSafe, IsSoundQuote}
 use Rattle.kp_symbolic_laws.proofs.FormedSteps.{step_formed, opened_formed}
 use Rattle.kp_symbolic_laws.proofs.Keeping.{whole_also}
 use Rattle.kp_symbolic_laws.proofs.Course.{step_sorted}
 use Rattle.kp_symbolic_laws.proofs.ReadState.{opened_sorted, opened_to, read_instances}
 use Rattle.kp_symbolic_laws.proofs.Sound.{sound}
-use Rattle.kp_symbolic_laws.proofs.SoundCourse.{IsSoundQuote, IsSafe, safe_sound}
+use Rattle.kp_symbolic_laws.proofs.SoundCourse.{safe_sound}
 use Rattle.kp_symbolic_laws.proofs.SoundWritten.{IsReady, clause_sound}
 use Rattle.kp_symbolic_laws.proofs.WrittenCourse.{here}
 use Rattle.kp_symbolic_laws.proofs.WrittenForms.{clause_predicate}
@@ -80,15 +80,15 @@ step_safe g s o k q w = record {
 
 -- ---- the whole
 
-each_of_these : (g : KoreSignature) (s : SymbolicState) → IsSafe g s → OfEachKept g (CanBeWritten g) s → (x : SymbolicState) (p : Solvable) → ComesBy g s x → first_solvable g x ≡ Some p → OfKeptAt g (IsWrittenOfThese g) x p
+pub each_of_these : (g : KoreSignature) (s : SymbolicState) → IsSafe g s → OfEachKept g (CanBeWritten g) s → (x : SymbolicState) (p : Solvable) → ComesBy g s x → first_solvable g x ≡ Some p → OfKeptAt g (IsWrittenOfThese g) x p
 each_of_these g s k w _ p (begins _) q = of_these g s p k (w s p (begins s) q)
 each_of_these g s k w x p (goes_by _ _ r e d) q = each_of_these g (solved_at g r s) (step_safe g s r k e (w s r (begins s) e)) (λ y n l f. w y n (goes_by s y r e l) f) x p d q
 
-each_right : (g : KoreSignature) (v : Valuation) (s : SymbolicState) → IsSafe g s → GivesSorts g v s.variables → OfEachKept g (CanBeWritten g) s → (x : SymbolicState) (p : Solvable) → ComesBy g s x → first_solvable g x ≡ Some p → OfKeptAt g (IsWrittenRight g v) x p
+pub each_right : (g : KoreSignature) (v : Valuation) (s : SymbolicState) → IsSafe g s → GivesSorts g v s.variables → OfEachKept g (CanBeWritten g) s → (x : SymbolicState) (p : Solvable) → ComesBy g s x → first_solvable g x ≡ Some p → OfKeptAt g (IsWrittenRight g v) x p
 each_right g v s k h w _ p (begins _) q = right_here g v s p k h (w s p (begins s) q)
 each_right g v s k h w x p (goes_by _ _ r e d) q = each_right g v (solved_at g r s) (step_safe g s r k e (w s r (begins s) e)) h (λ y n l f. w y n (goes_by s y r e l) f) x p d q
 
-solving_safe : (g : KoreSignature) (s t : SymbolicState) → IsSafe g s → OfEachKept g (CanBeWritten g) s → Solving g s t → IsSafe g t
+pub solving_safe : (g : KoreSignature) (s t : SymbolicState) → IsSafe g s → OfEachKept g (CanBeWritten g) s → Solving g s t → IsSafe g t
 solving_safe g s _ k w (finished _ q) = k
 solving_safe g s t k w (goes_on _ _ o q r) = solving_safe g (solved_at g o s) t (step_safe g s o k q (w s o (begins s) q)) (λ y n l f. w y n (goes_by s y o q l) f) r
 

@@ -18,7 +18,8 @@ use Rattle.kp_kore.specs.View.{patterns_view}
 use Rattle.kp_kore.specs.declared.pattern.Pattern.{Pattern}
 use Rattle.kp_rules.specs.Skeletons.{Form, built, next_form, forms_of, skeleton_view, Admits, AdmitAll}
 use Rattle.kp_rules.specs.declared.skeleton.Skeleton.{Skeleton}
-use Rattle.kp_rule_reading.specs.LeftForms.{left_form, left_forms, applied_form, AreLeftForms, IsLeftTerm}
+use Rattle.kp_rules.specs.LeftForms.{left_form, left_forms, applied_form}
+use Rattle.kp_rule_reading.specs.LeftForms.{AreLeftForms, IsLeftTerm}
 use Rattle.kp_rules.specs.LeftSides.{IsLeftSide}
 
 abbrev Sorted : KoreSignature → Valuation → SortedName → Type 0

@@ -8,7 +8,8 @@ ghost use Rattle.kp_signature.specs.View.{signature_view};
 ghost use Rattle.kp_compile.specs.Verified.{IsVerifiedLeftTerm};
 ghost use Rattle.kp_compile.specs.declared.error.CompileError.TheVariants.{Memory};
 ghost use Rattle.kp_rules.specs.Skeletons.{skeleton_view};
-ghost use Rattle.kp_rule_reading.specs.LeftForms.{left_form, left_forms, applied_form, AreLeftForms};
+ghost use Rattle.kp_rules.specs.LeftForms.{left_form, left_forms, applied_form};
+ghost use Rattle.kp_rule_reading.specs.LeftForms.{AreLeftForms};
 
 use kp_compile::{CompileError, literal_value};
 use kp_kore::{Name, Pattern};

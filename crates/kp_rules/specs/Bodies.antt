@@ -22,6 +22,7 @@ use Rattle.kp_compile.specs.Verified.{misapplies_injection}
 use Rattle.kp_rules.specs.Heads.{HasHead}
 use Rattle.kp_rules.specs.Sides.{AreSidesOf}
 use Rattle.kp_rules.specs.Skeletons.{IsAdmitted}
+use Rattle.kp_rules.specs.VerifiedSides.{AreVerifiedSides}
 use Rattle.kp_rules.specs.WideParts.{part_computes_wide, all_narrow}
 use Rattle.kp_rules.specs.declared.rule.Rule.{Rule}
 use Rattle.kp_rules.specs.declared.rule.RuleBody.{RuleBody}
@@ -88,6 +89,7 @@ pub record IsRewriteOf (g : KoreSignature) (m : model.Rewrite) (r : code.Rewrite
   pub chooses : r.chooses ≡ true → ¬ IsPlain m
   pub choice : IsChoiceOf g m r.chooses r.choice
   pub sides : AreSidesOf g m r.sides
+  pub verified : AreVerifiedSides g m
   pub constrained : IsConstrained m
   -- the numbers beyond 128 bits that they compute are those of the rewrite's patterns
   pub right_narrow : IsNarrowAs g m.right r.right

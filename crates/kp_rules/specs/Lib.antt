@@ -2,9 +2,11 @@ pub mod Bodies
 pub mod Bound
 pub mod Heads
 pub mod Known
+pub mod LeftForms
 pub mod LeftSides
 pub mod OwnSorts
 pub mod Shapes
 pub mod Sides
 pub mod Skeletons
+pub mod VerifiedSides
 pub mod WideParts

@@ -13,8 +13,8 @@ use Rattle.kp_symbolic.specs.States.{Atom, same, has_head, quoted, Literal, Symb
 use Rattle.kp_symbolic.specs.Folding.{AreWritten, AreAllWritten}
 use Rattle.kp_symbolic.specs.Solving.{solved_at, opened_state}
 use Rattle.kp_symbolic_laws.specs.Runs.{ComesBy, begins, goes_by, OfEachKept}
-use Rattle.kp_symbolic_laws.proofs.FormedFacts.{IsFormed, Formed}
-use Rattle.kp_symbolic_laws.proofs.FormedSteps.{IsFormedState, step_formed, opened_formed}
+use Rattle.kp_symbolic_laws.specs.Safe.{Formed, IsFormed, IsFormedState}
+use Rattle.kp_symbolic_laws.proofs.FormedSteps.{step_formed, opened_formed}
 use Rattle.kp_computed.proofs.Settled.{IsSettled, AreSettled, ArePutSettled}
 use Rattle.kp_computed.proofs.OpenedSettled.{IsSettledAtom, IsSettledLiteral, AreSettledClauses}
 use Rattle.kp_computed.proofs.SolvedSettled.{IsSettledState, step_settled}

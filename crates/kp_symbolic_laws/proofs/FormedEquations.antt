@@ -13,8 +13,7 @@ use Rattle.kp_symbolic.specs.States.{Atom, same, has_head, quoted, Literal}
 use Rattle.kp_symbolic.specs.Folding.{is_text_before}
 use Rattle.kp_symbolic.specs.Writing.{is_solved_by}
 use Rattle.kp_symbolic.specs.Solving.{Equation, equation_if, first_equation, equation_of_sides, tells_equal, tells_different, equation_of_truth, equation_of_atom, equation_of}
-use Rattle.kp_symbolic_laws.proofs.NormalTerms.{IsNormal}
-use Rattle.kp_symbolic_laws.proofs.FormedFacts.{Formed}
+use Rattle.kp_symbolic_laws.specs.Safe.{Formed, IsNormal}
 
 some_inside : {A : Type 0} {a b : A} → Some a ≡ Some b → a ≡ b
 some_inside e = cc

@@ -17,16 +17,7 @@ use Rattle.kp_symbolic.specs.Heads.{passes_head, head_answer}
 use Rattle.kp_symbolic.specs.Opening.{fixed, all_if, pair, literal_fact, is_true, equality_fact, compared_at_once, fixed_or, is_never, unconstructed, is_kept_truth, Seen, seen, Seens, none_seen, next_seen, asked, opened_agreement, opened_truths, opened_sides, sorts_of_members, opened_seen, opened_members, common_sort, opened_call, seen_value, seen_values, seen_term, seen_terms, opened_same, head_of_call, opened_test}
 use Rattle.kp_symbolic.proofs.Facts.{AllFacts, AllIn}
 use Rattle.kp_symbolic_laws.specs.Runs.{IsMeantTest}
-use Rattle.kp_symbolic_laws.proofs.NormalTerms.{IsNormal, AreNormal, PutNormal}
-
--- its terms are in normal form, its test is one that is asked, its predicate has the property
-abbrev pub IsFormed : KoreSignature → (KorePattern → Type 0) → Atom → Type 0
-IsFormed g V (same s t u) = IsNormal g t × IsNormal g u
-IsFormed g V (has_head x test) = IsMeantTest g test
-IsFormed g V (quoted p rs) = V p × PutNormal g rs
-
-abbrev pub Formed : KoreSignature → (KorePattern → Type 0) → Literal → Type 0
-Formed g V l = IsFormed g V l.atom
+use Rattle.kp_symbolic_laws.specs.Safe.{AreNormal, Formed, IsNormal, PutNormal}
 
 -- ---- formulas
 

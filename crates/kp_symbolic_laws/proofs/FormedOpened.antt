@@ -15,8 +15,9 @@ use Rattle.kp_symbolic.specs.Clauses.{distributed, without_repeats, is_too_large
 use Rattle.kp_symbolic.proofs.Distribution.{all_both, kept_are}
 use Rattle.kp_symbolic.proofs.Facts.{AllFacts, clauses_have}
 use Rattle.kp_symbolic_laws.specs.Runs.{IsMeantTest}
+use Rattle.kp_symbolic_laws.specs.Safe.{Formed}
 use Rattle.kp_symbolic_laws.proofs.NormalTerms.{folded_normal}
-use Rattle.kp_symbolic_laws.proofs.FormedFacts.{Formed, same_formed, test_formed}
+use Rattle.kp_symbolic_laws.proofs.FormedFacts.{same_formed, test_formed}
 use Rattle.kp_symbolic_laws.proofs.OpenedGood.{IsAmong, AreAmong, LeafHas, opened_has, among_closed, by_size, term_ceil}
 
 -- ---- which tests are asked

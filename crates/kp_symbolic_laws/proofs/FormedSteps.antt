@@ -24,8 +24,9 @@ use Rattle.kp_symbolic.proofs.Distribution.{all_both, kept_are}
 use Rattle.kp_symbolic.proofs.Facts.{AllFacts, AllIn, clauses_have, Good}
 use Rattle.kp_symbolic.proofs.OpenedState.{placed_as_they_are, opened_as}
 use Rattle.kp_symbolic_laws.specs.Runs.{IsSortedState, kept_whole, IfKeptWhole, OfKeptWhole, OfKeptAt, IsPredicateAtom, IsWrittenOfThese}
-use Rattle.kp_symbolic_laws.proofs.NormalTerms.{IsNormal, PutNormal, normal_folded, folded_normal, replaced_normal}
-use Rattle.kp_symbolic_laws.proofs.FormedFacts.{IsFormed, Formed, same_formed, test_formed}
+use Rattle.kp_symbolic_laws.specs.Safe.{Formed, IsFormed, IsFormedState, IsNormal, PutNormal}
+use Rattle.kp_symbolic_laws.proofs.NormalTerms.{normal_folded, folded_normal, replaced_normal}
+use Rattle.kp_symbolic_laws.proofs.FormedFacts.{same_formed, test_formed}
 use Rattle.kp_symbolic_laws.proofs.FormedEquations.{normal_clause}
 use Rattle.kp_symbolic_laws.proofs.FormedOpened.{OfAmong, predicates_formed}
 use Rattle.kp_symbolic_laws.proofs.Keeping.{put_into, by_case, whole_of_all, whole_also}
@@ -34,10 +35,6 @@ use Rattle.kp_symbolic_laws.proofs.Course.{step_sorted}
 use Rattle.kp_symbolic_laws.proofs.ReadState.{IsMember, members, both_read, opened_sorted}
 use Rattle.kp_symbolic_laws.proofs.WrittenForms.{clause_predicate}
 use Rattle.kp_symbolic_laws.proofs.WrittenVariables.{written_of_these}
-
-pub record IsFormedState (g : KoreSignature) (V : KorePattern → Type 0) (s : SymbolicState) : Type 0 where
-  pub term : IsNormal g s.term
-  pub literals : AllByRecursion (AllByRecursion (Formed g V)) s.clauses
 
 -- ---- a literal with a normal term in a variable's place
 

@@ -15,15 +15,7 @@ use Rattle.kp_symbolic.specs.Terms.{SymbolicTerm, unknown, offset, known, headed
 use Rattle.kp_symbolic.specs.WellFormed.{IsFolded}
 use Rattle.kp_symbolic.specs.Folding.{least_symbol, Sum, sum_of, can_be_added, summed, summed_call, values_known, only_term, made_construction, made_call, made, applied_term, term_for, folded, all_folded, under_symbol, replaced, all_replaced}
 use Rattle.kp_symbolic.proofs.NormalForm.{AreFolded, applied_folded}
-
-abbrev mutual
-  pub IsNormal : KoreSignature → SymbolicTerm → Type 0
-  IsNormal g (headed f ts) = IsFolded g (headed f ts) × AreNormal g ts
-  IsNormal g t = IsFolded g t
-
-  pub AreNormal : KoreSignature → SymbolicTerms → Type 0
-  AreNormal g no_terms = ⊤
-  AreNormal g (next_term t ts) = IsNormal g t × AreNormal g ts
+use Rattle.kp_symbolic_laws.specs.Safe.{AreNormal, IsNormal, PutNormal}
 
 pub normal_folded : (g : KoreSignature) (t : SymbolicTerm) → IsNormal g t → IsFolded g t
 normal_folded g (unknown x) h = h
@@ -79,9 +71,6 @@ pub applied_normal : (g : KoreSignature) (f : Text) (ts : SymbolicTerms) → Are
 applied_normal g f ts a = made_normal g (meaning_of g f) f ts a (applied_folded g f ts (all_normal_folded g ts a))
 
 -- ---- folding and replacing
-
-abbrev pub PutNormal : KoreSignature → List Replaced → Type 0
-PutNormal g = AllByRecursion (λ r. IsNormal g r.term)
 
 put_normal : (g : KoreSignature) (rs : List Replaced) (x : SortedName) → PutNormal g rs → IsNormal g (term_for x (replacement_for rs x.name))
 put_normal g [] x a = refl

@@ -13,8 +13,8 @@ use Rattle.kp_symbolic.specs.Writing.{written_clause}
 use Rattle.kp_symbolic.specs.Solving.{Solvable, first_solvable, solved_at, Solving, finished, goes_on, IsReadAs}
 use Rattle.kp_symbolic.proofs.Facts.{Good}
 use Rattle.kp_symbolic_laws.specs.Runs.{IsSortedState, ComesBy, begins, goes_by, OfKeptAt, OfEachKept, HasRoomClause, HasRoomIn, IsSoundPredicate, IsSoundAtom, IsSoundState, IsWrittenAtom, AreWrittenAtoms}
-use Rattle.kp_symbolic_laws.proofs.FormedFacts.{IsFormed, Formed}
-use Rattle.kp_symbolic_laws.proofs.FormedSteps.{IsFormedState, step_formed, opened_formed}
+use Rattle.kp_symbolic_laws.specs.Safe.{Formed, IsFormed, IsFormedState, IsSafe, IsSoundQuote}
+use Rattle.kp_symbolic_laws.proofs.FormedSteps.{step_formed, opened_formed}
 use Rattle.kp_symbolic_laws.proofs.Keeping.{whole_also}
 use Rattle.kp_symbolic_laws.proofs.Course.{step_sorted}
 use Rattle.kp_symbolic_laws.proofs.ReadState.{opened_sorted}
@@ -48,9 +48,6 @@ kept_done g P s e x p (goes_by _ _ l f d) q = absurd (none_either g s l e f)
 
 -- ---- literals that are written right
 
-abbrev pub IsSoundQuote : KoreSignature → KorePattern → Type 0
-IsSoundQuote g p = (is_predicate p ≡ true) × IsSoundPredicate g p
-
 sound_atom : (g : KoreSignature) (a : Atom) → IsFormed g (IsSoundQuote g) a → IsSoundAtom g a
 sound_atom g (same s t u) h = tt
 sound_atom g (has_head x test) h = h
@@ -80,10 +77,6 @@ zipped P Q [] a b = tt
 zipped P Q (c ∷ cs) a b = ((a.0, b.0), zipped P Q cs a.1 b.1)
 
 -- ---- states
-
-pub record IsSafe (g : KoreSignature) (s : SymbolicState) : Type 0 where
-  pub sorted : IsSortedState g s
-  pub formed : IsFormedState g (IsSoundQuote g) s
 
 written_here : (g : KoreSignature) (s : SymbolicState) (o : Solvable) → IsSafe g s → OfKeptAt g (HasRoomIn g) s o → OfKeptAt g (AreWrittenAtoms g) s o
 written_here g s o k w = whole_also g s.sort o.equation (HasRoomIn g s) (AreWrittenAtoms g s) (AllByRecursion (Formed g (IsSoundQuote g))) 0 (Some o.place) s.clauses (λ c h m. written_atoms g c h m) k.formed.literals w

@@ -44,7 +44,7 @@ agree_among left (x ∷ xs) v w a h = (
 )
 
 -- valuations that agree on the left term's variables give the condition one truth
-same_condition : (g : KoreSignature) (r : Rewrite) (v w : Valuation) → IsOverLeft r → AgreesOn (free_variables r.left) v w → AllByRecursion (IsTrueUnder g v) r.condition → AllByRecursion (IsTrueUnder g w) r.condition
+pub same_condition : (g : KoreSignature) (r : Rewrite) (v w : Valuation) → IsOverLeft r → AgreesOn (free_variables r.left) v w → AllByRecursion (IsTrueUnder g v) r.condition → AllByRecursion (IsTrueUnder g w) r.condition
 same_condition g r v w over a t = all_true g v w r.condition
     (all_map (λ p. IsTrue (list_all (λ x. is_named x.name (free_variables r.left)) (free_variables p))) (λ p. AgreesOn (free_variables p) v w) r.condition
     (λ p h. agree_among (free_variables r.left) (free_variables p) v w a h) over) t

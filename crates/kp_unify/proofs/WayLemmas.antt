@@ -68,7 +68,7 @@ not_named used before after name (x ∷ xs) n h = two_false (bytes_eq x.name nam
     by false e = refl
     by true e = absurd (not_in_use used before after name n (subst (IsInUse used before) ((bytes_eq-Decides x.name name).0 e) h.0))
 
-all_later : (used : List Text) (before after : ℕ) (xs : List SortedName) → before ≤ after → AllByRecursion (λ x. IsInUse used before x.name) xs → AllByRecursion (λ x. IsInUse used after x.name) xs
+pub all_later : (used : List Text) (before after : ℕ) (xs : List SortedName) → before ≤ after → AllByRecursion (λ x. IsInUse used before x.name) xs → AllByRecursion (λ x. IsInUse used after x.name) xs
 all_later used before after [] l h = tt
 all_later used before after (x ∷ xs) l h = (in_use_later used before after x.name l h.0, all_later used before after xs l h.1)
 
@@ -110,13 +110,13 @@ still_asked g left e (q ∷ es) h = (h.0, still_asked g left e es h.1)
 
 -- ---- by a sort
 
-new_one : (g : KoreSignature) (used : List Text) (before after : ℕ) (name : Text) (s : KoreSort) → 1 ≤ before → IsNextName used before name after → (u : Value) → HasSort g s u → IsNewVariable g used (record { name = name; sort = s })
+pub new_one : (g : KoreSignature) (used : List Text) (before after : ℕ) (name : Text) (s : KoreSort) → 1 ≤ before → IsNextName used before name after → (u : Value) → HasSort g s u → IsNewVariable g used (record { name = name; sort = s })
 new_one g used before after name s b n u h = let from = n.from in ((n.number, omega (arith, b, from), n.is), n.is_new, u, h)
 
-later : (used : List Text) (before after : ℕ) (name : Text) → IsNextName used before name after → before ≤ after
+pub later : (used : List Text) (before after : ℕ) (name : Text) → IsNextName used before name after → before ≤ after
 later used before after name n = let from = n.from in let behind = n.behind in omega (arith, from, behind)
 
-last_in_use : (used : List Text) (before after : ℕ) (name : Text) → IsNextName used before name after → IsInUse used after name
+pub last_in_use : (used : List Text) (before after : ℕ) (name : Text) → IsNextName used before name after → IsInUse used after name
 last_in_use used before after name n = let behind = n.behind in inr (n.number, omega (arith, behind), n.is)
 
 pub sort_on_way : (g : KoreSignature) (used : List Text) (left : Form) (p : StatePart) (k : Course) (before after : ℕ) (apart : List NumberedPart) (form : Form) (x : SortedName) (s m : KoreSort) (name : Text) →

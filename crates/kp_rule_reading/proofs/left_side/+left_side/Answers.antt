@@ -11,7 +11,8 @@ use Rattle.kp_compile.proofs.Compiled.{zip_push}
 use Rattle.kp_compile.proofs.Taken.{inj_takes_one, not_interpreted}
 use Rattle.kp_compile.proofs.VerifiedParts.{left_arguments, at_index}
 use Rattle.kp_rules.specs.Skeletons.{skeleton_view}
-use Rattle.kp_rule_reading.specs.LeftForms.{left_form, AreLeftForms}
+use Rattle.kp_rules.specs.LeftForms.{left_form}
+use Rattle.kp_rule_reading.specs.LeftForms.{AreLeftForms}
 use Rattle.kp_rule_reading.proofs.LeftForms.{built_is}
 use Rattle.kp_rule_reading.proofs.left_side.+left_side.Goals as goal
 use Rattle.kp_rule_reading.proofs.left_side.+left_side.Goals.{applied_side-in_default-via-then-arguments-lt1, applied_side-in_default-via-else-arguments-lt1+else-arguments-lt2}
