@@ -1,5 +1,5 @@
 -- One step by a rule alone, over the variables at hand.
-use Rattle.std.proofs.Common.{◌≡◌, refl, sym, subst, ap, [], ◌∷◌, Some}
+use Rattle.std.proofs.Common.{◌≡◌, refl, sym, subst, [], ◌∷◌, Some}
 use Rattle.std.specs.Prelude.{MatchOption}
 use Rattle.std.specs.List.{AllByRecursion, Contains}
 use Rattle.kp_kore.specs.Signature.{KoreSignature}
@@ -14,7 +14,7 @@ use Rattle.kp_semantics.proofs.ListLemmas.{any_map, any_all}
 use Rattle.kp_semantics.proofs.TurnLemmas.{each_member}
 use Rattle.kp_symbolic.specs.States.{SymbolicState, IsStateInstance}
 use Rattle.kp_turns.specs.NextStates.{FollowsBy, StepCase, placed, AreStepCases, IsWithinHand}
-use Rattle.kp_turns.proofs.AtHandLemmas.{sorts_of_hand, agree_of_hand, hand_in_hand, agree_then}
+use Rattle.kp_turns.proofs.AtHandLemmas.{agree_of_hand, hand_in_hand, agree_then}
 use Rattle.kp_turns.proofs.StepCases.{id_in, RuleGoes, RuleHolds, IsGoodCase, any_unmade, any_member, some_case, good_cases}
 use Rattle.kp_turns.proofs.NextLemmas.{ComesOf, comes_of}
 use Rattle.kp_turns.proofs.LoneRule.{only_case}

@@ -7,3 +7,4 @@ pub mod NextLemmas
 pub mod LoneRule
 pub mod AloneSteps
 pub mod RunLaws
+pub mod EndLaws

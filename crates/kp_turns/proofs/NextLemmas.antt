@@ -31,10 +31,10 @@ pub record AtHand (g : KoreSignature) (p : KorePattern) (s : SymbolicState) (v x
   pub sorts : GivesSorts g x s.variables
   pub agrees : AgreesOn (free_variables p) v x
 
-abbrev Valued : KoreSignature → KorePattern → SymbolicState → Valuation → Type 0
+abbrev pub Valued : KoreSignature → KorePattern → SymbolicState → Valuation → Type 0
 Valued g p s v = (x : Valuation) × AtHand g p s v x
 
-valued : (g : KoreSignature) (request p : KorePattern) (s : SymbolicState) (v : Valuation) → IsAtHand g request p s → GivesAll g (p ∷ request ∷ []) v → Valued g p s v
+pub valued : (g : KoreSignature) (request p : KorePattern) (s : SymbolicState) (v : Valuation) → IsAtHand g request p s → GivesAll g (p ∷ request ∷ []) v → Valued g p s v
 valued g request p s v h given =
     let both : List SortedName = free_variables p ++ free_variables request in (
       mixed both h.values.0 v,
@@ -45,13 +45,13 @@ valued g request p s v h given =
       },
     )
 
-itself : (g : KoreSignature) (request p : KorePattern) (s : SymbolicState) (w : Valuation) → GivesSorts g w s.variables → AtHand g p s w w
+pub itself : (g : KoreSignature) (request p : KorePattern) (s : SymbolicState) (w : Valuation) → GivesSorts g w s.variables → AtHand g p s w w
 itself g request p s w sorts = record { sorts = sorts; agrees = agree_itself (free_variables p) w }
 
-state_instance : (g : KoreSignature) (request p : KorePattern) (s : SymbolicState) (v x : Valuation) (c : Value) → IsAtHand g request p s → AtHand g p s v x → IsInstance g v p c → IsStateInstance g x s c
+pub state_instance : (g : KoreSignature) (request p : KorePattern) (s : SymbolicState) (v x : Valuation) (c : Value) → IsAtHand g request p s → AtHand g p s v x → IsInstance g v p c → IsStateInstance g x s c
 state_instance g request p s v x c h a i = (h.pattern.instances x c a.sorts).0 (same_pattern_instance g p v x c a.agrees i)
 
-pattern_instance : (g : KoreSignature) (request p : KorePattern) (s : SymbolicState) (v w : Valuation) (c : Value) → IsAtHand g request p s → GivesSorts g w s.variables → AgreesOn (free_variables p) v w → IsStateInstance g w s c → IsInstance g v p c
+pub pattern_instance : (g : KoreSignature) (request p : KorePattern) (s : SymbolicState) (v w : Valuation) (c : Value) → IsAtHand g request p s → GivesSorts g w s.variables → AgreesOn (free_variables p) v w → IsStateInstance g w s c → IsInstance g v p c
 pattern_instance g request p s v w c h sorts a i = same_pattern_instance g p w v c (agrees_back (free_variables p) v w a) ((h.pattern.instances w c sorts).1 i)
 
 -- ---- one case, and what is written for it
@@ -91,7 +91,7 @@ true_held t request p s k n v x c h written good a met over =
     }
 
 -- the case's own words of its configuration
-is_case : (t : Theory) (rule : Option RewriteRule) (part : StatePart) (w : Valuation) (c : Value) → IsTurnOf t rule part → GivesSorts t.signature w part.state.variables → IsStateInstance t.signature w part.state c → IsCase t (id_in rule) c
+pub is_case : (t : Theory) (rule : Option RewriteRule) (part : StatePart) (w : Valuation) (c : Value) → IsTurnOf t rule part → GivesSorts t.signature w part.state.variables → IsStateInstance t.signature w part.state c → IsCase t (id_in rule) c
 is_case t (Some r) part w c turn sorts met = any_member (λ q. (q.id ≡ r.id) × HasTurn t q c) t.rules r turn.0 (refl, turn.1 w c sorts met)
 is_case t None part w c turn sorts met = turn w c sorts met
 

@@ -1,21 +1,20 @@
 -- A run goes on by one rule alone; what it passes; the same of patterns.
-use Rattle.std.proofs.Common.{◌≡◌, cond, refl, sym, ap, ◌∙◌, subst, ℕ, zero, suc, ◌+◌, ◌<◌, ◌≤◌, arith, Bool, true, false, not, List, [], ◌∷◌, ◌++◌, Some, inl, inr}
+use Rattle.std.proofs.Common.{◌≡◌, cond, refl, sym, ap, ◌∙◌, subst, ℕ, zero, suc, ◌+◌, ◌<◌, arith, Bool, true, false, not, List, [], ◌∷◌, inl, inr}
 use Rattle.std.specs.Prelude.{◌⊎◌}
 use Rattle.std.specs.List.{AllByRecursion, Contains, list_any, filter}
 use Rattle.std.specs.Str.{bytes_eq}
 use Rattle.kp_kore.specs.Syntax.{Text, KorePattern}
 use Rattle.kp_kore.specs.Parts.{SortedName, free_variables}
-use Rattle.kp_kore.specs.Signature.{KoreSignature}
-use Rattle.kp_semantics.specs.Value.{Value, HasSort}
-use Rattle.kp_semantics.specs.Instance.{Valuation, GivesSorts, AgreesOn, AgreesOff, IsInstance, is_named}
+use Rattle.kp_semantics.specs.Value.{Value}
+use Rattle.kp_semantics.specs.Instance.{Valuation, GivesSorts, is_named}
 use Rattle.kp_semantics.specs.Rules.{RewriteRule}
 use Rattle.kp_semantics.specs.Theory.{Theory}
-use Rattle.kp_semantics.specs.Steps.{AnyByRecursion, Fires, HasTurn, StepsBy, Steps, StepsIn, IsFinal, IsUnknown, NoneFires}
-use Rattle.kp_semantics.specs.Replies.{is_listed, NoneListed, IsFreshName, IsAbsent, variables_beyond}
-use Rattle.kp_semantics.specs.AtHand.{OfEach, OfSome, HasNewNames}
+use Rattle.kp_semantics.specs.Steps.{Fires, HasTurn, Steps, StepsIn, IsFinal, IsUnknown}
+use Rattle.kp_semantics.specs.Replies.{is_listed, NoneListed, IsFreshName, IsAbsent}
+use Rattle.kp_semantics.specs.AtHand.{OfEach, OfSome}
 use Rattle.kp_semantics.specs.Onward.{Leads, Passes}
-use Rattle.kp_semantics.specs.Cases.{HasTurnAlone, HaveOneSort}
-use Rattle.kp_semantics.specs.Scopes.{Extends, LeadsIn, IsWithin, AreExtended}
+use Rattle.kp_semantics.specs.Cases.{HasTurnAlone}
+use Rattle.kp_semantics.specs.Scopes.{Extends, LeadsIn, AreExtended}
 use Rattle.kp_semantics.proofs.ConjunctionLemmas.{same_pattern_instance}
 use Rattle.kp_semantics.proofs.ListLemmas.{all_append, all_map}
 use Rattle.kp_semantics.proofs.RunLemmas.{steps_join, steps_split, leads_of}
@@ -25,7 +24,7 @@ use Rattle.kp_symbolic.specs.States.{SymbolicState, IsStateInstance}
 use Rattle.kp_symbolic.specs.WellFormed.{AreAtHand}
 use Rattle.kp_cases.specs.Parts.{whole, OfEachInstance, IsGrown, IsNewVariable}
 use Rattle.kp_cases.proofs.GrownLemmas.{grown_itself, grown_further}
-use Rattle.kp_turns.specs.NextStates.{StepCase, AreStepCases, IsWithinHand, IsPatternOf, HaveValues, HasNoLost}
+use Rattle.kp_turns.specs.NextStates.{StepCase, IsPatternOf}
 use Rattle.kp_turns.proofs.AtHandLemmas.{of_hand, sorts_of_hand, agree_of_hand, hand_in_hand, agree_itself, agree_then, member_named, Joined, joined_hand}
 use Rattle.kp_turns.proofs.LoneRule.{alone, has_turn_alone}
 use Rattle.kp_turns.proofs.AloneSteps.{good, steps_on}

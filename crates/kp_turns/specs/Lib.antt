@@ -4,3 +4,4 @@ pub mod NextStates
 pub mod Laws
 pub mod Runs
 pub mod RunLaws
+pub mod EndLaws

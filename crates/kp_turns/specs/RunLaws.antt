@@ -17,7 +17,7 @@ use Rattle.kp_symbolic.specs.States.{SymbolicState}
 use Rattle.kp_symbolic.specs.WellFormed.{AreAtHand}
 use Rattle.kp_cases.specs.Parts.{whole, OfEachInstance, IsGrown}
 use Rattle.kp_turns.specs.NextStates.{StepCase, AreStepCases, IsWithinHand, IsPatternOf, HaveValues}
-use Rattle.kp_turns.specs.Runs.{StateLeads, StatePasses, StateReaches, HasRunTo, RunEndsBy}
+use Rattle.kp_turns.specs.Runs.{StatePasses, StateReaches, HasRunTo, RunEndsBy}
 
 -- the case of one rule alone, which fires on each instance of the state
 pub record IsAloneBy (t : Theory) (used : List Text) (s : SymbolicState) (r : RewriteRule) (k : StepCase) : Type 0 where

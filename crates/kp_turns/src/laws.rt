@@ -12,6 +12,7 @@ ghost use Rattle.kp_turns.specs.Laws.{FiresWhereItIsMet, FiresNowhereApart, Fire
 ghost use Rattle.kp_turns.specs.Laws.{SetsOut, GoesOn, Arrives, TakesNothing, DropsFromWhatIsLeft, DropsFromWhereItIsExcluded};
 ghost use Rattle.kp_symbolic.specs.States.{SymbolicState};
 ghost use Rattle.kp_turns.specs.Runs.{StatePasses, HasRunTo};
+ghost use Rattle.kp_turns.specs.EndLaws.{SaysStuck, SaysBranching, SaysCutPoint, SaysSome, SaysNone, GivesValues};
 ghost use Rattle.kp_turns.specs.RunLaws.{GoesOnAlone, PassesOnAlone, EndsByAlone, LeadsAsPatterns, PassesAsPattern, ReachesAsPattern, EndsAsPattern};
 ghost use Rattle.kp_turns.specs.Laws.{HasNoTurn, HasTurnWhereItIsLeft, NoneFiresOnTheRemainder, GivesNextStates, LeadsOnAlone, HasItsTurnAlone};
 
@@ -92,4 +93,15 @@ pub fn a_run_is_one_of_patterns()
     ensures passes { (t : Theory) → PassesAsPattern t }
     ensures reaches { (t : Theory) → ReachesAsPattern t }
     ensures ends { (t : Theory) → EndsAsPattern t }
+{}
+
+/// What a step says of the pattern at which a run ends: where no rule has a turn, it is stuck; of two cases it branches; a rule
+/// alone may be one to stop before. The pattern has instances exactly where the state has.
+pub fn a_step_says_how_a_run_ends()
+    ensures stuck { (t : Theory) → SaysStuck t }
+    ensures branching { (t : Theory) → SaysBranching t }
+    ensures cut_point { (t : Theory) → SaysCutPoint t }
+    ensures some { (t : Theory) → SaysSome t }
+    ensures none { (t : Theory) → SaysNone t }
+    ensures values { (t : Theory) → GivesValues t }
 {}
