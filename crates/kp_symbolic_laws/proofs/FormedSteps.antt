@@ -54,7 +54,7 @@ atom_formed g V e alone b (same s t u) n h = same_formed g V alone b s (replaced
 atom_formed g V e alone b (has_head x test) n h = test_formed g V b test (literal_fact b (has_head x test)) (replaced g (replacement e) (unknown x)) h h
 atom_formed g V e alone b (quoted p rs) n h = (h.0, put_all g e rs (if is_named e.variable.name (free_variables p) && not (is_some (replacement_for rs e.variable.name)) then replacement e else []) n h.1 (put_if g e (is_named e.variable.name (free_variables p) && not (is_some (replacement_for rs e.variable.name))) n))
 
-literals_formed : (g : KoreSignature) (V : KorePattern → Type 0) (e : Equation) (alone : Bool) (c : List Literal) → IsNormal g e.term → AllByRecursion (Formed g V) c → AllIn (Formed g V) (all_opened_with g e alone c)
+pub literals_formed : (g : KoreSignature) (V : KorePattern → Type 0) (e : Equation) (alone : Bool) (c : List Literal) → IsNormal g e.term → AllByRecursion (Formed g V) c → AllIn (Formed g V) (all_opened_with g e alone c)
 literals_formed g V e alone [] n h = tt
 literals_formed g V e alone (l ∷ c) n h = (atom_formed g V e alone l.holds l.atom n h.0, literals_formed g V e alone c n h.1)
 
