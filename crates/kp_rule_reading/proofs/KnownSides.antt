@@ -31,11 +31,11 @@ second_so : (a b : Bool) → b ≡ true → a || b ≡ true
 second_so true b h = refl
 second_so false b h = h
 
-first_so : (a b : Bool) → a ≡ true → a || b ≡ true
+pub first_so : (a b : Bool) → a ≡ true → a || b ≡ true
 first_so true b h = refl
 first_so false b h = absurd (cc)
 
-neither : (a b : Bool) → a || b ≡ false → (a ≡ false) × (b ≡ false)
+pub neither : (a b : Bool) → a || b ≡ false → (a ≡ false) × (b ≡ false)
 neither true b h = absurd (cc)
 neither false b h = (refl, h)
 
@@ -46,7 +46,7 @@ the_first false b h k = absurd (cc)
 -- ---- under the binders of the right side
 
 -- it has the sort of the binder of its name, and where none has its name, the one that its name has in scope
-record StandsBound (scope binders all : List SortedName) (y : SortedName) : Type 0 where
+pub record StandsBound (scope binders all : List SortedName) (y : SortedName) : Type 0 where
   pub bound : is_named y.name binders ≡ true → is_among y binders ≡ true
   pub scoped : is_named y.name binders ≡ false → sort_in_scope y.name (scope ++ all) ≡ Some y.sort
 
@@ -65,7 +65,7 @@ one_binder x t scope binders all y h = record {
         let same : t ≡ y.sort = same_inside t y.sort (sym (ap (λ b. cond b (Some t) (sort_in_scope y.name (scope ++ all))) own) ∙ h.scoped e) in
         first_so (bytes_eq x y.name && sorts_equal t y.sort) (is_among y binders) (both_so _ _ own ((same_sorts_decide t y.sort).1 same))
 
-stands_bound : (g : KoreSignature) (c : Place) (r : KorePattern) → first_fault g c r ≡ None → AllByRecursion (StandsBound c.scope (top_binders r) (free_variables (under_binders r))) (free_variables (under_binders r))
+pub stands_bound : (g : KoreSignature) (c : Place) (r : KorePattern) → first_fault g c r ≡ None → AllByRecursion (StandsBound c.scope (top_binders r) (free_variables (under_binders r))) (free_variables (under_binders r))
 stands_bound g c (exists s x t p) e =
     let all = free_variables (under_binders p) in
     all_weaker (StandsBound (record { name = x; sort = t } ∷ c.scope) (top_binders p) all) (StandsBound c.scope (record { name = x; sort = t } ∷ top_binders p) all) all
@@ -101,7 +101,7 @@ kept test y (z ∷ zs) t h = by (test z.name) refl (bytes_eq z.name y.name && so
     by false e true same h rest = absurd (cc (sym e ∙ ap test ((bytes_eq-Decides z.name y.name).0 (both_names (bytes_eq z.name y.name) (sorts_equal z.sort y.sort) same)) ∙ t))
     by false e false other h rest = rest h
 
-differ : (x y : Text) → bytes_eq x y ≡ false → bytes_eq y x ≡ false
+pub differ : (x y : Text) → bytes_eq x y ≡ false → bytes_eq y x ≡ false
 differ x y h = by (bytes_eq y x) refl
   where
     by : (b : Bool) → bytes_eq y x ≡ b → bytes_eq y x ≡ false
@@ -117,7 +117,7 @@ free_in_whole r y n h = h
 
 -- ---- names among others
 
-named_in_both : (n : Text) (xs ys : List SortedName) → is_named n (xs ++ ys) ≡ (is_named n xs || is_named n ys)
+pub named_in_both : (n : Text) (xs ys : List SortedName) → is_named n (xs ++ ys) ≡ (is_named n xs || is_named n ys)
 named_in_both n [] ys = refl
 named_in_both n (x ∷ xs) ys = ap (λ b. bytes_eq x.name n || b) (named_in_both n xs ys) ∙ moved (bytes_eq x.name n) (is_named n xs) (is_named n ys)
   where
@@ -139,7 +139,7 @@ unnamed left (z ∷ zs) n h = by (is_named z.name left) refl (bytes_eq z.name n)
 among_both : (y : SortedName) (xs ys : List SortedName) → is_among y (xs ++ ys) ≡ (is_among y xs || is_among y ys)
 among_both y xs ys = list_any-append (λ z. bytes_eq z.name y.name && sorts_equal z.sort y.sort) xs ys
 
-known_variable : (left scope all : List SortedName) (r : KorePattern) (y : SortedName) → StandsBound scope (top_binders r) all y → is_among y (free_variables (under_binders r)) ≡ true →
+pub known_variable : (left scope all : List SortedName) (r : KorePattern) (y : SortedName) → StandsBound scope (top_binders r) all y → is_among y (free_variables (under_binders r)) ≡ true →
     is_known left (top_binders r ++ filter (λ z. not (is_named z.name left)) (free_variables r)) y ≡ true
 known_variable left scope all r y h own = by (is_named y.name binders) refl (is_named y.name left) refl
   where
@@ -159,7 +159,7 @@ known_variable left scope all r y h own = by (is_named y.name binders) refl (is_
 
 -- ---- the whole
 
-all_so : (test : SortedName → Bool) (xs : List SortedName) → AllByRecursion (λ x. test x ≡ true) xs → list_all test xs ≡ true
+pub all_so : (test : SortedName → Bool) (xs : List SortedName) → AllByRecursion (λ x. test x ≡ true) xs → list_all test xs ≡ true
 all_so test [] h = refl
 all_so test (x ∷ xs) h = both_so _ _ h.0 (all_so test xs h.1)
 
@@ -167,7 +167,7 @@ all_free : (test : SortedName → Bool) (R : KorePattern → Type 0) (qs : List 
 all_free test R [] h = refl
 all_free test R (q ∷ qs) h = list_all-append test (free_variables q) (all_free_variables (patterns_of qs)) ∙ both_so _ _ h.0.0 (all_free test R qs h.1)
 
-ensured_is : (s : KoreSort) (l r : KorePattern) (m : Rewrite) → rewrite_of (rewriting s l r) ≡ Some m → m.ensured ≡ conjoined_predicates (under_binders r)
+pub ensured_is : (s : KoreSort) (l r : KorePattern) (m : Rewrite) → rewrite_of (rewriting s l r) ≡ Some m → m.ensured ≡ conjoined_predicates (under_binders r)
 ensured_is s l r m h = by (have_distinct_names (top_binders r)) (constrained_term l) (constrained_term (under_binders r)) h
   where
     by : (b : Bool) (x y : Option KorePattern) → cond b (joined l r x y) None ≡ Some m → m.ensured ≡ conjoined_predicates (under_binders r)

@@ -13,5 +13,6 @@ pub mod PlainRules
 pub mod ReadBodies
 pub mod ReadParts
 pub mod ReadShapes
+pub mod SideVariables
 pub mod TestLemmas
 pub mod VerifiedSides

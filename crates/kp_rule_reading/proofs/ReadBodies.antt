@@ -29,12 +29,14 @@ use Rattle.kp_rule_reading.proofs.ReadParts.{is_read, statement_read, side_read}
 use Rattle.kp_rule_reading.proofs.Declared.{none_foreign}
 use Rattle.kp_rules.specs.LeftSides.{IsLeftSide, IsOverLeft}
 use Rattle.kp_rules.specs.Sides.{AreSidesOf}
+use Rattle.kp_rules.specs.VerifiedSides.{AreVerifiedSides}
 use Rattle.kp_rules.specs.declared.sides.Sides.{Sides}
 use Rattle.kp_rule_reading.specs.LeftForms.{AreMadeSides}
 use Rattle.kp_rule_reading.proofs.LeftForms.{is_left_side}
 use Rattle.kp_rule_reading.proofs.Constrained.{is_constrained}
 use Rattle.kp_rule_reading.proofs.LeftTerms.{left_is, constrained_is_term, left_passes}
 use Rattle.kp_rule_reading.proofs.PlainRules.{plain, is_plain}
+use Rattle.kp_rule_reading.proofs.SideVariables.{verified_sides}
 use Rattle.kp_rule_reading.proofs.VerifiedSides.{sound, right_has_sort}
 
 -- ---- the condition, one predicate by one
@@ -55,13 +57,13 @@ opposite : (b : Bool) → not b ≡ false → b ≡ true
 opposite true h = refl
 opposite false h = absurd (cc)
 
-rewrite_is : (g : KoreSignature) (s : KoreSort) (r : KorePattern) (m : model.Rewrite) (w : code.Rewrite) → IsConstrained m → IsMadeOf g s m w → IsVerifiedLeft g m.left → AreSidesOf g m w.sides →
+rewrite_is : (g : KoreSignature) (s : KoreSort) (r : KorePattern) (m : model.Rewrite) (w : code.Rewrite) → IsConstrained m → IsMadeOf g s m w → IsVerifiedLeft g m.left → AreSidesOf g m w.sides → AreVerifiedSides g m →
     m.new_variables ≡ model.new_variables_of m.left r → w.chooses ≡ not (is_plain_by (λ y. is_named y (free_variables m.left)) r m.ensured) →
     sort_of_term g m.right ≡ Some s →
     ((v : Valuation) → GivesSorts g v (free_variables m.left) → m.new_variables ≡ [] → HasSort g s (instance g v m.right)) → IsRewriteOf g m w
-rewrite_is g s r m w constrained h verified sides new e right sorted = record {
+rewrite_is g s r m w constrained h left sides verified new e right sorted = record {
   left = h.left;
-  tests = h.tests verified;
+  tests = h.tests left;
   condition = h.condition;
   right = h.right;
   right_narrow = h.right_narrow;
@@ -72,6 +74,7 @@ rewrite_is g s r m w constrained h verified sides new e right sorted = record {
       let f : w.chooses ≡ false = e ∙ ap not so in absurd (cc);
   choice = h.choice;
   sides = sides;
+  verified = verified;
   constrained = constrained;
   sorted = λ v gives none. subst (λ t. HasSort g t (instance g v m.right)) (sym h.right_sort) (sorted v gives none);
 }
@@ -90,6 +93,7 @@ verified_left g a s l r m e shape h declared place =
 sides_are : (g : KoreSignature) (m : model.Rewrite) (w : Sides) → IsVerifiedLeft g m.left → none_within (misapplies_injection g) m.left ≡ true → IsOverLeft m → AreMadeSides g m w → AreSidesOf g m w
 sides_are g m w verified injections over made = record {
   left = subst (IsLeftSide g m) (sym made.left) (is_left_side g m (record { term = verified.0; known = verified.1; uninterpreted = verified.2; injections = injections }));
+  form = made.left;
   over_left = over;
   condition = made.condition;
   right = made.right;
@@ -111,7 +115,7 @@ rewrite_body g a s l r m w e place sorted statement shape side fault injections 
     record {
       meant = model.rewrite m;
       reads = read;
-      is_body = rewrite_is g s r m w (is_constrained s l r m shape) made left (sides_are g m w.sides left passes read.condition_variables made.sides) new chooses (right_has_sort g a s l r m e read fault injections declared) (sorted none shape own);
+      is_body = rewrite_is g s r m w (is_constrained s l r m shape) made left (sides_are g m w.sides left passes read.condition_variables made.sides) (verified_sides g a s l r m e read fault injections declared) new chooses (right_has_sort g a s l r m e read fault injections declared) (sorted none shape own);
     }
 
 -- ---- faults

@@ -20,8 +20,10 @@ use Rattle.kp_signature.proofs.ListLemmas.{all_both, all_filtered}
 use Rattle.kp_signature.proofs.VerifiedMembers.{StandsVerified, conjuncts_stand, none_in_conjuncts}
 use Rattle.kp_signature.proofs.RuleSides.{sides_of, holds_of_term}
 use Rattle.kp_compile.specs.Verified.{misapplies_injection, IsVerified, IsVerifiedTerm, IsVerifiedPredicate}
+use Rattle.kp_rules.specs.VerifiedSides.{IsVerifiedEnsured}
 use Rattle.kp_rule_reading.specs.Reading.{IsSound}
 use Rattle.kp_rule_reading.proofs.Declared.{none_foreign}
+use Rattle.kp_rule_reading.proofs.KnownSides.{ensured_is}
 
 -- ---- the conjuncts of a side
 
@@ -103,7 +105,7 @@ none_on_the_right test s l r e =
     second_true (none_within test l) (none_within test r)
     (sym (list_all-append (λ q. not (test q)) (subpatterns l) (subpatterns r)) ∙ second_true (not (test (rewriting s l r))) (list_all (λ q. not (test q)) (subpatterns l ++ subpatterns r)) e)
 
-condition_is : (s : KoreSort) (l r : KorePattern) (m : Rewrite) → rewrite_of (rewriting s l r) ≡ Some m → m.condition ≡ conjoined_predicates l
+pub condition_is : (s : KoreSort) (l r : KorePattern) (m : Rewrite) → rewrite_of (rewriting s l r) ≡ Some m → m.condition ≡ conjoined_predicates l
 condition_is s l r m h = by (have_distinct_names (top_binders r)) (constrained_term l) (constrained_term (under_binders r)) h
   where
     by : (b : Bool) (x y : Option KorePattern) → cond b (joined l r x y) None ≡ Some m → m.condition ≡ conjoined_predicates l
@@ -154,3 +156,18 @@ right_has_sort g a s l r m e read fault injections declared =
     let neither : HasNeither g (rewriting s l r) = subst (HasNeither g) e (none_foreign g (subpatterns a.pattern) read.no_foreign_symbol declared, injections) in
     let right = term_sound g s (under_binders r) m.right (sides_of s l r m shape).right (right_sound g s l r none neither) in
     own_sort_of_term g m.right right.0.term ∙ right.1
+
+ensured_sound : (g : KoreSignature) (s : KoreSort) (p t : KorePattern) → constrained_term p ≡ Some t → AllByRecursion (StandsSound g s) (conjuncts p) → AllByRecursion (IsVerifiedEnsured g) (conjoined_predicates p)
+ensured_sound g s p t e all =
+    all_both (λ q. StandsSound g s q × (not (is_term q) ≡ true)) (λ q. is_predicate q ≡ true) (IsVerifiedEnsured g) (conjoined_predicates p)
+    (λ q a b. record { predicate = b; verified = a.0.verified })
+    (all_filtered (StandsSound g s) (λ q. not (is_term q)) (conjuncts p) all)
+    (all_passed is_predicate (conjoined_predicates p) (are_predicates p t e))
+
+pub ensured_verified : (g : KoreSignature) (a : Statement) (s : KoreSort) (l r : KorePattern) (m : Rewrite) → a.pattern ≡ rewriting s l r → IsRead g a.parameters a.attributes a.pattern m →
+    first_fault g the_top a.pattern ≡ None → none_within (misapplies_injection g) a.pattern ≡ true → none_within (applies_undeclared g) a.pattern ≡ true → AllByRecursion (IsVerifiedEnsured g) m.ensured
+ensured_verified g a s l r m e read fault injections declared =
+    let shape : rewrite_of (rewriting s l r) ≡ Some m = subst (λ p. rewrite_of p ≡ Some m) e read.shape in
+    let none : first_fault g the_top (rewriting s l r) ≡ None = subst (λ p. first_fault g the_top p ≡ None) e fault in
+    let neither : HasNeither g (rewriting s l r) = subst (HasNeither g) e (none_foreign g (subpatterns a.pattern) read.no_foreign_symbol declared, injections) in
+    subst (AllByRecursion (IsVerifiedEnsured g)) (sym (ensured_is s l r m shape)) (ensured_sound g s (under_binders r) m.right (sides_of s l r m shape).right (right_sound g s l r none neither))

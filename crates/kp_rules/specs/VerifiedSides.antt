@@ -20,10 +20,11 @@ pub record IsVerifiedEnsured (g : KoreSignature) (p : KorePattern) : Type 0 wher
 abbrev pub IsOfLeft : List SortedName → KorePattern → Type 0
 IsOfLeft left p = list_all (λ x. is_among x left) (free_variables p) ≡ true
 
--- or it is new, with its sort
+-- a variable is new with its sort, or the left term's with its sort, and no new one has its name
 abbrev pub is_old_or_new : List SortedName → List SortedName → SortedName → Bool
 is_old_or_new left new x = is_among x new || (is_among x left && not (is_named x.name new))
 
+-- each variable of the pattern is
 abbrev pub IsOfBoth : List SortedName → List SortedName → KorePattern → Type 0
 IsOfBoth left new p = list_all (is_old_or_new left new) (free_variables p) ≡ true
 

@@ -3,7 +3,7 @@
 #![tactic(auto)]
 
 pub mod answer;
-mod depth;
+pub mod depth;
 mod limits;
 pub mod pattern;
 mod stated;

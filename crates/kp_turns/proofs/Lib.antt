@@ -5,3 +5,5 @@ pub mod AtHandLemmas
 pub mod StepCases
 pub mod NextLemmas
 pub mod LoneRule
+pub mod AloneSteps
+pub mod RunLaws

@@ -24,7 +24,7 @@ use Rattle.kp_turns.proofs.StepCases.{id_in, HoldsIn, RuleGoes, RuleHolds, IsGoo
 use Rattle.kp_turns.proofs.NextLemmas.{ComesOf, comes_of}
 
 -- a case of one is the one
-only_case : (P : StepCase → Type 0) (k : StepCase) → AnyByRecursion P (k ∷ []) → P k
+pub only_case : (P : StepCase → Type 0) (k : StepCase) → AnyByRecursion P (k ∷ []) → P k
 only_case P k a = elim a [ inl h ↦ h | inr b ↦ absurd b ]
 
 inside : {X : Type 0} {x y : X} → Some x ≡ Some y → x ≡ y

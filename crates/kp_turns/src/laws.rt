@@ -1,5 +1,6 @@
 // Laws of a symbolic step: where a rule fires on a part, who has a turn, and what the next states are as patterns.
 ghost use Rattle.std.specs.Prelude.{List, [], ◌∷◌, Some, None};
+ghost use Rattle.kp_kore.specs.Syntax.{Text};
 ghost use Rattle.kp_kore.specs.Signature.{KoreSignature};
 ghost use Rattle.kp_semantics.specs.Rules.{RuleBody, RewriteRule};
 ghost use Rattle.kp_semantics.specs.Theory.{Theory};
@@ -9,6 +10,9 @@ ghost use Rattle.kp_turns.specs.Firing.{FiresNowhere, AreFiringCases, AreWhere};
 ghost use Rattle.kp_turns.specs.Turns.{IsLeftTo};
 ghost use Rattle.kp_turns.specs.Laws.{FiresWhereItIsMet, FiresNowhereApart, FiresInOnePart, IsExcludedFromParts, FiresNowhereAtAll, FiresEverywhere};
 ghost use Rattle.kp_turns.specs.Laws.{SetsOut, GoesOn, Arrives, TakesNothing, DropsFromWhatIsLeft, DropsFromWhereItIsExcluded};
+ghost use Rattle.kp_symbolic.specs.States.{SymbolicState};
+ghost use Rattle.kp_turns.specs.Runs.{StatePasses, HasRunTo};
+ghost use Rattle.kp_turns.specs.RunLaws.{GoesOnAlone, PassesOnAlone, EndsByAlone, LeadsAsPatterns, PassesAsPattern, ReachesAsPattern, EndsAsPattern};
 ghost use Rattle.kp_turns.specs.Laws.{HasNoTurn, HasTurnWhereItIsLeft, NoneFiresOnTheRemainder, GivesNextStates, LeadsOnAlone, HasItsTurnAlone};
 
 /// Of the cases of a part under a rule's left side, the one that is met is where the rule fires exactly if the equations and
@@ -70,4 +74,22 @@ pub fn a_step_gives_the_next_states()
 pub fn a_rule_alone_leads_on()
     ensures leads { (t : Theory) → LeadsOnAlone t }
     ensures turn { (t : Theory) → HasItsTurnAlone t }
+{}
+
+/// A run of symbolic states begins with the state itself, and goes on by one rule alone; the state that it passes isn't final, and
+/// no listed rule has its turn there but the one by which the run ends.
+pub fn a_run_goes_on_by_one_rule_alone()
+    ensures begins { (t : Theory) (used : List Text) (s : SymbolicState) → HasRunTo t used s s 0 }
+    ensures passes_none { (t : Theory) (listed : List Text) (s : SymbolicState) → StatePasses t listed s 0 }
+    ensures goes_on { (t : Theory) → GoesOnAlone t }
+    ensures passes { (t : Theory) → PassesOnAlone t }
+    ensures ends { (t : Theory) → EndsByAlone t }
+{}
+
+/// The same of the patterns of the first state and of the last one.
+pub fn a_run_is_one_of_patterns()
+    ensures leads { (t : Theory) → LeadsAsPatterns t }
+    ensures passes { (t : Theory) → PassesAsPattern t }
+    ensures reaches { (t : Theory) → ReachesAsPattern t }
+    ensures ends { (t : Theory) → EndsAsPattern t }
 {}
