@@ -32,7 +32,7 @@ IsInUse used next x = (list_any (bytes_eq x) used ≡ true) ⊎ ((j : ℕ) × j 
 abbrev pub AreInUse : List Text → NumberedPart → Type 0
 AreInUse used q = AllByRecursion (λ x. IsInUse used q.next x.name) q.part.state.variables
 
--- a part of p with new variables of sorts with values, well-sorted, its terms in normal form, whose names are in use
+-- a part of p, well-sorted and its terms in normal form, with new variables of sorts with values, whose names are in use
 pub record IsPartOn (g : KoreSignature) (used : List Text) (p : StatePart) (q : NumberedPart) : Type 0 where
   pub grown : IsGrown g used p q.part
   pub sorted : IsSortedPart g q.part
@@ -140,8 +140,8 @@ members_stage stage ps = record { course = with_pairs stage.course ps; next = st
 abbrev pub GoesOnIf : Bool → KoreSignature → List Text → Form → StatePart → Stage → Type 0
 GoesOnIf b g used left p stage = MatchBool b (IsGone g used left p stage) (IsAllApart g left p)
 
--- the part of a state, well-sorted, its terms in normal form, what was added being true of each instance, whose names are in use;
--- each variable of the left side has one sort
+-- the part of a state, well-sorted and its terms in normal form, what was added being true of each instance, whose names are in
+-- use; each variable of the left side has one sort
 pub record IsMeetable (g : KoreSignature) (used : List Text) (left : Form) (q : NumberedPart) : Type 0 where
   pub told : IsTold g q.part
   pub sorted : IsSortedPart g q.part
@@ -160,7 +160,7 @@ pub record AreEquations (g : KoreSignature) (left : Form) (m : MetPart) : Type 0
   pub asked : AllByRecursion (λ e. IsAskedSort g left e.sort) equalities
   pub normal : AllByRecursion (IsNormalEquality g) equalities
 
--- the cases of p, and each with new variables of sorts with values, well-sorted, its terms in normal form, whose names are in use;
+-- the cases of p, each well-sorted and its terms in normal form, with new variables of sorts with values, whose names are in use;
 -- each variable of the left side stands for a term of its sort, in normal form
 pub record IsMeeting (g : KoreSignature) (used : List Text) (left : Form) (p : StatePart) (met : MetPart) (next : ℕ) (apart : List NumberedPart) : Type 0 where
   pub cases : AreCases g (left_side g left) p (Some met) (map (λ q. q.part) apart)
