@@ -6,6 +6,7 @@ use Rattle.kp_kore.specs.Signature.{KoreSignature}
 use Rattle.kp_semantics.specs.Instance.{Valuation, GivesSorts}
 use Rattle.kp_symbolic.specs.Terms.{term_instance, term_variables}
 use Rattle.kp_symbolic_laws.specs.Runs.{HasOneSortEach}
+use Rattle.kp_symbolic_laws.specs.Safe.{IsFormedState, IsSoundQuote}
 use Rattle.kp_symbolic_laws.proofs.Step.{at_hand_given}
 use Rattle.kp_rules.specs.Skeletons.{Form, Admits}
 use Rattle.kp_cases.specs.Parts.{StatePart, IsTold, IsSortedPart}
@@ -26,12 +27,18 @@ use Rattle.kp_unify.specs.declared.course.Pair.{Pair}
 use Rattle.kp_unify.proofs.PairLemmas.{never_next}
 
 -- a left side begins
-pub begun : (g : KoreSignature) (used : List Text) (left : Form) (p : StatePart) (next : ℕ) → IsTold g p → IsSortedPart g p → 1 ≤ next → AreInUse used (record { part = p; next = next }) → HasOneSortEach (form_variables left) →
+pub begun : (g : KoreSignature) (used : List Text) (left : Form) (p : StatePart) (next : ℕ) → IsTold g p → IsSortedPart g p → IsFormedState g (IsSoundQuote g) p.state → 1 ≤ next → AreInUse used (record { part = p; next = next }) → HasOneSortEach (form_variables left) →
     IsGone g used left p (record { course = beginning left p; next = next; apart = [] })
-begun g used left p next told sorted from names one = record {
+begun g used left p next told sorted formed from names one = record {
   told = told;
   one = one;
-  way = record { on = on_begins g left p told sorted; here = record { grown = grown_itself g used p; sorted = sorted; begun = from; names = names }; others = tt; asked = tt };
+  way = record {
+    on = on_begins g left p told sorted;
+    here = record { grown = grown_itself g used p; sorted = sorted; formed = formed; begun = from; names = names };
+    others = tt;
+    asked = tt;
+    formed = record { equalities = tt; bindings = tt; pairs = (formed.term, tt) };
+  };
 }
 
 -- it ends, where no pair is left
@@ -41,7 +48,8 @@ ended_met g used left p stage o e = record {
   here = o.way.here;
   others = o.way.others;
   bound = all_bound g left p stage.course (map (λ q. q.part) stage.apart) o.one o.way.on e;
-  equations = record { equalities = stage.course.equalities; are = refl; of_sort = o.way.on.sorted.equalities; asked = o.way.asked };
+  normal = o.way.formed.bindings;
+  equations = record { equalities = stage.course.equalities; are = refl; of_sort = o.way.on.sorted.equalities; asked = o.way.asked; normal = o.way.formed.equalities };
 }
 
 pub ended_never : (g : KoreSignature) (used : List Text) (left : Form) (p : StatePart) (stage : Stage) → IsGone g used left p stage → are_never (all_equality_clauses g stage.course.equalities) ≡ true → IsAllApart g left p
@@ -63,11 +71,11 @@ set_out g used left q stage m course apart next =
     subst (λ k. IsGone g used left q.part (record { course = k; next = stage.next; apart = stage.apart })) (sym course)
     (subst (λ n. IsGone g used left q.part (record { course = beginning left q.part; next = n; apart = stage.apart })) (sym next)
     (subst (λ ps. IsGone g used left q.part (record { course = beginning left q.part; next = q.next; apart = ps })) (sym apart)
-    (begun g used left q.part q.next m.told m.sorted m.begun m.names m.one)))
+    (begun g used left q.part q.next m.told m.sorted m.formed m.begun m.names m.one)))
 
 pub clashed_at_once : (g : KoreSignature) (used : List Text) (left : Form) (q : NumberedPart) → IsMeetable g used left q → IsNeverOf left q.part.state.term → IsAllApart g left q.part
 clashed_at_once g used left q m never =
-    clashed g used left q.part q.next (begun g used left q.part q.next m.told m.sorted m.begun m.names m.one) (λ r w given. never g r w q.part.state.sort m.sorted.state.term given)
+    clashed g used left q.part q.next (begun g used left q.part q.next m.told m.sorted m.formed m.begun m.names m.one) (λ r w given. never g r w q.part.state.sort m.sorted.state.term given)
 
 -- with these pairs to come
 abbrev pub with_rest : Stage → List FormPair → Stage

@@ -7,6 +7,7 @@ pub mod SharedLemmas
 pub mod ReplacedLemmas
 pub mod AddedLemmas
 pub mod ClashLemmas
+pub mod FormedLemmas
 pub mod WayLemmas
 pub mod PlaceLemmas
 pub mod PairLemmas

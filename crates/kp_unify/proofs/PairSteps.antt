@@ -25,6 +25,7 @@ use Rattle.kp_cases.specs.Rows.{HasMembers}
 use Rattle.kp_unify.specs.Literals.{IsLiteral}
 use Rattle.kp_unify.specs.Replaced.{pairs_of}
 use Rattle.kp_unify.specs.Way.{Stage, IsNarrowedToConstructor, IsNextPair, IsPlaced, IsAllApart, IsGone, GoesOnIf, bound_stage, equal_stage, members_stage}
+use Rattle.kp_unify.proofs.FormedLemmas.{head_constructs}
 use Rattle.kp_unify.proofs.PairLemmas.{first_bound, bound_again, same_gone, other_gone, value_equated, unsorted_next, own_head}
 use Rattle.kp_unify.proofs.MemberLemmas.{narrowed_members, narrowed_never, never_has, headed_members, headed_number, known_members, known_number, other_head, other_symbol}
 
@@ -85,9 +86,6 @@ declared_places g c (constructed d us) s h e = subst (λ f. AllByRecursion (HasV
 
 pub live_places : (g : KoreSignature) (c : Text) → IsLive g (constructor_of c) → AllByRecursion (HasValue g) (sort_list (places_of g c))
 live_places g c l = declared_places g c l.0 l.1.0 l.1.1 l.2
-
-pub head_constructs : (g : KoreSignature) (s : KoreSort) (c : Text) → IsHeadOf g s (constructor_of c) → meaning_of g c ≡ construction
-head_constructs g s c h = rw h.1.1 h.1.2
 
 pub unknown_gone : (g : KoreSignature) (used : List Text) (left : Form) (p : StatePart) (old mid new : Stage) (form : Form) (x : SortedName) (c : Text) (fs : List Form) (ts : List SymbolicTerm) (b : Bool) → IsNextPair g used left p old (record { form = form; term = unknown x }) → HasMembers form c (forms_of fs) →
     IsHeadOf g x.sort (constructor_of c) → IsLive g (constructor_of c) → IsNarrowedToConstructor g used x c old mid (terms_of ts) → MatchBool b ((length fs ≡ length ts) × (new ≡ members_stage mid (pairs_of fs ts))) (¬ (length fs ≡ length ts)) → GoesOnIf b g used left p new

@@ -31,7 +31,9 @@ use Rattle.kp_cases.proofs.SortedParts.{sorted_with, head_clauses_sorted, other_
 use Rattle.kp_cases.proofs.OnNarrowed.{step_sort, step_constructor, step_heads}
 use Rattle.kp_unify.specs.Names.{IsNextName, AreNextVariables}
 use Rattle.kp_unify.specs.Narrowed.{NumberedPart, with_split}
+use Rattle.kp_unify.specs.Replaced.{pair_of}
 use Rattle.kp_unify.specs.Way.{IsInUse, IsPartOn, IsAskedSort, IsOnWay}
+use Rattle.kp_unify.proofs.FormedLemmas.{AreFormed, formed_with, head_clauses_formed, other_head_formed, outside_formed, inside_formed, constructor_normal, part_formed, course_put, course_moved}
 
 -- ---- names
 
@@ -74,12 +76,13 @@ all_later used before after (x ∷ xs) l h = (in_use_later used before after x.n
 
 -- ---- parts
 
--- the part with further clauses that are sorted
-pub constrained_on : (g : KoreSignature) (used : List Text) (p q : StatePart) (next : ℕ) (clauses : List (List Literal)) → IsPartOn g used p (record { part = q; next = next }) → IsSortedPart g (with_clauses q clauses) →
+-- the part with further clauses that are sorted, their terms in normal form
+pub constrained_on : (g : KoreSignature) (used : List Text) (p q : StatePart) (next : ℕ) (clauses : List (List Literal)) → IsPartOn g used p (record { part = q; next = next }) → IsSortedPart g (with_clauses q clauses) → AreFormed g clauses →
     IsPartOn g used p (record { part = with_clauses q clauses; next = next })
-constrained_on g used p q next clauses h s = record {
+constrained_on g used p q next clauses h s f = record {
   grown = record { new = h.grown.new; variables = h.grown.variables; are_new = h.grown.are_new; each = h.grown.each };
   sorted = s;
+  formed = formed_with g q clauses h.formed f;
   begun = h.begun;
   names = h.names;
 }
@@ -94,13 +97,13 @@ split_parts q others apart = by (are_never others) refl
     by true e = refl
     by false e = map-append (λ x. x.part) apart more
 
-split_others : (g : KoreSignature) (used : List Text) (p : StatePart) (q : NumberedPart) (others : List (List Literal)) (apart : List NumberedPart) → AllByRecursion (IsPartOn g used p) apart → IsPartOn g used p q → IsSortedPart g (with_clauses q.part others) →
+split_others : (g : KoreSignature) (used : List Text) (p : StatePart) (q : NumberedPart) (others : List (List Literal)) (apart : List NumberedPart) → AllByRecursion (IsPartOn g used p) apart → IsPartOn g used p q → IsSortedPart g (with_clauses q.part others) → AreFormed g others →
     AllByRecursion (IsPartOn g used p) (with_split q others apart)
-split_others g used p q others apart a h s = by (are_never others)
+split_others g used p q others apart a h s f = by (are_never others)
   where
     by : (b : Bool) → AllByRecursion (IsPartOn g used p) (if b then apart else apart ++ record { part = with_clauses q.part others; next = q.next } ∷ [])
     by true = a
-    by false = all_both (IsPartOn g used p) apart (record { part = with_clauses q.part others; next = q.next } ∷ []) a (constrained_on g used p q.part q.next others h s, tt)
+    by false = all_both (IsPartOn g used p) apart (record { part = with_clauses q.part others; next = q.next } ∷ []) a (constrained_on g used p q.part q.next others h s f, tt)
 
 -- with a term in a variable's place, equalities are of the sorts that they were
 still_asked : (g : KoreSignature) (left : Form) (e : Equation) (es : List Equality) → AllByRecursion (λ (q : Equality). IsAskedSort g left q.sort) es →
@@ -140,11 +143,13 @@ sort_on_way g used left p k before after apart form x s m name o f i u h n at =
         here = record {
           grown = grown_further g used p k.part r o.here.grown grown;
           sorted = step.0.sorted.part;
+          formed = part_formed g e (y ∷ []) k.part refl o.here.formed;
           begun = omega (arith, begun, behind);
           names = all_both (λ z. IsInUse used after z.name) k.part.state.variables (y ∷ []) (all_later used before after k.part.state.variables behind o.here.names) (last_in_use used before after name n, tt);
         };
-        others = split_others g used p q others apart o.others o.here (sorted_with g k.part others o.here.sorted (head_clauses_sorted g k.part.state.variables false x (head_of_sort m) at));
+        others = split_others g used p q others apart o.others o.here (sorted_with g k.part others o.here.sorted (head_clauses_sorted g k.part.state.variables false x (head_of_sort m) at)) (head_clauses_formed g false x (head_of_sort m) tt);
         asked = still_asked g left e k.equalities o.asked;
+        formed = course_put g e r k (pair_of form (unknown x)) (unknown y) refl refl o.formed;
       },
       step.1,
     )
@@ -162,9 +167,10 @@ heads_on_way g used left p k next apart form x s o f none at =
     let step = step_heads g left p k (map (λ z. z.part) apart) form x s o.on f none in (
       record {
         on = subst (λ ps. IsOnCourse g left p (with_pair (course_in r k) (record { form = form; term = unknown x })) ps) (sym (split_parts q others apart)) step.0;
-        here = constrained_on g used p k.part next (heads_inside g x s) o.here step.0.sorted.part;
-        others = split_others g used p q others apart o.others o.here (sorted_with g k.part others o.here.sorted (outside_sorted g k.part.state.variables x s at));
+        here = constrained_on g used p k.part next (heads_inside g x s) o.here step.0.sorted.part (inside_formed g x s);
+        others = split_others g used p q others apart o.others o.here (sorted_with g k.part others o.here.sorted (outside_sorted g k.part.state.variables x s at)) (outside_formed g x s);
         asked = o.asked;
+        formed = course_moved g r k (pair_of form (unknown x)) o.formed;
       },
       step.1,
     )
@@ -245,6 +251,7 @@ pub constructor_on_way : (g : KoreSignature) (used : List Text) (left : Form) (p
 constructor_on_way g used left p k before after apart form x c fs new o h m head values n at =
     let e : Equation = record { variable = x; term = constructor_term g c new } in
     let q : NumberedPart = record { part = k.part; next = before } in
+    let normal = constructor_normal g c new in
     let ss = sort_list (places_of g c) in
     let others = has_other_head g x c new in
     let are_new : AreNew k.part.state.variables new = all_new used before after ss new k.part.state.variables n o.here.names in
@@ -259,11 +266,13 @@ constructor_on_way g used left p k before after apart form x c fs new o h m head
         here = record {
           grown = grown_further g used p k.part r o.here.grown grown;
           sorted = step.0.sorted.part;
+          formed = part_formed g e new k.part normal o.here.formed;
           begun = omega (arith, begun, behind);
           names = all_both (λ z. IsInUse used after z.name) k.part.state.variables new (all_later used before after k.part.state.variables behind o.here.names) (all_in_use used before after ss new n);
         };
-        others = split_others g used p q others apart o.others o.here (split_sorted g k.part x c new head sorts m o.here.sorted at);
+        others = split_others g used p q others apart o.others o.here (split_sorted g k.part x c new head sorts m o.here.sorted at) (other_head_formed g x c new m);
         asked = still_asked g left e k.equalities o.asked;
+        formed = course_put g e r k (pair_of form (unknown x)) (constructor_term g c new) normal normal o.formed;
       },
       step.1,
       step.2,

@@ -18,6 +18,7 @@ use Rattle.kp_cases.specs.Cases.{MetPart, AreCases, left_side}
 use Rattle.kp_cases.specs.Courses.{FormPair, Equality, Course, with_pair, with_binding, with_equality, with_pairs, IsOnCourse, IsOfSort, replaced_course, course_in, form_variables, all_equality_clauses, IsBoundTo, IsSortedEquality}
 use Rattle.kp_cases.specs.Rows.{AsksSort}
 use Rattle.kp_symbolic_laws.specs.Runs.{HasOneSortEach}
+use Rattle.kp_symbolic_laws.specs.Safe.{IsNormal, PutNormal, IsFormedState, IsSoundQuote}
 use Rattle.kp_unify.specs.Names.{IsNextName, AreNextVariables}
 use Rattle.kp_unify.specs.Narrowed.{NumberedPart, with_split}
 
@@ -31,10 +32,11 @@ IsInUse used next x = (list_any (bytes_eq x) used ≡ true) ⊎ ((j : ℕ) × j 
 abbrev pub AreInUse : List Text → NumberedPart → Type 0
 AreInUse used q = AllByRecursion (λ x. IsInUse used q.next x.name) q.part.state.variables
 
--- a part of p with new variables of sorts with values, well-sorted, whose names are in use
+-- a part of p, well-sorted and its terms in normal form, with new variables of sorts with values, whose names are in use
 pub record IsPartOn (g : KoreSignature) (used : List Text) (p : StatePart) (q : NumberedPart) : Type 0 where
   pub grown : IsGrown g used p q.part
   pub sorted : IsSortedPart g q.part
+  pub formed : IsFormedState g (IsSoundQuote g) q.part.state
   pub begun : 1 ≤ q.next
   pub names : AreInUse used q
 
@@ -44,11 +46,22 @@ pub record IsPartOn (g : KoreSignature) (used : List Text) (p : StatePart) (q : 
 abbrev pub IsAskedSort : KoreSignature → Form → KoreSort → Type 0
 IsAskedSort g left s = ((x : Text) × Contains (form_variables left) (record { name = x; sort = s })) ⊎ ((u : Value) × (own_sort g u ≡ Some s))
 
+-- both sides are in normal form
+abbrev pub IsNormalEquality : KoreSignature → Equality → Type 0
+IsNormalEquality g e = IsNormal g e.left × IsNormal g e.right
+
+-- and so are all terms that were found and are to come
+pub record IsFormedCourse (g : KoreSignature) (k : Course) : Type 0 where
+  pub equalities : AllByRecursion (IsNormalEquality g) k.equalities
+  pub bindings : PutNormal g k.bindings
+  pub pairs : AllByRecursion (λ q. IsNormal g q.term) k.pairs
+
 pub record IsOnWay (g : KoreSignature) (used : List Text) (left : Form) (p : StatePart) (k : Course) (next : ℕ) (apart : List NumberedPart) : Type 0 where
   pub on : IsOnCourse g left p k (map (λ q. q.part) apart)
   pub here : IsPartOn g used p (record { part = k.part; next = next })
   pub others : AllByRecursion (IsPartOn g used p) apart
   pub asked : AllByRecursion (λ e. IsAskedSort g left e.sort) k.equalities
+  pub formed : IsFormedCourse g k
 
 -- a course with the number of the next name, and the parts that were split off
 pub record Stage : Type 0 where
@@ -127,29 +140,32 @@ members_stage stage ps = record { course = with_pairs stage.course ps; next = st
 abbrev pub GoesOnIf : Bool → KoreSignature → List Text → Form → StatePart → Stage → Type 0
 GoesOnIf b g used left p stage = MatchBool b (IsGone g used left p stage) (IsAllApart g left p)
 
--- the part of a state, well-sorted, what was added being true of each instance, whose names are in use; each variable of the left
--- side has one sort
+-- the part of a state, well-sorted and its terms in normal form, what was added being true of each instance, whose names are in
+-- use; each variable of the left side has one sort
 pub record IsMeetable (g : KoreSignature) (used : List Text) (left : Form) (q : NumberedPart) : Type 0 where
   pub told : IsTold g q.part
   pub sorted : IsSortedPart g q.part
+  pub formed : IsFormedState g (IsSoundQuote g) q.part.state
   pub begun : 1 ≤ q.next
   pub names : AreInUse used q
   pub one : HasOneSortEach (form_variables left)
 
 -- ---- the outcome
 
--- the equations are those of equalities of terms of the sorts that the left side asks for
+-- the equations are those of equalities of terms in normal form, of the sorts that the left side asks for
 pub record AreEquations (g : KoreSignature) (left : Form) (m : MetPart) : Type 0 where
   pub equalities : List Equality
   pub are : m.equations ≡ all_equality_clauses g equalities
   pub of_sort : AllByRecursion (IsSortedEquality g m.part) equalities
   pub asked : AllByRecursion (λ e. IsAskedSort g left e.sort) equalities
+  pub normal : AllByRecursion (IsNormalEquality g) equalities
 
--- the cases of p, and each with new variables of sorts with values, well-sorted, whose names are in use; each variable of the
--- left side stands for a term of its sort
+-- the cases of p, each well-sorted and its terms in normal form, with new variables of sorts with values, whose names are in use;
+-- each variable of the left side stands for a term of its sort, in normal form
 pub record IsMeeting (g : KoreSignature) (used : List Text) (left : Form) (p : StatePart) (met : MetPart) (next : ℕ) (apart : List NumberedPart) : Type 0 where
   pub cases : AreCases g (left_side g left) p (Some met) (map (λ q. q.part) apart)
   pub here : IsPartOn g used p (record { part = met.part; next = next })
   pub others : AllByRecursion (IsPartOn g used p) apart
   pub bound : AllByRecursion (IsBoundTo g met.part met.bindings) (form_variables left)
+  pub normal : PutNormal g met.bindings
   pub equations : AreEquations g left met
