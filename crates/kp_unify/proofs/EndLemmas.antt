@@ -1,6 +1,7 @@
 -- The beginning and the end of a left side's way.
 use Rattle.std.proofs.Common.{◌≡◌, refl, sym, ap, subst, ◌∙◌, ℕ, ◌≤◌, true, List, [], ◌∷◌, ◌++◌, Option, Some, None, option_to_list, map, length, arith}
 use Rattle.std.proofs.lemmas.List.{map-append, append-nil}
+use Rattle.std.specs.List.{AllByRecursion}
 use Rattle.kp_kore.specs.Syntax.{Text}
 use Rattle.kp_kore.specs.Signature.{KoreSignature}
 use Rattle.kp_semantics.specs.Instance.{Valuation, GivesSorts}
@@ -22,7 +23,7 @@ use Rattle.kp_symbolic.specs.States.{Literal}
 use Rattle.kp_unify.specs.Clash.{IsNeverOf}
 use Rattle.kp_unify.specs.Narrowed.{NumberedPart}
 use Rattle.kp_unify.specs.Views.{pair_view}
-use Rattle.kp_unify.specs.Way.{AreInUse, IsOnWay, Stage, IsAllApart, IsNextPair, IsGone, IsMeetable, IsMeeting}
+use Rattle.kp_unify.specs.Way.{AreInUse, IsPlacedEquality, IsOnWay, Stage, IsAllApart, IsNextPair, IsGone, IsMeetable, IsMeeting}
 use Rattle.kp_unify.specs.declared.course.Pair.{Pair}
 use Rattle.kp_unify.proofs.PairLemmas.{never_next}
 
@@ -42,14 +43,14 @@ begun g used left p next told sorted formed from names one = record {
 }
 
 -- it ends, where no pair is left
-pub ended_met : (g : KoreSignature) (used : List Text) (left : Form) (p : StatePart) (stage : Stage) → IsGone g used left p stage → stage.course.pairs ≡ [] → IsMeeting g used left p (met_part g stage.course) stage.next stage.apart
-ended_met g used left p stage o e = record {
+pub ended_met : (g : KoreSignature) (used : List Text) (left : Form) (p : StatePart) (stage : Stage) → IsGone g used left p stage → stage.course.pairs ≡ [] → AllByRecursion (IsPlacedEquality g) stage.course.equalities → IsMeeting g used left p (met_part g stage.course) stage.next stage.apart
+ended_met g used left p stage o e w = record {
   cases = on_ends g left p stage.course (map (λ q. q.part) stage.apart) o.way.on e;
   here = o.way.here;
   others = o.way.others;
   bound = all_bound g left p stage.course (map (λ q. q.part) stage.apart) o.one o.way.on e;
   normal = o.way.formed.bindings;
-  equations = record { equalities = stage.course.equalities; are = refl; of_sort = o.way.on.sorted.equalities; asked = o.way.asked; normal = o.way.formed.equalities };
+  equations = record { equalities = stage.course.equalities; are = refl; of_sort = o.way.on.sorted.equalities; asked = o.way.asked; normal = o.way.formed.equalities; placed = w };
 }
 
 pub ended_never : (g : KoreSignature) (used : List Text) (left : Form) (p : StatePart) (stage : Stage) → IsGone g used left p stage → are_never (all_equality_clauses g stage.course.equalities) ≡ true → IsAllApart g left p
@@ -101,13 +102,13 @@ pub nothing_of : (rest : List Pair) (n : ℕ) → n ≡ length rest → n ≡ 0 
 nothing_of [] n e z = refl
 nothing_of (q ∷ rest) n e z = absurd (omega (arith, e, z))
 
-pub met_so : (g : KoreSignature) (used : List Text) (left : Form) (p : StatePart) (stage : Stage) (met : MetPart) (equations : List (List Literal)) (next : ℕ) (apart : List NumberedPart) → IsGone g used left p stage → stage.course.pairs ≡ [] →
+pub met_so : (g : KoreSignature) (used : List Text) (left : Form) (p : StatePart) (stage : Stage) (met : MetPart) (equations : List (List Literal)) (next : ℕ) (apart : List NumberedPart) → IsGone g used left p stage → stage.course.pairs ≡ [] → AllByRecursion (IsPlacedEquality g) stage.course.equalities →
     equations ≡ all_equality_clauses g stage.course.equalities → met ≡ record { part = stage.course.part; equations = equations; bindings = stage.course.bindings } → next ≡ stage.next → apart ≡ stage.apart → IsMeeting g used left p met next apart
-met_so g used left p stage met equations next apart o none says is same all =
+met_so g used left p stage met equations next apart o none placed says is same all =
     let here : met ≡ met_part g stage.course = is ∙ ap (λ cs. record { part = stage.course.part; equations = cs; bindings = stage.course.bindings }) says in
     subst (λ m. IsMeeting g used left p m next apart) (sym here)
     (subst (λ n. IsMeeting g used left p (met_part g stage.course) n apart) (sym same)
-    (subst (λ ps. IsMeeting g used left p (met_part g stage.course) stage.next ps) (sym all) (ended_met g used left p stage o none)))
+    (subst (λ ps. IsMeeting g used left p (met_part g stage.course) stage.next ps) (sym all) (ended_met g used left p stage o none placed)))
 
 pub numbered_as : (q : NumberedPart) (p : StatePart) (next : ℕ) → q.part ≡ p → q.next ≡ next → q ≡ record { part = p; next = next }
 numbered_as q p next e f = ap (λ x. record { part = x; next = q.next }) e ∙ ap (λ n. record { part = p; next = n }) f

@@ -10,6 +10,7 @@ pub mod ClashLemmas
 pub mod FormedLemmas
 pub mod WayLemmas
 pub mod PlaceLemmas
+pub mod PlacedLemmas
 pub mod PairLemmas
 pub mod MemberLemmas
 pub mod EndLemmas

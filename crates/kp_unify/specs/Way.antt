@@ -10,6 +10,7 @@ use Rattle.kp_semantics.specs.Value.{Value}
 use Rattle.kp_states.specs.Spelled.{own_sort, places_of}
 use Rattle.kp_symbolic.specs.Terms.{SymbolicTerm, unknown, SymbolicTerms}
 use Rattle.kp_symbolic.specs.States.{head_of_sort}
+use Rattle.kp_symbolic.specs.WellFormed.{IsWellSorted}
 use Rattle.kp_symbolic.specs.Writing.{fresh_name}
 use Rattle.kp_rules.specs.Skeletons.{Form}
 use Rattle.kp_cases.specs.Parts.{StatePart, IsTold, IsSortedPart, IsGrown, with_clauses}
@@ -50,7 +51,11 @@ IsAskedSort g left s = ((x : Text) × Contains (form_variables left) (record { n
 abbrev pub IsNormalEquality : KoreSignature → Equality → Type 0
 IsNormalEquality g e = IsNormal g e.left × IsNormal g e.right
 
--- and so are all terms that were found and are to come
+-- both sides have its sort
+abbrev pub IsPlacedEquality : KoreSignature → Equality → Type 0
+IsPlacedEquality g e = IsWellSorted g e.sort e.left × IsWellSorted g e.sort e.right
+
+-- all terms that were found and are to come are in normal form
 pub record IsFormedCourse (g : KoreSignature) (k : Course) : Type 0 where
   pub equalities : AllByRecursion (IsNormalEquality g) k.equalities
   pub bindings : PutNormal g k.bindings
@@ -159,6 +164,7 @@ pub record AreEquations (g : KoreSignature) (left : Form) (m : MetPart) : Type 0
   pub of_sort : AllByRecursion (IsSortedEquality g m.part) equalities
   pub asked : AllByRecursion (λ e. IsAskedSort g left e.sort) equalities
   pub normal : AllByRecursion (IsNormalEquality g) equalities
+  pub placed : AllByRecursion (IsPlacedEquality g) equalities
 
 -- the cases of p, each well-sorted and its terms in normal form, with new variables of sorts with values, whose names are in use;
 -- each variable of the left side stands for a term of its sort, in normal form

@@ -1,23 +1,27 @@
 // The cases of a part, and of a whole state, under a left side.
-ghost use Rattle.std.specs.Prelude.{◌≡◌, [], List, MatchOption, MatchBool, IfOk, map};
+ghost use Rattle.std.specs.Prelude.{◌≡◌, [], List, MatchOption, MatchBool, IfOk, IsTrue, map};
+ghost use Rattle.std.specs.List.{AllByRecursion};
 ghost use Rattle.kp_kore.specs.Syntax.{Text};
+ghost use Rattle.kp_signature.specs.View.{signature_view};
 ghost use Rattle.kp_heads.specs.Made.{IsHeadTableOf};
 ghost use Rattle.kp_rules.specs.Skeletons as forms;
 ghost use Rattle.kp_rules.specs.Skeletons.{skeleton_view};
 ghost use Rattle.kp_terms.specs.View.{clauses_view, state_view};
 ghost use Rattle.kp_cases.specs.Parts as parts;
 ghost use Rattle.kp_cases.specs.Parts.{StatePart};
-ghost use Rattle.kp_cases.specs.Courses.{all_equality_clauses};
+ghost use Rattle.kp_cases.specs.Courses.{all_equality_clauses, IsSortedEquality};
 ghost use Rattle.kp_unify.specs.Views.{signature_of, part_view, numbered_view, met_view, equality_view, stage_view, IsSetting};
-ghost use Rattle.kp_unify.specs.Way.{IsGone, IsMeetable, IsAllApart, IsMeeting};
+ghost use Rattle.kp_unify.specs.Way.{IsPlacedEquality, IsGone, IsMeetable, IsAllApart, IsMeeting};
 
 use crate::clash::clashes;
 use crate::course::{Course, Equality, begin};
 use crate::forms::Form;
+use crate::heads::has_sort;
 use crate::literals::{are_never, equal_clauses};
 use crate::part::{Meeting, MetPart, Part, Setting, whole};
 use kp_compile::CompileError;
 use kp_rules::skeleton::Skeleton;
+use kp_signature::Signature;
 use kp_terms::{Clause, State};
 use std::alloc::{AllocError, Global};
 
@@ -67,6 +71,26 @@ fn equations(
     Ok(found)
 }
 
+/// Whether both sides, which have the equality's sort for each instance of a part, have it by their form.
+fn is_placed(signature: &Signature, equality: &Equality) -> bool
+    ensures { (p : StatePart) → let g = signature_view signature.now in let e = equality_view equality.now in IsTrue result → IsSortedEquality g p e → IsPlacedEquality g e }
+{
+    has_sort(signature, &equality.left, &equality.sort)
+        && has_sort(signature, &equality.right, &equality.sort)
+}
+
+/// The same of each equality.
+fn are_placed(signature: &Signature, equalities: &[Equality]) -> bool
+    ensures { (p : StatePart) → let g = signature_view signature.now in let es = map equality_view equalities.now in IsTrue result → AllByRecursion (IsSortedEquality g p) es → AllByRecursion (IsPlacedEquality g) es }
+{
+    for equality in equalities {
+        if !is_placed(signature, equality) {
+            return false;
+        }
+    }
+    true
+}
+
 /// What was met, where no pair is left.
 fn make_meeting(course: Course<'_>, equations: Vec<Clause>) -> Meeting
     ensures met { met_view result.met ≡ record { part = part_view course.entry.part; equations = clauses_view equations.items; bindings = (stage_view course.entry).course.bindings } }
@@ -87,24 +111,29 @@ fn make_meeting(course: Course<'_>, equations: Vec<Clause>) -> Meeting
     Meeting { met, apart }
 }
 
-/// What was met, where no pair is left; nothing, where the equalities are never true.
+/// What was met, where no pair is left; nothing, where the equalities are never true. A Shape where a side of one hasn't its sort
+/// by its form, so that the equality has no place in Kore.
 fn met(
     alloc: Global,
     setting: &Setting<'_>,
     course: Course<'_>,
-) -> Result<Option<Meeting>, AllocError>
+) -> Result<Option<Meeting>, CompileError>
     ensures { (used : List Text) (left : forms.Form) (p : StatePart) → let g = signature_of setting.now in IsGone g used left p (stage_view course.entry) → (stage_view course.entry).course.pairs ≡ [] → IfOk result (λ o. MatchOption o (IsAllApart g left p) (λ m. IsMeeting g used left p (met_view m.met) m.met.part.next (map numbered_view m.apart.items))) }
 {
     let equations = equations(alloc, setting, &course.equalities)?;
     if are_never(&equations) {
         return Ok(None);
     }
+    if !are_placed(setting.language.signature, &course.equalities) {
+        return Err(CompileError::Shape);
+    }
     Ok(Some(make_meeting(course, equations)))
 }
 
 /// What a left side makes of a part, of a read or a foreign rule alike: the part that it meets, where the equations are
 /// true, and those that it doesn't meet. None where it doesn't meet the part at all, which isn't divided then. Refused
-/// where a sum can't be written, or for want of memory.
+/// where a sum can't be written, where an equation would be of a variable whose sort isn't the other side's or below it (no sort
+/// lies below both), or for want of memory.
 pub fn meet(
     alloc: Global,
     setting: &Setting<'_>,
@@ -121,10 +150,10 @@ pub fn meet(
     if !run(alloc, setting, &mut course)? {
         return Ok(None);
     }
-    Ok(met(alloc, setting, course)?)
+    met(alloc, setting, course)
 }
 
-/// The same of a whole state; `Fresh` with each number from 1 below the next one is in use.
+/// The same of a whole state, refused where that is; `Fresh` with each number from 1 below the next one is in use.
 pub fn cases(
     alloc: Global,
     setting: &Setting<'_>,

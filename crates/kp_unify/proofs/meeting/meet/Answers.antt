@@ -27,4 +27,4 @@ returns c used setting ready =
     let told = c.in_ok-course.ensures in
     let gone = set_out g used l (numbered_view c.args.part.now) (stage_view c.in_ok-course.course) ready told.course (ap (map numbered_view) told.apart) told.next in
     let out = subst (λ b. MatchBool b (IsGone g used l p (stage_view c.run.new.course) × ((stage_view c.run.new.course).course.pairs ≡ [])) (IsAllApart g l p)) c.if-not-branch.false (c.in_ok-run.ensures used l p setting gone) in
-    c.in_ok-met.ensures used l p out.0 out.1
+    c.met.ensures used l p out.0 out.1
