@@ -1,0 +1,13 @@
+pub mod QuestionLemmas
+pub mod OpenedWith
+pub mod Negated
+pub mod Excluded
+pub mod NegateLemmas
+pub mod PartLemmas
+pub mod PlainLemmas
+pub mod RuleLemmas
+pub mod PlacedLemmas
+pub mod ReadyLemmas
+pub mod SilentLemmas
+pub mod FiringViews
+pub mod ExcludeLemmas

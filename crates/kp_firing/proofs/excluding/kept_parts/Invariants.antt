@@ -1,0 +1,13 @@
+use Rattle.std.proofs.Common.{List, ◌++◌}
+use Rattle.kp_kore.specs.Syntax.{Text}
+use Rattle.kp_semantics.specs.Rules.{RuleBody}
+use Rattle.kp_cases.specs.Parts.{StatePart}
+use Rattle.kp_unify.specs.Views.{signature_of}
+use Rattle.kp_firing.specs.Silent.{IsExcluded}
+use Rattle.kp_firing.specs.Firings.{numbered}
+use Rattle.kp_firing.proofs.excluding.kept_parts.Given as goal
+
+abbrev pub invariant-loop-part : goal.invariant-loop-part
+invariant-loop-part l =
+    (used : List Text) (body : RuleBody) (p : StatePart) → IsExcluded (signature_of l.setting) used body p (numbered l.fn.parts.items) →
+    IsExcluded (signature_of l.setting) used body p (numbered l.kept.items ++ numbered l.part-iterator.rest.items)

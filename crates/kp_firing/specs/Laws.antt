@@ -1,0 +1,37 @@
+-- The longer statements of the laws, by name.
+-- Source: this project.
+use Rattle.std.specs.Prelude.{◌≡◌, ◌++◌, ◌∷◌, List, Some, true}
+use Rattle.std.specs.List.{AllByRecursion}
+use Rattle.kp_kore.specs.Signature.{KoreSignature}
+use Rattle.kp_semantics.specs.Rules.{Rewrite, RuleBody, rewrite}
+use Rattle.kp_semantics.specs.Steps.{Fires}
+use Rattle.kp_symbolic.specs.Clauses.{is_too_large, denied}
+use Rattle.kp_symbolic.specs.Solving.{negated}
+use Rattle.kp_rules.specs.Skeletons.{Form}
+use Rattle.kp_cases.specs.Parts.{StatePart, OfEachInstance, with_clauses}
+use Rattle.kp_cases.specs.Cases.{MetPart, AreCases, left_side}
+use Rattle.kp_kept.specs.Kept.{CanBeWrittenAt}
+use Rattle.kp_rules.specs.LeftSides.{IsLeftSide, IsOverLeft}
+use Rattle.kp_turns.specs.Firing.{FiringPart, AreFiringCases, HasNoInstance, AreWhere}
+use Rattle.kp_firing.specs.Conditions.{IsVerifiedOver, condition_clauses, AreRight}
+
+-- the part that the left side meets is the one where the rule fires, by the equations and the clauses of the condition
+abbrev pub FiresByTheClauses : KoreSignature → Type 0
+FiresByTheClauses g =
+    (r : Rewrite) (form : Form) (p : StatePart) (m : MetPart) (apart : List StatePart) →
+    AreCases g (left_side g form) p (Some m) apart → IsLeftSide g r form → IsOverLeft r →
+    AllByRecursion (IsVerifiedOver g m.part.state.variables m.bindings) r.condition →
+    AreFiringCases g (rewrite r) p (Some (record { part = m.part; clauses = m.equations ++ condition_clauses g m.bindings r.condition })) apart
+
+-- the opposite of the clauses, as it is opened, or as one literal where that makes too many
+abbrev pub opposite_of : KoreSignature → FiringPart → StatePart
+opposite_of g m = with_clauses m.part (negated g m.part.state.sort m.clauses)
+
+-- the parts where the rule doesn't fire; where none of them has an instance, it fires on each
+abbrev pub IsExcludedByTheOpposite : KoreSignature → Type 0
+IsExcludedByTheOpposite g =
+    (body : RuleBody) (p : StatePart) (m : FiringPart) (apart : List StatePart) →
+    AreFiringCases g body p (Some m) apart → AreRight g m.part.state.variables m.clauses →
+    (is_too_large 0 (denied g m.clauses) ≡ true → AllByRecursion (CanBeWrittenAt g m.part.state.sort) m.clauses) →
+    AreWhere g (λ c. ¬ Fires g body c) p (opposite_of g m ∷ apart)
+    × (AllByRecursion (HasNoInstance g) (opposite_of g m ∷ apart) → OfEachInstance g p (λ w c. Fires g body c))

@@ -1,0 +1,6 @@
+pub mod Conditions
+pub mod Opposites
+pub mod Laws
+pub mod Ready
+pub mod Silent
+pub mod Firings
