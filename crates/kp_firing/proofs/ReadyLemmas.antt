@@ -56,7 +56,7 @@ equalities_right : (g : KoreSignature) (p : StatePart) (es : List Equality) → 
 equalities_right g p [] w n o = tt
 equalities_right g p (e ∷ es) w n o = all_both (AllByRecursion (Right g p.state.variables)) (equality_clauses g e) (all_equality_clauses g es) (equality_right g p e w.0 n.0 o.0) (equalities_right g p es w.1 n.1 o.1)
 
-equations_right : (g : KoreSignature) (left : Form) (m : MetPart) → AreEquations g left m → AreRight g m.part.state.variables m.equations
+pub equations_right : (g : KoreSignature) (left : Form) (m : MetPart) → AreEquations g left m → AreRight g m.part.state.variables m.equations
 equations_right g left m e = subst (AreRight g m.part.state.variables) (sym e.are) (equalities_right g m.part e.equalities e.placed e.normal e.of_sort)
 
 -- ---- bindings
