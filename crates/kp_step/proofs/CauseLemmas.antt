@@ -1,0 +1,92 @@
+-- What is left open of a part is a cause of the step's end.
+use Rattle.std.proofs.Common.{◌≡◌, refl, sym, ap, subst, ◌∙◌, arith, ℕ, zero, suc, ◌<◌, get_or, List, [], ◌∷◌, ◌++◌, map, Option, Some, None, inl, inr, ◌↔◌}
+use Rattle.std.specs.Prelude.{⊤}
+use Rattle.std.specs.List.{AllByRecursion, Contains}
+use Rattle.std.proofs.lemmas.List.Elements.{Contains-push, Contains-append_left, Contains-append_right, Contains-append_cases}
+use Rattle.kp_kore.specs.Syntax.{Text}
+use Rattle.kp_kore.specs.Signature.{KoreSignature}
+use Rattle.kp_semantics.specs.Value.{Value}
+use Rattle.kp_semantics.specs.Rules.{Rewrite, rewrite, ForeignLeft, foreign_rule, RewriteRule}
+use Rattle.kp_semantics.specs.Theory.{Theory}
+use Rattle.kp_semantics.specs.Steps.{Fires, IsUnknownBy}
+use Rattle.kp_symbolic.specs.States.{Literal, SymbolicState}
+use Rattle.kp_symbolic.specs.Verdicts.{Weighed}
+use Rattle.kp_cases.specs.Parts.{StatePart, whole, IsTold}
+use Rattle.kp_turns.specs.Firing.{AreWhere}
+use Rattle.kp_turns.specs.Turns.{IsLeftTo, NoneGoesBefore}
+use Rattle.kp_turns.proofs.PartsWhere.{said_otherwise}
+use Rattle.kp_turns.proofs.TurnsFound.{left_to_none}
+use Rattle.kp_unify.specs.Narrowed.{NumberedPart}
+use Rattle.kp_firing.specs.Ready.{parts_of}
+use Rattle.kp_step.specs.Left.{AreLeft}
+use Rattle.kp_step.specs.Causes.{MayRewrite, IsAsked, IsShownOf, IsLeftOpen}
+
+part_among : (ps : List NumberedPart) (q : NumberedPart) → Contains ps q → Contains (parts_of ps) q.part
+part_among [] q c = let none = c.1 in absurd (omega (arith, none))
+part_among (p ∷ ps) q c = elim (Contains-append_cases (p ∷ []) ps q c) [
+  | inl h ↦ first (only h)
+  | inr h ↦ Contains-append_right (p.part ∷ []) (parts_of ps) q.part (part_among ps q h)
+]
+  where
+    only : Contains (p ∷ []) q → p ≡ q
+    only (k, l, e) = by k l e
+      where
+        by : (j : ℕ) → j < 1 → get_or (p ∷ []) j q ≡ q → p ≡ q
+        by zero l e = e
+        by (suc j) l e = absurd (omega (arith, l))
+
+    first : p ≡ q → Contains (p.part ∷ parts_of ps) q.part
+    first e = subst (λ x. Contains (p.part ∷ parts_of ps) x) (ap (λ x. x.part) e) (Contains-append_left (p.part ∷ []) (parts_of ps) p.part (Contains-push [] p.part))
+
+-- of the state itself
+pub open_state : (t : Theory) (s : SymbolicState) (shown : List (List Literal)) (over : Option Weighed) → IsTold t.signature (whole s) → IsShownOf t.signature s s shown over → IsLeftOpen t s None shown over
+open_state t s shown over told shows = record {
+  turns = [];
+  of_theory = tt;
+  parts = whole s ∷ [];
+  asked = left_to_none t.signature (whole s) told;
+  part = whole s;
+  among = Contains-push [] (whole s);
+  shows = shows;
+}
+
+-- of a part that rules leave to a rule
+pub open_rule : (t : Theory) (used : List Text) (s : SymbolicState) (m : StatePart) (r : RewriteRule) (read : Rewrite) (found : List RewriteRule) (parts : List NumberedPart) (q : NumberedPart) (shown : List (List Literal)) (over : Option Weighed) →
+    r.body ≡ rewrite read → AllByRecursion (Contains t.rules) found → AreLeft t.signature used (Some r) found (whole s) m parts → Contains parts q → IsShownOf t.signature s q.part.state shown over → IsLeftOpen t s (Some r) shown over
+open_rule t used s m r read found parts q shown over body members l c shows = record {
+  turns = found;
+  of_theory = members;
+  parts = parts_of parts;
+  asked = said_otherwise t.signature (IsLeftTo t.signature (Some r) found) (IsAsked t.signature (Some r) found) (whole s) (parts_of parts)
+      (λ w d h k. ((λ f. (subst (λ b. MayRewrite t.signature b d) (sym body) (subst (λ b. Fires t.signature b d) body f.0), f.1)), (λ a. (subst (λ b. Fires t.signature b d) (sym body) (subst (λ b. MayRewrite t.signature b d) body a.0), a.1)))) l.left;
+  part = q.part;
+  among = part_among parts q c;
+  shows = shows;
+}
+
+-- of a part that they leave to none
+pub open_remainder : (t : Theory) (used : List Text) (s : SymbolicState) (m : StatePart) (found : List RewriteRule) (parts : List NumberedPart) (q : NumberedPart) (shown : List (List Literal)) (over : Option Weighed) →
+    AllByRecursion (Contains t.rules) found → AreLeft t.signature used None found (whole s) m parts → Contains parts q → IsShownOf t.signature s q.part.state shown over → IsLeftOpen t s None shown over
+open_remainder t used s m found parts q shown over members l c shows = record {
+  turns = found;
+  of_theory = members;
+  parts = parts_of parts;
+  asked = l.left;
+  part = q.part;
+  among = part_among parts q c;
+  shows = shows;
+}
+
+-- of the part where a foreign rule might rewrite
+pub open_foreign : (t : Theory) (s : SymbolicState) (r : RewriteRule) (left : ForeignLeft) (p : StatePart) (shown : List (List Literal)) (over : Option Weighed) → r.body ≡ foreign_rule left →
+    AreWhere t.signature (λ c. IsUnknownBy t.signature r.body c) (whole s) (p ∷ []) → IsShownOf t.signature s p.state shown over → IsLeftOpen t s (Some r) shown over
+open_foreign t s r left p shown over body d shows = record {
+  turns = [];
+  of_theory = tt;
+  parts = p ∷ [];
+  asked = said_otherwise t.signature (λ c. IsUnknownBy t.signature r.body c) (IsAsked t.signature (Some r) []) (whole s) (p ∷ [])
+      (λ w e h k. ((λ u. (subst (λ b. MayRewrite t.signature b e) (sym body) (subst (λ b. IsUnknownBy t.signature b e) body u), tt)), (λ a. subst (λ b. IsUnknownBy t.signature b e) (sym body) (subst (λ b. MayRewrite t.signature b e) body a.0)))) d;
+  part = p;
+  among = Contains-push [] p;
+  shows = shows;
+}

@@ -1,0 +1,112 @@
+-- Foreign rules asked in their turn: the first that might rewrite an instance, or what is left open of the first.
+use Rattle.std.proofs.Common.{◌≡◌, refl, sym, ap, subst, ◌∙◌, ℕ, ◌+◌, ◌<◌, ◌≤◌, List, [], ◌∷◌, ◌++◌, length, get_or, take, drop, Option, Some, None, inl, inr}
+use Rattle.std.specs.Prelude.{MatchOption}
+use Rattle.std.specs.List.{AllByRecursion, Contains}
+use Rattle.kp_kore.specs.Syntax.{Text}
+use Rattle.kp_kore.specs.Signature.{KoreSignature}
+use Rattle.kp_semantics.specs.Value.{Value}
+use Rattle.kp_semantics.specs.Rules.{Rewrite, rewrite, RewriteRule, RuleBody, ForeignLeft, foreign_rule}
+use Rattle.kp_semantics.specs.Theory.{Theory}
+use Rattle.kp_semantics.specs.Steps.{IsUnknownBy, IsUnknown}
+use Rattle.kp_semantics.proofs.ListLemmas.{all_append}
+use Rattle.kp_semantics.proofs.TurnLemmas.{of_member}
+use Rattle.kp_symbolic.specs.States.{SymbolicState}
+use Rattle.kp_terms.specs.View.{clauses_view}
+use Rattle.kp_rule_sets.specs.RuleSets.{RunsAs}
+use Rattle.kp_rule_sets.specs.declared.rule_set.RuleSet.{RuleSet}
+use Rattle.kp_cases.specs.Parts.{whole, OfEachInstance}
+use Rattle.kp_step.specs.Places.{IsAt}
+use Rattle.kp_step.specs.Causes.{MeetsForeign, IsPassedBy, GoesBefore, IsFirstMet, IsLeftOpen}
+use Rattle.kp_step.specs.Answers.{TellsForeign, TellsKnown, IsOpenAt}
+use Rattle.kp_step.specs.declared.outcome.StepOutcome.{StepOutcome}
+use Rattle.kp_step.specs.Outcomes.{IsToldOpen, IsRightStep}
+use Rattle.kp_step.specs.declared.answers.Open.{Open}
+use Rattle.kp_step.specs.declared.answers.Answer.TheVariants as answer
+use Rattle.kp_step.specs.declared.foreign.OpenAt.{OpenAt}
+use Rattle.kp_step.proofs.ForeignLemmas.{all_known}
+use Rattle.kp_step.proofs.FoundLemmas.{one_at, contains_at}
+use Rattle.kp_step.proofs.LoopLemmas.{taken, all_taken, split_there}
+use Rattle.kp_step.proofs.OrderLemmas.{InTurn, each_is_there, stands_ahead}
+
+abbrev pub Passed : Theory → SymbolicState → ℕ → Type 0
+Passed t s i = (r : RewriteRule) → IsAt t i r → IsPassedBy t s r
+
+abbrev pub NotUnknown : Theory → SymbolicState → ℕ → Type 0
+NotUnknown t s i = (r : RewriteRule) → IsAt t i r → OfEachInstance t.signature (whole s) (λ w c. ¬ IsUnknownBy t.signature r.body c)
+
+-- a rule that might rewrite a configuration is foreign
+foreign_left : (g : KoreSignature) (b : RuleBody) (c : Value) → IsUnknownBy g b c → (l : ForeignLeft) × (b ≡ foreign_rule l)
+foreign_left g (rewrite m) c u = absurd u
+foreign_left g (foreign_rule l) c u = (l, refl)
+
+-- the first that might rewrite an instance
+pub first_met : (t : Theory) (s : SymbolicState) (rules : RuleSet) (before after : List ℕ) (place : ℕ) → RunsAs t rules → InTurn rules (before ++ place ∷ after) → AllByRecursion (Passed t s) before → TellsForeign t s place answer.Instance → IsFirstMet t s place
+first_met t s rules before after place runs turn passed m =
+    let l = foreign_left t.signature m.0.body m.2.configuration m.2.unknown in
+    record {
+      rule = m.0;
+      at = m.1;
+      meets = m.2;
+      before = λ i q k at body goes. of_member (Passed t s) before i passed
+          (stands_ahead t rules before after i place q m.0 k l.0 runs turn at m.1 body l.1 goes (λ e. one_at t place q m.0 (subst (λ j. IsAt t j q) e at) m.1)) q at;
+    }
+
+-- ---- one place more
+
+pub passed_nothing : (t : Theory) (s : SymbolicState) (before : List ℕ) (place : ℕ) → AllByRecursion (Passed t s) before → TellsForeign t s place answer.Nothing → AllByRecursion (Passed t s) (before ++ place ∷ [])
+passed_nothing t s before place p n = all_append (Passed t s) before (place ∷ []) p ((λ r at. inl (n r at)), tt)
+
+pub unknown_nothing : (t : Theory) (s : SymbolicState) (before : List ℕ) (place : ℕ) → AllByRecursion (NotUnknown t s) before → TellsForeign t s place answer.Nothing → AllByRecursion (NotUnknown t s) (before ++ place ∷ [])
+unknown_nothing t s before place p n = all_append (NotUnknown t s) before (place ∷ []) p (n, tt)
+
+pub passed_open : (t : Theory) (s : SymbolicState) (before : List ℕ) (place : ℕ) (o : Open) → AllByRecursion (Passed t s) before → TellsForeign t s place (answer.Open o) → AllByRecursion (Passed t s) (before ++ place ∷ [])
+passed_open t s before place o p x = all_append (Passed t s) before (place ∷ []) p
+    ((λ r at. inr (clauses_view o.shown.items, x.2, subst (λ q. IsLeftOpen t s (Some q) (clauses_view o.shown.items) x.2) (one_at t place x.0 r x.1 at) x.4)), tt)
+
+pub open_at : (t : Theory) (s : SymbolicState) (o : Open) (place : ℕ) (x : OpenAt) → x.told ≡ o → x.place ≡ place → TellsForeign t s place (answer.Open o) → IsOpenAt t s x
+open_at t s o place x e f k = subst (λ d. AtWith d x.place) (sym e) (subst (λ p. AtWith o p) (sym f) k)
+  where
+    AtWith : Open → ℕ → Type 0
+    AtWith d p = TellsForeign t s p (answer.Open d)
+
+-- ---- in the end
+
+pub each_is_known : (t : Theory) (s : SymbolicState) (rules : RuleSet) (places : List ℕ) → RunsAs t rules → InTurn rules places → AllByRecursion (NotUnknown t s) places → OfEachInstance t.signature (whole s) (λ w c. ¬ IsUnknown t c)
+each_is_known t s rules places runs turn h = all_known t (whole s) (λ r member. let p = contains_at t.rules r member in of_member (NotUnknown t s) places p.0 h (each_is_there t rules places p.0 r runs turn p.1) r p.1)
+
+pub told_open : (t : Theory) (s : SymbolicState) (x : OpenAt) → IsOpenAt t s x → IsToldOpen t s (clauses_view x.told.shown.items) x.told.over (Some x.place)
+told_open t s x k = record { rule = Some k.0; is_rule = k.1; weight = k.2; weighed = k.3; left_open = k.4 }
+
+-- ---- as the loop goes
+
+abbrev pub Asking : Theory → SymbolicState → List ℕ → ℕ → List OpenAt → Type 0
+Asking t s places i opened = AllByRecursion (Passed t s) (take i places) × AllByRecursion (IsOpenAt t s) opened × (opened ≡ [] → AllByRecursion (NotUnknown t s) (take i places))
+
+pub asks_none : (t : Theory) (s : SymbolicState) (places : List ℕ) (i place : ℕ) (opened : List OpenAt) → i < length places → place ≡ get_or places i place → TellsForeign t s place answer.Nothing → Asking t s places i opened → Asking t s places (i + 1) opened
+asks_none t s places i place opened h e n a = (
+  subst (AllByRecursion (Passed t s)) (sym (taken places i place h e)) (passed_nothing t s (take i places) place a.0 n),
+  a.1,
+  (λ o. subst (AllByRecursion (NotUnknown t s)) (sym (taken places i place h e)) (unknown_nothing t s (take i places) place (a.2 o) n)),
+)
+
+some_opened : (xs : List OpenAt) (x : OpenAt) → xs ++ x ∷ [] ≡ [] → ⊥
+some_opened [] x e = absurd (cc)
+some_opened (y ∷ xs) x e = absurd (cc)
+
+pub asks_open : (t : Theory) (s : SymbolicState) (places : List ℕ) (i place : ℕ) (opened new : List OpenAt) (x : OpenAt) (o : Open) → i < length places → place ≡ get_or places i place → new ≡ opened ++ x ∷ [] → x.told ≡ o → x.place ≡ place → TellsForeign t s place (answer.Open o) → Asking t s places i opened →
+    Asking t s places (i + 1) new
+asks_open t s places i place opened new x o h e n f p k a = (
+  subst (AllByRecursion (Passed t s)) (sym (taken places i place h e)) (passed_open t s (take i places) place o a.0 k),
+  subst (AllByRecursion (IsOpenAt t s)) (sym n) (all_append (IsOpenAt t s) opened (x ∷ []) a.1 (open_at t s o place x f p k, tt)),
+  (λ none. absurd (some_opened opened x (sym n ∙ none))),
+)
+
+pub asks_met : (t : Theory) (s : SymbolicState) (rules : RuleSet) (places : List ℕ) (i place : ℕ) (opened : List OpenAt) → RunsAs t rules → InTurn rules places → i < length places → place ≡ get_or places i place → TellsForeign t s place answer.Instance → Asking t s places i opened → IsFirstMet t s place
+asks_met t s rules places i place opened runs turn h e m a = first_met t s rules (take i places) (drop (i + 1) places) place runs (subst (InTurn rules) (split_there places i place h e) turn) a.0 m
+
+pub asks_all : (t : Theory) (s : SymbolicState) (rules : RuleSet) (places : List ℕ) (i : ℕ) (opened : List OpenAt) → RunsAs t rules → InTurn rules places → length places ≤ i → opened ≡ [] → Asking t s places i opened → OfEachInstance t.signature (whole s) (λ w c. ¬ IsUnknown t c)
+asks_all t s rules places i opened runs turn past none a = each_is_known t s rules places runs turn (subst (AllByRecursion (NotUnknown t s)) (all_taken places i past) (a.2 none))
+
+pub known_or_open : (t : Theory) (used : List Text) (s : SymbolicState) (rules : RuleSet) (places : List ℕ) (i : ℕ) (opened : List OpenAt) (o : Option StepOutcome) → RunsAs t rules → InTurn rules places → length places ≤ i → Asking t s places i opened → MatchOption o (opened ≡ []) (IsRightStep t used s) → TellsKnown t used s o
+known_or_open t used s rules places i opened None runs turn past a none = asks_all t s rules places i opened runs turn past none a
+known_or_open t used s rules places i opened (Some x) runs turn past a right = right

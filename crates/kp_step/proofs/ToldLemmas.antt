@@ -1,0 +1,72 @@
+-- The next states that are told, one by one, are the cases of the step.
+use Rattle.std.proofs.Common.{◌≡◌, refl, sym, ap, subst, ◌∙◌, ℕ, List, [], ◌∷◌, ◌++◌, Option, Some, None}
+use Rattle.std.specs.Prelude.{⊤}
+use Rattle.std.specs.List.{AllByRecursion, AllZip}
+use Rattle.std.proofs.lemmas.List.{append_assoc}
+use Rattle.kp_kore.specs.Syntax.{Text}
+use Rattle.kp_semantics.specs.Rules.{RewriteRule}
+use Rattle.kp_semantics.specs.Theory.{Theory}
+use Rattle.kp_cases.specs.Parts.{StatePart, whole, IsSortedPart, IsGrown}
+use Rattle.kp_symbolic.specs.States.{SymbolicState}
+use Rattle.kp_turns.specs.NextStates.{StepCase}
+use Rattle.kp_unify.specs.Narrowed.{NumberedPart}
+use Rattle.kp_step.specs.Places.{IsAt}
+use Rattle.kp_step.specs.Ready.{IsReadyState}
+use Rattle.kp_step.specs.Left.{IsPartIn}
+use Rattle.kp_step.specs.Found.{PlacedTurn, IsTurnAmong}
+use Rattle.kp_step.specs.Follows.{PlacedNext, IsNextAt, AreNextsOf}
+use Rattle.kp_step.proofs.StepLemmas.{all_cases, rest_cases, cases_by}
+
+-- the case of a next state: of the rule of its place
+abbrev pub IsCaseAt : Theory → PlacedNext → StepCase → Type 0
+IsCaseAt t n k = (r : RewriteRule) × IsAt t n.place r × (k ≡ record { rule = Some r; part = n.part; next = n.state })
+
+zip_both : {X Y : Type 0} (R : X → Y → Type 0) (xs us : List X) (ys vs : List Y) → AllZip R xs ys → AllZip R us vs → AllZip R (xs ++ us) (ys ++ vs)
+zip_both R [] us [] vs a b = b
+zip_both R [] us (y ∷ ys) vs a b = absurd a
+zip_both R (x ∷ xs) us [] vs a b = absurd a
+zip_both R (x ∷ xs) us (y ∷ ys) vs a b = (a.0, zip_both R xs us ys vs a.1 b)
+
+told_by : (t : Theory) (used : List Text) (s : StatePart) (k : PlacedTurn) (r : RewriteRule) (ps : List NumberedPart) (ns : List PlacedNext) → IsAt t k.place r → AllZip (IsNextAt t used s k) ps ns → AllZip (IsCaseAt t) ns (cases_by r ns)
+told_by t used s k r [] [] at z = tt
+told_by t used s k r [] (n ∷ ns) at z = absurd z
+told_by t used s k r (p ∷ ps) [] at z = absurd z
+told_by t used s k r (p ∷ ps) (n ∷ ns) at z = ((r, subst (λ i. IsAt t i r) (sym z.0.place) at, refl), told_by t used s k r ps ns at z.1)
+
+pub all_told : (t : Theory) (used : List Text) (s : StatePart) (all turns : List PlacedTurn) (ns : List PlacedNext) (h : AllByRecursion (IsTurnAmong t used s all) turns) (z : AreNextsOf t used s turns ns) → AllZip (IsCaseAt t) ns (all_cases t used s all turns ns h z)
+all_told t used s all [] ns h z = subst (λ xs. AllZip (IsCaseAt t) xs []) (sym z) tt
+all_told t used s all (k ∷ turns) ns h z = subst (λ xs. AllZip (IsCaseAt t) xs (cases_by h.0.turn.rule z.0 ++ all_cases t used s all turns z.1 h.1 z.4)) (sym z.2)
+    (zip_both (IsCaseAt t) z.0 z.1 (cases_by h.0.turn.rule z.0) (all_cases t used s all turns z.1 h.1 z.4) (told_by t used s k h.0.turn.rule k.parts z.0 h.0.turn.at z.3) (all_told t used s all turns z.1 h.1 z.4))
+
+pub rest_told : (qs : List NumberedPart) → AllZip (λ q k. k ≡ record { rule = None; part = q.part; next = q.part.state }) qs (rest_cases qs)
+rest_told [] = tt
+rest_told (q ∷ qs) = (refl, rest_told qs)
+
+-- what a step may go on from
+pub record GoesOnAt (t : Theory) (used : List Text) (s : StatePart) (n : PlacedNext) : Type 0 where
+  pub sorted : IsSortedPart t.signature n.part
+  pub grown : IsGrown t.signature used s (whole n.state)
+  pub ready : IsReadyState t.signature used n.state n.next
+
+go_on_by : (t : Theory) (used : List Text) (s m : StatePart) (k : PlacedTurn) (r : RewriteRule) (ps : List NumberedPart) (ns : List PlacedNext) → IsAt t k.place r → AllZip (IsNextAt t used s k) ps ns → AllByRecursion (IsPartIn t.signature used s m) ps → AllByRecursion (GoesOnAt t used s) ns
+go_on_by t used s m k r [] [] at z i = tt
+go_on_by t used s m k r [] (n ∷ ns) at z i = absurd z
+go_on_by t used s m k r (p ∷ ps) [] at z i = absurd z
+go_on_by t used s m k r (p ∷ ps) (n ∷ ns) at z i = (
+  record { sorted = subst (λ q. IsSortedPart t.signature q) (sym z.0.part) i.0.ready.sorted; grown = (z.0.follows r at).grown; ready = (z.0.follows r at).ready },
+  go_on_by t used s m k r ps ns at z.1 i.1,
+)
+
+go_on_both : (t : Theory) (used : List Text) (s : StatePart) (xs ys : List PlacedNext) → AllByRecursion (GoesOnAt t used s) xs → AllByRecursion (GoesOnAt t used s) ys → AllByRecursion (GoesOnAt t used s) (xs ++ ys)
+go_on_both t used s [] ys a b = b
+go_on_both t used s (x ∷ xs) ys a b = (a.0, go_on_both t used s xs ys a.1 b)
+
+pub all_go_on : (t : Theory) (used : List Text) (s : StatePart) (all turns : List PlacedTurn) (ns : List PlacedNext) (h : AllByRecursion (IsTurnAmong t used s all) turns) (z : AreNextsOf t used s turns ns) → AllByRecursion (GoesOnAt t used s) ns
+all_go_on t used s all [] ns h z = subst (λ xs. AllByRecursion (GoesOnAt t used s) xs) (sym z) tt
+all_go_on t used s all (k ∷ turns) ns h z = subst (λ xs. AllByRecursion (GoesOnAt t used s) xs) (sym z.2)
+    (go_on_both t used s z.0 z.1 (go_on_by t used s h.0.turn.met_part k h.0.turn.rule k.parts z.0 h.0.turn.at z.3 h.0.turn.left.each) (all_go_on t used s all turns z.1 h.1 z.4))
+
+-- what follows in one turn more, behind what was found
+pub nexts_more : (t : Theory) (used : List Text) (s : StatePart) (all rest : List PlacedTurn) (k : PlacedTurn) (found xs : List PlacedNext) → ((ys : List PlacedNext) → AreNextsOf t used s (k ∷ rest) ys → AreNextsOf t used s all (found ++ ys)) →
+    AllZip (IsNextAt t used s k) k.parts xs → (ys : List PlacedNext) → AreNextsOf t used s rest ys → AreNextsOf t used s all ((found ++ xs) ++ ys)
+nexts_more t used s all rest k found xs f z ys h = subst (AreNextsOf t used s all) (sym (append_assoc found xs ys)) (f (xs ++ ys) (xs, ys, refl, z, h))

@@ -1,0 +1,39 @@
+use Rattle.std.proofs.Common.{arith, sym, subst, refl, ℕ, ◌+◌, ◌≤◌, length, get_or}
+use Rattle.std.proofs.lemmas.List.{get_or_default}
+use Rattle.kp_step.specs.Answers.{TellsForeign}
+use Rattle.kp_step.specs.declared.answers.Answer.TheVariants as answer
+use Rattle.kp_step.proofs.FirstLemmas.{Asking, asks_none, asks_open, asks_met}
+use Rattle.kp_step.proofs.HeardLemmas.{asks_known}
+use Rattle.kp_step.proofs.foreign.foreign.Goals.{in-Nothing, in-Open+in_ok-push-in-Open}
+use Rattle.kp_step.proofs.foreign.foreign.Goals as goal
+
+pub returns-in-Instance : goal.returns-in-Instance
+returns-in-Instance c t used s k =
+    let places = c.in_turn-place-items.result.now in
+    let i = c.loop-place.place-index in
+    let place : ℕ = get_or places i 0 in
+    let told : TellsForeign t s place answer.Instance = subst (TellsForeign t s place) c.in-Instance.is (c.in_ok-asked.ensures t used s k) in
+    asks_met t s c.args.rules.now places i place c.loop-place.opened.items k.steps.runs c.in_turn-place-items.ensures c.loop-place-test.true (get_or_default places i 0 place c.loop-place-test.true) told (c.loop-place.invariant t used s k)
+
+pub loop-place-preserved : goal.loop-place-preserved
+loop-place-preserved c t used s k =
+    let places = c.in_turn-place-items.result.now in
+    let i = c.loop-place.place-index in
+    let place : ℕ = get_or places i 0 in
+    let there = get_or_default places i 0 place c.loop-place-test.true in
+    elim c.match-branch-2.branch [
+      | in-Nothing w ↦
+          subst (λ o. Asking t s places (i + 1) o.items) (sym w.opened-is)
+          (asks_none t s places i place c.loop-place.opened.items c.loop-place-test.true there (subst (TellsForeign t s place) w.in-Nothing.is (c.in_ok-asked.ensures t used s k)) (c.loop-place.invariant t used s k))
+      | in-Open+in_ok-push-in-Open w ↦
+          subst (λ o. Asking t s places (i + 1) o.items) (sym w.opened-is)
+          (asks_open t s places i place c.loop-place.opened.items w.push.new.self.items (record { told = w.in-Open.told; place = place }) w.in-Open.told c.loop-place-test.true there w.in_ok-push-in-Open.ensures.items refl refl
+          (subst (TellsForeign t s place) w.in-Open.is (c.in_ok-asked.ensures t used s k)) (c.loop-place.invariant t used s k))
+    ]
+
+pub returns : goal.returns
+returns c t used s k =
+    let places = c.in_turn-place-items.result.now in
+    let past : length places ≤ c.loop-place.place-index = omega (arith, c.loop-place-test.false) in
+    let all = c.loop-place.invariant t used s k in
+    asks_known t used s c.args.rules.now places c.loop-place.place-index c.loop-place.opened.items c.open_rule.result k.steps.runs c.in_turn-place-items.ensures past all (c.open_rule.ensures t used s all.1)

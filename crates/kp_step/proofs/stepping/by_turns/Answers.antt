@@ -1,0 +1,23 @@
+use Rattle.std.proofs.Common.{rules, ◌≡◌, sym, subst, map, Some, None}
+use Rattle.kp_cases.specs.Parts.{whole}
+use Rattle.kp_turns.specs.Turns.{rules_of}
+use Rattle.kp_step.specs.Answers.{TellsRemainder}
+use Rattle.kp_step.specs.Views.{turn_view}
+use Rattle.kp_step.proofs.FoundLemmas.{turns_of}
+use Rattle.kp_step.proofs.TryLemmas.{found_rules}
+use Rattle.kp_step.proofs.EndLemmas.{told_remainder_open}
+use Rattle.kp_step.proofs.stepping.by_turns.Goals as goal
+
+pub returns-in-Parts : goal.returns-in-Parts
+returns-in-Parts c t used s from some known f =
+    let ks = map turn_view c.args.turns.now in
+    let found = rules_of (turns_of t used (whole s) ks ks f.each) in
+    let z = found_rules t used (whole s) ks ks f.each in
+    c.cases.ensures t used s found from.steps from.setting some known f z (subst (TellsRemainder t used s found) c.in-Parts.is (c.in_ok-parts.ensures t used s found from some z))
+
+pub returns-in-Open : goal.returns-in-Open
+returns-in-Open c t used s from some known f =
+    let ks = map turn_view c.args.turns.now in
+    let found = rules_of (turns_of t used (whole s) ks ks f.each) in
+    let z = found_rules t used (whole s) ks ks f.each in
+    told_remainder_open t used s found c.in-Open.told (subst (TellsRemainder t used s found) c.in-Open.is (c.in_ok-parts.ensures t used s found from some z))

@@ -1,0 +1,112 @@
+-- What the code finds of parts and rules, and when that is right.
+use Rattle.std.specs.Prelude.{◌≡◌, ◌<◌, ℕ, List, [], ◌++◌, ◌∷◌, Option, Some, None, map, ⊤}
+use Rattle.std.specs.List.{AllByRecursion, AllZip, Contains}
+use Rattle.kp_kore.specs.Syntax.{Text}
+use Rattle.kp_kore.specs.Signature.{KoreSignature}
+use Rattle.kp_semantics.specs.Rules.{Rewrite, rewrite, RewriteRule}
+use Rattle.kp_semantics.specs.Theory.{Theory}
+use Rattle.kp_semantics.specs.Steps.{Fires, HasTurn, IsUnknownBy, IsUnknown}
+use Rattle.kp_symbolic.specs.States.{SymbolicState}
+use Rattle.kp_symbolic.specs.Verdicts.{Weighed, undecided, IsRightVerdict}
+use Rattle.kp_decide.specs.Answers.{IsWeighedAs}
+use Rattle.kp_terms.specs.View.{clauses_view, replaced_view}
+use Rattle.kp_cases.specs.Parts.{StatePart, whole, OfEachInstance}
+use Rattle.kp_turns.specs.Firing.{HasNoInstance}
+use Rattle.kp_unify.specs.Narrowed.{NumberedPart}
+use Rattle.kp_unify.specs.Views.{part_view, numbered_view}
+use Rattle.kp_firing.specs.declared.firing.Firing.{Firing}
+use Rattle.kp_step.specs.Places.{IsAt}
+use Rattle.kp_firing.specs.Ready.{HasInstance, parts_of}
+use Rattle.kp_step.specs.Left.{AreLeft, AreKept}
+use Rattle.kp_step.specs.Found.{PlacedTurn, IsTurnAt, AreAllFound}
+use Rattle.kp_step.specs.Tries.{PlacedFiring, AreTurnParts, AreRemaining}
+use Rattle.kp_step.specs.Causes.{IsShownOf, IsLeftOpen, MeetsForeign}
+use Rattle.kp_step.specs.Views.{numbered_views, turn_view}
+use Rattle.kp_step.specs.Outcomes.{IsRightStep}
+use Rattle.kp_step.specs.declared.answers.Open.{Open}
+use Rattle.kp_step.specs.declared.foreign.OpenAt.{OpenAt}
+use Rattle.kp_step.specs.declared.answers.Answer as answers
+use Rattle.kp_step.specs.declared.answers.Answer.TheVariants as answer
+use Rattle.kp_step.specs.declared.answers.Decided as decisions
+use Rattle.kp_step.specs.declared.answers.Decided.TheVariants as decided
+use Rattle.kp_step.specs.declared.turns.Tried as trials
+use Rattle.kp_step.specs.declared.turns.Tried.TheVariants as tried
+use Rattle.kp_step.specs.declared.turns.Searched as searches
+use Rattle.kp_step.specs.declared.turns.Searched.TheVariants as searched
+use Rattle.kp_step.specs.declared.outcome.StepOutcome.{StepOutcome}
+
+-- ---- parts
+
+-- the clauses of the part are left undecided, and these are told
+abbrev pub IsRightOpen : KoreSignature → SymbolicState → Open → Type 0
+IsRightOpen g p o = (h : Option Weighed) × IsWeighedAs h o.over × IsRightVerdict g p (undecided (clauses_view o.shown.items) h)
+
+-- these are shown of the part p of the state s
+abbrev pub ShowsOf : KoreSignature → SymbolicState → SymbolicState → Open → Type 0
+ShowsOf g s p o = (h : Option Weighed) × IsWeighedAs h o.over × IsShownOf g s p (clauses_view o.shown.items) h
+
+abbrev pub IsRightAnswerOf : KoreSignature → SymbolicState → SymbolicState → answers.Answer → Type 0
+IsRightAnswerOf g s p answer.Instance = HasInstance g (whole p)
+IsRightAnswerOf g s p answer.Nothing = HasNoInstance g (whole p)
+IsRightAnswerOf g s p (answer.Open o) = ShowsOf g s p o
+
+-- those of the parts that have an instance, or what is shown of one of them
+abbrev pub AreDecided : KoreSignature → SymbolicState → List NumberedPart → decisions.Decided → Type 0
+AreDecided g s ps (decided.Parts ks) = AreKept g ps (numbered_views ks.items)
+AreDecided g s ps (decided.Open o) = (q : NumberedPart) × Contains ps q × ShowsOf g s q.part.state o
+
+-- ---- what rules leave
+
+-- Without the instances on which the rule q fires; where none is left, it fires on each.
+pub record AreWithout (g : KoreSignature) (used : List Text) (o : Option RewriteRule) (turns : List RewriteRule) (q : RewriteRule) (s m : StatePart) (parts left : List NumberedPart) : Type 0 where
+  pub are_left : AreLeft g used o (turns ++ q ∷ []) s m left
+  pub everywhere : AllByRecursion (HasNoInstance g) (parts_of left) → AllByRecursion (λ p. OfEachInstance g p (λ w c. Fires g q.body c)) (parts_of parts)
+
+-- ---- rules
+
+-- what is told of the foreign rule of the place: that it might rewrite an instance, none, or what is left open
+abbrev pub TellsForeign : Theory → SymbolicState → ℕ → answers.Answer → Type 0
+TellsForeign t s place answer.Instance = (r : RewriteRule) × IsAt t place r × MeetsForeign t s r
+TellsForeign t s place answer.Nothing = (r : RewriteRule) → IsAt t place r → OfEachInstance t.signature (whole s) (λ w c. ¬ IsUnknownBy t.signature r.body c)
+TellsForeign t s place (answer.Open o) = (r : RewriteRule) × IsAt t place r × (h : Option Weighed) × IsWeighedAs h o.over × IsLeftOpen t s (Some r) (clauses_view o.shown.items) h
+
+-- what is left open of the foreign rule of a place
+abbrev pub IsOpenAt : Theory → SymbolicState → OpenAt → Type 0
+IsOpenAt t s o = (r : RewriteRule) × IsAt t o.place r × (h : Option Weighed) × IsWeighedAs h o.told.over × IsLeftOpen t s (Some r) (clauses_view o.told.shown.items) h
+
+-- of each foreign rule: none might rewrite an instance, or the step ends
+abbrev pub TellsKnown : Theory → List Text → SymbolicState → Option StepOutcome → Type 0
+TellsKnown t used s None = OfEachInstance t.signature (whole s) (λ w c. ¬ IsUnknown t c)
+TellsKnown t used s (Some o) = IsRightStep t used s o
+
+-- the rule of the place has no turn, or this one, beside those that were found before; or the step ends
+abbrev pub TellsTurn : Theory → List Text → SymbolicState → List PlacedTurn → ℕ → trials.Tried → Type 0
+TellsTurn t used s turns place tried.NoTurn = (r : RewriteRule) → IsAt t place r → OfEachInstance t.signature (whole s) (λ w c. ¬ HasTurn t r c)
+TellsTurn t used s turns place (tried.Turn k) =
+    (k.place ≡ place) × (i : IsTurnAt t used (whole s) (turn_view k)) × AllByRecursion (λ n. (r : RewriteRule) → IsAt t n.place r → Contains i.before r) turns
+TellsTurn t used s turns place (tried.Ended o) = IsRightStep t used s o
+
+-- the turns of all rules are found, or the step ends
+abbrev pub TellsTurns : Theory → List Text → SymbolicState → searches.Searched → Type 0
+TellsTurns t used s (searched.Found turns) = AreAllFound t used (whole s) (map turn_view turns.items)
+TellsTurns t used s (searched.Ended o) = IsRightStep t used s o
+
+-- the parts of a rule's turn, or what is left open of one
+abbrev pub TellsParts : Theory → List Text → SymbolicState → ℕ → List RewriteRule → StatePart → decisions.Decided → Type 0
+TellsParts t used s place found m (decided.Parts ks) = AreTurnParts t used s place found m (numbered_views ks.items)
+TellsParts t used s place found m (decided.Open o) = (r : RewriteRule) × IsAt t place r × (h : Option Weighed) × IsWeighedAs h o.over × IsLeftOpen t s (Some r) (clauses_view o.shown.items) h
+
+-- the parts where none of the rules found fires, or what is left open of one
+abbrev pub TellsRemainder : Theory → List Text → SymbolicState → List RewriteRule → decisions.Decided → Type 0
+TellsRemainder t used s found (decided.Parts ks) = AreRemaining t used s found (numbered_views ks.items)
+TellsRemainder t used s found (decided.Open o) = (h : Option Weighed) × IsWeighedAs h o.over × IsLeftOpen t s None (clauses_view o.shown.items) h
+
+-- what the code's firing of a rule is
+abbrev pub firing_model : Firing → PlacedFiring
+firing_model f = record {
+  part = numbered_view f.part;
+  equations = clauses_view f.equations.items;
+  condition = clauses_view f.condition.items;
+  bindings = map replaced_view f.bindings.items;
+  apart = parts_of (numbered_views f.apart.items);
+}

@@ -1,0 +1,77 @@
+-- Why a step ends without next states.
+-- Source: the K Haskell backend's JSON-RPC documentation (execute: aborted); the limits are this project's.
+use Rattle.std.specs.Prelude.{◌≡◌, ◌⊎◌, ◌<◌, ℕ, min, List, [], Option, Some, None}
+use Rattle.std.specs.List.{AllByRecursion, Contains}
+use Rattle.kp_kore.specs.Signature.{KoreSignature}
+use Rattle.kp_semantics.specs.Value.{Value}
+use Rattle.kp_semantics.specs.Instance.{Valuation, GivesSorts}
+use Rattle.kp_semantics.specs.Rules.{RuleBody, rewrite, ForeignLeft, foreign_rule, RewriteRule, most_priority}
+use Rattle.kp_semantics.specs.Theory.{Theory}
+use Rattle.kp_semantics.specs.Steps.{Fires, IsUnknownBy}
+use Rattle.kp_symbolic.specs.States.{Literal, SymbolicState, IsStateInstance}
+use Rattle.kp_symbolic.specs.Plain.{rough_clauses}
+use Rattle.kp_symbolic.specs.Verdicts.{Weighed, IsOpen, IsTooHeavy}
+use Rattle.kp_cases.specs.Parts.{StatePart, whole, OfEachInstance}
+use Rattle.kp_turns.specs.Firing.{AreWhere}
+use Rattle.kp_turns.specs.Turns.{NoneGoesBefore, NoneOfThese}
+use Rattle.kp_step.specs.Places.{IsAt}
+
+-- ---- clauses that aren't decided
+
+-- the rule might rewrite the configuration: one that is read fires
+abbrev pub MayRewrite : KoreSignature → RuleBody → Value → Type 0
+MayRewrite g (rewrite m) c = Fires g (rewrite m) c
+MayRewrite g (foreign_rule l) c = IsUnknownBy g (foreign_rule l) c
+
+-- what is asked of a configuration: whether the rule might rewrite it and none of these before it; or whether none of these fires
+abbrev pub IsAsked : KoreSignature → Option RewriteRule → List RewriteRule → Value → Type 0
+IsAsked g (Some r) turns c = MayRewrite g r.body c × NoneGoesBefore g turns r c
+IsAsked g None turns c = NoneOfThese g turns c
+
+-- What is shown of a part that isn't decided: its clauses that aren't plain. Where a weight is passed, the state's own that
+-- aren't plain, if there are any; else all clauses of the part, with the weight.
+abbrev pub IsShownOf : KoreSignature → SymbolicState → SymbolicState → List (List Literal) → Option Weighed → Type 0
+IsShownOf g s p shown None = IsOpen g p shown
+    ⊎ ((h : Weighed) × (all : List (List Literal)) × IsTooHeavy g p all h × (¬ (rough_clauses g s ≡ [])) × (shown ≡ rough_clauses g s))
+IsShownOf g s p shown (Some h) = IsTooHeavy g p shown h × (rough_clauses g s ≡ [])
+
+-- it isn't decided whether one of the parts where something is asked has an instance
+pub record IsLeftOpen (t : Theory) (s : SymbolicState) (rule : Option RewriteRule) (shown : List (List Literal)) (over : Option Weighed) : Type 0 where
+  pub turns : List RewriteRule
+  pub of_theory : AllByRecursion (Contains t.rules) turns
+  pub parts : List StatePart
+  pub asked : AreWhere t.signature (IsAsked t.signature rule turns) (whole s) parts
+  pub part : StatePart
+  pub among : Contains parts part
+  pub shows : IsShownOf t.signature s part.state shown over
+
+-- ---- foreign rules
+
+-- the foreign rule might rewrite some instance of the state
+pub record MeetsForeign (t : Theory) (s : SymbolicState) (r : RewriteRule) : Type 0 where
+  pub of_theory : Contains t.rules r
+  pub valuation : Valuation
+  pub configuration : Value
+  pub sorts : GivesSorts t.signature valuation s.variables
+  pub met : IsStateInstance t.signature valuation s configuration
+  pub unknown : IsUnknownBy t.signature r.body configuration
+
+-- it might rewrite none, or that isn't decided
+abbrev pub IsPassedBy : Theory → SymbolicState → RewriteRule → Type 0
+IsPassedBy t s r = OfEachInstance t.signature (whole s) (λ w c. ¬ IsUnknownBy t.signature r.body c)
+    ⊎ ((shown : List (List Literal)) × (over : Option Weighed) × IsLeftOpen t s (Some r) shown over)
+
+-- a foreign rule's number, up to the greatest that a rule may have
+abbrev pub told_number : RewriteRule → ℕ
+told_number r = min r.priority most_priority
+
+-- the foreign rule of a place goes before that of another: by number, then by place
+abbrev pub GoesBefore : ℕ → RewriteRule → ℕ → RewriteRule → Type 0
+GoesBefore i q j r = (told_number q < told_number r) ⊎ ((told_number q ≡ told_number r) × i < j)
+
+-- the foreign rule of the place might rewrite some instance; each that goes before it is passed by
+pub record IsFirstMet (t : Theory) (s : SymbolicState) (place : ℕ) : Type 0 where
+  pub rule : RewriteRule
+  pub at : IsAt t place rule
+  pub meets : MeetsForeign t s rule
+  pub before : (i : ℕ) (q : RewriteRule) (l : ForeignLeft) → IsAt t i q → q.body ≡ foreign_rule l → GoesBefore i q place rule → IsPassedBy t s q

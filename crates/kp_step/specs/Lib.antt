@@ -1,0 +1,15 @@
+pub mod Places
+pub mod Rules
+pub mod OneSort
+pub mod Ready
+pub mod Left
+pub mod Found
+pub mod Follows
+pub mod Causes
+pub mod Limits
+pub mod Views
+pub mod Outcomes
+pub mod Tries
+pub mod Answers
+pub mod Rights
+pub mod Chosen

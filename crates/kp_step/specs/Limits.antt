@@ -1,0 +1,61 @@
+-- Which limits a step may pass: numbers beyond 128 bits, and deep terms.
+-- Source: this project.
+use Rattle.std.specs.Prelude.{◌≡◌, ◌⊎◌, ℕ, List, ◌++◌, Some, None}
+use Rattle.std.specs.List.{Contains}
+use Rattle.kp_kore.specs.Signature.{KoreSignature}
+use Rattle.kp_semantics.specs.Rules.{RewriteRule}
+use Rattle.kp_semantics.specs.Theory.{Theory}
+use Rattle.kp_symbolic.specs.States.{Literal, SymbolicState}
+use Rattle.kp_symbolic.specs.Verdicts.{Verdict, no_valuation, IsRightVerdict}
+use Rattle.kp_wide.specs.Wide.{WideCall, first_wide}
+use Rattle.kp_simplify.specs.Answers.{first_deep, state_sides}
+use Rattle.kp_cases.specs.Parts.{StatePart, whole, with_clauses}
+use Rattle.kp_turns.specs.Firing.{FiringPart, AreFiringCases}
+use Rattle.kp_turns.specs.NextStates.{StepCase, AreStepCases}
+
+-- the first call of two numbers in the state whose number leaves 128 bits, or the levels of its first term that has too many
+pub data TermLimit : Type 0 where
+  number : WideCall → TermLimit
+  depth : ℕ → TermLimit
+
+abbrev pub Passes : KoreSignature → SymbolicState → TermLimit → Type 0
+Passes g s (number c) = first_wide g s ≡ Some c
+Passes g s (depth n) = first_deep g (state_sides s) ≡ Some n
+
+abbrev pub PassesNone : KoreSignature → SymbolicState → Type 0
+PassesNone g s = (first_wide g s ≡ None) × (first_deep g (state_sides s) ≡ None)
+
+-- the state that a rule meets, with the clauses under which it fires there; it isn't known that its left side meets no instance
+pub record IsConditionOf (t : Theory) (s x : SymbolicState) : Type 0 where
+  pub rule : RewriteRule
+  pub of_theory : Contains t.rules rule
+  pub firing : FiringPart
+  pub apart : List StatePart
+  pub cases : AreFiringCases t.signature rule.body (whole s) (Some firing) apart
+  pub equations : List (List Literal)
+  pub condition : List (List Literal)
+  pub are : firing.clauses ≡ equations ++ condition
+  pub answer : Verdict
+  pub right : IsRightVerdict t.signature (with_clauses firing.part equations).state answer
+  pub can_meet : ¬ (answer ≡ no_valuation)
+  pub is : x ≡ (with_clauses firing.part firing.clauses).state
+
+abbrev pub with_more : SymbolicState → List (List Literal) → SymbolicState
+with_more s clauses = record { term = s.term; sort = s.sort; clauses = s.clauses ++ clauses; variables = s.variables }
+
+-- what is written for a case: its next state, and the predicate's clauses
+abbrev pub told_state : StepCase → SymbolicState
+told_state k = with_more k.next k.part.added
+
+pub record IsWrittenOf (t : Theory) (s x : SymbolicState) : Type 0 where
+  pub cases : List StepCase
+  pub are : AreStepCases t s cases
+  pub one : StepCase
+  pub among : Contains cases one
+  pub is : x ≡ told_state one
+
+-- a limit is passed by the state, by a rule's condition, or by what is written for a case of the step
+pub record IsPassed (t : Theory) (s : SymbolicState) (l : TermLimit) : Type 0 where
+  pub state : SymbolicState
+  pub which : (state ≡ s) ⊎ (IsConditionOf t s state ⊎ IsWrittenOf t s state)
+  pub passes : Passes t.signature state l

@@ -1,0 +1,67 @@
+-- What is known of one rule while it is tried.
+-- Source: this project.
+use Rattle.std.specs.Prelude.{◌≡◌, ℕ, List, [], ◌∷◌, ◌++◌, Some, None, ⊤}
+use Rattle.std.specs.List.{AllByRecursion}
+use Rattle.kp_kore.specs.Syntax.{Text}
+use Rattle.kp_semantics.specs.Rules.{Rewrite, rewrite, RewriteRule}
+use Rattle.kp_semantics.specs.Steps.{Fires}
+use Rattle.kp_semantics.specs.Theory.{Theory}
+use Rattle.kp_symbolic.specs.Terms.{Replaced}
+use Rattle.kp_symbolic.specs.States.{Literal, SymbolicState}
+use Rattle.kp_symbolic.specs.Verdicts.{Verdict, no_valuation, IsRightVerdict}
+use Rattle.kp_cases.specs.Parts.{StatePart, whole, with_clauses, OfEachInstance}
+use Rattle.kp_turns.specs.Firing.{AreFiringCases}
+use Rattle.kp_unify.specs.Narrowed.{NumberedPart}
+use Rattle.kp_step.specs.Places.{IsAt}
+use Rattle.kp_firing.specs.Ready.{IsReadyPart, narrowed_by, HasInstance, parts_of}
+use Rattle.kp_step.specs.Left.{IsPartIn, AreLeft}
+use Rattle.kp_step.specs.Found.{IsMetIn}
+
+-- the part that a rule's left side meets, the equations and the condition under which it fires there, what its variables stand
+-- for, and the parts where it doesn't fire
+pub record PlacedFiring : Type 0 where
+  pub part : NumberedPart
+  pub equations : List (List Literal)
+  pub condition : List (List Literal)
+  pub bindings : List Replaced
+  pub apart : List StatePart
+
+-- the part where the rule fires
+abbrev pub narrowed_of : PlacedFiring → NumberedPart
+narrowed_of f = narrowed_by f.part (f.equations ++ f.condition)
+
+-- the rule of the place is read, and fires so on the state
+pub record IsFiringOf (t : Theory) (used : List Text) (s : SymbolicState) (place : ℕ) (f : PlacedFiring) : Type 0 where
+  pub rule : RewriteRule
+  pub at : IsAt t place rule
+  pub read : Rewrite
+  pub body : rule.body ≡ rewrite read
+  pub cases : AreFiringCases t.signature (rewrite read) (whole s) (Some (record { part = f.part.part; clauses = f.equations ++ f.condition })) f.apart
+  pub is_met : IsMetIn t read f.bindings f.part.part
+  pub part : IsPartIn t.signature used (whole s) f.part.part f.part
+  pub where_met : IsReadyPart t.signature used (narrowed_by f.part f.equations)
+  pub where_it_fires : IsReadyPart t.signature used (narrowed_by f.part (f.equations ++ f.condition))
+
+-- it isn't known that the left side stands for no instance
+pub record CanMeet (t : Theory) (f : PlacedFiring) : Type 0 where
+  pub answer : Verdict
+  pub right : IsRightVerdict t.signature (with_clauses f.part.part f.equations).state answer
+  pub may_be : ¬ (answer ≡ no_valuation)
+
+-- these parts are what the rules found before leave to the rule of the place; each has an instance
+pub record AreTurnParts (t : Theory) (used : List Text) (s : SymbolicState) (place : ℕ) (found : List RewriteRule) (m : StatePart) (parts : List NumberedPart) : Type 0 where
+  pub rule : RewriteRule
+  pub at : IsAt t place rule
+  pub left : AreLeft t.signature used (Some rule) found (whole s) m parts
+  pub instances : AllByRecursion (HasInstance t.signature) (parts_of parts)
+
+-- where one rule is found alone, and nothing remains, it fires on each instance
+abbrev pub OneFiresOnAll : Theory → SymbolicState → List RewriteRule → List NumberedPart → Type 0
+OneFiresOnAll t s (q ∷ []) [] = OfEachInstance t.signature (whole s) (λ w c. Fires t.signature q.body c)
+OneFiresOnAll t s found parts = ⊤
+
+-- these parts are what the rules found leave to none; each has an instance
+pub record AreRemaining (t : Theory) (used : List Text) (s : SymbolicState) (found : List RewriteRule) (parts : List NumberedPart) : Type 0 where
+  pub left : AreLeft t.signature used None found (whole s) (whole s) parts
+  pub instances : AllByRecursion (HasInstance t.signature) (parts_of parts)
+  pub alone : OneFiresOnAll t s found parts

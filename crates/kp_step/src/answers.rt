@@ -1,0 +1,106 @@
+// Whether parts have instances, and what is shown where that isn't decided.
+ghost use Rattle.std.specs.Prelude.{IfOk, List};
+ghost use Rattle.std.specs.List.{AllByRecursion};
+ghost use Rattle.kp_kore.specs.Syntax.{Text};
+ghost use Rattle.kp_heads.specs.Made.{IsHeadTableOf};
+ghost use Rattle.kp_symbolic.specs.States.{SymbolicState};
+ghost use Rattle.kp_terms.specs.View.{state_view};
+ghost use Rattle.kp_decide.specs.Read.{HasSortedClauses};
+ghost use Rattle.kp_unify.specs.Views.{signature_of};
+ghost use Rattle.kp_firing.specs.Ready.{IsReadyPart};
+ghost use Rattle.kp_step.specs.Views.{numbered_views};
+ghost use Rattle.kp_step.specs.Answers.{IsRightOpen, ShowsOf, IsRightAnswerOf, AreDecided};
+
+use kp_decide::{Verdict, decide};
+use kp_readings::clauses::read_clauses;
+use kp_readings::parts::rough_clauses;
+use kp_terms::{Clause, State};
+use kp_unify::{Part, Setting};
+use kp_weights::Weighed;
+use std::alloc::{AllocError, Global};
+
+/// Clauses that aren't decided, with the weight that is passed, if one is.
+#[derive(Drop)]
+pub struct Open {
+    pub shown: Vec<Clause>,
+    pub over: Option<Weighed>,
+}
+
+/// Whether a part has an instance.
+#[derive(Drop)]
+pub enum Answer {
+    Instance,
+    Nothing,
+    Open { told: Open },
+}
+
+/// Parts each of which has an instance, or what is left open of one.
+#[derive(Drop)]
+pub enum Decided {
+    Parts { parts: Vec<Part> },
+    Open { told: Open },
+}
+
+/// What is shown where clauses of a part of the state aren't decided: where a weight is passed, the state's own that have
+/// literals which aren't decided, if there are any.
+fn shown_of(
+    alloc: Global,
+    setting: Setting<'_>,
+    state: &State,
+    told: Open,
+) -> Result<Open, AllocError>
+    ensures { let g = signature_of setting.entry in let s = state_view state.now in IfOk result (λ o. (p : SymbolicState) → IsRightOpen g p told → ShowsOf g s p o) }
+{
+    if told.over.is_none() {
+        return Ok(told);
+    }
+    let shown = rough_clauses(
+        alloc,
+        &read_clauses(alloc, setting.language.signature, state)?,
+    )?;
+    if shown.is_empty() {
+        return Ok(told);
+    }
+    Ok(Open { shown, over: None })
+}
+
+/// Whether a part of the state has an instance.
+pub fn answer_of(
+    alloc: Global,
+    setting: Setting<'_>,
+    state: &State,
+    part: &State,
+) -> Result<Answer, AllocError>
+    requires { IsHeadTableOf (signature_of setting) setting.table.now }
+    ensures { let g = signature_of setting.entry in let s = state_view state.now in let p = state_view part.now in IfOk result (λ a. HasSortedClauses g p → IsRightAnswerOf g s p a) }
+{
+    match decide(alloc, setting.language.signature, setting.table, part)? {
+        Verdict::SomeValuation => Ok(Answer::Instance),
+        Verdict::NoValuation => Ok(Answer::Nothing),
+        Verdict::Undecided { shown, over } => {
+            let told = shown_of(alloc, setting, state, Open { shown, over })?;
+            Ok(Answer::Open { told })
+        }
+    }
+}
+
+/// The parts of these that have an instance; what is left open of the first of which that isn't decided.
+pub fn decided_parts(
+    alloc: Global,
+    setting: Setting<'_>,
+    state: &State,
+    parts: Vec<Part>,
+) -> Result<Decided, AllocError>
+    requires { IsHeadTableOf (signature_of setting) setting.table.now }
+    ensures { let g = signature_of setting.entry in let s = state_view state.now in IfOk result (λ d. (used : List Text) → AllByRecursion (IsReadyPart g used) (numbered_views parts.items) → AreDecided g s (numbered_views parts.items) d) }
+{
+    let mut found = Vec::new(alloc);
+    for part in parts {
+        match answer_of(alloc, setting, state, &part.state)? {
+            Answer::Instance => found.push(part)?,
+            Answer::Nothing => {}
+            Answer::Open { told } => return Ok(Decided::Open { told }),
+        }
+    }
+    Ok(Decided::Parts { parts: found })
+}

@@ -1,0 +1,134 @@
+// Foreign rules that may rewrite an instance of a state.
+ghost use Rattle.std.specs.Prelude.{◌≡◌, ℕ, IfOk, List, [], MatchOption};
+ghost use Rattle.std.specs.List.{AllByRecursion, Contains};
+ghost use Rattle.kp_kore.specs.Syntax.{Text};
+ghost use Rattle.kp_heads.specs.Made.{IsHeadTableOf};
+ghost use Rattle.kp_semantics.specs.Theory.{Theory};
+ghost use Rattle.kp_symbolic.specs.States.{SymbolicState};
+ghost use Rattle.kp_terms.specs.View.{clauses_view};
+ghost use Rattle.kp_rules.specs.Skeletons.{Form};
+ghost use Rattle.kp_cases.specs.Parts.{with_clauses};
+ghost use Rattle.kp_unify.specs.Narrowed.{NumberedPart};
+ghost use Rattle.kp_unify.specs.Way.{IsMeeting};
+ghost use Rattle.kp_unify.specs.Views.{signature_of, IsSetting, part_view, numbered_view, met_view};
+ghost use Rattle.kp_step.specs.Rules.{IsStepFrom, IsForeignAt};
+ghost use Rattle.kp_step.specs.Ready.{IsWholeReady};
+ghost use Rattle.kp_step.specs.Answers.{IsRightAnswerOf, TellsForeign, TellsKnown, IsOpenAt};
+ghost use Rattle.kp_step.specs.Outcomes.{IsRightStep};
+
+use crate::answers::{Answer, Open, answer_of};
+use crate::outcome::StepOutcome;
+use crate::rules::foreign_at;
+use crate::variables::has_one_sort_each;
+use kp_compile::CompileError;
+use kp_firing::constrained;
+use kp_rule_sets::RuleSet;
+use kp_rules::Skeleton;
+use kp_unify::{MetPart, Part, Setting, meet};
+use std::alloc::Global;
+
+/// Whether the part that the left side meets has an instance.
+fn met_answer(
+    alloc: Global,
+    setting: Setting<'_>,
+    whole: &Part,
+    met: &MetPart,
+) -> Result<Answer, CompileError>
+    requires { IsHeadTableOf (signature_of setting) setting.table.now }
+    ensures { (used : List Text) (s : SymbolicState) (left : Form) (apart : List NumberedPart) → let g = signature_of setting.entry in IsWholeReady g used s (numbered_view whole.now) → IsMeeting g used left (part_view whole.now) (met_view met.now) met.now.part.next apart →
+        IfOk result (IsRightAnswerOf g s (with_clauses (part_view met.now.part) (clauses_view met.now.equations.items)).state) }
+{
+    let part = constrained(alloc, &met.part, &met.equations)?;
+    Ok(answer_of(alloc, setting, &whole.state, &part.state)?)
+}
+
+/// Whether the left side of a foreign rule stands for an instance of the part. Refused where it has one name at two sorts.
+fn meets(
+    alloc: Global,
+    setting: Setting<'_>,
+    whole: &Part,
+    skeleton: &Skeleton,
+) -> Result<Answer, CompileError>
+    requires { IsHeadTableOf (signature_of setting) setting.table.now }
+    ensures { (t : Theory) (used : List Text) (s : SymbolicState) (place : ℕ) → let g = signature_of setting.entry in g ≡ t.signature → IsSetting used setting.entry → IsWholeReady g used s (numbered_view whole.now) → IsForeignAt t place skeleton.now →
+        IfOk result (TellsForeign t s place) }
+{
+    if !has_one_sort_each(skeleton) {
+        return Err(CompileError::Shape);
+    }
+    match meet(alloc, &setting, whole, skeleton)? {
+        Some(meeting) => met_answer(alloc, setting, whole, &meeting.met),
+        None => Ok(Answer::Nothing),
+    }
+}
+
+/// Whether the rule at this place is foreign and may rewrite an instance.
+fn asked(
+    alloc: Global,
+    setting: Setting<'_>,
+    rules: &RuleSet,
+    whole: &Part,
+    place: usize,
+) -> Result<Answer, CompileError>
+    requires { IsHeadTableOf (signature_of setting) setting.table.now }
+    ensures { (t : Theory) (used : List Text) (s : SymbolicState) → IsStepFrom t used s setting.entry rules.now (numbered_view whole.now) →
+        IfOk result (TellsForeign t s place) }
+{
+    match foreign_at(rules, place) {
+        Some(skeleton) => meets(alloc, setting, whole, skeleton),
+        None => Ok(Answer::Nothing),
+    }
+}
+
+/// What is left open of a foreign rule, with its place.
+#[derive(Drop)]
+pub struct OpenAt {
+    pub told: Open,
+    pub place: usize,
+}
+
+/// The first of these, if there is one.
+fn first_open(opened: Vec<OpenAt>) -> Option<OpenAt>
+    ensures { MatchOption result (opened.items ≡ []) (Contains opened.items) }
+{
+    for open in opened {
+        return Some(open);
+    }
+    None
+}
+
+/// Of the foreign rules none of which is known to rewrite an instance, the first for which that isn't decided.
+fn open_rule(opened: Vec<OpenAt>) -> Option<StepOutcome>
+    ensures { (t : Theory) (used : List Text) (s : SymbolicState) → AllByRecursion (IsOpenAt t s) opened.items → MatchOption result (opened.items ≡ []) (IsRightStep t used s) }
+{
+    match first_open(opened) {
+        Some(OpenAt { told, place }) => {
+            let rule = Some(place);
+            Some(StepOutcome::Undecided { told, rule })
+        }
+        None => None,
+    }
+}
+
+/// The first foreign rule by turn that may rewrite an instance; else the first of which that isn't decided.
+pub fn foreign(
+    alloc: Global,
+    setting: Setting<'_>,
+    rules: &RuleSet,
+    whole: &Part,
+) -> Result<Option<StepOutcome>, CompileError>
+    requires { IsHeadTableOf (signature_of setting) setting.table.now }
+    ensures { (t : Theory) (used : List Text) (s : SymbolicState) → IsStepFrom t used s setting.entry rules.now (numbered_view whole.now) →
+        IfOk result (TellsKnown t used s) }
+{
+    let mut opened = Vec::new(alloc);
+    for place in rules.in_turn() {
+        let place = *place;
+        match asked(alloc, setting, rules, whole, place)? {
+            Answer::Instance => return Ok(Some(StepOutcome::Foreign { rule: place })),
+            Answer::Nothing => {}
+            Answer::Open { told } => opened.push(OpenAt { told, place })?,
+        }
+    }
+    Ok(open_rule(opened))
+}

@@ -1,0 +1,19 @@
+// One symbolic step: the next states of a state by the rules that have their turn on its instances, and the parts of it where
+// no rule fires.
+#![tactic(auto)]
+
+pub mod answers;
+pub mod chosen;
+pub mod foreign;
+pub mod left;
+pub mod limits;
+pub mod nexts;
+pub mod outcome;
+pub mod right;
+pub mod rules;
+pub mod stepping;
+pub mod turns;
+pub mod variables;
+
+pub use outcome::{Limit, Next, StepOutcome};
+pub use stepping::step;

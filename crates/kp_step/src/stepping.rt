@@ -1,0 +1,166 @@
+// One symbolic step.
+ghost use Rattle.std.specs.Prelude.{◌≡◌, IfOk, List, map};
+ghost use Rattle.std.specs.List.{AllZip};
+ghost use Rattle.kp_kore.specs.Syntax.{Text};
+ghost use Rattle.kp_heads.specs.Made.{IsHeadTableOf};
+ghost use Rattle.kp_semantics.specs.Rules.{RewriteRule};
+ghost use Rattle.kp_semantics.specs.Steps.{IsUnknown};
+ghost use Rattle.kp_semantics.specs.Theory.{Theory};
+ghost use Rattle.kp_symbolic.specs.States.{SymbolicState};
+ghost use Rattle.kp_terms.specs.View.{state_view};
+ghost use Rattle.kp_cases.specs.Parts.{whole as whole_of, OfEachInstance, IsTold};
+ghost use Rattle.kp_unify.specs.Views.{signature_of, IsSetting, numbered_view};
+ghost use Rattle.kp_step.specs.Rules.{Steps, IsStepFrom};
+ghost use Rattle.kp_firing.specs.Ready.{HasInstance};
+ghost use Rattle.kp_step.specs.Ready.{IsReadyState};
+ghost use Rattle.kp_step.specs.Found.{IsRuleAt, AreAllFound};
+ghost use Rattle.kp_step.specs.Views.{numbered_views, turn_view};
+ghost use Rattle.kp_step.specs.Answers.{ShowsOf, TellsRemainder};
+ghost use Rattle.kp_step.specs.Tries.{AreRemaining};
+ghost use Rattle.kp_step.specs.Outcomes.{IsRightStep};
+
+use crate::answers::{Answer, Decided, Open, answer_of, decided_parts};
+use crate::foreign::foreign;
+use crate::left::left_after;
+use crate::limits::{first_limit, limit_of, wide_in};
+use crate::nexts::{all_settled, nexts_of};
+use crate::outcome::StepOutcome;
+use crate::turns::{Searched, Turn, find_turns};
+use kp_compile::CompileError;
+use kp_rule_sets::RuleSet;
+use kp_terms::State;
+use kp_unify::part::whole;
+use kp_unify::{Part, Setting};
+use std::alloc::{AllocError, Global};
+
+/// The cases, where no limit is passed.
+fn cases(
+    alloc: Global,
+    setting: Setting<'_>,
+    rules: &RuleSet,
+    turns: &[Turn],
+    remainder: Vec<Part>,
+) -> Result<StepOutcome, CompileError>
+    requires { IsHeadTableOf (signature_of setting) setting.table.now }
+    ensures { (t : Theory) (used : List Text) (s : SymbolicState) (found : List RewriteRule) → Steps t setting.entry rules.now → IsSetting used setting.entry → HasInstance t.signature (whole_of s) → OfEachInstance t.signature (whole_of s) (λ w c. ¬ IsUnknown t c) → AreAllFound t used (whole_of s) (map turn_view turns.now) → AllZip (IsRuleAt t) (map turn_view turns.now) found → AreRemaining t used s found (numbered_views remainder.items) →
+        IfOk result (IsRightStep t used s) }
+{
+    let nexts = nexts_of(alloc, setting, rules, turns)?;
+    let remainder = all_settled(alloc, setting, remainder)?;
+    match first_limit(alloc, setting, &nexts, &remainder)? {
+        Some(limit) => Ok(StepOutcome::Limited { limit }),
+        None => Ok(StepOutcome::Cases { nexts, remainder }),
+    }
+}
+
+/// The parts of the state where no rule fires, or what is left open of one.
+fn remainder_of(
+    alloc: Global,
+    setting: Setting<'_>,
+    rules: &RuleSet,
+    part: &Part,
+    turns: &[Turn],
+) -> Result<Decided, CompileError>
+    requires { IsHeadTableOf (signature_of setting) setting.table.now }
+    ensures { (t : Theory) (used : List Text) (s : SymbolicState) (found : List RewriteRule) → IsStepFrom t used s setting.entry rules.now (numbered_view part.now) → HasInstance t.signature (whole_of s) → AllZip (IsRuleAt t) (map turn_view turns.now) found → IfOk result (TellsRemainder t used s found) }
+{
+    let mut parts = Vec::new(alloc);
+    parts.push(part.share(alloc)?)?;
+    let left = left_after(alloc, setting, rules, turns, None, parts)?;
+    Ok(decided_parts(alloc, setting, &part.state, left)?)
+}
+
+/// The step by the rules that have their turn.
+fn by_turns(
+    alloc: Global,
+    setting: Setting<'_>,
+    rules: &RuleSet,
+    part: &Part,
+    turns: &[Turn],
+) -> Result<StepOutcome, CompileError>
+    requires { IsHeadTableOf (signature_of setting) setting.table.now }
+    ensures { (t : Theory) (used : List Text) (s : SymbolicState) → IsStepFrom t used s setting.entry rules.now (numbered_view part.now) → HasInstance t.signature (whole_of s) → OfEachInstance t.signature (whole_of s) (λ w c. ¬ IsUnknown t c) → AreAllFound t used (whole_of s) (map turn_view turns.now) → IfOk result (IsRightStep t used s) }
+{
+    match remainder_of(alloc, setting, rules, part, turns)? {
+        Decided::Parts { parts } => cases(alloc, setting, rules, turns, parts),
+        Decided::Open { told } => Ok(StepOutcome::Undecided { told, rule: None }),
+    }
+}
+
+/// The step by all rules that are read.
+fn by_search(
+    alloc: Global,
+    setting: Setting<'_>,
+    rules: &RuleSet,
+    part: &Part,
+) -> Result<StepOutcome, CompileError>
+    requires { IsHeadTableOf (signature_of setting) setting.table.now }
+    ensures { (t : Theory) (used : List Text) (s : SymbolicState) → IsStepFrom t used s setting.entry rules.now (numbered_view part.now) → HasInstance t.signature (whole_of s) → OfEachInstance t.signature (whole_of s) (λ w c. ¬ IsUnknown t c) → IfOk result (IsRightStep t used s) }
+{
+    match find_turns(alloc, setting, rules, part)? {
+        Searched::Found { turns } => by_turns(alloc, setting, rules, part, &turns),
+        Searched::Ended { outcome } => Ok(outcome),
+    }
+}
+
+/// The step of a state that has an instance and passes no limit.
+fn by_rules(
+    alloc: Global,
+    setting: Setting<'_>,
+    rules: &RuleSet,
+    part: &Part,
+) -> Result<StepOutcome, CompileError>
+    requires { IsHeadTableOf (signature_of setting) setting.table.now }
+    ensures { (t : Theory) (used : List Text) (s : SymbolicState) → IsStepFrom t used s setting.entry rules.now (numbered_view part.now) → HasInstance t.signature (whole_of s) → IfOk result (IsRightStep t used s) }
+{
+    match foreign(alloc, setting, rules, part)? {
+        Some(outcome) => Ok(outcome),
+        None => by_search(alloc, setting, rules, part),
+    }
+}
+
+/// The step of a state that has an instance.
+fn from_state(
+    alloc: Global,
+    setting: Setting<'_>,
+    rules: &RuleSet,
+    state: &State,
+    next: u64,
+) -> Result<StepOutcome, CompileError>
+    requires { IsHeadTableOf (signature_of setting) setting.table.now }
+    ensures { (t : Theory) (used : List Text) → let s = state_view state.now in Steps t setting.entry rules.now → IsSetting used setting.entry → IsReadyState t.signature used s next → HasInstance t.signature (whole_of s) → IfOk result (IsRightStep t used s) }
+{
+    match limit_of(alloc, setting, state)? {
+        Some(limit) => Ok(StepOutcome::Limited { limit }),
+        None => by_rules(alloc, setting, rules, &whole(alloc, state, next)?),
+    }
+}
+
+/// The step of a state whose clauses aren't decided: a number beyond 128 bits goes before them.
+fn from_open(setting: Setting<'_>, state: &State, told: Open) -> Result<StepOutcome, AllocError>
+    ensures { (t : Theory) (used : List Text) → let s = state_view state.now in signature_of setting.entry ≡ t.signature → IsTold t.signature (whole_of s) → ShowsOf t.signature s s told → IfOk result (IsRightStep t used s) }
+{
+    match wide_in(setting, state)? {
+        Some(limit) => Ok(StepOutcome::Limited { limit }),
+        None => Ok(StepOutcome::Undecided { told, rule: None }),
+    }
+}
+
+/// One step of a state by the rules of a rule set. `Fresh` with each number from 1 below the next one is in use. Refused where
+/// a sum can't be written, where a foreign rule's left side has one name at two sorts, or for want of memory.
+pub fn step(
+    alloc: Global,
+    setting: Setting<'_>,
+    rules: &RuleSet,
+    state: &State,
+    next: u64,
+) -> Result<StepOutcome, CompileError>
+    requires { IsHeadTableOf (signature_of setting) setting.table.now }
+    ensures { (t : Theory) (used : List Text) → let s = state_view state.now in Steps t setting.entry rules.now → IsSetting used setting.entry → IsReadyState t.signature used s next → IfOk result (IsRightStep t used s) }
+{
+    match answer_of(alloc, setting, state, state)? {
+        Answer::Nothing => Ok(StepOutcome::Empty),
+        Answer::Instance => from_state(alloc, setting, rules, state, next),
+        Answer::Open { told } => Ok(from_open(setting, state, told)?),
+    }
+}

@@ -1,0 +1,257 @@
+// The rules that have their turn on some instance of a state, and where.
+ghost use Rattle.std.specs.Prelude.{◌≡◌, ◌∷◌, [], ℕ, IfOk, IsTrue, List, Some, map, MatchOption, ⊤};
+ghost use Rattle.std.specs.List.{AllZip};
+ghost use Rattle.kp_kore.specs.Syntax.{Text};
+ghost use Rattle.kp_heads.specs.Made.{IsHeadTableOf};
+ghost use Rattle.kp_semantics.specs.Rules.{Rewrite, RewriteRule};
+ghost use Rattle.kp_semantics.specs.Theory.{Theory};
+ghost use Rattle.kp_symbolic.specs.States.{SymbolicState};
+ghost use Rattle.kp_terms.specs.View.{replaced_view, state_view};
+ghost use Rattle.kp_rules.specs.Sides.{AreSidesOf};
+ghost use Rattle.kp_rules.specs.VerifiedSides.{AreVerifiedSides};
+ghost use Rattle.kp_cases.specs.Parts.{StatePart};
+ghost use Rattle.kp_unify.specs.Views.{signature_of, IsSetting, part_view, numbered_view};
+ghost use Rattle.kp_step.specs.Rules.{Steps, IsStepFrom};
+ghost use Rattle.kp_step.specs.Places.{IsReadAs, IsPriorityAt};
+ghost use Rattle.kp_step.specs.Found.{PlacedTurn, IsRuleAt, IsMetIn};
+ghost use Rattle.kp_step.specs.Ready.{IsWholeReady};
+ghost use Rattle.kp_step.specs.Left.{AreLeft};
+ghost use Rattle.kp_step.specs.Views.{numbered_views, turn_view, limit_view};
+ghost use Rattle.kp_step.specs.Limits.{IsPassed};
+ghost use Rattle.kp_step.specs.Tries.{PlacedFiring, narrowed_of, IsFiringOf, CanMeet, AreTurnParts};
+ghost use Rattle.kp_step.specs.Answers.{TellsParts, TellsTurn, TellsTurns, firing_model};
+
+use crate::answers::{Answer, Decided, answer_of, decided_parts};
+use crate::left::left_after;
+use crate::limits::wide_in;
+use crate::outcome::{Limit, StepOutcome};
+use crate::rules::{priority_at, read_at};
+use crate::variables::are_of_left;
+use kp_compile::CompileError;
+use kp_firing::{Firing, all_clauses, constrained, fire};
+use kp_rule_sets::RuleSet;
+use kp_rules::Sides;
+use kp_solving::constrain;
+use kp_terms::{Replaced, State};
+use kp_unify::{Part, Setting};
+use std::alloc::{AllocError, Global};
+
+/// The parts where the rule at this place has its turn, and what its variables stand for there.
+#[derive(Drop)]
+pub struct Turn {
+    pub place: usize,
+    pub priority: u32,
+    pub parts: Vec<Part>,
+    pub bindings: Vec<Replaced>,
+}
+
+/// What is found of a rule: that it has no turn, its turn, or why the step ends.
+#[derive(Drop)]
+enum Tried {
+    NoTurn,
+    Turn { turn: Turn },
+    Ended { outcome: StepOutcome },
+}
+
+/// What is found of all rules: those that have their turn, or why the step ends.
+#[derive(Drop)]
+pub enum Searched {
+    Found { turns: Vec<Turn> },
+    Ended { outcome: StepOutcome },
+}
+
+/// Whether it isn't known that the rule's left side stands for no instance of the part that it meets.
+fn may_meet(
+    alloc: Global,
+    setting: Setting<'_>,
+    whole: &Part,
+    firing: &Firing,
+) -> Result<bool, AllocError>
+    requires { IsHeadTableOf (signature_of setting) setting.table.now }
+    ensures { (t : Theory) (used : List Text) (s : SymbolicState) (place : ℕ) → signature_of setting.entry ≡ t.signature → IsSetting used setting.entry → IsWholeReady t.signature used s (numbered_view whole.now) → IsFiringOf t used s place (firing_model firing.now) → IfOk result (λ b. IsTrue b → CanMeet t (firing_model firing.now)) }
+{
+    let met = constrain(alloc, &firing.part.state, &firing.equations)?;
+    match answer_of(alloc, setting, &whole.state, &met)? {
+        Answer::Nothing => Ok(false),
+        Answer::Instance | Answer::Open { .. } => Ok(true),
+    }
+}
+
+/// The part where the rule fires: the one that is met, by the equations and the condition.
+fn narrowed_part(alloc: Global, firing: &Firing) -> Result<Part, AllocError>
+    ensures { IfOk result (λ p. numbered_view p ≡ narrowed_of (firing_model firing.now)) }
+{
+    let clauses = all_clauses(alloc, firing)?;
+    constrained(alloc, &firing.part, &clauses)
+}
+
+/// The number beyond 128 bits that the rule's condition computes, where its left side may meet the part.
+fn wide_condition(
+    alloc: Global,
+    setting: Setting<'_>,
+    whole: &Part,
+    firing: &Firing,
+    narrowed: &State,
+) -> Result<Option<Limit>, AllocError>
+    requires { IsHeadTableOf (signature_of setting) setting.table.now }
+    ensures { (t : Theory) (used : List Text) (s : SymbolicState) (place : ℕ) → signature_of setting.entry ≡ t.signature → IsSetting used setting.entry → IsWholeReady t.signature used s (numbered_view whole.now) → IsFiringOf t used s place (firing_model firing.now) → state_view narrowed.now ≡ (narrowed_of (firing_model firing.now)).part.state → IfOk result (λ o. MatchOption o ⊤ (λ l. IsPassed t s (limit_view l))) }
+{
+    match wide_in(setting, narrowed)? {
+        Some(limit) => {
+            if may_meet(alloc, setting, whole, firing)? {
+                return Ok(Some(limit));
+            }
+            Ok(None)
+        }
+        None => Ok(None),
+    }
+}
+
+/// The parts of the part where the rule of this number fires that those found before leave to it.
+fn left_to(
+    alloc: Global,
+    setting: Setting<'_>,
+    rules: &RuleSet,
+    turns: &[Turn],
+    priority: u32,
+    part: Part,
+) -> Result<Vec<Part>, CompileError>
+    requires { IsHeadTableOf (signature_of setting) setting.table.now }
+    ensures { (t : Theory) (used : List Text) (r : RewriteRule) (found : List RewriteRule) (s p : StatePart) → let g = signature_of setting.entry in Steps t setting.entry rules.now → IsSetting used setting.entry → r.priority ≡ priority → AllZip (IsRuleAt t) (map turn_view turns.now) found → AreLeft g used (Some r) [] s p (numbered_view part ∷ []) →
+        IfOk result (λ left. AreLeft g used (Some r) found s p (numbered_views left.items)) }
+{
+    let mut parts = Vec::new(alloc);
+    parts.push(part)?;
+    left_after(alloc, setting, rules, turns, Some(priority), parts)
+}
+
+/// The parts where the rule of this number has its turn, of the part where it fires, or what is left open of one.
+fn turn_parts(
+    alloc: Global,
+    setting: Setting<'_>,
+    rules: &RuleSet,
+    turns: &[Turn],
+    whole: &Part,
+    priority: u32,
+    part: Part,
+) -> Result<Decided, CompileError>
+    requires { IsHeadTableOf (signature_of setting) setting.table.now }
+    ensures { (t : Theory) (used : List Text) (s : SymbolicState) (place : ℕ) (found : List RewriteRule) → IsStepFrom t used s setting.entry rules.now (numbered_view whole.now) → IsPriorityAt t place priority → AllZip (IsRuleAt t) (map turn_view turns.now) found → (f : PlacedFiring) → IsFiringOf t used s place f → numbered_view part ≡ narrowed_of f → IfOk result (TellsParts t used s place found f.part.part) }
+{
+    if let Answer::Nothing = answer_of(alloc, setting, &whole.state, &part.state)? {
+        let parts = Vec::new(alloc);
+        return Ok(Decided::Parts { parts });
+    }
+    let left = left_to(alloc, setting, rules, turns, priority, part)?;
+    Ok(decided_parts(alloc, setting, &whole.state, left)?)
+}
+
+/// A rule's turn, if it has one.
+fn turn_of(place: usize, priority: u32, parts: Vec<Part>, bindings: Vec<Replaced>) -> Tried
+    ensures { (t : Theory) (used : List Text) (s : SymbolicState) (earlier : List PlacedTurn) (found : List RewriteRule) (m : Rewrite) (p : StatePart) → AllZip (IsRuleAt t) earlier found → IsReadAs t place m → IsPriorityAt t place priority → IsMetIn t m (map replaced_view bindings.items) p → AreTurnParts t used s place found p (numbered_views parts.items) →
+        TellsTurn t used s earlier place result }
+{
+    if parts.is_empty() {
+        return Tried::NoTurn;
+    }
+    let turn = Turn {
+        place,
+        priority,
+        parts,
+        bindings,
+    };
+    Tried::Turn { turn }
+}
+
+/// What is found of the rule at this place, where it fires under these clauses.
+fn try_firing(
+    alloc: Global,
+    setting: Setting<'_>,
+    rules: &RuleSet,
+    turns: &[Turn],
+    whole: &Part,
+    place: usize,
+    firing: Firing,
+) -> Result<Tried, CompileError>
+    requires { IsHeadTableOf (signature_of setting) setting.table.now }
+    ensures { (t : Theory) (used : List Text) (s : SymbolicState) (found : List RewriteRule) → IsStepFrom t used s setting.entry rules.now (numbered_view whole.now) → AllZip (IsRuleAt t) (map turn_view turns.now) found → IsFiringOf t used s place (firing_model firing) → IfOk result (TellsTurn t used s (map turn_view turns.now) place) }
+{
+    let narrowed = narrowed_part(alloc, &firing)?;
+    if let Some(limit) = wide_condition(alloc, setting, whole, &firing, &narrowed.state)? {
+        let outcome = StepOutcome::Limited { limit };
+        return Ok(Tried::Ended { outcome });
+    }
+    let priority = priority_at(rules, place);
+    match turn_parts(alloc, setting, rules, turns, whole, priority, narrowed)? {
+        Decided::Parts { parts } => Ok(turn_of(place, priority, parts, firing.bindings)),
+        Decided::Open { told } => {
+            let rule = Some(place);
+            let outcome = StepOutcome::Undecided { told, rule };
+            Ok(Tried::Ended { outcome })
+        }
+    }
+}
+
+/// What is found of a rule that is read. A term that stands for no variable of its left side couldn't be made; want of memory
+/// is told.
+fn try_sides(
+    alloc: Global,
+    setting: Setting<'_>,
+    rules: &RuleSet,
+    turns: &[Turn],
+    whole: &Part,
+    place: usize,
+    sides: &Sides,
+) -> Result<Tried, CompileError>
+    requires { IsHeadTableOf (signature_of setting) setting.table.now }
+    ensures { (t : Theory) (used : List Text) (s : SymbolicState) (found : List RewriteRule) (m : Rewrite) → IsStepFrom t used s setting.entry rules.now (numbered_view whole.now) → AllZip (IsRuleAt t) (map turn_view turns.now) found → IsReadAs t place m → AreSidesOf t.signature m sides.now → AreVerifiedSides t.signature m → IfOk result (TellsTurn t used s (map turn_view turns.now) place) }
+{
+    match fire(alloc, &setting, whole, sides)? {
+        Some(firing) => {
+            if !are_of_left(&sides.left, &firing.bindings) {
+                return Err(CompileError::Memory);
+            }
+            try_firing(alloc, setting, rules, turns, whole, place, firing)
+        }
+        None => Ok(Tried::NoTurn),
+    }
+}
+
+/// What is found of the rule at this place.
+fn try_rule(
+    alloc: Global,
+    setting: Setting<'_>,
+    rules: &RuleSet,
+    turns: &[Turn],
+    whole: &Part,
+    place: usize,
+) -> Result<Tried, CompileError>
+    requires { IsHeadTableOf (signature_of setting) setting.table.now }
+    ensures { (t : Theory) (used : List Text) (s : SymbolicState) (found : List RewriteRule) → IsStepFrom t used s setting.entry rules.now (numbered_view whole.now) → AllZip (IsRuleAt t) (map turn_view turns.now) found → IfOk result (TellsTurn t used s (map turn_view turns.now) place) }
+{
+    match read_at(rules, place) {
+        Some(rewrite) => try_sides(alloc, setting, rules, turns, whole, place, &rewrite.sides),
+        None => Ok(Tried::NoTurn),
+    }
+}
+
+/// The turns of all rules that are read, by turn, or why the step ends.
+pub fn find_turns(
+    alloc: Global,
+    setting: Setting<'_>,
+    rules: &RuleSet,
+    whole: &Part,
+) -> Result<Searched, CompileError>
+    requires { IsHeadTableOf (signature_of setting) setting.table.now }
+    ensures { (t : Theory) (used : List Text) (s : SymbolicState) → IsStepFrom t used s setting.entry rules.now (numbered_view whole.now) → IfOk result (TellsTurns t used s) }
+{
+    let mut turns = Vec::new(alloc);
+    for place in rules.in_turn() {
+        match try_rule(alloc, setting, rules, &turns, whole, *place)? {
+            Tried::NoTurn => {}
+            Tried::Turn { turn } => turns.push(turn)?,
+            Tried::Ended { outcome } => return Ok(Searched::Ended { outcome }),
+        }
+    }
+    Ok(Searched::Found { turns })
+}
