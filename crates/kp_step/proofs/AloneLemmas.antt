@@ -1,18 +1,13 @@
 -- One next state alone is of one rule alone, which fires on each instance.
-use Rattle.std.proofs.Common.{◌≡◌, refl, sym, ap, subst, ◌∙◌, List, [], ◌∷◌, ◌++◌, Some, inl, inr}
-use Rattle.std.specs.Prelude.{⊤}
+use Rattle.std.proofs.Common.{◌≡◌, refl, sym, ap, subst, ◌∙◌, List, [], ◌∷◌, ◌++◌}
 use Rattle.std.specs.List.{AllByRecursion, AllZip}
 use Rattle.kp_kore.specs.Syntax.{Text}
-use Rattle.kp_kore.specs.Signature.{KoreSignature}
 use Rattle.kp_semantics.specs.Rules.{RewriteRule}
 use Rattle.kp_semantics.specs.Theory.{Theory}
 use Rattle.kp_semantics.specs.Steps.{Fires}
 use Rattle.kp_symbolic.specs.States.{SymbolicState}
 use Rattle.kp_cases.specs.Parts.{StatePart, whole, OfEachInstance}
-use Rattle.kp_turns.specs.Firing.{HasNoInstance}
 use Rattle.kp_unify.specs.Narrowed.{NumberedPart}
-use Rattle.kp_step.specs.Places.{IsAt}
-use Rattle.kp_firing.specs.Ready.{parts_of}
 use Rattle.kp_step.specs.Left.{AreKept, OneTakesAll}
 use Rattle.kp_step.specs.Found.{PlacedTurn, IsTurnAt}
 use Rattle.kp_step.specs.Follows.{PlacedNext, IsNextAt, AreNextsOf}

@@ -1,6 +1,5 @@
 -- What a verdict of the code says of a part.
-use Rattle.std.proofs.Common.{◌≡◌, refl, sym, subst, ◌∙◌, List, [], ◌∷◌, Option, Some, None, inl, inr, ◌⊎◌}
-use Rattle.std.specs.Prelude.{⊤}
+use Rattle.std.proofs.Common.{◌≡◌, refl, sym, subst, List, [], ◌∷◌, Option, Some, None, inl, inr}
 use Rattle.kp_kore.specs.Signature.{KoreSignature}
 use Rattle.kp_symbolic.specs.States.{Literal, SymbolicState, CanBeTrue}
 use Rattle.kp_symbolic.specs.Plain.{rough_clauses}
@@ -16,10 +15,8 @@ use Rattle.kp_cases.specs.Parts.{whole}
 use Rattle.kp_turns.specs.Firing.{HasNoInstance}
 use Rattle.kp_firing.specs.Ready.{HasInstance}
 use Rattle.kp_step.specs.Causes.{IsShownOf}
-use Rattle.kp_step.specs.Answers.{IsRightOpen, ShowsOf, IsRightAnswerOf}
+use Rattle.kp_step.specs.Answers.{IsRightOpen, ShowsOf}
 use Rattle.kp_step.specs.declared.answers.Open.{Open}
-use Rattle.kp_step.specs.declared.answers.Answer as answers
-use Rattle.kp_step.specs.declared.answers.Answer.TheVariants as answer
 use Rattle.kp_step.proofs.DecideLemmas.{some_instance, no_instance, shown_without, shown_of_state, shown_with_weight}
 
 -- ---- what a verdict says

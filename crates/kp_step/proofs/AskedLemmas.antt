@@ -1,15 +1,15 @@
 -- What is answered of the part that a foreign rule's left side meets says whether the rule might rewrite an instance.
-use Rattle.std.proofs.Common.{◌≡◌, refl, sym, ap, subst, ◌∙◌, ℕ, List, [], ◌∷◌, ◌++◌, map, Option, Some, None, ◌↔◌}
-use Rattle.std.specs.List.{AllByRecursion, Contains}
+use Rattle.std.proofs.Common.{◌≡◌, refl, sym, subst, ℕ, List, [], ◌∷◌}
+use Rattle.std.specs.List.{AllByRecursion}
 use Rattle.kp_kore.specs.Syntax.{Text}
 use Rattle.kp_kore.specs.Signature.{KoreSignature}
-use Rattle.kp_semantics.specs.Value.{Value, HasSort}
+use Rattle.kp_semantics.specs.Value.{HasSort}
 use Rattle.kp_semantics.specs.Sorted.{IsSorted}
-use Rattle.kp_semantics.specs.Rules.{Rewrite, rewrite, ForeignLeft, foreign_rule, RuleBody, RewriteRule}
+use Rattle.kp_semantics.specs.Rules.{rewrite, ForeignLeft, foreign_rule, RuleBody, RewriteRule}
 use Rattle.kp_semantics.specs.Theory.{Theory}
 use Rattle.kp_semantics.specs.Steps.{IsUnknownBy}
 use Rattle.kp_symbolic.specs.Terms.{term_variables}
-use Rattle.kp_symbolic.specs.States.{Literal, SymbolicState}
+use Rattle.kp_symbolic.specs.States.{SymbolicState}
 use Rattle.kp_symbolic.proofs.WellSorted.{term_sorted}
 use Rattle.kp_symbolic_laws.specs.Runs.{HasOneSortEach}
 use Rattle.kp_terms.specs.View.{clauses_view}
@@ -19,21 +19,20 @@ use Rattle.kp_cases.specs.Parts.{StatePart, whole, with_clauses, IsSortedPart, O
 use Rattle.kp_cases.specs.Cases.{MetPart}
 use Rattle.kp_cases.specs.Courses.{form_variables}
 use Rattle.kp_cases.proofs.PartLemmas.{clauses_restrict}
-use Rattle.kp_turns.specs.Firing.{HasNoInstance, AreWhere}
+use Rattle.kp_turns.specs.Firing.{AreWhere}
 use Rattle.kp_turns.proofs.AtHandLemmas.{sorts_of_hand}
 use Rattle.kp_unify.specs.Narrowed.{NumberedPart}
 use Rattle.kp_unify.specs.Way.{IsPartOn, IsMeetable, IsMeeting, IsAllApart}
 use Rattle.kp_decide.specs.Read.{HasSortedClauses}
-use Rattle.kp_firing.specs.Ready.{IsReadyPart, narrowed_by, HasInstance, parts_of}
+use Rattle.kp_firing.specs.Ready.{IsReadyPart, HasInstance, parts_of}
 use Rattle.kp_firing.proofs.ReadyLemmas.{equations_right}
 use Rattle.kp_firing.proofs.SilentLemmas.{right_ready, ready_on}
 use Rattle.kp_step.specs.Places.{IsAt}
 use Rattle.kp_step.specs.Ready.{IsWholeReady}
 use Rattle.kp_step.specs.Rules.{IsForeignAt}
-use Rattle.kp_step.specs.Answers.{IsRightAnswerOf, ShowsOf, TellsForeign}
+use Rattle.kp_step.specs.Answers.{IsRightAnswerOf, TellsForeign}
 use Rattle.kp_step.specs.declared.answers.Answer as answers
 use Rattle.kp_step.specs.declared.answers.Answer.TheVariants as answer
-use Rattle.kp_step.specs.declared.answers.Open.{Open}
 use Rattle.kp_step.proofs.CauseLemmas.{open_foreign}
 use Rattle.kp_step.proofs.ForeignLemmas.{unknown_where, unknown_nowhere, nothing_unknown, meets_foreign}
 use Rattle.kp_step.proofs.FoundLemmas.{one_at, at_contains}

@@ -1,11 +1,8 @@
 -- What is left open of a part is a cause of the step's end.
-use Rattle.std.proofs.Common.{◌≡◌, refl, sym, ap, subst, ◌∙◌, arith, ℕ, zero, suc, ◌<◌, get_or, List, [], ◌∷◌, ◌++◌, map, Option, Some, None, inl, inr, ◌↔◌}
-use Rattle.std.specs.Prelude.{⊤}
+use Rattle.std.proofs.Common.{◌≡◌, sym, ap, subst, arith, ℕ, zero, suc, ◌<◌, get_or, List, [], ◌∷◌, Option, Some, None, inl, inr}
 use Rattle.std.specs.List.{AllByRecursion, Contains}
 use Rattle.std.proofs.lemmas.List.Elements.{Contains-push, Contains-append_left, Contains-append_right, Contains-append_cases}
 use Rattle.kp_kore.specs.Syntax.{Text}
-use Rattle.kp_kore.specs.Signature.{KoreSignature}
-use Rattle.kp_semantics.specs.Value.{Value}
 use Rattle.kp_semantics.specs.Rules.{Rewrite, rewrite, ForeignLeft, foreign_rule, RewriteRule}
 use Rattle.kp_semantics.specs.Theory.{Theory}
 use Rattle.kp_semantics.specs.Steps.{Fires, IsUnknownBy}
@@ -13,7 +10,7 @@ use Rattle.kp_symbolic.specs.States.{Literal, SymbolicState}
 use Rattle.kp_symbolic.specs.Verdicts.{Weighed}
 use Rattle.kp_cases.specs.Parts.{StatePart, whole, IsTold}
 use Rattle.kp_turns.specs.Firing.{AreWhere}
-use Rattle.kp_turns.specs.Turns.{IsLeftTo, NoneGoesBefore}
+use Rattle.kp_turns.specs.Turns.{IsLeftTo}
 use Rattle.kp_turns.proofs.PartsWhere.{said_otherwise}
 use Rattle.kp_turns.proofs.TurnsFound.{left_to_none}
 use Rattle.kp_unify.specs.Narrowed.{NumberedPart}

@@ -1,5 +1,5 @@
 -- A new variable that is chosen for one of a rule's.
-use Rattle.std.proofs.Common.{◌≡◌, refl, sym, ap, subst, ◌∙◌, Bool, true, false, List, [], ◌∷◌, ◌++◌}
+use Rattle.std.proofs.Common.{◌≡◌, sym, ap, subst, ◌∙◌, false, List, [], ◌∷◌, ◌++◌}
 use Rattle.std.specs.Prelude.{is_some, MatchBool}
 use Rattle.kp_kore.specs.Syntax.{Text}
 use Rattle.kp_kore.specs.Parts.{SortedName}

@@ -1,10 +1,10 @@
 -- What a verdict says of a part: that it has an instance, none, or what is shown of it.
-use Rattle.std.proofs.Common.{◌≡◌, refl, ◌∙◌, List, [], Option, Some, None, inl, inr}
+use Rattle.std.proofs.Common.{◌≡◌, refl, ◌∙◌, List, [], Some, None, inl, inr}
 use Rattle.kp_kore.specs.Signature.{KoreSignature}
 use Rattle.kp_symbolic.specs.Terms.{term_instance}
 use Rattle.kp_symbolic.specs.States.{Literal, SymbolicState, CanBeTrue}
 use Rattle.kp_symbolic.specs.Plain.{rough_clauses}
-use Rattle.kp_symbolic.specs.Verdicts.{Weighed, undecided, IsRightVerdict, IsTooHeavy}
+use Rattle.kp_symbolic.specs.Verdicts.{Weighed, undecided, IsRightVerdict}
 use Rattle.kp_cases.specs.Parts.{whole}
 use Rattle.kp_turns.specs.Firing.{HasNoInstance}
 use Rattle.kp_firing.specs.Ready.{HasInstance}

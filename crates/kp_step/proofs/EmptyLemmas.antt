@@ -1,16 +1,15 @@
 -- Where a new variable of a rule has no value, the state behind it has no instance.
-use Rattle.std.proofs.Common.{◌≡◌, refl, sym, List, [], ◌∷◌, ◌++◌}
+use Rattle.std.proofs.Common.{List, [], ◌∷◌, ◌++◌}
 use Rattle.std.specs.List.{AllByRecursion, Contains}
 use Rattle.kp_kore.specs.Syntax.{Text}
-use Rattle.kp_kore.specs.Parts.{SortedName}
 use Rattle.kp_kore.specs.Signature.{KoreSignature}
 use Rattle.kp_semantics.specs.Value.{Value, HasSort}
 use Rattle.kp_semantics.specs.Rules.{Rewrite, rewrite}
 use Rattle.kp_semantics.proofs.TurnLemmas.{each_member}
-use Rattle.kp_symbolic.specs.States.{Literal, IsClauseTrue, AreTrue, SymbolicState}
+use Rattle.kp_symbolic.specs.States.{IsClauseTrue, SymbolicState}
 use Rattle.kp_symbolic.proofs.Distribution.{all_second}
 use Rattle.kp_symbolic.proofs.Leaf.{once_says}
-use Rattle.kp_cases.specs.Parts.{StatePart, whole, IsGrown}
+use Rattle.kp_cases.specs.Parts.{StatePart, whole}
 use Rattle.kp_turns.specs.Firing.{HasNoInstance}
 use Rattle.kp_unify.specs.Narrowed.{NumberedPart}
 use Rattle.kp_firing.specs.Ready.{IsReadyPart, narrowed_by}

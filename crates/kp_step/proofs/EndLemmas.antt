@@ -1,6 +1,6 @@
 -- How a step ends: with its cases, with a limit that is passed, or with what is left open.
 use Rattle.std.proofs.Common.{◌≡◌, refl, sym, ap, subst, ◌∙◌, ℕ, List, [], ◌∷◌, ◌++◌, map, Option, Some, None, inl, inr}
-use Rattle.std.specs.Prelude.{⊤, MatchOption}
+use Rattle.std.specs.Prelude.{MatchOption}
 use Rattle.std.specs.Option.{option_map}
 use Rattle.std.specs.List.{AllByRecursion, AllZip, Contains}
 use Rattle.std.proofs.lemmas.List.Elements.{Contains-push, Contains-append_left, Contains-append_right}
@@ -13,11 +13,10 @@ use Rattle.kp_symbolic.specs.States.{SymbolicState}
 use Rattle.kp_terms.specs.View.{clauses_view}
 use Rattle.kp_cases.specs.Parts.{StatePart, whole, OfEachInstance, IsTold}
 use Rattle.kp_turns.specs.Turns.{rules_of}
-use Rattle.kp_turns.specs.NextStates.{StepCase, AreStepCases, HaveOwnIds}
+use Rattle.kp_turns.specs.NextStates.{StepCase, HaveOwnIds}
 use Rattle.kp_unify.specs.Narrowed.{NumberedPart}
 use Rattle.kp_unify.specs.declared.part.Part.{Part}
-use Rattle.kp_firing.specs.Ready.{IsReadyPart, parts_of, HasInstance}
-use Rattle.kp_step.specs.Places.{IsAt}
+use Rattle.kp_firing.specs.Ready.{IsReadyPart, HasInstance}
 use Rattle.kp_rule_sets.specs.declared.rule_set.RuleSet.{RuleSet}
 use Rattle.kp_decide.specs.Read.{HasSortedClauses}
 use Rattle.kp_wide.specs.Wide.{WideCall, first_wide}
@@ -25,7 +24,7 @@ use Rattle.kp_unify.specs.Views.{IsSetting}
 use Rattle.kp_unify.specs.declared.part.Setting.{Setting}
 use Rattle.kp_step.specs.Ready.{IsReadyState, IsWholeReady}
 use Rattle.kp_step.specs.Rules.{Steps, IsStepFrom}
-use Rattle.kp_step.specs.Left.{IsPartIn, AreLeft, AreKept, OneTakesAll}
+use Rattle.kp_step.specs.Left.{IsPartIn, AreLeft, OneTakesAll}
 use Rattle.kp_step.specs.Found.{PlacedTurn, IsRuleAt, AreAllFound}
 use Rattle.kp_step.specs.Follows.{AreNextsOf, IsSolvedPart}
 use Rattle.kp_step.specs.Limits.{TermLimit, number, Passes, PassesNone, told_state, IsPassed}
@@ -43,7 +42,7 @@ use Rattle.kp_step.proofs.AloneLemmas.{one_fires}
 use Rattle.kp_step.proofs.CauseLemmas.{open_state, open_remainder}
 use Rattle.kp_step.proofs.FoundLemmas.{one_at, turns_of}
 use Rattle.kp_step.proofs.LeftLemmas.{all_is_left, kept_is_left, kept_have}
-use Rattle.kp_step.proofs.OutcomeLemmas.{cases_are, AreStepsOf, steps_are}
+use Rattle.kp_step.proofs.OutcomeLemmas.{cases_are, steps_are}
 use Rattle.kp_step.proofs.SortedLemmas.{sorted_clauses}
 use Rattle.kp_step.proofs.SolvedLemmas.{solved_left, solved_have}
 use Rattle.kp_step.proofs.TryLemmas.{found_rules, rules_in_theory}

@@ -1,6 +1,6 @@
 -- What the code finds of a rule that fires is what a step takes of it.
-use Rattle.std.proofs.Common.{◌≡◌, refl, sym, ap, subst, ◌∙◌, ℕ, Bool, true, List, [], ◌∷◌, ◌++◌, map, Option, Some, None}
-use Rattle.std.specs.List.{AllByRecursion, Contains}
+use Rattle.std.proofs.Common.{◌≡◌, sym, ap, subst, ◌∙◌, ℕ, true, List, [], ◌∷◌, ◌++◌, map, Option, Some, None}
+use Rattle.std.specs.List.{AllByRecursion}
 use Rattle.kp_kore.specs.Syntax.{Text}
 use Rattle.kp_kore.specs.Parts.{SortedName, free_variables}
 use Rattle.kp_kore.specs.Signature.{KoreSignature}
@@ -18,13 +18,12 @@ use Rattle.kp_rules.specs.Sides.{AreSidesOf}
 use Rattle.kp_rules.specs.VerifiedSides.{AreVerifiedSides}
 use Rattle.kp_rules.specs.declared.sides.Sides.{Sides}
 use Rattle.kp_cases.specs.Parts.{StatePart, whole, OfEachInstance, IsGrown}
-use Rattle.kp_cases.specs.Cases.{AreBoundOnce}
 use Rattle.kp_cases.specs.Courses.{IsBoundTo, form_variables}
 use Rattle.kp_cases.proofs.PartLemmas.{below_itself}
 use Rattle.kp_turns.specs.Firing.{AreFiringCases}
 use Rattle.kp_turns.proofs.AtHandLemmas.{named_member}
 use Rattle.kp_unify.specs.Narrowed.{NumberedPart}
-use Rattle.kp_unify.specs.Views.{numbered_view, IsSetting}
+use Rattle.kp_unify.specs.Views.{IsSetting}
 use Rattle.kp_unify.specs.declared.part.Setting.{Setting}
 use Rattle.kp_firing.specs.Ready.{IsReadyPart}
 use Rattle.kp_firing.specs.Firings.{FiresOn, IsFired}

@@ -1,11 +1,11 @@
 -- Foreign rules asked in their turn: the first that might rewrite an instance, or what is left open of the first.
-use Rattle.std.proofs.Common.{◌≡◌, refl, sym, ap, subst, ◌∙◌, ℕ, ◌+◌, ◌<◌, ◌≤◌, List, [], ◌∷◌, ◌++◌, length, get_or, take, drop, Option, Some, None, inl, inr}
+use Rattle.std.proofs.Common.{◌≡◌, refl, sym, subst, ◌∙◌, ℕ, ◌+◌, ◌<◌, ◌≤◌, List, [], ◌∷◌, ◌++◌, length, get_or, take, drop, Option, Some, None, inl, inr}
 use Rattle.std.specs.Prelude.{MatchOption}
-use Rattle.std.specs.List.{AllByRecursion, Contains}
+use Rattle.std.specs.List.{AllByRecursion}
 use Rattle.kp_kore.specs.Syntax.{Text}
 use Rattle.kp_kore.specs.Signature.{KoreSignature}
 use Rattle.kp_semantics.specs.Value.{Value}
-use Rattle.kp_semantics.specs.Rules.{Rewrite, rewrite, RewriteRule, RuleBody, ForeignLeft, foreign_rule}
+use Rattle.kp_semantics.specs.Rules.{rewrite, RewriteRule, RuleBody, ForeignLeft, foreign_rule}
 use Rattle.kp_semantics.specs.Theory.{Theory}
 use Rattle.kp_semantics.specs.Steps.{IsUnknownBy, IsUnknown}
 use Rattle.kp_semantics.proofs.ListLemmas.{all_append}
@@ -16,7 +16,7 @@ use Rattle.kp_rule_sets.specs.RuleSets.{RunsAs}
 use Rattle.kp_rule_sets.specs.declared.rule_set.RuleSet.{RuleSet}
 use Rattle.kp_cases.specs.Parts.{whole, OfEachInstance}
 use Rattle.kp_step.specs.Places.{IsAt}
-use Rattle.kp_step.specs.Causes.{MeetsForeign, IsPassedBy, GoesBefore, IsFirstMet, IsLeftOpen}
+use Rattle.kp_step.specs.Causes.{IsPassedBy, IsFirstMet, IsLeftOpen}
 use Rattle.kp_step.specs.Answers.{TellsForeign, TellsKnown, IsOpenAt}
 use Rattle.kp_step.specs.declared.outcome.StepOutcome.{StepOutcome}
 use Rattle.kp_step.specs.Outcomes.{IsToldOpen, IsRightStep}

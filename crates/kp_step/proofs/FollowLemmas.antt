@@ -1,17 +1,16 @@
 -- What a right side gives is what the rule rewrites a part's instances to.
-use Rattle.std.proofs.Common.{◌≡◌, refl, sym, ap, subst, ◌∙◌, Bool, true, false, not, cond, List, [], ◌∷◌, ◌++◌, Option, Some, None, ◌↔◌}
+use Rattle.std.proofs.Common.{◌≡◌, refl, sym, ap, subst, ◌∙◌, Bool, true, false, not, cond, List, [], ◌∷◌, Some, None, ◌↔◌}
 use Rattle.std.specs.Prelude.{if◌then◌else◌}
 use Rattle.std.specs.List.{AllByRecursion}
 use Rattle.std.specs.Str.{bytes_eq}
 use Rattle.std.proofs.lemmas.Slice.Eq.{bytes_eq-Decides}
 use Rattle.kp_kore.specs.Syntax.{Text, sort_variable}
-use Rattle.kp_kore.specs.Parts.{SortedName, free_variables}
+use Rattle.kp_kore.specs.Parts.{SortedName}
 use Rattle.kp_kore.specs.Signature.{KoreSignature}
 use Rattle.kp_semantics.specs.Value.{Value, HasSort}
-use Rattle.kp_semantics.specs.Instance.{Valuation, GivesSorts, AgreesOn, is_named, IsTrueUnder}
+use Rattle.kp_semantics.specs.Instance.{Valuation, GivesSorts, is_named}
 use Rattle.kp_semantics.specs.Rules.{Rewrite, RuleBody, rewrite}
-use Rattle.kp_semantics.specs.Scopes.{Extends}
-use Rattle.kp_semantics.specs.Steps.{Fires, LeadsTo, Rewrites}
+use Rattle.kp_semantics.specs.Steps.{Fires, LeadsTo}
 use Rattle.kp_semantics.proofs.NameLemmas.{true_is_false}
 use Rattle.kp_semantics.proofs.ListLemmas.{all_map}
 use Rattle.kp_symbolic.specs.Terms.{Replaced, replacement_for, under_replaced, term_instance}

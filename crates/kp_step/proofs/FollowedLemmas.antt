@@ -1,6 +1,6 @@
 -- What the code makes behind a part follows from it.
 use Rattle.std.proofs.Common.{◌≡◌, refl, sym, ap, subst, ◌∙◌, List, [], ◌∷◌, ◌++◌, map, true, false, Bool, ◌↔◌}
-use Rattle.std.specs.Prelude.{IsTrue, IfOk, Result, Ok, Err, if◌then◌else◌}
+use Rattle.std.specs.Prelude.{IfOk, Result, Ok, Err, if◌then◌else◌}
 use Rattle.std.specs.List.{AllByRecursion}
 use Rattle.kp_kore.specs.Syntax.{Text, KoreSort}
 use Rattle.kp_kore.specs.Parts.{SortedName}

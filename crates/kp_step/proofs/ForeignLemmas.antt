@@ -1,5 +1,5 @@
 -- Where a foreign rule might rewrite an instance, and where it doesn't.
-use Rattle.std.proofs.Common.{◌≡◌, refl, sym, ap, subst, ◌∙◌, List, [], ◌∷◌, ◌++◌, Some, None, inl, inr, ◌↔◌}
+use Rattle.std.proofs.Common.{subst, List, [], ◌∷◌, Some, None, inl, inr, ◌↔◌}
 use Rattle.std.specs.List.{AllByRecursion, Contains}
 use Rattle.kp_kore.specs.Signature.{KoreSignature}
 use Rattle.kp_semantics.specs.Value.{Value}
@@ -9,10 +9,9 @@ use Rattle.kp_semantics.specs.Rules.{RewriteRule, ForeignLeft, foreign_rule}
 use Rattle.kp_semantics.specs.Foreign.{IsSkeletonInstance}
 use Rattle.kp_semantics.specs.Theory.{Theory}
 use Rattle.kp_semantics.specs.Steps.{IsUnknownBy, IsUnknown, AnyByRecursion}
-use Rattle.kp_semantics.proofs.ListLemmas.{all_map}
 use Rattle.kp_semantics.proofs.TurnLemmas.{each_member}
 use Rattle.kp_symbolic.specs.Terms.{under_replaced}
-use Rattle.kp_symbolic.specs.States.{SymbolicState, IsStateInstance, AreTrue}
+use Rattle.kp_symbolic.specs.States.{SymbolicState}
 use Rattle.kp_rules.specs.Skeletons.{Form, Admits}
 use Rattle.kp_cases.specs.Parts.{StatePart, whole, OfEachInstance, IsRestricted, HoldsWhere}
 use Rattle.kp_cases.specs.Cases.{MetPart, IsMetBy, IsApart, AreCases, left_side}

@@ -1,5 +1,5 @@
 -- The state that is made behind a rule is one that a step may go on from.
-use Rattle.std.proofs.Common.{◌≡◌, refl, sym, ap, subst, ◌∙◌, Bool, true, false, not, ◌&&◌, ◌||◌, List, [], ◌∷◌, ◌++◌, Option, Some, None}
+use Rattle.std.proofs.Common.{◌≡◌, refl, sym, ap, subst, ◌∙◌, Bool, true, false, not, ◌&&◌, ◌||◌, List, [], ◌∷◌, ◌++◌, Option, Some}
 use Rattle.std.specs.Prelude.{if◌then◌else◌}
 use Rattle.std.specs.List.{AllByRecursion, Contains, list_all}
 use Rattle.std.specs.Str.{bytes_eq}
@@ -20,7 +20,7 @@ use Rattle.kp_semantics.proofs.NameLemmas.{true_is_false}
 use Rattle.kp_semantics.proofs.TurnLemmas.{of_member, each_member}
 use Rattle.kp_symbolic.specs.Terms.{SymbolicTerm, unknown, term_variables, Replaced, replacement_for}
 use Rattle.kp_symbolic.specs.Folding.{folded, term_for}
-use Rattle.kp_symbolic.specs.States.{Literal, SymbolicState, variables_for, atom_variables}
+use Rattle.kp_symbolic.specs.States.{Literal, variables_for, atom_variables}
 use Rattle.kp_symbolic.specs.Alike.{literals_same}
 use Rattle.kp_symbolic.specs.WellFormed.{AreAtHand, AreWellPlaced, IsWellSorted}
 use Rattle.kp_symbolic.proofs.Distribution.{all_both, kept_are}
@@ -28,12 +28,12 @@ use Rattle.kp_symbolic.proofs.Folded.{folded_variables}
 use Rattle.kp_symbolic.proofs.SortedFolding.{folded_sorted}
 use Rattle.kp_symbolic.proofs.WellSorted.{sorted_above}
 use Rattle.kp_symbolic_laws.specs.Runs.{HasOneSortEach, IsSortedLiteral, IsSortedState}
-use Rattle.kp_symbolic_laws.specs.Safe.{IsNormal, PutNormal, Formed, IsSoundQuote, IsFormedState}
+use Rattle.kp_symbolic_laws.specs.Safe.{IsNormal, PutNormal, Formed, IsSoundQuote}
 use Rattle.kp_symbolic_laws.proofs.NormalTerms.{folded_normal}
-use Rattle.kp_compile.specs.Verified.{IsVerified, IsVerifiedTerm}
+use Rattle.kp_compile.specs.Verified.{IsVerifiedTerm}
 use Rattle.kp_rules.specs.Known.{is_among}
 use Rattle.kp_rules.specs.VerifiedSides.{IsVerifiedEnsured, is_old_or_new, IsOfBoth, AreVerifiedSides}
-use Rattle.kp_cases.specs.Parts.{StatePart, whole}
+use Rattle.kp_cases.specs.Parts.{StatePart}
 use Rattle.kp_cases.specs.Narrowings.{sorts_of_names}
 use Rattle.kp_cases.specs.Courses.{IsBoundTo}
 use Rattle.kp_cases.specs.Nexts.{fresh_bindings}

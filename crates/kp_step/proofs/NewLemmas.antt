@@ -1,5 +1,5 @@
 -- New variables of a rule stand for new variables of the state, each for one.
-use Rattle.std.proofs.Common.{◌≡◌, refl, sym, ap, subst, ◌∙◌, arith, ℕ, ◌≤◌, Bool, true, false, ◌||◌, List, [], ◌∷◌, ◌++◌, Option, Some, None, inl, inr, ◌⊎◌, ◌↔◌}
+use Rattle.std.proofs.Common.{◌≡◌, refl, sym, ap, subst, ◌∙◌, arith, ℕ, ◌≤◌, Bool, true, false, ◌||◌, List, [], ◌∷◌, ◌++◌, Some, None, inl, inr, ◌⊎◌, ◌↔◌}
 use Rattle.std.specs.Prelude.{is_some, if◌then◌else◌, MatchBool}
 use Rattle.std.specs.List.{AllByRecursion, Contains}
 use Rattle.std.specs.Str.{bytes_eq}
@@ -24,7 +24,6 @@ use Rattle.kp_cases.specs.Courses.{IsBoundTo}
 use Rattle.kp_cases.specs.Nexts.{fresh_bindings, AreRulesNew, AreBoundOrNew, IsInstantiated}
 use Rattle.kp_cases.proofs.GrownLemmas.{new_further}
 use Rattle.kp_turns.proofs.AtHandLemmas.{Named, named_member, member_named}
-use Rattle.kp_unify.specs.Names.{IsNextName}
 use Rattle.kp_unify.specs.Way.{IsInUse}
 use Rattle.kp_unify.proofs.WayLemmas.{all_later, not_named, new_one, later, last_in_use}
 use Rattle.kp_step.specs.Follows.{kept_bindings}

@@ -1,13 +1,12 @@
 -- What follows in the parts of turns, one after the other.
-use Rattle.std.proofs.Common.{◌≡◌, refl, sym, ap, subst, ◌∙◌, ℕ, ◌+◌, ◌<◌, ◌≤◌, List, [], ◌∷◌, ◌++◌, map, length, get_or, take, drop, Option, Some, None}
-use Rattle.std.specs.List.{AllByRecursion, AllZip}
+use Rattle.std.proofs.Common.{◌≡◌, refl, sym, ap, subst, ◌∙◌, ℕ, ◌+◌, ◌<◌, ◌≤◌, List, [], ◌∷◌, ◌++◌, map, length, get_or, take, drop}
+use Rattle.std.specs.List.{AllZip}
 use Rattle.std.proofs.lemmas.List.{map-append, append-nil}
 use Rattle.kp_kore.specs.Syntax.{Text}
 use Rattle.kp_kore.specs.Signature.{KoreSignature}
-use Rattle.kp_semantics.specs.Rules.{Rewrite, rewrite, RewriteRule}
+use Rattle.kp_semantics.specs.Rules.{Rewrite, rewrite}
 use Rattle.kp_semantics.specs.Steps.{Fires}
 use Rattle.kp_semantics.specs.Theory.{Theory}
-use Rattle.kp_symbolic.specs.States.{SymbolicState}
 use Rattle.kp_rules.specs.declared.rule.Rewrite as code
 use Rattle.kp_cases.specs.Parts.{StatePart, OfEachInstance}
 use Rattle.kp_unify.specs.Narrowed.{NumberedPart}
@@ -15,7 +14,6 @@ use Rattle.kp_terms.specs.View.{state_view}
 use Rattle.kp_unify.specs.Views.{signature_of, part_view, numbered_view}
 use Rattle.kp_unify.specs.declared.part.Setting.{Setting}
 use Rattle.kp_unify.specs.declared.part.Part.{Part}
-use Rattle.kp_step.specs.Places.{IsAt}
 use Rattle.kp_step.specs.Rules.{IsReadBy, IsReadAt}
 use Rattle.kp_step.specs.Left.{IsPartIn}
 use Rattle.kp_step.specs.Found.{PlacedTurn, IsMetIn, IsTurnAt}

@@ -1,10 +1,10 @@
 -- Rules in their turn: by number, then by place.
-use Rattle.std.proofs.Common.{◌≡◌, ◌≢◌, refl, sym, ap, subst, ◌∙◌, arith, ℕ, ◌<◌, ◌≤◌, Bool, true, false, not, ◌==◌, ◌&&◌, ◌||◌, List, [], ◌∷◌, ◌++◌, Option, Some, None, slice_get, inl, inr, ◌⊎◌}
-use Rattle.std.specs.Prelude.{nat_lt, min, if◌then◌else◌}
-use Rattle.std.specs.List.{AllByRecursion, AllZip, Contains, list_all}
+use Rattle.std.proofs.Common.{◌≡◌, refl, sym, ap, subst, ◌∙◌, arith, ℕ, ◌<◌, ◌≤◌, Bool, true, false, not, ◌==◌, ◌&&◌, ◌||◌, List, [], ◌∷◌, ◌++◌, Some, slice_get, inl, inr, ◌⊎◌}
+use Rattle.std.specs.Prelude.{nat_lt, if◌then◌else◌}
+use Rattle.std.specs.List.{AllByRecursion, Contains, list_all}
 use Rattle.std.proofs.lemmas.Bool.Decides.{Decides-eqb, Decides-ltb}
 use Rattle.std.proofs.lemmas.List.Elements.{Contains-push, Contains-append_left, Contains-append_right, Contains-append_cases}
-use Rattle.kp_semantics.specs.Rules.{Rewrite, rewrite, RewriteRule, ForeignLeft, foreign_rule, most_priority, RuleBody}
+use Rattle.kp_semantics.specs.Rules.{Rewrite, rewrite, RewriteRule, ForeignLeft, foreign_rule}
 use Rattle.kp_semantics.specs.Theory.{Theory}
 use Rattle.kp_semantics.proofs.ListLemmas.{all_map}
 use Rattle.kp_semantics.proofs.NameLemmas.{true_is_false}
@@ -24,7 +24,7 @@ use Rattle.kp_kore.specs.Syntax.{Text}
 use Rattle.kp_cases.specs.Parts.{StatePart}
 use Rattle.kp_step.specs.Causes.{told_number, GoesBefore}
 use Rattle.kp_step.proofs.PlaceLemmas.{counted_is_there, none_again}
-use Rattle.kp_step.proofs.RuleLemmas.{HasCode, code_of, read_number}
+use Rattle.kp_step.proofs.RuleLemmas.{code_of, read_number}
 
 -- the code's rules in their turn, each once
 abbrev pub InTurn : RuleSet → List ℕ → Type 0

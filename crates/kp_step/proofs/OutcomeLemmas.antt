@@ -1,23 +1,19 @@
 -- What is found, what follows and what remains are the outcome of a step.
-use Rattle.std.proofs.Common.{◌≡◌, refl, sym, ap, subst, ◌∙◌, ℕ, List, [], ◌∷◌, ◌++◌, map, Option, Some, None, inl, inr}
-use Rattle.std.specs.Prelude.{⊤}
-use Rattle.std.specs.List.{AllByRecursion, AllZip, Contains}
+use Rattle.std.proofs.Common.{◌≡◌, subst, ℕ, List, [], ◌∷◌, ◌++◌, map, None}
+use Rattle.std.specs.List.{AllByRecursion, AllZip}
 use Rattle.kp_kore.specs.Syntax.{Text}
 use Rattle.kp_semantics.specs.Rules.{RewriteRule}
 use Rattle.kp_semantics.specs.Theory.{Theory}
 use Rattle.kp_semantics.specs.Steps.{Fires, IsUnknown}
 use Rattle.kp_symbolic.specs.States.{SymbolicState}
-use Rattle.kp_terms.specs.View.{clauses_view, state_view}
 use Rattle.kp_cases.specs.Parts.{whole, OfEachInstance}
 use Rattle.kp_turns.specs.Turns.{rules_of}
 use Rattle.kp_turns.specs.NextStates.{StepCase, AreStepCases, HaveOwnIds}
-use Rattle.kp_unify.specs.Narrowed.{NumberedPart}
-use Rattle.kp_unify.specs.Views.{numbered_view}
 use Rattle.kp_unify.specs.declared.part.Part.{Part}
 use Rattle.kp_step.specs.Places.{IsAt}
-use Rattle.kp_firing.specs.Ready.{HasInstance, parts_of}
+use Rattle.kp_firing.specs.Ready.{HasInstance}
 use Rattle.kp_step.specs.Found.{PlacedTurn, IsRuleAt, IsTurnAt, IsTurnAmong, AreAllFound}
-use Rattle.kp_step.specs.Follows.{PlacedNext, AreNextsOf}
+use Rattle.kp_step.specs.Follows.{AreNextsOf}
 use Rattle.kp_step.specs.Tries.{OneFiresOnAll, AreRemaining}
 use Rattle.kp_step.specs.Limits.{PassesNone}
 use Rattle.kp_step.specs.Views.{numbered_views, next_view, next_told}

@@ -1,5 +1,5 @@
 -- The state that is made behind a rule is the next state of its part.
-use Rattle.std.proofs.Common.{◌≡◌, refl, sym, ap, subst, ◌∙◌, List, [], ◌∷◌, ◌++◌, Option, Some, ◌↔◌}
+use Rattle.std.proofs.Common.{◌≡◌, sym, ap, subst, List, ◌++◌, ◌↔◌}
 use Rattle.std.specs.List.{AllByRecursion, Contains}
 use Rattle.std.proofs.lemmas.List.Elements.{Contains-append_left}
 use Rattle.kp_kore.specs.Syntax.{Text, KoreSort}
@@ -15,7 +15,7 @@ use Rattle.kp_semantics.proofs.TurnLemmas.{each_member}
 use Rattle.kp_symbolic.specs.Terms.{term_variables, Replaced, under_replaced}
 use Rattle.kp_symbolic.specs.States.{Literal, AreTrue, SymbolicState}
 use Rattle.kp_symbolic.specs.WellFormed.{AreAtHand}
-use Rattle.kp_cases.specs.Parts.{StatePart, whole, OfEachInstance, IsGrown}
+use Rattle.kp_cases.specs.Parts.{StatePart, whole, OfEachInstance}
 use Rattle.kp_cases.specs.Nexts.{all_bindings, IsInstantiated, IsNextState}
 use Rattle.kp_cases.proofs.GrownLemmas.{grown_further}
 use Rattle.kp_turns.specs.NextStates.{FollowsBy}

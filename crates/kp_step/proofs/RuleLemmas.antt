@@ -1,9 +1,9 @@
 -- Which rule of a theory the code's rule of a place is.
-use Rattle.std.proofs.Common.{◌≡◌, refl, sym, ap, subst, ◌∙◌, ℕ, List, Option, Some, None, slice_get}
+use Rattle.std.proofs.Common.{◌≡◌, refl, sym, ap, subst, ◌∙◌, ℕ, Some, None, slice_get}
 use Rattle.kp_semantics.specs.Rules.{Rewrite, rewrite, RuleBody as MeantBody, RewriteRule, ForeignLeft, foreign_rule}
 use Rattle.kp_semantics.specs.Theory.{Theory}
 use Rattle.kp_kore.specs.Signature.{KoreSignature}
-use Rattle.kp_rules.specs.Bodies.{IsRewriteOf, IsBodyOf, IsCodeOf}
+use Rattle.kp_rules.specs.Bodies.{IsBodyOf, IsCodeOf}
 use Rattle.kp_rules.specs.declared.rule.Rule.{Rule}
 use Rattle.kp_rules.specs.declared.rule.Rewrite as code
 use Rattle.kp_rules.specs.declared.rule.RuleBody as code_body
@@ -12,7 +12,7 @@ use Rattle.kp_rules.specs.declared.skeleton.Skeleton.{Skeleton}
 use Rattle.kp_rule_sets.specs.RuleSets.{RunsAs}
 use Rattle.kp_rule_sets.specs.declared.rule_set.RuleSet.{RuleSet}
 use Rattle.kp_step.specs.Places.{IsAt, IsPriorityAt}
-use Rattle.kp_step.specs.Rules.{IsReadBy, IsReadAt, TellsRead, IsForeignAt, TellsSkeleton}
+use Rattle.kp_step.specs.Rules.{IsReadAt, TellsRead, IsForeignAt, TellsSkeleton}
 use Rattle.kp_step.proofs.FoundLemmas.{one_at}
 use Rattle.kp_step.proofs.PlaceLemmas.{zip_at, zip_back}
 

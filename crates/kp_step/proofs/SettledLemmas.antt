@@ -5,14 +5,13 @@ use Rattle.kp_kore.specs.Syntax.{Text}
 use Rattle.kp_kore.specs.Signature.{KoreSignature}
 use Rattle.kp_semantics.specs.Value.{Value}
 use Rattle.kp_semantics.specs.Instance.{Valuation, GivesSorts}
-use Rattle.kp_symbolic.specs.States.{Literal, SymbolicState, IsStateInstance}
+use Rattle.kp_symbolic.specs.States.{SymbolicState, IsStateInstance}
 use Rattle.kp_symbolic.specs.Solving.{solved_at, Solving, finished, goes_on}
 use Rattle.kp_symbolic_laws.specs.Runs.{IsSortedLiteral, OfEachKept}
 use Rattle.kp_symbolic_laws.proofs.Course.{solving_instance}
 use Rattle.kp_symbolic_laws.specs.Safe.{IsSafe}
 use Rattle.kp_kept.specs.Kept.{CanBeWritten}
 use Rattle.kp_kept.proofs.KeptCourse.{each_of_these, each_right, solving_safe}
-use Rattle.kp_cases.specs.Parts.{StatePart}
 use Rattle.kp_unify.specs.Narrowed.{NumberedPart}
 use Rattle.kp_unify.specs.Way.{IsInUse}
 use Rattle.kp_firing.specs.Ready.{IsReadyPart}

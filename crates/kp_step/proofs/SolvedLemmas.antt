@@ -1,16 +1,15 @@
 -- Parts whose states are solved are the same parts.
-use Rattle.std.proofs.Common.{◌≡◌, refl, sym, ap, subst, ◌∙◌, List, [], ◌∷◌, inl, inr, ◌↔◌}
+use Rattle.std.proofs.Common.{sym, subst, ◌∙◌, List, [], ◌∷◌, inl, inr}
 use Rattle.std.specs.List.{AllByRecursion, AllZip}
 use Rattle.kp_kore.specs.Syntax.{Text}
-use Rattle.kp_kore.specs.Parts.{SortedName}
 use Rattle.kp_kore.specs.Signature.{KoreSignature}
 use Rattle.kp_semantics.specs.Value.{Value}
 use Rattle.kp_semantics.specs.Instance.{Valuation, GivesSorts, AgreesOn}
 use Rattle.kp_semantics.specs.Cases.{OfOneAlone}
 use Rattle.kp_semantics.specs.Division.{IsHeldBy}
-use Rattle.kp_symbolic.specs.States.{Literal, AreTrue, IsStateInstance}
+use Rattle.kp_symbolic.specs.States.{AreTrue}
 use Rattle.kp_symbolic.specs.WellFormed.{AreAtHand}
-use Rattle.kp_cases.specs.Parts.{StatePart, state_reading, OfEachInstance, IsPartBelow, IsGrown}
+use Rattle.kp_cases.specs.Parts.{StatePart, state_reading, OfEachInstance, IsPartBelow}
 use Rattle.kp_turns.specs.Firing.{AreWhere}
 use Rattle.kp_turns.specs.Turns.{IsLeftTo}
 use Rattle.kp_semantics.specs.Rules.{RewriteRule}

@@ -1,8 +1,7 @@
 -- Loops over parts, turns and places, one step at a time.
-use Rattle.std.proofs.Common.{◌≡◌, refl, sym, ap, subst, ◌∙◌, arith, ℕ, ◌+◌, ◌<◌, ◌≤◌, List, [], ◌∷◌, ◌++◌, map, length, get_or, take, drop, Option, Some, None, ◌↔◌}
+use Rattle.std.proofs.Common.{◌≡◌, refl, sym, ap, subst, ◌∙◌, ℕ, ◌+◌, ◌<◌, ◌≤◌, List, [], ◌∷◌, ◌++◌, map, length, get_or, take, drop}
 use Rattle.std.specs.List.{AllByRecursion, AllZip, Contains}
 use Rattle.std.proofs.lemmas.List.{map-append, append-nil}
-use Rattle.std.proofs.lemmas.List.Elements.{Contains-push, Contains-append_left, Contains-append_right}
 use Rattle.kp_kore.specs.Syntax.{Text}
 use Rattle.kp_kore.specs.Signature.{KoreSignature}
 use Rattle.kp_semantics.specs.Rules.{RewriteRule}
@@ -22,7 +21,7 @@ use Rattle.kp_firing.specs.Ready.{IsReadyPart, HasInstance}
 use Rattle.kp_step.specs.Places.{IsAt}
 use Rattle.kp_step.specs.Left.{AreKept, none_left}
 use Rattle.kp_step.specs.Found.{PlacedTurn, IsTurnAt, AreFound, AreAllFound}
-use Rattle.kp_step.specs.Answers.{ShowsOf, AreDecided}
+use Rattle.kp_step.specs.Answers.{ShowsOf}
 use Rattle.kp_step.specs.Follows.{IsSolvedPart}
 use Rattle.kp_step.specs.Views.{numbered_views, turn_view}
 use Rattle.kp_step.specs.declared.turns.Turn.{Turn}

@@ -1,16 +1,15 @@
 -- What is found of all rules, what follows in their parts, and what remains are the cases of a step.
-use Rattle.std.proofs.Common.{◌≡◌, refl, sym, ap, subst, ◌∙◌, List, [], ◌∷◌, ◌++◌, map, Option, Some, None}
-use Rattle.std.specs.Prelude.{⊤}
+use Rattle.std.proofs.Common.{◌≡◌, refl, sym, ap, subst, ◌∙◌, List, [], ◌∷◌, ◌++◌, map, Some, None}
 use Rattle.std.specs.List.{AllByRecursion, AllZip, Contains, flat_map}
 use Rattle.std.proofs.lemmas.List.{map-append}
 use Rattle.kp_kore.specs.Syntax.{Text}
 use Rattle.kp_kore.specs.Parts.{SortedName}
 use Rattle.kp_kore.specs.Signature.{KoreSignature}
 use Rattle.kp_semantics.specs.Value.{Value, HasSort, Values, no_values, next_value, HaveSorts}
-use Rattle.kp_semantics.specs.Instance.{Valuation, GivesSorts, AgreesOn}
-use Rattle.kp_semantics.specs.Rules.{RewriteRule, RuleBody}
+use Rattle.kp_semantics.specs.Instance.{Valuation, GivesSorts}
+use Rattle.kp_semantics.specs.Rules.{RewriteRule}
 use Rattle.kp_semantics.specs.Theory.{Theory}
-use Rattle.kp_semantics.specs.Steps.{Fires, IsUnknown}
+use Rattle.kp_semantics.specs.Steps.{IsUnknown}
 use Rattle.kp_semantics.specs.Cases.{HaveOneSort}
 use Rattle.kp_semantics.proofs.ListLemmas.{all_append, all_left}
 use Rattle.kp_semantics.proofs.TurnLemmas.{each_member}
@@ -18,17 +17,16 @@ use Rattle.kp_symbolic.specs.States.{SymbolicState, IsStateInstance}
 use Rattle.kp_symbolic.specs.WellFormed.{AreAtHand}
 use Rattle.kp_symbolic_laws.specs.Runs.{HasOneSortEach}
 use Rattle.kp_symbolic.proofs.HeadQuestions.{assigned_all}
-use Rattle.kp_cases.specs.Parts.{StatePart, whole, OfEachInstance, AreNew, IsNewVariable, IsGrown}
+use Rattle.kp_cases.specs.Parts.{StatePart, whole, OfEachInstance, IsNewVariable, IsGrown}
 use Rattle.kp_cases.specs.Narrowings.{sorts_of_names}
 use Rattle.kp_cases.proofs.NewVariables.{scope_stays, new_sorts}
-use Rattle.kp_turns.specs.Firing.{AreWhere}
-use Rattle.kp_turns.specs.Turns.{Turn, AreTurns, rules_of, NoneOfThese}
-use Rattle.kp_turns.specs.NextStates.{StepCase, IsNext, Placed, placed, cases_of_turns, HaveOwnIds, AreStepCases, HaveValues, IsWithinHand, FollowsBy}
+use Rattle.kp_turns.specs.Turns.{Turn, rules_of}
+use Rattle.kp_turns.specs.NextStates.{StepCase, IsNext, placed, HaveOwnIds, AreStepCases, HaveValues, IsWithinHand, FollowsBy}
 use Rattle.kp_turns.proofs.AtHandLemmas.{sorts_stay}
 use Rattle.kp_turns.proofs.TurnsFound.{remainder_fires_none}
 use Rattle.kp_unify.specs.Narrowed.{NumberedPart}
 use Rattle.kp_step.specs.Places.{IsAt}
-use Rattle.kp_firing.specs.Ready.{IsReadyPart, HasInstance, parts_of}
+use Rattle.kp_firing.specs.Ready.{HasInstance, parts_of}
 use Rattle.kp_step.specs.Left.{IsPartIn, AreLeft}
 use Rattle.kp_step.specs.Found.{PlacedTurn, IsTurnAmong, AreAllFound}
 use Rattle.kp_step.specs.Follows.{PlacedNext, IsNextOf, IsNextAt, AreNextsOf}

@@ -1,6 +1,6 @@
 -- Rules that take from what is left to another, or to none.
-use Rattle.std.proofs.Common.{◌≡◌, refl, sym, ap, subst, ◌∙◌, arith, ℕ, zero, suc, ◌+◌, ◌<◌, ◌≤◌, Bool, true, false, List, [], ◌∷◌, ◌++◌, map, length, get_or, take, drop, Option, Some, None, ◌↔◌}
-use Rattle.std.specs.Prelude.{⊤, IsTrue}
+use Rattle.std.proofs.Common.{◌≡◌, refl, sym, ap, subst, ◌∙◌, arith, ℕ, zero, suc, ◌+◌, ◌<◌, ◌≤◌, Bool, true, List, [], ◌∷◌, ◌++◌, map, length, get_or, take, drop, Option, Some, None, ◌↔◌}
+use Rattle.std.specs.Prelude.{IsTrue}
 use Rattle.std.specs.List.{AllByRecursion, AllZip}
 use Rattle.std.proofs.lemmas.List.{map-append}
 use Rattle.kp_kore.specs.Syntax.{Text}
@@ -23,12 +23,12 @@ use Rattle.kp_firing.specs.Ready.{IsReadyPart, parts_of}
 use Rattle.kp_firing.specs.Silent.{IsExcluded}
 use Rattle.kp_step.specs.Places.{IsAt}
 use Rattle.kp_step.specs.Rules.{Steps, IsReadAt}
-use Rattle.kp_step.specs.Left.{TakesBy, IsNumberOf, AreLeft, AreLeftSoFar, OneTakesAll}
+use Rattle.kp_step.specs.Left.{TakesBy, IsNumberOf, AreLeftSoFar, OneTakesAll}
 use Rattle.kp_step.specs.Answers.{AreWithout}
 use Rattle.kp_step.specs.Views.{numbered_views}
 use Rattle.kp_step.proofs.FoundLemmas.{one_at}
 use Rattle.kp_step.proofs.LoopLemmas.{taken_views, waiting_views, all_taken_views, none_waiting_views}
-use Rattle.kp_step.proofs.LeftLemmas.{rule_sets_out, rule_goes_on, rule_arrives, rule_passes, everywhere_more}
+use Rattle.kp_step.proofs.LeftLemmas.{rule_goes_on, rule_arrives, everywhere_more}
 
 -- by numbers, as the code asks
 pub takes_by : (p : ℕ) (n : Option ℕ) (q : RewriteRule) (o : Option RewriteRule) → IsNumberOf n o → q.priority ≡ p → TakesBy p n ↔ TakesFrom q o

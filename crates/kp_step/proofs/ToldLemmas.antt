@@ -1,13 +1,11 @@
 -- The next states that are told, one by one, are the cases of the step.
-use Rattle.std.proofs.Common.{◌≡◌, refl, sym, ap, subst, ◌∙◌, ℕ, List, [], ◌∷◌, ◌++◌, Option, Some, None}
-use Rattle.std.specs.Prelude.{⊤}
+use Rattle.std.proofs.Common.{◌≡◌, refl, sym, subst, List, [], ◌∷◌, ◌++◌, Some, None}
 use Rattle.std.specs.List.{AllByRecursion, AllZip}
 use Rattle.std.proofs.lemmas.List.{append_assoc}
 use Rattle.kp_kore.specs.Syntax.{Text}
 use Rattle.kp_semantics.specs.Rules.{RewriteRule}
 use Rattle.kp_semantics.specs.Theory.{Theory}
 use Rattle.kp_cases.specs.Parts.{StatePart, whole, IsSortedPart, IsGrown}
-use Rattle.kp_symbolic.specs.States.{SymbolicState}
 use Rattle.kp_turns.specs.NextStates.{StepCase}
 use Rattle.kp_unify.specs.Narrowed.{NumberedPart}
 use Rattle.kp_step.specs.Places.{IsAt}

@@ -1,27 +1,25 @@
 -- A rule that is tried has a turn where the rules found before leave it a part with an instance.
-use Rattle.std.proofs.Common.{◌≡◌, refl, sym, ap, subst, ◌∙◌, ℕ, List, [], ◌∷◌, ◌++◌, map, Option, Some, None, inl, inr, ◌↔◌}
-use Rattle.std.specs.Prelude.{⊤}
+use Rattle.std.proofs.Common.{◌≡◌, refl, sym, subst, ℕ, List, [], ◌∷◌, ◌++◌, Some}
 use Rattle.std.specs.List.{AllByRecursion, AllZip, Contains}
 use Rattle.std.proofs.lemmas.List.Elements.{Contains-push, Contains-append_left, Contains-append_right}
 use Rattle.kp_kore.specs.Syntax.{Text}
 use Rattle.kp_kore.specs.Signature.{KoreSignature}
-use Rattle.kp_semantics.specs.Value.{Value}
 use Rattle.kp_semantics.specs.Rules.{Rewrite, RuleBody, rewrite, foreign_rule, RewriteRule}
 use Rattle.kp_semantics.specs.Theory.{Theory}
 use Rattle.kp_semantics.specs.Steps.{Fires, HasTurn}
 use Rattle.kp_semantics.proofs.ListLemmas.{all_map}
 use Rattle.kp_symbolic.specs.Terms.{Replaced}
-use Rattle.kp_symbolic.specs.States.{Literal, SymbolicState}
-use Rattle.kp_cases.specs.Parts.{StatePart, whole, OfEachInstance, IsDividedWhere, IsRestricted, with_clauses}
+use Rattle.kp_symbolic.specs.States.{SymbolicState}
+use Rattle.kp_cases.specs.Parts.{StatePart, whole, OfEachInstance, with_clauses}
 use Rattle.kp_cases.proofs.PartLemmas.{clauses_restrict, divides_of_these}
 use Rattle.kp_cases.proofs.Excluding.{restricted_alone}
-use Rattle.kp_turns.specs.Firing.{HasNoInstance, AreWhere}
-use Rattle.kp_turns.specs.Turns.{FiresFirst, IsLeftTo}
+use Rattle.kp_turns.specs.Firing.{AreWhere}
+use Rattle.kp_turns.specs.Turns.{FiresFirst}
 use Rattle.kp_turns.proofs.FiringLemmas.{firing_part}
 use Rattle.kp_unify.specs.Narrowed.{NumberedPart}
 use Rattle.kp_step.specs.Places.{IsAt, IsReadAs, IsPriorityAt}
-use Rattle.kp_firing.specs.Ready.{IsReadyPart, HasInstance, parts_of, narrowed_by}
-use Rattle.kp_step.specs.Left.{IsPartIn, AreLeft}
+use Rattle.kp_firing.specs.Ready.{narrowed_by}
+use Rattle.kp_step.specs.Left.{AreLeft}
 use Rattle.kp_step.specs.Found.{PlacedTurn, IsRuleAt, IsMetIn, IsTurnAt, IsTurnAmong}
 use Rattle.kp_step.specs.Tries.{PlacedFiring, IsFiringOf, AreTurnParts}
 use Rattle.kp_step.proofs.LeftLemmas.{firing_is_left}

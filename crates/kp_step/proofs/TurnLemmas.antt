@@ -1,37 +1,29 @@
 -- One rule that is tried, and what follows in the parts of its turn.
-use Rattle.std.proofs.Common.{◌≡◌, refl, sym, ap, subst, ◌∙◌, ℕ, List, [], ◌∷◌, ◌++◌, map, Option, Some, None, inl, inr}
+use Rattle.std.proofs.Common.{◌≡◌, refl, sym, subst, ℕ, List, [], ◌∷◌, ◌++◌, Some, inl, inr}
 use Rattle.std.specs.List.{AllByRecursion, AllZip, Contains}
 use Rattle.kp_kore.specs.Syntax.{Text}
-use Rattle.kp_kore.specs.Signature.{KoreSignature}
-use Rattle.kp_semantics.specs.Rules.{Rewrite, rewrite, RewriteRule}
+use Rattle.kp_semantics.specs.Rules.{RewriteRule}
 use Rattle.kp_semantics.specs.Theory.{Theory}
 use Rattle.kp_semantics.specs.Steps.{Fires, HasTurn}
-use Rattle.kp_symbolic.specs.States.{Literal, SymbolicState}
+use Rattle.kp_symbolic.specs.States.{SymbolicState}
 use Rattle.kp_terms.specs.View.{clauses_view}
 use Rattle.kp_cases.specs.Parts.{StatePart, whole, with_clauses, OfEachInstance}
 use Rattle.kp_turns.specs.Firing.{HasNoInstance, AreFiringCases}
 use Rattle.kp_turns.specs.Turns.{FiresFirst}
 use Rattle.kp_unify.specs.Narrowed.{NumberedPart}
 use Rattle.kp_unify.specs.declared.part.Part.{Part}
-use Rattle.kp_decide.specs.Answers.{IsWeighedAs}
 use Rattle.kp_decide.specs.Read.{HasSortedClauses}
-use Rattle.kp_firing.specs.Ready.{IsReadyPart, narrowed_by, HasInstance, parts_of}
+use Rattle.kp_firing.specs.Ready.{parts_of}
 use Rattle.kp_step.specs.Places.{IsAt}
-use Rattle.kp_step.specs.Left.{IsPartIn, AreLeft, AreKept, is_kept, falls_away, none_left}
+use Rattle.kp_step.specs.Left.{IsPartIn, AreLeft, falls_away, none_left}
 use Rattle.kp_step.specs.Found.{PlacedTurn, IsRuleAt, IsTurnAt}
-use Rattle.std.specs.Option.{option_map}
-use Rattle.kp_wide.specs.Wide.{WideCall, first_wide}
-use Rattle.kp_step.specs.Limits.{TermLimit, number, Passes, IsConditionOf, IsPassed}
+use Rattle.kp_step.specs.Limits.{TermLimit, Passes, IsPassed}
 use Rattle.kp_step.specs.Tries.{PlacedFiring, narrowed_of, IsFiringOf, CanMeet, AreTurnParts}
-use Rattle.kp_step.specs.Answers.{ShowsOf, IsRightAnswerOf, AreDecided, TellsParts}
+use Rattle.kp_step.specs.Answers.{AreDecided, TellsParts}
 use Rattle.kp_step.specs.Views.{numbered_views}
-use Rattle.kp_step.specs.Outcomes.{IsToldOpen}
-use Rattle.kp_step.specs.declared.answers.Open.{Open}
 use Rattle.kp_step.specs.declared.answers.Decided as decisions
 use Rattle.kp_step.specs.declared.answers.Decided.TheVariants as decided
-use Rattle.kp_step.specs.declared.answers.Answer as answers
-use Rattle.kp_step.specs.declared.answers.Answer.TheVariants as answer
-use Rattle.kp_step.proofs.AnswerLemmas.{MayBe, may_by_instance, may_by_open}
+use Rattle.kp_step.proofs.AnswerLemmas.{MayBe}
 use Rattle.kp_step.proofs.CauseLemmas.{open_rule}
 use Rattle.kp_step.proofs.FoundLemmas.{at_contains}
 use Rattle.kp_step.proofs.LeftLemmas.{kept_is_left, kept_have}

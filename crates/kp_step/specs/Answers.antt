@@ -1,9 +1,9 @@
 -- What the code finds of parts and rules, and when that is right.
-use Rattle.std.specs.Prelude.{◌≡◌, ◌<◌, ℕ, List, [], ◌++◌, ◌∷◌, Option, Some, None, map, ⊤}
-use Rattle.std.specs.List.{AllByRecursion, AllZip, Contains}
+use Rattle.std.specs.Prelude.{◌≡◌, ℕ, List, [], ◌++◌, ◌∷◌, Option, Some, None, map}
+use Rattle.std.specs.List.{AllByRecursion, Contains}
 use Rattle.kp_kore.specs.Syntax.{Text}
 use Rattle.kp_kore.specs.Signature.{KoreSignature}
-use Rattle.kp_semantics.specs.Rules.{Rewrite, rewrite, RewriteRule}
+use Rattle.kp_semantics.specs.Rules.{RewriteRule}
 use Rattle.kp_semantics.specs.Theory.{Theory}
 use Rattle.kp_semantics.specs.Steps.{Fires, HasTurn, IsUnknownBy, IsUnknown}
 use Rattle.kp_symbolic.specs.States.{SymbolicState}
@@ -13,7 +13,7 @@ use Rattle.kp_terms.specs.View.{clauses_view, replaced_view}
 use Rattle.kp_cases.specs.Parts.{StatePart, whole, OfEachInstance}
 use Rattle.kp_turns.specs.Firing.{HasNoInstance}
 use Rattle.kp_unify.specs.Narrowed.{NumberedPart}
-use Rattle.kp_unify.specs.Views.{part_view, numbered_view}
+use Rattle.kp_unify.specs.Views.{numbered_view}
 use Rattle.kp_firing.specs.declared.firing.Firing.{Firing}
 use Rattle.kp_step.specs.Places.{IsAt}
 use Rattle.kp_firing.specs.Ready.{HasInstance, parts_of}

@@ -10,8 +10,8 @@ use Rattle.kp_symbolic.specs.States.{Literal, SymbolicState}
 use Rattle.kp_symbolic.specs.Verdicts.{Weighed}
 use Rattle.kp_weights.specs.declared.weight.Weighed as code
 use Rattle.kp_decide.specs.Answers.{IsWeighedAs}
-use Rattle.kp_terms.specs.View.{clauses_view, state_view, replaced_view}
-use Rattle.kp_cases.specs.Parts.{StatePart, whole, OfEachInstance, IsSortedPart, IsGrown}
+use Rattle.kp_terms.specs.View.{clauses_view, state_view}
+use Rattle.kp_cases.specs.Parts.{whole, OfEachInstance, IsSortedPart, IsGrown}
 use Rattle.kp_turns.specs.Firing.{HasNoInstance}
 use Rattle.kp_turns.specs.NextStates.{StepCase, AreStepCases, IsWithinHand}
 use Rattle.kp_unify.specs.Views.{part_view, numbered_view}
@@ -19,10 +19,9 @@ use Rattle.kp_unify.specs.declared.part.Part.{Part}
 use Rattle.kp_firing.specs.Ready.{IsReadyPart, HasInstance}
 use Rattle.kp_step.specs.Places.{IsAt}
 use Rattle.kp_step.specs.Ready.{IsReadyState}
-use Rattle.kp_step.specs.Found.{PlacedTurn}
 use Rattle.kp_step.specs.Causes.{IsLeftOpen, IsFirstMet}
 use Rattle.kp_step.specs.Limits.{PassesNone, with_more, IsPassed}
-use Rattle.kp_step.specs.Views.{next_view, limit_view}
+use Rattle.kp_step.specs.Views.{limit_view}
 use Rattle.kp_step.specs.declared.outcome.Next.{Next}
 use Rattle.kp_step.specs.declared.outcome.StepOutcome.{StepOutcome}
 use Rattle.kp_step.specs.declared.outcome.StepOutcome.TheVariants.{Empty, Cases, Undecided, Foreign, Limited}

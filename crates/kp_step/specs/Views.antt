@@ -1,5 +1,5 @@
 -- Which parts, turns, next states and limits the code's are.
-use Rattle.std.specs.Prelude.{List, map, Option, string_bytes}
+use Rattle.std.specs.Prelude.{List, map, string_bytes}
 use Rattle.kp_symbolic.specs.States.{SymbolicState}
 use Rattle.kp_terms.specs.View.{clauses_view, replaced_view, state_view}
 use Rattle.kp_unify.specs.Narrowed.{NumberedPart}

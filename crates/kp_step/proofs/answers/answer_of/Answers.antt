@@ -1,8 +1,6 @@
-use Rattle.std.proofs.Common.{rules, ◌≡◌, sym, subst, ◌∙◌}
 use Rattle.kp_terms.specs.View.{state_view}
-use Rattle.kp_decide.specs.Answers.{IsRightAnswer}
 use Rattle.kp_unify.specs.Views.{signature_of}
-use Rattle.kp_step.proofs.AnswerLemmas.{says_some, says_none, says_open}
+use Rattle.kp_step.proofs.AnswerLemmas.{says_some, says_none}
 use Rattle.kp_step.proofs.answers.answer_of.Goals as goal
 
 pub returns-in-SomeValuation : goal.returns-in-SomeValuation

@@ -1,4 +1,4 @@
-use Rattle.std.proofs.Common.{rules, ◌≡◌, refl, List, [], Option, None}
+use Rattle.std.proofs.Common.{rules, ◌≡◌, refl, [], None}
 use Rattle.kp_symbolic.specs.Plain.{rough_clauses}
 use Rattle.kp_terms.specs.View.{clauses_view, state_view}
 use Rattle.kp_unify.specs.Views.{signature_of}

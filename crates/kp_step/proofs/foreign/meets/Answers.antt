@@ -1,7 +1,7 @@
 use Rattle.std.proofs.Common.{subst, map}
 use Rattle.std.specs.Prelude.{MatchOption}
 use Rattle.kp_rules.specs.Skeletons.{skeleton_view}
-use Rattle.kp_unify.specs.Views.{signature_of, part_view, numbered_view, met_view}
+use Rattle.kp_unify.specs.Views.{signature_of, numbered_view, met_view}
 use Rattle.kp_unify.specs.Way.{IsAllApart, IsMeeting}
 use Rattle.kp_step.proofs.AskedLemmas.{meetable}
 use Rattle.kp_step.proofs.HeardLemmas.{tells_answer, tells_all_apart}

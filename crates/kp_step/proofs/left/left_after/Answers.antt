@@ -1,4 +1,4 @@
-use Rattle.std.proofs.Common.{rules, ◌≡◌, ◌≤◌, sym, ap, subst, ◌∙◌, List, [], ◌++◌, ◌∷◌, take, length, None}
+use Rattle.std.proofs.Common.{rules, ◌≡◌, ◌≤◌, sym, ap, subst, ◌∙◌, take, length, None}
 use Rattle.kp_unify.specs.Views.{signature_of}
 use Rattle.kp_step.specs.Left.{IsNumberOf, AreLeft, OneTakesAll}
 use Rattle.kp_step.specs.Found.{IsRuleAt}

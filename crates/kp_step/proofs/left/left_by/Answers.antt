@@ -1,5 +1,4 @@
-use Rattle.std.proofs.Common.{rules, ◌≡◌, sym, ap, subst, ◌∙◌, List, [], ◌∷◌, Some, None}
-use Rattle.std.specs.Prelude.{IfOk}
+use Rattle.std.proofs.Common.{rules, ◌≡◌, sym, subst, [], ◌∷◌, None}
 use Rattle.std.specs.Option.{option_map}
 use Rattle.kp_unify.specs.Views.{signature_of}
 use Rattle.kp_step.specs.Rules.{TellsRead, IsReadAt}
@@ -8,7 +7,7 @@ use Rattle.kp_step.specs.Views.{numbered_views}
 use Rattle.kp_decide.proofs.Answered.{if_ok}
 use Rattle.kp_step.proofs.OneSortLemmas.{so_false}
 use Rattle.kp_step.proofs.LeftLemmas.{rule_passes}
-use Rattle.kp_step.proofs.TakeLemmas.{takes_by_test, passes_by_test, takes_all, reads}
+use Rattle.kp_step.proofs.TakeLemmas.{takes_by_test, passes_by_test, reads}
 use Rattle.kp_step.proofs.left.left_by.Goals as goal
 
 pub returns-then-not-takes-clause-left : goal.returns-then-not-takes-clause-left

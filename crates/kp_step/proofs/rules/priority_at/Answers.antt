@@ -1,4 +1,4 @@
-use Rattle.std.proofs.Common.{rules, ◌≡◌, sym, ap, ◌∙◌, Some, None, slice_get}
+use Rattle.std.proofs.Common.{◌≡◌, sym, ap, ◌∙◌, Some, None, slice_get}
 use Rattle.std.specs.Option.{option_map}
 use Rattle.kp_step.proofs.RuleLemmas.{told_priority, told_no_rule}
 use Rattle.kp_step.proofs.rules.priority_at.Goals as goal

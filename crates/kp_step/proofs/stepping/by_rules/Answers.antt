@@ -1,4 +1,4 @@
-use Rattle.std.proofs.Common.{rules, ◌≡◌, subst}
+use Rattle.std.proofs.Common.{subst}
 use Rattle.kp_step.specs.Answers.{TellsKnown}
 use Rattle.kp_step.proofs.stepping.by_rules.Goals as goal
 

@@ -1,4 +1,4 @@
-use Rattle.std.proofs.Common.{rules, ◌≡◌, sym, subst, map, Some, None}
+use Rattle.std.proofs.Common.{subst, map}
 use Rattle.kp_cases.specs.Parts.{whole}
 use Rattle.kp_turns.specs.Turns.{rules_of}
 use Rattle.kp_step.specs.Answers.{TellsRemainder}

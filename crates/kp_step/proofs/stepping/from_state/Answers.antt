@@ -1,4 +1,3 @@
-use Rattle.std.proofs.Common.{rules, ◌≡◌, ◌↔◌}
 use Rattle.kp_terms.specs.View.{state_view}
 use Rattle.kp_unify.specs.Views.{signature_of, numbered_view}
 use Rattle.kp_step.proofs.EndLemmas.{passes_itself, step_from}

@@ -1,6 +1,6 @@
-use Rattle.std.proofs.Common.{rules, ◌≡◌, refl, List, [], ◌∷◌, None, map}
+use Rattle.std.proofs.Common.{rules, ◌≡◌, refl, [], ◌∷◌, None, map}
 use Rattle.kp_cases.specs.Parts.{whole}
-use Rattle.kp_unify.specs.Views.{signature_of, part_view, numbered_view}
+use Rattle.kp_unify.specs.Views.{signature_of, numbered_view}
 use Rattle.kp_step.specs.Views.{numbered_views, turn_view}
 use Rattle.kp_step.proofs.EndLemmas.{all_left, ready_left, remainder_by}
 use Rattle.kp_step.proofs.stepping.remainder_of.Goals as goal

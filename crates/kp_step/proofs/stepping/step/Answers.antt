@@ -1,4 +1,4 @@
-use Rattle.std.proofs.Common.{rules, ◌≡◌, ◌↔◌, subst}
+use Rattle.std.proofs.Common.{subst}
 use Rattle.kp_terms.specs.View.{state_view}
 use Rattle.kp_unify.specs.Views.{signature_of}
 use Rattle.kp_step.specs.Answers.{IsRightAnswerOf}

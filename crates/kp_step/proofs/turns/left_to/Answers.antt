@@ -1,4 +1,4 @@
-use Rattle.std.proofs.Common.{rules, ◌≡◌, ◌∙◌, ap, sym, subst, Some, [], ◌∷◌}
+use Rattle.std.proofs.Common.{rules, ◌≡◌, subst, Some, [], ◌∷◌}
 use Rattle.kp_unify.specs.Views.{signature_of, numbered_view}
 use Rattle.kp_step.specs.Left.{AreLeft}
 use Rattle.kp_step.specs.Views.{numbered_views}

@@ -1,8 +1,6 @@
-use Rattle.std.proofs.Common.{◌≡◌, ap, subst, map}
+use Rattle.std.proofs.Common.{ap, subst, map}
 use Rattle.std.specs.Prelude.{MatchOption, ⊤}
-use Rattle.kp_terms.specs.View.{state_view}
 use Rattle.kp_step.specs.Limits.{IsPassed}
-use Rattle.kp_step.specs.Tries.{narrowed_of}
 use Rattle.kp_step.specs.Views.{turn_view, limit_view}
 use Rattle.kp_step.specs.Answers.{firing_model, TellsParts}
 use Rattle.kp_step.proofs.TriedLemmas.{open_told}

@@ -1,7 +1,6 @@
 use Rattle.std.proofs.Common.{subst}
 use Rattle.std.specs.Option.{option_map}
 use Rattle.kp_step.specs.Rules.{TellsRead}
-use Rattle.kp_step.proofs.TriedLemmas.{no_rule_no_turn}
 use Rattle.kp_step.proofs.turns.try_rule.Goals as goal
 
 pub returns-in-Some : goal.returns-in-Some
