@@ -1,7 +1,7 @@
 # Random states, read and written by the code, against an evaluation of patterns written from matching logic in words.
 # python3 states.py crate        writes the crate crates/stated, a program that reads a module and then a state a line, and
 #                                writes the nanoseconds and what is written for the state that it is read as; to be added to
-#                                crates.txt as stated: kp_kore kp_text kp_print kp_signature kp_terms kp_outward kp_solving
+#                                crates.txt as stated: kp_kore kp_text kp_print kp_signature kp_symbolic kp_outward kp_solving
 # python3 states.py FIRST LAST PROGRAM   a state for each number from FIRST to below LAST, read and written twice; each has
 #                                to have the same instance under twenty valuations, no call of literals alone, and no `x + 0`
 # The program is made as docs/LESSONS.md says under 'A program's speed before its proof'.
@@ -384,7 +384,7 @@ use kp_outward::state_out;
 use kp_print::print_pattern;
 use kp_signature::{Signature, verify};
 use kp_solving::inward;
-use kp_terms::{Language, State};
+use kp_symbolic::{Language, State};
 use kp_text::{read_module, read_pattern};
 use std::alloc::{AllocError, Global};
 use std::io;

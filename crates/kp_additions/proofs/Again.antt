@@ -3,7 +3,7 @@ use Rattle.std.proofs.Common.{◌≡◌, refl, sym, ap, subst, ◌∙◌, ℕ, B
 use Rattle.std.specs.List.{AllByRecursion, AllZip}
 use Rattle.kp_kore.specs.Syntax.{Text, KoreModule}
 use Rattle.kp_text.specs.Spelling.{SpellsModule}
-use Rattle.kp_semantics.specs.Theory.{NumberedAxiom, imports_in}
+use Rattle.kp_kore.specs.Theory.{NumberedAxiom, imports_in}
 use Rattle.kp_book.specs.Books.{Opening, Registration, meaning_in, extended}
 use Rattle.kp_book.proofs.BookLemmas.{meaning_stays}
 use Rattle.kp_registry.specs.Legal.{id_of}

@@ -9,7 +9,7 @@ use Rattle.kp_kore.specs.declared.sentence.Sentence.{Sentence}
 use Rattle.kp_imports.specs.Walks.{import_names}
 use Rattle.kp_imports.proofs.Sentences.{all_taken, imports_in-append, one_further}
 use Rattle.kp_rule_sets.specs.declared.rule_set.RuleSet.{RuleSet}
-use Rattle.kp_semantics.specs.Theory.{NumberedAxiom, imports_in}
+use Rattle.kp_kore.specs.Theory.{NumberedAxiom, imports_in}
 use Rattle.kp_book.specs.Books.{Opening, Registration, meaning_in}
 use Rattle.kp_extensions.specs.Extending.{AreSetsOf}
 use Rattle.kp_registry.specs.Passes.{MeansAt}

@@ -9,7 +9,7 @@ use Rattle.kp_text.specs.Kinds.{kind_number}
 use Rattle.kp_text.specs.Spelling.{IsFaultOf, IsModuleText, SpellsModule}
 use Rattle.kp_text.specs.declared.fault.TextFault.{TextFault}
 use Rattle.kp_rule_sets.specs.declared.rule_set.RuleSet.{RuleSet}
-use Rattle.kp_semantics.specs.Theory.{NumberedAxiom, imports_in}
+use Rattle.kp_kore.specs.Theory.{NumberedAxiom, imports_in}
 use Rattle.kp_book.specs.Books.{Opening, Registration, IsDuplicate, extended}
 use Rattle.kp_extensions.specs.Extending.{AreSetsOf, ExtendFault, IsAddable, IsExtendFault, declaration, rule_fault}
 use Rattle.kp_modules.specs.Made.{IsSetOf}

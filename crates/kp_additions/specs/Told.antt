@@ -8,7 +8,7 @@ use Rattle.kp_kore.specs.Signature.{KoreSignature}
 use Rattle.kp_text.specs.Kinds.{kind_number}
 use Rattle.kp_text.specs.Spelling.{IsFaultOf, IsModuleText}
 use Rattle.kp_text.specs.declared.fault.TextFault.{TextFault}
-use Rattle.kp_semantics.specs.Theory.{NumberedAxiom, imports_in}
+use Rattle.kp_kore.specs.Theory.{NumberedAxiom, imports_in}
 use Rattle.kp_rule_sets.specs.declared.rule_set.RuleSet.{RuleSet}
 use Rattle.kp_replies.specs.Failures.{AdditionFault, bad_text, bad_axiom, bad_sentence, unknown_import, Failure, bad_module, duplicate}
 use Rattle.kp_replies.specs.View.{addition_view}

@@ -4,7 +4,7 @@ ghost use Rattle.std.specs.Option.{option_map};
 ghost use Rattle.std.specs.Str.{IsUtf8};
 ghost use Rattle.kp_kore.specs.Syntax.{Text};
 ghost use Rattle.kp_kore.specs.View.{module_view};
-ghost use Rattle.kp_semantics.specs.Theory.{NumberedAxiom};
+ghost use Rattle.kp_kore.specs.Theory.{NumberedAxiom};
 ghost use Rattle.kp_signature.specs.View.{signature_view};
 ghost use Rattle.kp_text.specs.Spelling.{SpellsModule};
 ghost use Rattle.kp_book.specs.Books.{Opening, Registration, extended as extended_by};

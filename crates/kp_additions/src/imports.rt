@@ -1,7 +1,7 @@
 // What the imports of a module mean at a point of the book.
 ghost use Rattle.std.specs.Prelude.{◌≡◌, IfOk, IfErr, Some, map, string_bytes};
 ghost use Rattle.kp_kore.specs.View.{sentence_view};
-ghost use Rattle.kp_semantics.specs.Theory.{imports_in};
+ghost use Rattle.kp_kore.specs.Theory.{imports_in};
 ghost use Rattle.kp_registry.specs.Passes.{IsPass, MeansAt};
 ghost use Rattle.kp_additions.specs.Served.{AtEachBookSeen};
 ghost use Rattle.kp_additions.specs.Told.{AreMeant, TellsNoMeaning, TellsUnbound};

@@ -3,7 +3,7 @@ use Rattle.std.proofs.Common.{◌≡◌, refl, sym, ap, subst, Bool, true, false
 use Rattle.std.specs.Prelude.{if◌then◌else◌, ⊤}
 use Rattle.std.specs.List.{list_any}
 use Rattle.kp_kore.specs.Syntax.{Text}
-use Rattle.kp_semantics.specs.Theory.{NumberedAxiom}
+use Rattle.kp_kore.specs.Theory.{NumberedAxiom}
 use Rattle.kp_book.specs.Books.{Opening, Registration, binds, rules_in, rules_bound, first_of, meaning_in, is_same_axiom, each_axiom_once, Grows}
 
 bound_stays : (name : Text) (book more : List Registration) (axioms : List NumberedAxiom) → rules_bound book name ≡ Some axioms → rules_bound (book ++ more) name ≡ Some axioms

@@ -1,7 +1,7 @@
 // What stays when a book grows.
 ghost use Rattle.std.specs.Prelude.{◌≡◌, List, Some};
 ghost use Rattle.kp_kore.specs.Syntax.{Text};
-ghost use Rattle.kp_semantics.specs.Theory.{NumberedAxiom};
+ghost use Rattle.kp_kore.specs.Theory.{NumberedAxiom};
 ghost use Rattle.kp_book.specs.Books.{Opening, Registration, Grows, meaning_in};
 
 /// What a name means stays when the book grows.

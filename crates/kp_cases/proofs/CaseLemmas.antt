@@ -3,8 +3,8 @@ use Rattle.std.proofs.Common.{◌≡◌, refl, sym, subst, List, [], ◌∷◌, 
 use Rattle.std.specs.List.{AllByRecursion}
 use Rattle.kp_kore.specs.Syntax.{sort_variable}
 use Rattle.kp_kore.specs.Signature.{KoreSignature}
-use Rattle.kp_semantics.specs.Value.{Value}
-use Rattle.kp_semantics.specs.Instance.{Valuation}
+use Rattle.kp_kore.specs.Value.{Value}
+use Rattle.kp_kore.specs.Instance.{Valuation}
 use Rattle.kp_symbolic.specs.Terms.{Replaced, replacement_for, under_replaced}
 use Rattle.kp_symbolic.specs.States.{AreTrue}
 use Rattle.kp_symbolic.proofs.Distribution.{all_both}

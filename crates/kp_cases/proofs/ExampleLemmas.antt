@@ -2,9 +2,9 @@
 use Rattle.std.proofs.Common.{◌≡◌, refl, sym, ◌∙◌, ap, true, false, [], ◌∷◌, inl, inr}
 use Rattle.std.specs.Prelude.{codes}
 use Rattle.kp_kore.specs.Signature.{itself}
-use Rattle.kp_semantics.specs.Value.{Value, constructed, no_values, next_value, values_same}
-use Rattle.kp_semantics.specs.Instance.{Valuation, GivesSorts}
-use Rattle.kp_semantics.specs.Division.{IsHeldBy}
+use Rattle.kp_kore.specs.Value.{Value, constructed, no_values, next_value, values_same}
+use Rattle.kp_kore.specs.Instance.{Valuation, GivesSorts}
+use Rattle.kp_kore.specs.Division.{IsHeldBy}
 use Rattle.kp_toys.specs.Toys.{sort_p}
 use Rattle.kp_toys.specs.ToysTheory.{toys_signature}
 use Rattle.kp_symbolic.specs.Terms.{term_instance, known, unknown}

@@ -3,10 +3,10 @@ use Rattle.std.proofs.Common.{sym, subst, List, [], ◌∷◌, inl, inr}
 use Rattle.std.specs.Prelude.{⊤}
 use Rattle.std.specs.List.{AllByRecursion}
 use Rattle.kp_kore.specs.Signature.{KoreSignature}
-use Rattle.kp_semantics.specs.Value.{Value, HasSort}
-use Rattle.kp_semantics.specs.Instance.{Valuation, GivesSorts}
-use Rattle.kp_semantics.specs.Cases.{OfOneAlone}
-use Rattle.kp_semantics.specs.Division.{IsHeldBy}
+use Rattle.kp_kore.specs.Value.{Value, HasSort}
+use Rattle.kp_kore.specs.Instance.{Valuation, GivesSorts}
+use Rattle.kp_kore.specs.Cases.{OfOneAlone}
+use Rattle.kp_kore.specs.Division.{IsHeldBy}
 use Rattle.kp_symbolic.specs.States.{Literal, AreTrue}
 use Rattle.kp_symbolic.proofs.Distribution.{all_both}
 use Rattle.kp_cases.specs.Parts.{StatePart, state_reading, OfEachInstance, IsPartBelow, IsDividedWhere, IsDivided, IsRestricted, IsTold, HoldsWhere}

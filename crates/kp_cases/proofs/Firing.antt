@@ -4,10 +4,10 @@ use Rattle.std.specs.List.{AllByRecursion}
 use Rattle.kp_kore.specs.Syntax.{KorePattern, sort_variable}
 use Rattle.kp_kore.specs.Parts.{SortedName, free_variables}
 use Rattle.kp_kore.specs.Signature.{KoreSignature}
-use Rattle.kp_semantics.specs.Instance.{Valuation, AgreesOn, IsTrueUnder}
-use Rattle.kp_semantics.specs.Rules.{Rewrite, rewrite}
-use Rattle.kp_semantics.specs.Steps.{Fires}
-use Rattle.kp_semantics.proofs.TruthLemmas.{same_truth}
+use Rattle.kp_kore.specs.Instance.{Valuation, AgreesOn, IsTrueUnder}
+use Rattle.kp_kore.specs.Rules.{Rewrite, rewrite}
+use Rattle.kp_kore.specs.Steps.{Fires}
+use Rattle.kp_kore.proofs.TruthLemmas.{same_truth}
 use Rattle.kp_symbolic.specs.Terms.{Replaced, under_replaced}
 use Rattle.kp_symbolic.specs.States.{Literal, IsClauseTrue, AreTrue}
 use Rattle.kp_symbolic.proofs.Distribution.{all_both, all_first, all_second}

@@ -5,8 +5,8 @@ use Rattle.std.proofs.lemmas.List.{append_assoc, append-nil}
 use Rattle.kp_kore.specs.Syntax.{Text}
 use Rattle.kp_kore.specs.Parts.{SortedName}
 use Rattle.kp_kore.specs.Signature.{KoreSignature}
-use Rattle.kp_semantics.specs.Instance.{is_named}
-use Rattle.kp_semantics.proofs.NameLemmas.{first_false, second_false}
+use Rattle.kp_kore.specs.Instance.{is_named}
+use Rattle.kp_kore.proofs.NameLemmas.{first_false, second_false}
 use Rattle.kp_symbolic.proofs.Distribution.{all_both}
 use Rattle.kp_cases.specs.Parts.{StatePart, AreNew, IsNewVariable, IsGrown}
 use Rattle.kp_cases.proofs.NewVariables.{turned}

@@ -4,10 +4,10 @@ use Rattle.std.specs.List.{AllByRecursion, filter, list_all}
 use Rattle.kp_kore.specs.Syntax.{KoreSort}
 use Rattle.kp_kore.specs.Parts.{SortedName}
 use Rattle.kp_kore.specs.Signature.{KoreSignature, Head, integers, booleans, tokens, constructor_of, IsHeadOf, is_head, heads_of, IsBelow, itself}
-use Rattle.kp_semantics.specs.Value.{HasSort, head_of}
-use Rattle.kp_semantics.specs.Instance.{Valuation, GivesSorts}
-use Rattle.kp_semantics.specs.Scopes.{IsWithin}
-use Rattle.kp_subsorts.proofs.Below.{onwards}
+use Rattle.kp_kore.specs.Value.{HasSort, head_of}
+use Rattle.kp_kore.specs.Instance.{Valuation, GivesSorts}
+use Rattle.kp_kore.specs.Scopes.{IsWithin}
+use Rattle.kp_signature.proofs.Below.{onwards}
 use Rattle.kp_signature.proofs.HeadLemmas.{is_head-Decides, passed_by_heads}
 use Rattle.kp_symbolic.specs.States.{PassesHead, IsLiteralTrue, IsClauseTrue, AreTrue}
 use Rattle.kp_symbolic.specs.Heads.{passes_head}

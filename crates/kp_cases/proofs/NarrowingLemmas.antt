@@ -4,15 +4,15 @@ use Rattle.std.specs.Prelude.{if◌then◌else◌}
 use Rattle.kp_kore.specs.Syntax.{Text, KoreSort, KoreSorts, no_sorts}
 use Rattle.kp_kore.specs.Parts.{SortedName}
 use Rattle.kp_kore.specs.Signature.{KoreSignature, construction, meaning_of, constructor_of, IsHeadOf, itself}
-use Rattle.kp_semantics.specs.Value.{Value, whole, truth, token, constructed, Values, no_values, next_value, HasSort, HaveSorts, ArgumentSorts, head_of}
-use Rattle.kp_semantics.specs.Instance.{Valuation, GivesSorts, AgreesOn, applied}
-use Rattle.kp_semantics.specs.Scopes.{IsWithin}
-use Rattle.kp_semantics.specs.Cases.{OfOneAlone}
-use Rattle.kp_semantics.specs.Division.{IsHeldBy}
-use Rattle.kp_semantics.proofs.TruthLemmas.{agrees_back}
-use Rattle.kp_semantics.proofs.RunLemmas.{agrees_through}
-use Rattle.kp_semantics.proofs.ArcLemmas.{sorts_stay}
-use Rattle.kp_states.specs.Spelled.{places_of}
+use Rattle.kp_kore.specs.Value.{Value, whole, truth, token, constructed, Values, no_values, next_value, HasSort, HaveSorts, ArgumentSorts, head_of}
+use Rattle.kp_kore.specs.Instance.{Valuation, GivesSorts, AgreesOn, applied}
+use Rattle.kp_kore.specs.Scopes.{IsWithin}
+use Rattle.kp_kore.specs.Cases.{OfOneAlone}
+use Rattle.kp_kore.specs.Division.{IsHeldBy}
+use Rattle.kp_kore.proofs.TruthLemmas.{agrees_back}
+use Rattle.kp_kore.proofs.RunLemmas.{agrees_through}
+use Rattle.kp_kore.proofs.ArcLemmas.{sorts_stay}
+use Rattle.kp_compile.specs.Spelled.{places_of}
 use Rattle.kp_symbolic.specs.Terms.{SymbolicTerm, unknown, known, term_instance, term_instances}
 use Rattle.kp_symbolic.specs.States.{HeadTest, one_head, head_of_sort, PassesHead, same, has_head, Literal, IsClauseTrue, AreTrue, IsStateInstance}
 use Rattle.kp_symbolic.specs.Heads.{passes_head}

@@ -7,10 +7,10 @@ use Rattle.std.proofs.lemmas.Slice.Eq.{bytes_eq-Decides}
 use Rattle.kp_kore.specs.Syntax.{Text}
 use Rattle.kp_kore.specs.Parts.{SortedName}
 use Rattle.kp_kore.specs.Signature.{KoreSignature}
-use Rattle.kp_semantics.specs.Value.{Value, Values, no_values, next_value, HasSort, HaveSorts}
-use Rattle.kp_semantics.specs.Instance.{Valuation, GivesSorts, AgreesOn, assigned, is_named}
-use Rattle.kp_semantics.proofs.NameLemmas.{first_false, second_false, true_is_false}
-use Rattle.kp_semantics.proofs.RunLemmas.{agrees_through}
+use Rattle.kp_kore.specs.Value.{Value, Values, no_values, next_value, HasSort, HaveSorts}
+use Rattle.kp_kore.specs.Instance.{Valuation, GivesSorts, AgreesOn, assigned, is_named}
+use Rattle.kp_kore.proofs.NameLemmas.{first_false, second_false, true_is_false}
+use Rattle.kp_kore.proofs.RunLemmas.{agrees_through}
 use Rattle.kp_symbolic.specs.Terms.{term_instances, all_term_variables}
 use Rattle.kp_symbolic.proofs.HeadQuestions.{assigned_all, off_names}
 use Rattle.kp_cases.specs.Parts.{AreNew}

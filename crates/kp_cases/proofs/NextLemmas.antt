@@ -7,14 +7,14 @@ use Rattle.std.proofs.lemmas.Slice.Eq.{bytes_eq-Decides}
 use Rattle.kp_kore.specs.Syntax.{Text, KoreSort, sort_variable, KoreSorts, next_sort, KorePattern}
 use Rattle.kp_kore.specs.Parts.{SortedName, free_variables}
 use Rattle.kp_kore.specs.Signature.{KoreSignature}
-use Rattle.kp_semantics.specs.Value.{Value, Values, no_values, next_value, HasSort, HaveSorts}
-use Rattle.kp_semantics.specs.Instance.{Valuation, GivesSorts, AgreesOn, is_named, IsTrueUnder}
-use Rattle.kp_semantics.specs.Rules.{Rewrite}
-use Rattle.kp_semantics.specs.Steps.{LeadsTo}
-use Rattle.kp_semantics.proofs.ArcLemmas.{sorts_stay}
-use Rattle.kp_semantics.proofs.InstanceLemmas.{same_instance}
-use Rattle.kp_semantics.proofs.NameLemmas.{first_false, second_false, true_is_false}
-use Rattle.kp_semantics.proofs.TruthLemmas.{same_truth}
+use Rattle.kp_kore.specs.Value.{Value, Values, no_values, next_value, HasSort, HaveSorts}
+use Rattle.kp_kore.specs.Instance.{Valuation, GivesSorts, AgreesOn, is_named, IsTrueUnder}
+use Rattle.kp_kore.specs.Rules.{Rewrite}
+use Rattle.kp_kore.specs.Steps.{LeadsTo}
+use Rattle.kp_kore.proofs.ArcLemmas.{sorts_stay}
+use Rattle.kp_kore.proofs.InstanceLemmas.{same_instance}
+use Rattle.kp_kore.proofs.NameLemmas.{first_false, second_false, true_is_false}
+use Rattle.kp_kore.proofs.TruthLemmas.{same_truth}
 use Rattle.kp_symbolic.specs.Terms.{SymbolicTerm, unknown, term_instance, term_instances, term_variables, Replaced, replacement_for, under_replaced}
 use Rattle.kp_symbolic.specs.States.{SymbolicState, IsStateInstance}
 use Rattle.kp_symbolic.specs.WellFormed.{AreAtHand}

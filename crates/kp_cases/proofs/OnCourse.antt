@@ -3,11 +3,11 @@ use Rattle.std.proofs.Common.{◌≡◌, List, [], ◌∷◌, ◌++◌, map, Som
 use Rattle.std.specs.List.{AllByRecursion, Contains}
 use Rattle.kp_kore.specs.Parts.{SortedName}
 use Rattle.kp_kore.specs.Signature.{KoreSignature}
-use Rattle.kp_semantics.specs.Instance.{Valuation, GivesSorts}
-use Rattle.kp_semantics.specs.Cases.{OfOneAlone}
-use Rattle.kp_semantics.specs.Steps.{AnyByRecursion}
-use Rattle.kp_semantics.specs.Division.{IsHeldBy}
-use Rattle.kp_semantics.proofs.TurnLemmas.{each_member}
+use Rattle.kp_kore.specs.Instance.{Valuation, GivesSorts}
+use Rattle.kp_kore.specs.Cases.{OfOneAlone}
+use Rattle.kp_kore.specs.Steps.{AnyByRecursion}
+use Rattle.kp_kore.specs.Division.{IsHeldBy}
+use Rattle.kp_kore.proofs.TurnLemmas.{each_member}
 use Rattle.kp_symbolic.specs.States.{Literal, AreTrue}
 use Rattle.kp_symbolic.specs.Solving.{Equation}
 use Rattle.kp_symbolic.proofs.Distribution.{all_both, all_first}

@@ -8,11 +8,11 @@ use Rattle.std.proofs.lemmas.List.Elements.{Contains-append_left, Contains-appen
 use Rattle.kp_kore.specs.Syntax.{Text, KoreSort}
 use Rattle.kp_kore.specs.Parts.{SortedName}
 use Rattle.kp_kore.specs.Signature.{KoreSignature, construction, meaning_of, constructor_of, IsHeadOf, IsBelow, itself}
-use Rattle.kp_semantics.specs.Instance.{is_named}
-use Rattle.kp_semantics.specs.Scopes.{IsWithin}
-use Rattle.kp_semantics.proofs.NameLemmas.{true_is_false}
-use Rattle.kp_semantics.proofs.TurnLemmas.{each_member}
-use Rattle.kp_states.specs.Spelled.{places_of}
+use Rattle.kp_kore.specs.Instance.{is_named}
+use Rattle.kp_kore.specs.Scopes.{IsWithin}
+use Rattle.kp_kore.proofs.NameLemmas.{true_is_false}
+use Rattle.kp_kore.proofs.TurnLemmas.{each_member}
+use Rattle.kp_compile.specs.Spelled.{places_of}
 use Rattle.kp_symbolic.specs.Terms.{unknown, all_term_variables}
 use Rattle.kp_symbolic.specs.States.{head_of_sort, Literal}
 use Rattle.kp_symbolic.specs.WellFormed.{IsWellSorted, AreWellSorted, AreAtHand, stands_in_terms}

@@ -10,11 +10,11 @@ use Rattle.std.proofs.lemmas.List.Elements.{Contains-push_cases, Contains-append
 use Rattle.kp_kore.specs.Syntax.{Text, KoreSort, KoreSorts, no_sorts, next_sort}
 use Rattle.kp_kore.specs.Parts.{SortedName}
 use Rattle.kp_kore.specs.Signature.{KoreSignature, construction, meaning_of, itself}
-use Rattle.kp_semantics.specs.Value.{Value, whole, truth, token, constructed, Values, no_values, next_value, HaveSorts}
-use Rattle.kp_semantics.specs.Instance.{Valuation, applied}
-use Rattle.kp_semantics.specs.Steps.{AnyByRecursion}
-use Rattle.kp_semantics.proofs.TurnLemmas.{each_member}
-use Rattle.kp_states.specs.Spelled.{AllNumbersFit}
+use Rattle.kp_kore.specs.Value.{Value, whole, truth, token, constructed, Values, no_values, next_value, HaveSorts}
+use Rattle.kp_kore.specs.Instance.{Valuation, applied}
+use Rattle.kp_kore.specs.Steps.{AnyByRecursion}
+use Rattle.kp_kore.proofs.TurnLemmas.{each_member}
+use Rattle.kp_compile.specs.Spelled.{AllNumbersFit}
 use Rattle.kp_symbolic.specs.Terms.{SymbolicTerm, unknown, known, headed, SymbolicTerms, no_terms, next_term, term_instances, term_variables, all_term_variables, Replaced, replacement_for}
 use Rattle.kp_symbolic.specs.WellFormed.{IsWellSorted, AreWellSorted, AreAtHand}
 use Rattle.kp_symbolic.specs.Folding.{term_for}

@@ -5,11 +5,11 @@ use Rattle.std.specs.List.{AllByRecursion}
 use Rattle.std.proofs.lemmas.List.{append_assoc, append-nil}
 use Rattle.kp_kore.specs.Parts.{SortedName}
 use Rattle.kp_kore.specs.Signature.{KoreSignature}
-use Rattle.kp_semantics.specs.Value.{Value}
-use Rattle.kp_semantics.specs.Instance.{Valuation, GivesSorts, AgreesOn}
-use Rattle.kp_semantics.specs.Cases.{OfOneAlone}
-use Rattle.kp_semantics.specs.Division.{IsPartOf, IsHeldBy}
-use Rattle.kp_semantics.proofs.Dividing.{divided_further, dropped}
+use Rattle.kp_kore.specs.Value.{Value}
+use Rattle.kp_kore.specs.Instance.{Valuation, GivesSorts, AgreesOn}
+use Rattle.kp_kore.specs.Cases.{OfOneAlone}
+use Rattle.kp_kore.specs.Division.{IsPartOf, IsHeldBy}
+use Rattle.kp_kore.proofs.Dividing.{divided_further, dropped}
 use Rattle.kp_symbolic.specs.States.{Literal, IsClauseTrue, AreTrue, IsStateInstance}
 use Rattle.kp_symbolic.proofs.Distribution.{all_both, all_first, all_second}
 use Rattle.kp_symbolic.proofs.Leaf.{once_says}

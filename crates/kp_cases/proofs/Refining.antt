@@ -6,9 +6,9 @@ use Rattle.std.specs.Str.{bytes_eq}
 use Rattle.kp_kore.specs.Syntax.{Text, KoreSort, KorePattern}
 use Rattle.kp_kore.specs.Parts.{SortedName, free_variables}
 use Rattle.kp_kore.specs.Signature.{KoreSignature, itself}
-use Rattle.kp_semantics.specs.Value.{head_of}
-use Rattle.kp_semantics.specs.Instance.{Valuation, GivesSorts, AgreesOn, is_named, IsTrueUnder}
-use Rattle.kp_semantics.proofs.TruthLemmas.{same_truth}
+use Rattle.kp_kore.specs.Value.{head_of}
+use Rattle.kp_kore.specs.Instance.{Valuation, GivesSorts, AgreesOn, is_named, IsTrueUnder}
+use Rattle.kp_kore.proofs.TruthLemmas.{same_truth}
 use Rattle.kp_symbolic.specs.Terms.{SymbolicTerm, unknown, term_instance, term_variables, Replaced, replacement_for, under_replaced}
 use Rattle.kp_symbolic.specs.Formulas.{NoneHold}
 use Rattle.kp_symbolic.specs.States.{Atom, same, has_head, quoted, atom_variables, variables_for, IsAtomTrue, PassesHead, Literal, IsLiteralTrue, IsClauseTrue, AreTrue, clause_variables}

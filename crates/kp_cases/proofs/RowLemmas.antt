@@ -9,15 +9,15 @@ use Rattle.kp_kore.specs.Syntax.{Text, KoreSort, KoreSorts, no_sorts}
 use Rattle.kp_kore.specs.Hooks.{Hook, addition, whole_arithmetic, whole_comparison, truth_connective, truth_negation, values_equal, values_different}
 use Rattle.kp_kore.specs.Parts.{SortedName}
 use Rattle.kp_kore.specs.Signature.{KoreSignature, SymbolMeaning, construction, interpretation, injection, foreign, meaning_of, Head, integers, booleans, tokens, constructor_of, IsHeadOf, IsBelow, IsSortOfHead, boolean_sort, is_the, is_boolean_sort, has_only_truths, is_number_sort, is_truth_sort, are_two, are_one, fits_hook}
-use Rattle.kp_semantics.specs.Value.{Value, whole, truth, token, constructed, Values, no_values, next_value, HasSort, HaveSorts, head_of}
-use Rattle.kp_semantics.specs.Forms.{two}
-use Rattle.kp_semantics.specs.Interpretation.{interpreted}
-use Rattle.kp_semantics.specs.Instance.{Valuation, GivesSorts, applied}
-use Rattle.kp_semantics.specs.Foreign.{IsConstructedBy}
-use Rattle.kp_semantics.proofs.InstanceLemmas.{first_true, second_true}
-use Rattle.kp_semantics.proofs.SameLemmas.{sorts_equal-Decides}
+use Rattle.kp_kore.specs.Value.{Value, whole, truth, token, constructed, Values, no_values, next_value, HasSort, HaveSorts, head_of}
+use Rattle.kp_kore.specs.Forms.{two}
+use Rattle.kp_kore.specs.Interpretation.{interpreted}
+use Rattle.kp_kore.specs.Instance.{Valuation, GivesSorts, applied}
+use Rattle.kp_kore.specs.Foreign.{IsConstructedBy}
+use Rattle.kp_kore.proofs.InstanceLemmas.{first_true, second_true}
+use Rattle.kp_kore.proofs.SameLemmas.{sorts_equal-Decides}
 use Rattle.kp_signature.proofs.NumberLemmas.{number_value, truth_value}
-use Rattle.kp_states.specs.Spelled.{places_of}
+use Rattle.kp_compile.specs.Spelled.{places_of}
 use Rattle.kp_symbolic.specs.Terms.{SymbolicTerm, unknown, offset, known, headed, SymbolicTerms, no_terms, next_term, term_instance, term_instances, term_variables, Replaced, replacement_for}
 use Rattle.kp_symbolic.specs.States.{head_of_sort, AreTrue}
 use Rattle.kp_symbolic.specs.WellFormed.{IsWellSorted, AreAtHand, stands_in_terms}

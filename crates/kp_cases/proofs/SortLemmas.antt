@@ -4,8 +4,8 @@ use Rattle.std.specs.List.{Contains}
 use Rattle.kp_kore.specs.Syntax.{KoreSort}
 use Rattle.kp_kore.specs.Parts.{SortedName}
 use Rattle.kp_kore.specs.Signature.{KoreSignature, itself}
-use Rattle.kp_semantics.specs.Value.{Value, HasSort}
-use Rattle.kp_semantics.specs.Instance.{Valuation, GivesSorts}
+use Rattle.kp_kore.specs.Value.{Value, HasSort}
+use Rattle.kp_kore.specs.Instance.{Valuation, GivesSorts}
 use Rattle.kp_symbolic.specs.Terms.{SymbolicTerm, unknown, term_instance, term_variables}
 use Rattle.kp_symbolic.specs.States.{IsStateInstance, Literal}
 use Rattle.kp_symbolic.specs.WellFormed.{IsWellSorted, AreAtHand}

@@ -5,7 +5,7 @@ use Rattle.std.specs.List.{AllByRecursion, Contains, filter}
 use Rattle.kp_kore.specs.Syntax.{Text, KoreSort}
 use Rattle.kp_kore.specs.Parts.{SortedName}
 use Rattle.kp_kore.specs.Signature.{KoreSignature, Head, itself}
-use Rattle.kp_semantics.specs.Value.{constructed, no_values}
+use Rattle.kp_kore.specs.Value.{constructed, no_values}
 use Rattle.kp_symbolic.specs.Terms.{unknown, known}
 use Rattle.kp_symbolic.specs.States.{HeadTest, one_head, same, has_head, Literal}
 use Rattle.kp_symbolic.specs.WellFormed.{IsWellSorted}

@@ -4,9 +4,9 @@ use Rattle.std.specs.Prelude.{◌≡◌, ◌↔◌, List, ◌∷◌, Option, Som
 use Rattle.std.specs.List.{AllByRecursion}
 use Rattle.kp_kore.specs.Parts.{SortedName, free_variables}
 use Rattle.kp_kore.specs.Signature.{KoreSignature}
-use Rattle.kp_semantics.specs.Value.{Value}
-use Rattle.kp_semantics.specs.Instance.{Valuation, GivesSorts, instance}
-use Rattle.kp_semantics.specs.Rules.{Rewrite}
+use Rattle.kp_kore.specs.Value.{Value}
+use Rattle.kp_kore.specs.Instance.{Valuation, GivesSorts, instance}
+use Rattle.kp_kore.specs.Rules.{Rewrite}
 use Rattle.kp_symbolic.specs.Terms.{SymbolicTerm, term_instance, Replaced, replacement_for}
 use Rattle.kp_symbolic.specs.States.{Literal, AreTrue}
 use Rattle.kp_rules.specs.Skeletons.{Form, Admits}

@@ -6,9 +6,9 @@ use Rattle.std.specs.Option.{option_map}
 use Rattle.kp_kore.specs.Syntax.{KoreSort}
 use Rattle.kp_kore.specs.Parts.{SortedName}
 use Rattle.kp_kore.specs.Signature.{KoreSignature, Head, IsHeadOf, IsBelow}
-use Rattle.kp_semantics.specs.Value.{Value, Values, no_values, next_value, HasSort}
-use Rattle.kp_semantics.specs.Instance.{Valuation}
-use Rattle.kp_semantics.specs.Steps.{AnyByRecursion}
+use Rattle.kp_kore.specs.Value.{Value, Values, no_values, next_value, HasSort}
+use Rattle.kp_kore.specs.Instance.{Valuation}
+use Rattle.kp_kore.specs.Steps.{AnyByRecursion}
 use Rattle.kp_symbolic.specs.Terms.{SymbolicTerm, known, SymbolicTerms, no_terms, next_term, term_instance, term_variables, Replaced, replacement_for}
 use Rattle.kp_symbolic.specs.States.{same, Literal}
 use Rattle.kp_symbolic.specs.WellFormed.{IsWellSorted, AreAtHand}

@@ -1,7 +1,7 @@
 -- Parts, narrowings and courses over the example definition.
 use Rattle.std.specs.Prelude.{Bool, List, [], ◌∷◌, codes}
 use Rattle.kp_kore.specs.Parts.{SortedName}
-use Rattle.kp_semantics.specs.Value.{Value, constructed, no_values}
+use Rattle.kp_kore.specs.Value.{Value, constructed, no_values}
 use Rattle.kp_toys.specs.Toys.{sort_int, sort_s, sort_p}
 use Rattle.kp_symbolic.specs.Terms.{SymbolicTerm, unknown, known, headed}
 use Rattle.kp_symbolic.specs.States.{Literal}

@@ -5,11 +5,11 @@ use Rattle.std.specs.Prelude.{◌++◌, ◌↔◌, ◌∷◌, ◌≡◌, List, N
 use Rattle.kp_kore.specs.Parts.{SortedName, free_variables}
 use Rattle.kp_kore.specs.Signature.{Head, IsHeadOf, KoreSignature, constructor_of}
 use Rattle.kp_kore.specs.Syntax.{KoreSort, Text}
-use Rattle.kp_semantics.specs.Division.{NoneOf}
-use Rattle.kp_semantics.specs.Instance.{GivesSorts, IsTrueUnder, Valuation}
-use Rattle.kp_semantics.specs.Rules.{Rewrite, RuleBody, rewrite}
-use Rattle.kp_semantics.specs.Steps.{Fires, LeadsTo}
-use Rattle.kp_semantics.specs.Value.{HasSort, Value, head_of}
+use Rattle.kp_kore.specs.Division.{NoneOf}
+use Rattle.kp_kore.specs.Instance.{GivesSorts, IsTrueUnder, Valuation}
+use Rattle.kp_kore.specs.Rules.{Rewrite, RuleBody, rewrite}
+use Rattle.kp_kore.specs.Steps.{Fires, LeadsTo}
+use Rattle.kp_kore.specs.Value.{HasSort, Value, head_of}
 use Rattle.kp_symbolic.specs.Solving.{Equation}
 use Rattle.kp_symbolic.specs.States.{AreTrue, Literal, head_of_sort, SymbolicState, IsStateInstance}
 use Rattle.kp_symbolic.specs.Terms.{SymbolicTerm, SymbolicTerms, known, replacement_for, term_instance, under_replaced, unknown, Replaced}

@@ -5,10 +5,10 @@ use Rattle.std.specs.List.{filter, flat_map}
 use Rattle.kp_kore.specs.Syntax.{Text, KoreSort, sort_variable, KoreSorts, no_sorts, next_sort}
 use Rattle.kp_kore.specs.Parts.{SortedName}
 use Rattle.kp_kore.specs.Signature.{KoreSignature, construction, meaning_of, integer_sort, boolean_sort, Head, integers, booleans, tokens, constructor_of, is_head, heads_of}
-use Rattle.kp_semantics.specs.Value.{constructed, no_values}
-use Rattle.kp_semantics.specs.Instance.{Valuation, GivesSorts, AgreesOn, is_named}
-use Rattle.kp_semantics.specs.Scopes.{IsWithin, Extends}
-use Rattle.kp_states.specs.Spelled.{places_of}
+use Rattle.kp_kore.specs.Value.{constructed, no_values}
+use Rattle.kp_kore.specs.Instance.{Valuation, GivesSorts, AgreesOn, is_named}
+use Rattle.kp_kore.specs.Scopes.{IsWithin, Extends}
+use Rattle.kp_compile.specs.Spelled.{places_of}
 use Rattle.kp_symbolic.specs.Terms.{SymbolicTerm, unknown, known, SymbolicTerms, no_terms, next_term}
 use Rattle.kp_symbolic.specs.States.{HeadTest, one_head, head_of_sort, same, has_head, Literal, AreTrue, clause_variables}
 use Rattle.kp_symbolic.specs.Opening.{literal_fact, opened_test}

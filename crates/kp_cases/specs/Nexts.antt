@@ -5,10 +5,10 @@ use Rattle.std.specs.List.{AllByRecursion}
 use Rattle.kp_kore.specs.Syntax.{Text}
 use Rattle.kp_kore.specs.Parts.{SortedName, free_variables}
 use Rattle.kp_kore.specs.Signature.{KoreSignature}
-use Rattle.kp_semantics.specs.Value.{Value}
-use Rattle.kp_semantics.specs.Instance.{Valuation, GivesSorts, is_named, instance, IsTrueUnder}
-use Rattle.kp_semantics.specs.Rules.{Rewrite}
-use Rattle.kp_semantics.specs.Scopes.{Extends}
+use Rattle.kp_kore.specs.Value.{Value}
+use Rattle.kp_kore.specs.Instance.{Valuation, GivesSorts, is_named, instance, IsTrueUnder}
+use Rattle.kp_kore.specs.Rules.{Rewrite}
+use Rattle.kp_kore.specs.Scopes.{Extends}
 use Rattle.kp_symbolic.specs.Terms.{SymbolicTerm, unknown, term_instance, term_variables, Replaced, replacement_for, under_replaced}
 use Rattle.kp_symbolic.specs.States.{AreTrue, SymbolicState, IsStateInstance}
 use Rattle.kp_symbolic.specs.WellFormed.{AreAtHand}

@@ -6,10 +6,10 @@ use Rattle.std.specs.Str.{bytes_eq}
 use Rattle.kp_kore.specs.Syntax.{Text}
 use Rattle.kp_kore.specs.Parts.{SortedName}
 use Rattle.kp_kore.specs.Signature.{KoreSignature}
-use Rattle.kp_semantics.specs.Value.{Value, HasSort}
-use Rattle.kp_semantics.specs.Instance.{Valuation, GivesSorts, AgreesOn, is_named}
-use Rattle.kp_semantics.specs.Replies.{IsFreshName}
-use Rattle.kp_semantics.specs.Division.{Reading, IsPartOf, Divides}
+use Rattle.kp_kore.specs.Value.{Value, HasSort}
+use Rattle.kp_kore.specs.Instance.{Valuation, GivesSorts, AgreesOn, is_named}
+use Rattle.kp_kore.specs.Replies.{IsFreshName}
+use Rattle.kp_kore.specs.Division.{Reading, IsPartOf, Divides}
 use Rattle.kp_symbolic.specs.States.{Literal, AreTrue, SymbolicState, IsStateInstance}
 use Rattle.kp_symbolic.specs.Clauses.{without_repeats}
 use Rattle.kp_symbolic_laws.specs.Runs.{IsSortedLiteral, IsSortedState}

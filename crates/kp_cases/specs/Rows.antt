@@ -4,8 +4,8 @@ use Rattle.std.specs.Prelude.{◌≡◌, List, ⊤}
 use Rattle.kp_kore.specs.Syntax.{Text, KoreSort}
 use Rattle.kp_kore.specs.Parts.{SortedName}
 use Rattle.kp_kore.specs.Signature.{KoreSignature, SymbolMeaning, construction, interpretation, meaning_of, Head, integers, constructor_of}
-use Rattle.kp_semantics.specs.Value.{Value, constructed, HasSort, head_of}
-use Rattle.kp_semantics.specs.Instance.{Valuation, GivesSorts}
+use Rattle.kp_kore.specs.Value.{Value, constructed, HasSort, head_of}
+use Rattle.kp_kore.specs.Instance.{Valuation, GivesSorts}
 use Rattle.kp_symbolic.specs.Terms.{SymbolicTerm, unknown, offset, known, headed, SymbolicTerms, no_terms, next_term, term_instance, term_instances}
 use Rattle.kp_symbolic.specs.Opening.{head_of_call}
 use Rattle.kp_rules.specs.Skeletons.{Form, fixed, built, Forms, Admits}

@@ -3,11 +3,11 @@ ghost use Rattle.std.specs.Prelude.{◌↔◌, List, [], ◌∷◌, ◌++◌, So
 ghost use Rattle.kp_kore.specs.Syntax.{Text, KoreSort};
 ghost use Rattle.kp_kore.specs.Parts.{SortedName};
 ghost use Rattle.kp_kore.specs.Signature.{KoreSignature};
-ghost use Rattle.kp_semantics.specs.Value.{HasSort};
-ghost use Rattle.kp_semantics.specs.Instance.{Valuation};
-ghost use Rattle.kp_semantics.specs.Rules.{Rewrite, rewrite};
-ghost use Rattle.kp_semantics.specs.Steps.{Fires};
-ghost use Rattle.kp_semantics.specs.Scopes.{IsWithin};
+ghost use Rattle.kp_kore.specs.Value.{HasSort};
+ghost use Rattle.kp_kore.specs.Instance.{Valuation};
+ghost use Rattle.kp_kore.specs.Rules.{Rewrite, rewrite};
+ghost use Rattle.kp_kore.specs.Steps.{Fires};
+ghost use Rattle.kp_kore.specs.Scopes.{IsWithin};
 ghost use Rattle.kp_symbolic.specs.Terms.{unknown, under_replaced};
 ghost use Rattle.kp_symbolic.specs.States.{HeadTest, head_of_sort, Literal, AreTrue, SymbolicState};
 ghost use Rattle.kp_symbolic_laws.specs.Runs.{IsSortedState};

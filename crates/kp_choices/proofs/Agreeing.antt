@@ -8,17 +8,17 @@ use Rattle.std.specs.declared.alloc.Global.{Global}
 use Rattle.std.proofs.lemmas.Int.{ints}
 use Rattle.kp_kore.specs.Hooks.{Comparison}
 use Rattle.kp_kore.specs.Signature.{KoreSignature}
-use Rattle.kp_hooks.specs.HookView.{comparison_view}
-use Rattle.kp_semantics.specs.Value.{Value, truth}
-use Rattle.kp_semantics.specs.Interpretation.{compared}
-use Rattle.kp_semantics.specs.Instance.{Valuation}
+use Rattle.kp_kore.specs.HookView.{comparison_view}
+use Rattle.kp_kore.specs.Value.{Value, truth}
+use Rattle.kp_kore.specs.Interpretation.{compared}
+use Rattle.kp_kore.specs.Instance.{Valuation}
 use Rattle.kp_symbolic.specs.Formulas.{NotAllFalse}
 use Rattle.kp_demands.specs.Demands.{Assignment, IsMetBy, HasWay}
 use Rattle.kp_demands.specs.declared.demand.Demand.{Demand}
 use Rattle.kp_conditions.specs.Comparing.{part_number, ways_of}
 use Rattle.kp_conditions.specs.Saying.{named_number, whole_value, token_value}
 use Rattle.kp_conditions.proofs.Ways.{says, through}
-use Rattle.kp_terms.specs.declared.variable.Variable.{Variable}
+use Rattle.kp_symbolic.specs.declared.variable.Variable.{Variable}
 use Rattle.kp_deciding.specs.Forms.{whole_part_view, token_part_view, form_view}
 use Rattle.kp_deciding.specs.Readings.{read_view, clauses_view}
 use Rattle.kp_deciding.specs.declared.form.Form.{Form}

@@ -11,9 +11,9 @@ use Rattle.kp_kore.specs.Parts.{SortedName}
 use Rattle.kp_kore.specs.Syntax.{Text, KoreSort}
 use Rattle.kp_kore.specs.Signature.{KoreSignature, has_only_numbers, has_only_truths}
 use Rattle.kp_ground.specs.View.{value_view}
-use Rattle.kp_semantics.specs.Value.{Value, whole, truth, token, HasSort}
-use Rattle.kp_semantics.specs.Instance.{Valuation, GivesSorts}
-use Rattle.kp_semantics.proofs.TurnLemmas.{each_member}
+use Rattle.kp_kore.specs.Value.{Value, whole, truth, token, HasSort}
+use Rattle.kp_kore.specs.Instance.{Valuation, GivesSorts}
+use Rattle.kp_kore.proofs.TurnLemmas.{each_member}
 use Rattle.kp_signature.proofs.NumberLemmas.{only_numbers, only_truths}
 use Rattle.kp_symbolic.specs.Plain as model
 use Rattle.kp_symbolic.specs.Plain.{has_only_tokens}
@@ -21,8 +21,8 @@ use Rattle.kp_demands.specs.Demands.{Assignment, IsLawful}
 use Rattle.kp_demands.specs.Classes.{AreFixed}
 use Rattle.kp_demands.proofs.Lists.{all_append}
 use Rattle.kp_conditions.specs.Saying.{number_of, named_number, token_value}
-use Rattle.kp_terms.specs.View.{variable_view}
-use Rattle.kp_terms.specs.declared.variable.Variable.{Variable}
+use Rattle.kp_symbolic.specs.View.{variable_view}
+use Rattle.kp_symbolic.specs.declared.variable.Variable.{Variable}
 use Rattle.kp_deciding.specs.Forms.{token_part_view}
 use Rattle.kp_deciding.specs.declared.form.Form.{Form}
 use Rattle.kp_deciding.specs.declared.form.Form.TheVariants.{Compares, Truth, Equates, Asks, Gives}

@@ -9,10 +9,10 @@ use Rattle.std.specs.declared.alloc.Global.{Global}
 use Rattle.std.proofs.lemmas.Slice.Eq.{bytes_eq-Decides}
 use Rattle.kp_kore.specs.Syntax.{Text}
 use Rattle.kp_kore.specs.Hooks.{Comparison, equal, different, less, at_most, greater, at_least}
-use Rattle.kp_hooks.specs.HookView.{comparison_view}
-use Rattle.kp_hooks.specs.declared.hook.Comparison as gc
-use Rattle.kp_semantics.specs.Value.{Value}
-use Rattle.kp_semantics.proofs.SameLemmas.{values_same-Decides}
+use Rattle.kp_kore.specs.HookView.{comparison_view}
+use Rattle.kp_kore.specs.declared.hook.Comparison as gc
+use Rattle.kp_kore.specs.Value.{Value}
+use Rattle.kp_kore.proofs.SameLemmas.{values_same-Decides}
 use Rattle.kp_symbolic.specs.Plain as model
 use Rattle.kp_symbolic.specs.Weights.{DifferenceBound, name_in, largest, all_bounds, bounds_of}
 use Rattle.kp_demands.proofs.Lists.{all_map, all_append, all_of_map}

@@ -4,11 +4,11 @@ use Rattle.kp_kore.specs.Syntax.{Text, KoreSort}
 use Rattle.kp_kore.specs.Attributes.{sorts_equal}
 use Rattle.kp_kore.specs.Signature.{KoreSignature}
 use Rattle.kp_ground.specs.View.{value_view}
-use Rattle.kp_semantics.specs.Value.{Value, whole, truth, token, constructed}
-use Rattle.kp_semantics.specs.Instance.{Valuation, GivesSorts}
-use Rattle.kp_subsorts.proofs.Same.{sorts_equal-Decides}
+use Rattle.kp_kore.specs.Value.{Value, whole, truth, token, constructed}
+use Rattle.kp_kore.specs.Instance.{Valuation, GivesSorts}
+use Rattle.kp_signature.proofs.Same.{sorts_equal-Decides}
 use Rattle.kp_conditions.specs.Saying.{token_value}
-use Rattle.kp_terms.specs.View.{variable_view}
+use Rattle.kp_symbolic.specs.View.{variable_view}
 use Rattle.kp_deciding.specs.Forms.{token_part_view}
 use Rattle.kp_deciding.specs.declared.form.TokenPart.{TokenPart}
 use Rattle.kp_deciding.specs.declared.form.TokenPart.TheVariants.{Unknown, Known}

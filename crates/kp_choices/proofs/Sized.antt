@@ -13,16 +13,16 @@ use Rattle.std.proofs.lemmas.Nat.{pow_pos}
 use Rattle.kp_kore.specs.Syntax.{Text}
 use Rattle.kp_kore.specs.Hooks.{Comparison, equal, different, less, at_most, greater, at_least}
 use Rattle.kp_kore.specs.Signature.{KoreSignature}
-use Rattle.kp_hooks.specs.HookView.{comparison_view}
-use Rattle.kp_hooks.specs.declared.hook.Comparison as gc
-use Rattle.kp_semantics.specs.Interpretation.{compared}
+use Rattle.kp_kore.specs.HookView.{comparison_view}
+use Rattle.kp_kore.specs.declared.hook.Comparison as gc
+use Rattle.kp_kore.specs.Interpretation.{compared}
 use Rattle.kp_symbolic.specs.Plain as model
 use Rattle.kp_symbolic.specs.Weights.{bounds_of}
 use Rattle.kp_demands.specs.Demands.{Sizes, IsSized}
 use Rattle.kp_demands.proofs.Lists.{all_append}
 use Rattle.kp_conditions.specs.Comparing.{ways_of}
 use Rattle.kp_conditions.specs.declared.comparing.Part.{Part}
-use Rattle.kp_terms.specs.declared.variable.Variable.{Variable}
+use Rattle.kp_symbolic.specs.declared.variable.Variable.{Variable}
 use Rattle.kp_deciding.specs.Forms.{whole_part_view, token_part_view}
 use Rattle.kp_deciding.specs.declared.form.Form.{Form}
 use Rattle.kp_deciding.specs.declared.form.Form.TheVariants.{Compares, Truth, Equates, Asks, Gives}

@@ -7,16 +7,16 @@ use Rattle.std.specs.declared.alloc.Global.{Global}
 use Rattle.std.proofs.lemmas.Slice.Eq.{bytes_eq-Decides}
 use Rattle.kp_kore.specs.Syntax.{Text}
 use Rattle.kp_kore.specs.Signature.{KoreSignature}
-use Rattle.kp_semantics.specs.Value.{Value, truth, values_same, HasSort}
-use Rattle.kp_semantics.specs.Instance.{Valuation, GivesSorts}
-use Rattle.kp_semantics.proofs.SameLemmas.{values_same-Decides}
+use Rattle.kp_kore.specs.Value.{Value, truth, values_same, HasSort}
+use Rattle.kp_kore.specs.Instance.{Valuation, GivesSorts}
+use Rattle.kp_kore.proofs.SameLemmas.{values_same-Decides}
 use Rattle.kp_signature.proofs.NumberLemmas.{only_truths}
 use Rattle.kp_symbolic.specs.Plain as model
 use Rattle.kp_demands.specs.Demands.{Assignment, IsLawful}
 use Rattle.kp_demands.specs.Classes.{AreFixed}
 use Rattle.kp_demands.proofs.Lists.{all_append}
 use Rattle.kp_conditions.specs.Saying.{number_of, named_number, token_value}
-use Rattle.kp_terms.specs.View.{variable_view}
+use Rattle.kp_symbolic.specs.View.{variable_view}
 use Rattle.kp_deciding.specs.Forms.{whole_part_view, token_part_view}
 use Rattle.kp_deciding.specs.declared.form.Form.{Form}
 use Rattle.kp_deciding.specs.declared.form.Form.TheVariants.{Compares, Truth, Equates, Asks, Gives}

@@ -3,10 +3,10 @@ use Rattle.std.proofs.Common.{ℤ, ◌≡◌, refl, sym, ap, subst, ◌∙◌, B
 use Rattle.std.specs.List.{list_all, filter, find}
 use Rattle.kp_kore.specs.Syntax.{Text, KoreSort, SymbolDeclaration}
 use Rattle.kp_kore.specs.Signature.{KoreSignature, Head, integers, booleans, tokens, constructor_of, is_head, heads_of, has_only_numbers, has_only_truths}
-use Rattle.kp_semantics.specs.Value.{Value, whole, truth, token, constructed, HasSort}
+use Rattle.kp_kore.specs.Value.{Value, whole, truth, token, constructed, HasSort}
 use Rattle.kp_signature.proofs.HeadLemmas.{is_head-Decides, passed_by_heads}
 use Rattle.kp_signature.proofs.NumberLemmas.{only_numbers, only_truths}
-use Rattle.kp_subsorts.proofs.Same.{sorts_equal-Decides}
+use Rattle.kp_signature.proofs.Same.{sorts_equal-Decides}
 use Rattle.kp_symbolic.specs.Plain.{is_tokens_of, are_tokens_of_one, has_only_tokens}
 use Rattle.kp_deciding.specs.Kinds.{lowers}
 use Rattle.kp_choices.specs.Kinds.{token_sort}

@@ -5,9 +5,9 @@ use Rattle.std.specs.Prelude.{if◌then◌else◌, nat_eq, max, replicate}
 use Rattle.std.proofs.lemmas.List.{length-replicate}
 use Rattle.kp_kore.specs.Syntax.{Text, KoreSort}
 use Rattle.kp_kore.specs.Attributes.{sorts_equal}
-use Rattle.kp_semantics.specs.Value.{Value, whole, truth, token, constructed, values_same}
-use Rattle.kp_semantics.proofs.SameLemmas.{values_same-Decides}
-use Rattle.kp_subsorts.proofs.Same.{sorts_equal-Decides}
+use Rattle.kp_kore.specs.Value.{Value, whole, truth, token, constructed, values_same}
+use Rattle.kp_kore.proofs.SameLemmas.{values_same-Decides}
+use Rattle.kp_signature.proofs.Same.{sorts_equal-Decides}
 use Rattle.kp_symbolic.specs.Plain as model
 use Rattle.kp_demands.specs.Classes.{AreFixed}
 use Rattle.kp_choices.specs.Numbers.{place_by, parts_same}

@@ -3,7 +3,7 @@
 use Rattle.std.specs.Prelude.{List, Option, Some, None, ⊤}
 use Rattle.std.specs.List.{AllByRecursion}
 use Rattle.kp_kore.specs.Signature.{KoreSignature}
-use Rattle.kp_semantics.specs.Instance.{Valuation}
+use Rattle.kp_kore.specs.Instance.{Valuation}
 use Rattle.kp_symbolic.specs.Formulas.{NotAllFalse}
 use Rattle.kp_symbolic.specs.Plain.{Form, asks, gives, ReadLiteral}
 use Rattle.kp_conditions.specs.Saying.{Says}

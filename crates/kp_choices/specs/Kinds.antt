@@ -5,9 +5,9 @@ use Rattle.std.specs.List.{find}
 use Rattle.kp_kore.specs.Attributes.{sorts_equal}
 use Rattle.kp_kore.specs.Syntax.{KoreSort}
 use Rattle.kp_kore.specs.Signature.{KoreSignature, is_head, tokens}
-use Rattle.kp_semantics.specs.Value.{Value, token}
+use Rattle.kp_kore.specs.Value.{Value, token}
 use Rattle.kp_ground.specs.View.{value_view}
-use Rattle.kp_terms.specs.View.{variable_view}
+use Rattle.kp_symbolic.specs.View.{variable_view}
 use Rattle.kp_deciding.specs.Kinds.{lowers}
 use Rattle.kp_deciding.specs.declared.form.TokenPart.{TokenPart}
 use Rattle.kp_deciding.specs.declared.form.TokenPart.TheVariants.{Unknown, Known}

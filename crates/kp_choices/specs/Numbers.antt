@@ -7,7 +7,7 @@ use Rattle.std.specs.List.{flat_map, list_any}
 use Rattle.std.specs.Str.{bytes_eq}
 use Rattle.std.specs.declared.alloc.Global.{Global}
 use Rattle.kp_kore.specs.Syntax.{Text}
-use Rattle.kp_semantics.specs.Value.{values_same}
+use Rattle.kp_kore.specs.Value.{values_same}
 use Rattle.kp_symbolic.specs.Plain as model
 use Rattle.kp_symbolic.specs.Weights.{DifferenceBound, name_in, each_once, all_bounds}
 use Rattle.kp_deciding.specs.Forms.{token_part_view}

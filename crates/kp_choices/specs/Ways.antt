@@ -5,8 +5,8 @@ use Rattle.std.specs.List.{AllByRecursion, flat_map}
 use Rattle.std.specs.declared.alloc.Global.{Global}
 use Rattle.kp_kore.specs.Signature.{KoreSignature}
 use Rattle.kp_kore.specs.Hooks.{Comparison}
-use Rattle.kp_hooks.specs.HookView.{comparison_view}
-use Rattle.kp_semantics.specs.Interpretation.{compared}
+use Rattle.kp_kore.specs.HookView.{comparison_view}
+use Rattle.kp_kore.specs.Interpretation.{compared}
 use Rattle.std.specs.Str.{bytes_eq}
 use Rattle.std.specs.Prelude.{string_bytes}
 use Rattle.kp_demands.specs.Demands.{Assignment, IsMetBy, HasWay, Sizes, IsSized, choices_of}
@@ -17,7 +17,7 @@ use Rattle.kp_demands.specs.declared.demand.Demand.TheVariants as demand
 use Rattle.kp_conditions.specs.Comparing.{ways_of, AreNear}
 use Rattle.kp_conditions.specs.declared.comparing.Part.{Part}
 use Rattle.kp_deciding.specs.Forms.{whole_part_view, token_part_view}
-use Rattle.kp_terms.specs.declared.variable.Variable.{Variable}
+use Rattle.kp_symbolic.specs.declared.variable.Variable.{Variable}
 use Rattle.kp_deciding.specs.declared.form.Form.{Form}
 use Rattle.kp_deciding.specs.declared.form.Form.TheVariants.{Compares, Truth, Equates, Asks, Gives}
 use Rattle.kp_deciding.specs.declared.form.WholePart.{WholePart}

@@ -3,7 +3,7 @@ ghost use Rattle.std.specs.Prelude.{◌≡◌, ◌≤◌, length, map, string_by
 ghost use Rattle.std.specs.Option.{option_map};
 ghost use Rattle.std.specs.Str.{bytes_eq};
 ghost use Rattle.kp_ground.specs.View.{value_view};
-ghost use Rattle.kp_semantics.specs.Value.{values_same};
+ghost use Rattle.kp_kore.specs.Value.{values_same};
 ghost use Rattle.kp_symbolic.specs.Plain.{some_token, one_token};
 ghost use Rattle.kp_deciding.specs.Forms.{token_part_view};
 ghost use Rattle.kp_choices.specs.Numbers as spec;
@@ -12,7 +12,7 @@ ghost use Rattle.kp_choices.specs.Numbers.{texts};
 use kp_deciding::TokenPart;
 use kp_ground::Value;
 use kp_kore::Name;
-use kp_terms::Variable;
+use kp_symbolic::Variable;
 
 /// The place of the first name that is this one; how many there are, where none is.
 pub fn place_of_name(names: &[&Name], name: &Name) -> usize

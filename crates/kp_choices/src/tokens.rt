@@ -4,7 +4,7 @@ ghost use Rattle.std.specs.Option.{option_map};
 ghost use Rattle.kp_ground.specs.View.{value_view};
 ghost use Rattle.kp_kore.specs.View.{sort_view};
 ghost use Rattle.kp_signature.specs.View.{signature_view};
-ghost use Rattle.kp_subsorts.specs.Pairs.{subsort_view};
+ghost use Rattle.kp_signature.specs.Pairs.{subsort_view};
 ghost use Rattle.kp_deciding.specs.Kinds.{lower_sorts};
 ghost use Rattle.kp_choices.specs.Kinds as spec;
 
@@ -12,8 +12,7 @@ use kp_deciding::TokenPart;
 use kp_deciding::kinds::{has_tokens_of, is_same};
 use kp_ground::Value;
 use kp_kore::Sort;
-use kp_signature::Signature;
-use kp_subsorts::Subsort;
+use kp_signature::{Signature, Subsort};
 
 /// The first of the sorts on the left of these pairs whose tokens are values of the sort.
 fn lower_token_sort<'a>(

@@ -13,7 +13,7 @@ use crate::places::place_of_name;
 use kp_deciding::bounds::{Difference, all_bounds};
 use kp_deciding::{Form, ReadLiteral, TokenPart};
 use kp_kore::Name;
-use kp_terms::Variable;
+use kp_symbolic::Variable;
 use std::alloc::{AllocError, Global};
 
 /// The names of whole numbers, each once; the names of truth values, and the tokens, one for each place where one is

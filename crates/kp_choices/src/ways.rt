@@ -1,6 +1,6 @@
 // The ways for what a literal says to hold, each a list of demands that are met together.
 ghost use Rattle.std.specs.Prelude.{◌≡◌, ◌∷◌, ◌++◌, [], IfOk, OnOk};
-ghost use Rattle.kp_hooks.specs.HookView.{comparison_view};
+ghost use Rattle.kp_kore.specs.HookView.{comparison_view};
 ghost use Rattle.kp_signature.specs.View.{signature_view};
 ghost use Rattle.kp_choices.specs.Ways as spec;
 ghost use Rattle.kp_choices.specs.Ways.{items_of_ways, IsNear, AreNearIn};
@@ -11,9 +11,9 @@ use crate::unknowns::Unknowns;
 use kp_conditions::{Part, comparison_ways};
 use kp_deciding::{Form, ReadLiteral, TokenPart, WholePart};
 use kp_demands::Demand;
-use kp_hooks::Comparison;
+use kp_kore::Comparison;
 use kp_signature::Signature;
-use kp_terms::Variable;
+use kp_symbolic::Variable;
 use std::alloc::{AllocError, Global};
 
 /// One way without demands where it holds, else none.

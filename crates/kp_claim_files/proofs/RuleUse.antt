@@ -6,9 +6,9 @@ use Rattle.std.specs.Str.{bytes_eq}
 use Rattle.kp_kore.specs.Attributes.{has_mark}
 use Rattle.kp_kore.specs.Syntax.{Text, implication, Statement}
 use Rattle.kp_kore.specs.Signature.{KoreSignature}
-use Rattle.kp_semantics.specs.Rules as model
-use Rattle.kp_semantics.specs.Foreign.{Reads}
-use Rattle.kp_semantics.specs.ClaimModules.{SortedClaim, claim_axiom, CanBeRule}
+use Rattle.kp_kore.specs.Rules as model
+use Rattle.kp_kore.specs.Foreign.{Reads}
+use Rattle.kp_kore.specs.ClaimModules.{SortedClaim, claim_axiom, CanBeRule}
 use Rattle.kp_signature.specs.Names.{first_place}
 use Rattle.kp_signature.specs.Places.{the_top}
 use Rattle.kp_signature.specs.Verify.{first_fault}

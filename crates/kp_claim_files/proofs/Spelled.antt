@@ -14,7 +14,7 @@ use Rattle.kp_print.proofs.ReadTokens.{IsName, ascii_utf8}
 use Rattle.kp_print.proofs.Spellable.{IsSort, AreSorts, IsSpellable, AreSpellable}
 use Rattle.kp_print.proofs.SpellableModules.{IsWhole, AreAttributes, IsSpellableSentence}
 use Rattle.kp_print.proofs.PrintedTexts.{spelled_module, module_printed}
-use Rattle.kp_semantics.specs.ClaimModules.{SortedClaim, claim_axiom, claims_module}
+use Rattle.kp_kore.specs.ClaimModules.{SortedClaim, claim_axiom, claims_module}
 use Rattle.kp_claims.specs.Claims.{ClaimSides, sides_of}
 use Rattle.kp_claim_files.specs.Modules.{IsSpelled, IsSpelledClaim}
 

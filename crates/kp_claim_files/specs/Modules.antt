@@ -5,7 +5,7 @@ use Rattle.std.specs.Option.{option_map}
 use Rattle.kp_kore.specs.Syntax.{Statement, claim_sentence, KoreModule}
 use Rattle.kp_text.specs.Spelling.{SpellsModule}
 use Rattle.kp_claims.specs.Claims.{sides_of}
-use Rattle.kp_semantics.specs.ClaimModules.{SortedClaim}
+use Rattle.kp_kore.specs.ClaimModules.{SortedClaim}
 use Rattle.kp_claim_sentences.specs.Items.{sorted_view}
 use Rattle.kp_claim_sentences.specs.declared.item.ClaimItem.{ClaimItem}
 

@@ -4,7 +4,7 @@ ghost use Rattle.std.specs.Prelude.{List};
 ghost use Rattle.kp_kore.specs.Syntax.{KoreModule};
 ghost use Rattle.kp_text.specs.Spelling.{SpellsModule};
 ghost use Rattle.kp_print.specs.Printed.{module_text};
-ghost use Rattle.kp_semantics.specs.ClaimModules.{SortedClaim, claims_module};
+ghost use Rattle.kp_kore.specs.ClaimModules.{SortedClaim, claims_module};
 ghost use Rattle.kp_claim_files.specs.Modules.{IsSpelled, IsSpelledClaim};
 
 /// The text of a module of claims that were read spells it, where main is the name of a module that was read.

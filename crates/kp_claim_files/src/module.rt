@@ -3,8 +3,8 @@ ghost use Rattle.std.specs.Prelude.{◌≡◌, ◌<◌, ◌++◌, ◌∷◌, [],
 ghost use Rattle.std.specs.List.{AllByRecursion};
 ghost use Rattle.kp_kore.specs.Syntax.{application, import_sentence, axiom_sentence, string_literal, no_patterns, next_pattern};
 ghost use Rattle.kp_kore.specs.View.{view, sorts_view, patterns_view, axiom_sentence_view, sentence_view, module_view};
-ghost use Rattle.kp_semantics.specs.ClaimModules.{claim_axiom as stated_axiom, claims_module as stated_module};
-ghost use Rattle.kp_semantics.specs.Forms.{marked_by};
+ghost use Rattle.kp_kore.specs.ClaimModules.{claim_axiom as stated_axiom, claims_module as stated_module};
+ghost use Rattle.kp_kore.specs.Forms.{marked_by};
 ghost use Rattle.kp_print.specs.Printed.{module_text as printed_text};
 ghost use Rattle.kp_claim_sentences.specs.Items.{sorted_view};
 ghost use Rattle.kp_claim_files.specs.Modules.{claims_at};

@@ -5,7 +5,7 @@ ghost use Rattle.std.specs.Option.{option_map};
 ghost use Rattle.std.specs.Str.{bytes_eq};
 ghost use Rattle.kp_kore.specs.Syntax.{Text, Statement};
 ghost use Rattle.kp_kore.specs.View.{names_view};
-ghost use Rattle.kp_semantics.specs.ClaimModules.{CanBeRule};
+ghost use Rattle.kp_kore.specs.ClaimModules.{CanBeRule};
 ghost use Rattle.kp_signature.specs.Names.{Indexes};
 ghost use Rattle.kp_signature.specs.Places.{the_top};
 ghost use Rattle.kp_signature.specs.Verify.{first_fault};

@@ -7,7 +7,7 @@ use Rattle.std.specs.Str.{bytes_eq}
 use Rattle.kp_kore.specs.Attributes.{sorts_equal}
 use Rattle.kp_kore.specs.Syntax.{KoreSort, no_sorts, next_sort, KorePattern, no_patterns, next_pattern, variable, set_variable, application, string_literal, literal, top, bottom, negation, next, conjunction, disjunction, implication, equivalence, rewriting, exists, forall, ceil, floor, equals, membership, mu, nu, KoreSentence, import_sentence, sort_sentence, symbol_sentence, alias_sentence, axiom_sentence, claim_sentence, KoreModule}
 use Rattle.kp_text.specs.Grammar.{WrittenSentence, written_import, written_sort, written_symbol, written_alias, written_statement, sentence_meaning, WrittenModule, module_meaning, modules_meaning}
-use Rattle.kp_semantics.specs.Rules.{under_binders}
+use Rattle.kp_kore.specs.Rules.{under_binders}
 use Rattle.kp_claims.specs.Claims.{ClaimSides, counts, counted, sides_of, reached_on_all}
 use Rattle.kp_claims.specs.Files.{SpellsFile}
 use Rattle.kp_claim_sentences.specs.Claims.{StatedClaim, IsStatedBy}

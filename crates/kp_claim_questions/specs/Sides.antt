@@ -1,6 +1,6 @@
 -- Claims whose sides a client can ask about over JSON.
 -- Source: the K framework's Kore JSON, version 1; claims of the K framework (\exists on the right).
-use Rattle.kp_semantics.specs.Rules.{under_binders}
+use Rattle.kp_kore.specs.Rules.{under_binders}
 use Rattle.kp_rpc.specs.Questions.{IsReadBack}
 use Rattle.kp_claim_sentences.specs.Claims.{StatedClaim}
 

@@ -2,7 +2,7 @@
 use Rattle.std.proofs.Common.{◌≡◌, Option, None}
 use Rattle.kp_kore.specs.Parts.{free_variables}
 use Rattle.kp_kore.specs.Signature.{KoreSignature}
-use Rattle.kp_semantics.specs.Cases.{HaveOneSort}
+use Rattle.kp_kore.specs.Cases.{HaveOneSort}
 use Rattle.kp_signature.specs.Places.{the_top, part_at, after}
 use Rattle.kp_signature.specs.Verify.{first_fault, fault_at}
 use Rattle.kp_signature.proofs.OneSort.{agrees, one_sort_among, two_parts}

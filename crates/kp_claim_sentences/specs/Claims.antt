@@ -8,9 +8,9 @@ use Rattle.std.specs.Str.{bytes_eq}
 use Rattle.kp_kore.specs.Syntax.{Text, KorePattern, KorePatterns, exists, forall, Statement, KoreSentence, import_sentence, sort_sentence, symbol_sentence, alias_sentence, axiom_sentence, claim_sentence}
 use Rattle.kp_kore.specs.Attributes.{has_mark, text_of}
 use Rattle.kp_kore.specs.Parts.{subpatterns, free_variables}
-use Rattle.kp_semantics.specs.Instance.{is_named, conjoined_terms}
-use Rattle.kp_semantics.specs.Rules.{new_variables_of, under_binders}
-use Rattle.kp_semantics.specs.ClaimModules.{SortedClaim}
+use Rattle.kp_kore.specs.Instance.{is_named, conjoined_terms}
+use Rattle.kp_kore.specs.Rules.{new_variables_of, under_binders}
+use Rattle.kp_kore.specs.ClaimModules.{SortedClaim}
 use Rattle.kp_claims.specs.Claims.{ClaimSides, sides_of, has_attribute, is_without_parameters, label_of}
 
 -- ---- dependencies

@@ -11,12 +11,12 @@ use Rattle.kp_kore.specs.Parts.{variable_names}
 use Rattle.kp_kore.specs.Signature.{KoreSignature}
 use Rattle.kp_kore.specs.Syntax.{Text, Statement, KoreSentence, import_sentence, sort_sentence, symbol_sentence, alias_sentence, axiom_sentence, claim_sentence, KoreModule}
 use Rattle.kp_text.specs.Spelling.{IsFaultOf}
-use Rattle.kp_semantics.specs.Rules.{constrained_term, under_binders}
-use Rattle.kp_semantics.specs.ClaimModules.{CanBeRule}
+use Rattle.kp_kore.specs.Rules.{constrained_term, under_binders}
+use Rattle.kp_kore.specs.ClaimModules.{CanBeRule}
 use Rattle.kp_signature.specs.Names.{first_place}
 use Rattle.kp_signature.specs.Places.{earlier, the_top}
 use Rattle.kp_signature.specs.Verify.{VerifyFault, first_fault}
-use Rattle.kp_states.specs.Spelled.{first_foreign}
+use Rattle.kp_compile.specs.Spelled.{first_foreign}
 use Rattle.kp_layers.specs.Layers.{DependsOn}
 use Rattle.kp_claims.specs.Claims.{counted, ClaimSides, is_one_path, label_of}
 use Rattle.kp_claims.specs.Faults.{Fault, one_path, other_shape, unverified, foreign_symbol, other_side, fresh_name, no_rule, unknown_label, circle, label_fault, bare_claim, label_at, labels_of, Tells}

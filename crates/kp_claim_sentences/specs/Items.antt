@@ -1,8 +1,8 @@
 -- What the code's claims stand for.
 use Rattle.std.specs.Prelude.{List, map, string_bytes}
 use Rattle.kp_kore.specs.View.{view, sort_view, names_view}
-use Rattle.kp_semantics.specs.ClaimView.{claim_view}
-use Rattle.kp_semantics.specs.ClaimModules.{SortedClaim}
+use Rattle.kp_kore.specs.ClaimView.{claim_view}
+use Rattle.kp_kore.specs.ClaimModules.{SortedClaim}
 use Rattle.kp_claim_sentences.specs.Claims.{StatedClaim}
 use Rattle.kp_claim_sentences.specs.declared.item.ClaimItem.{ClaimItem}
 

@@ -6,7 +6,7 @@ ghost use Rattle.kp_claim_sentences.specs.Noted.{has_name};
 ghost use Rattle.std.specs.Prelude.{IfOk, map};
 ghost use Rattle.std.specs.List.{list_all, filter};
 ghost use Rattle.kp_kore.specs.View.{view, sorted_variable_view};
-ghost use Rattle.kp_semantics.specs.Instance.{is_named};
+ghost use Rattle.kp_kore.specs.Instance.{is_named};
 ghost use Rattle.kp_rules.specs.Shapes.{variables_seen};
 ghost use Rattle.kp_claims.specs.Sides.{sides_view};
 ghost use Rattle.kp_claim_sentences.specs.Claims.{has_chosen_in_term};

@@ -1,5 +1,4 @@
-use kp_kore::{Name, Pattern, Sort};
-use kp_semantics::Claim;
+use kp_kore::{Claim, Name, Pattern, Sort};
 
 /// A claim of a claims file: its label, the sort of its sides, its whole pattern, its sides, whether it is its own
 /// circularity, and the labels of the claims that it depends on.

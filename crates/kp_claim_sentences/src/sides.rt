@@ -4,7 +4,7 @@ ghost use Rattle.std.specs.List.{find};
 ghost use Rattle.std.specs.Option.{option_map, is_some};
 ghost use Rattle.kp_kore.specs.Parts.{variable_names};
 ghost use Rattle.kp_kore.specs.View.{view};
-ghost use Rattle.kp_semantics.specs.Rules.{constrained_term};
+ghost use Rattle.kp_kore.specs.Rules.{constrained_term};
 ghost use Rattle.kp_signature.specs.Places.{the_top};
 ghost use Rattle.kp_signature.specs.Verify.{first_fault};
 ghost use Rattle.kp_signature.specs.View.{signature_view};

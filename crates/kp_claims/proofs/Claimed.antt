@@ -10,10 +10,10 @@ use Rattle.kp_signature.specs.Faults.{fault_view as verify_view}
 use Rattle.kp_signature.specs.Verify.{VerifyFault, first_fault, unknown_sort, unknown_symbol, wrong_number, sort_differs, number_too_wide, term_too_deep, no_literal}
 use Rattle.kp_signature.specs.declared.error.VerifyError.{VerifyError}
 use Rattle.kp_signature.specs.declared.error.VerifyError.TheVariants as verify
-use Rattle.kp_states.specs.Spelled.{first_foreign, IsOtherShape, no_term, not_closed, wide}
-use Rattle.kp_states.specs.States.{IsTold}
-use Rattle.kp_states.specs.declared.error.StateError.{StateError}
-use Rattle.kp_states.specs.declared.error.StateError.TheVariants as state
+use Rattle.kp_compile.specs.Spelled.{first_foreign, IsOtherShape, no_term, not_closed, wide}
+use Rattle.kp_compile.specs.States.{IsTold}
+use Rattle.kp_compile.specs.declared.state_error.StateError.{StateError}
+use Rattle.kp_compile.specs.declared.state_error.StateError.TheVariants as state
 use Rattle.kp_claims.specs.Claims.{ClaimSides, sides_of, is_ground, is_plain, if_ground, ground_sides, label_of}
 use Rattle.kp_claims.specs.Faults.{Fault, other_shape, unverified, foreign_symbol, IsWide, Tells, outline_fault, label_fault, bare_claim, meaning_fault, claim_fault, IsWideClaim, IsNumberFault, IsFaultOfSides, AreFaultlessSides, IsFaultOfClaim, IsFaultlessClaim, TellsOf}
 use Rattle.kp_claims.specs.declared.fault.ClaimError.{ClaimError}

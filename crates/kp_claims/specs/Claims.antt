@@ -9,8 +9,8 @@ use Rattle.std.specs.Str.{bytes_eq}
 use Rattle.kp_kore.specs.Syntax.{Text, KoreSort, no_sorts, next_sort, KorePattern, application, implication, KorePatterns, no_patterns, next_pattern, Statement, KoreSentence, import_sentence, sort_sentence, symbol_sentence, alias_sentence, axiom_sentence, claim_sentence, KoreModule}
 use Rattle.kp_kore.specs.Attributes.{sorts_equal, has_mark, text_of}
 use Rattle.kp_kore.specs.Parts.{SortedName, is_term, free_variables}
-use Rattle.kp_semantics.specs.Rules.{is_rewriting}
-use Rattle.kp_semantics.specs.Claims.{ReachabilityClaim}
+use Rattle.kp_kore.specs.Rules.{is_rewriting}
+use Rattle.kp_kore.specs.Claims.{ReachabilityClaim}
 
 -- ---- sentences
 

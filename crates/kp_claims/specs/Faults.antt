@@ -9,9 +9,9 @@ use Rattle.kp_text.specs.Spelling.{IsFaultOf}
 use Rattle.kp_signature.specs.Faults as verify
 use Rattle.kp_signature.specs.Places.{earlier, the_top}
 use Rattle.kp_signature.specs.Verify.{VerifyFault, first_fault}
-use Rattle.kp_semantics.specs.Instance.{Valuation}
-use Rattle.kp_semantics.specs.Numbers.{computes_wide}
-use Rattle.kp_states.specs.Spelled.{first_foreign}
+use Rattle.kp_kore.specs.Instance.{Valuation}
+use Rattle.kp_kore.specs.Numbers.{computes_wide}
+use Rattle.kp_compile.specs.Spelled.{first_foreign}
 use Rattle.kp_claims.specs.Claims.{counted, ClaimSides, is_one_path, ground_sides, label_of}
 use Rattle.kp_claims.specs.Files.{IsFileText, SpellsFile}
 use Rattle.kp_claims.specs.declared.fault.ClaimError.{ClaimError}

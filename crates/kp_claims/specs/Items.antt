@@ -1,7 +1,7 @@
 -- What the code's claims stand for.
 use Rattle.std.specs.Prelude.{List, map, string_bytes}
 use Rattle.kp_kore.specs.View.{view, names_view}
-use Rattle.kp_semantics.specs.ClaimView.{claim_view}
+use Rattle.kp_kore.specs.ClaimView.{claim_view}
 use Rattle.kp_claims.specs.Claims.{LabelledClaim}
 use Rattle.kp_claims.specs.declared.item.ClaimItem.{ClaimItem}
 

@@ -4,7 +4,7 @@ use Rattle.kp_kore.specs.Syntax.{KoreSort, KorePattern}
 use Rattle.kp_kore.specs.Signature.{KoreSignature}
 use Rattle.kp_kore.specs.View.{view, sort_view}
 use Rattle.kp_signature.specs.Verify.{VerifiesAs}
-use Rattle.kp_states.specs.Spelled.{first_foreign}
+use Rattle.kp_compile.specs.Spelled.{first_foreign}
 use Rattle.kp_claims.specs.Claims.{ClaimSides, is_ground}
 use Rattle.kp_claims.specs.Faults.{Fault, other_shape, IsWide, HasWideSide}
 use Rattle.kp_claims.specs.declared.outline.Sides.{Sides}
@@ -13,8 +13,8 @@ use Rattle.kp_claims.specs.declared.fault.ClaimError.TheVariants as error
 use Rattle.kp_claims.specs.declared.fault.ClaimFault.TheVariants as told
 use Rattle.kp_signature.specs.declared.error.VerifyError.{VerifyError}
 use Rattle.kp_signature.specs.declared.error.VerifyError.TheVariants as verify
-use Rattle.kp_states.specs.declared.error.StateError.{StateError}
-use Rattle.kp_states.specs.declared.error.StateError.TheVariants as state
+use Rattle.kp_compile.specs.declared.state_error.StateError.{StateError}
+use Rattle.kp_compile.specs.declared.state_error.StateError.TheVariants as state
 
 abbrev pub sides_view : Sides → ClaimSides
 sides_view c = record { sort = sort_view c.sort.now; left = view c.left.now; right = view c.right.now }

@@ -1,5 +1,4 @@
-use kp_kore::{Name, Pattern};
-use kp_semantics::Claim;
+use kp_kore::{Claim, Name, Pattern};
 
 /// A claim of a claims file, with its label and the labels of the claims that it depends on.
 #[derive(Drop)]

@@ -2,7 +2,7 @@
 ghost use Rattle.std.specs.Prelude.{◌≡◌, ◌++◌, IfOk, OnOk, map};
 ghost use Rattle.std.specs.List.{filter};
 ghost use Rattle.kp_kore.specs.View.{view, sentence_view, module_view};
-ghost use Rattle.kp_semantics.specs.Rules.{is_rewriting as rewriting_test};
+ghost use Rattle.kp_kore.specs.Rules.{is_rewriting as rewriting_test};
 ghost use Rattle.kp_claims.specs.Claims.{counted, counts as counts_test};
 ghost use Rattle.kp_claims.specs.Sentences.{seen};
 

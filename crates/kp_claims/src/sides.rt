@@ -5,17 +5,16 @@ ghost use Rattle.kp_kore.specs.View.{view, sort_view};
 ghost use Rattle.kp_signature.specs.Places.{the_top};
 ghost use Rattle.kp_signature.specs.Verify.{first_fault, VerifiesAs};
 ghost use Rattle.kp_signature.specs.View.{signature_view};
-ghost use Rattle.kp_states.specs.Spelled.{first_foreign as first_foreign_in};
+ghost use Rattle.kp_compile.specs.Spelled.{first_foreign as first_foreign_in};
 ghost use Rattle.kp_claims.specs.Claims.{is_ground};
 ghost use Rattle.kp_claims.specs.Faults.{unverified, foreign_symbol, bare_claim as stated_bare, IsWide, IsWideClaim, IsNumberFault, IsFaultOfSides, AreFaultlessSides, TellsOf};
 ghost use Rattle.kp_claims.specs.Sides.{sides_view, HasMeaning, IsGroundAt, IsNumberFaultOf, error_of_verify, error_of_state};
 
 use crate::fault::{ClaimError, ClaimFault};
 use crate::outline::Sides;
-use kp_kore::{Pattern, Sort};
-use kp_semantics::Claim;
+use kp_compile::{StateError, first_foreign, state_of};
+use kp_kore::{Claim, Pattern, Sort};
 use kp_signature::{Signature, VerifyError, verify};
-use kp_states::{StateError, first_foreign, state_of};
 use std::alloc::{AllocError, Global};
 
 /// The claim between these ground sides: C9 of the first verify fault of `\implies{S}(left, right)`, then of the first

@@ -10,10 +10,10 @@ use Rattle.kp_kore.specs.Parts.{is_term}
 use Rattle.kp_kore.specs.Signature.{KoreSignature}
 use Rattle.kp_kore.specs.View.{view}
 use Rattle.kp_kore.specs.declared.pattern.Pattern.{Pattern}
-use Rattle.kp_semantics.specs.Instance.{conjuncts, all_conjuncts}
+use Rattle.kp_kore.specs.Instance.{conjuncts, all_conjuncts}
 use Rattle.kp_signature.specs.Places.{Place, earlier, part_at, after}
 use Rattle.kp_signature.specs.Verify.{VerifyFault, first_fault, fault_at, members_fault}
-use Rattle.kp_terms.specs.Faultless.{IsFaultless}
+use Rattle.kp_symbolic.specs.Faultless.{IsFaultless}
 
 earlier_none : (a b : Option VerifyFault) → earlier a b ≡ None → a ≡ None
 earlier_none None b e = refl

@@ -11,8 +11,8 @@ use Rattle.kp_kore.specs.Signature.{KoreSignature, meaning_of}
 use Rattle.kp_kore.specs.Sorting.{sort_of_term}
 use Rattle.kp_kore.specs.declared.pattern.Pattern.{Pattern}
 use Rattle.kp_compile.specs.Parts.{seen}
-use Rattle.kp_semantics.specs.Foreign.{none_within, has_foreign_head, is_foreign_meaning}
-use Rattle.kp_semantics.specs.Instance.{is_predicate, conjuncts, all_conjuncts, conjoined_terms, conjoined_predicates}
+use Rattle.kp_kore.specs.Foreign.{none_within, has_foreign_head, is_foreign_meaning}
+use Rattle.kp_kore.specs.Instance.{is_predicate, conjuncts, all_conjuncts, conjoined_terms, conjoined_predicates}
 use Rattle.kp_signature.specs.Places.{earlier, own_sort, the_top, part_at}
 use Rattle.kp_signature.specs.Verify.{VerifiesAs}
 use Rattle.kp_signature.proofs.FaultLemmas.{nothing_later as nothing_below, term_has_wanted_sort}

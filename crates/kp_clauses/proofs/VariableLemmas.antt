@@ -6,8 +6,8 @@ use Rattle.std.proofs.lemmas.List.{append_assoc, map-append}
 use Rattle.kp_kore.specs.Parts.{SortedName}
 use Rattle.kp_kore.specs.View.{sorted_variable_view}
 use Rattle.kp_kore.specs.declared.pattern_free.SortedVariable.{SortedVariable}
-use Rattle.kp_terms.specs.View.{variable_view, variables_view}
-use Rattle.kp_terms.specs.declared.variable.Variable.{Variable}
+use Rattle.kp_symbolic.specs.View.{variable_view, variables_view}
+use Rattle.kp_symbolic.specs.declared.variable.Variable.{Variable}
 
 pub taken_along : (new found : List (Arc Variable Global)) (x : Arc Variable Global) (y : SortedVariable) (old rest : List SortedVariable) (whole : List SortedName) → new ≡ found ++ x ∷ [] → variable_view x.value ≡ sorted_variable_view y → old ≡ y ∷ rest →
     variables_view found ++ map sorted_variable_view old ≡ whole → variables_view new ++ map sorted_variable_view rest ≡ whole

@@ -6,9 +6,9 @@ use Rattle.std.specs.Option.{option_map}
 use Rattle.kp_kore.specs.Syntax.{Text, KorePattern, variable, literal, application}
 use Rattle.kp_kore.specs.Parts.{subpatterns}
 use Rattle.kp_kore.specs.Signature.{KoreSignature}
-use Rattle.kp_semantics.specs.Instance.{is_predicate, conjuncts}
+use Rattle.kp_kore.specs.Instance.{is_predicate, conjuncts}
 use Rattle.kp_signature.specs.Places.{earlier}
-use Rattle.kp_states.specs.Spelled.{foreign_name}
+use Rattle.kp_compile.specs.Spelled.{foreign_name}
 
 -- a foreign symbol or an alias, or what is neither the one term nor a predicate
 pub data StateFault : Type 0 where

@@ -4,9 +4,9 @@ ghost use Rattle.std.specs.List.{AllByRecursion};
 ghost use Rattle.kp_compile.specs.declared.error.CompileError.TheVariants.{Memory};
 ghost use Rattle.kp_kore.specs.View.{view};
 ghost use Rattle.kp_symbolic.specs.Clauses as model;
-ghost use Rattle.kp_terms.specs.Faultless.{IsFaultless};
-ghost use Rattle.kp_terms.specs.Languages.{language_view};
-ghost use Rattle.kp_terms.specs.View.{clauses_view, literal_view, replaced_view};
+ghost use Rattle.kp_symbolic.specs.Faultless.{IsFaultless};
+ghost use Rattle.kp_symbolic.specs.Languages.{language_view};
+ghost use Rattle.kp_symbolic.specs.View.{clauses_view, literal_view, replaced_view};
 ghost use Rattle.kp_compile.specs.Parts.{seen};
 ghost use Rattle.kp_distribution.specs.Distribution.{most_counted};
 
@@ -17,7 +17,7 @@ use kp_distribution::joined::{kept_once, make_clause};
 use kp_forms::conjuncts;
 use kp_kore::Pattern;
 use kp_leaves::quotation::quoted_literal;
-use kp_terms::{Clause, Language, Literal, Replaced};
+use kp_symbolic::{Clause, Language, Literal, Replaced};
 use std::alloc::{AllocError, Global};
 
 /// The predicate as one literal, with the sign of its negations.

@@ -3,7 +3,7 @@ ghost use Rattle.std.specs.Prelude.{◌≡◌, false, [], IfOk};
 ghost use Rattle.std.specs.Option.{option_map};
 ghost use Rattle.kp_kore.specs.Signature.{KoreSignature};
 ghost use Rattle.kp_kore.specs.View.{view};
-ghost use Rattle.kp_semantics.specs.Instance.{is_predicate as predicate_test};
+ghost use Rattle.kp_kore.specs.Instance.{is_predicate as predicate_test};
 ghost use Rattle.kp_signature.specs.View.{signature_view};
 ghost use Rattle.kp_compile.specs.Parts.{seen as patterns_seen};
 ghost use Rattle.kp_clauses.specs.Faults as model;

@@ -2,8 +2,8 @@
 use Rattle.std.proofs.Common.{◌≡◌, refl, sym, ◌∙◌, ap, subst, ◌≤◌, ◌<◌, ℕ, Option, Some, None, List, [], ◌∷◌, ◌++◌, option_map, Vec, Global, Result, Ok, Err, OnErr, ℤ}
 use Rattle.serde_json.specs.Written.{compact_text}
 use Rattle.kp_kore.specs.Syntax.{KorePattern}
-use Rattle.kp_semantics.specs.Claims.{ReachabilityClaim}
-use Rattle.kp_semantics.specs.Implied.{not_valid}
+use Rattle.kp_kore.specs.Claims.{ReachabilityClaim}
+use Rattle.kp_kore.specs.Implied.{not_valid}
 use Rattle.kp_graph.specs.Tree.{ProofNode, node_at}
 use Rattle.kp_rpc.specs.Questions.{Question, question_tree}
 use Rattle.kp_rpc.specs.Request.{RequestId}

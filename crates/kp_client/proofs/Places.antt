@@ -1,6 +1,6 @@
 -- The claim at a place of a claims file's list.
 use Rattle.std.proofs.Common.{◌≡◌, ◌∙◌, ap, ℕ, zero, suc, ◌<◌, Some, List, [], ◌∷◌, length, slice_get, get_or, arith}
-use Rattle.kp_semantics.specs.ClaimView.{claim_view}
+use Rattle.kp_kore.specs.ClaimView.{claim_view}
 use Rattle.kp_claims.specs.Claims.{LabelledClaim}
 use Rattle.kp_claims.specs.Items.{item_view, items_view}
 use Rattle.kp_claims.specs.declared.item.ClaimItem.{ClaimItem}

@@ -3,7 +3,7 @@ use Rattle.std.proofs.Common.{◌≡◌, refl, sym, ◌∙◌, ap, subst, ℕ, s
 use Rattle.kp_kore.specs.Syntax.{KorePattern}
 use Rattle.kp_kore.specs.View.{view}
 use Rattle.kp_kore.specs.declared.pattern.Pattern.{Pattern}
-use Rattle.kp_semantics.specs.Claims.{ReachabilityClaim}
+use Rattle.kp_kore.specs.Claims.{ReachabilityClaim}
 use Rattle.kp_graph.specs.Tree as graph
 use Rattle.kp_graph.specs.Tree.{ProofNode, HeldBy, node_at, first_nodes, with_arc, with_hold, with_edge}
 use Rattle.kp_graph.proofs.Opened.{split}

@@ -2,16 +2,16 @@
 use Rattle.std.proofs.Common.{◌≡◌, refl, sym, subst, ℕ, ◌^◌, ◌<◌, ◌≤◌, true, Option, Some, None, List, [], ◌∷◌}
 use Rattle.kp_kore.specs.Syntax.{KorePattern, sort_variable, conjunction, next_pattern, no_patterns}
 use Rattle.kp_kore.specs.Parts.{SortedName, free_variables}
-use Rattle.kp_semantics.specs.Instance.{Valuation, GivesSorts, AgreesOn}
-use Rattle.kp_semantics.specs.Theory.{Theory}
-use Rattle.kp_semantics.specs.Claims.{ReachabilityClaim}
-use Rattle.kp_semantics.specs.Arcs.{EdgeSays, CoverSays, StuckSays}
-use Rattle.kp_semantics.specs.Implied.{Implied, DoesImply, HasCounterexample, IsRightImplied, not_valid, valid}
-use Rattle.kp_semantics.specs.Onward.{Leads, Passes}
-use Rattle.kp_semantics.specs.Executions as theory
-use Rattle.kp_semantics.specs.Executions.{Options, Executed, RunsTo, IsRightExecuted}
-use Rattle.kp_semantics.proofs.GroundReplies.{after_of_both}
-use Rattle.kp_semantics.proofs.Ended.{stuck_reply}
+use Rattle.kp_kore.specs.Instance.{Valuation, GivesSorts, AgreesOn}
+use Rattle.kp_kore.specs.Theory.{Theory}
+use Rattle.kp_kore.specs.Claims.{ReachabilityClaim}
+use Rattle.kp_kore.specs.Arcs.{EdgeSays, CoverSays, StuckSays}
+use Rattle.kp_kore.specs.Implied.{Implied, DoesImply, HasCounterexample, IsRightImplied, not_valid, valid}
+use Rattle.kp_kore.specs.Onward.{Leads, Passes}
+use Rattle.kp_kore.specs.Executions as theory
+use Rattle.kp_kore.specs.Executions.{Options, Executed, RunsTo, IsRightExecuted}
+use Rattle.kp_kore.proofs.GroundReplies.{after_of_both}
+use Rattle.kp_kore.proofs.Ended.{stuck_reply}
 use Rattle.serde_json.specs.Data.{unsigned, negative, float}
 use Rattle.kp_rpc.specs.Request.{RequestId, id_text, id_number, id_null, ExecuteRequest, ImpliesRequest}
 use Rattle.kp_rpc.specs.Questions.{IsReadBack}

@@ -2,9 +2,9 @@
 use Rattle.std.proofs.Common.{◌≡◌, refl, sym, ◌∙◌, ap, subst, ℕ, ◌^◌, ◌<◌, false, Some, None, List, []}
 use Rattle.std.specs.List.{AllByRecursion}
 use Rattle.kp_kore.specs.Parts.{free_variables}
-use Rattle.kp_semantics.specs.Claims.{ReachabilityClaim, Holds}
-use Rattle.kp_semantics.specs.Arcs.{StuckSays}
-use Rattle.kp_semantics.specs.Implied.{HasCounterexample}
+use Rattle.kp_kore.specs.Claims.{ReachabilityClaim, Holds}
+use Rattle.kp_kore.specs.Arcs.{StuckSays}
+use Rattle.kp_kore.specs.Implied.{HasCounterexample}
 use Rattle.kp_graph.specs.Tree as graph
 use Rattle.kp_graph.specs.Tree.{ProofNode, HeldBy, node_at, arc_fault, with_arc}
 use Rattle.kp_graph.specs.Says.{TreeSays}

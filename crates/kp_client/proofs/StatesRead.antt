@@ -2,7 +2,7 @@
 use Rattle.std.proofs.Common.{◌≡◌, ℕ, ◌+◌, Bool, false, Some, List, length}
 use Rattle.std.specs.List.{AllByRecursion}
 use Rattle.kp_kore.specs.Syntax.{KorePattern}
-use Rattle.kp_semantics.specs.Claims.{ReachabilityClaim}
+use Rattle.kp_kore.specs.Claims.{ReachabilityClaim}
 use Rattle.kp_graph.specs.Tree as graph
 use Rattle.kp_graph.specs.Tree.{ProofNode, NodeArc, HeldBy, node_at, child_node, with_arc, with_hold, with_edge}
 use Rattle.kp_rpc.specs.Questions.{IsReadBack}

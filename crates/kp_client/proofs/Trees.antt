@@ -2,7 +2,7 @@
 use Rattle.std.proofs.Common.{◌≡◌, refl, ◌∙◌, ap, ℕ, zero, suc, ◌+◌, Bool, true, false, ◌||◌, Option, Some, None, List, [], ◌∷◌, ◌++◌, length, slice_get, set, option_map, arith}
 use Rattle.std.specs.Option.{option_map_or}
 use Rattle.kp_kore.specs.Syntax.{KorePattern}
-use Rattle.kp_semantics.specs.Claims.{ReachabilityClaim}
+use Rattle.kp_kore.specs.Claims.{ReachabilityClaim}
 use Rattle.kp_graph.specs.Tree as graph
 use Rattle.kp_graph.specs.Tree.{ProofNode, NodeArc, HeldBy, IsTree, node_at, parent_of, is_child, arc_fault, leads_to, gives_progress, first_nodes, child_node, with_arc, with_hold, with_edge, status_of}
 use Rattle.kp_graph.specs.Kept.{is_settled, some_failed}

@@ -3,8 +3,8 @@ use Rattle.std.specs.Prelude.{◌≡◌, ◌≢◌, ◌≤◌, ℕ, true, List, 
 use Rattle.kp_kore.specs.Syntax as kore
 use Rattle.kp_kore.specs.Syntax.{KoreSort, sort_of, no_sorts, KorePattern}
 use Rattle.kp_kore.specs.View.{view}
-use Rattle.kp_semantics.specs.Claims.{ReachabilityClaim}
-use Rattle.kp_semantics.specs.Implied.{not_valid, valid}
+use Rattle.kp_kore.specs.Claims.{ReachabilityClaim}
+use Rattle.kp_kore.specs.Implied.{not_valid, valid}
 use Rattle.kp_graph.specs.Tree.{ProofNode, HeldBy, node_at}
 use Rattle.kp_rpc.specs.Questions.{Question, question_tree}
 use Rattle.kp_results.specs.Results.{stuck, ExecutedParts, IsPatternOf}

@@ -5,9 +5,9 @@ use Rattle.std.specs.List.{AllByRecursion}
 use Rattle.serde_json.specs.Data.{Data, object, Members}
 use Rattle.serde_json.specs.Written.{compact_text}
 use Rattle.kp_kore.specs.Syntax.{Text}
-use Rattle.kp_semantics.specs.Theory.{Theory}
-use Rattle.kp_semantics.specs.Executions.{Executed, IsRightExecuted}
-use Rattle.kp_semantics.specs.Implied.{Implied, IsRightImplied}
+use Rattle.kp_kore.specs.Theory.{Theory}
+use Rattle.kp_kore.specs.Executions.{Executed, IsRightExecuted}
+use Rattle.kp_kore.specs.Implied.{Implied, IsRightImplied}
 use Rattle.kp_rpc.specs.Frame.{IsFrame}
 use Rattle.kp_rpc.specs.Request.{ExecuteRequest, IsExecute, ImpliesRequest, IsImplies}
 use Rattle.kp_rpc.specs.Questions.{Question, question_tree}

@@ -3,8 +3,8 @@
 -- backend's JSON-RPC documentation (execute, implies).
 use Rattle.std.specs.Prelude.{◌≡◌, ◌≢◌, ◌<◌, ◌≤◌, ◌^◌, ℕ, suc, ℤ, pos, negsuc, List, [], ◌∷◌, ◌++◌, length, Option, Some, None, slice_get, Bool, true, false}
 use Rattle.kp_kore.specs.Syntax.{KorePattern}
-use Rattle.kp_semantics.specs.Claims.{ReachabilityClaim}
-use Rattle.kp_semantics.specs.Implied.{not_valid, valid}
+use Rattle.kp_kore.specs.Claims.{ReachabilityClaim}
+use Rattle.kp_kore.specs.Implied.{not_valid, valid}
 use Rattle.kp_graph.specs.Tree as graph
 use Rattle.kp_graph.specs.Tree.{ProofNode, HeldBy, node_at, open_nodes, first_nodes, with_arc, with_hold, with_edge}
 use Rattle.serde_json.specs.Data.{unsigned}

@@ -2,10 +2,10 @@
 -- Source: All-Path Reachability Logic; matching logic.
 use Rattle.std.specs.Prelude.{◌≡◌, ℕ, List, [], Some}
 use Rattle.kp_kore.specs.Parts.{free_variables}
-use Rattle.kp_semantics.specs.Theory.{Theory}
-use Rattle.kp_semantics.specs.Claims.{ReachabilityClaim}
-use Rattle.kp_semantics.specs.Arcs.{StuckSays}
-use Rattle.kp_semantics.specs.Implied.{HasCounterexample}
+use Rattle.kp_kore.specs.Theory.{Theory}
+use Rattle.kp_kore.specs.Claims.{ReachabilityClaim}
+use Rattle.kp_kore.specs.Arcs.{StuckSays}
+use Rattle.kp_kore.specs.Implied.{HasCounterexample}
 use Rattle.kp_graph.specs.Tree.{ProofNode, node_at, stuck}
 use Rattle.kp_rpc.specs.Questions.{IsReadBack}
 

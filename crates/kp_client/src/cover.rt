@@ -2,8 +2,8 @@ ghost use Rattle.std.specs.Prelude.{◌≡◌, ◌∷◌, [], IfOk, OnErr, IsErr
 ghost use Rattle.kp_io.specs.Outside.{Rose};
 ghost use Rattle.kp_kore.specs.Syntax.{KorePattern};
 ghost use Rattle.kp_kore.specs.View.{view};
-ghost use Rattle.kp_semantics.specs.Claims.{ReachabilityClaim};
-ghost use Rattle.kp_semantics.specs.ClaimView.{claim_view};
+ghost use Rattle.kp_kore.specs.Claims.{ReachabilityClaim};
+ghost use Rattle.kp_kore.specs.ClaimView.{claim_view};
 ghost use Rattle.kp_replies.specs.Read.{implies, failed};
 ghost use Rattle.kp_replies.specs.View.{reply_view};
 ghost use Rattle.serde_json.specs.Data.{unsigned};
@@ -17,11 +17,10 @@ ghost use Rattle.kp_client.specs.declared.outcome.ProveFault.TheVariants.{LinkFa
 use crate::hear::{Heard, hear};
 use crate::link::Link;
 use crate::outcome::ProveFault;
-use kp_kore::Pattern;
+use kp_kore::{Claim, Pattern};
 use kp_replies::{Method, ServerReply};
 use kp_results::Implied;
 use kp_rpc::{Id, Question};
-use kp_semantics::Claim;
 use std::alloc::{AllocError, Global};
 
 /// The code of a server that can't decide an implication.

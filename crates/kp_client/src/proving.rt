@@ -1,8 +1,8 @@
 ghost use Rattle.std.specs.Prelude.{◌≡◌, ◌<◌, ℕ, [], Some, None, IfOk, OnErr, IsErrOf, length, option_map, slice_get};
 ghost use Rattle.kp_io.specs.Outside.{Rose};
 ghost use Rattle.kp_kore.specs.Parts.{free_variables};
-ghost use Rattle.kp_semantics.specs.Claims.{Holds};
-ghost use Rattle.kp_semantics.specs.ClaimView.{claim_view};
+ghost use Rattle.kp_kore.specs.Claims.{Holds};
+ghost use Rattle.kp_kore.specs.ClaimView.{claim_view};
 ghost use Rattle.kp_claims.specs.Claims.{LabelledClaim};
 ghost use Rattle.kp_claims.specs.Items.{items_view};
 ghost use Rattle.kp_graph.specs.Tree.{IsTree, node_at, with_hold, rounds, status_of};
@@ -22,7 +22,7 @@ use crate::outcome::{Outcome, ProveFault, ProveOptions};
 use crate::round::play_round;
 use kp_claims::ClaimItem;
 use kp_graph::{Tree, Why};
-use kp_semantics::Claim;
+use kp_kore::Claim;
 use std::alloc::Global;
 
 /// A proof has at most so many rounds.

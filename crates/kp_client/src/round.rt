@@ -1,6 +1,6 @@
 ghost use Rattle.std.specs.Prelude.{◌≡◌, ◌<◌, ◌≤◌, IfOk, OnErr, IsErrOf, Some, false, length};
 ghost use Rattle.kp_io.specs.Outside.{Rose};
-ghost use Rattle.kp_semantics.specs.ClaimView.{claim_view};
+ghost use Rattle.kp_kore.specs.ClaimView.{claim_view};
 ghost use Rattle.kp_kore.specs.View.{view};
 ghost use Rattle.kp_graph.specs.Tree.{cover, stuck, nodes, reply, with_arc, with_hold, with_edge};
 ghost use Rattle.kp_graph.specs.TreeView.{tree_view};
@@ -14,8 +14,7 @@ use crate::link::Link;
 use crate::outcome::{Outcome, ProveFault};
 use crate::steps::{StepAnswer, ask_steps};
 use kp_graph::{NodeId, Tree, Why};
-use kp_kore::Pattern;
-use kp_semantics::Claim;
+use kp_kore::{Claim, Pattern};
 use std::alloc::Global;
 
 /// A tree has at most so many nodes.

@@ -5,8 +5,8 @@ use Rattle.kp_kore.specs.Signature.{KoreSignature}
 use Rattle.kp_kore.specs.Parts.{is_term}
 use Rattle.kp_kore.specs.View.{view, patterns_view}
 use Rattle.kp_kore.specs.declared.pattern.Pattern.{Pattern}
-use Rattle.kp_semantics.specs.Value.{no_values, next_value}
-use Rattle.kp_semantics.specs.Instance.{Valuation, instance, instances, is_conjoined_pair}
+use Rattle.kp_kore.specs.Value.{no_values, next_value}
+use Rattle.kp_kore.specs.Instance.{Valuation, instance, instances, is_conjoined_pair}
 
 pub one_argument : (g : KoreSignature) (v : Valuation) (ps : List Pattern) (p : Pattern) → length ps ≡ 1 → p ≡ get_or ps 0 p → instances g v (patterns_view ps) ≡ next_value (instance g v (view p)) no_values
 one_argument g v [] p h e = absurd (cc)

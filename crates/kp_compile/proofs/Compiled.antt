@@ -9,10 +9,10 @@ use Rattle.kp_kore.specs.Syntax.{KoreSort, KorePattern, ceil, floor}
 use Rattle.kp_kore.specs.View.{view, patterns_view}
 use Rattle.kp_kore.specs.Signature.{KoreSignature}
 use Rattle.kp_kore.specs.declared.pattern.Pattern.{Pattern}
-use Rattle.kp_semantics.specs.Value.{Value, next_value, values_same}
-use Rattle.kp_semantics.proofs.SameLemmas.{same_values_decide}
-use Rattle.kp_semantics.proofs.TruthLemmas.{decides_some}
-use Rattle.kp_semantics.specs.Instance.{Valuation, instances, is_conjoined_pair, PairSame, IsTrueUnder, AllTrueUnder, NoneTrueUnder}
+use Rattle.kp_kore.specs.Value.{Value, next_value, values_same}
+use Rattle.kp_kore.proofs.SameLemmas.{same_values_decide}
+use Rattle.kp_kore.proofs.TruthLemmas.{decides_some}
+use Rattle.kp_kore.specs.Instance.{Valuation, instances, is_conjoined_pair, PairSame, IsTrueUnder, AllTrueUnder, NoneTrueUnder}
 use Rattle.kp_ground.specs.Terms.{term_values, left_values}
 use Rattle.kp_ground.specs.TermView.{term_view, terms_of}
 use Rattle.kp_ground.specs.LeftView.{left_view, lefts_of}

@@ -6,3 +6,10 @@ pub mod Narrow
 pub mod Reading
 pub mod Taken
 pub mod VerifiedParts
+pub mod SpelledForms
+pub mod SpelledMeaning
+pub mod SpelledLists
+pub mod GroundStates
+pub mod Injections
+pub mod SpelledParts
+pub mod PlainSorts

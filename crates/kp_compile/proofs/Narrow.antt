@@ -10,14 +10,14 @@ use Rattle.kp_kore.specs.Hooks.{Hook, truth_negation}
 use Rattle.kp_kore.specs.Signature.{KoreSignature, SymbolMeaning, injection, construction, interpretation, meaning_of}
 use Rattle.kp_kore.specs.View.{view, patterns_view}
 use Rattle.kp_kore.specs.declared.pattern.Pattern.{Pattern}
-use Rattle.kp_semantics.specs.Value.{Value, whole, truth, token, constructed, no_values, next_value}
-use Rattle.kp_semantics.specs.Forms.{two}
-use Rattle.kp_semantics.specs.Interpretation.{interpreted}
-use Rattle.kp_semantics.specs.Instance.{Valuation, instance, instances, applied}
+use Rattle.kp_kore.specs.Value.{Value, whole, truth, token, constructed, no_values, next_value}
+use Rattle.kp_kore.specs.Forms.{two}
+use Rattle.kp_kore.specs.Interpretation.{interpreted}
+use Rattle.kp_kore.specs.Instance.{Valuation, instance, instances, applied}
 use Rattle.kp_kore.specs.Limits.{fits_number}
-use Rattle.kp_semantics.specs.Foreign.{is_interpretation}
-use Rattle.kp_semantics.specs.Numbers.{is_wide_call, computes_wide}
-use Rattle.kp_semantics.specs.Replies.{is_wide_value}
+use Rattle.kp_kore.specs.Foreign.{is_interpretation}
+use Rattle.kp_kore.specs.Numbers.{is_wide_call, computes_wide}
+use Rattle.kp_kore.specs.Replies.{is_wide_value}
 use Rattle.kp_ground.specs.Terms.{RuleTerm, call, opposite, term_value, is_narrow, stays_narrow, all_stay_narrow}
 use Rattle.kp_ground.specs.TermView.{term_view, terms_of}
 use Rattle.kp_ground.specs.Conditions.{all_narrow}

@@ -9,17 +9,17 @@ use Rattle.kp_kore.specs.Signature.{KoreSignature, SymbolMeaning, injection, con
 use Rattle.kp_kore.specs.View.{sorts_view, patterns_view}
 use Rattle.kp_kore.specs.declared.sort.Sort.{Sort}
 use Rattle.kp_kore.specs.declared.pattern.Pattern.{Pattern}
-use Rattle.kp_semantics.specs.Foreign.{has_foreign_head, has_interpreted_head, is_foreign_meaning, is_interpretation}
-use Rattle.kp_semantics.proofs.InstanceLemmas.{first_true, second_true}
+use Rattle.kp_kore.specs.Foreign.{has_foreign_head, has_interpreted_head, is_foreign_meaning, is_interpretation}
+use Rattle.kp_kore.proofs.InstanceLemmas.{first_true, second_true}
 use Rattle.kp_signature.specs.Places.{Profile}
 use Rattle.kp_signature.specs.Verify.{symbol_fault, wrong_number}
 use Rattle.kp_signature.proofs.Applied.{of_profile}
 use Rattle.kp_signature.proofs.KnownSorts.{number_of_sorts}
 use Rattle.kp_signature.proofs.FaultLemmas.{no_fault_unless}
 use Rattle.kp_signature.proofs.MeaningLemmas.{an_interpretation, it_fits}
-use Rattle.kp_hooks.specs.HookView.{hook_view}
-use Rattle.kp_hooks.specs.declared.hook.Hook as code
-use Rattle.kp_hooks.specs.declared.hook.Hook.TheVariants as hook
+use Rattle.kp_kore.specs.HookView.{hook_view}
+use Rattle.kp_kore.specs.declared.hook.Hook as code
+use Rattle.kp_kore.specs.declared.hook.Hook.TheVariants as hook
 use Rattle.kp_compile.specs.Verified.{misapplies_injection, is_injection_meaning, IsVerifiedTerm, IsVerifiedLeftTerm}
 use Rattle.kp_compile.proofs.VerifiedParts.{no_symbol_fault}
 

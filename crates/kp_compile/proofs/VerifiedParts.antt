@@ -8,9 +8,9 @@ use Rattle.kp_kore.specs.Parts.{is_term, are_terms, subpatterns, sort_list, patt
 use Rattle.kp_kore.specs.Signature.{KoreSignature}
 use Rattle.kp_kore.specs.View.{view, patterns_view}
 use Rattle.kp_kore.specs.declared.pattern.Pattern.{Pattern}
-use Rattle.kp_semantics.specs.Instance.{is_predicate, are_predicates, is_conjoined_pair}
-use Rattle.kp_semantics.specs.Foreign.{none_within, has_foreign_head, has_interpreted_head, is_quantifier, is_floor_of_term}
-use Rattle.kp_semantics.proofs.InstanceLemmas.{first_true, second_true}
+use Rattle.kp_kore.specs.Instance.{is_predicate, are_predicates, is_conjoined_pair}
+use Rattle.kp_kore.specs.Foreign.{none_within, has_foreign_head, has_interpreted_head, is_quantifier, is_floor_of_term}
+use Rattle.kp_kore.proofs.InstanceLemmas.{first_true, second_true}
 use Rattle.kp_signature.specs.Places.{Place, argument_sorts, argument_at, part_at, after}
 use Rattle.kp_signature.specs.Verify.{first_fault, fault_at, arguments_fault, members_fault, symbol_fault}
 use Rattle.kp_signature.proofs.FaultLemmas.{nothing_earlier, nothing_later, keeps_rules}

@@ -7,8 +7,8 @@ use Rattle.kp_kore.specs.Parts.{is_term, SortedName, free_variables}
 use Rattle.kp_kore.specs.Signature.{KoreSignature}
 use Rattle.kp_kore.specs.View.{view}
 use Rattle.kp_kore.specs.declared.pattern.Pattern.{Pattern}
-use Rattle.kp_semantics.specs.Instance.{Valuation, instance, IsTrueUnder}
-use Rattle.kp_semantics.specs.Numbers.{computes_wide}
+use Rattle.kp_kore.specs.Instance.{Valuation, instance, IsTrueUnder}
+use Rattle.kp_kore.specs.Numbers.{computes_wide}
 use Rattle.kp_ground.specs.Slots.{Place, is_one_of, stands_at, left_places, term_reads, condition_reads}
 use Rattle.kp_ground.specs.Terms.{term_value, left_value, stays_narrow}
 use Rattle.kp_ground.specs.TermView.{term_view}

@@ -4,8 +4,8 @@ use Rattle.std.specs.Prelude.{◌≡◌, Bool, true, false, not, ◌&&◌, lengt
 use Rattle.kp_kore.specs.Syntax.{KorePattern, application}
 use Rattle.kp_kore.specs.Parts.{is_term, pattern_list}
 use Rattle.kp_kore.specs.Signature.{KoreSignature, SymbolMeaning, injection, meaning_of}
-use Rattle.kp_semantics.specs.Instance.{is_predicate}
-use Rattle.kp_semantics.specs.Foreign.{none_within, has_foreign_head, has_interpreted_head, is_quantifier, is_floor_of_term}
+use Rattle.kp_kore.specs.Instance.{is_predicate}
+use Rattle.kp_kore.specs.Foreign.{none_within, has_foreign_head, has_interpreted_head, is_quantifier, is_floor_of_term}
 use Rattle.kp_signature.specs.Places.{Place}
 use Rattle.kp_signature.specs.Verify.{first_fault}
 

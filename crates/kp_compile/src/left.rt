@@ -4,7 +4,7 @@ ghost use Rattle.kp_kore.specs.Syntax.{KoreSorts, application};
 ghost use Rattle.kp_kore.specs.Parts.{all_free_variables};
 ghost use Rattle.kp_kore.specs.View.{view, patterns_view};
 ghost use Rattle.kp_kore.specs.Signature.{meaning_of as meaning_named};
-ghost use Rattle.kp_semantics.specs.Instance.{Valuation, applied, instances};
+ghost use Rattle.kp_kore.specs.Instance.{Valuation, applied, instances};
 ghost use Rattle.kp_ground.specs.Slots.{is_numbered, joined, left_places, left_variables, names_after, with_name};
 ghost use Rattle.kp_ground.specs.Terms.{left_bound, left_built, left_value};
 ghost use Rattle.kp_ground.specs.LeftView.{left_view, lefts_of};

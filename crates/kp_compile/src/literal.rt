@@ -2,7 +2,7 @@ ghost use Rattle.std.specs.Prelude.{◌≡◌, IfOk, IfErr, IsTrue, None, string
 ghost use Rattle.std.specs.Str.Parse.{signed_digits_value};
 ghost use Rattle.kp_kore.specs.Syntax.{literal};
 ghost use Rattle.kp_kore.specs.View.{sort_view};
-ghost use Rattle.kp_semantics.specs.Instance.{literal_value as value_written};
+ghost use Rattle.kp_kore.specs.Instance.{literal_value as value_written};
 ghost use Rattle.kp_ground.specs.View.{value_view};
 ghost use Rattle.kp_signature.specs.View.{signature_view};
 ghost use Rattle.kp_signature.specs.Places.{Place};

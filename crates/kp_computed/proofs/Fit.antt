@@ -6,10 +6,10 @@ use Rattle.std.specs.Str.Parse.{signed_digits_value}
 use Rattle.kp_kore.specs.Syntax.{Text, KoreSort, KoreSorts, no_sorts, next_sort, KorePattern, KorePatterns, variable, set_variable, application, string_literal, literal, top, bottom, negation, next, conjunction, disjunction, implication, equivalence, rewriting, exists, forall, ceil, floor, equals, membership, mu, nu, no_patterns, next_pattern}
 use Rattle.kp_kore.specs.Parts.{is_term, are_terms, sort_list, pattern_list}
 use Rattle.kp_kore.specs.Signature.{KoreSignature, meaning_of, integer_sort, is_integer_sort, is_boolean_sort}
-use Rattle.kp_semantics.specs.Value.{whole, truth, token}
-use Rattle.kp_semantics.specs.Instance.{literal_value, is_predicate, are_predicates, is_conjoined_pair}
-use Rattle.kp_semantics.specs.Foreign.{is_interpretation}
-use Rattle.kp_semantics.proofs.InstanceLemmas.{first_true, second_true}
+use Rattle.kp_kore.specs.Value.{whole, truth, token}
+use Rattle.kp_kore.specs.Instance.{literal_value, is_predicate, are_predicates, is_conjoined_pair}
+use Rattle.kp_kore.specs.Foreign.{is_interpretation}
+use Rattle.kp_kore.proofs.InstanceLemmas.{first_true, second_true}
 use Rattle.kp_signature.specs.Places.{Place, argument_sorts, argument_at, part_at, after, under_binder}
 use Rattle.kp_signature.specs.Verify.{first_fault, arguments_fault, members_fault}
 use Rattle.kp_signature.proofs.ApplicationLemmas.{as_many_arguments}
@@ -17,7 +17,7 @@ use Rattle.kp_signature.proofs.FaultLemmas.{nothing_earlier, nothing_later, keep
 use Rattle.kp_signature.proofs.SortLemmas.{is_that_sort}
 use Rattle.kp_signature.proofs.SortedInstances.{same_rest}
 use Rattle.kp_compile.proofs.Literals.{whole_literal}
-use Rattle.kp_states.specs.Spelled.{places_of}
+use Rattle.kp_compile.specs.Spelled.{places_of}
 use Rattle.kp_symbolic.specs.Terms.{Replaced}
 use Rattle.kp_symbolic.specs.Folding.{folded, all_folded}
 use Rattle.kp_symbolic.proofs.WellSorted.{plain_symbol, arguments_are}

@@ -8,10 +8,10 @@ use Rattle.kp_kore.specs.Syntax.{Text, KoreSort, KoreSorts, no_sorts, next_sort,
 use Rattle.kp_kore.specs.Hooks.{equal, Connective, both, either, implies, same as same_truth, other, Hook, whole_arithmetic, whole_comparison, truth_connective, truth_negation, values_equal, values_different}
 use Rattle.kp_kore.specs.Parts.{SortedName, is_term, free_variables}
 use Rattle.kp_kore.specs.Signature.{KoreSignature, SymbolMeaning, injection, construction, interpretation, foreign, meaning_of, is_truth_sort, constructor_of, integers}
-use Rattle.kp_semantics.specs.Value.{Value, whole, truth, token, constructed, Values, no_values, next_value, head_of}
-use Rattle.kp_semantics.specs.Instance.{is_named, is_conjoined_pair}
-use Rattle.kp_semantics.specs.Foreign.{is_interpretation}
-use Rattle.kp_states.specs.Spelled.{places_of}
+use Rattle.kp_kore.specs.Value.{Value, whole, truth, token, constructed, Values, no_values, next_value, head_of}
+use Rattle.kp_kore.specs.Instance.{is_named, is_conjoined_pair}
+use Rattle.kp_kore.specs.Foreign.{is_interpretation}
+use Rattle.kp_compile.specs.Spelled.{places_of}
 use Rattle.kp_symbolic.specs.Terms.{SymbolicTerm, unknown, offset, known, headed, SymbolicTerms, no_terms, next_term, Replaced}
 use Rattle.kp_symbolic.specs.Formulas.{Formula, Formulas}
 use Rattle.kp_symbolic.specs.States.{HeadTest, one_head, head_of_sort, Atom, same, has_head, quoted, Literal}

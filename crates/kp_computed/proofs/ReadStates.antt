@@ -7,14 +7,14 @@ use Rattle.std.proofs.lemmas.List.Sorted.{All-permutation}
 use Rattle.kp_kore.specs.Syntax.{KorePattern, KorePatterns, variable, set_variable, application, string_literal, literal, top, bottom, negation, next, conjunction, disjunction, implication, equivalence, rewriting, exists, forall, ceil, floor, equals, membership, mu, nu, no_patterns, next_pattern}
 use Rattle.kp_kore.specs.Parts.{is_term, subpatterns, all_subpatterns}
 use Rattle.kp_kore.specs.Signature.{KoreSignature, injection, meaning_of}
-use Rattle.kp_semantics.specs.Instance.{Valuation, is_predicate, instance, conjuncts, conjoined_predicates}
-use Rattle.kp_semantics.specs.Replies.{is_open_call, is_wide_value, IsComputed}
-use Rattle.kp_semantics.proofs.InstanceLemmas.{first_true, second_true}
+use Rattle.kp_kore.specs.Instance.{Valuation, is_predicate, instance, conjuncts, conjoined_predicates}
+use Rattle.kp_kore.specs.Replies.{is_open_call, is_wide_value, IsComputed}
+use Rattle.kp_kore.proofs.InstanceLemmas.{first_true, second_true}
 use Rattle.kp_signature.specs.Places.{Place, part_at, after}
 use Rattle.kp_signature.specs.Verify.{first_fault, members_fault}
 use Rattle.kp_signature.proofs.FaultLemmas.{nothing_earlier, nothing_later}
 use Rattle.kp_signature.proofs.ListLemmas.{all_filtered}
-use Rattle.kp_states.specs.Spelled.{injection_name, has_two_sorts}
+use Rattle.kp_compile.specs.Spelled.{injection_name, has_two_sorts}
 use Rattle.kp_symbolic.specs.States.{SymbolicState}
 use Rattle.kp_symbolic.specs.Folding.{folded}
 use Rattle.kp_symbolic.specs.Writing.{InjectsWhereItStands, written_state}

@@ -10,12 +10,12 @@ use Rattle.kp_kore.specs.Hooks.{Arithmetic, addition, subtraction, Hook, whole_a
 use Rattle.kp_kore.specs.Limits.{fits_number}
 use Rattle.kp_kore.specs.Parts.{SortedName}
 use Rattle.kp_kore.specs.Signature.{KoreSignature, SymbolMeaning, injection, construction, interpretation, foreign, meaning_of, integer_sort, is_integer_sort, is_number_sort, are_two}
-use Rattle.kp_semantics.specs.Value.{Value, whole, truth, token, constructed, Values, no_values, next_value}
-use Rattle.kp_semantics.specs.Interpretation.{computed, interpreted}
-use Rattle.kp_semantics.specs.Foreign.{is_interpretation}
-use Rattle.kp_semantics.specs.Replies.{is_wide_value}
-use Rattle.kp_semantics.proofs.InstanceLemmas.{first_true, second_true}
-use Rattle.kp_states.specs.Spelled.{places_of}
+use Rattle.kp_kore.specs.Value.{Value, whole, truth, token, constructed, Values, no_values, next_value}
+use Rattle.kp_kore.specs.Interpretation.{computed, interpreted}
+use Rattle.kp_kore.specs.Foreign.{is_interpretation}
+use Rattle.kp_kore.specs.Replies.{is_wide_value}
+use Rattle.kp_kore.proofs.InstanceLemmas.{first_true, second_true}
+use Rattle.kp_compile.specs.Spelled.{places_of}
 use Rattle.kp_symbolic.specs.Terms.{SymbolicTerm, unknown, offset, known, headed, SymbolicTerms, no_terms, next_term, Replaced, replacement_for}
 use Rattle.kp_symbolic.specs.Folding.{least_symbol, Sum, sum_of, can_be_added, summed, summed_call, with_first, values_known, only_term, made_construction, made_call, made, applied_term, term_for, under_symbol, replaced, all_replaced}
 use Rattle.kp_symbolic.specs.WellFormed.{stands_in_terms}

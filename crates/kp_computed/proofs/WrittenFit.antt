@@ -12,17 +12,17 @@ use Rattle.kp_kore.specs.Limits.{fits_number}
 use Rattle.kp_kore.specs.Parts.{SortedName, subpatterns}
 use Rattle.kp_kore.specs.Signature.{KoreSignature, SymbolMeaning, injection, construction, interpretation, foreign, meaning_of, integer_sort, is_number_sort, is_truth_sort, fits_hook, are_one, are_two, itself}
 use Rattle.kp_kore.specs.Sorting.{result_sort}
-use Rattle.kp_semantics.specs.Value.{Value, whole, truth, token, constructed, Values, no_values, next_value}
-use Rattle.kp_semantics.specs.Forms.{two}
-use Rattle.kp_semantics.specs.Interpretation.{interpreted, no_meaning}
-use Rattle.kp_semantics.specs.Instance.{Valuation, applied, instance, literal_value}
-use Rattle.kp_semantics.specs.Foreign.{is_interpretation}
-use Rattle.kp_semantics.specs.Replies.{are_literals, is_open_call, is_wide_value}
-use Rattle.kp_semantics.proofs.InstanceLemmas.{first_true, second_true}
-use Rattle.kp_semantics.proofs.SameLemmas.{sorts_equal-Decides}
+use Rattle.kp_kore.specs.Value.{Value, whole, truth, token, constructed, Values, no_values, next_value}
+use Rattle.kp_kore.specs.Forms.{two}
+use Rattle.kp_kore.specs.Interpretation.{interpreted, no_meaning}
+use Rattle.kp_kore.specs.Instance.{Valuation, applied, instance, literal_value}
+use Rattle.kp_kore.specs.Foreign.{is_interpretation}
+use Rattle.kp_kore.specs.Replies.{are_literals, is_open_call, is_wide_value}
+use Rattle.kp_kore.proofs.InstanceLemmas.{first_true, second_true}
+use Rattle.kp_kore.proofs.SameLemmas.{sorts_equal-Decides}
 use Rattle.kp_signature.proofs.SortLemmas.{is_that_sort}
-use Rattle.kp_states.specs.Spelled.{placed, places_of, home_of, spelling, spellings, injected, injection_name, has_two_sorts, truth_text}
-use Rattle.kp_states.proofs.SpelledMeaning.{InjectsWell, said}
+use Rattle.kp_compile.specs.Spelled.{placed, places_of, home_of, spelling, spellings, injected, injection_name, has_two_sorts, truth_text}
+use Rattle.kp_compile.proofs.SpelledMeaning.{InjectsWell, said}
 use Rattle.kp_symbolic.specs.Terms.{SymbolicTerm, unknown, offset, known, headed, SymbolicTerms, no_terms, next_term, Replaced}
 use Rattle.kp_symbolic.specs.WellFormed.{stands_in_terms}
 use Rattle.kp_symbolic.specs.States.{one_head, head_of_sort, Atom, same, has_head, quoted, Literal, SymbolicState}

@@ -1,7 +1,7 @@
 use kp_clauses::clauses_of;
 use kp_kore::Pattern;
 use kp_signature::Signature;
-use kp_terms::{Atom, Clause, Language, Literal};
+use kp_symbolic::{Atom, Clause, Language, Literal};
 use kp_text::{read_module, read_pattern};
 use std::alloc::Global;
 use std::test::Fail;

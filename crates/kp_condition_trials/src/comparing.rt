@@ -1,6 +1,6 @@
 use kp_conditions::{Part, comparison_ways};
 use kp_demands::Demand;
-use kp_hooks::Comparison;
+use kp_kore::Comparison;
 use std::alloc::{AllocError, Global};
 use std::test::Fail;
 

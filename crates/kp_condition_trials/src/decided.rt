@@ -2,7 +2,7 @@ use kp_decide::{Verdict, decide};
 use kp_heads::HeadTable;
 use kp_kore::Sort;
 use kp_signature::Signature;
-use kp_terms::{Atom, Clause, Language, Literal, State, Term, Variable, term_under};
+use kp_symbolic::{Atom, Clause, Language, Literal, State, Term, Variable, term_under};
 use kp_text::{read_module, read_pattern};
 use kp_weights::Weight;
 use std::alloc::Global;

@@ -1,6 +1,6 @@
 use crate::texts::{folded, pattern, signature};
 use kp_compile::CompileError;
-use kp_terms::{Language, Replaced, Term, term_under};
+use kp_symbolic::{Language, Replaced, Term, term_under};
 use std::alloc::{AllocError, Global};
 use std::sync::Arc;
 use std::test::Fail;

@@ -2,7 +2,7 @@ use crate::clauses::{have_form, signature};
 use kp_clauses::{TermFault, open_state};
 use kp_kore::{Pattern, Sort};
 use kp_signature::Signature;
-use kp_terms::{Language, State};
+use kp_symbolic::{Language, State};
 use kp_text::read_pattern;
 use std::alloc::{AllocError, Global};
 use std::test::Fail;

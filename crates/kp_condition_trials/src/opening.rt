@@ -1,7 +1,7 @@
 use crate::texts::{folded, signature};
 use kp_kore::Sort;
 use kp_opening::{Formula, open_same, open_truth};
-use kp_terms::{Atom, Language, Literal, Term};
+use kp_symbolic::{Atom, Language, Literal, Term};
 use std::alloc::{AllocError, Global};
 use std::test::Fail;
 

@@ -3,7 +3,7 @@ use kp_clauses::clauses_of;
 use kp_kore::Pattern;
 use kp_replacing::open_clause;
 use kp_signature::Signature;
-use kp_terms::{Clause, Language, Replaced, term_under};
+use kp_symbolic::{Clause, Language, Replaced, term_under};
 use kp_text::read_pattern;
 use std::alloc::Global;
 use std::sync::Arc;

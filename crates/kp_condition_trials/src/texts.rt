@@ -1,6 +1,6 @@
 use kp_kore::Pattern;
 use kp_signature::Signature;
-use kp_terms::{Language, Replaced, Term, term_under};
+use kp_symbolic::{Language, Replaced, Term, term_under};
 use kp_text::{read_module, read_pattern};
 use std::alloc::Global;
 use std::test::Fail;

@@ -8,11 +8,11 @@ use Rattle.kp_kore.specs.Syntax.{Text}
 use Rattle.kp_kore.specs.Hooks.{Comparison, equal, different, less, at_most, greater, at_least, whole_arithmetic, addition, whole_comparison, truth_connective, truth_negation, values_equal, values_different}
 use Rattle.kp_kore.specs.Parts.{SortedName}
 use Rattle.kp_kore.specs.Signature.{KoreSignature, SymbolMeaning, injection, construction, interpretation, foreign, meaning_of, is_truth_sort, has_only_numbers, has_only_truths}
-use Rattle.kp_semantics.specs.Value.{Value, whole, truth, token, constructed, values_same, HasSort}
-use Rattle.kp_semantics.specs.Forms.{two}
-use Rattle.kp_semantics.specs.Interpretation.{compared, interpreted}
-use Rattle.kp_semantics.specs.Instance.{Valuation, GivesSorts, applied}
-use Rattle.kp_semantics.proofs.SameLemmas.{same_values_decide}
+use Rattle.kp_kore.specs.Value.{Value, whole, truth, token, constructed, values_same, HasSort}
+use Rattle.kp_kore.specs.Forms.{two}
+use Rattle.kp_kore.specs.Interpretation.{compared, interpreted}
+use Rattle.kp_kore.specs.Instance.{Valuation, GivesSorts, applied}
+use Rattle.kp_kore.proofs.SameLemmas.{same_values_decide}
 use Rattle.kp_signature.proofs.NumberLemmas.{only_numbers, only_truths}
 use Rattle.kp_symbolic.specs.Terms.{SymbolicTerm, unknown, offset, known, headed, no_terms, next_term, term_instance, term_variables}
 use Rattle.kp_symbolic.specs.States.{Atom, same, has_head, quoted, Literal, IsAtomTrue, IsLiteralTrue}

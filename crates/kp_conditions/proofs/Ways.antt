@@ -4,7 +4,7 @@ use Rattle.std.specs.Prelude.{int_le, int_lt, not}
 use Rattle.std.specs.Ordering.{int_eq}
 use Rattle.std.proofs.lemmas.Int.{ints}
 use Rattle.kp_kore.specs.Hooks.{Comparison, equal, different, less, at_most, greater, at_least}
-use Rattle.kp_semantics.specs.Interpretation.{compared}
+use Rattle.kp_kore.specs.Interpretation.{compared}
 use Rattle.kp_demands.specs.Demands.{Assignment, HasWay}
 use Rattle.kp_conditions.specs.Comparing.{part_number, ways_of}
 use Rattle.kp_conditions.specs.declared.comparing.Part.{Part}

@@ -3,9 +3,9 @@
 use Rattle.std.specs.Prelude.{◌≡◌, ℤ, pos, ◌+ℤ◌, true, Option, Some, None, MatchBool}
 use Rattle.kp_kore.specs.Syntax.{Text}
 use Rattle.kp_kore.specs.Signature.{KoreSignature}
-use Rattle.kp_semantics.specs.Value.{Value, whole, truth, head_of}
-use Rattle.kp_semantics.specs.Interpretation.{compared}
-use Rattle.kp_semantics.specs.Instance.{Valuation}
+use Rattle.kp_kore.specs.Value.{Value, whole, truth, head_of}
+use Rattle.kp_kore.specs.Interpretation.{compared}
+use Rattle.kp_kore.specs.Instance.{Valuation}
 use Rattle.kp_symbolic.specs.Terms.{term_instance}
 use Rattle.kp_symbolic.specs.States.{PassesHead}
 use Rattle.kp_symbolic.specs.Plain.{WholePart, TokenPart, some_token, one_token, Form, compares, is_truth, equates, asks, gives}

@@ -1,11 +1,11 @@
 // Comparisons of whole numbers.
 ghost use Rattle.std.specs.Prelude.{◌≡◌, ◌∷◌, [], ℤ, ◌+ℤ◌, ◌-ℤ◌, true, false, IfOk, FitsSigned, map, pos, negsuc};
 ghost use Rattle.std.specs.Int.{w128};
-ghost use Rattle.kp_hooks.specs.HookView.{comparison_view};
+ghost use Rattle.kp_kore.specs.HookView.{comparison_view};
 ghost use Rattle.kp_conditions.specs.Comparing as spec;
 
 use kp_demands::Demand;
-use kp_hooks::Comparison;
+use kp_kore::Comparison;
 use std::alloc::{AllocError, Global};
 
 /// A side of a comparison: a whole number's place, 0 for none, and a constant.

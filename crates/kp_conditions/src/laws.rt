@@ -2,8 +2,8 @@
 ghost use Rattle.std.specs.Prelude.{◌≡◌, ◌↔◌, true, Some};
 ghost use Rattle.kp_kore.specs.Hooks.{Comparison};
 ghost use Rattle.kp_kore.specs.Signature.{KoreSignature};
-ghost use Rattle.kp_semantics.specs.Instance.{Valuation};
-ghost use Rattle.kp_semantics.specs.Interpretation.{compared};
+ghost use Rattle.kp_kore.specs.Instance.{Valuation};
+ghost use Rattle.kp_kore.specs.Interpretation.{compared};
 ghost use Rattle.kp_symbolic.specs.States.{Literal, IsLiteralTrue};
 ghost use Rattle.kp_symbolic.specs.WellFormed.{IsGivenAtom};
 ghost use Rattle.kp_symbolic.specs.Plain.{Form, form_of};

@@ -7,7 +7,7 @@ use Rattle.kp_kore.specs.View.{view}
 use Rattle.kp_kore.specs.declared.pattern.Pattern.{Pattern}
 use Rattle.kp_symbolic.specs.Opening.{all_opened, opened_leaf, pair}
 use Rattle.kp_symbolic.specs.Terms.{Replaced}
-use Rattle.kp_terms.specs.Faultless.{IsFaultless}
+use Rattle.kp_symbolic.specs.Faultless.{IsFaultless}
 use Rattle.kp_distribution.specs.Distribution.{distribution_of, distributions_of, all_distributed, one_distributed, agreement_of}
 use Rattle.kp_distribution.proofs.DistributionLemmas.{all_are, one_is, agreement_is}
 use Rattle.kp_connectives.specs.Opened.{opened_by}

@@ -6,9 +6,9 @@ ghost use Rattle.kp_compile.specs.declared.error.CompileError.TheVariants.{Memor
 ghost use Rattle.kp_kore.specs.Syntax.{KoreSort, conjunction, disjunction};
 ghost use Rattle.kp_kore.specs.View.{view, patterns_view};
 ghost use Rattle.kp_symbolic.specs.Opening as model;
-ghost use Rattle.kp_terms.specs.Faultless.{IsFaultless};
-ghost use Rattle.kp_terms.specs.Languages.{language_view};
-ghost use Rattle.kp_terms.specs.View.{replaced_view};
+ghost use Rattle.kp_symbolic.specs.Faultless.{IsFaultless};
+ghost use Rattle.kp_symbolic.specs.Languages.{language_view};
+ghost use Rattle.kp_symbolic.specs.View.{replaced_view};
 ghost use Rattle.kp_distribution.specs.Distribution.{distribution_of, distributions_of, all_distributed, one_distributed, agreement_of as both_agree};
 ghost use Rattle.kp_distribution.specs.View.{distributed_view};
 ghost use Rattle.kp_connectives.specs.Opened.{opened_by};
@@ -21,7 +21,7 @@ use kp_distribution::{Distributed, distribute};
 use kp_forms::is_conjoined_pair;
 use kp_kore::Pattern;
 use kp_leaves::open_leaf;
-use kp_terms::{Language, Replaced};
+use kp_symbolic::{Language, Replaced};
 use std::alloc::{AllocError, Global};
 
 /// What is kept of the clauses of a predicate, and of those of its opposite.

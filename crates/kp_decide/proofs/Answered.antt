@@ -5,8 +5,8 @@ use Rattle.std.specs.List.{AllByRecursion, list_all, list_any, filter}
 use Rattle.std.specs.declared.alloc.Global.{Global}
 use Rattle.std.proofs.lemmas.List.{length-map}
 use Rattle.kp_kore.specs.Signature.{KoreSignature}
-use Rattle.kp_semantics.specs.Instance.{Valuation}
-use Rattle.kp_semantics.proofs.ListLemmas.{all_map}
+use Rattle.kp_kore.specs.Instance.{Valuation}
+use Rattle.kp_kore.proofs.ListLemmas.{all_map}
 use Rattle.kp_heads.specs.Heads.{HasValue}
 use Rattle.kp_symbolic.specs.States.{Literal, AreTrue, SymbolicState, CanBeTrue}
 use Rattle.kp_symbolic.specs.Plain.{Form, compares, is_truth, equates, asks, gives, ReadLiteral, read_clause, read_from, read_clauses, is_plain_clause, has_form, plain_part, plain_clauses, rough_clauses}

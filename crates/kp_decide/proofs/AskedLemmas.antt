@@ -3,8 +3,8 @@ use Rattle.std.proofs.Common.{◌≡◌, refl, sym, subst, Bool, true, false, Li
 use Rattle.std.specs.Prelude.{if◌then◌else◌}
 use Rattle.std.specs.List.{AllByRecursion}
 use Rattle.kp_kore.specs.Signature.{KoreSignature}
-use Rattle.kp_semantics.specs.Value.{constructed, no_values}
-use Rattle.kp_semantics.specs.Instance.{Valuation}
+use Rattle.kp_kore.specs.Value.{constructed, no_values}
+use Rattle.kp_kore.specs.Instance.{Valuation}
 use Rattle.kp_symbolic.specs.Terms.{SymbolicTerm, unknown, known}
 use Rattle.kp_symbolic.specs.States.{Atom, same, has_head, quoted, Literal, IsLiteralTrue, AreTrue, SymbolicState}
 use Rattle.kp_symbolic.specs.WellFormed.{IsGivenAtom, AreGivenLiterals}

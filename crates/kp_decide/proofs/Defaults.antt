@@ -4,9 +4,9 @@ use Rattle.std.specs.List.{AllByRecursion, Contains}
 use Rattle.std.proofs.lemmas.List.Elements.{Contains-append_left, Contains-append_right, Contains-push}
 use Rattle.kp_kore.specs.Parts.{SortedName}
 use Rattle.kp_kore.specs.Signature.{KoreSignature}
-use Rattle.kp_semantics.specs.Value.{truth, HasSort}
-use Rattle.kp_semantics.specs.Instance.{Valuation, GivesSorts, assigned}
-use Rattle.kp_semantics.proofs.ListLemmas.{all_map}
+use Rattle.kp_kore.specs.Value.{truth, HasSort}
+use Rattle.kp_kore.specs.Instance.{Valuation, GivesSorts, assigned}
+use Rattle.kp_kore.proofs.ListLemmas.{all_map}
 use Rattle.kp_heads.specs.Heads.{HasValue}
 use Rattle.kp_decide.proofs.Untouched.{itself_there, still_gives}
 

@@ -3,9 +3,9 @@ use Rattle.std.proofs.Common.{List, [], ◌∷◌}
 use Rattle.std.specs.List.{AllByRecursion}
 use Rattle.kp_kore.specs.Parts.{SortedName}
 use Rattle.kp_kore.specs.Signature.{KoreSignature}
-use Rattle.kp_semantics.specs.Value.{HasSort}
-use Rattle.kp_semantics.specs.Instance.{Valuation, GivesSorts}
-use Rattle.kp_semantics.proofs.TurnLemmas.{of_member}
+use Rattle.kp_kore.specs.Value.{HasSort}
+use Rattle.kp_kore.specs.Instance.{Valuation, GivesSorts}
+use Rattle.kp_kore.proofs.TurnLemmas.{of_member}
 use Rattle.kp_symbolic.specs.Terms.{term_variables}
 use Rattle.kp_symbolic.specs.States.{Atom, same, has_head, quoted, Literal, atom_variables, clause_variables, SymbolicState}
 use Rattle.kp_symbolic.specs.WellFormed.{IsWellSortedAtom, IsGivenAtom, AreGivenLiterals, AreAtHand, IsWellFormed}

@@ -8,7 +8,7 @@ use Rattle.std.proofs.Math.Nat.{one-mul}
 use Rattle.std.proofs.lemmas.Nat.{mul-le}
 use Rattle.std.proofs.lemmas.Slice.Eq.{bytes_eq-Decides}
 use Rattle.kp_kore.specs.Syntax.{Text}
-use Rattle.kp_semantics.proofs.ListLemmas.{all_append, all_left, all_right, all_map, all_filter}
+use Rattle.kp_kore.proofs.ListLemmas.{all_append, all_left, all_right, all_map, all_filter}
 use Rattle.kp_symbolic.specs.Plain.{Form, ReadLiteral}
 use Rattle.kp_symbolic.specs.Weights.{DifferenceBound, bounds_of, clause_length, all_literals, product_of_lengths, IsBitLength, forms_in, all_bounds, largest, name_in, numeric_names, Weight, bits, literals, product, IsWeight, IsOver}
 use Rattle.kp_symbolic.proofs.NumericNames.{once_not_longer}

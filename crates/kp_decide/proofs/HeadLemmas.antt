@@ -9,11 +9,11 @@ use Rattle.std.proofs.lemmas.List.Elements.{Contains-append_left, Contains-appen
 use Rattle.kp_kore.specs.Syntax.{Text, KoreSort}
 use Rattle.kp_kore.specs.Parts.{SortedName}
 use Rattle.kp_kore.specs.Signature.{KoreSignature, Head, is_head}
-use Rattle.kp_semantics.specs.Value.{Value, truth, head_of, HasSort}
-use Rattle.kp_semantics.specs.Instance.{Valuation, GivesSorts, assigned}
-use Rattle.kp_semantics.proofs.InstanceLemmas.{first_true, second_true}
-use Rattle.kp_semantics.proofs.ListLemmas.{all_left, all_right, all_map, all_append}
-use Rattle.kp_semantics.proofs.TurnLemmas.{of_member}
+use Rattle.kp_kore.specs.Value.{Value, truth, head_of, HasSort}
+use Rattle.kp_kore.specs.Instance.{Valuation, GivesSorts, assigned}
+use Rattle.kp_kore.proofs.InstanceLemmas.{first_true, second_true}
+use Rattle.kp_kore.proofs.ListLemmas.{all_left, all_right, all_map, all_append}
+use Rattle.kp_kore.proofs.TurnLemmas.{of_member}
 use Rattle.kp_signature.proofs.HeadLemmas.{is_head-Decides}
 use Rattle.kp_symbolic.specs.States.{HeadTest, PassesHead}
 use Rattle.kp_symbolic.specs.Heads.{passes_head}

@@ -5,9 +5,9 @@ use Rattle.std.specs.List.{AllByRecursion, Contains, flat_map, filter}
 use Rattle.kp_kore.specs.Syntax.{Text, KoreSort, KoreSorts, no_sorts, next_sort}
 use Rattle.kp_kore.specs.Parts.{SortedName}
 use Rattle.kp_kore.specs.Signature.{KoreSignature, constructor_of}
-use Rattle.kp_semantics.specs.Value.{Value, whole, truth, token, constructed, Values, no_values, next_value, head_of, ArgumentSorts, HasSort, HaveSorts}
-use Rattle.kp_semantics.specs.Instance.{Valuation}
-use Rattle.kp_semantics.proofs.ListLemmas.{all_append, all_left, all_right, all_filter}
+use Rattle.kp_kore.specs.Value.{Value, whole, truth, token, constructed, Values, no_values, next_value, head_of, ArgumentSorts, HasSort, HaveSorts}
+use Rattle.kp_kore.specs.Instance.{Valuation}
+use Rattle.kp_kore.proofs.ListLemmas.{all_append, all_left, all_right, all_filter}
 use Rattle.kp_symbolic.specs.Terms.{SymbolicTerm, unknown, known, term_variables}
 use Rattle.kp_symbolic.specs.States.{PassesHead, Atom, same, has_head, quoted, atom_variables, Literal, IsLiteralTrue, AreTrue, clause_variables, SymbolicState, CanBeTrue}
 use Rattle.kp_symbolic.specs.WellFormed.{IsGivenAtom, AreGivenLiterals, AreAtHand}

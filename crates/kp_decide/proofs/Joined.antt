@@ -8,15 +8,15 @@ use Rattle.std.proofs.lemmas.Slice.Eq.{bytes_eq-Decides}
 use Rattle.kp_kore.specs.Syntax.{Text, KoreSort}
 use Rattle.kp_kore.specs.Parts.{SortedName}
 use Rattle.kp_kore.specs.Signature.{KoreSignature}
-use Rattle.kp_semantics.specs.Value.{Value, head_of, HasSort}
-use Rattle.kp_semantics.specs.Instance.{Valuation, GivesSorts, is_named}
-use Rattle.kp_semantics.proofs.ListLemmas.{all_left, all_right, all_map}
+use Rattle.kp_kore.specs.Value.{Value, head_of, HasSort}
+use Rattle.kp_kore.specs.Instance.{Valuation, GivesSorts, is_named}
+use Rattle.kp_kore.proofs.ListLemmas.{all_left, all_right, all_map}
 use Rattle.kp_symbolic.specs.States.{PassesHead}
 use Rattle.kp_symbolic.specs.Plain.{WholePart, TokenPart, some_token, one_token, Form, compares, is_truth, equates, asks, gives, ReadLiteral}
 use Rattle.kp_symbolic.specs.Weights.{name_in}
 use Rattle.kp_conditions.specs.Saying.{named_number, number_of, whole_value, token_value}
 use Rattle.kp_choices.specs.Asking.{AsksTruly, IsAskedTruly, AreAskedTruly}
-use Rattle.kp_semantics.specs.Interpretation.{compared}
+use Rattle.kp_kore.specs.Interpretation.{compared}
 use Rattle.kp_decide.proofs.Asked.{asked_of, asked_in, IsHeadAsked, AreHeadsAsked}
 
 -- ---- what is asked of numbers, truth values and tokens

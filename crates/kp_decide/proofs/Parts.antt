@@ -3,8 +3,8 @@ use Rattle.std.proofs.Common.{arith, ◌≡◌, refl, sym, ap, subst, ◌∙◌,
 use Rattle.std.specs.Prelude.{if◌then◌else◌}
 use Rattle.std.specs.List.{AllByRecursion, list_all, list_any, filter}
 use Rattle.kp_kore.specs.Signature.{KoreSignature}
-use Rattle.kp_semantics.specs.Instance.{Valuation}
-use Rattle.kp_semantics.proofs.ListLemmas.{all_filter}
+use Rattle.kp_kore.specs.Instance.{Valuation}
+use Rattle.kp_kore.proofs.ListLemmas.{all_filter}
 use Rattle.kp_symbolic.specs.States.{IsClauseTrue, AreTrue, SymbolicState, CanBeTrue}
 use Rattle.kp_symbolic.specs.WellFormed.{AreGivenLiterals}
 use Rattle.kp_symbolic.specs.Plain.{ReadLiteral, read_clauses, has_form, is_plain_clause, literals_of, plain_part, plain_clauses}

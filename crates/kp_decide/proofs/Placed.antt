@@ -8,14 +8,14 @@ use Rattle.std.specs.declared.alloc.Global.{Global}
 use Rattle.kp_kore.specs.Syntax.{KoreSort}
 use Rattle.kp_kore.specs.Parts.{SortedName}
 use Rattle.kp_kore.specs.Signature.{KoreSignature, has_only_numbers, has_only_truths}
-use Rattle.kp_semantics.specs.Value.{HasSort, head_of}
-use Rattle.kp_semantics.specs.Instance.{Valuation, GivesSorts}
-use Rattle.kp_semantics.proofs.ListLemmas.{all_append, all_left, all_right}
+use Rattle.kp_kore.specs.Value.{HasSort, head_of}
+use Rattle.kp_kore.specs.Instance.{Valuation, GivesSorts}
+use Rattle.kp_kore.proofs.ListLemmas.{all_append, all_left, all_right}
 use Rattle.kp_signature.proofs.NumberLemmas.{only_numbers, only_truths}
 use Rattle.kp_symbolic.specs.Plain.{has_only_tokens}
 use Rattle.kp_symbolic.specs.Weights.{name_in}
-use Rattle.kp_terms.specs.View.{variable_view}
-use Rattle.kp_terms.specs.declared.variable.Variable.{Variable}
+use Rattle.kp_symbolic.specs.View.{variable_view}
+use Rattle.kp_symbolic.specs.declared.variable.Variable.{Variable}
 use Rattle.kp_deciding.specs.Forms.{whole_part_view, token_part_view, form_view}
 use Rattle.kp_deciding.specs.Readings.{read_view, clauses_view}
 use Rattle.kp_deciding.specs.declared.form.Form.{Form}

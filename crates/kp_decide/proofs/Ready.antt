@@ -7,8 +7,8 @@ use Rattle.std.specs.List.{AllByRecursion}
 use Rattle.kp_kore.specs.Syntax.{KoreSort}
 use Rattle.kp_kore.specs.Hooks.{Comparison, equal, whole_comparison, values_equal, values_different}
 use Rattle.kp_kore.specs.Signature.{KoreSignature, SymbolMeaning, interpretation, meaning_of, is_truth_sort, has_only_numbers, has_only_truths}
-use Rattle.kp_semantics.specs.Value.{truth, constructed, no_values, head_of}
-use Rattle.kp_semantics.specs.Instance.{Valuation}
+use Rattle.kp_kore.specs.Value.{truth, constructed, no_values, head_of}
+use Rattle.kp_kore.specs.Instance.{Valuation}
 use Rattle.kp_symbolic.specs.Formulas.{NotAllFalse}
 use Rattle.kp_symbolic.specs.Terms.{SymbolicTerm, unknown, known, headed, no_terms, next_term}
 use Rattle.kp_symbolic.specs.States.{one_head, Atom, same, has_head, quoted, Literal, IsLiteralTrue, IsClauseTrue, SymbolicState}

@@ -3,7 +3,7 @@ use Rattle.std.proofs.Common.{◌≡◌, refl, Bool, true, false, List, [], ◌�
 use Rattle.std.specs.Prelude.{if◌then◌else◌}
 use Rattle.std.specs.List.{AllByRecursion, filter}
 use Rattle.kp_kore.specs.Signature.{KoreSignature}
-use Rattle.kp_semantics.specs.Instance.{Valuation, GivesSorts}
+use Rattle.kp_kore.specs.Instance.{Valuation, GivesSorts}
 use Rattle.kp_symbolic.specs.Formulas.{NotAllFalse}
 use Rattle.kp_symbolic.specs.States.{Literal, IsClauseTrue, AreTrue, clause_variables, SymbolicState, CanBeTrue}
 use Rattle.kp_symbolic.specs.WellFormed.{AreGivenLiterals, IsWellSortedAtom, AreAtHand}

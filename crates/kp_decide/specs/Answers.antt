@@ -4,7 +4,7 @@ use Rattle.std.specs.Prelude.{◌≡◌, List, Option, Some, None, ⊤}
 use Rattle.kp_kore.specs.Signature.{KoreSignature}
 use Rattle.kp_symbolic.specs.States.{Literal, SymbolicState}
 use Rattle.kp_symbolic.specs.Verdicts as model
-use Rattle.kp_terms.specs.View.{clauses_view}
+use Rattle.kp_symbolic.specs.View.{clauses_view}
 use Rattle.kp_weights.specs.Told.{weight_view, told}
 use Rattle.kp_weights.specs.declared.weight.Weighed.{Weighed}
 use Rattle.kp_decide.specs.declared.verdict.Verdict.{Verdict}

@@ -7,7 +7,7 @@ ghost use Rattle.kp_signature.specs.View.{signature_view};
 ghost use Rattle.kp_symbolic.specs.Heads.{is_constructor_head, passes_head};
 ghost use Rattle.kp_heads.specs.Made.{IsHeadTableOf};
 ghost use Rattle.kp_sort_heads.specs.Views.{head_view};
-ghost use Rattle.kp_terms.specs.View.{variable_view};
+ghost use Rattle.kp_symbolic.specs.View.{variable_view};
 ghost use Rattle.kp_deciding.specs.Forms.{asked_view, form_view};
 ghost use Rattle.kp_deciding.specs.Readings.{read_view, clauses_view};
 ghost use Rattle.kp_decide.specs.Heads as spec;
@@ -16,7 +16,7 @@ use kp_deciding::{Asked, Form, ReadLiteral};
 use kp_heads::HeadTable;
 use kp_signature::Signature;
 use kp_sort_heads::{Head, heads, is_head};
-use kp_terms::Variable;
+use kp_symbolic::Variable;
 
 /// Whether the head is the constructor of this name.
 fn is_named(head: &Head, name: &str) -> bool

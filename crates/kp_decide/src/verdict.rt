@@ -1,4 +1,4 @@
-use kp_terms::Clause;
+use kp_symbolic::Clause;
 use kp_weights::Weighed;
 
 /// What is answered to the question whether a state's clauses can be true.

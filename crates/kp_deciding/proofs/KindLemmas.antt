@@ -5,8 +5,8 @@ use Rattle.std.specs.List.{filter, list_all, list_any}
 use Rattle.kp_kore.specs.Syntax.{Text, KoreSort, SymbolDeclaration}
 use Rattle.kp_kore.specs.Attributes.{sorts_equal}
 use Rattle.kp_kore.specs.Signature.{KoreSignature, Head, integers, booleans, tokens, constructor_of, is_the, is_integer_sort, is_boolean_sort, is_own_below, is_head, are_numbers, are_truths, has_only_numbers, has_only_truths, is_number_sort, is_truth_sort, IsBelow, is_below, itself, through}
-use Rattle.kp_subsorts.proofs.Below.{is_below-Decides}
-use Rattle.kp_subsorts.proofs.Same.{sorts_equal-Decides}
+use Rattle.kp_signature.proofs.Below.{is_below-Decides}
+use Rattle.kp_signature.proofs.Same.{sorts_equal-Decides}
 use Rattle.kp_symbolic.specs.Plain.{is_tokens_of, are_tokens_of_one, has_only_tokens}
 use Rattle.kp_deciding.specs.Kinds.{lower_sorts, lowers, some_below, no_tokens_among, no_constructors_among, are_other, tokens_are, one_kind_of_tokens}
 

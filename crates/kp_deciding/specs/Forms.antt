@@ -2,13 +2,13 @@
 use Rattle.std.specs.Prelude.{Bool, Option, Some, None, string_bytes}
 use Rattle.std.specs.Option.{option_map}
 use Rattle.kp_kore.specs.View.{sort_view}
-use Rattle.kp_hooks.specs.HookView.{comparison_view}
+use Rattle.kp_kore.specs.HookView.{comparison_view}
 use Rattle.kp_ground.specs.View.{value_view}
-use Rattle.kp_semantics.specs.Value.{Value, whole, truth, token}
+use Rattle.kp_kore.specs.Value.{Value, whole, truth, token}
 use Rattle.kp_symbolic.specs.Terms.{SymbolicTerm, known}
 use Rattle.kp_symbolic.specs.States as states
 use Rattle.kp_symbolic.specs.Plain as model
-use Rattle.kp_terms.specs.View.{variable_view, term_view}
+use Rattle.kp_symbolic.specs.View.{variable_view, term_view}
 use Rattle.kp_deciding.specs.declared.form.WholePart.{WholePart}
 use Rattle.kp_deciding.specs.declared.form.TokenPart.{TokenPart}
 use Rattle.kp_deciding.specs.declared.form.TokenPart.TheVariants as part

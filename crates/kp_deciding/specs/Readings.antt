@@ -3,7 +3,7 @@ use Rattle.std.specs.Prelude.{List, map, Vec}
 use Rattle.std.specs.declared.alloc.Global.{Global}
 use Rattle.std.specs.Option.{option_map}
 use Rattle.kp_symbolic.specs.Plain as model
-use Rattle.kp_terms.specs.View.{literal_view}
+use Rattle.kp_symbolic.specs.View.{literal_view}
 use Rattle.kp_deciding.specs.Forms.{form_view}
 use Rattle.kp_deciding.specs.declared.reading.ReadLiteral.{ReadLiteral}
 

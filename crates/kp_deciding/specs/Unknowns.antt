@@ -7,11 +7,11 @@ use Rattle.std.specs.declared.alloc.Global.{Global}
 use Rattle.kp_kore.specs.Parts.{SortedName}
 use Rattle.kp_kore.specs.Signature.{KoreSignature, has_only_numbers, has_only_truths}
 use Rattle.kp_ground.specs.View.{value_view}
-use Rattle.kp_semantics.specs.Value.{Value, token}
+use Rattle.kp_kore.specs.Value.{Value, token}
 use Rattle.kp_symbolic.specs.States.{atom_variables}
 use Rattle.kp_symbolic.specs.WellFormed.{AreAtHand}
 use Rattle.kp_symbolic.specs.Plain.{has_only_tokens}
-use Rattle.kp_terms.specs.View.{variable_view, literal_view}
+use Rattle.kp_symbolic.specs.View.{variable_view, literal_view}
 use Rattle.kp_deciding.specs.declared.form.Form.{Form}
 use Rattle.kp_deciding.specs.declared.form.Form.TheVariants.{Compares, Truth, Equates, Asks, Gives}
 use Rattle.kp_deciding.specs.declared.form.WholePart.{WholePart}

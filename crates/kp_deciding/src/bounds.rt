@@ -1,7 +1,7 @@
 // Comparisons as bounds of differences, and how many digits their constants have.
 ghost use Rattle.std.specs.Prelude.{◌≡◌, ◌++◌, ◌+ℤ◌, ◌-ℤ◌, map, unsigned_abs, IfOk, OnOk};
 ghost use Rattle.std.specs.Option.{option_map};
-ghost use Rattle.kp_hooks.specs.HookView.{comparison_view};
+ghost use Rattle.kp_kore.specs.HookView.{comparison_view};
 ghost use Rattle.kp_symbolic.specs.Plain.{compares};
 ghost use Rattle.kp_symbolic.specs.Weights as model;
 ghost use Rattle.kp_symbolic.specs.Weights.{IsBitLength, largest};
@@ -11,7 +11,7 @@ ghost use Rattle.kp_deciding.specs.Bounds.{difference_view, strictness, said_bou
 
 use crate::form::{Form, WholePart};
 use crate::reading::ReadLiteral;
-use kp_hooks::Comparison;
+use kp_kore::Comparison;
 use std::alloc::{AllocError, Global};
 
 /// That the first side is at most the second, or less.

@@ -3,22 +3,21 @@ ghost use Rattle.std.specs.Prelude.{◌≡◌, true, [], ◌∷◌, ◌++◌, ma
 ghost use Rattle.std.specs.Option.{option_map};
 ghost use Rattle.kp_kore.specs.Signature.{KoreSignature};
 ghost use Rattle.kp_signature.specs.Meanings.{meaning_view};
-ghost use Rattle.kp_hooks.specs.HookView.{comparison_view};
+ghost use Rattle.kp_kore.specs.HookView.{comparison_view};
 ghost use Rattle.kp_ground.specs.View.{value_view};
 ghost use Rattle.kp_signature.specs.View.{signature_view};
 ghost use Rattle.kp_symbolic.specs.Plain as model;
 ghost use Rattle.kp_symbolic.specs.States.{atom_variables};
 ghost use Rattle.kp_symbolic.specs.Terms.{unknown, headed, term_variables, all_term_variables};
-ghost use Rattle.kp_terms.specs.View.{variable_view, term_view, terms_of, literal_view};
+ghost use Rattle.kp_symbolic.specs.View.{variable_view, term_view, terms_of, literal_view};
 ghost use Rattle.kp_deciding.specs.Forms.{whole_part_view, token_part_view, form_view, number_said, token_said, truth_known};
 ghost use Rattle.kp_deciding.specs.Unknowns.{side_variables, token_variables, unknowns_of, AreNumbers, IsTokenPart, IsOfKind, IsSaidOfKind, IsSaidOf};
 
 use crate::kinds::{has_only_numbers, has_only_tokens, has_only_truths};
 use kp_ground::Value;
-use kp_hooks::{Comparison, Hook};
-use kp_kore::Sort;
+use kp_kore::{Comparison, Hook, Sort};
 use kp_signature::{Function, Meaning, Signature, meaning_of};
-use kp_terms::{Atom, Literal, Term, Variable};
+use kp_symbolic::{Atom, Literal, Term, Variable};
 
 /// A side of a comparison: a whole-number variable or none, and a constant.
 #[derive(Clone, Copy)]

@@ -4,15 +4,14 @@ ghost use Rattle.kp_kore.specs.Attributes.{sorts_equal};
 ghost use Rattle.kp_kore.specs.Signature as head;
 ghost use Rattle.kp_kore.specs.Signature.{is_below, is_head, is_own_below};
 ghost use Rattle.kp_kore.specs.View.{sort_view, symbol_sentence_view};
-ghost use Rattle.kp_subsorts.specs.Pairs.{subsort_view};
+ghost use Rattle.kp_signature.specs.Pairs.{subsort_view};
 ghost use Rattle.kp_signature.specs.View.{signature_view};
 ghost use Rattle.kp_symbolic.specs.Plain as plain;
 ghost use Rattle.kp_deciding.specs.Kinds.{lower_sorts, lowers, some_below, are_other, no_tokens_among, no_constructors_among, tokens_are, one_kind_of_tokens};
 
 use kp_kore::{Name, Sort, SymbolSentence};
-use kp_signature::Signature;
 use kp_signature::symbols::is_constructor;
-use kp_subsorts::Subsort;
+use kp_signature::{Signature, Subsort};
 
 /// Whether all values of the sort are whole numbers.
 pub fn has_only_numbers(signature: &Signature, sort: &Sort) -> bool

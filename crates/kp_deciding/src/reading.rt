@@ -1,5 +1,5 @@
 use crate::form::Form;
-use kp_terms::Literal;
+use kp_symbolic::Literal;
 
 /// A literal with what it says, where it is decided. `read_view` in specs/Readings.antt says which read literal of
 /// kp_symbolic it is.

@@ -9,11 +9,11 @@ use Rattle.kp_kore.specs.View.{sort_view, sorts_view}
 use Rattle.kp_kore.specs.Attributes.{sorts_equal}
 use Rattle.kp_kore.specs.Signature.{KoreSignature}
 use Rattle.kp_kore.specs.declared.sort.Sort.{Sort}
-use Rattle.kp_semantics.specs.Value as model
+use Rattle.kp_kore.specs.Value as model
 use Rattle.kp_ground.specs.View.{value_view, values_of}
 use Rattle.kp_ground.specs.declared.value.Value.{Value}
-use Rattle.kp_subsorts.proofs.Same.{sorts_equal-Decides}
-use Rattle.kp_states.specs.Spelled.{spelling, spellings, bare_spelling, home_of, places_of, placed, injected}
+use Rattle.kp_signature.proofs.Same.{sorts_equal-Decides}
+use Rattle.kp_compile.specs.Spelled.{spelling, spellings, bare_spelling, home_of, places_of, placed, injected}
 use Rattle.kp_depths.specs.Depths.{node, levels_of, counted, depths_in}
 use Rattle.kp_depths.specs.View.{AreDepthsOf, AreDepthsOfAll, depths_view, trees_of}
 use Rattle.kp_depths.specs.declared.depths.Depths.{Depths}

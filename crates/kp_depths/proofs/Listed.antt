@@ -5,9 +5,9 @@ use Rattle.std.specs.Prelude.{Result, Ok, Err, IfOk}
 use Rattle.std.specs.List.{list_all}
 use Rattle.kp_kore.specs.Syntax.{Text}
 use Rattle.kp_kore.specs.Signature.{KoreSignature}
-use Rattle.kp_semantics.specs.Value as model
-use Rattle.kp_semantics.specs.Value.{constructed, next_value}
-use Rattle.kp_semantics.specs.Instance.{Valuation}
+use Rattle.kp_kore.specs.Value as model
+use Rattle.kp_kore.specs.Value.{constructed, next_value}
+use Rattle.kp_kore.specs.Instance.{Valuation}
 use Rattle.kp_ground.specs.Slots.{term_reads}
 use Rattle.kp_ground.specs.Terms.{left_value, left_values, left_built, term_value, built}
 use Rattle.kp_ground.specs.LeftView.{left_view, lefts_of}

@@ -4,8 +4,8 @@ use Rattle.std.specs.Prelude.{ℕ, suc, min}
 use Rattle.kp_kore.specs.Limits.{most_depth}
 use Rattle.kp_kore.specs.Parts.{most_term_depth}
 use Rattle.kp_kore.specs.Signature.{KoreSignature}
-use Rattle.kp_semantics.specs.Value.{Value, whole, truth, token, constructed, Values, no_values, next_value}
-use Rattle.kp_states.specs.Spelled.{spellings, places_of}
+use Rattle.kp_kore.specs.Value.{Value, whole, truth, token, constructed, Values, no_values, next_value}
+use Rattle.kp_compile.specs.Spelled.{spellings, places_of}
 
 mutual
   pub data DepthTree : Type 0 where

@@ -4,17 +4,17 @@ ghost use Rattle.kp_kore.specs.Limits.{most_depth};
 ghost use Rattle.kp_kore.specs.Parts.{term_depth, most_term_depth};
 ghost use Rattle.kp_kore.specs.View.{sort_view, sorts_view};
 ghost use Rattle.kp_signature.specs.View.{signature_view};
-ghost use Rattle.kp_semantics.specs.Value.{constructed};
+ghost use Rattle.kp_kore.specs.Value.{constructed};
 ghost use Rattle.kp_ground.specs.View.{value_view, values_of};
-ghost use Rattle.kp_states.specs.Spelled.{spelling, spellings};
+ghost use Rattle.kp_compile.specs.Spelled.{spelling, spellings};
 ghost use Rattle.kp_depths.specs.Depths.{counted, node};
 ghost use Rattle.kp_depths.specs.View.{AreDepthsOf, AreDepthsOfAll, depths_view, trees_of};
 
 use crate::depths::Depths;
+use kp_compile::{is_home, places_of};
 use kp_ground::Value;
 use kp_kore::Sort;
 use kp_signature::Signature;
-use kp_states::{is_home, places_of};
 use std::alloc::{AllocError, Global};
 use std::sync::Arc;
 

@@ -3,7 +3,7 @@ ghost use Rattle.std.specs.Prelude.{◌≡◌, IfOk, List, map, true};
 ghost use Rattle.std.specs.List.{list_all};
 ghost use Rattle.kp_kore.specs.Syntax.{Text};
 ghost use Rattle.kp_signature.specs.View.{signature_view};
-ghost use Rattle.kp_semantics.specs.Instance.{Valuation};
+ghost use Rattle.kp_kore.specs.Instance.{Valuation};
 ghost use Rattle.kp_ground.specs.Slots.{stands_at, term_reads};
 ghost use Rattle.kp_ground.specs.Terms.{term_value};
 ghost use Rattle.kp_ground.specs.TermView.{term_view};

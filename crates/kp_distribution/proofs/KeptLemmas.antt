@@ -7,8 +7,8 @@ use Rattle.std.proofs.lemmas.List.{append-nil, append_assoc, map-append}
 use Rattle.kp_symbolic.specs.Alike.{literals_same}
 use Rattle.kp_symbolic.specs.Formulas.{clauses_same, kept_once_after, kept_once}
 use Rattle.kp_symbolic.specs.States.{Literal}
-use Rattle.kp_terms.specs.View.{clause_view, clauses_view}
-use Rattle.kp_terms.specs.declared.clause.Clause.{Clause}
+use Rattle.kp_symbolic.specs.View.{clause_view, clauses_view}
+use Rattle.kp_symbolic.specs.declared.clause.Clause.{Clause}
 
 abbrev turned : List (List Literal) → List (List Literal)
 turned [] = []

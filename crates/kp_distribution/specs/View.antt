@@ -1,6 +1,6 @@
 -- Which distribution the code's is.
 use Rattle.kp_symbolic.specs.Formulas.{Size}
-use Rattle.kp_terms.specs.View.{clauses_view}
+use Rattle.kp_symbolic.specs.View.{clauses_view}
 use Rattle.kp_distribution.specs.Distribution.{Distribution}
 use Rattle.kp_distribution.specs.declared.count.Count.{Count}
 use Rattle.kp_distribution.specs.declared.distributed.Distributed.{Distributed}

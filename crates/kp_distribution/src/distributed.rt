@@ -2,14 +2,14 @@
 ghost use Rattle.std.specs.Prelude.{◌≡◌, [], ◌∷◌, IfOk, map};
 ghost use Rattle.kp_symbolic.specs.Formulas.{fact as literal_alone};
 ghost use Rattle.kp_symbolic.specs.Opening.{fixed as always_or_never};
-ghost use Rattle.kp_terms.specs.View.{literal_view, clause_view};
+ghost use Rattle.kp_symbolic.specs.View.{literal_view, clause_view};
 ghost use Rattle.kp_distribution.specs.Distribution as model;
 ghost use Rattle.kp_distribution.specs.Distribution.{distribution_of};
 ghost use Rattle.kp_distribution.specs.View.{distributed_view};
 
 use crate::count::{Count, each_with_each, is_too_large, together};
 use crate::joined::{crossed, kept_once, make_clause};
-use kp_terms::{Clause, Literal};
+use kp_symbolic::{Clause, Literal};
 use std::alloc::{AllocError, Global};
 use std::sync::Arc;
 

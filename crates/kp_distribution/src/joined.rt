@@ -4,9 +4,9 @@ ghost use Rattle.std.specs.List.{filter, list_any};
 ghost use Rattle.kp_symbolic.specs.Alike.{literals_same};
 ghost use Rattle.kp_symbolic.specs.Formulas as model;
 ghost use Rattle.kp_symbolic.specs.Formulas.{most_compared};
-ghost use Rattle.kp_terms.specs.View.{literal_view, clause_view, clauses_view};
+ghost use Rattle.kp_symbolic.specs.View.{literal_view, clause_view, clauses_view};
 
-use kp_terms::{Clause, Literal};
+use kp_symbolic::{Clause, Literal};
 use std::alloc::{AllocError, Global};
 use std::sync::Arc;
 

@@ -10,7 +10,7 @@ use Rattle.std.proofs.lemmas.Slice.Zip.{AllZip-long}
 use Rattle.indexmap.specs.IndexMap.{IndexMap}
 use Rattle.kp_kore.specs.Syntax.{Text}
 use Rattle.kp_kore.specs.Signature.{KoreSignature}
-use Rattle.kp_semantics.specs.Theory.{NumberedAxiom}
+use Rattle.kp_kore.specs.Theory.{NumberedAxiom}
 use Rattle.kp_rules.specs.declared.rule.Rule.{Rule}
 use Rattle.kp_book.specs.Books.{is_same_axiom, each_axiom_once}
 use Rattle.kp_extensions.specs.Extending.{IsTakenFrom, AreTakenFrom, AreGathered, name_by_number}

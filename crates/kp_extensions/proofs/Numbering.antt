@@ -8,7 +8,7 @@ use Rattle.std.proofs.lemmas.Fmt.{decimal_by_steps, decimal_injective}
 use Rattle.std.proofs.lemmas.List.{append_assoc}
 use Rattle.std.proofs.lemmas.Slice.Eq.{bytes_eq-Decides}
 use Rattle.kp_kore.specs.Syntax.{Text}
-use Rattle.kp_semantics.specs.Theory.{NumberedAxiom}
+use Rattle.kp_kore.specs.Theory.{NumberedAxiom}
 use Rattle.kp_book.specs.Books.{is_same_axiom}
 use Rattle.kp_extensions.specs.Extending.{name_by_number}
 use Rattle.kp_imports.specs.Reaching.{has}

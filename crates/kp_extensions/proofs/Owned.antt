@@ -6,7 +6,7 @@ use Rattle.std.proofs.lemmas.List.{append-nil}
 use Rattle.std.proofs.lemmas.Slice.Zip.{AllZip-long}
 use Rattle.kp_kore.specs.Syntax.{Text, KoreModule}
 use Rattle.kp_kore.specs.Signature.{KoreSignature}
-use Rattle.kp_semantics.specs.Theory.{NumberedAxiom, modules_reached, rewrite_axioms}
+use Rattle.kp_kore.specs.Theory.{NumberedAxiom, modules_reached, rewrite_axioms}
 use Rattle.kp_rule_sets.specs.declared.rule_set.RuleSet.{RuleSet}
 use Rattle.kp_book.specs.Books.{Opening, rules_in}
 use Rattle.kp_modules.specs.Keeping.{own_axioms, own_rules}

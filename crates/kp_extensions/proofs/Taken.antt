@@ -4,8 +4,8 @@ use Rattle.std.specs.List.{AllZip}
 use Rattle.std.proofs.lemmas.List.Elements.{filter_map-append}
 use Rattle.kp_kore.specs.Syntax.{Text}
 use Rattle.kp_kore.specs.Signature.{KoreSignature}
-use Rattle.kp_semantics.specs.Rules.{RewriteRule, priority_of, usual_priority, most_priority}
-use Rattle.kp_semantics.specs.Theory.{NumberedAxiom, IsRuleOf, label_of, labels_of, rule_id}
+use Rattle.kp_kore.specs.Rules.{RewriteRule, priority_of, usual_priority, most_priority}
+use Rattle.kp_kore.specs.Theory.{NumberedAxiom, IsRuleOf, label_of, labels_of, rule_id}
 use Rattle.kp_rules.specs.Bodies.{IsBodyOf, IsCodeOf, IsReadAs}
 use Rattle.kp_rules.specs.declared.rule.Rule.{Rule}
 use Rattle.kp_rule_sets.specs.declared.rule_set.RuleSet.{RuleSet}

@@ -8,7 +8,7 @@ use Rattle.kp_kore.specs.Signature.{KoreSignature}
 use Rattle.kp_kore.specs.View.{sentence_view}
 use Rattle.kp_kore.specs.declared.sentence.Sentence.{Sentence}
 use Rattle.kp_signature.specs.Verify.{VerifyFault, FailsWith}
-use Rattle.kp_semantics.specs.Theory.{rewrite_axioms_from}
+use Rattle.kp_kore.specs.Theory.{rewrite_axioms_from}
 use Rattle.kp_rules.specs.Bodies.{IsFaulty}
 use Rattle.kp_modules.specs.Axioms.{axiom_view, axioms_view}
 use Rattle.kp_extensions.specs.Extending.{AreAllSound, ExtendFault, IsExtendFault, IsFirstDeclaration, IsFirstUnsound, IsUnsound, declaration, extend_fault, is_declaration, rule_fault}

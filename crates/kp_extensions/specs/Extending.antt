@@ -10,9 +10,9 @@ use Rattle.indexmap.specs.IndexMap.{IndexMap}
 use Rattle.kp_kore.specs.Syntax.{Text, Statement, KoreSentence, import_sentence, sort_sentence, symbol_sentence, alias_sentence, axiom_sentence, claim_sentence, KoreModule}
 use Rattle.kp_kore.specs.Signature.{KoreSignature}
 use Rattle.kp_signature.specs.Verify.{VerifyFault, FailsWith}
-use Rattle.kp_semantics.specs.Foreign.{Reads}
-use Rattle.kp_semantics.specs.Rules as model
-use Rattle.kp_semantics.specs.Theory.{NumberedAxiom, rewrite_axioms_from}
+use Rattle.kp_kore.specs.Foreign.{Reads}
+use Rattle.kp_kore.specs.Rules as model
+use Rattle.kp_kore.specs.Theory.{NumberedAxiom, rewrite_axioms_from}
 use Rattle.kp_rules.specs.Bodies.{IsBodyOf, IsFaulty}
 use Rattle.kp_rules.specs.declared.rule.Rule.{Rule}
 use Rattle.kp_rules.specs.declared.rule.RuleBody.TheVariants.{Rewrite, Foreign}

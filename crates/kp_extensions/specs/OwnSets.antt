@@ -4,7 +4,7 @@ use Rattle.std.specs.Prelude.{◌≡◌, List, Option, Some, None}
 use Rattle.std.specs.declared.alloc.Global.{Global}
 use Rattle.std.specs.declared.sync.Arc.{Arc}
 use Rattle.kp_kore.specs.Syntax.{Text}
-use Rattle.kp_semantics.specs.Theory.{NumberedAxiom}
+use Rattle.kp_kore.specs.Theory.{NumberedAxiom}
 use Rattle.kp_rule_sets.specs.declared.rule_set.RuleSet.{RuleSet}
 use Rattle.kp_book.specs.Books.{Opening, rules_in}
 use Rattle.kp_modules.specs.Made.{IsSetOf}

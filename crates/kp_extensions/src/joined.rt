@@ -4,7 +4,7 @@ ghost use Rattle.std.specs.List.{AllZip, flat_map};
 ghost use Rattle.kp_kore.specs.Syntax.{Text};
 ghost use Rattle.kp_kore.specs.Signature.{KoreSignature};
 ghost use Rattle.kp_signature.specs.View.{signature_view};
-ghost use Rattle.kp_semantics.specs.Theory.{NumberedAxiom, labels_of as labels_among};
+ghost use Rattle.kp_kore.specs.Theory.{NumberedAxiom, labels_of as labels_among};
 ghost use Rattle.kp_book.specs.Books.{each_axiom_once};
 ghost use Rattle.kp_extensions.specs.Extending.{IsTakenFrom, AreTakenFrom, AreSetsOf, AreGathered};
 ghost use Rattle.kp_modules.specs.Labels.{Counts};

@@ -2,7 +2,7 @@
 ghost use Rattle.std.specs.Prelude.{◌≡◌, ◌++◌, IfOk, List, OnOk, Some, length, map, slice_get};
 ghost use Rattle.kp_kore.specs.Syntax.{Text, KoreDefinition, KoreModule};
 ghost use Rattle.kp_kore.specs.Signature.{KoreSignature};
-ghost use Rattle.kp_semantics.specs.Theory.{NumberedAxiom, modules_reached, rewrite_axioms};
+ghost use Rattle.kp_kore.specs.Theory.{NumberedAxiom, modules_reached, rewrite_axioms};
 ghost use Rattle.kp_book.specs.Books.{Opening, rules_in};
 ghost use Rattle.kp_modules.specs.Keeping.{KeepsReached, own_axioms};
 ghost use Rattle.kp_modules.specs.Made.{IsSetOf};

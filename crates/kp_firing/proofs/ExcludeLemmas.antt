@@ -3,7 +3,7 @@ use Rattle.std.proofs.Common.{◌≡◌, refl, sym, ap, subst, ◌∙◌, List, 
 use Rattle.std.proofs.lemmas.List.{map-append, append_assoc, append-nil}
 use Rattle.kp_kore.specs.Syntax.{Text}
 use Rattle.kp_kore.specs.Signature.{KoreSignature}
-use Rattle.kp_semantics.specs.Rules.{RuleBody}
+use Rattle.kp_kore.specs.Rules.{RuleBody}
 use Rattle.kp_symbolic.specs.States.{CanBeTrue}
 use Rattle.kp_symbolic.proofs.Distribution.{all_second}
 use Rattle.kp_decide.specs.Read.{HasSortedClauses}

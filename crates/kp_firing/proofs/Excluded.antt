@@ -4,9 +4,9 @@ use Rattle.std.specs.List.{AllByRecursion}
 use Rattle.kp_kore.specs.Syntax.{KorePattern}
 use Rattle.kp_kore.specs.Parts.{SortedName, free_variables}
 use Rattle.kp_kore.specs.Signature.{KoreSignature}
-use Rattle.kp_semantics.specs.Instance.{Valuation, GivesSorts, IsTrueUnder}
-use Rattle.kp_semantics.specs.Rules.{Rewrite, RuleBody, rewrite}
-use Rattle.kp_semantics.specs.Steps.{Fires}
+use Rattle.kp_kore.specs.Instance.{Valuation, GivesSorts, IsTrueUnder}
+use Rattle.kp_kore.specs.Rules.{Rewrite, RuleBody, rewrite}
+use Rattle.kp_kore.specs.Steps.{Fires}
 use Rattle.kp_symbolic.specs.Terms.{Replaced, under_replaced}
 use Rattle.kp_symbolic.specs.States.{Literal, AreTrue, SymbolicState}
 use Rattle.kp_symbolic.specs.Clauses.{clauses_of_conjuncts, is_too_large, denied}

@@ -4,13 +4,13 @@ use Rattle.std.specs.List.{AllByRecursion}
 use Rattle.kp_kore.specs.Syntax.{Text}
 use Rattle.kp_kore.specs.Signature.{KoreSignature}
 use Rattle.kp_kore.specs.View.{view}
-use Rattle.kp_semantics.specs.Rules.{Rewrite, rewrite}
+use Rattle.kp_kore.specs.Rules.{Rewrite, rewrite}
 use Rattle.kp_symbolic.proofs.Distribution.{all_first}
 use Rattle.kp_rules.specs.Skeletons.{Form, skeleton_view}
 use Rattle.kp_rules.specs.LeftSides.{IsLeftSide, IsOverLeft}
 use Rattle.kp_rules.specs.Sides.{AreSidesOf}
 use Rattle.kp_rules.specs.declared.sides.Sides.{Sides}
-use Rattle.kp_terms.specs.View.{clauses_view, replaced_view}
+use Rattle.kp_symbolic.specs.View.{clauses_view, replaced_view}
 use Rattle.kp_cases.specs.Parts.{StatePart}
 use Rattle.kp_unify.specs.Narrowed.{NumberedPart}
 use Rattle.kp_unify.specs.Views.{part_view, numbered_view, met_view}

@@ -15,8 +15,8 @@ use Rattle.kp_symbolic.specs.Opening.{opened_test}
 use Rattle.kp_symbolic.specs.Clauses.{distributed, is_too_large, opened_atom, opened_literal, opened_literals, denied_clauses, denied}
 use Rattle.kp_symbolic.specs.Writing.{written_clause, written_clauses}
 use Rattle.kp_symbolic.specs.Solving.{negated}
-use Rattle.kp_terms.specs.View.{clause_view, clauses_view}
-use Rattle.kp_terms.specs.declared.clause.Clause.{Clause}
+use Rattle.kp_symbolic.specs.View.{clause_view, clauses_view}
+use Rattle.kp_symbolic.specs.declared.clause.Clause.{Clause}
 use Rattle.kp_distribution.specs.Distribution.{Distribution, distribution_of, distributions_of, all_distributed, one_distributed}
 use Rattle.kp_distribution.proofs.DistributionLemmas.{all_are, one_is}
 use Rattle.kp_unify.proofs.OpenedLemmas.{kept}

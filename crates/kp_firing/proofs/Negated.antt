@@ -7,7 +7,7 @@ use Rattle.std.specs.List.{AllByRecursion, Contains, flat_map}
 use Rattle.kp_kore.specs.Syntax.{KoreSort, KorePatterns, conjunction}
 use Rattle.kp_kore.specs.Parts.{SortedName, free_variables, all_free_variables}
 use Rattle.kp_kore.specs.Signature.{KoreSignature}
-use Rattle.kp_semantics.specs.Instance.{Valuation, GivesSorts, AllTrueUnder, is_predicate, are_predicates}
+use Rattle.kp_kore.specs.Instance.{Valuation, GivesSorts, AllTrueUnder, is_predicate, are_predicates}
 use Rattle.kp_symbolic.specs.Terms.{unknown, term_variables, replacement_for}
 use Rattle.kp_symbolic.specs.States.{Atom, same, has_head, quoted, atom_variables, variables_for, Literal, AreTrue, SymbolicState}
 use Rattle.kp_symbolic.specs.WellFormed.{IsWellSortedAtom, AreAtHand, IsGivenAtom, AreGivenLiterals}

@@ -6,7 +6,7 @@ use Rattle.std.specs.Str.{bytes_eq}
 use Rattle.kp_kore.specs.Syntax.{Text, KoreSorts, no_sorts, next_sort, KorePattern, KorePatterns, variable, application, exists, equals, no_patterns, next_pattern}
 use Rattle.kp_kore.specs.Parts.{SortedName, free_variables}
 use Rattle.kp_kore.specs.Signature.{KoreSignature, SymbolMeaning, injection, construction, interpretation, foreign, meaning_of}
-use Rattle.kp_semantics.specs.Instance.{is_named}
+use Rattle.kp_kore.specs.Instance.{is_named}
 use Rattle.kp_symbolic.specs.States.{HeadTest, one_head, head_of_sort}
 use Rattle.kp_symbolic.specs.Opening.{are_variables, question_if, HeadQuestion, asked_constructor, asked_under_inj, asked_of, head_question}
 use Rattle.kp_symbolic_laws.specs.Runs.{IsMeantTest}

@@ -5,8 +5,8 @@ use Rattle.std.proofs.lemmas.List.{map-append}
 use Rattle.kp_kore.specs.Syntax.{Text}
 use Rattle.kp_kore.specs.Parts.{SortedName}
 use Rattle.kp_kore.specs.Signature.{KoreSignature}
-use Rattle.kp_semantics.specs.Rules.{RuleBody}
-use Rattle.kp_semantics.specs.Steps.{Fires}
+use Rattle.kp_kore.specs.Rules.{RuleBody}
+use Rattle.kp_kore.specs.Steps.{Fires}
 use Rattle.kp_symbolic.specs.States.{atom_variables, clause_variables, SymbolicState, Literal, CanBeTrue, IsClauseTrue}
 use Rattle.kp_symbolic.specs.Clauses.{is_too_large, denied, without_repeats}
 use Rattle.kp_symbolic.specs.Plain.{plain_clauses}

@@ -5,8 +5,8 @@ use Rattle.std.specs.List.{AllByRecursion}
 use Rattle.kp_kore.specs.Syntax.{KorePattern}
 use Rattle.kp_kore.specs.Parts.{SortedName, free_variables}
 use Rattle.kp_kore.specs.Signature.{KoreSignature}
-use Rattle.kp_semantics.specs.Instance.{is_predicate}
-use Rattle.kp_semantics.specs.Foreign.{none_within, has_foreign_head}
+use Rattle.kp_kore.specs.Instance.{is_predicate}
+use Rattle.kp_kore.specs.Foreign.{none_within, has_foreign_head}
 use Rattle.kp_signature.specs.Places.{Place}
 use Rattle.kp_signature.specs.Verify.{first_fault}
 use Rattle.kp_symbolic.specs.Terms.{Replaced, replacement_for}

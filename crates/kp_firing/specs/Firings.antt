@@ -3,10 +3,10 @@
 use Rattle.std.specs.Prelude.{◌≡◌, List, [], ◌∷◌, ◌++◌, map, Option, Some, None}
 use Rattle.kp_kore.specs.Syntax.{Text}
 use Rattle.kp_kore.specs.Signature.{KoreSignature}
-use Rattle.kp_semantics.specs.Rules.{Rewrite, RuleBody, rewrite}
+use Rattle.kp_kore.specs.Rules.{Rewrite, RuleBody, rewrite}
 use Rattle.kp_symbolic.specs.States.{Literal}
 use Rattle.kp_symbolic.specs.WellFormed.{AreWellPlaced}
-use Rattle.kp_terms.specs.View.{clauses_view, replaced_view}
+use Rattle.kp_symbolic.specs.View.{clauses_view, replaced_view}
 use Rattle.kp_rules.specs.Skeletons.{Form}
 use Rattle.kp_cases.specs.Parts.{StatePart}
 use Rattle.kp_cases.specs.Cases.{MetPart}

@@ -3,8 +3,8 @@
 use Rattle.std.specs.Prelude.{◌≡◌, ◌++◌, ◌∷◌, List, Some, true}
 use Rattle.std.specs.List.{AllByRecursion}
 use Rattle.kp_kore.specs.Signature.{KoreSignature}
-use Rattle.kp_semantics.specs.Rules.{Rewrite, RuleBody, rewrite}
-use Rattle.kp_semantics.specs.Steps.{Fires}
+use Rattle.kp_kore.specs.Rules.{Rewrite, RuleBody, rewrite}
+use Rattle.kp_kore.specs.Steps.{Fires}
 use Rattle.kp_symbolic.specs.Clauses.{is_too_large, denied}
 use Rattle.kp_symbolic.specs.Solving.{negated}
 use Rattle.kp_rules.specs.Skeletons.{Form}

@@ -3,8 +3,8 @@
 use Rattle.std.specs.Prelude.{◌≤◌, List, map}
 use Rattle.kp_kore.specs.Syntax.{Text}
 use Rattle.kp_kore.specs.Signature.{KoreSignature}
-use Rattle.kp_semantics.specs.Value.{Value}
-use Rattle.kp_semantics.specs.Instance.{Valuation, GivesSorts}
+use Rattle.kp_kore.specs.Value.{Value}
+use Rattle.kp_kore.specs.Instance.{Valuation, GivesSorts}
 use Rattle.kp_symbolic.specs.States.{Literal, IsStateInstance}
 use Rattle.kp_symbolic_laws.specs.Safe.{IsSafe}
 use Rattle.kp_cases.specs.Parts.{StatePart, with_clauses, IsTold, IsSortedPart}

@@ -4,8 +4,8 @@ use Rattle.std.specs.Prelude.{List, Some}
 use Rattle.std.specs.List.{AllByRecursion}
 use Rattle.kp_kore.specs.Syntax.{Text}
 use Rattle.kp_kore.specs.Signature.{KoreSignature}
-use Rattle.kp_semantics.specs.Rules.{RuleBody}
-use Rattle.kp_semantics.specs.Steps.{Fires}
+use Rattle.kp_kore.specs.Rules.{RuleBody}
+use Rattle.kp_kore.specs.Steps.{Fires}
 use Rattle.kp_symbolic.specs.States.{Literal}
 use Rattle.kp_cases.specs.Parts.{StatePart, OfEachInstance}
 use Rattle.kp_turns.specs.Firing.{AreFiringCases, HasNoInstance, AreWhere}

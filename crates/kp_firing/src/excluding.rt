@@ -3,7 +3,7 @@ ghost use Rattle.std.specs.Prelude.{◌≡◌, List, [], ◌∷◌, ◌++◌, If
 ghost use Rattle.std.specs.List.{AllByRecursion};
 ghost use Rattle.kp_kore.specs.Syntax.{Text};
 ghost use Rattle.kp_heads.specs.Made.{IsHeadTableOf};
-ghost use Rattle.kp_semantics.specs.Rules.{Rewrite, RuleBody, rewrite};
+ghost use Rattle.kp_kore.specs.Rules.{Rewrite, RuleBody, rewrite};
 ghost use Rattle.kp_symbolic.specs.Clauses.{is_too_large, denied};
 ghost use Rattle.kp_symbolic.specs.Solving.{negated};
 ghost use Rattle.kp_kept.specs.Kept.{CanBeWrittenAt};

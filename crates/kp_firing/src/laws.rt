@@ -4,7 +4,7 @@ ghost use Rattle.std.specs.List.{AllByRecursion};
 ghost use Rattle.kp_kore.specs.Syntax.{KorePattern};
 ghost use Rattle.kp_kore.specs.Parts.{SortedName};
 ghost use Rattle.kp_kore.specs.Signature.{KoreSignature};
-ghost use Rattle.kp_semantics.specs.Instance.{Valuation, GivesSorts, IsTrueUnder};
+ghost use Rattle.kp_kore.specs.Instance.{Valuation, GivesSorts, IsTrueUnder};
 ghost use Rattle.kp_symbolic.specs.Terms.{Replaced, under_replaced};
 ghost use Rattle.kp_symbolic.specs.States.{Literal, AreTrue, SymbolicState};
 ghost use Rattle.kp_symbolic.specs.Clauses.{is_too_large, denied};

@@ -4,7 +4,7 @@ ghost use Rattle.std.specs.List.{AllByRecursion};
 ghost use Rattle.kp_kore.specs.View.{sort_view};
 ghost use Rattle.kp_signature.specs.View.{signature_view};
 ghost use Rattle.kp_symbolic.specs.WellFormed.{AreWellPlaced};
-ghost use Rattle.kp_terms.specs.View.{replaced_view};
+ghost use Rattle.kp_symbolic.specs.View.{replaced_view};
 ghost use Rattle.kp_rules.specs.Skeletons.{skeleton_view, forms_of};
 ghost use Rattle.kp_cases.specs.Parts.{StatePart};
 ghost use Rattle.kp_cases.specs.Courses.{IsBoundTo, form_variables, all_form_variables};
@@ -12,8 +12,8 @@ ghost use Rattle.kp_cases.specs.Courses.{IsBoundTo, form_variables, all_form_var
 use kp_kore::Sort;
 use kp_rules::skeleton::Skeleton;
 use kp_signature::Signature;
-use kp_terms::Replaced;
-use kp_terms::replaced::replacement_of;
+use kp_symbolic::Replaced;
+use kp_symbolic::replaced::replacement_of;
 use kp_unify::heads::has_sort;
 
 /// Whether the variable of this name stands for a term that has the sort by its form.

@@ -1,7 +1,7 @@
 // The members of a conjunction, in any nesting.
 ghost use Rattle.std.specs.Prelude.{◌≡◌, ◌++◌, IfOk, OnOk};
 ghost use Rattle.kp_kore.specs.View.{view, patterns_view};
-ghost use Rattle.kp_semantics.specs.Instance.{conjuncts as conjuncts_of, all_conjuncts};
+ghost use Rattle.kp_kore.specs.Instance.{conjuncts as conjuncts_of, all_conjuncts};
 ghost use Rattle.kp_compile.specs.Parts.{seen};
 
 use kp_kore::Pattern;

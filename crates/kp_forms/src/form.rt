@@ -2,7 +2,7 @@
 ghost use Rattle.std.specs.Prelude.{◌≡◌};
 ghost use Rattle.kp_kore.specs.Syntax.{KoreSort, conjunction};
 ghost use Rattle.kp_kore.specs.View.{view, patterns_view};
-ghost use Rattle.kp_semantics.specs.Instance.{is_predicate as predicate_test, are_predicates as predicates_test, is_conjoined_pair as pair_test};
+ghost use Rattle.kp_kore.specs.Instance.{is_predicate as predicate_test, are_predicates as predicates_test, is_conjoined_pair as pair_test};
 
 use kp_compile::is_term;
 use kp_kore::Pattern;

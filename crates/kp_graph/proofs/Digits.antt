@@ -2,7 +2,7 @@
 use Rattle.std.proofs.Common.{◌≡◌, refl, sym, ◌∙◌, ap, ℕ, zero, suc, ◌+◌, ◌-◌, ◌<◌, ◌≤◌, ◌==◌, nat_lt, Bool, true, false, ◌&&◌, List, [], ◌∷◌, length, drop, get_or, drop-cons, arith}
 use Rattle.std.specs.List.{list_all}
 use Rattle.std.specs.Char.{is_ascii_digit}
-use Rattle.kp_semantics.specs.ClaimRules.{is_lower_hexadecimal, is_digest_and_number}
+use Rattle.kp_kore.specs.ClaimRules.{is_lower_hexadecimal, is_digest_and_number}
 
 -- ---- the text from a place on
 

@@ -4,8 +4,8 @@ use Rattle.std.proofs.Math.Bool.{or-false}
 use Rattle.std.specs.List.{AllByRecursion, list_any}
 use Rattle.std.proofs.lemmas.List.{length-map}
 use Rattle.kp_kore.specs.Syntax.{KorePattern}
-use Rattle.kp_semantics.specs.ClaimRules.{is_progress}
-use Rattle.kp_semantics.specs.Arcs.{BranchChild}
+use Rattle.kp_kore.specs.ClaimRules.{is_progress}
+use Rattle.kp_kore.specs.Arcs.{BranchChild}
 use Rattle.kp_graph.specs.Tree.{ProofNode, edge, split, branch, node_at, progress_at, open_node, child_node, numbers_from, is_progress_to, IsTree, arc_fault, with_edge}
 use Rattle.kp_graph.specs.Growth.{IsNewBelow, IsGrowth}
 use Rattle.kp_graph.specs.Kept.{is_settled, some_failed}

@@ -5,10 +5,10 @@ use Rattle.std.specs.Option.{option_map_or}
 use Rattle.std.proofs.lemmas.List.{append-nil}
 use Rattle.std.proofs.lemmas.Option.{slice_get_within}
 use Rattle.kp_kore.specs.Syntax.{Text, KorePattern}
-use Rattle.kp_semantics.specs.Theory.{Theory}
-use Rattle.kp_semantics.specs.Claims.{ReachabilityClaim}
-use Rattle.kp_semantics.specs.ClaimRules.{with_rules, is_progress, MayUse}
-use Rattle.kp_semantics.specs.Arcs.{EdgeSays, SplitSays, BranchChild, BranchSays, CoverSays, VacuousSays, StuckSays}
+use Rattle.kp_kore.specs.Theory.{Theory}
+use Rattle.kp_kore.specs.Claims.{ReachabilityClaim}
+use Rattle.kp_kore.specs.ClaimRules.{with_rules, is_progress, MayUse}
+use Rattle.kp_kore.specs.Arcs.{EdgeSays, SplitSays, BranchChild, BranchSays, CoverSays, VacuousSays, StuckSays}
 use Rattle.kp_graph.specs.Tree.{ProofNode, NodeArc, edge, split, branch, cover, vacuous, stuck, terminal, HeldBy, node_at, progress_at, arc_fault, first_nodes, open_node, child_node, numbers_from, with_arc, with_hold, with_children, with_edge, with_split, with_branch}
 use Rattle.kp_graph.specs.Says.{IsBehind, Asked, ArePartsOf, AreBranchesOf, ArcSays, TreeSays}
 use Rattle.kp_graph.proofs.Places.{at_place, get_front}

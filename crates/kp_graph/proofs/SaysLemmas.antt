@@ -4,14 +4,14 @@ use Rattle.std.specs.List.{AllByRecursion}
 use Rattle.std.specs.Option.{option_map_or}
 use Rattle.kp_kore.specs.Syntax.{KorePattern}
 use Rattle.kp_kore.specs.Parts.{free_variables}
-use Rattle.kp_semantics.specs.Theory.{Theory}
-use Rattle.kp_semantics.specs.Replies.{IsFreshName}
-use Rattle.kp_semantics.specs.Claims.{ReachabilityClaim, Holds, HoldsAfter}
-use Rattle.kp_semantics.specs.ClaimRules.{is_progress}
-use Rattle.kp_semantics.specs.Arcs.{BranchChild, HasNoFreshName}
-use Rattle.kp_semantics.specs.ProofTrees as proofs
-use Rattle.kp_semantics.specs.ProofTrees.{Proof, Proofs, BranchProofs, no_children, next_child, no_branches, next_branch}
-use Rattle.kp_semantics.proofs.Soundness.{proof_steps, steps_hold}
+use Rattle.kp_kore.specs.Theory.{Theory}
+use Rattle.kp_kore.specs.Replies.{IsFreshName}
+use Rattle.kp_kore.specs.Claims.{ReachabilityClaim, Holds, HoldsAfter}
+use Rattle.kp_kore.specs.ClaimRules.{is_progress}
+use Rattle.kp_kore.specs.Arcs.{BranchChild, HasNoFreshName}
+use Rattle.kp_kore.specs.ProofTrees as proofs
+use Rattle.kp_kore.specs.ProofTrees.{Proof, Proofs, BranchProofs, no_children, next_child, no_branches, next_branch}
+use Rattle.kp_kore.proofs.Soundness.{proof_steps, steps_hold}
 use Rattle.kp_graph.specs.Tree.{ProofNode, NodeArc, edge, split, branch, cover, vacuous, stuck, terminal, node_at, IsTree, status_of}
 use Rattle.kp_graph.specs.Says.{IsBehind, ArePartsOf, AreBranchesOf, ArcSays, TreeSays}
 use Rattle.kp_graph.specs.declared.status.Status.TheVariants.{Passed}

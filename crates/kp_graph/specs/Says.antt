@@ -3,12 +3,12 @@
 use Rattle.std.specs.Prelude.{◌≡◌, ℕ, ◌<◌, Bool, true, ◌||◌, Option, Some, None, List, ⊤, map}
 use Rattle.std.specs.List.{AllByRecursion, AllZip}
 use Rattle.kp_kore.specs.Syntax.{Text, KorePattern}
-use Rattle.kp_semantics.specs.Rules.{RewriteRule}
-use Rattle.kp_semantics.specs.Theory.{Theory}
-use Rattle.kp_semantics.specs.Replies.{is_listed}
-use Rattle.kp_semantics.specs.Claims.{ReachabilityClaim}
-use Rattle.kp_semantics.specs.ClaimRules.{with_rules, is_progress, MayUse}
-use Rattle.kp_semantics.specs.Arcs.{EdgeSays, SplitSays, BranchChild, BranchSays, CoverSays, VacuousSays, StuckSays}
+use Rattle.kp_kore.specs.Rules.{RewriteRule}
+use Rattle.kp_kore.specs.Theory.{Theory}
+use Rattle.kp_kore.specs.Replies.{is_listed}
+use Rattle.kp_kore.specs.Claims.{ReachabilityClaim}
+use Rattle.kp_kore.specs.ClaimRules.{with_rules, is_progress, MayUse}
+use Rattle.kp_kore.specs.Arcs.{EdgeSays, SplitSays, BranchChild, BranchSays, CoverSays, VacuousSays, StuckSays}
 use Rattle.kp_graph.specs.Tree.{NodeArc, edge, split, branch, cover, vacuous, stuck, terminal, ProofNode, node_at}
 
 -- the node of that number stands behind node n, and has this state and progress

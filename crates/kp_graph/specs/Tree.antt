@@ -4,8 +4,8 @@ use Rattle.std.specs.Prelude.{◌≡◌, ℕ, zero, suc, ◌+◌, ◌-◌, ◌<�
 use Rattle.std.specs.Option.{option_map_or, option_or}
 use Rattle.std.specs.List.{list_any, list_all}
 use Rattle.kp_kore.specs.Syntax.{Text, KorePattern}
-use Rattle.kp_semantics.specs.Arcs.{BranchChild}
-use Rattle.kp_semantics.specs.ClaimRules.{is_progress}
+use Rattle.kp_kore.specs.Arcs.{BranchChild}
+use Rattle.kp_kore.specs.ClaimRules.{is_progress}
 use Rattle.kp_graph.specs.declared.node.TreeFault.{TreeFault}
 use Rattle.kp_graph.specs.declared.node.TreeFault.TheVariants.{NoSuchNode, NotOpen, TooManyNodes}
 use Rattle.kp_graph.specs.declared.status.Status.{Status}

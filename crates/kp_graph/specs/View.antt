@@ -4,7 +4,7 @@ use Rattle.std.specs.Global.{Global}
 use Rattle.std.specs.Option.{option_map}
 use Rattle.kp_kore.specs.Syntax.{Text}
 use Rattle.kp_kore.specs.View.{view}
-use Rattle.kp_semantics.specs.Arcs.{BranchChild}
+use Rattle.kp_kore.specs.Arcs.{BranchChild}
 use Rattle.kp_graph.specs.Tree.{NodeArc, edge, split, branch, cover, vacuous, stuck, terminal, HeldBy, reply, rounds, nodes, ProofNode, numbers_from}
 use Rattle.kp_graph.specs.declared.node.TreeArc.{TreeArc}
 use Rattle.kp_graph.specs.declared.node.TreeArc.TheVariants.{Edge, Split, Branch, Cover, Vacuous, Stuck, Terminal}

@@ -2,10 +2,10 @@
 ghost use Rattle.std.specs.Prelude.{◌≡◌, ℕ, Bool, List, [], ◌∷◌, Some, None};
 ghost use Rattle.std.specs.List.{AllByRecursion};
 ghost use Rattle.kp_kore.specs.Syntax.{KorePattern};
-ghost use Rattle.kp_semantics.specs.Theory.{Theory};
-ghost use Rattle.kp_semantics.specs.Claims.{ReachabilityClaim, Holds, HoldsAfter};
-ghost use Rattle.kp_semantics.specs.Arcs.{EdgeSays, SplitSays, BranchChild, BranchSays, CoverSays, VacuousSays, StuckSays, HasNoFreshName};
-ghost use Rattle.kp_semantics.specs.ClaimRules.{with_rules};
+ghost use Rattle.kp_kore.specs.Theory.{Theory};
+ghost use Rattle.kp_kore.specs.Claims.{ReachabilityClaim, Holds, HoldsAfter};
+ghost use Rattle.kp_kore.specs.Arcs.{EdgeSays, SplitSays, BranchChild, BranchSays, CoverSays, VacuousSays, StuckSays, HasNoFreshName};
+ghost use Rattle.kp_kore.specs.ClaimRules.{with_rules};
 ghost use Rattle.kp_graph.specs.Tree.{ProofNode, HeldBy, cover, vacuous, stuck, terminal, node_at, IsTree, first_nodes, with_arc, with_hold, with_edge, with_split, with_branch, arc_fault, status_of};
 ghost use Rattle.kp_graph.specs.Says.{Asked, TreeSays};
 ghost use Rattle.kp_graph.specs.declared.status.Status.TheVariants.{Passed};

@@ -1,7 +1,7 @@
 // The nodes of a tree, as they are kept.
 ghost use Rattle.std.specs.Prelude.{◌≡◌, ◌↔◌, IsTrue, ◌+◌, ◌<◌, ◌≤◌, ◌||◌, ◌∷◌, [], length, map, drop, ◌-◌, Some, None, IfOk, IfErr, OnOk, OnErr, false, true};
 ghost use Rattle.kp_kore.specs.View.{view};
-ghost use Rattle.kp_semantics.specs.ClaimRules.{is_progress};
+ghost use Rattle.kp_kore.specs.ClaimRules.{is_progress};
 ghost use Rattle.kp_graph.specs.Tree.{edge, split, branch, arc_fault, children_fault, open_node, open_from, numbers_from, with_arc, with_hold, with_children, is_open as is_open_node};
 ghost use Rattle.kp_graph.specs.Kept.{before_open, are_closed, pass_closed};
 ghost use Rattle.kp_graph.specs.View.{node_view, nodes_view, arc_view, why_view, rule_view, child_view};

@@ -2,7 +2,7 @@
 ghost use Rattle.std.specs.Prelude.{◌≡◌, ◌&&◌, nat_lt, length};
 ghost use Rattle.std.specs.List.{list_all};
 ghost use Rattle.std.specs.Char.{is_ascii_digit};
-ghost use Rattle.kp_semantics.specs.ClaimRules.{is_lower_hexadecimal, is_digest_and_number as is_digest, is_claim_rule_id, is_progress};
+ghost use Rattle.kp_kore.specs.ClaimRules.{is_lower_hexadecimal, is_digest_and_number as is_digest, is_claim_rule_id, is_progress};
 ghost use Rattle.kp_graph.specs.View.{rule_view};
 
 /// The digits of a module's digest.

@@ -10,8 +10,7 @@ use crate::nodes::{
     unsettled_after,
 };
 use crate::status::Status;
-use kp_kore::Pattern;
-use kp_semantics::Claim;
+use kp_kore::{Claim, Pattern};
 use std::alloc::{AllocError, Global};
 
 /// The tree of a proof: its nodes from 1, and what tells of them without a walk.
@@ -32,7 +31,7 @@ impl Tree {
     ghost use Rattle.std.specs.Prelude.{◌↔◌, IfOk, OnOk, OnErr, IsOk, IsTrue, IsOkUnless, Some, None, Ok, Err, ℕ, false, true, length, map, slice_get};
     ghost use Rattle.std.specs.Option.{option_map};
     ghost use Rattle.kp_kore.specs.View.{view};
-    ghost use Rattle.kp_semantics.specs.ClaimView.{claim_view};
+    ghost use Rattle.kp_kore.specs.ClaimView.{claim_view};
     ghost use Rattle.kp_graph.specs.Tree.{cover, vacuous, stuck, terminal, first_nodes, with_arc, with_hold, with_edge, with_split, with_branch, leads_to, gives_progress, is_failed, arc_fault, edge_fault, children_fault, node_at, IsNode, open_nodes, HasProgress, status_of};
     ghost use Rattle.kp_graph.specs.View.{arc_view, why_view, child_view};
     ghost use Rattle.kp_graph.specs.Kept.{is_settled};

@@ -2,7 +2,7 @@
 use Rattle.std.proofs.Common.{◌≡◌, refl, ◌∙◌, ap, ◌&&◌, ◌||◌, List, [], ◌∷◌, map}
 use Rattle.std.specs.Prelude.{Err}
 use Rattle.std.specs.List.{list_all, list_any}
-use Rattle.kp_semantics.specs.Instance.{Valuation}
+use Rattle.kp_kore.specs.Instance.{Valuation}
 use Rattle.kp_ground.specs.Conditions.{all_of, any_of, condition_holds, condition_narrow, all_hold, any_holds, all_narrow}
 use Rattle.kp_ground.specs.ConditionView.{condition_view, conditions_of, GivesTruth, GivesAllTruth, GivesAnyTruth}
 use Rattle.kp_ground.specs.declared.binding.Binding.{Binding}

@@ -1,8 +1,8 @@
 -- Lists of values that are seen as the same are the same, one by one.
 use Rattle.std.proofs.Common.{◌≡◌, ◌↔◌, Bool, IsTrue, List, [], ◌∷◌, refl, sym, ap, ◌∙◌}
 use Rattle.std.proofs.lemmas.Bool.Decides.{same_from_decides}
-use Rattle.kp_semantics.specs.Value.{Value, Values, no_values, next_value, values_same}
-use Rattle.kp_semantics.proofs.SameLemmas.{same_values_decide}
+use Rattle.kp_kore.specs.Value.{Value, Values, no_values, next_value, values_same}
+use Rattle.kp_kore.proofs.SameLemmas.{same_values_decide}
 use Rattle.kp_ground.specs.View.{values_of}
 
 pub value_list : Values → List Value

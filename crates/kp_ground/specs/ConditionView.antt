@@ -1,7 +1,7 @@
 -- Which conditions the code's conditions are.
 use Rattle.std.specs.Prelude.{◌≡◌, true, false, Bool, Result, Ok, Err, List, [], ◌∷◌}
 use Rattle.std.specs.List.{list_all, list_any}
-use Rattle.kp_semantics.specs.Instance.{Valuation}
+use Rattle.kp_kore.specs.Instance.{Valuation}
 use Rattle.kp_ground.specs.Conditions.{RuleCondition, always, never, denial, all_of, any_of, implied, equivalent, same, RuleConditions, no_conditions, next_condition, condition_holds, condition_narrow}
 use Rattle.kp_ground.specs.TermView.{term_view}
 use Rattle.kp_ground.specs.Solves.{Solves}

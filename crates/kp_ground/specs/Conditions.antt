@@ -1,8 +1,8 @@
 -- Conditions of rules as the code keeps them: predicates without quantifiers over the rule's terms.
 use Rattle.std.specs.Prelude.{Bool, true, false, not, ◌&&◌, ◌||◌}
 use Rattle.std.specs.Bool.{beq}
-use Rattle.kp_semantics.specs.Value.{values_same}
-use Rattle.kp_semantics.specs.Instance.{Valuation}
+use Rattle.kp_kore.specs.Value.{values_same}
+use Rattle.kp_kore.specs.Instance.{Valuation}
 use Rattle.kp_ground.specs.Terms.{RuleTerm, term_value, stays_narrow}
 
 mutual

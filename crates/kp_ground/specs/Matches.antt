@@ -2,8 +2,8 @@
 -- instance the value, and the new bindings are solved by exactly those valuations.
 use Rattle.std.specs.Prelude.{◌≡◌, ◌↔◌, Result, Ok, Err, Option, Some, None, List, Vec, map}
 use Rattle.std.specs.declared.alloc.Global.{Global}
-use Rattle.kp_semantics.specs.Value as model
-use Rattle.kp_semantics.specs.Instance.{Valuation}
+use Rattle.kp_kore.specs.Value as model
+use Rattle.kp_kore.specs.Instance.{Valuation}
 use Rattle.kp_ground.specs.Terms.{LeftTerm, left_value}
 use Rattle.kp_ground.specs.LeftView.{left_view}
 use Rattle.kp_ground.specs.View.{value_view}

@@ -1,8 +1,8 @@
 -- What an evaluation answers.
 use Rattle.std.specs.Prelude.{◌≡◌, true, false, Result, Ok, Err, map, List, Vec}
 use Rattle.std.specs.declared.alloc.Global.{Global}
-use Rattle.kp_semantics.specs.Value as model
-use Rattle.kp_semantics.specs.Instance.{Valuation}
+use Rattle.kp_kore.specs.Value as model
+use Rattle.kp_kore.specs.Instance.{Valuation}
 use Rattle.kp_ground.specs.Terms.{RuleTerm, is_narrow, stays_narrow, term_value}
 use Rattle.std.specs.List.{list_all}
 use Rattle.kp_ground.specs.TermView.{term_view}

@@ -2,7 +2,7 @@
 use Rattle.std.specs.Prelude.{List, [], ◌∷◌, string_bytes}
 use Rattle.kp_ground.specs.Terms.{RuleTerm, bound, fixed, built, call, opposite, RuleTerms, no_terms, next_term}
 use Rattle.kp_ground.specs.View.{value_view}
-use Rattle.kp_hooks.specs.HookView.{hook_view}
+use Rattle.kp_kore.specs.HookView.{hook_view}
 use Rattle.kp_ground.specs.declared.term.Term.{Term, fold-Term}
 use Rattle.kp_ground.specs.declared.term.Term.TheOpen.{Term-F}
 

@@ -3,10 +3,10 @@
 use Rattle.std.specs.Prelude.{Bool, true, ◌&&◌}
 use Rattle.kp_kore.specs.Syntax.{Text}
 use Rattle.kp_kore.specs.Hooks.{Hook, truth_negation}
-use Rattle.kp_semantics.specs.Value.{Value, whole, constructed, Values, no_values, next_value}
-use Rattle.kp_semantics.specs.Forms.{two}
-use Rattle.kp_semantics.specs.Interpretation.{interpreted}
-use Rattle.kp_semantics.specs.Instance.{Valuation}
+use Rattle.kp_kore.specs.Value.{Value, whole, constructed, Values, no_values, next_value}
+use Rattle.kp_kore.specs.Forms.{two}
+use Rattle.kp_kore.specs.Interpretation.{interpreted}
+use Rattle.kp_kore.specs.Instance.{Valuation}
 use Rattle.kp_kore.specs.Limits.{fits_number}
 
 mutual

@@ -1,7 +1,7 @@
 -- Which values of the model the code's values are.
 use Rattle.std.specs.Prelude.{List, [], ◌∷◌, string_bytes}
 use Rattle.kp_kore.specs.View.{sort_view}
-use Rattle.kp_semantics.specs.Value as model
+use Rattle.kp_kore.specs.Value as model
 use Rattle.kp_ground.specs.declared.value.Value.{Value, fold-Value}
 use Rattle.kp_ground.specs.declared.value.Value.TheOpen.{Value-F}
 

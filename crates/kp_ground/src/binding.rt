@@ -1,6 +1,6 @@
 ghost use Rattle.std.specs.Prelude.{◌≡◌, ◌≢◌, ◌<◌, ℕ, List, IfSome, IfNone, All, length, string_bytes, true};
 ghost use Rattle.kp_kore.specs.Syntax.{Text};
-ghost use Rattle.kp_semantics.specs.Instance.{Valuation};
+ghost use Rattle.kp_kore.specs.Instance.{Valuation};
 ghost use Rattle.kp_ground.specs.Slots.{stands_at};
 ghost use Rattle.kp_ground.specs.Solves.{Solves, bound_names};
 ghost use Rattle.kp_ground.specs.View.{value_view};

@@ -1,11 +1,11 @@
 ghost use Rattle.std.specs.Prelude.{◌≡◌, map, true, false, string_bytes, IfOk};
 ghost use Rattle.std.specs.List.{list_all};
-ghost use Rattle.kp_semantics.specs.Instance.{Valuation};
-ghost use Rattle.kp_semantics.specs.Interpretation.{interpreted};
+ghost use Rattle.kp_kore.specs.Instance.{Valuation};
+ghost use Rattle.kp_kore.specs.Interpretation.{interpreted};
 ghost use Rattle.kp_kore.specs.Hooks.{whole_arithmetic, whole_comparison, truth_connective, truth_negation};
-ghost use Rattle.kp_semantics.specs.Value.{truth, constructed, no_values, next_value};
-ghost use Rattle.kp_semantics.specs.Forms.{two};
-ghost use Rattle.kp_hooks.specs.HookView.{hook_view, arithmetic_view, comparison_view, connective_view};
+ghost use Rattle.kp_kore.specs.Value.{truth, constructed, no_values, next_value};
+ghost use Rattle.kp_kore.specs.Forms.{two};
+ghost use Rattle.kp_kore.specs.HookView.{hook_view, arithmetic_view, comparison_view, connective_view};
 ghost use Rattle.kp_ground.specs.Terms.{is_narrow, stays_narrow, all_stay_narrow, term_value, term_values};
 ghost use Rattle.kp_ground.specs.TermView.{term_view, terms_of};
 ghost use Rattle.kp_ground.specs.View.{value_view, values_of};
@@ -16,7 +16,7 @@ ghost use Rattle.kp_ground.specs.Outcomes.{Gives, GivesCall, GiveAll};
 use crate::binding::{Binding, bound_at};
 use crate::term::Term;
 use crate::value::Value;
-use kp_hooks::{Arithmetic, Comparison, Connective, Hook};
+use kp_kore::{Arithmetic, Comparison, Connective, Hook};
 use std::alloc::{AllocError, AllocFailed, Global};
 use std::sync::Arc;
 

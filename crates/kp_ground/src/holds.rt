@@ -1,6 +1,6 @@
 ghost use Rattle.std.specs.Prelude.{◌≡◌, true};
 ghost use Rattle.std.specs.List.{list_all};
-ghost use Rattle.kp_semantics.specs.Value.{values_same};
+ghost use Rattle.kp_kore.specs.Value.{values_same};
 ghost use Rattle.kp_ground.specs.Slots.{condition_reads};
 ghost use Rattle.kp_ground.specs.Solves.{bound_names};
 ghost use Rattle.kp_ground.specs.View.{value_view};

@@ -1,4 +1,4 @@
-// Ground values and the terms of rules, exact to the definitions of kp_semantics. A term's value is its instance under
+// Ground values and the terms of rules, exact to the definitions of kp_kore. A term's value is its instance under
 // every valuation that the bindings allow, or it is told that a number leaves 128 bits. A match is found exactly where
 // a valuation that solves the old bindings makes the left term's instance the value, and the new bindings are solved by
 // exactly those valuations. A condition holds, or doesn't, under every valuation that the bindings allow. What a variable

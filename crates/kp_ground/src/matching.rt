@@ -1,6 +1,6 @@
 ghost use Rattle.std.specs.Prelude.{◌≡◌, ◌↔◌, ◌∷◌, ◌++◌, ◌<◌, [], MatchOption, IsTrue, IfOk, IfSome, string_bytes, List, length, map, true};
 ghost use Rattle.kp_kore.specs.Syntax.{Text};
-ghost use Rattle.kp_semantics.specs.Instance.{Valuation};
+ghost use Rattle.kp_kore.specs.Instance.{Valuation};
 ghost use Rattle.kp_ground.specs.Matches.{Matches, StaysSolvable, BindsNames, IsSame, AreSame};
 ghost use Rattle.kp_ground.specs.Slots.{stands_at, with_name, is_numbered, joined, left_places};
 ghost use Rattle.kp_ground.specs.Solves.{Solves, bound_names};

@@ -1,5 +1,5 @@
 use crate::value::Value;
-use kp_hooks::Hook;
+use kp_kore::Hook;
 use std::sync::Arc;
 
 /// A term of a rule. `term_view` in specs/TermView.antt says which term of specs/Terms.antt it is.

@@ -2,10 +2,10 @@
 use Rattle.std.proofs.Common.{◌≡◌, sym, subst, ℕ, ◌⊎◌, ◌↔◌, inl, inr, true, List, length, Contains}
 use Rattle.kp_kore.specs.Syntax.{KoreSort}
 use Rattle.kp_kore.specs.Signature.{KoreSignature, has_literals}
-use Rattle.kp_subsorts.specs.Edges.{IsNumber}
-use Rattle.kp_subsorts.proofs.OrderLemmas.{one_sort}
+use Rattle.kp_signature.specs.Edges.{IsNumber}
+use Rattle.kp_signature.proofs.OrderLemmas.{one_sort}
 use Rattle.kp_heads.specs.Heads.{HasValue}
-use Rattle.kp_subsorts.specs.Numbering.{sorts_in, IsNumbering}
+use Rattle.kp_signature.specs.Numbering.{sorts_in, IsNumbering}
 use Rattle.kp_heads.specs.Steps.{Step, steps_of}
 use Rattle.kp_heads.specs.Rows.{IsGiven, starting, by_row, NeedBelow}
 use Rattle.kp_heads.specs.Made.{AreRows, AreLiteralNumbers, IsMade, IsHeadTableOf}

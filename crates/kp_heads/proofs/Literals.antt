@@ -5,9 +5,9 @@ use Rattle.kp_kore.specs.Syntax.{KoreSort}
 use Rattle.kp_kore.specs.Signature.{KoreSignature, has_literals}
 use Rattle.kp_kore.specs.View.{sort_view}
 use Rattle.kp_kore.specs.declared.sort.Sort.{Sort}
-use Rattle.kp_subsorts.specs.Edges.{IsNumber, Extended}
-use Rattle.kp_subsorts.proofs.EdgeLemmas.{still_there, there_or_added}
-use Rattle.kp_subsorts.proofs.OrderLemmas.{one_sort}
+use Rattle.kp_signature.specs.Edges.{IsNumber, Extended}
+use Rattle.kp_signature.proofs.EdgeLemmas.{still_there, there_or_added}
+use Rattle.kp_signature.proofs.OrderLemmas.{one_sort}
 use Rattle.kp_heads.specs.Made.{AreLiteralNumbers}
 use Rattle.kp_heads.proofs.Values.{nothing_in}
 

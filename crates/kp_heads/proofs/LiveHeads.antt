@@ -2,7 +2,7 @@
 use Rattle.std.proofs.Common.{◌≡◌, refl, sym, subst}
 use Rattle.kp_kore.specs.Syntax.{KoreSort}
 use Rattle.kp_kore.specs.Signature.{KoreSignature, Head, IsHeadOf}
-use Rattle.kp_semantics.specs.Value.{Value, whole, truth, token, constructed, HasSort, head_of}
+use Rattle.kp_kore.specs.Value.{Value, whole, truth, token, constructed, HasSort, head_of}
 use Rattle.kp_heads.specs.Heads.{IsLive}
 
 head_among : (g : KoreSignature) (s : KoreSort) (u : Value) → HasSort g s u → IsHeadOf g s (head_of u)

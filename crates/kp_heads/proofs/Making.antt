@@ -7,12 +7,12 @@ use Rattle.kp_kore.specs.Syntax.{KoreSort, SymbolDeclaration}
 use Rattle.kp_kore.specs.Parts.{sort_list}
 use Rattle.kp_kore.specs.View.{sort_view, sorts_view}
 use Rattle.kp_kore.specs.declared.sort.Sort.{Sort}
-use Rattle.kp_subsorts.specs.Edges.{IsNumber}
-use Rattle.kp_subsorts.proofs.NewOrder.{number_on}
-use Rattle.kp_subsorts.specs.Numbering.{sorts_in, IsNumbering, HasNumber}
+use Rattle.kp_signature.specs.Edges.{IsNumber}
+use Rattle.kp_signature.proofs.NewOrder.{number_on}
+use Rattle.kp_signature.specs.Numbering.{sorts_in, IsNumbering, HasNumber}
 use Rattle.kp_heads.specs.Steps.{Step}
 use Rattle.kp_heads.specs.Made.{AreNumbers, HasNumbers, IsRow, AreRows, IsMade}
-use Rattle.kp_subsorts.specs.declared.numbering.Numbering.{Numbering}
+use Rattle.kp_signature.specs.declared.numbering.Numbering.{Numbering}
 use Rattle.kp_heads.specs.declared.row.Row.{Row}
 use Rattle.kp_heads.specs.declared.made.Made.{Made}
 use Rattle.kp_heads.proofs.Values.{nothing_in, first_in, later_in, in_cases}

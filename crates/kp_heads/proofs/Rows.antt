@@ -4,8 +4,8 @@ use Rattle.std.specs.List.{list_any}
 use Rattle.std.proofs.lemmas.Option.{slice_get_read, slice_get_past}
 use Rattle.std.proofs.lemmas.List.{append_assoc, append-nil}
 use Rattle.std.proofs.lemmas.List.Elements.{Contains-append_left, Contains-append_cases, Contains-push, Contains-push_cases}
-use Rattle.kp_subsorts.specs.Edges.{edges_of, Extended}
-use Rattle.kp_subsorts.proofs.EdgeLemmas.{in_set}
+use Rattle.kp_signature.specs.Edges.{edges_of, Extended}
+use Rattle.kp_signature.proofs.EdgeLemmas.{in_set}
 use Rattle.kp_heads.specs.Rows.{IsMet, IsGiven, starting, by_row, AreUsers, Tried, Grown, Began, Woken}
 use Rattle.kp_heads.specs.declared.row.Row.{Row}
 use Rattle.kp_heads.proofs.Values.{nothing_in, first_in, later_in, in_cases}

@@ -2,7 +2,7 @@
 use Rattle.std.proofs.Common.{◌≡◌, refl, sym, ap, subst, ◌∙◌, ℕ, zero, suc, ◌+◌, ◌<◌, ◌≤◌, ◌⊎◌, inl, inr, Some, List, [], ◌∷◌, ◌++◌, length, slice_get, get_or, Vec, Global, Contains, arith}
 use Rattle.std.proofs.lemmas.List.{length-map}
 use Rattle.std.proofs.lemmas.List.Elements.{Contains-append_cases, Contains-push_cases}
-use Rattle.kp_subsorts.specs.Edges.{Leads, edges_of, HasEdge}
+use Rattle.kp_signature.specs.Edges.{Leads, edges_of, HasEdge}
 use Rattle.kp_heads.specs.Rows.{AreUsers, HasUses, NeedBelow}
 use Rattle.kp_heads.specs.declared.row.Row.{Row}
 use Rattle.kp_heads.proofs.Values.{nothing_in, later_in}

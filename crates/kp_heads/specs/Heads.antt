@@ -3,8 +3,8 @@
 use Rattle.std.specs.Prelude.{◌≡◌}
 use Rattle.kp_kore.specs.Syntax.{KoreSort}
 use Rattle.kp_kore.specs.Signature.{KoreSignature, Head}
-use Rattle.kp_semantics.specs.Value.{Value, HasSort, head_of}
-use Rattle.kp_semantics.specs.Sorted.{IsSorted}
+use Rattle.kp_kore.specs.Value.{Value, HasSort, head_of}
+use Rattle.kp_kore.specs.Sorted.{IsSorted}
 
 -- some value has the sort
 abbrev pub HasValue : KoreSignature → KoreSort → Type 0

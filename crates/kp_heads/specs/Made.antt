@@ -3,11 +3,11 @@ use Rattle.std.specs.Prelude.{◌≡◌, ◌↔◌, ℕ, ◌<◌, List, [], ◌�
 use Rattle.std.specs.List.{Contains}
 use Rattle.kp_kore.specs.Syntax.{KoreSort}
 use Rattle.kp_kore.specs.Signature.{KoreSignature, has_literals}
-use Rattle.kp_subsorts.specs.Edges.{IsNumber}
+use Rattle.kp_signature.specs.Edges.{IsNumber}
 use Rattle.kp_heads.specs.Heads.{HasValue}
 use Rattle.kp_heads.specs.Steps.{Step}
-use Rattle.kp_subsorts.specs.Numbering.{IsNumbering, sorts_in}
-use Rattle.kp_subsorts.specs.declared.numbering.Numbering.{Numbering}
+use Rattle.kp_signature.specs.Numbering.{IsNumbering, sorts_in}
+use Rattle.kp_signature.specs.declared.numbering.Numbering.{Numbering}
 use Rattle.kp_heads.specs.declared.row.Row.{Row}
 use Rattle.kp_heads.specs.declared.made.Made.{Made}
 use Rattle.kp_heads.specs.declared.table.HeadTable.{HeadTable}

@@ -2,7 +2,7 @@
 use Rattle.std.specs.Prelude.{◌≡◌, ℕ, List, ◌++◌, Vec, Some, slice_get, ◌<◌, length}
 use Rattle.std.specs.List.{Contains}
 use Rattle.std.specs.declared.alloc.Global.{Global}
-use Rattle.kp_subsorts.specs.Edges.{Leads, edges_of}
+use Rattle.kp_signature.specs.Edges.{Leads, edges_of}
 use Rattle.kp_heads.specs.declared.row.Row.{Row}
 
 -- all that the row needs is there

@@ -2,18 +2,17 @@
 ghost use Rattle.std.specs.Prelude.{◌++◌, ◌∷◌, [], IfOk, OnOk, List, map};
 ghost use Rattle.std.specs.List.{flat_map};
 ghost use Rattle.kp_kore.specs.View.{sort_view, symbol_sentence_view};
-ghost use Rattle.kp_subsorts.specs.Pairs.{subsort_view};
+ghost use Rattle.kp_signature.specs.Pairs.{subsort_view};
 ghost use Rattle.kp_signature.specs.View.{signature_view};
 ghost use Rattle.kp_heads.specs.Steps.{Step, constructor_step, pair_step, steps_of, symbol_steps};
-ghost use Rattle.kp_subsorts.specs.Numbering.{IsNumbering, sorts_in};
+ghost use Rattle.kp_signature.specs.Numbering.{IsNumbering, sorts_in};
 ghost use Rattle.kp_heads.specs.Made.{HasNumbers, IsMade};
 
 use crate::constructor::constructor_named;
 use crate::row::Row;
 use kp_kore::{Sort, SymbolSentence};
-use kp_signature::Signature;
-use kp_subsorts::Subsort;
-use kp_subsorts::numbering::Numbering;
+use kp_signature::numbering::Numbering;
+use kp_signature::{Signature, Subsort};
 use std::alloc::{AllocError, Global};
 
 /// The sorts that steps name, and a row for each step.

@@ -1,7 +1,7 @@
 // What rows give.
 ghost use Rattle.std.specs.Prelude.{◌↔◌, ◌∷◌, [], ℕ, OnOk, IsTrue, get_or};
 ghost use Rattle.std.specs.List.{Contains};
-ghost use Rattle.kp_subsorts.specs.Edges.{edges_of};
+ghost use Rattle.kp_signature.specs.Edges.{edges_of};
 ghost use Rattle.kp_heads.specs.Rows.{AreUsers, Began, IsGiven, Tried, Woken};
 
 use crate::row::Row;

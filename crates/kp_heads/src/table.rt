@@ -4,7 +4,7 @@ ghost use Rattle.std.specs.List.{Contains};
 ghost use Rattle.kp_kore.specs.Syntax.{KoreSort};
 ghost use Rattle.kp_kore.specs.Signature.{KoreSignature, constructor_of, has_literals};
 ghost use Rattle.kp_kore.specs.View.{sort_view};
-ghost use Rattle.kp_subsorts.specs.Edges.{Extended};
+ghost use Rattle.kp_signature.specs.Edges.{Extended};
 ghost use Rattle.kp_signature.specs.View.{signature_view};
 ghost use Rattle.kp_heads.specs.Heads.{HasValue, IsLive};
 ghost use Rattle.kp_heads.specs.Made.{AreLiteralNumbers, IsHeadTableOf};
@@ -16,7 +16,7 @@ use crate::users::users_of;
 use indexmap::IndexSet;
 use kp_kore::Sort;
 use kp_signature::Signature;
-use kp_subsorts::numbering::Numbering;
+use kp_signature::numbering::Numbering;
 use std::alloc::{AllocError, Global};
 
 /// The sorts that subsort pairs and constructors name, and the numbers of those that have a value.

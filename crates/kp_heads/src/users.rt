@@ -3,7 +3,7 @@ ghost use Rattle.std.specs.Prelude.{◌≡◌, ◌∷◌, [], IfOk, OnOk, length
 ghost use Rattle.kp_heads.specs.Rows.{AreUsers, HasUses, NeedBelow};
 
 use crate::row::Row;
-use kp_subsorts::edges::add_edge;
+use kp_signature::edges::add_edge;
 use std::alloc::{AllocError, Global};
 
 /// As many sorts that no row needs.

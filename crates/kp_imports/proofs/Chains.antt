@@ -10,7 +10,7 @@ use Rattle.kp_kore.specs.Syntax.{Text, KoreModule}
 use Rattle.kp_kore.specs.View.{module_view, sentence_view}
 use Rattle.kp_kore.specs.declared.sentence.Module.{Module}
 use Rattle.kp_kore.specs.declared.sentence.Sentence.{Sentence}
-use Rattle.kp_semantics.specs.Theory.{imports_in, module_named}
+use Rattle.kp_kore.specs.Theory.{imports_in, module_named}
 use Rattle.kp_signature.specs.Names.{Indexes, first_place}
 use Rattle.kp_signature.proofs.FirstPlaces.{no_row}
 use Rattle.kp_imports.specs.Faults.{Fault, unknown_import, Leads, stays, goes, IsUnknown, IsCyclic, IsImportFault, IsUnplaced}

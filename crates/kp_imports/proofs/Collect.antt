@@ -6,7 +6,7 @@ use Rattle.std.proofs.lemmas.List.{append-nil, append_assoc}
 use Rattle.std.proofs.lemmas.List.Folds.{list_any-append}
 use Rattle.std.proofs.lemmas.Slice.Eq.{bytes_eq-Decides}
 use Rattle.kp_kore.specs.Syntax.{Text}
-use Rattle.kp_semantics.specs.Theory.{each_once}
+use Rattle.kp_kore.specs.Theory.{each_once}
 use Rattle.kp_imports.specs.Reaching.{has, collect, AllIn}
 
 pub false_true : {A : Type 0} → false ≡ true → A

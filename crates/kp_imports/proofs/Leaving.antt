@@ -10,7 +10,7 @@ use Rattle.std.proofs.lemmas.Slice.Eq.{bytes_eq-Decides}
 use Rattle.kp_kore.specs.Syntax.{Text, KoreModule}
 use Rattle.kp_kore.specs.View.{module_view}
 use Rattle.kp_kore.specs.declared.sentence.Module.{Module}
-use Rattle.kp_semantics.specs.Theory.{names_reached}
+use Rattle.kp_kore.specs.Theory.{names_reached}
 use Rattle.kp_signature.specs.Names.{first_place}
 use Rattle.kp_imports.specs.Names.{module_names}
 use Rattle.kp_imports.specs.Reaching.{has, collect, imports_of, AllIn, IsClosed, IsSettled}

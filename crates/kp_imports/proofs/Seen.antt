@@ -7,7 +7,7 @@ use Rattle.std.proofs.lemmas.List.{map-append, length-map}
 use Rattle.kp_kore.specs.Syntax.{Text}
 use Rattle.kp_kore.specs.View.{module_view}
 use Rattle.kp_kore.specs.declared.sentence.Module.{Module}
-use Rattle.kp_semantics.specs.Theory.{module_named, names_reached}
+use Rattle.kp_kore.specs.Theory.{module_named, names_reached}
 use Rattle.kp_signature.specs.Names.{first_place}
 use Rattle.kp_signature.proofs.FirstPlaces.{looked_up}
 use Rattle.kp_imports.specs.Names.{module_names}

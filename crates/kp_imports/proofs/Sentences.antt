@@ -7,7 +7,7 @@ use Rattle.indexmap.specs.IndexMap.{IndexMap}
 use Rattle.kp_kore.specs.Syntax.{Text, KoreSentence, import_sentence, sort_sentence, symbol_sentence, alias_sentence, axiom_sentence, claim_sentence}
 use Rattle.kp_kore.specs.View.{sentence_view}
 use Rattle.kp_kore.specs.declared.sentence.Sentence.{Sentence}
-use Rattle.kp_semantics.specs.Theory.{imports_in}
+use Rattle.kp_kore.specs.Theory.{imports_in}
 use Rattle.kp_imports.specs.Walks.{import_names, IsNameDone, ArePassed}
 use Rattle.kp_imports.specs.declared.imports.Mark.{Mark}
 use Rattle.kp_imports.proofs.Collect.{all_append}

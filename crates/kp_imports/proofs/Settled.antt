@@ -5,7 +5,7 @@ use Rattle.std.specs.Str.{bytes_eq}
 use Rattle.std.proofs.lemmas.List.{append_assoc}
 use Rattle.std.proofs.lemmas.Slice.Eq.{bytes_eq-Decides}
 use Rattle.kp_kore.specs.Syntax.{Text, KoreModule}
-use Rattle.kp_semantics.specs.Theory.{each_once, names_reached}
+use Rattle.kp_kore.specs.Theory.{each_once, names_reached}
 use Rattle.kp_imports.specs.Reaching.{has, collect, imports_of, AllIn, IsClosed, IsSettled}
 use Rattle.kp_imports.proofs.Collect.{or_cases, has_more, collect-append, skipped, collected_once, all_append, all_flat, all_more, flat_same, all_once}
 

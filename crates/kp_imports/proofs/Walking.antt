@@ -13,7 +13,7 @@ use Rattle.indexmap.specs.IndexMap.{IndexMap}
 use Rattle.kp_kore.specs.Syntax.{Text, KoreModule}
 use Rattle.kp_kore.specs.View.{module_view}
 use Rattle.kp_kore.specs.declared.sentence.Module.{Module}
-use Rattle.kp_semantics.specs.Theory.{names_reached, sentences_of, imports_in}
+use Rattle.kp_kore.specs.Theory.{names_reached, sentences_of, imports_in}
 use Rattle.kp_signature.specs.Names.{Indexes, first_place}
 use Rattle.kp_signature.proofs.FirstPlaces.{looked_up}
 use Rattle.kp_imports.specs.Names.{module_names}

@@ -6,7 +6,7 @@ use Rattle.indexmap.specs.IndexMap.{IndexMap, get_by_text}
 use Rattle.kp_kore.specs.Syntax.{Text, KoreModule, KoreDefinition}
 use Rattle.kp_kore.specs.Signature.{KoreSignature, signature_of, sorts_in, symbols_in}
 use Rattle.kp_signature.specs.Table.{sort_names, symbol_names}
-use Rattle.kp_semantics.specs.Theory.{NumberedAxiom, module_named, modules_reached, rewrite_axioms}
+use Rattle.kp_kore.specs.Theory.{NumberedAxiom, module_named, modules_reached, rewrite_axioms}
 use Rattle.kp_rules.specs.Bodies.{IsFaulty}
 use Rattle.kp_imports.specs.Names.{names_of, IsFirstRepeated}
 use Rattle.kp_imports.specs.Reaching.{has, imports_of}

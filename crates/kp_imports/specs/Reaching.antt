@@ -3,7 +3,7 @@ use Rattle.std.specs.Prelude.{◌≡◌, ℕ, ◌≤◌, Bool, true, if◌then�
 use Rattle.std.specs.List.{AllByRecursion, list_any}
 use Rattle.std.specs.Str.{bytes_eq}
 use Rattle.kp_kore.specs.Syntax.{Text, KoreModule}
-use Rattle.kp_semantics.specs.Theory.{imports_in, sentences_of, module_named, names_reached}
+use Rattle.kp_kore.specs.Theory.{imports_in, sentences_of, module_named, names_reached}
 
 abbrev pub has : Text → List Text → Bool
 has n names = list_any (bytes_eq n) names

@@ -8,7 +8,7 @@ use Rattle.kp_kore.specs.Syntax.{Text, KoreModule}
 use Rattle.kp_kore.specs.View.{module_view, sentence_view}
 use Rattle.kp_kore.specs.declared.sentence.Module.{Module}
 use Rattle.kp_kore.specs.declared.sentence.Sentence.{Sentence}
-use Rattle.kp_semantics.specs.Theory.{imports_in, module_named, names_reached}
+use Rattle.kp_kore.specs.Theory.{imports_in, module_named, names_reached}
 use Rattle.kp_signature.specs.Names.{Indexes, first_place}
 use Rattle.kp_imports.specs.Faults.{Leads}
 use Rattle.kp_imports.specs.Names.{module_names}

@@ -2,7 +2,7 @@
 ghost use Rattle.std.specs.Prelude.{◌≡◌, ◌<◌, ◌∷◌, [], take, option_to_list, MatchOption, IfOk, IfErr, IfSome, Some, None, length, string_bytes, replicate, false, slice_index_or};
 ghost use Rattle.std.specs.Option.{option_map};
 ghost use Rattle.kp_kore.specs.View.{sentence_view};
-ghost use Rattle.kp_semantics.specs.Theory.{imports_in};
+ghost use Rattle.kp_kore.specs.Theory.{imports_in};
 ghost use Rattle.indexmap.specs.IndexMap.{get_by_text};
 ghost use Rattle.kp_imports.specs.Faults.{Fault, fault_view, unknown_import, TellsUnplaced};
 ghost use Rattle.kp_imports.specs.Names.{PlacesAreBelow};

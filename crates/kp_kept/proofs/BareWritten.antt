@@ -7,9 +7,9 @@ use Rattle.kp_kore.specs.Syntax.{Text, KoreSort, sort_variable, KoreSorts, no_so
 use Rattle.kp_kore.specs.Parts.{SortedName, sort_list, is_term, free_variables, all_free_variables, without_name, subpatterns, all_subpatterns}
 use Rattle.kp_kore.specs.Signature.{KoreSignature, construction, meaning_of, itself}
 use Rattle.kp_kore.specs.Sorting.{result_sort}
-use Rattle.kp_semantics.specs.Instance.{is_named, is_predicate, are_predicates, is_conjoined_pair}
-use Rattle.kp_semantics.proofs.InstanceLemmas.{first_true, second_true}
-use Rattle.kp_states.specs.Spelled.{placed, places_of}
+use Rattle.kp_kore.specs.Instance.{is_named, is_predicate, are_predicates, is_conjoined_pair}
+use Rattle.kp_kore.proofs.InstanceLemmas.{first_true, second_true}
+use Rattle.kp_compile.specs.Spelled.{placed, places_of}
 use Rattle.kp_symbolic.specs.Terms.{SymbolicTerm, unknown, offset, known, headed, Replaced, replacement_for}
 use Rattle.kp_symbolic.specs.States.{one_head, head_of_sort, Atom, same, has_head, quoted, variables_for, Literal}
 use Rattle.kp_symbolic.specs.WellFormed.{IsWellSorted, AreWellSorted, AreWellPlaced, stands_in_terms}

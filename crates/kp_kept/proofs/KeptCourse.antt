@@ -3,8 +3,8 @@ use Rattle.std.proofs.Common.{◌≡◌, true, sym, subst, inl, inr, List, [], �
 use Rattle.std.specs.List.{AllByRecursion}
 use Rattle.kp_kore.specs.Syntax.{KoreSort, KorePattern}
 use Rattle.kp_kore.specs.Signature.{KoreSignature}
-use Rattle.kp_semantics.specs.Instance.{Valuation, GivesSorts, is_predicate, conjoined_predicates}
-use Rattle.kp_semantics.specs.Foreign.{none_within, has_foreign_head}
+use Rattle.kp_kore.specs.Instance.{Valuation, GivesSorts, is_predicate, conjoined_predicates}
+use Rattle.kp_kore.specs.Foreign.{none_within, has_foreign_head}
 use Rattle.kp_signature.specs.Places.{Place}
 use Rattle.kp_signature.specs.Verify.{first_fault}
 use Rattle.kp_symbolic.specs.States.{Atom, same, has_head, quoted, Literal, SymbolicState, HasInstancesOf}

@@ -9,13 +9,13 @@ use Rattle.kp_kore.specs.Parts.{SortedName}
 use Rattle.kp_kore.specs.Signature.{KoreSignature, SymbolMeaning, injection, construction, interpretation, foreign, meaning_of}
 use Rattle.kp_kore.specs.View.{view, patterns_view}
 use Rattle.kp_kore.specs.declared.pattern.Pattern.{Pattern}
-use Rattle.kp_semantics.specs.Instance.{is_named}
+use Rattle.kp_kore.specs.Instance.{is_named}
 use Rattle.kp_signature.specs.Places.{Place, earlier, part_at, after, under_binder}
 use Rattle.kp_signature.specs.Verify.{VerifyFault, first_fault, fault_at, members_fault, first_of}
-use Rattle.kp_states.specs.Spelled.{places_of}
+use Rattle.kp_compile.specs.Spelled.{places_of}
 use Rattle.kp_symbolic.specs.Opening.{HeadQuestion, are_variables, question_if, asked_constructor, asked_under_inj, asked_of, head_question}
 use Rattle.kp_symbolic.specs.States.{HeadTest, one_head, head_of_sort}
-use Rattle.kp_terms.specs.Faultless.{IsFaultless}
+use Rattle.kp_symbolic.specs.Faultless.{IsFaultless}
 use Rattle.kp_leaves.specs.Leaves.{IsFaultlessQuestion}
 
 -- an error that is want of memory under a premise is so under any that gives it

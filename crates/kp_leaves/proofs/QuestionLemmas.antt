@@ -8,7 +8,7 @@ use Rattle.kp_kore.specs.Syntax.{Text, KoreSort, KoreSorts, no_sorts, next_sort,
 use Rattle.kp_kore.specs.View.{view, patterns_view, sort_view, sorts_view}
 use Rattle.kp_kore.specs.declared.pattern.Pattern.{Pattern}
 use Rattle.kp_kore.specs.declared.sort.Sort.{Sort}
-use Rattle.kp_semantics.specs.Instance.{is_named}
+use Rattle.kp_kore.specs.Instance.{is_named}
 use Rattle.kp_symbolic.specs.Opening.{HeadQuestion, are_variables, question_if, asked_constructor, asked_under_inj}
 use Rattle.kp_symbolic.specs.States.{head_of_sort}
 use Rattle.kp_leaves.specs.Answers.{is_variable_at, asked_sort}

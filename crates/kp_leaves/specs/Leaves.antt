@@ -7,7 +7,7 @@ use Rattle.kp_symbolic.specs.Folding.{folded}
 use Rattle.kp_symbolic.specs.Opening.{HeadQuestion, literal_fact, quotation, opened_test}
 use Rattle.kp_symbolic.specs.States.{Literal}
 use Rattle.kp_symbolic.specs.Terms.{Replaced}
-use Rattle.kp_terms.specs.Faultless.{IsFaultless}
+use Rattle.kp_symbolic.specs.Faultless.{IsFaultless}
 
 -- a predicate that asks for a head, if it does, else as it stands
 abbrev pub opened_question : KoreSignature → List Replaced → Bool → KorePattern → Option HeadQuestion → Formula Literal

@@ -4,7 +4,7 @@ use Rattle.kp_kore.specs.Parts.{SortedName}
 use Rattle.kp_kore.specs.Signature as model
 use Rattle.kp_kore.specs.View.{view, sort_view}
 use Rattle.kp_symbolic.specs.Opening as opening
-use Rattle.kp_terms.specs.View.{test_view}
+use Rattle.kp_symbolic.specs.View.{test_view}
 use Rattle.kp_leaves.specs.declared.head.Head.{Head}
 use Rattle.kp_leaves.specs.declared.head.Head.TheVariants.{Integers, Booleans, Tokens, Constructor}
 use Rattle.kp_leaves.specs.declared.bound.Bound.{Bound}

@@ -5,17 +5,17 @@ ghost use Rattle.kp_ground.specs.View.{value_view};
 ghost use Rattle.kp_kore.specs.Syntax.{sort_of, no_sorts};
 ghost use Rattle.kp_kore.specs.Signature.{is_below, is_own_below, is_head as head_test, symbol_declared, sort_made as made_sort, tokens, constructor_of};
 ghost use Rattle.kp_kore.specs.View.{sort_view, symbol_sentence_view};
-ghost use Rattle.kp_semantics.specs.Value.{head_of as head_of_value};
+ghost use Rattle.kp_kore.specs.Value.{head_of as head_of_value};
 ghost use Rattle.kp_signature.specs.View.{signature_view};
 ghost use Rattle.kp_symbolic.specs.Heads.{is_constructor_head, passes_head as passes_test};
-ghost use Rattle.kp_terms.specs.View.{test_view};
+ghost use Rattle.kp_symbolic.specs.View.{test_view};
 ghost use Rattle.kp_leaves.specs.View.{head_view};
 
 use kp_ground::Value;
 use kp_kore::{Name, Sort, SymbolSentence};
 use kp_signature::Signature;
 use kp_signature::symbols::is_constructor;
-use kp_terms::HeadTest;
+use kp_symbolic::HeadTest;
 use std::alloc::{AllocError, Global};
 
 /// The head of a value. `head_view` in specs/View.antt says which one it is.

@@ -8,9 +8,9 @@ ghost use Rattle.kp_kore.specs.View.{view, sort_view, patterns_view};
 ghost use Rattle.kp_signature.specs.View.{signature_view};
 ghost use Rattle.kp_symbolic.specs.Folding.{folded};
 ghost use Rattle.kp_symbolic.specs.Opening as model;
-ghost use Rattle.kp_terms.specs.Faultless.{IsFaultless};
-ghost use Rattle.kp_terms.specs.Languages.{language_view};
-ghost use Rattle.kp_terms.specs.View.{replaced_view, term_view, test_view};
+ghost use Rattle.kp_symbolic.specs.Faultless.{IsFaultless};
+ghost use Rattle.kp_symbolic.specs.Languages.{language_view};
+ghost use Rattle.kp_symbolic.specs.View.{replaced_view, term_view, test_view};
 ghost use Rattle.kp_opening.specs.View.{formula_view};
 ghost use Rattle.kp_leaves.specs.Leaves.{opened_question, IsFaultlessQuestion};
 ghost use Rattle.kp_leaves.specs.View.{question_view};
@@ -23,7 +23,7 @@ use kp_kore::{Pattern, Sort};
 use kp_opening::formula::make_fixed;
 use kp_opening::{Formula, open_same};
 use kp_signature::Signature;
-use kp_terms::{HeadTest, Language, Replaced, Term, term_under};
+use kp_symbolic::{HeadTest, Language, Replaced, Term, term_under};
 use std::alloc::{AllocError, Global};
 
 /// An equality of two patterns at a sort.

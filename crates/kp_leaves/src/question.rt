@@ -5,11 +5,11 @@ ghost use Rattle.kp_kore.specs.Signature.{meaning_of as named};
 ghost use Rattle.kp_kore.specs.Syntax.{KoreSort, equals, no_patterns, next_pattern};
 ghost use Rattle.kp_kore.specs.View.{view, sort_view, sorts_view, patterns_view};
 ghost use Rattle.kp_signature.specs.Meanings.{meaning_view};
-ghost use Rattle.kp_semantics.specs.Instance.{is_named as named_among};
+ghost use Rattle.kp_kore.specs.Instance.{is_named as named_among};
 ghost use Rattle.kp_signature.specs.View.{signature_view};
 ghost use Rattle.kp_symbolic.specs.States.{one_head, head_of_sort};
 ghost use Rattle.kp_symbolic.specs.Opening as model;
-ghost use Rattle.kp_terms.specs.View.{test_view};
+ghost use Rattle.kp_symbolic.specs.View.{test_view};
 ghost use Rattle.kp_leaves.specs.Answers.{is_variable_at, asked_sort};
 ghost use Rattle.kp_leaves.specs.View.{bound_view, question_view};
 
@@ -18,7 +18,7 @@ use kp_kore::{Name, Pattern, Sort};
 use kp_opening::same::is_same_sort;
 use kp_opening::sides::places_of;
 use kp_signature::{Meaning, Signature, meaning_of};
-use kp_terms::HeadTest;
+use kp_symbolic::HeadTest;
 use std::alloc::{AllocError, Global};
 use std::sync::Arc;
 

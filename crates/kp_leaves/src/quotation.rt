@@ -3,13 +3,13 @@ ghost use Rattle.std.specs.Prelude.{◌≡◌, IfOk, map, string_bytes};
 ghost use Rattle.std.specs.List.{filter};
 ghost use Rattle.kp_kore.specs.Parts.{free_variables};
 ghost use Rattle.kp_kore.specs.View.{view, sorted_variable_view};
-ghost use Rattle.kp_semantics.specs.Instance.{is_named as named_among};
+ghost use Rattle.kp_kore.specs.Instance.{is_named as named_among};
 ghost use Rattle.kp_symbolic.specs.Formulas.{fact};
 ghost use Rattle.kp_symbolic.specs.Opening as model;
-ghost use Rattle.kp_terms.specs.View.{atom_view, literal_view, replaced_view};
+ghost use Rattle.kp_symbolic.specs.View.{atom_view, literal_view, replaced_view};
 
 use kp_kore::{Pattern, SortedVariable};
-use kp_terms::{Atom, Literal, Replaced};
+use kp_symbolic::{Atom, Literal, Replaced};
 use std::alloc::{AllocError, Global};
 use std::sync::Arc;
 

@@ -2,31 +2,29 @@
 ghost use Rattle.std.specs.Prelude.{◌≡◌, [], ◌∷◌, map, IfOk};
 ghost use Rattle.std.specs.Bool.{beq};
 ghost use Rattle.kp_ground.specs.View.{value_view};
-ghost use Rattle.kp_hooks.specs.HookView.{hook_view};
+ghost use Rattle.kp_kore.specs.HookView.{hook_view};
 ghost use Rattle.kp_kore.specs.Signature as head;
 ghost use Rattle.kp_kore.specs.Signature.{possible_heads, tokens, constructor_of};
 ghost use Rattle.kp_kore.specs.View.{sort_view, symbol_sentence_view};
-ghost use Rattle.kp_subsorts.specs.Pairs.{subsort_view};
+ghost use Rattle.kp_signature.specs.Pairs.{subsort_view};
 ghost use Rattle.kp_signature.specs.View.{signature_view};
 ghost use Rattle.kp_symbolic.specs.Formulas.{fact};
 ghost use Rattle.kp_symbolic.specs.Heads.{head_answer as answer, passes_head as passes_test};
 ghost use Rattle.kp_symbolic.specs.Opening as model;
 ghost use Rattle.kp_symbolic.specs.States.{has_head};
 ghost use Rattle.kp_symbolic.specs.Terms.{SymbolicTerms, headed};
-ghost use Rattle.kp_terms.specs.View.{term_view, test_view, literal_view, variable_view};
+ghost use Rattle.kp_symbolic.specs.View.{term_view, test_view, literal_view, variable_view};
 ghost use Rattle.kp_opening.specs.View.{formula_view};
 ghost use Rattle.kp_leaves.specs.Answers.{agrees as agrees_with, all_agree as all_agree_with};
 ghost use Rattle.kp_leaves.specs.View.{head_view};
 
 use crate::head::{Head, head_of, is_head, passes_head};
-use kp_hooks::Hook;
-use kp_kore::{Sort, SymbolSentence};
+use kp_kore::{Hook, Sort, SymbolSentence};
 use kp_opening::Formula;
 use kp_opening::formula::{kept_fact, make_fixed};
 use kp_opening::sides::fixed_or;
-use kp_signature::{Function, Meaning, Signature, meaning_of};
-use kp_subsorts::Subsort;
-use kp_terms::{Atom, HeadTest, Literal, Term, Variable};
+use kp_signature::{Function, Meaning, Signature, Subsort, meaning_of};
+use kp_symbolic::{Atom, HeadTest, Literal, Term, Variable};
 use std::alloc::{AllocError, Global};
 use std::sync::Arc;
 

@@ -7,7 +7,7 @@ use Rattle.kp_kore.specs.Syntax.{Text, KoreDefinition}
 use Rattle.kp_kore.specs.Signature.{KoreSignature, signature_of, sorts_in, symbols_in}
 use Rattle.kp_kore.specs.View.{module_view}
 use Rattle.kp_kore.specs.declared.sentence.Module.{Module}
-use Rattle.kp_semantics.specs.Theory.{NumberedAxiom, module_named, modules_reached, rewrite_axioms}
+use Rattle.kp_kore.specs.Theory.{NumberedAxiom, module_named, modules_reached, rewrite_axioms}
 use Rattle.kp_signature.specs.Table.{sort_names, symbol_names}
 use Rattle.kp_signature.specs.View.{sentences_of}
 use Rattle.kp_rules.specs.Bodies.{IsFaulty}

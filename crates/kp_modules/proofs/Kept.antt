@@ -11,7 +11,7 @@ use Rattle.std.proofs.lemmas.Slice.Eq.{bytes_eq-Decides}
 use Rattle.kp_kore.specs.Syntax.{Text, KoreModule, KoreDefinition}
 use Rattle.kp_kore.specs.View.{module_view}
 use Rattle.kp_kore.specs.declared.sentence.Module.{Module}
-use Rattle.kp_semantics.specs.Theory.{modules_reached, names_reached, rewrite_axioms}
+use Rattle.kp_kore.specs.Theory.{modules_reached, names_reached, rewrite_axioms}
 use Rattle.kp_rules.specs.declared.rule.Rule.{Rule}
 use Rattle.kp_signature.specs.Names.{first_place}
 use Rattle.kp_imports.specs.Faults.{Fault, IsImportFault, fault_view}

@@ -10,7 +10,7 @@ use Rattle.std.proofs.lemmas.Slice.Eq.{bytes_eq-Decides}
 use Rattle.kp_kore.specs.Syntax.{Text}
 use Rattle.std.specs.Prelude.{codes}
 use Rattle.std.specs.Fmt.{decimal}
-use Rattle.kp_semantics.specs.Theory.{NumberedAxiom, label_of, labels_of, rule_id}
+use Rattle.kp_kore.specs.Theory.{NumberedAxiom, label_of, labels_of, rule_id}
 use Rattle.kp_modules.specs.Axioms.{axiom_view, axioms_view}
 use Rattle.kp_modules.specs.Labels.{stands_once}
 use Rattle.kp_imports.specs.Reaching.{has}

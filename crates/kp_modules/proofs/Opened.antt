@@ -5,7 +5,7 @@ use Rattle.std.specs.List.{cons_option, filter_map, flat_map}
 use Rattle.std.specs.Str.{bytes_eq}
 use Rattle.std.proofs.lemmas.Slice.Eq.{bytes_eq-Decides}
 use Rattle.kp_kore.specs.Syntax.{Text, KoreModule, KoreDefinition}
-use Rattle.kp_semantics.specs.Theory.{NumberedAxiom, modules_reached, module_named, names_reached, imports_in, sentences_of, rewrite_axioms}
+use Rattle.kp_kore.specs.Theory.{NumberedAxiom, modules_reached, module_named, names_reached, imports_in, sentences_of, rewrite_axioms}
 use Rattle.kp_book.specs.Books.{rules_in}
 use Rattle.kp_imports.specs.Faults.{signature_reached}
 use Rattle.kp_modules.specs.Keeping.{KeepsReached}

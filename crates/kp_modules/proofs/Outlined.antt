@@ -8,7 +8,7 @@ use Rattle.std.proofs.lemmas.Slice.Eq.{bytes_eq-Decides}
 use Rattle.kp_kore.specs.Syntax.{Text, KoreModule, KoreDefinition}
 use Rattle.kp_kore.specs.View.{module_view}
 use Rattle.kp_kore.specs.declared.sentence.Module.{Module}
-use Rattle.kp_semantics.specs.Theory.{each_once, imports_in, module_named, modules_reached, names_reached, sentences_of}
+use Rattle.kp_kore.specs.Theory.{each_once, imports_in, module_named, modules_reached, names_reached, sentences_of}
 use Rattle.kp_signature.specs.Names.{first_place}
 use Rattle.kp_imports.specs.Faults.{Fault, unknown_import, import_cycle, duplicate_sort, duplicate_symbol, duplicate_module, rule_fault, no_main_module, Leads, stays, goes, IsImportFault}
 use Rattle.kp_modules.specs.Keeping.{outline, StandsAt}

@@ -9,8 +9,8 @@ use Rattle.kp_kore.specs.Signature.{KoreSignature, signature_of}
 use Rattle.kp_kore.specs.View.{module_view}
 use Rattle.kp_kore.specs.declared.sentence.Module.{Module}
 use Rattle.kp_signature.specs.View.{signature_view, sentences_of}
-use Rattle.kp_semantics.specs.Rules.{is_rewriting, priority_of, usual_priority}
-use Rattle.kp_semantics.specs.Theory.{NumberedAxiom, rewrite_axioms_from, rewrite_axioms, labels_of, rule_id}
+use Rattle.kp_kore.specs.Rules.{is_rewriting, priority_of, usual_priority}
+use Rattle.kp_kore.specs.Theory.{NumberedAxiom, rewrite_axioms_from, rewrite_axioms, labels_of, rule_id}
 use Rattle.kp_rules.specs.Bodies.{IsReadAs}
 use Rattle.kp_rules.specs.declared.rule.Rule.{Rule}
 use Rattle.kp_rule_sets.specs.declared.rule_set.RuleSet.{RuleSet}

@@ -1,7 +1,7 @@
 -- Rewrite axioms as a theory sees them.
 use Rattle.std.specs.Prelude.{List, map, string_bytes}
 use Rattle.kp_kore.specs.View.{axiom_sentence_view}
-use Rattle.kp_semantics.specs.Theory.{NumberedAxiom}
+use Rattle.kp_kore.specs.Theory.{NumberedAxiom}
 use Rattle.kp_modules.specs.declared.axioms.RewriteAxiom.{RewriteAxiom}
 
 abbrev pub axiom_view : RewriteAxiom → NumberedAxiom

@@ -3,7 +3,7 @@
 use Rattle.std.specs.Prelude.{◌≡◌, ℕ, ◌+◌, List, [], ◌∷◌, length, map, take, drop, Some, slice_get}
 use Rattle.kp_kore.specs.Syntax.{Text, KoreModule, KoreDefinition}
 use Rattle.kp_kore.specs.View.{module_view}
-use Rattle.kp_semantics.specs.Theory.{NumberedAxiom, imports_in, modules_reached, names_reached, rewrite_axioms, rewrite_axioms_from}
+use Rattle.kp_kore.specs.Theory.{NumberedAxiom, imports_in, modules_reached, names_reached, rewrite_axioms, rewrite_axioms_from}
 use Rattle.kp_rules.specs.declared.rule.Rule.{Rule}
 use Rattle.kp_imports.specs.Walks.{IsLaidOut}
 use Rattle.kp_modules.specs.declared.outlines.RuleSpan.{RuleSpan}

@@ -4,8 +4,8 @@ use Rattle.std.specs.List.{AllByRecursion, AllZip, flat_map}
 use Rattle.kp_kore.specs.Syntax.{Text, KoreModule}
 use Rattle.kp_kore.specs.Signature.{KoreSignature, signature_of}
 use Rattle.kp_signature.specs.View.{signature_view}
-use Rattle.kp_semantics.specs.Rules.{RewriteRule, is_rewriting}
-use Rattle.kp_semantics.specs.Theory.{Theory, NumberedAxiom, rewrite_axioms, labels_of, IsRuleOf}
+use Rattle.kp_kore.specs.Rules.{RewriteRule, is_rewriting}
+use Rattle.kp_kore.specs.Theory.{Theory, NumberedAxiom, rewrite_axioms, labels_of, IsRuleOf}
 use Rattle.kp_rules.specs.Bodies.{IsCodeOf}
 use Rattle.kp_rule_sets.specs.RuleSets.{RunsAs}
 use Rattle.kp_rules.specs.declared.rule.Rule.{Rule}

@@ -3,7 +3,7 @@
 use Rattle.std.specs.Prelude.{◌≡◌, List, map, Some}
 use Rattle.std.specs.Option.{is_some}
 use Rattle.kp_kore.specs.Syntax.{Text, KoreModule, KoreDefinition}
-use Rattle.kp_semantics.specs.Theory.{NumberedAxiom, modules_reached, rewrite_axioms}
+use Rattle.kp_kore.specs.Theory.{NumberedAxiom, modules_reached, rewrite_axioms}
 use Rattle.kp_book.specs.Books.{Opening, rules_in}
 use Rattle.kp_imports.specs.Faults.{signature_reached}
 use Rattle.kp_modules.specs.Keeping.{KeepsReached}

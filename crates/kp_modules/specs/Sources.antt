@@ -3,7 +3,7 @@
 use Rattle.std.specs.Prelude.{◌≡◌, ◌++◌, string_bytes, codes}
 use Rattle.std.specs.Option.{option_map}
 use Rattle.std.specs.Fmt.{decimal}
-use Rattle.kp_semantics.specs.Theory.{NumberedAxiom, label_of}
+use Rattle.kp_kore.specs.Theory.{NumberedAxiom, label_of}
 use Rattle.kp_rules.specs.declared.rule.RuleSource.{RuleSource}
 
 -- the source is the axiom's: its module, its number, its label and its name by number

@@ -1,8 +1,8 @@
 // The rewrite axioms of modules, in order.
 ghost use Rattle.std.specs.Prelude.{◌≡◌, ◌++◌, ◌∷◌, [], IfOk, OnOk, map, string_bytes, if◌then◌else◌};
 ghost use Rattle.kp_kore.specs.View.{view, sentence_view, axiom_sentence_view, module_view};
-ghost use Rattle.kp_semantics.specs.Rules.{is_rewriting as rewriting_test};
-ghost use Rattle.kp_semantics.specs.Theory.{rewrite_axioms as axioms_among, rewrite_axioms_from};
+ghost use Rattle.kp_kore.specs.Rules.{is_rewriting as rewriting_test};
+ghost use Rattle.kp_kore.specs.Theory.{rewrite_axioms as axioms_among, rewrite_axioms_from};
 ghost use Rattle.kp_modules.specs.Axioms.{axioms_view};
 
 use kp_kore::{AxiomSentence, Module, Name, Pattern, Sentence};

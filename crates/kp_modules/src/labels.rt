@@ -3,7 +3,7 @@ ghost use Rattle.std.specs.Prelude.{◌≡◌, ◌++◌, ◌∷◌, [], List, If
 ghost use Rattle.std.specs.Fmt.{decimal};
 ghost use Rattle.std.specs.Option.{option_map};
 ghost use Rattle.kp_kore.specs.Syntax.{Text};
-ghost use Rattle.kp_semantics.specs.Theory.{NumberedAxiom, labels_of as labels_among, label_of as label_among, rule_id as stated_id};
+ghost use Rattle.kp_kore.specs.Theory.{NumberedAxiom, labels_of as labels_among, label_of as label_among, rule_id as stated_id};
 ghost use Rattle.kp_modules.specs.Axioms.{axiom_view, axioms_view};
 ghost use Rattle.kp_modules.specs.Labels.{Counts, stands_once};
 ghost use Rattle.kp_modules.specs.Sources.{IsSourceOf};

@@ -2,7 +2,7 @@
 ghost use Rattle.std.specs.Prelude.{◌≡◌, ◌<◌, IfOk, IfErr, OnOk, None, Some, length, map, slice_get};
 ghost use Rattle.std.specs.List.{AllByRecursion};
 ghost use Rattle.kp_kore.specs.View.{module_view, definition_view};
-ghost use Rattle.kp_semantics.specs.Theory.{modules_reached, module_named, names_reached};
+ghost use Rattle.kp_kore.specs.Theory.{modules_reached, module_named, names_reached};
 ghost use Rattle.kp_imports.specs.Faults.{Fault, TellsFirst, IsImportFault};
 ghost use Rattle.kp_imports.specs.Names.{AreOnce, names_of};
 ghost use Rattle.kp_imports.specs.Walks.{IsLaidOut};

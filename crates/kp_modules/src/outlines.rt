@@ -1,7 +1,7 @@
 // What is kept of modules: their names and imports, and where their rules stand.
 ghost use Rattle.std.specs.Prelude.{◌≡◌, ◌++◌, ◌+◌, ◌∷◌, [], IfOk, OnOk, length, map, string_bytes};
 ghost use Rattle.kp_kore.specs.View.{module_view, sentence_view};
-ghost use Rattle.kp_semantics.specs.Theory.{imports_in};
+ghost use Rattle.kp_kore.specs.Theory.{imports_in};
 ghost use Rattle.kp_modules.specs.Keeping.{outline, own_axioms, span_view, spans_from};
 
 use crate::axioms::{RewriteAxiom, add_axioms};

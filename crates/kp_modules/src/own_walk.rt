@@ -19,7 +19,7 @@ use std::alloc::{AllocError, Global};
 impl Table {
     ghost use Rattle.std.specs.Prelude.{◌≡◌, IfOk, MatchOption, Some, false, true, length, slice_get};
     ghost use Rattle.kp_kore.specs.Syntax.{Text, KoreDefinition, KoreModule};
-    ghost use Rattle.kp_semantics.specs.Theory.{modules_reached, rewrite_axioms};
+    ghost use Rattle.kp_kore.specs.Theory.{modules_reached, rewrite_axioms};
     ghost use Rattle.kp_modules.specs.Keeping.{KeepsReached, StandsAt, own_rules};
     ghost use Rattle.kp_imports.specs.Names.{names_of};
     ghost use Rattle.kp_imports.specs.Reaching.{has};

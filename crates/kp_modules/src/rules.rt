@@ -3,8 +3,8 @@ ghost use Rattle.std.specs.Prelude.{◌≡◌, IfOk, IfErr, OnOk, List, map, tru
 ghost use Rattle.kp_kore.specs.Syntax.{Text};
 ghost use Rattle.kp_kore.specs.View.{module_view, view};
 ghost use Rattle.kp_signature.specs.View.{signature_view};
-ghost use Rattle.kp_semantics.specs.Rules.{is_rewriting};
-ghost use Rattle.kp_semantics.specs.Theory.{rewrite_axioms as axioms_among, labels_of as labels_among};
+ghost use Rattle.kp_kore.specs.Rules.{is_rewriting};
+ghost use Rattle.kp_kore.specs.Theory.{rewrite_axioms as axioms_among, labels_of as labels_among};
 ghost use Rattle.kp_kore.specs.Signature.{KoreSignature};
 ghost use Rattle.kp_rules.specs.Bodies.{IsFaulty, IsReadAs};
 ghost use Rattle.kp_imports.specs.declared.fault.LoadError.TheVariants.{Memory};

@@ -4,7 +4,7 @@ ghost use Rattle.kp_kore.specs.Syntax.{Text};
 ghost use Rattle.kp_kore.specs.Signature.{signature_of};
 ghost use Rattle.kp_kore.specs.View.{module_view, definition_view};
 ghost use Rattle.kp_signature.specs.View.{sentences_of};
-ghost use Rattle.kp_semantics.specs.Theory.{Theory, IsTheoryOf, modules_reached, rewrite_axioms as axioms_among};
+ghost use Rattle.kp_kore.specs.Theory.{Theory, IsTheoryOf, modules_reached, rewrite_axioms as axioms_among};
 ghost use Rattle.kp_imports.specs.Faults.{AreSound, HasNoFault, TellsFaulty, TellsFirst};
 ghost use Rattle.std.specs.List.{flat_map};
 ghost use Rattle.kp_modules.specs.Made.{IsRunOf, IsSetOf};

@@ -7,7 +7,7 @@ use Rattle.std.proofs.lemmas.Slice.Eq.{bytes_eq-Decides}
 use Rattle.std.proofs.lemmas.Bool.Decides.{Decides-int_eq}
 use Rattle.kp_kore.specs.Attributes.{sorts_equal}
 use Rattle.kp_kore.specs.Parts.{SortedName}
-use Rattle.kp_semantics.proofs.SameLemmas.{sorts_equal-Decides, values_same-Decides}
+use Rattle.kp_kore.proofs.SameLemmas.{sorts_equal-Decides, values_same-Decides}
 use Rattle.kp_symbolic.specs.Terms.{SymbolicTerm, unknown, offset, known, headed, SymbolicTerms, no_terms, next_term}
 use Rattle.kp_symbolic.specs.Alike.{names_same, terms_same, all_terms_same}
 use Rattle.kp_symbolic.proofs.AlikeLemmas.{terms_are}

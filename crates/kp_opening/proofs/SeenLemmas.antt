@@ -4,21 +4,21 @@ use Rattle.std.specs.Prelude.{if◌then◌else◌}
 use Rattle.std.proofs.lemmas.List.{append-nil}
 use Rattle.std.specs.Bool.{beq}
 use Rattle.std.specs.Str.{bytes_eq}
-use Rattle.kp_states.specs.Spelled.{places_of}
+use Rattle.kp_compile.specs.Spelled.{places_of}
 use Rattle.kp_kore.specs.Syntax.{Text, KoreSort, KoreSorts, no_sorts, next_sort}
 use Rattle.kp_kore.specs.Hooks.{Comparison, Connective, both, either, implies, same as same_truth, other, Hook, whole_arithmetic, whole_comparison, truth_connective, truth_negation, values_equal, values_different}
 use Rattle.kp_kore.specs.Signature.{KoreSignature, interpretation, is_truth_sort}
 use Rattle.kp_kore.specs.View.{sort_view, sorts_view}
 use Rattle.kp_kore.specs.declared.sort.Sort.{Sort}
-use Rattle.kp_semantics.specs.Value.{Value, whole, truth, token, constructed, Values, no_values, next_value}
+use Rattle.kp_kore.specs.Value.{Value, whole, truth, token, constructed, Values, no_values, next_value}
 use Rattle.kp_symbolic.specs.Terms.{SymbolicTerm, unknown, offset, known, headed, SymbolicTerms, no_terms, next_term}
 use Rattle.kp_symbolic.specs.Formulas.{Formula, Formulas, no_formulas, next_formula}
 use Rattle.kp_symbolic.specs.States.{Literal}
 use Rattle.kp_symbolic.specs.Alike.{terms_same}
 use Rattle.kp_symbolic.specs.Folding.{sum_of}
 use Rattle.kp_symbolic.specs.Opening.{all_if, fixed, fixed_or, is_never, unconstructed, compared_at_once, is_kept_truth, Seen, seen, Seens, none_seen, next_seen, asked, opened_agreement, opened_truths, opened_sides, sorts_of_members, opened_seen, opened_members, opened_call, seen_value, seen_values, seen_term, is_true, seen_terms, equality_fact}
-use Rattle.kp_terms.specs.View.{term_view, terms_of}
-use Rattle.kp_terms.specs.declared.term.Term.{Term}
+use Rattle.kp_symbolic.specs.View.{term_view, terms_of}
+use Rattle.kp_symbolic.specs.declared.term.Term.{Term}
 use Rattle.kp_opening.specs.Seen.{told, constructor_seen, members_seen, truth_known, known_terms, known_members, members_in, connected_by, opened_constructed}
 use Rattle.kp_opening.specs.View.{formulas_of, formula_list, formula_view}
 use Rattle.kp_opening.specs.declared.formula.Formula.{Formula as CodeFormula}

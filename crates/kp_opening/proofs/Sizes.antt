@@ -1,9 +1,9 @@
 -- The sizes of terms, values among them.
 use Rattle.std.proofs.Common.{◌≡◌, ℕ, zero, suc, ◌+◌, ◌<◌, ◌≤◌, List, [], ◌∷◌, map, length, get_or, refl, sym, ap, ap₂, subst, ◌∙◌, arith}
-use Rattle.kp_semantics.specs.Value.{Value, constructed, Values, no_values, next_value}
+use Rattle.kp_kore.specs.Value.{Value, constructed, Values, no_values, next_value}
 use Rattle.kp_symbolic.specs.Terms.{SymbolicTerm, unknown, offset, known, headed, SymbolicTerms, no_terms, next_term}
-use Rattle.kp_terms.specs.View.{term_view, terms_of}
-use Rattle.kp_terms.specs.declared.term.Term.{Term}
+use Rattle.kp_symbolic.specs.View.{term_view, terms_of}
+use Rattle.kp_symbolic.specs.declared.term.Term.{Term}
 use Rattle.kp_opening.specs.Seen.{known_terms, known_members, members_in}
 
 abbrev mutual

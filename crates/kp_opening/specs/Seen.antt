@@ -3,9 +3,9 @@ use Rattle.std.specs.Prelude.{Bool, true, false, not, ◌&&◌, List, [], ◌∷
 use Rattle.kp_kore.specs.Syntax.{Text}
 use Rattle.kp_kore.specs.Hooks.{Connective, both, either, implies, same as same_truth, other}
 use Rattle.kp_kore.specs.Signature.{KoreSignature}
-use Rattle.kp_semantics.specs.Value.{Value, truth, constructed, Values, no_values, next_value}
+use Rattle.kp_kore.specs.Value.{Value, truth, constructed, Values, no_values, next_value}
 use Rattle.kp_symbolic.specs.Terms.{SymbolicTerm, known, headed, SymbolicTerms, no_terms}
-use Rattle.kp_terms.specs.View.{terms_of}
+use Rattle.kp_symbolic.specs.View.{terms_of}
 use Rattle.kp_symbolic.specs.Formulas.{Formula}
 use Rattle.kp_symbolic.specs.States.{Literal}
 use Rattle.kp_symbolic.specs.Opening.{all_if, pair, Seen, seen, Seens, asked, opened_agreement, opened_sides, sorts_of_members, opened_members, seen_term}

@@ -2,7 +2,7 @@
 use Rattle.std.specs.Prelude.{List, [], ◌∷◌, ◌++◌, map}
 use Rattle.kp_symbolic.specs.Formulas as model
 use Rattle.kp_symbolic.specs.States as states
-use Rattle.kp_terms.specs.View.{literal_view}
+use Rattle.kp_symbolic.specs.View.{literal_view}
 use Rattle.kp_opening.specs.declared.formula.Formula.{Formula, fold-Formula}
 use Rattle.kp_opening.specs.declared.formula.Formula.TheOpen.{Formula-F}
 

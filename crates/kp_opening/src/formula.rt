@@ -2,10 +2,10 @@
 ghost use Rattle.std.specs.Prelude.{◌≡◌, IfOk, map};
 ghost use Rattle.kp_symbolic.specs.Formulas.{fact};
 ghost use Rattle.kp_symbolic.specs.Opening.{all_if, fixed};
-ghost use Rattle.kp_terms.specs.View.{literal_view};
+ghost use Rattle.kp_symbolic.specs.View.{literal_view};
 ghost use Rattle.kp_opening.specs.View.{formulas_of, formula_view};
 
-use kp_terms::Literal;
+use kp_symbolic::Literal;
 use std::alloc::{AllocError, Global};
 use std::sync::Arc;
 

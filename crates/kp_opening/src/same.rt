@@ -1,7 +1,7 @@
 // An equality at a sort, and a Boolean expression, opened with a sign: members of constructors and the arguments of the
 // Boolean functions are opened in turn.
 ghost use Rattle.std.specs.Prelude.{◌≡◌, ℕ, ◌<◌, ◌≤◌, [], not, Bool, if◌then◌else◌, IfOk, map, string_bytes};
-ghost use Rattle.kp_hooks.specs.HookView.{hook_view, connective_view};
+ghost use Rattle.kp_kore.specs.HookView.{hook_view, connective_view};
 ghost use Rattle.kp_ground.specs.View.{value_view};
 ghost use Rattle.kp_kore.specs.Attributes.{sorts_equal};
 ghost use Rattle.kp_kore.specs.Hooks.{truth_negation};
@@ -9,10 +9,10 @@ ghost use Rattle.kp_kore.specs.Signature.{interpretation, meaning_of as named};
 ghost use Rattle.kp_kore.specs.Syntax.{sort_of, sort_variable, no_sorts};
 ghost use Rattle.kp_kore.specs.View.{sort_view, sorts_view};
 ghost use Rattle.kp_signature.specs.View.{signature_view};
-ghost use Rattle.kp_states.specs.Spelled as spelled;
+ghost use Rattle.kp_compile.specs.Spelled as spelled;
 ghost use Rattle.kp_symbolic.specs.Formulas.{fact};
 ghost use Rattle.kp_symbolic.specs.Opening as model;
-ghost use Rattle.kp_terms.specs.View.{term_view, terms_of, literal_view};
+ghost use Rattle.kp_symbolic.specs.View.{term_view, terms_of, literal_view};
 ghost use Rattle.kp_opening.specs.Seen.{told, members_seen, connected_by, opened_constructed};
 ghost use Rattle.kp_opening.specs.View.{formula_view, formula_list};
 
@@ -22,10 +22,9 @@ use crate::sides::{
     places_of, truth_known, unconstructed,
 };
 use kp_ground::Value;
-use kp_hooks::{Connective, Hook};
-use kp_kore::{Name, Sort};
+use kp_kore::{Connective, Hook, Name, Sort};
 use kp_signature::{Function, Meaning, Signature, meaning_of};
-use kp_terms::{Atom, Literal, Term};
+use kp_symbolic::{Atom, Literal, Term};
 use std::alloc::{AllocError, Global};
 use std::sync::Arc;
 

@@ -1,11 +1,11 @@
 // What the sides of an equality are: their constructors and members, and when they are never equal.
 ghost use Rattle.std.specs.Prelude.{◌≡◌, ◌&&◌, IfOk, map, string_bytes};
 ghost use Rattle.std.specs.Option.{option_map};
-ghost use Rattle.kp_hooks.specs.HookView.{comparison_view};
+ghost use Rattle.kp_kore.specs.HookView.{comparison_view};
 ghost use Rattle.kp_ground.specs.View.{value_view};
 ghost use Rattle.kp_signature.specs.View.{signature_view};
 ghost use Rattle.kp_kore.specs.View.{sorts_view};
-ghost use Rattle.kp_states.specs.Spelled as spelled;
+ghost use Rattle.kp_compile.specs.Spelled as spelled;
 ghost use Rattle.kp_symbolic.specs.Alike.{terms_same};
 ghost use Rattle.kp_kore.specs.Signature.{meaning_of as named};
 ghost use Rattle.kp_symbolic.specs.Heads.{is_construction as test};
@@ -13,18 +13,17 @@ ghost use Rattle.kp_symbolic.specs.Folding.{sum_of as sum_read};
 ghost use Rattle.kp_symbolic.specs.Formulas.{fact};
 ghost use Rattle.kp_symbolic.specs.Opening as model;
 ghost use Rattle.kp_symbolic.specs.Terms.{known};
-ghost use Rattle.kp_terms.specs.Sums.{sum_view};
-ghost use Rattle.kp_terms.specs.View.{term_view, terms_of, literal_view};
+ghost use Rattle.kp_symbolic.specs.Sums.{sum_view};
+ghost use Rattle.kp_symbolic.specs.View.{term_view, terms_of, literal_view};
 ghost use Rattle.kp_opening.specs.Seen.{constructor_seen, truth_known as truth_read, truth_in, known_members, members_in, both_known};
 ghost use Rattle.kp_opening.specs.View.{formula_view};
 
 use crate::formula::{Formula, kept_fact, make_fixed};
 use kp_ground::Value;
-use kp_hooks::Comparison;
-use kp_kore::Sort;
+use kp_kore::{Comparison, Sort};
 use kp_signature::{Meaning, Signature, meaning_of};
-use kp_terms::sum::{Sum, sum_of};
-use kp_terms::{Literal, Term};
+use kp_symbolic::sum::{Sum, sum_of};
+use kp_symbolic::{Literal, Term};
 use std::alloc::{AllocError, Global};
 use std::sync::Arc;
 

@@ -10,9 +10,9 @@ use Rattle.kp_kore.specs.View.{patterns_of}
 use Rattle.kp_symbolic.specs.Shown.{AreDifferent}
 use Rattle.kp_symbolic.specs.States.{Literal, SymbolicState}
 use Rattle.kp_symbolic.specs.Writing.{variable_first, written_literal, written_literals, written_clause, written_clauses, written_predicate, written_state, written_term}
-use Rattle.kp_terms.specs.View.{literal_view, clauses_view}
-use Rattle.kp_terms.specs.declared.clause.Clause.{Clause}
-use Rattle.kp_terms.specs.declared.clause.Literal.{Literal as CodeLiteral}
+use Rattle.kp_symbolic.specs.View.{literal_view, clauses_view}
+use Rattle.kp_symbolic.specs.declared.clause.Clause.{Clause}
+use Rattle.kp_symbolic.specs.declared.clause.Literal.{Literal as CodeLiteral}
 use Rattle.kp_outward.specs.Arranged.{IsArrangedClause, IsWrittenClause, IsSpelledClause, Arranges, AreArranged, with_clauses}
 use Rattle.kp_outward.specs.Joined.{joined_all, beside_term}
 use Rattle.kp_outward.specs.Order.{AreInOrder, IsOrderedOnce}

@@ -2,9 +2,9 @@
 use Rattle.std.proofs.Common.{◌≡◌, subst, sym, arith, ℕ, zero, suc, ◌<◌, List, [], ◌∷◌, length, get_or, map}
 use Rattle.std.specs.List.{AllByRecursion}
 use Rattle.kp_kore.specs.Signature.{KoreSignature}
-use Rattle.kp_terms.specs.View.{literal_view, clauses_view}
-use Rattle.kp_terms.specs.declared.clause.Clause.{Clause}
-use Rattle.kp_terms.specs.declared.clause.Literal.{Literal}
+use Rattle.kp_symbolic.specs.View.{literal_view, clauses_view}
+use Rattle.kp_symbolic.specs.declared.clause.Clause.{Clause}
+use Rattle.kp_symbolic.specs.declared.clause.Literal.{Literal}
 use Rattle.kp_writing.specs.Parts.{IsFaultlessAtom}
 use Rattle.kp_outward.specs.Errors.{AreFaultless, AreFaultlessIn}
 

@@ -3,8 +3,8 @@ use Rattle.std.proofs.Common.{◌≡◌, inl, inr, refl, sym, subst, ◌∙◌, 
 use Rattle.std.specs.Prelude.{IsTrue, Result, Ok, Err, IfOk}
 use Rattle.kp_kore.specs.Syntax.{KoreSort, KorePattern}
 use Rattle.kp_kore.specs.Signature.{KoreSignature, injection, meaning_of}
-use Rattle.kp_semantics.specs.Foreign.{none_within}
-use Rattle.kp_states.specs.Spelled.{injection_name, has_two_sorts}
+use Rattle.kp_kore.specs.Foreign.{none_within}
+use Rattle.kp_compile.specs.Spelled.{injection_name, has_two_sorts}
 use Rattle.kp_symbolic.specs.States.{Literal, SymbolicState}
 use Rattle.kp_symbolic.specs.Writing.{InjectsWhereItStands, written_predicate, written_state}
 use Rattle.kp_outward.specs.Arranged.{AreArranged, with_clauses}

@@ -7,10 +7,10 @@ use Rattle.std.proofs.lemmas.List.Sorted.{All-permutation, IsPermutation-sym}
 use Rattle.kp_kore.specs.Syntax.{KoreSort, KorePattern, conjunction, next_pattern}
 use Rattle.kp_kore.specs.Parts.{free_variables, subpatterns, all_subpatterns}
 use Rattle.kp_kore.specs.Signature.{KoreSignature, injection, meaning_of}
-use Rattle.kp_semantics.specs.Value.{Value}
-use Rattle.kp_semantics.specs.Instance.{Valuation, GivesSorts, IsInstance, IsTrueUnder, AllTrueUnder}
-use Rattle.kp_states.specs.Spelled.{injection_name}
-use Rattle.kp_states.proofs.SpelledMeaning.{InjectsWell}
+use Rattle.kp_kore.specs.Value.{Value}
+use Rattle.kp_kore.specs.Instance.{Valuation, GivesSorts, IsInstance, IsTrueUnder, AllTrueUnder}
+use Rattle.kp_compile.specs.Spelled.{injection_name}
+use Rattle.kp_compile.proofs.SpelledMeaning.{InjectsWell}
 use Rattle.kp_symbolic.specs.States.{Atom, same, has_head, quoted, Literal, SymbolicState, IsLiteralTrue, IsClauseTrue, AreTrue, IsStateInstance}
 use Rattle.kp_symbolic.specs.WellFormed.{AreAtHand}
 use Rattle.kp_symbolic.specs.Writing.{InjectsWhereItStands, IsSaid, written_term, written_clause, written_clauses, written_state}

@@ -6,9 +6,9 @@ use Rattle.std.proofs.lemmas.List.{drop_more, drop_all, map-append, append_assoc
 use Rattle.kp_kore.specs.Syntax.{KorePattern}
 use Rattle.kp_kore.specs.Signature.{KoreSignature}
 use Rattle.kp_symbolic_laws.specs.Runs.{HasRoomAtom, HasRoomClause}
-use Rattle.kp_terms.specs.View.{literal_view, clause_view, clauses_view}
-use Rattle.kp_terms.specs.declared.clause.Clause.{Clause}
-use Rattle.kp_terms.specs.declared.clause.Literal.{Literal}
+use Rattle.kp_symbolic.specs.View.{literal_view, clause_view, clauses_view}
+use Rattle.kp_symbolic.specs.declared.clause.Clause.{Clause}
+use Rattle.kp_symbolic.specs.declared.clause.Literal.{Literal}
 
 -- what holds of all if it holds of the rest holds of all if it holds of the rest behind one more
 pub all_further : {X : Type 0} (P : X → Type 0) (i : ℕ) (xs : List X) (x : X) → i < length xs → x ≡ get_or xs i x → P x → (AllByRecursion P (drop i xs) → AllByRecursion P xs) → AllByRecursion P (drop (i + 1) xs) → AllByRecursion P xs

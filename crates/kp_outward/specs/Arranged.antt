@@ -9,8 +9,8 @@ use Rattle.kp_kore.specs.Signature.{KoreSignature}
 use Rattle.kp_symbolic.specs.Shown.{AreDifferent}
 use Rattle.kp_symbolic.specs.States.{Literal, SymbolicState}
 use Rattle.kp_symbolic.specs.Writing.{written_literal, written_clause}
-use Rattle.kp_terms.specs.View.{clause_view}
-use Rattle.kp_terms.specs.declared.clause.Clause.{Clause}
+use Rattle.kp_symbolic.specs.View.{clause_view}
+use Rattle.kp_symbolic.specs.declared.clause.Clause.{Clause}
 use Rattle.kp_outward.specs.Order.{AreInOrder}
 use Rattle.kp_outward.specs.View.{spelled_view}
 use Rattle.kp_outward.specs.declared.spelled.Spelled.{Spelled}

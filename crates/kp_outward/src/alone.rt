@@ -7,8 +7,8 @@ ghost use Rattle.kp_symbolic.specs.Terms.{unknown};
 ghost use Rattle.kp_symbolic.specs.Writing as model;
 ghost use Rattle.kp_symbolic.specs.Writing.{written_literal, variable_first};
 ghost use Rattle.kp_symbolic_laws.specs.Runs.{HasRoomAtom};
-ghost use Rattle.kp_terms.specs.Languages.{language_view};
-ghost use Rattle.kp_terms.specs.View.{literal_view, term_view, variable_view};
+ghost use Rattle.kp_symbolic.specs.Languages.{language_view};
+ghost use Rattle.kp_symbolic.specs.View.{literal_view, term_view, variable_view};
 ghost use Rattle.kp_outward.specs.Turned as turned;
 ghost use Rattle.kp_writing.specs.Parts.{IsFaultlessAtom};
 
@@ -17,8 +17,8 @@ use kp_deciding::kinds::is_same;
 use kp_kore::{Pattern, Sort};
 use kp_readings::equation::is_solved_by;
 use kp_signature::Signature;
-use kp_terms::language::is_before;
-use kp_terms::{Atom, Language, Literal, Term, Variable};
+use kp_symbolic::language::is_before;
+use kp_symbolic::{Atom, Language, Literal, Term, Variable};
 use kp_writing::{equality_out, literal_out};
 use std::alloc::{AllocError, Global};
 

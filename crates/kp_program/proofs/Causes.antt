@@ -13,7 +13,7 @@ use Rattle.kp_program.specs.Troubles.{EndsAs, IsFileAbsent, IsFaulty, IsLate, en
 use Rattle.kp_program.specs.Words.{NamesDefinition}
 use Rattle.kp_program.specs.declared.trouble.Trouble.{Trouble}
 use Rattle.kp_program.specs.declared.trouble.Trouble.TheVariants as trouble
-use Rattle.kp_semantics.specs.Theory.{Theory, IsTheoryOf, modules_reached}
+use Rattle.kp_kore.specs.Theory.{Theory, IsTheoryOf, modules_reached}
 use Rattle.kp_imports.specs.Names.{names_of}
 use Rattle.kp_imports.specs.Reaching.{has}
 use Rattle.kp_modules.specs.Openings as openings

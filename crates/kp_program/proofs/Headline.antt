@@ -9,8 +9,8 @@ use Rattle.kp_kore.specs.Syntax.{Text, KoreSentence, claim_sentence, import_sent
 use Rattle.std.specs.Option.{is_some}
 use Rattle.kp_kore.specs.Attributes.{text_of}
 use Rattle.kp_io.specs.Outside.{Names}
-use Rattle.kp_semantics.specs.Steps.{AnyByRecursion}
-use Rattle.kp_semantics.specs.Claims.{Holds}
+use Rattle.kp_kore.specs.Steps.{AnyByRecursion}
+use Rattle.kp_kore.specs.Claims.{Holds}
 use Rattle.kp_claims.specs.Claims.{LabelledClaim, counted, IsClaimOfSentence, if_label, is_label, is_label_character}
 use Rattle.kp_report.specs.Report.{ReportLine, IsLine, is_one_line, HasLine, first_line, later_line}
 use Rattle.kp_report.proofs.OneLine.{AreToldInOneLine, IsOfOne, a_line_is_of_a_claim, passed_alone}

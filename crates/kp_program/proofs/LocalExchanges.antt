@@ -3,13 +3,13 @@ use Rattle.std.proofs.Common.{◌≡◌, ◌<◌, ◌≤◌, ◌^◌, ◌++◌, 
 use Rattle.serde_json.specs.Data.{Data, object, Members}
 use Rattle.kp_kore.specs.Syntax.{Text, KoreSort, KorePattern, top, bottom}
 use Rattle.kp_kore.specs.Parts.{is_term}
-use Rattle.kp_semantics.specs.Executions as theory
-use Rattle.kp_semantics.specs.Executions.{Executed, IsRightExecuted}
-use Rattle.kp_semantics.specs.Implied.{Implied, not_valid, valid, IsCondition, witnessed, vacuous, IsRightImplied}
-use Rattle.kp_semantics.specs.Rules.{top_binders}
-use Rattle.kp_semantics.specs.Theory.{Theory}
-use Rattle.kp_states.specs.Spelled.{no_term}
-use Rattle.kp_states.proofs.SpelledForms.{spelling_term}
+use Rattle.kp_kore.specs.Executions as theory
+use Rattle.kp_kore.specs.Executions.{Executed, IsRightExecuted}
+use Rattle.kp_kore.specs.Implied.{Implied, not_valid, valid, IsCondition, witnessed, vacuous, IsRightImplied}
+use Rattle.kp_kore.specs.Rules.{top_binders}
+use Rattle.kp_kore.specs.Theory.{Theory}
+use Rattle.kp_compile.specs.Spelled.{no_term}
+use Rattle.kp_compile.proofs.SpelledForms.{spelling_term}
 use Rattle.kp_rpc.specs.Frame.{IsFrame}
 use Rattle.kp_rpc.specs.Questions.{IsReadBack}
 use Rattle.kp_rpc.specs.Request.{IsReadId}

@@ -3,7 +3,7 @@ use Rattle.std.proofs.Common.{◌≡◌, ◌≤◌, ◌⊎◌, ℕ, List, [], �
 use Rattle.kp_kore.specs.Syntax.{KoreModule, KoreDefinition}
 use Rattle.kp_kore.specs.Signature.{KoreSignature, signature_of}
 use Rattle.kp_io.specs.Outside.{Names}
-use Rattle.kp_semantics.specs.Theory.{modules_reached}
+use Rattle.kp_kore.specs.Theory.{modules_reached}
 use Rattle.kp_text.specs.Spelling.{SpellsDefinition}
 use Rattle.kp_text.proofs.CompleteModules.{one_definition}
 use Rattle.kp_program.specs.Commands.{IsCommand, prove_view}

@@ -4,8 +4,8 @@
 use Rattle.std.specs.Prelude.{◌≡◌, ℕ, List, ◌++◌, Option, Some, IfSome, codes}
 use Rattle.kp_kore.specs.Syntax.{Text, KoreModule}
 use Rattle.kp_io.specs.Outside.{Names}
-use Rattle.kp_semantics.specs.Steps.{AnyByRecursion}
-use Rattle.kp_semantics.specs.Claims.{Holds}
+use Rattle.kp_kore.specs.Steps.{AnyByRecursion}
+use Rattle.kp_kore.specs.Claims.{Holds}
 use Rattle.kp_claims.specs.Claims.{LabelledClaim, counted, IsClaimOfSentence}
 use Rattle.kp_claims.specs.Files.{SpellsFile}
 use Rattle.kp_report.specs.Report.{HasLine}

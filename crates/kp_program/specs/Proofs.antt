@@ -8,7 +8,7 @@ use Rattle.kp_kore.specs.Syntax.{Text, KoreModule}
 use Rattle.kp_io.specs.Outside.{Names, load_limit}
 use Rattle.kp_rpc.specs.Frame.{IsWhite}
 use Rattle.kp_rpc.specs.Reply.{reply_bytes}
-use Rattle.kp_semantics.specs.Claims.{ReachabilityClaim, Holds}
+use Rattle.kp_kore.specs.Claims.{ReachabilityClaim, Holds}
 use Rattle.kp_graph.specs.Tree.{ProofNode}
 use Rattle.kp_graph.specs.Says.{TreeSays}
 use Rattle.kp_claims.specs.Claims.{LabelledClaim, counted, IsClaimOfSentence}

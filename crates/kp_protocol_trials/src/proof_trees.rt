@@ -1,6 +1,5 @@
 use kp_graph::{Child, NodeId, Status, Tree, TreeArc, TreeFault, Why};
-use kp_kore::{Pattern, Sort};
-use kp_semantics::Claim;
+use kp_kore::{Claim, Pattern, Sort};
 use std::alloc::{AllocError, Global};
 use std::test::Fail;
 

@@ -1,12 +1,11 @@
 use kp_claims::ClaimItem;
 use kp_client::{Link, Outcome, ProveFault, ProveOptions, ScriptLink, prove, prove_claim};
 use kp_graph::{NodeId, Tree, Why};
-use kp_kore::{Pattern, Sort};
+use kp_kore::{Claim, Pattern, Sort};
 use kp_replies::{executed_text, implied_text};
 use kp_report::{Line, report_text};
 use kp_results::{Executed, Implied, Reason, State};
 use kp_rpc::Id;
-use kp_semantics::Claim;
 use std::alloc::{AllocError, Global};
 use std::test::Fail;
 

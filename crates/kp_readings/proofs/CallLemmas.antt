@@ -4,11 +4,11 @@ use Rattle.kp_kore.specs.Syntax.{Text}
 use Rattle.kp_kore.specs.Signature.{KoreSignature}
 use Rattle.kp_ground.specs.View.{value_view, values_of}
 use Rattle.kp_ground.specs.declared.value.Value.{Value}
-use Rattle.kp_semantics.specs.Value.{constructed}
+use Rattle.kp_kore.specs.Value.{constructed}
 use Rattle.kp_symbolic.specs.Terms.{headed}
 use Rattle.kp_symbolic.specs.Solving.{equation_of_truth}
-use Rattle.kp_terms.specs.View.{term_view, terms_of}
-use Rattle.kp_terms.specs.declared.term.Term.{Term}
+use Rattle.kp_symbolic.specs.View.{term_view, terms_of}
+use Rattle.kp_symbolic.specs.declared.term.Term.{Term}
 use Rattle.kp_readings.specs.Own.{constant_said}
 
 pub not_two_sides : (g : KoreSignature) (b : Bool) (f : Text) (ts : List Term) → (length ts ≡ 2 → ⊥) → None ≡ equation_of_truth g b (headed f (terms_of (map term_view ts)))

@@ -4,9 +4,9 @@ use Rattle.std.proofs.lemmas.List.{take_more, drop_more}
 use Rattle.kp_kore.specs.Signature.{KoreSignature}
 use Rattle.kp_symbolic.specs.States.{Literal, SymbolicState}
 use Rattle.kp_symbolic.specs.Plain.{ReadLiteral, form_of, read_clause, read_from}
-use Rattle.kp_terms.specs.View.{literal_view, clause_view, clauses_view}
-use Rattle.kp_terms.specs.declared.clause.Clause.{Clause}
-use Rattle.kp_terms.specs.declared.clause.Literal.{Literal as Written}
+use Rattle.kp_symbolic.specs.View.{literal_view, clause_view, clauses_view}
+use Rattle.kp_symbolic.specs.declared.clause.Clause.{Clause}
+use Rattle.kp_symbolic.specs.declared.clause.Literal.{Literal as Written}
 use Rattle.kp_readings.specs.Each.{read_literal}
 
 behind : {X : Type 0} (xs ys zs : List X) → (xs ++ ys) ++ zs ≡ xs ++ (ys ++ zs)

@@ -5,8 +5,8 @@ use Rattle.std.specs.List.{AllByRecursion, Contains, filter}
 use Rattle.std.specs.declared.alloc.Global.{Global}
 use Rattle.kp_kore.specs.Parts.{SortedName}
 use Rattle.kp_kore.specs.Signature.{KoreSignature}
-use Rattle.kp_semantics.proofs.ListLemmas.{all_append, all_left, all_right, all_map, all_filter, all_mapped}
-use Rattle.kp_semantics.proofs.TurnLemmas.{of_member}
+use Rattle.kp_kore.proofs.ListLemmas.{all_append, all_left, all_right, all_map, all_filter, all_mapped}
+use Rattle.kp_kore.proofs.TurnLemmas.{of_member}
 use Rattle.kp_symbolic.specs.States.{Literal, atom_variables, clause_variables, SymbolicState}
 use Rattle.kp_symbolic.specs.WellFormed.{AreAtHand}
 use Rattle.kp_symbolic.specs.Plain as model

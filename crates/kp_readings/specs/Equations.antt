@@ -4,11 +4,11 @@ use Rattle.std.specs.Bool.{beq}
 use Rattle.kp_kore.specs.Attributes.{sorts_equal}
 use Rattle.kp_kore.specs.Parts.{SortedName}
 use Rattle.kp_kore.specs.Signature.{KoreSignature, SymbolMeaning}
-use Rattle.kp_semantics.specs.Value.{truth}
+use Rattle.kp_kore.specs.Value.{truth}
 use Rattle.kp_symbolic.specs.Terms.{SymbolicTerm, known}
 use Rattle.kp_symbolic.specs.Folding.{is_text_before}
 use Rattle.kp_symbolic.specs.Solving as model
-use Rattle.kp_terms.specs.View.{variable_view, term_view}
+use Rattle.kp_symbolic.specs.View.{variable_view, term_view}
 use Rattle.kp_readings.specs.declared.equation.Equation.{Equation}
 
 abbrev pub equation_view : Equation → model.Equation

@@ -2,7 +2,7 @@
 use Rattle.std.specs.Prelude.{false, Option, Some, None, ⊤}
 use Rattle.kp_kore.specs.Syntax.{Text}
 use Rattle.kp_kore.specs.Parts.{SortedName}
-use Rattle.kp_semantics.specs.Value.{Value, constructed, no_values}
+use Rattle.kp_kore.specs.Value.{Value, constructed, no_values}
 use Rattle.kp_symbolic.specs.Terms.{SymbolicTerm, known}
 use Rattle.kp_symbolic.specs.States.{one_head}
 use Rattle.kp_symbolic.specs.Plain.{Form, asks}

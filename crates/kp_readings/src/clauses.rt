@@ -5,7 +5,7 @@ ghost use Rattle.kp_kore.specs.Signature.{KoreSignature};
 ghost use Rattle.kp_signature.specs.View.{signature_view};
 ghost use Rattle.kp_symbolic.specs.Plain as model;
 ghost use Rattle.kp_symbolic.specs.States.{atom_variables};
-ghost use Rattle.kp_terms.specs.View.{literal_view, clauses_view, state_view};
+ghost use Rattle.kp_symbolic.specs.View.{literal_view, clauses_view, state_view};
 ghost use Rattle.kp_deciding.specs.Forms.{form_view};
 ghost use Rattle.kp_deciding.specs.Readings as reading;
 ghost use Rattle.kp_deciding.specs.Readings.{read_view};
@@ -15,7 +15,7 @@ ghost use Rattle.kp_readings.specs.Each.{read_literal};
 use crate::own::own_form;
 use kp_deciding::{Form, ReadLiteral, form_of};
 use kp_signature::Signature;
-use kp_terms::{Clause, Literal, State};
+use kp_symbolic::{Clause, Literal, State};
 use std::alloc::{AllocError, Global};
 
 /// A literal with what it says.

@@ -9,23 +9,22 @@ ghost use Rattle.kp_kore.specs.View.{sort_view};
 ghost use Rattle.kp_signature.specs.Meanings.{meaning_view};
 ghost use Rattle.kp_ground.specs.View.{value_view};
 ghost use Rattle.kp_signature.specs.View.{signature_view};
-ghost use Rattle.kp_states.specs.Spelled.{own_sort};
+ghost use Rattle.kp_compile.specs.Spelled.{own_sort};
 ghost use Rattle.kp_symbolic.specs.Folding.{is_text_before};
 ghost use Rattle.kp_symbolic.specs.Solving as model;
 ghost use Rattle.kp_symbolic.specs.Terms.{unknown, headed};
 ghost use Rattle.kp_symbolic.specs.WellFormed.{term_sort, is_sort_below};
 ghost use Rattle.kp_symbolic.specs.Writing as writing;
-ghost use Rattle.kp_terms.specs.View.{variable_view, term_view, terms_of, literal_view};
+ghost use Rattle.kp_symbolic.specs.View.{variable_view, term_view, terms_of, literal_view};
 ghost use Rattle.kp_readings.specs.Equations.{equation_view, equates_if, of_equality, solved_for_either, sides_if_true};
 
 use kp_deciding::form::truth_of;
 use kp_deciding::kinds::{has_numbers, has_truths, is_same, lies_below};
 use kp_ground::Value;
-use kp_hooks::{Comparison, Hook};
-use kp_kore::Sort;
+use kp_kore::{Comparison, Hook, Sort};
 use kp_signature::{Function, Meaning, Signature, meaning_of};
-use kp_terms::language::is_before;
-use kp_terms::{Atom, Literal, Term, Variable};
+use kp_symbolic::language::is_before;
+use kp_symbolic::{Atom, Literal, Term, Variable};
 
 /// A variable, and the term that it is equal to. `equation_view` in specs/Equations.antt says which equation of
 /// kp_symbolic it is.

@@ -2,16 +2,16 @@
 ghost use Rattle.std.specs.Prelude.{◌≡◌, ◌++◌, IfOk, map};
 ghost use Rattle.std.specs.List.{flat_map};
 ghost use Rattle.kp_kore.specs.View.{sorted_variable_view};
-ghost use Rattle.kp_semantics.specs.Instance.{is_named};
+ghost use Rattle.kp_kore.specs.Instance.{is_named};
 ghost use Rattle.kp_symbolic.specs.Plain as model;
 ghost use Rattle.kp_symbolic.specs.States.{variables_for, atom_variables, clause_variables};
 ghost use Rattle.kp_symbolic.specs.Terms.{replacement_for};
-ghost use Rattle.kp_terms.specs.View.{replaced_view, atom_view, literal_view, clauses_view, state_view};
+ghost use Rattle.kp_symbolic.specs.View.{replaced_view, atom_view, literal_view, clauses_view, state_view};
 ghost use Rattle.kp_readings.specs.Names.{is_named_in};
 
 use kp_kore::SortedVariable;
-use kp_terms::replaced::replacement_of;
-use kp_terms::{Atom, Clause, Literal, Replaced, State};
+use kp_symbolic::replaced::replacement_of;
+use kp_symbolic::{Atom, Clause, Literal, Replaced, State};
 use std::alloc::{AllocError, Global};
 
 /// Whether the name stands for a variable of a predicate: it is its own, or stands in the term in its place.

@@ -4,12 +4,12 @@ ghost use Rattle.std.specs.Option.{option_map};
 ghost use Rattle.kp_signature.specs.View.{signature_view};
 ghost use Rattle.kp_symbolic.specs.Plain as model;
 ghost use Rattle.kp_symbolic.specs.States.{atom_variables};
-ghost use Rattle.kp_terms.specs.View.{variable_view, term_view, test_view, literal_view, clauses_view, state_view};
+ghost use Rattle.kp_symbolic.specs.View.{variable_view, term_view, test_view, literal_view, clauses_view, state_view};
 ghost use Rattle.kp_deciding.specs.Forms.{asked_view, form_view};
 ghost use Rattle.kp_deciding.specs.Unknowns.{IsSaidAmong};
 ghost use Rattle.kp_readings.specs.Equations.{equation_view};
 ghost use Rattle.kp_ground.specs.View.{value_view, values_of};
-ghost use Rattle.kp_semantics.specs.Value.{constructed};
+ghost use Rattle.kp_kore.specs.Value.{constructed};
 ghost use Rattle.kp_readings.specs.Own.{constant_said, constant_known, asks_constant, IsSetApart};
 
 use crate::equation::{Equation, equation_of};
@@ -17,7 +17,7 @@ use crate::names::stands_alone;
 use kp_deciding::{Asked, Form, form_of, has_only_numbers};
 use kp_ground::Value;
 use kp_signature::Signature;
-use kp_terms::{Atom, Clause, HeadTest, Literal, State, Term, Variable};
+use kp_symbolic::{Atom, Clause, HeadTest, Literal, State, Term, Variable};
 use std::alloc::{AllocError, Global};
 
 /// The test of a head, borrowed.

@@ -2,12 +2,12 @@
 ghost use Rattle.std.specs.Prelude.{◌≡◌, IfOk, OnOk, not, map, if◌then◌else◌, ◌++◌, ◌∷◌, []};
 ghost use Rattle.std.specs.List.{list_any, list_all, filter};
 ghost use Rattle.kp_symbolic.specs.Plain as model;
-ghost use Rattle.kp_terms.specs.View as terms;
+ghost use Rattle.kp_symbolic.specs.View as terms;
 ghost use Rattle.kp_deciding.specs.Readings.{read_view, clauses_view};
 ghost use Rattle.kp_readings.specs.Parts.{clauses_of, is_plain_read};
 
 use kp_deciding::ReadLiteral;
-use kp_terms::{Clause, Literal};
+use kp_symbolic::{Clause, Literal};
 use std::alloc::{AllocError, Global};
 use std::sync::Arc;
 

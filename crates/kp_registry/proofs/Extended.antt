@@ -5,7 +5,7 @@ use Rattle.std.specs.Str.{bytes_eq}
 use Rattle.std.proofs.lemmas.Slice.Eq.{bytes_eq-Decides}
 use Rattle.kp_kore.specs.Syntax.{Text, KoreModule}
 use Rattle.kp_text.specs.Spelling.{SpellsModule}
-use Rattle.kp_semantics.specs.Theory.{NumberedAxiom, imports_in}
+use Rattle.kp_kore.specs.Theory.{NumberedAxiom, imports_in}
 use Rattle.kp_book.specs.Books.{Opening, Registration, binds, extended, first_of, meaning_in, rules_bound}
 use Rattle.kp_modules.specs.Made.{IsSetOf}
 use Rattle.kp_registry.specs.Legal.{Fits, AreLegalFrom, IsExtension, IsLegal, id_of}

@@ -5,7 +5,7 @@ use Rattle.std.specs.Str.{bytes_eq}
 use Rattle.std.proofs.lemmas.Slice.Eq.{bytes_eq-Decides}
 use Rattle.kp_kore.specs.Syntax.{Text}
 use Rattle.kp_kore.specs.Signature.{KoreSignature}
-use Rattle.kp_semantics.specs.Theory.{NumberedAxiom}
+use Rattle.kp_kore.specs.Theory.{NumberedAxiom}
 use Rattle.kp_book.specs.Books.{Opening, Registration, by_opening, by_entry, binds, rules_in}
 use Rattle.kp_registry.specs.Legal.{Fits, AreLegalFrom, IsLegal, IsExtension}
 use Rattle.kp_registry.specs.Passes.{IsEntryOf}

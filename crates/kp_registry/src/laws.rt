@@ -3,7 +3,7 @@ ghost use Rattle.std.specs.Prelude.{◌≡◌, ◌<◌, Bool, List, ℕ, [], ◌
 ghost use Rattle.std.specs.List.{AllByRecursion, AllZip};
 ghost use Rattle.kp_kore.specs.Syntax.{KoreModule};
 ghost use Rattle.kp_text.specs.Spelling.{SpellsModule};
-ghost use Rattle.kp_semantics.specs.Theory.{NumberedAxiom, imports_in};
+ghost use Rattle.kp_kore.specs.Theory.{NumberedAxiom, imports_in};
 ghost use Rattle.kp_book.specs.Books.{Opening, Registration, binds, extended, meaning_in, most_entries};
 ghost use Rattle.kp_modules.specs.Made.{IsSetOf};
 ghost use Rattle.kp_registry.specs.Legal.{Fits, IsExtension, IsLegal, id_of as stated_id};

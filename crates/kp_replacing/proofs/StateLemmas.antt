@@ -9,11 +9,11 @@ use Rattle.kp_kore.specs.Syntax.{Text, KoreSort, KorePattern}
 use Rattle.kp_kore.specs.Parts.{SortedName, free_variables}
 use Rattle.kp_kore.specs.Hooks.{addition, whole_arithmetic}
 use Rattle.kp_kore.specs.Signature.{KoreSignature, meaning_of}
-use Rattle.kp_semantics.specs.Value.{Value, whole, next_value, HasSort, head_of}
-use Rattle.kp_semantics.specs.Forms.{two}
-use Rattle.kp_semantics.specs.Interpretation.{interpreted}
-use Rattle.kp_semantics.specs.Instance.{Valuation, GivesSorts, AgreesOn, applied, is_named, IsTrueUnder}
-use Rattle.kp_semantics.proofs.TruthLemmas.{same_truth}
+use Rattle.kp_kore.specs.Value.{Value, whole, next_value, HasSort, head_of}
+use Rattle.kp_kore.specs.Forms.{two}
+use Rattle.kp_kore.specs.Interpretation.{interpreted}
+use Rattle.kp_kore.specs.Instance.{Valuation, GivesSorts, AgreesOn, applied, is_named, IsTrueUnder}
+use Rattle.kp_kore.proofs.TruthLemmas.{same_truth}
 use Rattle.kp_symbolic.specs.Terms.{SymbolicTerm, unknown, offset, known, headed, SymbolicTerms, no_terms, next_term, term_instance, term_instances, term_variables, all_term_variables, Replaced, replacement_for, under_replaced}
 use Rattle.kp_symbolic.specs.Formulas.{NoneHold}
 use Rattle.kp_symbolic.specs.States.{Atom, same, has_head, quoted, IsAtomTrue, PassesHead, Literal, IsLiteralTrue, IsClauseTrue, AreTrue, AreGiven, variables_for, atom_variables, clause_variables, SymbolicState, IsStateInstance}

@@ -7,8 +7,8 @@ use Rattle.kp_kore.specs.Syntax.{KorePattern}
 use Rattle.kp_kore.specs.Signature.{KoreSignature}
 use Rattle.kp_symbolic.specs.Folding.{AreWritten}
 use Rattle.kp_symbolic.specs.States.{Atom, quoted}
-use Rattle.kp_terms.specs.View.{replaced_view, term_view}
-use Rattle.kp_terms.specs.declared.atom.Replaced.{Replaced}
+use Rattle.kp_symbolic.specs.View.{replaced_view, term_view}
+use Rattle.kp_symbolic.specs.declared.atom.Replaced.{Replaced}
 use Rattle.kp_replacing.specs.Sums.{HasWrittenSums}
 
 sums_in : (g : KoreSignature) (rs : List Replaced) → AllByRecursion (λ r. AreWritten g r.term) (map replaced_view rs) → AllByRecursion (λ r. AreWritten g (term_view r.term)) rs

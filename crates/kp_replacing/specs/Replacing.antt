@@ -6,7 +6,7 @@ use Rattle.std.specs.List.{filter}
 use Rattle.kp_kore.specs.Syntax.{KorePattern}
 use Rattle.kp_kore.specs.Parts.{free_variables}
 use Rattle.kp_kore.specs.Signature.{KoreSignature}
-use Rattle.kp_semantics.specs.Instance.{is_named}
+use Rattle.kp_kore.specs.Instance.{is_named}
 use Rattle.kp_symbolic.specs.Terms.{unknown, Replaced, replacement_for}
 use Rattle.kp_symbolic.specs.Folding.{replaced}
 use Rattle.kp_symbolic.specs.Formulas.{Formula, one_of, Formulas, no_formulas, next_formula}

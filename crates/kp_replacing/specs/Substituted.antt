@@ -4,7 +4,7 @@ use Rattle.std.specs.Prelude.{ℕ, ◌+◌, true, not, List, [], ◌∷◌, ◌+
 use Rattle.std.specs.List.{flat_map, list_any}
 use Rattle.kp_kore.specs.Syntax.{KoreSort}
 use Rattle.kp_kore.specs.Signature.{KoreSignature}
-use Rattle.kp_semantics.specs.Instance.{Valuation, is_named}
+use Rattle.kp_kore.specs.Instance.{Valuation, is_named}
 use Rattle.kp_symbolic.specs.Terms.{Replaced, replacement_for, under_replaced}
 use Rattle.kp_symbolic.specs.Folding.{replaced}
 use Rattle.kp_symbolic.specs.States.{Atom, Literal, AreGiven, variables_for, atom_variables, clause_variables, SymbolicState}

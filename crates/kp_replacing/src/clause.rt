@@ -3,8 +3,8 @@ ghost use Rattle.std.specs.Prelude.{◌≡◌, IfOk, IfErr, map};
 ghost use Rattle.std.specs.List.{AllByRecursion};
 ghost use Rattle.kp_compile.specs.declared.error.CompileError.TheVariants.{Memory};
 ghost use Rattle.kp_symbolic.specs.Solving.{is_single};
-ghost use Rattle.kp_terms.specs.Languages.{language_view};
-ghost use Rattle.kp_terms.specs.View.{clause_view, literal_view, replaced_view};
+ghost use Rattle.kp_symbolic.specs.Languages.{language_view};
+ghost use Rattle.kp_symbolic.specs.View.{clause_view, literal_view, replaced_view};
 ghost use Rattle.kp_distribution.specs.Distribution.{distribution_of, distributions_of};
 ghost use Rattle.kp_distribution.specs.View.{distributed_view};
 ghost use Rattle.kp_replacing.specs.Replacing as model;
@@ -14,7 +14,7 @@ use crate::atom::open_under;
 use kp_compile::CompileError;
 use kp_distribution::distributed::one_of;
 use kp_distribution::{Distributed, distribute};
-use kp_terms::{Clause, Language, Literal, Replaced};
+use kp_symbolic::{Clause, Language, Literal, Replaced};
 use std::alloc::Global;
 
 /// Whether this is a clause's only literal.

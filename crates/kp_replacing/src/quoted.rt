@@ -6,13 +6,13 @@ ghost use Rattle.std.specs.Option.{is_some};
 ghost use Rattle.kp_compile.specs.declared.error.CompileError.TheVariants.{Memory};
 ghost use Rattle.kp_kore.specs.Parts.{free_variables};
 ghost use Rattle.kp_kore.specs.View.{view, sorted_variable_view};
-ghost use Rattle.kp_semantics.specs.Instance.{is_named as named_among};
+ghost use Rattle.kp_kore.specs.Instance.{is_named as named_among};
 ghost use Rattle.kp_symbolic.specs.Opening.{literal_fact};
 ghost use Rattle.kp_symbolic.specs.States.{quoted};
 ghost use Rattle.kp_symbolic.specs.Terms.{replacement_for};
 ghost use Rattle.kp_symbolic.specs.Folding.{AreWritten};
-ghost use Rattle.kp_terms.specs.Languages.{language_view};
-ghost use Rattle.kp_terms.specs.View.{replaced_view, term_view};
+ghost use Rattle.kp_symbolic.specs.Languages.{language_view};
+ghost use Rattle.kp_symbolic.specs.View.{replaced_view, term_view};
 ghost use Rattle.kp_opening.specs.View.{formula_view};
 ghost use Rattle.kp_replacing.specs.Replacing as model;
 
@@ -20,8 +20,8 @@ use kp_compile::CompileError;
 use kp_kore::{Pattern, SortedVariable};
 use kp_leaves::quotation::is_named;
 use kp_opening::Formula;
-use kp_terms::replaced::replacement_of;
-use kp_terms::{Atom, Language, Literal, Replaced};
+use kp_symbolic::replaced::replacement_of;
+use kp_symbolic::{Atom, Language, Literal, Replaced};
 use std::alloc::{AllocError, Global};
 use std::sync::Arc;
 

@@ -5,8 +5,8 @@ use Rattle.serde_json.specs.Data.{Data, array, object, no_items, no_members, put
 use Rattle.kp_kore.specs.Syntax.{Text, KorePattern}
 use Rattle.kp_json.specs.Faults.{wrapped_reading}
 use Rattle.kp_json.specs.Written.{two_parts, wrapped_pattern}
-use Rattle.kp_semantics.specs.Causes.{foreign}
-use Rattle.kp_semantics.specs.Implied.{Implied, not_valid, valid}
+use Rattle.kp_kore.specs.Causes.{foreign}
+use Rattle.kp_kore.specs.Implied.{Implied, not_valid, valid}
 use Rattle.kp_rpc.specs.Questions.{IsReadBack}
 use Rattle.kp_rpc.specs.Request.{IsReadId}
 use Rattle.kp_rpc.specs.Reply.{result_reply, reply_bytes}

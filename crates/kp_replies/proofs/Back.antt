@@ -5,8 +5,8 @@ use Rattle.std.specs.List.{AllByRecursion}
 use Rattle.serde_json.specs.Find.{as_i64}
 use Rattle.serde_json.specs.Data.{Data, array, object, Items, no_items, item, Members, no_members, put}
 use Rattle.kp_kore.specs.Syntax.{Text, KorePattern}
-use Rattle.kp_semantics.specs.Causes.{foreign}
-use Rattle.kp_semantics.specs.Implied.{Implied, not_valid, valid}
+use Rattle.kp_kore.specs.Causes.{foreign}
+use Rattle.kp_kore.specs.Implied.{Implied, not_valid, valid}
 use Rattle.kp_results.specs.Results.{StateParts, NextParts, Ending, vacuous, depth_bound, stuck, branching, cut_point, terminal, aborted, ExecutedParts}
 use Rattle.kp_rpc.specs.Request.{RequestId}
 use Rattle.kp_rpc.specs.Reply.{RequestError, parse_error, invalid_request, method_not_found, invalid_params, no_module, no_pattern, not_verified, error_parts, error_reply, result_reply}

@@ -7,7 +7,7 @@ use Rattle.serde_json.specs.Data.{Data}
 use Rattle.serde_json.specs.Find.{get, as_i64, as_number}
 use Rattle.kp_kore.specs.Syntax.{Text, KorePattern}
 use Rattle.kp_json.specs.Faults.{wrapped_reading}
-use Rattle.kp_semantics.specs.Causes.{foreign}
+use Rattle.kp_kore.specs.Causes.{foreign}
 use Rattle.kp_rpc.specs.Questions.{IsReadBack}
 use Rattle.kp_results.specs.Results.{StateParts, NextParts, Ending, vacuous, depth_bound, stuck, branching, cut_point, terminal, aborted, ExecutedParts, IsPatternOf}
 use Rattle.kp_replies.specs.Read.{Method, execute, implies, simplify, add_module, ServerReply, executed, implied, simplified, added, failed, pattern_in, read_wrapped, read_optional, text_in, is_rule_id, if_rule_id, read_rule, if_module_id, state_from, read_state, ending_named, read_ending, one_alone, read_next_states, nexts_of, executed_from, read_executed, read_implied, read_code, read_result, read_either, is_two, read_reply}

@@ -8,8 +8,8 @@ use Rattle.serde_json.specs.Data.{Data, unsigned, number, string, array, object,
 use Rattle.serde_json.specs.Written.{has_float, items_have_float, members_have_float}
 use Rattle.kp_kore.specs.Syntax.{Text, KorePattern}
 use Rattle.kp_json.specs.Written.{wrapped_pattern}
-use Rattle.kp_semantics.specs.Causes.{foreign}
-use Rattle.kp_semantics.specs.Implied.{Implied, not_valid, valid}
+use Rattle.kp_kore.specs.Causes.{foreign}
+use Rattle.kp_kore.specs.Implied.{Implied, not_valid, valid}
 use Rattle.kp_results.specs.Results.{StateParts, NextParts, Ending, vacuous, depth_bound, stuck, branching, cut_point, terminal, aborted, ExecutedParts, Limit, weighed, wide_call, Undecided, predicate, limit}
 use Rattle.kp_rpc.specs.Request.{RequestId}
 use Rattle.kp_rpc.specs.Reply.{result_reply, reply_bytes}

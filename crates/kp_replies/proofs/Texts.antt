@@ -6,8 +6,8 @@ use Rattle.serde_json.specs.Read.{read, max_depth}
 use Rattle.serde_json.specs.Written.{compact_text}
 use Rattle.kp_kore.specs.Syntax.{Text, KorePattern}
 use Rattle.kp_json.specs.Written.{wrapped_pattern}
-use Rattle.kp_semantics.specs.Causes.{foreign}
-use Rattle.kp_semantics.specs.Implied.{Implied, not_valid, valid}
+use Rattle.kp_kore.specs.Causes.{foreign}
+use Rattle.kp_kore.specs.Implied.{Implied, not_valid, valid}
 use Rattle.kp_results.specs.Results.{NextParts, Ending, vacuous, depth_bound, stuck, branching, cut_point, terminal, aborted, ExecutedParts, Limit, weighed, wide_call, predicate, limit}
 use Rattle.kp_rpc.specs.Request.{RequestId}
 use Rattle.kp_rpc.specs.Reply.{result_reply, reply_bytes}

@@ -1,7 +1,7 @@
 -- Replies with a result: done, stuck at depth 3, and odd(1), aborted at once by a foreign rule.
 use Rattle.std.specs.Prelude.{ℕ, List, [], None, codes}
 use Rattle.kp_kore.specs.Syntax.{sort_of, no_sorts, KorePattern, application, literal, no_patterns, next_pattern}
-use Rattle.kp_semantics.specs.Causes.{foreign}
+use Rattle.kp_kore.specs.Causes.{foreign}
 use Rattle.kp_results.specs.Results.{stuck, aborted, ExecutedParts}
 
 abbrev pub done : KorePattern

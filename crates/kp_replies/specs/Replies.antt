@@ -5,8 +5,8 @@ use Rattle.std.specs.List.{AllByRecursion}
 use Rattle.serde_json.specs.Data.{Data}
 use Rattle.kp_kore.specs.Syntax.{Text, KorePattern}
 use Rattle.kp_json.specs.Trees.{SpellsWrapped}
-use Rattle.kp_semantics.specs.Causes.{foreign}
-use Rattle.kp_semantics.specs.Implied.{Implied, not_valid, valid}
+use Rattle.kp_kore.specs.Causes.{foreign}
+use Rattle.kp_kore.specs.Implied.{Implied, not_valid, valid}
 use Rattle.kp_results.specs.Results.{NextParts, Ending, vacuous, depth_bound, stuck, branching, cut_point, terminal, aborted, ExecutedParts, Limit, weighed, wide_call, predicate, limit}
 use Rattle.kp_rpc.specs.Frame.{IsFrame}
 use Rattle.kp_rpc.specs.Questions.{IsReadBack}

@@ -3,9 +3,9 @@
 use Rattle.std.specs.Prelude.{◌≡◌, Option, Some, None, ⊤}
 use Rattle.serde_json.specs.Data.{Data}
 use Rattle.kp_kore.specs.Syntax.{Text}
-use Rattle.kp_semantics.specs.Theory.{Theory}
-use Rattle.kp_semantics.specs.Executions.{Options, Executed, IsRightExecuted}
-use Rattle.kp_semantics.specs.Implied.{Implied, IsRightImplied}
+use Rattle.kp_kore.specs.Theory.{Theory}
+use Rattle.kp_kore.specs.Executions.{Options, Executed, IsRightExecuted}
+use Rattle.kp_kore.specs.Implied.{Implied, IsRightImplied}
 use Rattle.kp_rpc.specs.Request.{ExecuteOptions, ExecuteRequest, ImpliesRequest, bound_of}
 use Rattle.kp_rpc.specs.Reply.{result_reply}
 use Rattle.kp_results.specs.Results.{ExecutedParts, IsResultOf}

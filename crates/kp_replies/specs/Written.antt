@@ -6,8 +6,8 @@ use Rattle.serde_json.specs.Data.{Data, unsigned, boolean, number, string, array
 use Rattle.kp_kore.specs.Syntax.{Text, KorePattern}
 use Rattle.kp_json.specs.Members.{object_of}
 use Rattle.kp_json.specs.Written.{two_parts, wrapped_pattern}
-use Rattle.kp_semantics.specs.Causes.{foreign}
-use Rattle.kp_semantics.specs.Implied.{Implied, not_valid, valid}
+use Rattle.kp_kore.specs.Causes.{foreign}
+use Rattle.kp_kore.specs.Implied.{Implied, not_valid, valid}
 use Rattle.kp_results.specs.Results.{StateParts, NextParts, Ending, vacuous, depth_bound, stuck, branching, cut_point, terminal, aborted, ExecutedParts}
 use Rattle.kp_rpc.specs.Questions.{with_text}
 

@@ -6,7 +6,7 @@ ghost use Rattle.serde_json.specs.Read.{max_depth, read};
 ghost use Rattle.serde_json.specs.Written.{compact_text};
 ghost use Rattle.kp_kore.specs.Syntax.{Text, KorePattern};
 ghost use Rattle.kp_rpc.specs.Request.{RequestId};
-ghost use Rattle.kp_semantics.specs.Implied.{Implied};
+ghost use Rattle.kp_kore.specs.Implied.{Implied};
 ghost use Rattle.kp_rpc.specs.Questions.{IsReadBack};
 ghost use Rattle.kp_rpc.specs.Reply.{RequestError, error_parts, error_reply, result_reply, reply_bytes};
 ghost use Rattle.kp_rpc.specs.Request.{IsReadId};

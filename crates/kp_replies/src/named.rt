@@ -2,7 +2,7 @@ ghost use Rattle.std.specs.Prelude.{◌≡◌, IfOk, option_map, option_and_then
 ghost use Rattle.std.specs.List.{list_all};
 ghost use Rattle.serde_json.specs.Find.{get, as_str};
 ghost use Rattle.serde_json.specs.View.{view};
-ghost use Rattle.kp_semantics.specs.ClaimRules.{is_lower_hexadecimal};
+ghost use Rattle.kp_kore.specs.ClaimRules.{is_lower_hexadecimal};
 ghost use Rattle.kp_replies.specs.Read.{is_visible as visible_test, is_rule_id as rule_id_test, is_module_id as module_id_test, if_module_id, if_rule_id, read_rule, read_optional_rule, text_in};
 
 use kp_rpc::member_text;

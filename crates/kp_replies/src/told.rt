@@ -1,7 +1,7 @@
 ghost use Rattle.std.specs.Prelude.{◌≡◌, ◌≢◌, ◌∷◌, ◌++◌, [], ℕ, List, Some, IfOk, IfSome, IfNone, option_map, option_and_then, codes};
 ghost use Rattle.serde_json.specs.Find.{get};
 ghost use Rattle.serde_json.specs.View.{view};
-ghost use Rattle.kp_semantics.specs.Causes.{foreign};
+ghost use Rattle.kp_kore.specs.Causes.{foreign};
 ghost use Rattle.kp_results.specs.Results.{cut_point, terminal, aborted};
 ghost use Rattle.kp_results.specs.View.{reason_view, nexts_view, executed_view};
 ghost use Rattle.kp_replies.specs.Read.{read_rule, one_alone, ending_named, read_ending, read_next_states, nexts_of as spec_nexts_of, read_executed, read_result, read_code, read_reply, ServerReply as SpecReply};

@@ -4,10 +4,10 @@ use Rattle.std.specs.Prelude.{codes, ℤ, pos, negsuc, Bool, true, false, not, �
 use Rattle.std.proofs.lemmas.Bool.{and_from, false≢true}
 use Rattle.std.specs.Fmt.{decimal, digits, digits_onto, digit_glyph, signed_decimal}
 use Rattle.std.specs.List.{AllByRecursion, list_all}
-use Rattle.kp_semantics.specs.Steps.{AnyByRecursion}
+use Rattle.kp_kore.specs.Steps.{AnyByRecursion}
 use Rattle.kp_kore.specs.Syntax.{Text}
 use Rattle.kp_graph.specs.Tree.{HeldBy, reply, rounds, nodes}
-use Rattle.kp_semantics.specs.Causes.{foreign}
+use Rattle.kp_kore.specs.Causes.{foreign}
 use Rattle.kp_results.specs.Results.{Ending, vacuous, depth_bound, stuck, branching, cut_point, terminal, aborted}
 use Rattle.kp_replies.specs.Read.{is_visible}
 use Rattle.kp_replies.specs.Replies.{IsNamedEnding}

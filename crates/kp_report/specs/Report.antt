@@ -4,7 +4,7 @@ use Rattle.std.specs.Prelude.{◌≡◌, ℕ, ℤ, Bool, true, not, ◌==◌, Li
 use Rattle.std.specs.List.{list_all}
 use Rattle.std.specs.Fmt.{decimal, signed_decimal}
 use Rattle.kp_kore.specs.Syntax.{Text}
-use Rattle.kp_semantics.specs.Causes.{foreign}
+use Rattle.kp_kore.specs.Causes.{foreign}
 use Rattle.kp_graph.specs.Tree.{HeldBy, reply, rounds, nodes}
 use Rattle.kp_results.specs.Results.{Ending, vacuous, depth_bound, stuck, branching, cut_point, terminal, aborted, ExecutedParts}
 use Rattle.kp_replies.specs.Read.{execute, executed, failed, ServerReply}

@@ -3,10 +3,10 @@
 use Rattle.std.specs.Prelude.{◌≡◌, ℕ, List, [], ◌∷◌, Option, Some, None}
 use Rattle.std.specs.List.{AllZip}
 use Rattle.kp_kore.specs.Syntax.{Text, KoreSort, KorePattern, conjunction, no_patterns, next_pattern}
-use Rattle.kp_semantics.specs.Cases.{NextState}
-use Rattle.kp_semantics.specs.Causes.{Cause}
-use Rattle.kp_semantics.specs.Executions as theory
-use Rattle.kp_semantics.specs.Executions.{Executed}
+use Rattle.kp_kore.specs.Cases.{NextState}
+use Rattle.kp_kore.specs.Causes.{Cause}
+use Rattle.kp_kore.specs.Executions as theory
+use Rattle.kp_kore.specs.Executions.{Executed}
 
 -- ---- parts
 

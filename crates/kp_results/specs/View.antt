@@ -1,9 +1,9 @@
 -- The data of results that the Rust types stand for.
 use Rattle.std.specs.Prelude.{List, map, option_map, string_bytes}
 use Rattle.kp_kore.specs.View.{view}
-use Rattle.kp_semantics.specs.Causes.{Cause, foreign}
-use Rattle.kp_semantics.specs.Executions.{Options}
-use Rattle.kp_semantics.specs.Implied as theory
+use Rattle.kp_kore.specs.Causes.{Cause, foreign}
+use Rattle.kp_kore.specs.Executions.{Options}
+use Rattle.kp_kore.specs.Implied as theory
 use Rattle.kp_results.specs.Results as parts
 use Rattle.kp_results.specs.Results.{StateParts, NextParts, Ending, ExecutedParts}
 use Rattle.kp_results.specs.declared.executed.Options.{Options as RustOptions}

@@ -3,7 +3,7 @@ use crate::ground::{FALSE, NOTHING, ZERO, instance, marked, place_of, put};
 use crate::written::{pattern, signature, written};
 use kp_kore::Pattern;
 use kp_signature::Signature;
-use kp_terms::Language;
+use kp_symbolic::Language;
 use std::alloc::{AllocError, Global};
 use std::test::Fail;
 

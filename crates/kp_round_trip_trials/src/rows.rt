@@ -1,6 +1,6 @@
 use crate::written::{signature, written};
 use kp_signature::Signature;
-use kp_terms::Language;
+use kp_symbolic::Language;
 use std::alloc::Global;
 use std::test::Fail;
 

@@ -3,7 +3,7 @@ use kp_outward::state_out;
 use kp_print::print_pattern;
 use kp_signature::{Signature, verify};
 use kp_solving::inward;
-use kp_terms::{Language, State};
+use kp_symbolic::{Language, State};
 use kp_text::{read_module, read_pattern};
 use std::alloc::Global;
 use std::test::Fail;

@@ -3,7 +3,7 @@ use Rattle.std.proofs.Common.{◌≡◌, refl, sym, subst, Bool, true, false, �
 use Rattle.kp_kore.specs.Syntax.{Text, KorePattern}
 use Rattle.kp_kore.specs.Parts.{free_variables}
 use Rattle.kp_kore.specs.Signature.{KoreSignature}
-use Rattle.kp_semantics.specs.Rules as model
+use Rattle.kp_kore.specs.Rules as model
 use Rattle.kp_ground.specs.Slots.{is_numbered, left_places, left_variables, term_reads, condition_reads}
 use Rattle.kp_ground.specs.declared.left.Left.{Left}
 use Rattle.kp_ground.specs.declared.term.Term.{Term}

@@ -3,8 +3,8 @@ use Rattle.std.proofs.Common.{◌≡◌, refl, ap, sym, subst, Bool, true, false
 use Rattle.std.specs.List.{filter, AllByRecursion}
 use Rattle.kp_kore.specs.Syntax.{KoreSort, KorePattern, KorePatterns, variable, set_variable, application, string_literal, literal, top, bottom, negation, next, conjunction, disjunction, implication, equivalence, rewriting, exists, forall, ceil, floor, equals, membership, mu, nu, no_patterns, next_pattern}
 use Rattle.kp_kore.specs.Parts.{is_term}
-use Rattle.kp_semantics.specs.Instance.{conjuncts, all_conjuncts, conjoined_predicates}
-use Rattle.kp_semantics.specs.Rules.{Rewrite, constrained_term, under_binders, top_binders, have_distinct_names, new_variables_of, rewrite_of, joined}
+use Rattle.kp_kore.specs.Instance.{conjuncts, all_conjuncts, conjoined_predicates}
+use Rattle.kp_kore.specs.Rules.{Rewrite, constrained_term, under_binders, top_binders, have_distinct_names, new_variables_of, rewrite_of, joined}
 use Rattle.kp_signature.proofs.SortLemmas.{same_inside}
 use Rattle.kp_signature.proofs.RuleSides.{sides_of}
 use Rattle.kp_rules.specs.Bodies.{IsLonePredicate, IsConstrained, is_conjunction}

@@ -3,7 +3,7 @@ use Rattle.std.proofs.Common.{◌≡◌, refl, Bool, true, false, ◌&&◌, not,
 use Rattle.std.specs.List.{list_all}
 use Rattle.kp_kore.specs.Syntax.{KorePattern, application, bottom, ceil, conjunction, disjunction, equals, equivalence, exists, floor, forall, implication, literal, membership, mu, negation, next, nu, rewriting, set_variable, string_literal, top, variable}
 use Rattle.kp_kore.specs.Signature.{KoreSignature, meaning_of}
-use Rattle.kp_semantics.specs.Foreign.{has_foreign_head, applies_foreign, applies_undeclared, is_declared, is_foreign_meaning}
+use Rattle.kp_kore.specs.Foreign.{has_foreign_head, applies_foreign, applies_undeclared, is_declared, is_foreign_meaning}
 use Rattle.kp_rule_reading.proofs.ReadParts.{both_true, and_true}
 
 no_meaning : (m d : Bool) → not (m && d) ≡ true → not (not d) ≡ true → not m ≡ true

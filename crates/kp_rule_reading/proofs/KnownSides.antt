@@ -9,9 +9,9 @@ use Rattle.kp_kore.specs.Attributes.{sorts_equal}
 use Rattle.kp_kore.specs.Parts.{SortedName, is_term, free_variables, all_free_variables}
 use Rattle.kp_kore.specs.Signature.{KoreSignature}
 use Rattle.kp_kore.specs.View.{patterns_of}
-use Rattle.kp_semantics.specs.Instance.{is_named, conjuncts, conjoined_predicates}
-use Rattle.kp_semantics.specs.Rules.{Rewrite, rewrite_of, constrained_term, top_binders, under_binders, have_distinct_names, new_variables_of, joined}
-use Rattle.kp_semantics.proofs.SameLemmas.{same_sorts_decide}
+use Rattle.kp_kore.specs.Instance.{is_named, conjuncts, conjoined_predicates}
+use Rattle.kp_kore.specs.Rules.{Rewrite, rewrite_of, constrained_term, top_binders, under_binders, have_distinct_names, new_variables_of, joined}
+use Rattle.kp_kore.proofs.SameLemmas.{same_sorts_decide}
 use Rattle.kp_signature.specs.Places.{Place, the_top, part_at, after, under_binder, sort_in_scope}
 use Rattle.kp_signature.specs.Verify.{first_fault, fault_at}
 use Rattle.kp_signature.proofs.FaultLemmas.{nothing_earlier, nothing_later}

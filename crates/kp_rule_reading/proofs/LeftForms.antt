@@ -7,12 +7,12 @@ use Rattle.std.proofs.lemmas.List.Folds.{list_all-append}
 use Rattle.kp_kore.specs.Syntax.{Text, KoreSorts, KorePattern, KorePatterns, variable, application, literal, set_variable, string_literal, top, bottom, negation, next, conjunction, disjunction, implication, equivalence, rewriting, exists, forall, ceil, floor, equals, membership, mu, nu, no_patterns, next_pattern}
 use Rattle.kp_kore.specs.Parts.{SortedName, is_term, are_terms, all_subpatterns, subpatterns, free_variables, all_free_variables, pattern_list}
 use Rattle.kp_kore.specs.Signature.{KoreSignature, SymbolMeaning, injection, construction, interpretation, foreign, meaning_of}
-use Rattle.kp_semantics.specs.Value.{Value, whole, truth, token, constructed, Values, no_values, next_value, HasSort}
-use Rattle.kp_semantics.specs.Instance.{Valuation, instance, instances, applied, GivesSorts, AgreesOn}
-use Rattle.kp_semantics.specs.Rules.{Rewrite}
-use Rattle.kp_semantics.specs.Foreign.{none_within, has_foreign_head, is_foreign_meaning, has_interpreted_head, is_interpretation}
-use Rattle.kp_semantics.proofs.InstanceLemmas.{first_true, second_true}
-use Rattle.kp_semantics.proofs.ListLemmas.{all_left, all_right, all_append}
+use Rattle.kp_kore.specs.Value.{Value, whole, truth, token, constructed, Values, no_values, next_value, HasSort}
+use Rattle.kp_kore.specs.Instance.{Valuation, instance, instances, applied, GivesSorts, AgreesOn}
+use Rattle.kp_kore.specs.Rules.{Rewrite}
+use Rattle.kp_kore.specs.Foreign.{none_within, has_foreign_head, is_foreign_meaning, has_interpreted_head, is_interpretation}
+use Rattle.kp_kore.proofs.InstanceLemmas.{first_true, second_true}
+use Rattle.kp_kore.proofs.ListLemmas.{all_left, all_right, all_append}
 use Rattle.kp_compile.specs.Verified.{misapplies_injection, is_injection_meaning}
 use Rattle.kp_kore.specs.View.{patterns_view}
 use Rattle.kp_kore.specs.declared.pattern.Pattern.{Pattern}

@@ -5,8 +5,8 @@ use Rattle.std.specs.Option.{option_map}
 use Rattle.std.proofs.lemmas.List.Folds.{list_all-append}
 use Rattle.kp_kore.specs.Syntax.{KoreSort, KorePattern, KorePatterns, variable, set_variable, application, string_literal, literal, top, bottom, negation, next, conjunction, disjunction, implication, equivalence, rewriting, exists, forall, ceil, floor, equals, membership, mu, nu, no_patterns, next_pattern}
 use Rattle.kp_kore.specs.Parts.{is_term, subpatterns, all_subpatterns}
-use Rattle.kp_semantics.specs.Instance.{conjuncts, all_conjuncts, is_predicate, conjoined_predicates, conjoined_terms}
-use Rattle.kp_semantics.specs.Rules.{Rewrite, rewrite_of, constrained_term, only_one, under_binders, top_binders, have_distinct_names, joined}
+use Rattle.kp_kore.specs.Instance.{conjuncts, all_conjuncts, is_predicate, conjoined_predicates, conjoined_terms}
+use Rattle.kp_kore.specs.Rules.{Rewrite, rewrite_of, constrained_term, only_one, under_binders, top_binders, have_distinct_names, joined}
 use Rattle.kp_rule_reading.proofs.ReadParts.{both_true, and_true}
 
 pub left_is : (s : KoreSort) (l r : KorePattern) (m : Rewrite) → rewrite_of (rewriting s l r) ≡ Some m → constrained_term l ≡ Some m.left

@@ -7,8 +7,8 @@ use Rattle.std.proofs.lemmas.Slice.Eq.{bytes_eq-Decides}
 use Rattle.std.proofs.lemmas.List.Folds.{list_all-append}
 use Rattle.kp_kore.specs.Syntax.{Text, KoreSort, KorePattern, KorePatterns, variable, set_variable, application, string_literal, literal, top, bottom, negation, next, conjunction, disjunction, implication, equivalence, rewriting, exists, forall, ceil, floor, equals, membership, mu, nu, no_patterns, next_pattern}
 use Rattle.kp_kore.specs.Parts.{SortedName, free_variables, all_free_variables}
-use Rattle.kp_semantics.specs.Instance.{is_named, conjuncts, all_conjuncts}
-use Rattle.kp_semantics.specs.Rules.{Rewrite, rewrite_of, constrained_term}
+use Rattle.kp_kore.specs.Instance.{is_named, conjuncts, all_conjuncts}
+use Rattle.kp_kore.specs.Rules.{Rewrite, rewrite_of, constrained_term}
 use Rattle.kp_signature.proofs.RuleSides.{sides_of, no_binders, holds_of_term}
 use Rattle.kp_ground.specs.Slots.{is_one_of}
 use Rattle.kp_compile.specs.Exact.{are_named}

@@ -10,10 +10,10 @@ use Rattle.kp_kore.specs.Parts.{SortedName, is_term, are_terms, subpatterns, all
 use Rattle.kp_kore.specs.Signature.{KoreSignature}
 use Rattle.kp_kore.specs.View.{view, patterns_of}
 use Rattle.kp_kore.specs.declared.pattern.Pattern.{Pattern}
-use Rattle.kp_semantics.specs.Instance.{Valuation, is_named}
-use Rattle.kp_semantics.specs.Numbers.{computes_wide}
-use Rattle.kp_semantics.specs.Foreign.{none_within, has_foreign_head}
-use Rattle.kp_semantics.proofs.InstanceLemmas.{first_true, second_true}
+use Rattle.kp_kore.specs.Instance.{Valuation, is_named}
+use Rattle.kp_kore.specs.Numbers.{computes_wide}
+use Rattle.kp_kore.specs.Foreign.{none_within, has_foreign_head}
+use Rattle.kp_kore.proofs.InstanceLemmas.{first_true, second_true}
 use Rattle.kp_signature.specs.Places.{Place, argument_sorts, argument_at, after}
 use Rattle.kp_signature.specs.Verify.{first_fault, fault_at, arguments_fault}
 use Rattle.kp_signature.proofs.ApplicationLemmas.{as_many_arguments}

@@ -4,8 +4,8 @@ use Rattle.std.specs.Prelude.{MatchBool}
 use Rattle.std.specs.List.{list_all, filter, AllByRecursion}
 use Rattle.kp_kore.specs.Syntax.{KorePattern, variable, set_variable, application, string_literal, literal, top, bottom, negation, next, conjunction, disjunction, implication, equivalence, rewriting, exists, forall, ceil, floor, equals, membership, mu, nu}
 use Rattle.kp_kore.specs.Parts.{SortedName, free_variables}
-use Rattle.kp_semantics.specs.Instance.{is_named}
-use Rattle.kp_semantics.specs.Rules.{Rewrite, top_binders, new_variables_of}
+use Rattle.kp_kore.specs.Instance.{is_named}
+use Rattle.kp_kore.specs.Rules.{Rewrite, top_binders, new_variables_of}
 use Rattle.kp_rules.specs.Bodies.{IsTop, IsPlain}
 use Rattle.kp_rule_reading.specs.Reading.{is_binder, is_top_pattern, is_plain_by}
 use Rattle.kp_rule_reading.proofs.ReadParts.{both_true, and_true}

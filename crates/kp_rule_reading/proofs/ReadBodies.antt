@@ -9,10 +9,10 @@ use Rattle.kp_kore.specs.Signature.{KoreSignature}
 use Rattle.kp_kore.specs.Sorting.{sort_of_term}
 use Rattle.kp_kore.specs.View.{view}
 use Rattle.kp_kore.specs.declared.pattern.Pattern.{Pattern}
-use Rattle.kp_semantics.specs.Value.{HasSort}
-use Rattle.kp_semantics.specs.Instance.{Valuation, instance, GivesSorts, is_named, IsTrueUnder}
-use Rattle.kp_semantics.specs.Rules as model
-use Rattle.kp_semantics.specs.Foreign.{IsRead, Reads, none_within, has_foreign_head, applies_undeclared, is_read_priority}
+use Rattle.kp_kore.specs.Value.{HasSort}
+use Rattle.kp_kore.specs.Instance.{Valuation, instance, GivesSorts, is_named, IsTrueUnder}
+use Rattle.kp_kore.specs.Rules as model
+use Rattle.kp_kore.specs.Foreign.{IsRead, Reads, none_within, has_foreign_head, applies_undeclared, is_read_priority}
 use Rattle.kp_signature.specs.Places.{Place, the_top}
 use Rattle.kp_signature.specs.Verify.{first_fault}
 use Rattle.kp_compile.specs.Verified.{misapplies_injection}

@@ -5,10 +5,10 @@ use Rattle.std.specs.List.{list_all, AllByRecursion}
 use Rattle.kp_kore.specs.Syntax.{KorePattern, Statement}
 use Rattle.kp_kore.specs.Parts.{SortedName, subpatterns, free_variables, term_depth}
 use Rattle.kp_kore.specs.Signature.{KoreSignature}
-use Rattle.kp_semantics.specs.Instance.{is_named}
-use Rattle.kp_semantics.specs.Rules.{Rewrite, rewrite_of}
+use Rattle.kp_kore.specs.Instance.{is_named}
+use Rattle.kp_kore.specs.Rules.{Rewrite, rewrite_of}
 use Rattle.kp_kore.specs.Limits.{most_depth}
-use Rattle.kp_semantics.specs.Foreign.{IsRead, none_within, applies_foreign, has_interpreted_head, is_set_variable, is_wide_literal, is_quantifier, is_floor_of_term, repeats_literals_only}
+use Rattle.kp_kore.specs.Foreign.{IsRead, none_within, applies_foreign, has_interpreted_head, is_set_variable, is_wide_literal, is_quantifier, is_floor_of_term, repeats_literals_only}
 use Rattle.kp_rule_reading.specs.Reading.{is_part_read, is_condition_part, is_predicate_read, is_left_read, is_side_read, IsStatementRead}
 
 pub both_true : (a b : Bool) → a && b ≡ true → (a ≡ true) × (b ≡ true)

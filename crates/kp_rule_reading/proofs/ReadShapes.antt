@@ -8,8 +8,8 @@ use Rattle.kp_kore.specs.Syntax.{Text, KorePattern}
 use Rattle.kp_kore.specs.Parts.{SortedName, free_variables}
 use Rattle.kp_kore.specs.Signature.{KoreSignature}
 use Rattle.kp_kore.specs.View.{view}
-use Rattle.kp_semantics.specs.Instance.{is_named}
-use Rattle.kp_semantics.specs.Rules.{Rewrite, rewrite_of}
+use Rattle.kp_kore.specs.Instance.{is_named}
+use Rattle.kp_kore.specs.Rules.{Rewrite, rewrite_of}
 use Rattle.kp_rule_reading.specs.Reading.{Names, IsShapeRead, is_left_read, is_predicate_read, is_side_read, is_binder, is_top_pattern, is_plain_by}
 use Rattle.kp_rules.specs.Shapes.{seen, rewrite_seen}
 use Rattle.kp_rules.specs.declared.shape.Shape.{Shape}

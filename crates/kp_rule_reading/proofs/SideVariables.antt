@@ -8,11 +8,11 @@ use Rattle.kp_kore.specs.Syntax.{Text, KoreSort, KorePattern, Statement, rewriti
 use Rattle.kp_kore.specs.Attributes.{sorts_equal}
 use Rattle.kp_kore.specs.Parts.{SortedName, is_term, free_variables}
 use Rattle.kp_kore.specs.Signature.{KoreSignature}
-use Rattle.kp_semantics.specs.Instance.{is_named, conjuncts, conjoined_predicates}
-use Rattle.kp_semantics.specs.Rules.{Rewrite, rewrite_of, constrained_term, top_binders, under_binders, have_distinct_names, new_variables_of, joined}
-use Rattle.kp_semantics.specs.Foreign.{none_within, applies_undeclared, IsRead}
-use Rattle.kp_semantics.proofs.InstanceLemmas.{first_true, second_true}
-use Rattle.kp_semantics.proofs.SameLemmas.{same_sorts_decide}
+use Rattle.kp_kore.specs.Instance.{is_named, conjuncts, conjoined_predicates}
+use Rattle.kp_kore.specs.Rules.{Rewrite, rewrite_of, constrained_term, top_binders, under_binders, have_distinct_names, new_variables_of, joined}
+use Rattle.kp_kore.specs.Foreign.{none_within, applies_undeclared, IsRead}
+use Rattle.kp_kore.proofs.InstanceLemmas.{first_true, second_true}
+use Rattle.kp_kore.proofs.SameLemmas.{same_sorts_decide}
 use Rattle.kp_signature.specs.Places.{Place, the_top, part_at, after, sort_in_scope}
 use Rattle.kp_signature.specs.Verify.{first_fault, fault_at}
 use Rattle.kp_signature.proofs.FaultLemmas.{nothing_earlier, nothing_later}

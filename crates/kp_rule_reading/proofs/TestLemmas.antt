@@ -10,9 +10,9 @@ use Rattle.kp_kore.specs.View.{sort_view, sorts_view, view, patterns_view}
 use Rattle.kp_kore.specs.declared.sort.Sort.{Sort}
 use Rattle.kp_kore.specs.declared.pattern.Pattern.{Pattern}
 use Rattle.kp_kore.proofs.FreeVariables.{free_more}
-use Rattle.kp_semantics.specs.Value.{Value, constructed, HasSort, HaveSorts, head_of}
-use Rattle.kp_semantics.specs.Sorted.{IsSorted}
-use Rattle.kp_semantics.specs.Instance.{Valuation, GivesSorts, instance, instances, applied}
+use Rattle.kp_kore.specs.Value.{Value, constructed, HasSort, HaveSorts, head_of}
+use Rattle.kp_kore.specs.Sorted.{IsSorted}
+use Rattle.kp_kore.specs.Instance.{Valuation, GivesSorts, instance, instances, applied}
 use Rattle.kp_rules.specs.Heads.{HasHead}
 use Rattle.kp_rule_reading.specs.Tests.{IsGiven, Adds}
 use Rattle.kp_rules.specs.declared.rule.SortTest.{SortTest}

@@ -8,10 +8,10 @@ use Rattle.kp_kore.specs.Syntax.{KoreSort, KorePattern, Statement, variable, lit
 use Rattle.kp_kore.specs.Parts.{is_term, subpatterns, free_variables}
 use Rattle.kp_kore.specs.Signature.{KoreSignature}
 use Rattle.kp_kore.specs.Sorting.{sort_of_term}
-use Rattle.kp_semantics.specs.Instance.{is_predicate, conjuncts, conjoined_terms, conjoined_predicates}
-use Rattle.kp_semantics.specs.Rules.{Rewrite, rewrite_of, constrained_term, only_one, top_binders, under_binders, have_distinct_names, joined}
-use Rattle.kp_semantics.specs.Foreign.{none_within, has_foreign_head, applies_undeclared, is_quantifier, is_floor_of_term, IsRead}
-use Rattle.kp_semantics.proofs.InstanceLemmas.{first_true, second_true}
+use Rattle.kp_kore.specs.Instance.{is_predicate, conjuncts, conjoined_terms, conjoined_predicates}
+use Rattle.kp_kore.specs.Rules.{Rewrite, rewrite_of, constrained_term, only_one, top_binders, under_binders, have_distinct_names, joined}
+use Rattle.kp_kore.specs.Foreign.{none_within, has_foreign_head, applies_undeclared, is_quantifier, is_floor_of_term, IsRead}
+use Rattle.kp_kore.proofs.InstanceLemmas.{first_true, second_true}
 use Rattle.kp_signature.specs.Places.{Place, own_sort, the_top, part_at, after, under_binder}
 use Rattle.kp_signature.specs.Verify.{first_fault, fault_at}
 use Rattle.kp_signature.proofs.FaultLemmas.{nothing_earlier, nothing_later, keeps_rules, has_wanted_sort, term_has_wanted_sort}

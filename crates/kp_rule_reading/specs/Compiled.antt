@@ -5,10 +5,10 @@ use Rattle.std.specs.List.{list_all, list_any, AllByRecursion}
 use Rattle.kp_kore.specs.Syntax.{Text, KorePattern}
 use Rattle.kp_kore.specs.Parts.{SortedName, is_term, free_variables}
 use Rattle.kp_kore.specs.Signature.{KoreSignature}
-use Rattle.kp_semantics.specs.Sorted.{IsSorted}
-use Rattle.kp_semantics.specs.Instance.{Valuation, instance, GivesSorts, IsTrueUnder}
-use Rattle.kp_semantics.specs.Rules as model
-use Rattle.kp_semantics.specs.Numbers.{computes_wide}
+use Rattle.kp_kore.specs.Sorted.{IsSorted}
+use Rattle.kp_kore.specs.Instance.{Valuation, instance, GivesSorts, IsTrueUnder}
+use Rattle.kp_kore.specs.Rules as model
+use Rattle.kp_kore.specs.Numbers.{computes_wide}
 use Rattle.kp_ground.specs.Conditions.{condition_holds, condition_narrow}
 use Rattle.kp_ground.specs.ConditionView.{condition_view}
 use Rattle.kp_ground.specs.Slots.{term_reads, condition_reads}

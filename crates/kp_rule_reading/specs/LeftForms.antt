@@ -7,9 +7,9 @@ use Rattle.kp_kore.specs.Signature.{KoreSignature}
 use Rattle.kp_kore.specs.View.{view, sorted_variable_view}
 use Rattle.kp_kore.specs.declared.pattern.Pattern.{Pattern}
 use Rattle.kp_kore.specs.Parts.{is_term}
-use Rattle.kp_semantics.specs.Foreign.{none_within, has_foreign_head, has_interpreted_head}
+use Rattle.kp_kore.specs.Foreign.{none_within, has_foreign_head, has_interpreted_head}
 use Rattle.kp_compile.specs.Verified.{misapplies_injection}
-use Rattle.kp_semantics.specs.Rules.{Rewrite}
+use Rattle.kp_kore.specs.Rules.{Rewrite}
 use Rattle.kp_rules.specs.LeftForms.{left_form}
 use Rattle.kp_rules.specs.Skeletons.{skeleton_view}
 use Rattle.kp_rules.specs.declared.skeleton.Skeleton.{Skeleton}

@@ -1,6 +1,6 @@
 -- What the code tells of a priority.
 use Rattle.std.specs.Prelude.{◌≡◌, ◌<◌, ℕ, Option, Some, None}
-use Rattle.kp_semantics.specs.Rules.{most_priority}
+use Rattle.kp_kore.specs.Rules.{most_priority}
 use Rattle.kp_rule_reading.specs.declared.priority.Priority.{Priority}
 use Rattle.kp_rule_reading.specs.declared.priority.Priority.TheVariants.{Number, TooLarge, NoNumber}
 

@@ -7,13 +7,13 @@ use Rattle.kp_kore.specs.Syntax.{Text, KorePattern, KoreSort, exists, top, State
 use Rattle.kp_kore.specs.Parts.{SortedName, subpatterns, free_variables, term_depth}
 use Rattle.kp_kore.specs.Signature.{KoreSignature}
 use Rattle.kp_kore.specs.View.{view, sort_view}
-use Rattle.kp_semantics.specs.Sorted.{IsSorted}
-use Rattle.kp_semantics.specs.Instance.{Valuation, instance, is_named, GivesSorts, IsTrueUnder}
-use Rattle.kp_semantics.specs.Rules as model
+use Rattle.kp_kore.specs.Sorted.{IsSorted}
+use Rattle.kp_kore.specs.Instance.{Valuation, instance, is_named, GivesSorts, IsTrueUnder}
+use Rattle.kp_kore.specs.Rules as model
 use Rattle.kp_kore.specs.Limits.{most_depth}
-use Rattle.kp_semantics.specs.Foreign.{Reads, is_wide_literal, applies_foreign, has_interpreted_head, is_set_variable, is_quantifier, is_floor_of_term, repeats_literals_only, InjectionsSplit, is_read_priority}
+use Rattle.kp_kore.specs.Foreign.{Reads, is_wide_literal, applies_foreign, has_interpreted_head, is_set_variable, is_quantifier, is_floor_of_term, repeats_literals_only, InjectionsSplit, is_read_priority}
 use Rattle.std.specs.Bool.{Decides}
-use Rattle.kp_semantics.specs.Numbers.{computes_wide}
+use Rattle.kp_kore.specs.Numbers.{computes_wide}
 use Rattle.kp_ground.specs.Conditions.{condition_holds, condition_narrow as is_condition_narrow}
 use Rattle.kp_ground.specs.ConditionView.{condition_view}
 use Rattle.kp_compile.specs.Exact.{IsLeftOf, IsTermOf, IsNarrowAs}

@@ -7,9 +7,9 @@ use Rattle.kp_kore.specs.Parts.{SortedName}
 use Rattle.kp_kore.specs.Signature.{KoreSignature}
 use Rattle.kp_kore.specs.View.{sort_view}
 use Rattle.kp_kore.specs.declared.sort.Sort.{Sort}
-use Rattle.kp_semantics.specs.Value.{Value, HasSort}
-use Rattle.kp_semantics.specs.Sorted.{IsSorted}
-use Rattle.kp_semantics.specs.Instance.{Valuation, GivesSorts}
+use Rattle.kp_kore.specs.Value.{Value, HasSort}
+use Rattle.kp_kore.specs.Sorted.{IsSorted}
+use Rattle.kp_kore.specs.Instance.{Valuation, GivesSorts}
 use Rattle.kp_compile.specs.Exact.{are_named}
 use Rattle.kp_rules.specs.Bound.{tests_read}
 use Rattle.kp_rules.specs.Heads.{HasHead}

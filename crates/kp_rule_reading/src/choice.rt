@@ -4,7 +4,7 @@ ghost use Rattle.std.specs.List.{filter};
 ghost use Rattle.indexmap.specs.IndexSet.{contains_text};
 ghost use Rattle.kp_kore.specs.Parts.{free_variables};
 ghost use Rattle.kp_kore.specs.View.{view, sort_view, sorted_variable_view};
-ghost use Rattle.kp_semantics.specs.Rules.{top_binders};
+ghost use Rattle.kp_kore.specs.Rules.{top_binders};
 ghost use Rattle.kp_signature.specs.View.{signature_view};
 ghost use Rattle.kp_compile.specs.Exact.{are_named};
 ghost use Rattle.kp_compile.specs.Names.{names_seen};

@@ -3,8 +3,8 @@ ghost use Rattle.std.specs.Prelude.{◌≡◌, Some, None, if◌then◌else◌};
 ghost use Rattle.std.specs.List.{list_all};
 ghost use Rattle.std.specs.Option.{option_map};
 ghost use Rattle.kp_kore.specs.View.{axiom_sentence_view};
-ghost use Rattle.kp_semantics.specs.Rules.{is_label as label_test, is_label_character as character_test};
-ghost use Rattle.kp_semantics.specs.Theory.{label_of as stated_label};
+ghost use Rattle.kp_kore.specs.Rules.{is_label as label_test, is_label_character as character_test};
+ghost use Rattle.kp_kore.specs.Theory.{label_of as stated_label};
 
 use kp_kore::AxiomSentence;
 use kp_signature::attributes::text_of;

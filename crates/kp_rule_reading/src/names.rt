@@ -4,7 +4,7 @@ ghost use Rattle.std.specs.List.{list_all};
 ghost use Rattle.indexmap.specs.IndexSet.{contains_text};
 ghost use Rattle.kp_kore.specs.Signature.{has_literals as literals_test};
 ghost use Rattle.kp_kore.specs.View.{sort_view, sorted_variable_view};
-ghost use Rattle.kp_semantics.specs.Foreign.{repeats_literals_only as repeats_test};
+ghost use Rattle.kp_kore.specs.Foreign.{repeats_literals_only as repeats_test};
 ghost use Rattle.kp_signature.specs.View.{signature_view};
 ghost use Rattle.kp_rule_reading.specs.Reading.{Names};
 

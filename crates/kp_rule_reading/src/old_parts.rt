@@ -4,7 +4,7 @@ ghost use Rattle.std.specs.List.{list_all, AllByRecursion};
 ghost use Rattle.kp_kore.specs.Parts.{subpatterns as parts_of};
 ghost use Rattle.kp_kore.specs.View.{view, sorted_variable_view};
 ghost use Rattle.kp_signature.specs.View.{signature_view};
-ghost use Rattle.kp_semantics.specs.Instance.{is_named as named_among};
+ghost use Rattle.kp_kore.specs.Instance.{is_named as named_among};
 ghost use Rattle.kp_compile.specs.Names.{names_seen};
 ghost use Rattle.kp_compile.specs.Verified.{IsVerifiedTerm};
 ghost use Rattle.kp_compile.specs.declared.error.CompileError.TheVariants.{Memory};

@@ -4,7 +4,7 @@ ghost use Rattle.std.specs.List.{list_all, AllByRecursion};
 ghost use Rattle.kp_kore.specs.Parts.{pattern_list};
 ghost use Rattle.kp_kore.specs.View.{view, patterns_view};
 ghost use Rattle.kp_kore.specs.Limits.{writes_number, fits_number};
-ghost use Rattle.kp_semantics.specs.Foreign.{is_foreign_meaning, is_interpretation, is_declared as declared, applies_foreign as foreign_applied, applies_undeclared as undeclared_applied, has_interpreted_head as interpreted_head, is_set_variable as set_variable_test, is_quantifier as quantifier_test, is_floor_of_term as floor_test, is_wide_literal as wide_literal, InjectionsSplit};
+ghost use Rattle.kp_kore.specs.Foreign.{is_foreign_meaning, is_interpretation, is_declared as declared, applies_foreign as foreign_applied, applies_undeclared as undeclared_applied, has_interpreted_head as interpreted_head, is_set_variable as set_variable_test, is_quantifier as quantifier_test, is_floor_of_term as floor_test, is_wide_literal as wide_literal, InjectionsSplit};
 ghost use Rattle.std.specs.Str.Parse.{signed_digits_value};
 ghost use Rattle.kp_signature.specs.View.{signature_view};
 ghost use Rattle.kp_signature.specs.Meanings.{meaning_view};

@@ -4,7 +4,7 @@ ghost use Rattle.std.specs.List.{list_all};
 ghost use Rattle.std.specs.Char.{is_ascii_digit};
 ghost use Rattle.kp_kore.specs.View.{patterns_view};
 ghost use Rattle.kp_kore.specs.Attributes.{has_mark as mark_among};
-ghost use Rattle.kp_semantics.specs.Rules.{owise_priority, usual_priority, priority_of as stated_priority, decimal_number as number_written};
+ghost use Rattle.kp_kore.specs.Rules.{owise_priority, usual_priority, priority_of as stated_priority, decimal_number as number_written};
 ghost use Rattle.kp_rule_reading.specs.Priorities.{Tells};
 
 use kp_kore::Pattern;

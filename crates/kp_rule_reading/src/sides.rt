@@ -1,7 +1,7 @@
 // The sides of a rule that is read.
 ghost use Rattle.std.specs.Prelude.{◌≡◌, IfOk, IfErr, map};
 ghost use Rattle.kp_kore.specs.View.{view, sorted_variable_view};
-ghost use Rattle.kp_semantics.specs.Rules.{new_variables_of};
+ghost use Rattle.kp_kore.specs.Rules.{new_variables_of};
 ghost use Rattle.kp_signature.specs.View.{signature_view};
 ghost use Rattle.kp_compile.specs.Verified.{IsVerifiedLeftTerm};
 ghost use Rattle.kp_compile.specs.declared.error.CompileError.TheVariants.{Memory};

@@ -3,9 +3,9 @@ use Rattle.std.proofs.Common.{◌≡◌, refl, sym, subst, true, ap, ◌∙◌, 
 use Rattle.std.proofs.lemmas.Slice.Eq.{bytes_eq-Decides}
 use Rattle.kp_kore.specs.Syntax.{Text}
 use Rattle.kp_kore.specs.Signature.{KoreSignature}
-use Rattle.kp_semantics.specs.Value.{Value, Values, whole, truth, token, constructed}
-use Rattle.kp_semantics.specs.Instance.{Valuation}
-use Rattle.kp_semantics.specs.Foreign.{IsConstructedBy}
+use Rattle.kp_kore.specs.Value.{Value, Values, whole, truth, token, constructed}
+use Rattle.kp_kore.specs.Instance.{Valuation}
+use Rattle.kp_kore.specs.Foreign.{IsConstructedBy}
 use Rattle.kp_ground.specs.LeftView.{left_view}
 use Rattle.kp_ground.specs.Terms.{LeftTerm, left_bound, left_fixed, left_built, left_value}
 use Rattle.kp_rules.specs.Heads.{Meets}

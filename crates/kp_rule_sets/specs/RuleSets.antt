@@ -2,7 +2,7 @@
 use Rattle.std.specs.Prelude.{◌≡◌}
 use Rattle.std.specs.List.{AllZip}
 use Rattle.kp_signature.specs.View.{signature_view}
-use Rattle.kp_semantics.specs.Theory.{Theory}
+use Rattle.kp_kore.specs.Theory.{Theory}
 use Rattle.kp_rules.specs.Bodies.{IsCodeOf}
 use Rattle.kp_rule_sets.specs.declared.rule_set.RuleSet.{RuleSet}
 

@@ -3,7 +3,7 @@
 use Rattle.std.specs.Prelude.{Bool, true, false}
 use Rattle.std.specs.Str.{bytes_eq}
 use Rattle.kp_kore.specs.Syntax.{Text}
-use Rattle.kp_semantics.specs.Value.{Value, whole, truth, token, constructed}
+use Rattle.kp_kore.specs.Value.{Value, whole, truth, token, constructed}
 use Rattle.kp_ground.specs.LeftView.{left_view}
 use Rattle.kp_ground.specs.Terms.{LeftTerm, left_bound, left_fixed, left_built}
 use Rattle.kp_rules.specs.Skeletons.{Form, anything, nothing, any_of, one_of, fixed, built, skeleton_view}

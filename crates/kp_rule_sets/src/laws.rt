@@ -1,8 +1,8 @@
 // What the index of a rule set leaves out.
 ghost use Rattle.std.specs.Prelude.{◌≡◌, false};
 ghost use Rattle.kp_kore.specs.Signature.{KoreSignature};
-ghost use Rattle.kp_semantics.specs.Instance.{Valuation};
-ghost use Rattle.kp_semantics.specs.Value.{Value};
+ghost use Rattle.kp_kore.specs.Instance.{Valuation};
+ghost use Rattle.kp_kore.specs.Value.{Value};
 ghost use Rattle.kp_rules.specs.Heads.{Meets};
 ghost use Rattle.kp_rules.specs.Skeletons.{IsAdmitted};
 ghost use Rattle.kp_rules.specs.declared.rule.Rewrite.{Rewrite};

@@ -1,8 +1,8 @@
 // What texts spell.
+use kp_compile::{State, state_of};
 use kp_ground::Value;
 use kp_kore::{Module, Pattern, Sort};
 use kp_signature::Signature;
-use kp_states::{State, state_of};
 use kp_text::{read_module, read_pattern};
 use std::alloc::{AllocError, Global};
 use std::test::Fail;

@@ -1,11 +1,11 @@
 -- Where a rule fires, in the words of the rewrite that it is.
 use Rattle.std.proofs.Common.{◌≡◌, sym, subst, ◌∙◌, ◌↔◌}
 use Rattle.kp_kore.specs.Signature.{KoreSignature}
-use Rattle.kp_semantics.specs.Value.{Value}
-use Rattle.kp_semantics.specs.Sorted.{IsSorted}
-use Rattle.kp_semantics.specs.Instance.{Valuation, instance}
-use Rattle.kp_semantics.specs.Rules as model
-use Rattle.kp_semantics.specs.Steps.{FiresUnder}
+use Rattle.kp_kore.specs.Value.{Value}
+use Rattle.kp_kore.specs.Sorted.{IsSorted}
+use Rattle.kp_kore.specs.Instance.{Valuation, instance}
+use Rattle.kp_kore.specs.Rules as model
+use Rattle.kp_kore.specs.Steps.{FiresUnder}
 use Rattle.kp_rules.specs.Heads.{FiresAs}
 use Rattle.kp_rules.specs.Bodies.{IsRewriteOf}
 use Rattle.kp_rules.specs.declared.rule.Rewrite as code

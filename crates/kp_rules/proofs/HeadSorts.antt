@@ -3,8 +3,8 @@ use Rattle.std.proofs.Common.{◌≡◌, ◌↔◌, sym, ◌∙◌, subst, ap}
 use Rattle.std.specs.Prelude.{Some}
 use Rattle.kp_kore.specs.Syntax.{Text, KoreSort, KoreSorts, SymbolDeclaration}
 use Rattle.kp_kore.specs.Signature.{KoreSignature, IsHeadOf, symbol_declared}
-use Rattle.kp_semantics.specs.Value.{Value, whole, truth, token, constructed, Values, head_of, ArgumentSorts, HasSort, HaveSorts}
-use Rattle.kp_semantics.specs.Sorted.{IsSorted}
+use Rattle.kp_kore.specs.Value.{Value, whole, truth, token, constructed, Values, head_of, ArgumentSorts, HasSort, HaveSorts}
+use Rattle.kp_kore.specs.Sorted.{IsSorted}
 
 -- the head of a value of a sort is among the sort's heads
 pub head_by_sort : (g : KoreSignature) (s : KoreSort) (u : Value) → HasSort g s u → IsHeadOf g s (head_of u)

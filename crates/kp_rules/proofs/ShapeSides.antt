@@ -7,8 +7,8 @@ use Rattle.kp_kore.specs.Syntax.{KorePattern}
 use Rattle.kp_kore.specs.Parts.{is_term}
 use Rattle.kp_kore.specs.View.{view}
 use Rattle.kp_kore.specs.declared.pattern.Pattern.{Pattern}
-use Rattle.kp_semantics.specs.Instance.{is_predicate, conjuncts, conjoined_predicates}
-use Rattle.kp_semantics.specs.Rules.{Rewrite, only_one, constrained_term, under_binders, new_variables_of, joined}
+use Rattle.kp_kore.specs.Instance.{is_predicate, conjuncts, conjoined_predicates}
+use Rattle.kp_kore.specs.Rules.{Rewrite, only_one, constrained_term, under_binders, new_variables_of, joined}
 use Rattle.kp_rules.specs.Shapes.{seen, side_of, side_view, rewrite_seen}
 use Rattle.kp_rules.specs.declared.shape.Shape.{Shape}
 

@@ -9,13 +9,13 @@ use Rattle.kp_kore.specs.Signature.{KoreSignature, meaning_of, construction, inj
 use Rattle.kp_kore.specs.Sorting.{sort_of_term, result_sort}
 use Rattle.kp_kore.specs.View.{view, patterns_view}
 use Rattle.kp_kore.specs.declared.pattern.Pattern.{Pattern}
-use Rattle.kp_semantics.specs.Value.{Value, constructed, whole, truth, token, Values, no_values, next_value}
-use Rattle.kp_semantics.specs.Instance.{Valuation}
-use Rattle.kp_semantics.specs.Foreign.{IsAnyOf, IsAnyOfMaybe, IsConstructedBy, MayBe, MayBeAll, InjectionsSplit}
-use Rattle.kp_semantics.specs.Instance.{conjoined_predicates}
-use Rattle.kp_semantics.specs.Rules.{constrained_term}
+use Rattle.kp_kore.specs.Value.{Value, constructed, whole, truth, token, Values, no_values, next_value}
+use Rattle.kp_kore.specs.Instance.{Valuation}
+use Rattle.kp_kore.specs.Foreign.{IsAnyOf, IsAnyOfMaybe, IsConstructedBy, MayBe, MayBeAll, InjectionsSplit}
+use Rattle.kp_kore.specs.Instance.{conjoined_predicates}
+use Rattle.kp_kore.specs.Rules.{constrained_term}
 use Rattle.kp_kore.specs.Limits.{most_depth}
-use Rattle.kp_semantics.specs.Foreign.{IsSkeletonInstance}
+use Rattle.kp_kore.specs.Foreign.{IsSkeletonInstance}
 use Rattle.kp_rules.specs.Shapes.{side_of}
 use Rattle.kp_rules.specs.Skeletons.{IsAdmitted, Form, built, nothing, any_form, maybe_form, forms_of, skeleton_view, Admits, AdmitAll, StandsFor, StandForAll, StandsForFirst}
 use Rattle.kp_rules.specs.declared.skeleton.Skeleton.{Skeleton}

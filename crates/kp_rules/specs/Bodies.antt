@@ -9,12 +9,12 @@ use Rattle.kp_kore.specs.Sorting.{sort_of_term}
 use Rattle.kp_kore.specs.View.{view, sort_view, sorted_variable_view}
 use Rattle.kp_signature.specs.Places.{Place}
 use Rattle.kp_signature.specs.Verify.{first_fault, VerifyFault, FailsWith}
-use Rattle.kp_semantics.specs.Value.{Value, HasSort}
-use Rattle.kp_semantics.specs.Sorted.{IsSorted}
-use Rattle.kp_semantics.specs.Instance.{Valuation, instance, IsTrueUnder, GivesSorts}
-use Rattle.kp_semantics.specs.Rules as model
-use Rattle.kp_semantics.specs.Foreign.{none_within, has_foreign_head, applies_undeclared, has_interpreted_head, IsRead, Reads, IsSkeletonInstance}
-use Rattle.kp_semantics.specs.Numbers.{computes_wide}
+use Rattle.kp_kore.specs.Value.{Value, HasSort}
+use Rattle.kp_kore.specs.Sorted.{IsSorted}
+use Rattle.kp_kore.specs.Instance.{Valuation, instance, IsTrueUnder, GivesSorts}
+use Rattle.kp_kore.specs.Rules as model
+use Rattle.kp_kore.specs.Foreign.{none_within, has_foreign_head, applies_undeclared, has_interpreted_head, IsRead, Reads, IsSkeletonInstance}
+use Rattle.kp_kore.specs.Numbers.{computes_wide}
 use Rattle.kp_ground.specs.Conditions.{condition_holds, condition_narrow as is_condition_narrow}
 use Rattle.kp_ground.specs.ConditionView.{condition_view}
 use Rattle.kp_compile.specs.Exact.{IsLeftOf, IsTermOf, IsNarrowAs}

@@ -4,8 +4,8 @@ use Rattle.std.specs.List.{AllByRecursion}
 use Rattle.std.specs.declared.alloc.Global.{Global}
 use Rattle.kp_kore.specs.Signature.{KoreSignature, IsHeadOf}
 use Rattle.kp_kore.specs.View.{sort_view}
-use Rattle.kp_semantics.specs.Value as model
-use Rattle.kp_semantics.specs.Instance.{Valuation}
+use Rattle.kp_kore.specs.Value as model
+use Rattle.kp_kore.specs.Instance.{Valuation}
 use Rattle.kp_ground.specs.Terms.{left_value}
 use Rattle.kp_ground.specs.LeftView.{left_view}
 use Rattle.kp_ground.specs.Conditions.{condition_holds, condition_narrow}

@@ -2,7 +2,7 @@
 -- Source: matching logic's terms; K's inj, which is an identity.
 use Rattle.kp_kore.specs.Syntax.{Text, KorePattern, KorePatterns, variable, literal, application, no_patterns, next_pattern}
 use Rattle.kp_kore.specs.Signature.{KoreSignature, SymbolMeaning, injection, construction, interpretation, foreign, meaning_of}
-use Rattle.kp_semantics.specs.Instance.{literal_value}
+use Rattle.kp_kore.specs.Instance.{literal_value}
 use Rattle.kp_rules.specs.Skeletons.{Form, nothing, one_of, fixed, built, Forms, no_forms, next_form}
 
 abbrev pub only_form : Forms → Form

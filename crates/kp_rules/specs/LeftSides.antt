@@ -4,9 +4,9 @@ use Rattle.std.specs.Prelude.{◌≡◌, ◌↔◌, IsTrue}
 use Rattle.std.specs.List.{AllByRecursion, list_all}
 use Rattle.kp_kore.specs.Parts.{free_variables}
 use Rattle.kp_kore.specs.Signature.{KoreSignature}
-use Rattle.kp_semantics.specs.Value.{Value}
-use Rattle.kp_semantics.specs.Instance.{Valuation, instance, GivesSorts, AgreesOn, is_named}
-use Rattle.kp_semantics.specs.Rules.{Rewrite}
+use Rattle.kp_kore.specs.Value.{Value}
+use Rattle.kp_kore.specs.Instance.{Valuation, instance, GivesSorts, AgreesOn, is_named}
+use Rattle.kp_kore.specs.Rules.{Rewrite}
 use Rattle.kp_rules.specs.Skeletons.{Form, Admits}
 
 -- the configuration is the left term's instance, whose variables have values of their sorts

@@ -4,8 +4,8 @@ use Rattle.std.specs.Option.{option_map}
 use Rattle.kp_kore.specs.Syntax.{KorePattern}
 use Rattle.kp_kore.specs.Parts.{SortedName}
 use Rattle.kp_kore.specs.View.{view, sort_view}
-use Rattle.kp_semantics.specs.Instance.{conjoined_predicates}
-use Rattle.kp_semantics.specs.Rules.{Rewrite, constrained_term, new_variables_of}
+use Rattle.kp_kore.specs.Instance.{conjoined_predicates}
+use Rattle.kp_kore.specs.Rules.{Rewrite, constrained_term, new_variables_of}
 pub use Rattle.kp_compile.specs.Parts.{seen}
 use Rattle.kp_rules.specs.declared.shape.Binder.{Binder}
 use Rattle.kp_rules.specs.declared.shape.Side.{Side}

@@ -3,7 +3,7 @@
 use Rattle.std.specs.Prelude.{◌≡◌, map}
 use Rattle.kp_kore.specs.Signature.{KoreSignature}
 use Rattle.kp_kore.specs.View.{view, sorted_variable_view}
-use Rattle.kp_semantics.specs.Rules.{Rewrite}
+use Rattle.kp_kore.specs.Rules.{Rewrite}
 use Rattle.kp_rules.specs.Skeletons.{skeleton_view}
 use Rattle.kp_rules.specs.LeftForms.{left_form}
 use Rattle.kp_rules.specs.LeftSides.{IsLeftSide, IsOverLeft}

@@ -3,9 +3,9 @@ use Rattle.std.specs.Prelude.{◌≡◌, ◌↔◌, ℕ, List, [], ◌∷◌, ma
 use Rattle.kp_kore.specs.Syntax.{Text, KoreSort, sort_of, sort_variable, KorePattern, KorePatterns}
 use Rattle.kp_kore.specs.Signature.{KoreSignature, IsHeadOf}
 use Rattle.kp_kore.specs.View.{sort_view}
-use Rattle.kp_semantics.specs.Value.{Value, Values, no_values, next_value, HasSort, head_of}
-use Rattle.kp_semantics.specs.Instance.{Valuation, literal_value}
-use Rattle.kp_semantics.specs.Foreign.{IsConstructedBy, MayBe, MayBeAll, MayBeOnly, writes_value}
+use Rattle.kp_kore.specs.Value.{Value, Values, no_values, next_value, HasSort, head_of}
+use Rattle.kp_kore.specs.Instance.{Valuation, literal_value}
+use Rattle.kp_kore.specs.Foreign.{IsConstructedBy, MayBe, MayBeAll, MayBeOnly, writes_value}
 use Rattle.kp_ground.specs.Solves.{Solves}
 use Rattle.kp_ground.specs.View.{value_view}
 use Rattle.kp_ground.specs.declared.binding.Binding.{Binding}

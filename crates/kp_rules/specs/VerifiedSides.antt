@@ -5,8 +5,8 @@ use Rattle.std.specs.List.{list_all, AllByRecursion}
 use Rattle.kp_kore.specs.Syntax.{KorePattern}
 use Rattle.kp_kore.specs.Parts.{SortedName, free_variables}
 use Rattle.kp_kore.specs.Signature.{KoreSignature}
-use Rattle.kp_semantics.specs.Instance.{is_predicate, is_named}
-use Rattle.kp_semantics.specs.Rules.{Rewrite}
+use Rattle.kp_kore.specs.Instance.{is_predicate, is_named}
+use Rattle.kp_kore.specs.Rules.{Rewrite}
 use Rattle.kp_signature.specs.Places.{sort_in_scope}
 use Rattle.kp_compile.specs.Verified.{IsVerified, IsVerifiedTerm, IsVerifiedLeftTerm, IsVerifiedPredicate}
 use Rattle.kp_rules.specs.Known.{is_among}

@@ -5,8 +5,8 @@ use Rattle.std.specs.List.{list_all, list_any}
 use Rattle.kp_kore.specs.Syntax.{KorePattern}
 use Rattle.kp_kore.specs.Parts.{SortedName, free_variables, subpatterns}
 use Rattle.kp_kore.specs.Signature.{KoreSignature}
-use Rattle.kp_semantics.specs.Instance.{Valuation, is_named}
-use Rattle.kp_semantics.specs.Numbers.{computes_wide}
+use Rattle.kp_kore.specs.Instance.{Valuation, is_named}
+use Rattle.kp_kore.specs.Numbers.{computes_wide}
 use Rattle.kp_ground.specs.Terms.{stays_narrow}
 use Rattle.kp_ground.specs.TermView.{term_view}
 use Rattle.kp_ground.specs.declared.term.Term.{Term}

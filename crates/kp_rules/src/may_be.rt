@@ -3,9 +3,9 @@ ghost use Rattle.std.specs.Prelude.{◌≡◌, ◌≢◌, ◌↔◌, IfOk, IfSom
 ghost use Rattle.kp_kore.specs.Signature.{IsHeadOf};
 ghost use Rattle.kp_kore.specs.View.{sort_view};
 ghost use Rattle.kp_signature.specs.View.{signature_view};
-ghost use Rattle.kp_semantics.specs.Value.{head_of};
-ghost use Rattle.kp_semantics.specs.Sorted.{IsSorted};
-ghost use Rattle.kp_semantics.specs.Instance.{Valuation};
+ghost use Rattle.kp_kore.specs.Value.{head_of};
+ghost use Rattle.kp_kore.specs.Sorted.{IsSorted};
+ghost use Rattle.kp_kore.specs.Instance.{Valuation};
 ghost use Rattle.kp_ground.specs.Matches.{Matches};
 ghost use Rattle.kp_ground.specs.Solves.{Solves};
 ghost use Rattle.kp_ground.specs.View.{value_view, values_of};

@@ -3,7 +3,7 @@ ghost use Rattle.std.specs.Prelude.{◌≡◌, true, map};
 ghost use Rattle.std.specs.List.{list_all};
 ghost use Rattle.std.proofs.Props.{props};
 ghost use Rattle.kp_kore.specs.View.{view, sorted_variable_view};
-ghost use Rattle.kp_semantics.specs.Instance.{is_named as named_among};
+ghost use Rattle.kp_kore.specs.Instance.{is_named as named_among};
 ghost use Rattle.kp_ground.specs.Slots.{term_reads};
 ghost use Rattle.kp_compile.specs.Exact.{are_named};
 ghost use Rattle.kp_compile.specs.Names.{names_seen};

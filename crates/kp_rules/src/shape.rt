@@ -5,8 +5,8 @@ ghost use Rattle.std.specs.Option.{option_map};
 ghost use Rattle.kp_kore.specs.Syntax.{KoreSort, KorePattern, rewriting};
 ghost use Rattle.kp_kore.specs.Parts.{is_term as term_test};
 ghost use Rattle.kp_kore.specs.View.{view, patterns_view};
-ghost use Rattle.kp_semantics.specs.Instance.{is_named as named_among, conjuncts as conjuncts_of, all_conjuncts, is_predicate as predicate_test};
-ghost use Rattle.kp_semantics.specs.Rules.{only_one, top_binders, under_binders as what_is_bound, have_distinct_names, rewrite_of, constrained_term, joined as joined_sides};
+ghost use Rattle.kp_kore.specs.Instance.{is_named as named_among, conjuncts as conjuncts_of, all_conjuncts, is_predicate as predicate_test};
+ghost use Rattle.kp_kore.specs.Rules.{only_one, top_binders, under_binders as what_is_bound, have_distinct_names, rewrite_of, constrained_term, joined as joined_sides};
 ghost use Rattle.kp_rules.specs.Shapes.{seen, variables_seen, side_of, side_view, rewrite_seen};
 
 use crate::form::is_predicate;

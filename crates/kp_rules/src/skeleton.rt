@@ -7,11 +7,11 @@ ghost use Rattle.kp_kore.specs.Sorting.{at_arguments, result_sort, sort_of_term}
 ghost use Rattle.kp_kore.specs.Syntax.{variable as variable_of, literal as literal_of};
 ghost use Rattle.kp_kore.specs.View.{view, patterns_view, sort_view, sorts_view, names_view};
 ghost use Rattle.kp_signature.specs.View.{signature_view};
-ghost use Rattle.kp_semantics.specs.Value as model;
-ghost use Rattle.kp_semantics.specs.Sorted.{IsSorted};
+ghost use Rattle.kp_kore.specs.Value as model;
+ghost use Rattle.kp_kore.specs.Sorted.{IsSorted};
 ghost use Rattle.kp_kore.specs.Limits.{writes_number, fits_number};
-ghost use Rattle.kp_semantics.specs.Foreign.{IsSkeletonInstance};
-ghost use Rattle.kp_semantics.specs.Rules.{constrained_term};
+ghost use Rattle.kp_kore.specs.Foreign.{IsSkeletonInstance};
+ghost use Rattle.kp_kore.specs.Rules.{constrained_term};
 ghost use Rattle.kp_ground.specs.View.{value_view};
 ghost use Rattle.kp_sort_index.specs.Index.{IsIndexOf};
 ghost use Rattle.kp_rules.specs.Skeletons.{skeleton_view, any_form, maybe_form, one_of, built as built_form, nothing as nothing_form, Writes, forms_of, StandsFor, StandForAll, StandsForFirst, IsAdmitted};

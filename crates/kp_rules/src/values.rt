@@ -5,7 +5,7 @@ ghost use Rattle.kp_kore.specs.Syntax.{KoreSort, sort_of, no_sorts};
 ghost use Rattle.kp_kore.specs.Signature.{IsHeadOf, constructor_of, tokens, construction, meaning_of as meaning_named};
 ghost use Rattle.kp_kore.specs.View.{sort_view};
 ghost use Rattle.kp_signature.specs.View.{signature_view};
-ghost use Rattle.kp_semantics.specs.Value.{head_of};
+ghost use Rattle.kp_kore.specs.Value.{head_of};
 ghost use Rattle.kp_ground.specs.View.{value_view};
 ghost use Rattle.kp_rules.specs.OwnSorts.{IsBelowSome};
 

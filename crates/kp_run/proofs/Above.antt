@@ -1,8 +1,8 @@
 -- A value of a sort has each sort above.
 use Rattle.kp_kore.specs.Syntax.{KoreSort}
 use Rattle.kp_kore.specs.Signature.{KoreSignature, IsBelow, Head, IsHeadOf, integers, booleans, tokens, constructor_of}
-use Rattle.kp_subsorts.proofs.Below.{onwards}
-use Rattle.kp_semantics.specs.Value.{Value, whole, truth, token, constructed, HasSort}
+use Rattle.kp_signature.proofs.Below.{onwards}
+use Rattle.kp_kore.specs.Value.{Value, whole, truth, token, constructed, HasSort}
 
 head_above : (g : KoreSignature) (a b : KoreSort) (h : Head) → IsBelow g.subsorts a b → IsHeadOf g a h → IsHeadOf g b h
 head_above g a b h up k = (k.0, k.1, onwards g.subsorts k.0 a b k.2 up)

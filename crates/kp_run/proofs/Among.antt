@@ -1,7 +1,7 @@
 -- One member of a list and all others; lists place by place.
 use Rattle.std.proofs.Common.{List, [], ◌∷◌, ◌++◌, inl, inr}
 use Rattle.std.specs.List.{AllByRecursion, AllZip}
-use Rattle.kp_semantics.specs.Steps.{AnyByRecursion}
+use Rattle.kp_kore.specs.Steps.{AnyByRecursion}
 use Rattle.kp_ground.proofs.MatchLemmas.{AllByRecursion-push}
 use Rattle.kp_run.specs.Causes.{TwoAmong}
 use Rattle.kp_run.specs.Runs.{OneBetween}

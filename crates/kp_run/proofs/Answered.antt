@@ -8,12 +8,12 @@ use Rattle.kp_kore.specs.Signature.{KoreSignature, IsBelow}
 use Rattle.kp_kore.specs.Sorting.{sort_of_term}
 use Rattle.kp_kore.specs.View.{sort_view}
 use Rattle.kp_signature.specs.View.{signature_view}
-use Rattle.kp_semantics.specs.Value.{Value}
-use Rattle.kp_semantics.specs.Sorted.{IsSorted}
+use Rattle.kp_kore.specs.Value.{Value}
+use Rattle.kp_kore.specs.Sorted.{IsSorted}
 use Rattle.kp_kore.specs.Limits.{most_depth}
-use Rattle.kp_semantics.specs.Rules as model
-use Rattle.kp_semantics.specs.Theory.{Theory}
-use Rattle.kp_semantics.specs.Steps.{AnyByRecursion, Fires, HasTurn}
+use Rattle.kp_kore.specs.Rules as model
+use Rattle.kp_kore.specs.Theory.{Theory}
+use Rattle.kp_kore.specs.Steps.{AnyByRecursion, Fires, HasTurn}
 use Rattle.kp_ground.specs.Terms.{stays_narrow}
 use Rattle.kp_ground.specs.TermView.{term_view}
 use Rattle.kp_ground.specs.View.{value_view}
@@ -23,10 +23,10 @@ use Rattle.kp_rules.specs.declared.rule.RuleBody.{RuleBody}
 use Rattle.kp_rules.specs.declared.rule.RuleBody.TheVariants.{Rewrite, Foreign}
 use Rattle.kp_rule_sets.specs.declared.rule_set.RuleSet.{RuleSet}
 use Rattle.kp_rules.proofs.Fired.{fired_under}
-use Rattle.kp_states.specs.declared.state.State.{State}
+use Rattle.kp_compile.specs.declared.state.State.{State}
 use Rattle.kp_run.specs.declared.firing.Firing.{Firing}
 use Rattle.kp_run.specs.Runs.{IsStuck, written_of}
-use Rattle.kp_states.specs.Spelled.{spelling}
+use Rattle.kp_compile.specs.Spelled.{spelling}
 use Rattle.kp_run.specs.Causes.{HasWideCondition, WideRight, HasWideRight, Chooses, IsWrittenAt, IsWrittenAs, IsWrittenBy, StepsTooDeep, IsNotStepped, wide_condition, several, chooses, wide_right, deep}
 use Rattle.kp_run.specs.Turns.{BodyIsWide, IsAfterFiring, IsFollowed}
 use Rattle.kp_run.proofs.Among.{one_all, one_any, of_some, none_in, zip_any_back, no_two, one_not_two}

@@ -4,12 +4,12 @@ use Rattle.std.specs.List.{AllByRecursion}
 use Rattle.kp_kore.specs.Signature.{KoreSignature}
 use Rattle.kp_kore.specs.View.{sort_view}
 use Rattle.kp_signature.specs.View.{signature_view}
-use Rattle.kp_semantics.specs.Value.{Value}
-use Rattle.kp_semantics.specs.Sorted.{IsSorted}
-use Rattle.kp_semantics.specs.Instance.{Valuation, instance}
-use Rattle.kp_semantics.specs.Rules as model
-use Rattle.kp_semantics.specs.Theory.{Theory}
-use Rattle.kp_semantics.specs.Steps.{Fires, HasTurn, NoneBefore, IsUnknown, AnyByRecursion}
+use Rattle.kp_kore.specs.Value.{Value}
+use Rattle.kp_kore.specs.Sorted.{IsSorted}
+use Rattle.kp_kore.specs.Instance.{Valuation, instance}
+use Rattle.kp_kore.specs.Rules as model
+use Rattle.kp_kore.specs.Theory.{Theory}
+use Rattle.kp_kore.specs.Steps.{Fires, HasTurn, NoneBefore, IsUnknown, AnyByRecursion}
 use Rattle.kp_ground.specs.Solves.{Solves}
 use Rattle.kp_ground.specs.Terms.{stays_narrow}
 use Rattle.kp_ground.specs.TermView.{term_view}
@@ -21,7 +21,7 @@ use Rattle.kp_rules.specs.declared.rule.RuleBody.{RuleBody}
 use Rattle.kp_rules.specs.declared.rule.RuleBody.TheVariants.{Rewrite, Foreign}
 use Rattle.kp_rule_sets.specs.declared.rule_set.RuleSet.{RuleSet}
 use Rattle.kp_rules.proofs.Fired.{fired_under}
-use Rattle.kp_states.specs.declared.state.State.{State}
+use Rattle.kp_compile.specs.declared.state.State.{State}
 use Rattle.kp_run.specs.declared.firing.Firing.{Firing}
 use Rattle.kp_run.specs.declared.step.Turn.TheVariants.{Several}
 use Rattle.kp_run.specs.Causes.{HasWideCondition, HasWideRight, Chooses, IsWrittenAt, IsWrittenBy, StepsTooDeep, IsNotStepped, wide_condition, several, chooses, wide_right, deep}

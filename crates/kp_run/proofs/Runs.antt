@@ -4,15 +4,15 @@ use Rattle.std.specs.Prelude.{not, string_bytes}
 use Rattle.std.specs.List.{AllByRecursion, filter}
 use Rattle.kp_kore.specs.Syntax.{Text, KorePattern}
 use Rattle.kp_kore.specs.Parts.{SortedName, free_variables}
-use Rattle.kp_semantics.specs.Value.{Value, truth}
-use Rattle.kp_semantics.specs.Instance.{Valuation, GivesSorts, is_named}
-use Rattle.kp_semantics.specs.Rules.{RewriteRule}
-use Rattle.kp_semantics.specs.Theory.{Theory}
-use Rattle.kp_semantics.specs.Steps.{Fires, Steps, StepsBy, StepsIn, IsFinal, HasTurn, IsUnknown, IsUnknownBy, AnyByRecursion}
-use Rattle.kp_semantics.specs.Executions.{Options, listed_in, IsRightExecuted}
-use Rattle.kp_semantics.specs.Ground.{executed_of}
-use Rattle.kp_semantics.proofs.GroundReplies.{ground_is_right}
-use Rattle.kp_semantics.specs.Replies.{IsComputed, After, IsAfter, HasInstance, MeetsSkeleton, IsRightReason, is_listed, variables_beyond, IsFreshName, IsAbsent}
+use Rattle.kp_kore.specs.Value.{Value, truth}
+use Rattle.kp_kore.specs.Instance.{Valuation, GivesSorts, is_named}
+use Rattle.kp_kore.specs.Rules.{RewriteRule}
+use Rattle.kp_kore.specs.Theory.{Theory}
+use Rattle.kp_kore.specs.Steps.{Fires, Steps, StepsBy, StepsIn, IsFinal, HasTurn, IsUnknown, IsUnknownBy, AnyByRecursion}
+use Rattle.kp_kore.specs.Executions.{Options, listed_in, IsRightExecuted}
+use Rattle.kp_kore.specs.Ground.{executed_of}
+use Rattle.kp_kore.proofs.GroundReplies.{ground_is_right}
+use Rattle.kp_kore.specs.Replies.{IsComputed, After, IsAfter, HasInstance, MeetsSkeleton, IsRightReason, is_listed, variables_beyond, IsFreshName, IsAbsent}
 use Rattle.kp_ground.specs.View.{value_view}
 use Rattle.kp_run.specs.declared.run.Executed.{Executed}
 use Rattle.kp_run.specs.declared.run.Stop.{Stop}

@@ -1,7 +1,7 @@
 -- The rule that has its turn was matched against the value.
 use Rattle.std.proofs.Common.{ℕ, List, [], ◌∷◌, inl, inr}
 use Rattle.kp_kore.specs.Signature.{KoreSignature}
-use Rattle.kp_semantics.specs.Value.{Value}
+use Rattle.kp_kore.specs.Value.{Value}
 use Rattle.kp_rules.specs.declared.rule.Rule.{Rule}
 use Rattle.kp_run.specs.Shallow.{IsMatchOf}
 use Rattle.kp_run.specs.Turns.{IsFiring, GoesAfter, OneAmong}

@@ -4,11 +4,11 @@ use Rattle.std.specs.Prelude.{◌⊎◌, Result, Ok, Err, IfErr}
 use Rattle.kp_kore.specs.Syntax.{KoreSort}
 use Rattle.kp_kore.specs.Signature.{KoreSignature}
 use Rattle.kp_kore.specs.Attributes.{sorts_equal}
-use Rattle.kp_semantics.specs.Value.{Value}
-use Rattle.kp_semantics.specs.Rules.{RuleBody, rewrite, foreign_rule}
-use Rattle.kp_semantics.specs.Theory.{Theory}
-use Rattle.kp_semantics.specs.Steps.{HasTurn, IsUnknown, StepsBy, Steps}
-use Rattle.kp_semantics.proofs.SameLemmas.{sorts_equal-Decides}
+use Rattle.kp_kore.specs.Value.{Value}
+use Rattle.kp_kore.specs.Rules.{RuleBody, rewrite, foreign_rule}
+use Rattle.kp_kore.specs.Theory.{Theory}
+use Rattle.kp_kore.specs.Steps.{HasTurn, IsUnknown, StepsBy, Steps}
+use Rattle.kp_kore.proofs.SameLemmas.{sorts_equal-Decides}
 use Rattle.kp_run.specs.Causes.{TwoAmong, Written, IsWrittenBy, IsNotStepped, several, IsNextState, IsStateIn, StopsUntold}
 use Rattle.kp_run.specs.declared.error.RunError.{RunError}
 use Rattle.kp_run.specs.declared.error.RunError.TheVariants.{NotAnswered}

@@ -1,7 +1,7 @@
 -- Places that are taken one after the other.
 use Rattle.std.proofs.Common.{◌≡◌, refl, sym, ap, subst, ◌∙◌, ℕ, Bool, List, [], ◌∷◌, ◌++◌, Option, Some, None, slice_get}
 use Rattle.std.specs.List.{AllByRecursion}
-use Rattle.kp_semantics.specs.Steps.{AnyByRecursion}
+use Rattle.kp_kore.specs.Steps.{AnyByRecursion}
 use Rattle.kp_rules.specs.declared.rule.Rule.{Rule}
 use Rattle.kp_rule_sets.specs.Turns.{AreInTurn, with_first, rules_among}
 use Rattle.kp_rule_sets.proofs.Chosen.{among_more, any_at}

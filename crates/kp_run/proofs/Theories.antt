@@ -7,13 +7,13 @@ use Rattle.kp_kore.specs.Parts.{SortedName, free_variables}
 use Rattle.kp_kore.specs.Signature.{KoreSignature}
 use Rattle.kp_kore.specs.View.{sort_view}
 use Rattle.kp_signature.specs.View.{signature_view}
-use Rattle.kp_semantics.specs.Value.{Value, HasSort}
-use Rattle.kp_semantics.specs.Sorted.{IsSorted}
-use Rattle.kp_semantics.specs.Instance.{Valuation, instance, IsTrueUnder, GivesSorts, AgreesOn, AgreesOff}
-use Rattle.kp_semantics.specs.Rules as model
-use Rattle.kp_semantics.specs.Theory.{Theory}
-use Rattle.kp_semantics.specs.Steps.{Fires, FiresUnder, LeadsTo, Rewrites, Steps, StepsBy, NoneBefore, NoneFires, IsUnknown, IsUnknownBy}
-use Rattle.kp_semantics.proofs.InstanceLemmas.{same_instance}
+use Rattle.kp_kore.specs.Value.{Value, HasSort}
+use Rattle.kp_kore.specs.Sorted.{IsSorted}
+use Rattle.kp_kore.specs.Instance.{Valuation, instance, IsTrueUnder, GivesSorts, AgreesOn, AgreesOff}
+use Rattle.kp_kore.specs.Rules as model
+use Rattle.kp_kore.specs.Theory.{Theory}
+use Rattle.kp_kore.specs.Steps.{Fires, FiresUnder, LeadsTo, Rewrites, Steps, StepsBy, NoneBefore, NoneFires, IsUnknown, IsUnknownBy}
+use Rattle.kp_kore.proofs.InstanceLemmas.{same_instance}
 use Rattle.kp_ground.specs.Solves.{Solves}
 use Rattle.kp_ground.specs.View.{value_view}
 use Rattle.kp_rules.specs.Heads.{FiresAs}
@@ -25,7 +25,7 @@ use Rattle.kp_rules.specs.declared.rule.RuleBody.TheVariants.{Rewrite, Foreign}
 use Rattle.kp_rules.specs.declared.rule.Rewrite as code
 use Rattle.kp_rule_sets.specs.declared.rule_set.RuleSet.{RuleSet}
 use Rattle.kp_rules.proofs.Fired.{fired_under}
-use Rattle.kp_states.specs.declared.state.State.{State}
+use Rattle.kp_compile.specs.declared.state.State.{State}
 use Rattle.kp_run.specs.declared.firing.Firing.{Firing}
 use Rattle.kp_rules.specs.declared.skeleton.Skeleton.{Skeleton}
 use Rattle.kp_run.specs.Runs.{IsAt, IsStuck, IsUnknownAs, IsFirstUnknown, kept_priority, GoesOnlyTo}

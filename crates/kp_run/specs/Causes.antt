@@ -6,15 +6,15 @@ use Rattle.kp_kore.specs.Syntax.{KoreSort}
 use Rattle.kp_kore.specs.Parts.{free_variables, term_depth}
 use Rattle.kp_kore.specs.Signature.{KoreSignature, IsBelow}
 use Rattle.kp_kore.specs.Sorting.{sort_of_term}
-use Rattle.kp_semantics.specs.Value.{Value}
-use Rattle.kp_semantics.specs.Instance.{Valuation, instance, GivesSorts}
-use Rattle.kp_semantics.specs.Rules.{Rewrite, RuleBody, rewrite, foreign_rule, RewriteRule}
+use Rattle.kp_kore.specs.Value.{Value}
+use Rattle.kp_kore.specs.Instance.{Valuation, instance, GivesSorts}
+use Rattle.kp_kore.specs.Rules.{Rewrite, RuleBody, rewrite, foreign_rule, RewriteRule}
 use Rattle.kp_kore.specs.Limits.{most_depth}
-use Rattle.kp_semantics.specs.Numbers.{computes_wide}
-use Rattle.kp_semantics.specs.Theory.{Theory}
-use Rattle.kp_semantics.specs.Steps.{AnyByRecursion, FiresUnder, HasTurn, IsUnknown, Steps, StepsBy}
+use Rattle.kp_kore.specs.Numbers.{computes_wide}
+use Rattle.kp_kore.specs.Theory.{Theory}
+use Rattle.kp_kore.specs.Steps.{AnyByRecursion, FiresUnder, HasTurn, IsUnknown, Steps, StepsBy}
 use Rattle.kp_rules.specs.Bodies.{IsPlain}
-use Rattle.kp_states.specs.Spelled.{spelling}
+use Rattle.kp_compile.specs.Spelled.{spelling}
 
 -- P of two places of the list
 abbrev pub TwoAmong : {X : Type 0} → (X → Type 0) → List X → Type 0

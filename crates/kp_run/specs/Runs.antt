@@ -6,14 +6,14 @@ use Rattle.std.specs.declared.alloc.Global.{Global}
 use Rattle.kp_kore.specs.Signature.{KoreSignature}
 use Rattle.kp_kore.specs.View.{sort_view}
 use Rattle.kp_kore.specs.Syntax.{Text, KorePattern}
-use Rattle.kp_semantics.specs.Value.{Value, HasSort}
-use Rattle.kp_semantics.specs.Instance.{Valuation, IsInstance}
-use Rattle.kp_semantics.specs.Theory.{Theory}
-use Rattle.kp_semantics.specs.Rules.{RewriteRule, most_priority}
-use Rattle.kp_semantics.specs.Steps.{Steps, NoneFires, IsUnknown, IsUnknownBy}
-use Rattle.kp_semantics.specs.Replies.{Reason, stuck, depth_bound, aborted_by_rule}
+use Rattle.kp_kore.specs.Value.{Value, HasSort}
+use Rattle.kp_kore.specs.Instance.{Valuation, IsInstance}
+use Rattle.kp_kore.specs.Theory.{Theory}
+use Rattle.kp_kore.specs.Rules.{RewriteRule, most_priority}
+use Rattle.kp_kore.specs.Steps.{Steps, NoneFires, IsUnknown, IsUnknownBy}
+use Rattle.kp_kore.specs.Replies.{Reason, stuck, depth_bound, aborted_by_rule}
 use Rattle.kp_ground.specs.View.{value_view}
-use Rattle.kp_states.specs.declared.state.State.{State}
+use Rattle.kp_compile.specs.declared.state.State.{State}
 use Rattle.kp_run.specs.declared.run.Executed.{Executed}
 use Rattle.kp_run.specs.declared.run.Stop.{Stop}
 use Rattle.kp_run.specs.declared.run.Stop.TheVariants.{Stuck, DepthBound, ForeignRule}

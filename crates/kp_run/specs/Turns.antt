@@ -6,8 +6,8 @@ use Rattle.kp_kore.specs.Syntax.{KoreSort}
 use Rattle.kp_kore.specs.Parts.{term_depth}
 use Rattle.kp_kore.specs.Signature.{KoreSignature}
 use Rattle.kp_kore.specs.View.{sort_view}
-use Rattle.kp_semantics.specs.Value.{Value, HasSort}
-use Rattle.kp_semantics.specs.Instance.{Valuation}
+use Rattle.kp_kore.specs.Value.{Value, HasSort}
+use Rattle.kp_kore.specs.Instance.{Valuation}
 use Rattle.kp_kore.specs.Limits.{most_depth}
 use Rattle.kp_ground.specs.Solves.{Solves}
 use Rattle.kp_ground.specs.Terms.{term_value, stays_narrow}
@@ -18,8 +18,8 @@ use Rattle.kp_rules.specs.Skeletons.{IsAdmitted}
 use Rattle.kp_rules.specs.declared.rule.Rule.{Rule}
 use Rattle.kp_rules.specs.declared.rule.RuleBody.{RuleBody}
 use Rattle.kp_rules.specs.declared.rule.RuleBody.TheVariants.{Rewrite, Foreign}
-use Rattle.kp_states.specs.Spelled.{spelling}
-use Rattle.kp_states.specs.declared.state.State.{State}
+use Rattle.kp_compile.specs.Spelled.{spelling}
+use Rattle.kp_compile.specs.declared.state.State.{State}
 use Rattle.kp_run.specs.Causes.{TwoAmong, IsWrittenAt}
 use Rattle.kp_run.specs.Runs.{OneBetween}
 use Rattle.kp_run.specs.declared.firing.Firing.{Firing}

@@ -1,6 +1,6 @@
 // Whether a value has the shape of a left term, before any variable is bound.
 ghost use Rattle.std.specs.Prelude.{◌≡◌, ◌↔◌, IsTrue, string_bytes};
-ghost use Rattle.kp_semantics.specs.Instance.{Valuation};
+ghost use Rattle.kp_kore.specs.Instance.{Valuation};
 ghost use Rattle.kp_ground.specs.LeftView.{left_view};
 ghost use Rattle.kp_ground.specs.Matches.{AreSame, IsSame};
 ghost use Rattle.kp_ground.specs.View.{value_view};

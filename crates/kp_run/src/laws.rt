@@ -2,11 +2,11 @@
 ghost use Rattle.std.specs.Prelude.{◌≡◌, []};
 ghost use Rattle.kp_kore.specs.Syntax.{KorePattern};
 ghost use Rattle.kp_kore.specs.Parts.{free_variables};
-ghost use Rattle.kp_semantics.specs.Value.{Value};
-ghost use Rattle.kp_semantics.specs.Theory.{Theory};
-ghost use Rattle.kp_semantics.specs.Replies.{IsComputed};
-ghost use Rattle.kp_semantics.specs.Executions.{Options, listed_in, IsRightExecuted};
-ghost use Rattle.kp_semantics.specs.Ground.{executed_of};
+ghost use Rattle.kp_kore.specs.Value.{Value};
+ghost use Rattle.kp_kore.specs.Theory.{Theory};
+ghost use Rattle.kp_kore.specs.Replies.{IsComputed};
+ghost use Rattle.kp_kore.specs.Executions.{Options, listed_in, IsRightExecuted};
+ghost use Rattle.kp_kore.specs.Ground.{executed_of};
 ghost use Rattle.kp_ground.specs.View.{value_view};
 ghost use Rattle.kp_run.specs.Runs.{IsRunOf, IsOnlyInstance, reason_of};
 ghost use Rattle.kp_run.specs.declared.run.Executed.{Executed};

@@ -1,5 +1,5 @@
 ghost use Rattle.std.specs.Prelude.{◌≡◌, ◌<◌, ◌≤◌, IfOk, IfErr, String};
-ghost use Rattle.kp_semantics.specs.Theory.{Theory};
+ghost use Rattle.kp_kore.specs.Theory.{Theory};
 ghost use Rattle.kp_ground.specs.View.{value_view};
 ghost use Rattle.kp_rule_sets.specs.RuleSets.{RunsAs};
 ghost use Rattle.kp_run.specs.Causes.{IsStateIn, StopsUntold};
@@ -9,9 +9,9 @@ ghost use Rattle.kp_run.specs.declared.run.Stop.TheVariants.{Stuck, DepthBound, 
 
 use crate::error::RunError;
 use crate::step::{Next, next_of};
+use kp_compile::State;
 use kp_depths::depths_of;
 use kp_rule_sets::RuleSet;
-use kp_states::State;
 use std::alloc::Global;
 
 /// Why a run ends.

@@ -10,15 +10,15 @@ use Rattle.kp_kore.specs.Signature.{KoreSignature, injection, meaning_of}
 use Rattle.kp_kore.specs.View.{sort_view}
 use Rattle.kp_ground.specs.View.{value_view}
 use Rattle.kp_json.specs.Trees.{SpellsWrapped}
-use Rattle.kp_semantics.specs.Value.{Value, HasSort, truth}
-use Rattle.kp_semantics.specs.Instance.{Valuation, instance}
-use Rattle.kp_semantics.specs.Foreign.{none_within}
-use Rattle.kp_semantics.specs.Replies as three
-use Rattle.kp_semantics.specs.Ground.{executed_of, reason_of as reason_among_seven}
-use Rattle.kp_semantics.proofs.GroundReplies.{ground_is_right}
-use Rattle.kp_semantics.specs.Rules.{RewriteRule}
-use Rattle.kp_semantics.specs.Steps.{IsUnknownBy}
-use Rattle.kp_semantics.specs.Theory.{Theory}
+use Rattle.kp_kore.specs.Value.{Value, HasSort, truth}
+use Rattle.kp_kore.specs.Instance.{Valuation, instance}
+use Rattle.kp_kore.specs.Foreign.{none_within}
+use Rattle.kp_kore.specs.Replies as three
+use Rattle.kp_kore.specs.Ground.{executed_of, reason_of as reason_among_seven}
+use Rattle.kp_kore.proofs.GroundReplies.{ground_is_right}
+use Rattle.kp_kore.specs.Rules.{RewriteRule}
+use Rattle.kp_kore.specs.Steps.{IsUnknownBy}
+use Rattle.kp_kore.specs.Theory.{Theory}
 use Rattle.kp_signature.specs.Verify.{VerifiesAs}
 use Rattle.kp_rpc.specs.Frame.{IsFrame}
 use Rattle.kp_rpc.specs.Causes.{IsRefused}
@@ -36,8 +36,8 @@ use Rattle.kp_imports.specs.Reaching.{has}
 use Rattle.kp_run.specs.Causes.{IsStateIn, StopsUntold}
 use Rattle.kp_run.proofs.Among.{between_any}
 use Rattle.kp_run.specs.Runs.{IsRunOf, reason_of, written_of}
-use Rattle.kp_states.specs.Spelled.{IsOtherShape, IsSpellingOf, spelling, has_two_sorts, first_foreign, injection_name}
-use Rattle.kp_states.specs.declared.state.State.{State}
+use Rattle.kp_compile.specs.Spelled.{IsOtherShape, IsSpellingOf, spelling, has_two_sorts, first_foreign, injection_name}
+use Rattle.kp_compile.specs.declared.state.State.{State}
 use Rattle.kp_run.specs.declared.run.Executed.{Executed}
 use Rattle.kp_run.specs.declared.run.Stop.{Stop}
 use Rattle.kp_run.specs.declared.run.Stop.TheVariants.{Stuck, DepthBound, ForeignRule}

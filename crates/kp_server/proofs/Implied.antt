@@ -10,19 +10,19 @@ use Rattle.kp_kore.specs.Syntax.{Text, KoreSort, KorePattern, variable, set_vari
 use Rattle.kp_kore.specs.Parts.{SortedName, is_term, free_variables}
 use Rattle.kp_kore.specs.Signature.{KoreSignature}
 use Rattle.kp_kore.specs.View.{sort_view}
-use Rattle.kp_semantics.specs.Value.{Value, truth}
-use Rattle.kp_semantics.specs.Instance.{Valuation, GivesSorts, IsInstance}
-use Rattle.kp_semantics.specs.Rules.{top_binders, under_binders}
-use Rattle.kp_semantics.specs.AtHand.{GivesAll, HasSome}
-use Rattle.kp_semantics.specs.Implied.{Implied, DoesImply, HasCounterexample, IsOfSort, IsWitness, witnessed, IsRightImplied}
-use Rattle.kp_semantics.specs.Implied as sides
-use Rattle.kp_semantics.proofs.InstanceLemmas.{one_instance}
+use Rattle.kp_kore.specs.Value.{Value, truth}
+use Rattle.kp_kore.specs.Instance.{Valuation, GivesSorts, IsInstance}
+use Rattle.kp_kore.specs.Rules.{top_binders, under_binders}
+use Rattle.kp_kore.specs.AtHand.{GivesAll, HasSome}
+use Rattle.kp_kore.specs.Implied.{Implied, DoesImply, HasCounterexample, IsOfSort, IsWitness, witnessed, IsRightImplied}
+use Rattle.kp_kore.specs.Implied as sides
+use Rattle.kp_kore.proofs.InstanceLemmas.{one_instance}
 use Rattle.kp_json.specs.Trees.{SpellsWrapped}
 use Rattle.kp_ground.specs.View.{value_view}
 use Rattle.kp_signature.specs.Places.{own_sort}
 use Rattle.kp_signature.specs.Verify.{VerifiesAs}
-use Rattle.kp_states.specs.Spelled.{IsGroundState}
-use Rattle.kp_states.specs.declared.state.State.{State}
+use Rattle.kp_compile.specs.Spelled.{IsGroundState}
+use Rattle.kp_compile.specs.declared.state.State.{State}
 use Rattle.kp_rpc.specs.Frame.{IsFrame}
 use Rattle.kp_rpc.specs.Readings.{read_object, if_object, read_side}
 use Rattle.kp_rpc.specs.Reply.{RequestError, not_verified, other_shape, error_reply, reply_bytes, result_reply}

@@ -5,15 +5,15 @@ use Rattle.kp_kore.specs.Syntax.{KorePattern, variable, set_variable, applicatio
 use Rattle.kp_kore.specs.Parts.{is_term, free_variables, subpatterns}
 use Rattle.kp_kore.specs.Signature.{KoreSignature, meaning_of}
 use Rattle.kp_ground.specs.View.{value_view}
-use Rattle.kp_semantics.specs.Value.{Value}
-use Rattle.kp_semantics.specs.Instance.{Valuation, instance}
-use Rattle.kp_semantics.specs.Foreign.{none_within, has_interpreted_head, is_interpretation}
-use Rattle.kp_semantics.specs.Theory.{Theory}
-use Rattle.kp_semantics.specs.Replies.{IsComputed, IsRightExecuted, are_literals, is_open_call, is_wide_value}
-use Rattle.kp_semantics.proofs.InstanceLemmas.{one_instance}
+use Rattle.kp_kore.specs.Value.{Value}
+use Rattle.kp_kore.specs.Instance.{Valuation, instance}
+use Rattle.kp_kore.specs.Foreign.{none_within, has_interpreted_head, is_interpretation}
+use Rattle.kp_kore.specs.Theory.{Theory}
+use Rattle.kp_kore.specs.Replies.{IsComputed, IsRightExecuted, are_literals, is_open_call, is_wide_value}
+use Rattle.kp_kore.proofs.InstanceLemmas.{one_instance}
 use Rattle.kp_run.proofs.Runs.{run_is_after, run_is_reached, run_has_reason}
 use Rattle.kp_run.specs.Runs.{IsRunOf, IsOnlyInstance, reason_of}
-use Rattle.kp_states.specs.Spelled.{IsSpellingOf}
+use Rattle.kp_compile.specs.Spelled.{IsSpellingOf}
 use Rattle.kp_run.specs.declared.run.Executed.{Executed}
 use Rattle.kp_run.specs.declared.run.Stop.{Stop}
 use Rattle.kp_run.specs.declared.run.Stop.TheVariants.{Stuck, DepthBound, ForeignRule}

@@ -7,8 +7,8 @@ use Rattle.serde_json.specs.Data.{Data, Items, item}
 use Rattle.kp_kore.specs.Syntax.{KorePattern, KorePatterns, no_patterns, next_pattern, variable, set_variable, application, string_literal, literal, top, bottom, negation, next, conjunction, disjunction, implication, equivalence, rewriting, exists, forall, ceil, floor, equals, membership, mu, nu}
 use Rattle.kp_kore.specs.Parts.{subpatterns, all_subpatterns}
 use Rattle.kp_json.specs.Written.{first_and_rest, pattern_tree, pattern_trees}
-use Rattle.kp_semantics.specs.Foreign.{none_within}
-use Rattle.kp_states.specs.Spelled.{is_other_form}
+use Rattle.kp_kore.specs.Foreign.{none_within}
+use Rattle.kp_compile.specs.Spelled.{is_other_form}
 use Rattle.kp_rpc.specs.Request.{RequestId}
 use Rattle.kp_rpc.specs.Reply.{reply_bytes, result_reply}
 use Rattle.kp_run.specs.declared.run.Executed.{Executed}

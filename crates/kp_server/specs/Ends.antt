@@ -5,7 +5,7 @@ use Rattle.kp_kore.specs.Syntax.{Text, KoreSort, KorePattern}
 use Rattle.kp_kore.specs.Signature.{KoreSignature}
 use Rattle.kp_json.specs.Trees.{SpellsWrapped}
 use Rattle.kp_signature.specs.Verify.{FailsWith, VerifiesAs, VerifyFault}
-use Rattle.kp_states.specs.Spelled.{IsOtherShape, first_foreign, IsGroundState}
+use Rattle.kp_compile.specs.Spelled.{IsOtherShape, first_foreign, IsGroundState}
 use Rattle.kp_run.specs.Causes.{IsStateIn, StopsUntold}
 use Rattle.kp_rpc.specs.Request.{ExecuteOptions, bound_of}
 use Rattle.kp_rpc.specs.Causes.{IsExecuteTree}
@@ -17,10 +17,10 @@ use Rattle.serde_json.specs.View.{view as data_view}
 use Rattle.kp_kore.specs.View.{sort_view}
 use Rattle.kp_signature.specs.Faults.{fault_view}
 use Rattle.kp_signature.specs.declared.error.VerifyError.{VerifyError}
-use Rattle.kp_semantics.specs.Causes.{foreign}
+use Rattle.kp_kore.specs.Causes.{foreign}
 use Rattle.kp_ground.specs.View.{value_view}
 use Rattle.kp_run.specs.Runs.{IsRunOf, written_of}
-use Rattle.kp_states.specs.declared.state.State.{State}
+use Rattle.kp_compile.specs.declared.state.State.{State}
 use Rattle.kp_run.specs.declared.run.Executed.{Executed}
 use Rattle.kp_run.specs.declared.run.Stop.{Stop}
 use Rattle.kp_run.specs.declared.run.Stop.TheVariants.{Stuck, DepthBound, ForeignRule}

@@ -4,16 +4,16 @@
 use Rattle.std.specs.Prelude.{◌≡◌, ◌≢◌, ◌<◌, ◌⊎◌, ℕ, false, ⊤}
 use Rattle.kp_kore.specs.Syntax.{KoreSort, KorePattern}
 use Rattle.kp_kore.specs.Signature.{injection, meaning_of}
-use Rattle.kp_semantics.specs.Value.{Value}
-use Rattle.kp_semantics.specs.Instance.{Valuation, instance}
-use Rattle.kp_semantics.specs.Foreign.{none_within}
-use Rattle.kp_semantics.specs.Causes.{foreign}
-use Rattle.kp_semantics.specs.Steps.{IsFinal}
-use Rattle.kp_semantics.specs.Theory.{Theory}
+use Rattle.kp_kore.specs.Value.{Value}
+use Rattle.kp_kore.specs.Instance.{Valuation, instance}
+use Rattle.kp_kore.specs.Foreign.{none_within}
+use Rattle.kp_kore.specs.Causes.{foreign}
+use Rattle.kp_kore.specs.Steps.{IsFinal}
+use Rattle.kp_kore.specs.Theory.{Theory}
 use Rattle.kp_run.specs.Causes.{Written, IsStateIn}
 use Rattle.kp_run.specs.Runs.{IsFirstUnknown}
 use Rattle.kp_results.specs.Results.{Ending, aborted}
-use Rattle.kp_states.specs.Spelled.{spelling, has_two_sorts, injection_name}
+use Rattle.kp_compile.specs.Spelled.{spelling, has_two_sorts, injection_name}
 
 -- so many steps on from what the pattern of this sort means
 pub record IsLater (t : Theory) (p : KorePattern) (sort : KoreSort) (steps : ℕ) (later : Written) : Type 0 where

@@ -13,7 +13,7 @@ use Rattle.kp_json.specs.Trees.{SpellsWrapped}
 use Rattle.kp_signature.specs.Verify as verify
 use Rattle.kp_signature.specs.Verify.{FailsWith, VerifiesAs}
 use Rattle.kp_imports.specs.Reaching.{has}
-use Rattle.kp_states.specs.Spelled.{first_foreign}
+use Rattle.kp_compile.specs.Spelled.{first_foreign}
 use Rattle.kp_rpc.specs.Frame.{IsFrame, IsWhite, most_frame}
 use Rattle.kp_rpc.specs.Request.{RequestId, ExecuteOptions, ExecuteRequest, IsExecute, ImpliesRequest, IsImplies}
 use Rattle.kp_rpc.specs.Causes.{IsRefused, IsExecuteTree, IsImpliesTree}

@@ -3,7 +3,7 @@
 -- (the module of a request).
 use Rattle.std.specs.Prelude.{◌≡◌, ◌≢◌, true, List, Option, Some, None, ⊤}
 use Rattle.kp_kore.specs.Syntax.{Text, KoreDefinition}
-use Rattle.kp_semantics.specs.Theory.{Theory, IsTheoryOf, modules_reached}
+use Rattle.kp_kore.specs.Theory.{Theory, IsTheoryOf, modules_reached}
 use Rattle.kp_imports.specs.Names.{names_of}
 use Rattle.kp_imports.specs.Reaching.{has}
 use Rattle.kp_modules.specs.Tables.{RunsTable, does_reach, main_of}

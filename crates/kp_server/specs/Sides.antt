@@ -5,12 +5,12 @@ use Rattle.serde_json.specs.View.{view as data_view}
 use Rattle.kp_kore.specs.Syntax.{Text, KoreSort, KorePattern, top}
 use Rattle.kp_kore.specs.Signature.{KoreSignature}
 use Rattle.kp_kore.specs.View.{sort_view}
-use Rattle.kp_semantics.specs.Implied.{Implied, not_valid, valid}
-use Rattle.kp_semantics.specs.Value.{Value}
+use Rattle.kp_kore.specs.Implied.{Implied, not_valid, valid}
+use Rattle.kp_kore.specs.Value.{Value}
 use Rattle.kp_ground.specs.View.{value_view}
 use Rattle.kp_imports.specs.Reaching.{has}
-use Rattle.kp_states.specs.Spelled.{IsOtherShape, first_foreign}
-use Rattle.kp_states.specs.declared.state.State.{State}
+use Rattle.kp_compile.specs.Spelled.{IsOtherShape, first_foreign}
+use Rattle.kp_compile.specs.declared.state.State.{State}
 use Rattle.kp_rpc.specs.Causes.{IsImpliesTree}
 use Rattle.kp_rpc.specs.Readings.{read_side}
 use Rattle.kp_rpc.specs.Reply.{RequestError, no_module, not_verified, other_shape, reply_bytes, result_reply}

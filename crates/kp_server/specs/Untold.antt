@@ -2,9 +2,9 @@
 -- Source: this project.
 use Rattle.std.specs.Prelude.{◌≡◌, ◌≢◌, ◌⊎◌, [], ◌++◌, Option}
 use Rattle.kp_kore.specs.Syntax.{Text, KoreSort, KorePattern}
-use Rattle.kp_semantics.specs.Value.{Value}
-use Rattle.kp_semantics.specs.Instance.{Valuation, instance}
-use Rattle.kp_states.specs.Spelled.{IsOtherShape}
+use Rattle.kp_kore.specs.Value.{Value}
+use Rattle.kp_kore.specs.Instance.{Valuation, instance}
+use Rattle.kp_compile.specs.Spelled.{IsOtherShape}
 use Rattle.kp_run.specs.Causes.{StopsUntold}
 use Rattle.kp_rpc.specs.Request.{ExecuteOptions, bound_of}
 use Rattle.kp_server.specs.Normal.{HasNoSpelling}

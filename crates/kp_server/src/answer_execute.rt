@@ -3,13 +3,14 @@ ghost use Rattle.kp_kore.specs.View.{view};
 ghost use Rattle.kp_replies.specs.Written.{executed_tree};
 ghost use Rattle.kp_results.specs.View.{executed_view, reason_view};
 ghost use Rattle.kp_rule_sets.specs.RuleSets.{RunsAs};
-ghost use Rattle.kp_semantics.specs.Theory.{Theory};
+ghost use Rattle.kp_kore.specs.Theory.{Theory};
 ghost use Rattle.kp_server.specs.Ends.{ending_of, IsEndLine, IsEndOf, IsFailureOf, IsLineTo, IsExecuteRead, IsStateOf, IsStatePattern, options_of, result_of as end_result};
 ghost use Rattle.kp_server.specs.Setting.{IsSettingOf, IsModuleReached, Setting};
 
 use crate::asked::{check_module, rules_of};
 use crate::failure::{Failure, verify_failure};
 use crate::untold::{asks_for_more, ground_state, not_answered, unanswered_line};
+use kp_compile::{SpellingError, State, spelled};
 use kp_json::{JsonError, pattern_of};
 use kp_kore::Pattern;
 use kp_modules::Table;
@@ -19,7 +20,6 @@ use kp_rpc::{Execute, StateFault, bound_of, fault_text, state_of as state_tree_o
 use kp_rule_sets::RuleSet;
 use kp_run::{Executed, RunError, Stop, execute};
 use kp_signature::{Signature, verify};
-use kp_states::{SpellingError, State, spelled};
 use std::alloc::{AllocError, Global};
 
 /// The reply to a request of execute.

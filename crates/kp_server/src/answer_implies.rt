@@ -12,6 +12,7 @@ ghost use Rattle.kp_server.specs.Sides.{IsImpliedOf, IsImpliesFailure, IsImplies
 use crate::asked::{check_module, is_elsewhere, rules_of};
 use crate::failure::{Failure, verify_failure};
 use crate::untold::{compared_sides, not_answered, side_state};
+use kp_compile::State;
 use kp_json::{JsonError, pattern_of};
 use kp_kore::{Pattern, Sort};
 use kp_modules::Table;
@@ -19,7 +20,6 @@ use kp_replies::implied_text;
 use kp_results::Implied;
 use kp_rpc::{Implies, StateFault, antecedent_of, consequent_of, fault_text};
 use kp_signature::{Signature, verify};
-use kp_states::State;
 use serde_json::Value;
 use std::alloc::{AllocError, Global};
 

@@ -7,7 +7,7 @@ ghost use Rattle.kp_rpc.specs.Request.{ExecuteOptions};
 ghost use Rattle.kp_rpc.specs.View.{options_view, state_fault_view};
 ghost use Rattle.kp_signature.specs.Verify.{VerifiesAs};
 ghost use Rattle.kp_signature.specs.View.{signature_view};
-ghost use Rattle.kp_states.specs.Spelled.{IsOtherShape};
+ghost use Rattle.kp_compile.specs.Spelled.{IsOtherShape};
 ghost use Rattle.kp_server.specs.Ends.{IsListing, IsPlain, IsStateAt, IsWrongPattern, unanswered_bytes};
 ghost use Rattle.kp_server.specs.Right.{NoneLeftOut};
 ghost use Rattle.kp_server.specs.Setting.{IsElsewhere, Setting};
@@ -16,11 +16,11 @@ ghost use Rattle.kp_server.specs.Untold.{IsLeftOut};
 
 use crate::asked::is_elsewhere;
 use crate::failure::Failure;
+use kp_compile::{State, StateError, state_of};
 use kp_kore::{Pattern, Sort};
 use kp_modules::Table;
 use kp_rpc::{Execute, Options, PatternFault, StateFault, fault_text};
 use kp_signature::Signature;
-use kp_states::{State, StateError, state_of};
 use std::alloc::{AllocError, Global};
 
 /// T2.

@@ -8,14 +8,14 @@ use Rattle.kp_kore.specs.Signature.{KoreSignature, injection, meaning_of}
 use Rattle.kp_kore.specs.View.{sort_view}
 use Rattle.kp_ground.specs.View.{value_view}
 use Rattle.kp_json.specs.Faults.{Reading, read}
-use Rattle.kp_semantics.specs.Value.{HasSort}
-use Rattle.kp_semantics.specs.Foreign.{none_within}
-use Rattle.kp_semantics.specs.Replies as three
-use Rattle.kp_semantics.specs.Ground.{executed_of}
-use Rattle.kp_semantics.proofs.GroundReplies.{ground_is_right}
+use Rattle.kp_kore.specs.Value.{HasSort}
+use Rattle.kp_kore.specs.Foreign.{none_within}
+use Rattle.kp_kore.specs.Replies as three
+use Rattle.kp_kore.specs.Ground.{executed_of}
+use Rattle.kp_kore.proofs.GroundReplies.{ground_is_right}
 use Rattle.kp_signature.specs.Verify.{VerifiesAs}
-use Rattle.kp_states.specs.Spelled.{IsOtherShape, IsSpellingOf, spelling, has_two_sorts, injection_name}
-use Rattle.kp_states.specs.declared.state.State.{State}
+use Rattle.kp_compile.specs.Spelled.{IsOtherShape, IsSpellingOf, spelling, has_two_sorts, injection_name}
+use Rattle.kp_compile.specs.declared.state.State.{State}
 use Rattle.kp_run.specs.Causes.{IsStateIn, StopsUntold}
 use Rattle.kp_run.specs.Runs.{written_of}
 use Rattle.kp_run.specs.declared.run.Executed.{Executed}

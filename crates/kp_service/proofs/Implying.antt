@@ -6,9 +6,9 @@ use Rattle.serde_json.specs.Data.{Data}
 use Rattle.kp_kore.specs.Syntax.{Text, KoreSort, KorePattern}
 use Rattle.kp_kore.specs.Signature.{KoreSignature}
 use Rattle.kp_json.specs.Faults.{Reading, read}
-use Rattle.kp_semantics.specs.Implied.{Implied}
+use Rattle.kp_kore.specs.Implied.{Implied}
 use Rattle.kp_signature.specs.Verify.{VerifiesAs}
-use Rattle.kp_states.specs.declared.state.State.{State}
+use Rattle.kp_compile.specs.declared.state.State.{State}
 use Rattle.kp_rpc.specs.Request.{RequestId}
 use Rattle.kp_rpc.specs.Reply.{error_reply, result_reply, reply_bytes}
 use Rattle.kp_rpc.specs.View.{pattern_fault_view, state_fault_view}

@@ -6,7 +6,7 @@ use Rattle.serde_json.specs.Data.{Data}
 use Rattle.kp_kore.specs.Syntax.{Text, KoreSort, KorePattern}
 use Rattle.kp_json.specs.Faults.{Reading, read, fault}
 use Rattle.kp_signature.specs.Verify.{VerifiesAs}
-use Rattle.kp_states.specs.Spelled.{first_foreign}
+use Rattle.kp_compile.specs.Spelled.{first_foreign}
 use Rattle.kp_rpc.specs.Request.{RequestId, ExecuteOptions, ExecuteRequest, ImpliesRequest}
 use Rattle.kp_rpc.specs.Reply.{RequestError, VerifyFault, no_module, no_pattern, not_verified, other_shape, error_reply}
 use Rattle.kp_replies.specs.Replies.{IsBare}

@@ -2,7 +2,7 @@
 -- Source: the K Haskell backend's JSON-RPC documentation (the module of a request, add-module).
 use Rattle.std.specs.Prelude.{◌≡◌, List, [], ◌∷◌, Option, Some, None}
 use Rattle.kp_kore.specs.Syntax.{Text}
-use Rattle.kp_semantics.specs.Theory.{NumberedAxiom, IsTheoryOfAxioms}
+use Rattle.kp_kore.specs.Theory.{NumberedAxiom, IsTheoryOfAxioms}
 use Rattle.kp_book.specs.Books.{Opening, Registration, meaning_in}
 use Rattle.kp_server.specs.Setting.{Setting}
 

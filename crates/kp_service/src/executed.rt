@@ -15,6 +15,7 @@ ghost use Rattle.kp_server.specs.Untold.{IsLeftOut};
 ghost use Rattle.kp_service.specs.Answered.{IsExecutedAs};
 ghost use Rattle.kp_service.specs.Told.{IsEndLine, IsEndOf, IsFaultLine, IsLineOf, IsStateFailure, IsStateOf, IsStateRead, ListsNone};
 
+use kp_compile::{SpellingError, State, spelled};
 use kp_kore::Pattern;
 use kp_replies::executed_text;
 use kp_requests::Reading;
@@ -23,7 +24,6 @@ use kp_rule_sets::RuleSet;
 use kp_run::{Executed, RunError, execute};
 use kp_server::{Failure, ground_state, not_answered, result_of, verify_failure};
 use kp_signature::{Signature, verify};
-use kp_states::{SpellingError, State, spelled};
 use std::alloc::{AllocError, Global};
 
 /// The reply to a request of execute over these rules.

@@ -13,6 +13,7 @@ ghost use Rattle.kp_service.specs.Answered.{IsImpliedAs};
 ghost use Rattle.kp_service.specs.Told.{IsImpliedLine, IsImpliedOf, IsLineOf, IsSideOf, IsSidesFailure, IsTreeFailure};
 
 use crate::executed::failure_line;
+use kp_compile::State;
 use kp_kore::{Pattern, Sort};
 use kp_replies::implied_text;
 use kp_requests::Reading;
@@ -20,7 +21,6 @@ use kp_rpc::{Id, StateFault};
 use kp_rule_sets::RuleSet;
 use kp_server::{Failure, compared_sides, implied_at, side_state, verify_failure};
 use kp_signature::{Signature, verify};
-use kp_states::State;
 use std::alloc::{AllocError, Global};
 
 /// The reply to a request of implies over these rules.

@@ -14,8 +14,8 @@ use Rattle.kp_signature.specs.Alone.{holds_of, numbers_stand_alone, truths_stand
 use Rattle.kp_signature.specs.Kinds.{holds_tokens}
 use Rattle.kp_signature.specs.Table.{name_hooked, name_other_than}
 use Rattle.kp_signature.proofs.KnownSorts.{number_of_sorts}
-use Rattle.kp_subsorts.proofs.Below.{is_below-Decides}
-use Rattle.kp_subsorts.proofs.Same.{sorts_equal-Decides}
+use Rattle.kp_signature.proofs.Below.{is_below-Decides}
+use Rattle.kp_signature.proofs.Same.{sorts_equal-Decides}
 
 -- ---- heads of one kind
 

@@ -6,14 +6,14 @@ use Rattle.kp_kore.specs.Syntax.{Text, KoreSort, KoreSorts, no_sorts, next_sort,
 use Rattle.kp_kore.specs.Parts.{sort_list, pattern_list}
 use Rattle.kp_kore.specs.Signature.{KoreSignature, SymbolMeaning, injection, construction, interpretation, foreign, meaning_of, symbol_meaning, symbol_declared, alias_declared, is_injection, is_identity, is_constructor, is_plain, fitting_hook, IsBelow, is_below, itself}
 use Rattle.kp_kore.specs.Sorting.{at_arguments, all_at_arguments, result_sort}
-use Rattle.kp_semantics.specs.Value.{Values, no_values, next_value, HasSort, HaveSorts}
-use Rattle.kp_semantics.specs.Instance.{only_value, applied}
-use Rattle.kp_semantics.specs.Foreign.{is_foreign_meaning}
-use Rattle.kp_semantics.proofs.InstanceLemmas.{first_true, second_true}
+use Rattle.kp_kore.specs.Value.{Values, no_values, next_value, HasSort, HaveSorts}
+use Rattle.kp_kore.specs.Instance.{only_value, applied}
+use Rattle.kp_kore.specs.Foreign.{is_foreign_meaning}
+use Rattle.kp_kore.proofs.InstanceLemmas.{first_true, second_true}
 use Rattle.kp_signature.specs.Places.{Profile, profile_of, argument_sorts}
 use Rattle.kp_signature.specs.Verify.{VerifyFault, fault_unless, symbol_fault, injection_fault, wrong_number, sort_differs}
 use Rattle.kp_signature.proofs.Applied.{of_profile, as_many}
-use Rattle.kp_subsorts.proofs.Below.{is_below-Decides}
+use Rattle.kp_signature.proofs.Below.{is_below-Decides}
 use Rattle.kp_signature.proofs.FaultLemmas.{no_fault_unless}
 use Rattle.kp_signature.proofs.SortLemmas.{has_sort_above, at_no_arguments, all_at_no_arguments, same_inside}
 use Rattle.kp_signature.proofs.CallLemmas.{call_is_sorted}

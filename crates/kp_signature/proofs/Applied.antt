@@ -11,7 +11,7 @@ use Rattle.kp_kore.specs.View.{sort_view, sorts_view}
 use Rattle.kp_signature.specs.Nodes.{two_sorts, injects}
 use Rattle.kp_signature.specs.Places.{Profile, profile_of}
 use Rattle.kp_signature.specs.Verify.{VerifyFault, fault_unless, symbol_fault, injection_fault, sort_differs, wrong_number, unknown_symbol}
-use Rattle.kp_subsorts.proofs.Below.{is_below-Decides}
+use Rattle.kp_signature.proofs.Below.{is_below-Decides}
 
 abbrev pub of_profile : KoreSorts → KorePatterns → Text → Option Profile → Option VerifyFault
 of_profile ss ps f (Some k) = fault_unless ((length k.parameters == length (sort_list ss)) && (length (sort_list k.arguments) == length (pattern_list ps))) (wrong_number f)

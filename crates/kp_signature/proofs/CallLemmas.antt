@@ -3,9 +3,9 @@ use Rattle.std.proofs.Common.{◌≡◌, sym, subst, Bool, true, not, ℤ}
 use Rattle.kp_kore.specs.Syntax.{KoreSort, KoreSorts, no_sorts, next_sort}
 use Rattle.kp_kore.specs.Hooks.{Hook, whole_arithmetic, whole_comparison, truth_connective, truth_negation, values_equal, values_different}
 use Rattle.kp_kore.specs.Signature.{KoreSignature, integer_sort, boolean_sort, is_integer_sort, is_boolean_sort, has_only_numbers, has_only_truths, is_number_sort, is_truth_sort, are_two, are_one, fits_hook, itself}
-use Rattle.kp_semantics.specs.Value.{Value, whole, truth, Values, no_values, next_value, HasSort, HaveSorts, values_same}
-use Rattle.kp_semantics.specs.Interpretation.{computed, compared, connected, interpreted}
-use Rattle.kp_semantics.proofs.InstanceLemmas.{first_true, second_true}
+use Rattle.kp_kore.specs.Value.{Value, whole, truth, Values, no_values, next_value, HasSort, HaveSorts, values_same}
+use Rattle.kp_kore.specs.Interpretation.{computed, compared, connected, interpreted}
+use Rattle.kp_kore.proofs.InstanceLemmas.{first_true, second_true}
 use Rattle.kp_signature.proofs.SortLemmas.{is_that_sort}
 use Rattle.kp_signature.proofs.NumberLemmas.{number_value, truth_value}
 

@@ -5,7 +5,7 @@ use Rattle.kp_kore.specs.Syntax.{Text, KoreSentence, import_sentence, sort_sente
 use Rattle.indexmap.specs.IndexMap.{IndexMap}
 use Rattle.kp_signature.specs.Names.{Indexes}
 use Rattle.kp_signature.specs.Table.{IsTableOf}
-use Rattle.kp_subsorts.specs.Pairs.{subsort_view}
+use Rattle.kp_signature.specs.Pairs.{subsort_view}
 use Rattle.kp_signature.specs.declared.table.Table.{Table}
 use Rattle.kp_kore.specs.View.{sort_sentence_view, symbol_sentence_view, alias_sentence_view}
 use Rattle.kp_kore.specs.Signature.{sorts_in, symbols_in, aliases_in, subsorts_in, subsorts_among}

@@ -7,9 +7,9 @@ use Rattle.std.specs.Str.{bytes_eq}
 use Rattle.std.proofs.lemmas.Slice.Eq.{bytes_eq-Decides}
 use Rattle.kp_kore.specs.Syntax.{Text, KoreSort, SymbolDeclaration}
 use Rattle.kp_kore.specs.Signature.{KoreSignature, construction, symbol_meaning, symbol_declared, is_constructor, is_token_sort, Head, integers, booleans, tokens, constructor_of, sort_made, sort_of_head, is_own_below, is_head, possible_heads, heads_of, IsSortOfHead, IsHeadOf, IsBelow, itself, through}
-use Rattle.kp_semantics.specs.Steps.{AnyByRecursion}
-use Rattle.kp_semantics.proofs.InstanceLemmas.{first_true, second_true}
-use Rattle.kp_subsorts.proofs.Below.{is_below-Decides}
+use Rattle.kp_kore.specs.Steps.{AnyByRecursion}
+use Rattle.kp_kore.proofs.InstanceLemmas.{first_true, second_true}
+use Rattle.kp_signature.proofs.Below.{is_below-Decides}
 use Rattle.kp_signature.proofs.MeaningLemmas.{constructor_constructs, makes_what_it_means}
 
 -- ---- a head's own sort

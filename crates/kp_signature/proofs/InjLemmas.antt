@@ -5,7 +5,7 @@ use Rattle.std.proofs.lemmas.Slice.Eq.{bytes_eq-Decides}
 use Rattle.kp_kore.specs.Syntax.{Text, KoreSort, sort_of, sort_variable, KoreSorts, no_sorts, next_sort, SymbolDeclaration}
 use Rattle.kp_kore.specs.Signature.{goes_across, is_injection, is_identity}
 use Rattle.kp_kore.specs.Sorting.{argument_for, at_arguments, all_at_arguments}
-use Rattle.kp_semantics.proofs.InstanceLemmas.{first_true, second_true}
+use Rattle.kp_kore.proofs.InstanceLemmas.{first_true, second_true}
 
 -- at the sorts A and B the symbol takes an A and gives a B
 pub record TakesFirstGivesSecond (d : SymbolDeclaration) (a b : KoreSort) : Type 0 where

@@ -29,3 +29,13 @@ pub mod SubsortPairs
 pub mod VariableSorts
 pub mod VerifiedMembers
 pub mod VerifyLemmas
+pub mod Below
+pub mod Decided
+pub mod EdgeLemmas
+pub mod HiddenOrder
+pub mod NewOrder
+pub mod Numbered
+pub mod Numbers
+pub mod OrderLemmas
+pub mod Same
+pub mod SpanLemmas

@@ -8,7 +8,7 @@ use Rattle.kp_kore.specs.Syntax.{Text, SymbolDeclaration}
 use Rattle.kp_kore.specs.Attributes.{text_of, has_mark}
 use Rattle.kp_kore.specs.Hooks.{Hook, hook_named}
 use Rattle.kp_kore.specs.Signature.{KoreSignature, SymbolMeaning, injection, construction, interpretation, foreign, symbol_meaning, goes_across, is_identity, is_constructor, is_plain, has_equations, fits_hook, fitting_hook}
-use Rattle.kp_semantics.proofs.InstanceLemmas.{first_true}
+use Rattle.kp_kore.proofs.InstanceLemmas.{first_true}
 use Rattle.kp_signature.proofs.SortLemmas.{same_inside}
 
 abbrev pub hooked : Option Hook → SymbolMeaning

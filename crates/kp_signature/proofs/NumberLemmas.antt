@@ -3,8 +3,8 @@ use Rattle.std.proofs.Common.{◌≡◌, refl, ℤ, Bool, true, false, List, [],
 use Rattle.std.specs.List.{list_all}
 use Rattle.kp_kore.specs.Syntax.{KoreSort}
 use Rattle.kp_kore.specs.Signature.{KoreSignature, is_integer_sort, is_boolean_sort, Head, integers, booleans, tokens, constructor_of, heads_of, are_numbers, are_truths, has_only_numbers, has_only_truths, is_number_sort, is_truth_sort, IsHeadOf}
-use Rattle.kp_semantics.specs.Value.{Value, whole, truth, token, constructed, HasSort}
-use Rattle.kp_semantics.proofs.InstanceLemmas.{second_true}
+use Rattle.kp_kore.specs.Value.{Value, whole, truth, token, constructed, HasSort}
+use Rattle.kp_kore.proofs.InstanceLemmas.{second_true}
 use Rattle.kp_signature.proofs.HeadLemmas.{passed_by_heads}
 
 abbrev is_number_head : Head → Bool

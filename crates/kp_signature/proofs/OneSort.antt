@@ -7,7 +7,7 @@ use Rattle.std.proofs.lemmas.Slice.Eq.{bytes_eq-Decides}
 use Rattle.kp_kore.specs.Syntax.{Text, KoreSort, KoreSorts, no_sorts, next_sort, KorePattern, KorePatterns, variable, set_variable, application, string_literal, literal, top, bottom, negation, next, conjunction, disjunction, implication, equivalence, rewriting, exists, forall, ceil, floor, equals, membership, mu, nu, no_patterns, next_pattern}
 use Rattle.kp_kore.specs.Parts.{SortedName, sort_list, pattern_list, free_variables, all_free_variables, without_name}
 use Rattle.kp_kore.specs.Signature.{KoreSignature}
-use Rattle.kp_semantics.specs.Cases.{HaveOneSort}
+use Rattle.kp_kore.specs.Cases.{HaveOneSort}
 use Rattle.kp_signature.specs.Places.{earlier, Place, the_top, argument_at, part_at, after, under_binder, argument_sorts, sort_in_scope}
 use Rattle.kp_signature.specs.Verify.{VerifyFault, difference, fault_at, first_fault, arguments_fault, members_fault}
 use Rattle.kp_signature.proofs.ScopeLemmas.{scope_append}

@@ -3,8 +3,8 @@ use Rattle.std.proofs.Common.{◌≡◌, refl, sym, ap, subst, ◌∙◌, Bool, 
 use Rattle.std.specs.List.{list_all, AllByRecursion}
 use Rattle.kp_kore.specs.Syntax.{KoreSort, KorePattern, rewriting, exists}
 use Rattle.kp_kore.specs.Parts.{is_term}
-use Rattle.kp_semantics.specs.Instance.{is_predicate, conjuncts, conjoined_terms, conjoined_predicates}
-use Rattle.kp_semantics.specs.Rules.{Rewrite, only_one, constrained_term, top_binders, under_binders, have_distinct_names, new_variables_of, joined, rewrite_of}
+use Rattle.kp_kore.specs.Instance.{is_predicate, conjuncts, conjoined_terms, conjoined_predicates}
+use Rattle.kp_kore.specs.Rules.{Rewrite, only_one, constrained_term, top_binders, under_binders, have_distinct_names, new_variables_of, joined, rewrite_of}
 use Rattle.kp_signature.proofs.SortLemmas.{same_inside}
 use Rattle.kp_signature.proofs.ListLemmas.{all_filtered}
 

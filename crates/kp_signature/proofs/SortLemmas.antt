@@ -7,9 +7,9 @@ use Rattle.kp_kore.specs.Syntax.{KoreSort, sort_of, sort_variable, KoreSorts, no
 use Rattle.kp_kore.specs.Signature.{KoreSignature, Head, integers, booleans, tokens, constructor_of, IsHeadOf, IsBelow, is_the, has_hook, declared_sort, other_than, integer_sort, boolean_sort, is_integer_sort}
 use Rattle.kp_kore.specs.Attributes.{sorts_equal}
 use Rattle.kp_kore.specs.Sorting.{at_arguments, all_at_arguments}
-use Rattle.kp_semantics.specs.Value.{Value, whole, truth, token, constructed, HasSort}
-use Rattle.kp_subsorts.proofs.Below.{onwards}
-use Rattle.kp_subsorts.proofs.Same.{sorts_equal-Decides}
+use Rattle.kp_kore.specs.Value.{Value, whole, truth, token, constructed, HasSort}
+use Rattle.kp_signature.proofs.Below.{onwards}
+use Rattle.kp_signature.proofs.Same.{sorts_equal-Decides}
 
 head_above : (g : KoreSignature) (a b : KoreSort) (h : Head) → IsHeadOf g a h → IsBelow g.subsorts a b → IsHeadOf g b h
 head_above g a b h i below = (i.0, i.1, onwards g.subsorts i.0 a b i.2 below)

@@ -8,10 +8,10 @@ use Rattle.std.proofs.lemmas.List.Folds.{list_all-append}
 use Rattle.kp_kore.specs.Syntax.{Text, KoreSort, KoreSorts, no_sorts, next_sort, KorePattern, variable, literal, application, KorePatterns, no_patterns, next_pattern}
 use Rattle.kp_kore.specs.Parts.{SortedName, is_term, are_terms, free_variables, all_free_variables, subpatterns, all_subpatterns, sort_list, pattern_list}
 use Rattle.kp_kore.specs.Signature.{KoreSignature, meaning_of, integer_sort, boolean_sort, is_integer_sort, is_boolean_sort, is_token_sort, itself}
-use Rattle.kp_semantics.specs.Value.{whole, truth, token, HasSort, HaveSorts}
-use Rattle.kp_semantics.specs.Instance.{Valuation, GivesSorts, instance, instances, literal_value}
-use Rattle.kp_semantics.specs.Foreign.{none_within, has_foreign_head, is_foreign_meaning}
-use Rattle.kp_semantics.proofs.InstanceLemmas.{first_true, second_true}
+use Rattle.kp_kore.specs.Value.{whole, truth, token, HasSort, HaveSorts}
+use Rattle.kp_kore.specs.Instance.{Valuation, GivesSorts, instance, instances, literal_value}
+use Rattle.kp_kore.specs.Foreign.{none_within, has_foreign_head, is_foreign_meaning}
+use Rattle.kp_kore.proofs.InstanceLemmas.{first_true, second_true}
 use Rattle.kp_signature.specs.Places.{Place, own_sort, argument_sorts, argument_at, after}
 use Rattle.kp_kore.specs.Limits.{writes_number}
 use Rattle.kp_signature.specs.Verify.{first_fault, fault_at, arguments_fault, literal_fault, is_literal_of, no_literal}

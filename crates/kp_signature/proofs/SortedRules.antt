@@ -7,11 +7,11 @@ use Rattle.std.proofs.lemmas.List.Folds.{list_all-append}
 use Rattle.kp_kore.specs.Syntax.{KoreSort, KorePattern, rewriting}
 use Rattle.kp_kore.specs.Parts.{SortedName, is_term, free_variables, subpatterns}
 use Rattle.kp_kore.specs.Signature.{KoreSignature}
-use Rattle.kp_semantics.specs.Value.{HasSort}
-use Rattle.kp_semantics.specs.Instance.{Valuation, GivesSorts, is_named, instance, conjuncts}
-use Rattle.kp_semantics.specs.Rules.{Rewrite, constrained_term, top_binders, rewrite_of}
-use Rattle.kp_semantics.specs.Foreign.{none_within, has_foreign_head}
-use Rattle.kp_semantics.proofs.InstanceLemmas.{second_true}
+use Rattle.kp_kore.specs.Value.{HasSort}
+use Rattle.kp_kore.specs.Instance.{Valuation, GivesSorts, is_named, instance, conjuncts}
+use Rattle.kp_kore.specs.Rules.{Rewrite, constrained_term, top_binders, rewrite_of}
+use Rattle.kp_kore.specs.Foreign.{none_within, has_foreign_head}
+use Rattle.kp_kore.proofs.InstanceLemmas.{second_true}
 use Rattle.kp_signature.specs.Places.{Place, own_sort, the_top, part_at, after, sort_in_scope}
 use Rattle.kp_signature.specs.Verify.{first_fault, fault_at}
 use Rattle.kp_signature.proofs.FaultLemmas.{nothing_earlier, nothing_later, term_has_wanted_sort}

@@ -5,9 +5,9 @@ use Rattle.std.proofs.lemmas.List.{append_assoc, append-nil}
 use Rattle.kp_kore.specs.Syntax.{KoreSort, KorePattern, conjunction, KorePatterns, no_patterns, next_pattern}
 use Rattle.kp_kore.specs.Parts.{SortedName, free_variables, all_free_variables}
 use Rattle.kp_kore.specs.Signature.{KoreSignature}
-use Rattle.kp_semantics.specs.Instance.{conjuncts, all_conjuncts}
-use Rattle.kp_semantics.specs.Foreign.{none_within}
-use Rattle.kp_semantics.proofs.InstanceLemmas.{second_true}
+use Rattle.kp_kore.specs.Instance.{conjuncts, all_conjuncts}
+use Rattle.kp_kore.specs.Foreign.{none_within}
+use Rattle.kp_kore.proofs.InstanceLemmas.{second_true}
 use Rattle.kp_signature.specs.Places.{Place, part_at, after}
 use Rattle.kp_signature.specs.Verify.{first_fault, members_fault}
 use Rattle.kp_signature.proofs.FaultLemmas.{nothing_earlier, nothing_later, keeps_rules, has_wanted_sort}

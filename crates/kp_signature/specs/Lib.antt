@@ -1,12 +1,17 @@
 pub mod Alone
+pub mod Edges
 pub mod Examples
 pub mod Faults
 pub mod Kinds
 pub mod Meanings
 pub mod Names
 pub mod Nodes
+pub mod Numbering
+pub mod Order
+pub mod Pairs
 pub mod Places
 pub mod Scopes
+pub mod Spans
 pub mod Table
 pub mod Texts
 pub mod Verify

@@ -3,7 +3,7 @@ use Rattle.std.specs.Prelude.{List, take, drop}
 use Rattle.kp_kore.specs.Syntax.{Text}
 use Rattle.kp_kore.specs.Hooks as model
 use Rattle.kp_kore.specs.Signature.{SymbolMeaning, injection, construction, interpretation, foreign}
-use Rattle.kp_hooks.specs.HookView.{hook_view}
+use Rattle.kp_kore.specs.HookView.{hook_view}
 use Rattle.kp_signature.specs.declared.function.Function.{Function}
 use Rattle.kp_signature.specs.declared.function.Function.TheVariants.{Two, Negation}
 use Rattle.kp_signature.specs.declared.meaning.Meaning.{Meaning}

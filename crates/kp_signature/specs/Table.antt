@@ -7,7 +7,7 @@ use Rattle.kp_kore.specs.Syntax.{Text, KoreSentence, SortDeclaration, SymbolDecl
 use Rattle.kp_kore.specs.Signature.{KoreSignature, sorts_in, symbols_in, aliases_in, subsorts_in, has_hook}
 use Rattle.kp_kore.specs.View.{sort_sentence_view, symbol_sentence_view, alias_sentence_view}
 use Rattle.kp_signature.specs.Names.{Indexes}
-use Rattle.kp_subsorts.specs.Pairs.{subsort_view}
+use Rattle.kp_signature.specs.Pairs.{subsort_view}
 use Rattle.kp_signature.specs.declared.table.Table.{Table}
 
 abbrev pub sort_names : List SortDeclaration → List Text

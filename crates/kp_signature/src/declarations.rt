@@ -2,17 +2,17 @@
 ghost use Rattle.std.specs.Prelude.{◌≡◌, codes, map, string_bytes};
 ghost use Rattle.std.specs.Option.{option_map};
 ghost use Rattle.std.proofs.Props.{props};
-ghost use Rattle.kp_subsorts.specs.Order.{IsOrderOf};
+ghost use Rattle.kp_signature.specs.Order.{IsOrderOf};
 ghost use Rattle.kp_signature.specs.Table.{IsIndexed, table_view, name_hooked, name_other_than};
 
+use crate::Subsort;
 use crate::attributes::has_mark;
 use crate::hooked::{first_hooked, other_than};
 use crate::kinds::is_named;
+use crate::order::SortOrder;
 use crate::symbols::is_constructor;
 use crate::table::Table;
 use kp_kore::{AliasSentence, Module, Name, Sort, SortSentence, SymbolSentence};
-use kp_subsorts::Subsort;
-use kp_subsorts::order::SortOrder;
 use std::alloc::{AllocError, Global};
 
 /// The declarations, the order of their sorts, and the names of the sorts of whole numbers and truth values.
@@ -36,7 +36,7 @@ impl Declarations {
     ghost use Rattle.kp_kore.specs.Syntax.{sort_of, no_sorts};
     ghost use Rattle.kp_kore.specs.View.{sort_view, sort_sentence_view, symbol_sentence_view, alias_sentence_view};
     ghost use Rattle.kp_signature.specs.Kinds.{holds_tokens};
-    ghost use Rattle.kp_subsorts.specs.Pairs.{subsort_view};
+    ghost use Rattle.kp_signature.specs.Pairs.{subsort_view};
     ghost use Rattle.kp_signature.specs.View.{sentences_of};
 
     /// What the sentences of these modules declare, in order.

@@ -1,4 +1,4 @@
-use kp_hooks::Hook;
+use kp_kore::Hook;
 
 /// The interpreted functions. `function_view` in specs/Meanings.antt says which hook each is.
 #[derive(Clone, Copy)]

@@ -2,11 +2,11 @@
 ghost use Rattle.std.specs.Prelude.{◌≡◌};
 ghost use Rattle.std.specs.Option.{option_map};
 ghost use Rattle.kp_kore.specs.Hooks.{whole_arithmetic, whole_comparison, truth_connective, found_under, hook_named};
-ghost use Rattle.kp_hooks.specs.HookView.{arithmetic_view, comparison_view, connective_view, hook_view};
+ghost use Rattle.kp_kore.specs.HookView.{arithmetic_view, comparison_view, connective_view, hook_view};
 ghost use Rattle.kp_signature.specs.Meanings.{function_view, arithmetic_rows, comparison_rows, joining_rows, truth_rows, comparing_rows, equality_rows};
 
 use crate::function::Function;
-use kp_hooks::{Arithmetic, Comparison, Connective, Hook};
+use kp_kore::{Arithmetic, Comparison, Connective, Hook};
 
 /// The arithmetic that a hook's name stands for, if it does.
 fn arithmetic_named(name: &str) -> Option<Arithmetic>

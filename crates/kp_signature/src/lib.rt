@@ -1,15 +1,19 @@
 // The signature of a definition, and the sort of a pattern over it or its first fault. specs/Verify.antt says which
 // fault of which node comes first; the functions of `examples` and `laws` have no body: each carries computed examples
-// or a law.
+// or a law. Which sorts lie below which: sorts by number, and what lies below each as spans of numbers, asked without
+// memory; specs/Order.antt says what the index is.
 #![tactic(auto)]
 
 mod alone;
 mod applications;
 pub mod attributes;
+mod closures;
 mod declarations;
+pub mod edges;
 mod error;
 pub mod examples;
 pub mod function;
+pub mod graph;
 mod hooked;
 mod hooks;
 pub mod instance;
@@ -20,10 +24,15 @@ pub mod meaning;
 mod meanings;
 mod names;
 mod nodes;
+pub mod numbering;
+pub mod order;
 mod own;
+mod ranking;
 pub mod rules;
 mod scope;
 pub mod signature;
+pub mod spans;
+mod subsort;
 mod subsorts;
 pub mod symbols;
 mod table;
@@ -36,5 +45,6 @@ pub use meaning::Meaning;
 pub use meanings::meaning_of;
 pub use own::own_sort;
 pub use signature::Signature;
+pub use subsort::Subsort;
 pub use text::sort_text;
 pub use verification::verify;

@@ -14,8 +14,7 @@ use crate::kinds::Kinds;
 use crate::meaning::Meaning;
 use crate::signature::Signature;
 use crate::symbols::{is_constructor, is_identity, is_plain};
-use kp_hooks::Hook;
-use kp_kore::{Sort, SymbolSentence};
+use kp_kore::{Hook, Sort, SymbolSentence};
 use std::alloc::{AllocError, Global};
 
 /// Whether these are two sorts of whole numbers.

@@ -5,12 +5,12 @@ ghost use Rattle.kp_kore.specs.Signature.{symbol_meaning};
 ghost use Rattle.kp_signature.specs.Meanings.{meaning_view};
 ghost use Rattle.kp_signature.specs.Table.{table_view};
 
+use crate::Subsort;
 use crate::kinds::Kinds;
 use crate::meaning::Meaning;
 use crate::meanings::meanings;
+use crate::order::SortOrder;
 use kp_kore::{AliasSentence, Module, Name, Sort, SortSentence, SymbolSentence};
-use kp_subsorts::Subsort;
-use kp_subsorts::order::SortOrder;
 use std::alloc::{AllocError, Global};
 
 /// The signature of a definition: what the sentences of its modules declare, and what each declared symbol means.
@@ -39,8 +39,8 @@ impl Signature {
     ghost use Rattle.kp_signature.specs.Places.{unknown_sort_in, unknown_sort_among, is_known};
     ghost use Rattle.std.specs.List.{find};
     ghost use Rattle.std.specs.Str.{bytes_eq};
-    ghost use Rattle.kp_subsorts.specs.Order.{IsOrderOf};
-    ghost use Rattle.kp_subsorts.specs.Pairs.{subsort_view};
+    ghost use Rattle.kp_signature.specs.Order.{IsOrderOf};
+    ghost use Rattle.kp_signature.specs.Pairs.{subsort_view};
     ghost use Rattle.kp_signature.specs.View.{signature_view, sentences_of};
 
     /// What the sentences of these modules declare, in order.

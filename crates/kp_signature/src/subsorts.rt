@@ -5,10 +5,10 @@ ghost use Rattle.kp_kore.specs.Syntax.{application, next_pattern, no_patterns};
 ghost use Rattle.kp_kore.specs.Attributes.{marked_sorts};
 ghost use Rattle.kp_kore.specs.Signature.{subsorts_among};
 ghost use Rattle.kp_kore.specs.View.{sort_view, sorts_view, view, patterns_view};
-ghost use Rattle.kp_subsorts.specs.Pairs.{subsort_view};
+ghost use Rattle.kp_signature.specs.Pairs.{subsort_view};
 
+use crate::Subsort;
 use kp_kore::{Pattern, Sort};
-use kp_subsorts::Subsort;
 use std::alloc::{AllocError, Global};
 
 /// The two sorts of a subsort mark.

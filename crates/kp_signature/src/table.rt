@@ -1,8 +1,8 @@
+use crate::Subsort;
 use crate::names::{NamePlaces, note_name};
 use crate::subsorts::add_subsorts;
 use indexmap::IndexMap;
 use kp_kore::{AliasSentence, Sentence, SortSentence, SymbolSentence};
-use kp_subsorts::Subsort;
 use std::alloc::{AllocError, Global};
 
 /// The declarations in order, and the first place of each name among them.

@@ -3,19 +3,19 @@ use Rattle.std.proofs.Common.{Vec, subst, ◌≡◌, refl, sym, ap, ◌∙◌, �
 use Rattle.std.specs.Prelude.{min}
 use Rattle.std.specs.Option.{option_map}
 use Rattle.std.specs.declared.alloc.Global.{Global}
-use Rattle.kp_terms.specs.declared.clause.Clause.{Clause}
+use Rattle.kp_symbolic.specs.declared.clause.Clause.{Clause}
 use Rattle.kp_weights.specs.declared.weight.Weighed as told_weight
 use Rattle.kp_kore.specs.Syntax.{KorePattern}
 use Rattle.kp_kore.specs.Signature.{KoreSignature}
 use Rattle.kp_results.specs.View.{undecided_view}
 use Rattle.kp_results.specs.declared.undecided.Undecided as told
-use Rattle.kp_semantics.specs.Implied.{state, nothing}
+use Rattle.kp_kore.specs.Implied.{state, nothing}
 use Rattle.kp_symbolic.specs.States.{Literal, SymbolicState}
 use Rattle.kp_symbolic.specs.Shown.{unknown_clauses, weight_passed, wide_number, deep, most_told}
 use Rattle.kp_symbolic.specs.Verdicts.{Verdict, some_valuation, no_valuation, undecided, Weighed, IsRightVerdict}
 use Rattle.kp_symbolic.specs.Writing.{InjectsWhereItStands, written_predicate, written_state}
 use Rattle.kp_symbolic.specs.Endings.{answered, left_open}
-use Rattle.kp_terms.specs.View.{clauses_view}
+use Rattle.kp_symbolic.specs.View.{clauses_view}
 use Rattle.kp_decide.specs.Answers as decide
 use Rattle.kp_decide.specs.Answers.{IsRightAnswer, IsWeighedAs}
 use Rattle.kp_decide.specs.declared.verdict.Verdict.TheVariants as code

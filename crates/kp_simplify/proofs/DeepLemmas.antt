@@ -9,9 +9,9 @@ use Rattle.std.proofs.lemmas.List.Elements.{Contains-append_left, Contains-push}
 use Rattle.kp_kore.specs.Syntax.{KoreSort, KorePattern}
 use Rattle.kp_kore.specs.Limits.{most_depth}
 use Rattle.kp_kore.specs.Signature.{KoreSignature, IsBelow}
-use Rattle.kp_semantics.specs.Value.{Value, whole, truth, token, constructed, HasSort}
-use Rattle.kp_semantics.specs.Steps.{AnyByRecursion}
-use Rattle.kp_states.specs.Spelled.{own_sort}
+use Rattle.kp_kore.specs.Value.{Value, whole, truth, token, constructed, HasSort}
+use Rattle.kp_kore.specs.Steps.{AnyByRecursion}
+use Rattle.kp_compile.specs.Spelled.{own_sort}
 use Rattle.kp_symbolic.specs.Terms.{SymbolicTerm, unknown, offset, known, headed}
 use Rattle.kp_symbolic.specs.States.{Atom, same, has_head, quoted, Literal, SymbolicState}
 use Rattle.kp_symbolic.specs.WellFormed.{IsPlaced, IsWellSorted, IsWellSortedAtom, IsFolded, IsFoldedAtom, IsWellFormed}

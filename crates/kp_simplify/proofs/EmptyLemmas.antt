@@ -2,9 +2,9 @@
 use Rattle.std.proofs.Common.{sym, subst, []}
 use Rattle.kp_kore.specs.Syntax.{KorePattern}
 use Rattle.kp_kore.specs.Signature.{KoreSignature}
-use Rattle.kp_semantics.specs.Instance.{GivesSorts}
-use Rattle.kp_semantics.specs.AtHand.{HasSome}
-use Rattle.kp_semantics.specs.Implied.{IsOfSort, nothing, IsRightSimplified}
+use Rattle.kp_kore.specs.Instance.{GivesSorts}
+use Rattle.kp_kore.specs.AtHand.{HasSome}
+use Rattle.kp_kore.specs.Implied.{IsOfSort, nothing, IsRightSimplified}
 use Rattle.kp_symbolic.specs.States.{SymbolicState, CanBeTrue, HasInstancesOf}
 use Rattle.kp_symbolic.specs.Verdicts.{no_valuation, IsRightVerdict}
 

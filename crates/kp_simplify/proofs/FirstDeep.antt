@@ -3,9 +3,9 @@ use Rattle.std.proofs.Common.{◌≡◌, refl, sym, ap, ◌∙◌, arith, ℕ, z
 use Rattle.std.specs.List.{flat_map}
 use Rattle.std.proofs.lemmas.List.{drop_more}
 use Rattle.kp_kore.specs.Signature.{KoreSignature}
-use Rattle.kp_terms.specs.View.{literal_view, clause_view, clauses_view}
-use Rattle.kp_terms.specs.declared.clause.Literal.{Literal}
-use Rattle.kp_terms.specs.declared.clause.Clause.{Clause}
+use Rattle.kp_symbolic.specs.View.{literal_view, clause_view, clauses_view}
+use Rattle.kp_symbolic.specs.declared.clause.Literal.{Literal}
+use Rattle.kp_symbolic.specs.declared.clause.Clause.{Clause}
 use Rattle.kp_simplify.specs.Answers.{Side, atom_sides, clause_sides, depth_of, too_deep, first_number, first_deep}
 
 first_behind : (a b c : Option ℕ) → first_number (first_number a b) c ≡ first_number a (first_number b c)

@@ -5,14 +5,14 @@ use Rattle.kp_kore.specs.Syntax.{KoreSort, KorePattern}
 use Rattle.kp_kore.specs.Parts.{free_variables}
 use Rattle.kp_kore.specs.Signature.{KoreSignature, injection, meaning_of}
 use Rattle.kp_kore.specs.Sorting.{sort_of_term}
-use Rattle.kp_semantics.specs.Implied as theory
-use Rattle.kp_semantics.specs.Implied.{IsOfSort, state}
-use Rattle.kp_semantics.specs.Instance.{conjoined_terms, conjoined_predicates}
-use Rattle.kp_semantics.specs.Replies.{IsComputed}
-use Rattle.kp_semantics.specs.Steps.{AnyByRecursion}
+use Rattle.kp_kore.specs.Implied as theory
+use Rattle.kp_kore.specs.Implied.{IsOfSort, state}
+use Rattle.kp_kore.specs.Instance.{conjoined_terms, conjoined_predicates}
+use Rattle.kp_kore.specs.Replies.{IsComputed}
+use Rattle.kp_kore.specs.Steps.{AnyByRecursion}
 use Rattle.kp_signature.specs.Places.{the_top}
 use Rattle.kp_signature.specs.Verify.{VerifiesAs}
-use Rattle.kp_states.specs.Spelled.{injection_name}
+use Rattle.kp_compile.specs.Spelled.{injection_name}
 use Rattle.kp_symbolic.specs.Clauses.{clauses_of_conjuncts, without_repeats}
 use Rattle.kp_symbolic.specs.Folding.{folded}
 use Rattle.kp_symbolic.specs.States.{Literal, SymbolicState, HasInstancesOf}

@@ -5,11 +5,11 @@ use Rattle.std.proofs.lemmas.List.Elements.{All-contains, All-from_recursion}
 use Rattle.kp_kore.specs.Syntax.{KorePattern}
 use Rattle.kp_kore.specs.Parts.{SortedName, free_variables}
 use Rattle.kp_kore.specs.Signature.{KoreSignature}
-use Rattle.kp_semantics.specs.Value.{Value, HasSort}
-use Rattle.kp_semantics.specs.Instance.{Valuation, GivesSorts, IsInstance}
-use Rattle.kp_semantics.specs.AtHand.{HasSome}
-use Rattle.kp_semantics.specs.Implied.{IsRightSimplified, HasSameInstances, state}
-use Rattle.kp_semantics.specs.Replies.{IsComputed}
+use Rattle.kp_kore.specs.Value.{Value, HasSort}
+use Rattle.kp_kore.specs.Instance.{Valuation, GivesSorts, IsInstance}
+use Rattle.kp_kore.specs.AtHand.{HasSome}
+use Rattle.kp_kore.specs.Implied.{IsRightSimplified, HasSameInstances, state}
+use Rattle.kp_kore.specs.Replies.{IsComputed}
 use Rattle.kp_symbolic.specs.Terms.{term_instance}
 use Rattle.kp_symbolic.specs.States.{SymbolicState, CanBeTrue, IsStateInstance, HasInstancesOf}
 use Rattle.kp_symbolic.specs.WellFormed.{AreAtHand}

@@ -7,17 +7,17 @@ use Rattle.std.proofs.lemmas.List.Elements.{Contains-append_left, Contains-push}
 use Rattle.kp_kore.specs.Syntax.{Text, KorePattern}
 use Rattle.kp_kore.specs.Hooks.{whole_arithmetic, whole_comparison, truth_connective, truth_negation, values_equal, values_different}
 use Rattle.kp_kore.specs.Signature.{KoreSignature, SymbolMeaning, injection, construction, interpretation, foreign, meaning_of}
-use Rattle.kp_semantics.specs.Value.{whole, truth, token, constructed}
-use Rattle.kp_semantics.specs.Forms.{two}
-use Rattle.kp_semantics.specs.Interpretation.{interpreted}
-use Rattle.kp_semantics.specs.Steps.{AnyByRecursion}
+use Rattle.kp_kore.specs.Value.{whole, truth, token, constructed}
+use Rattle.kp_kore.specs.Forms.{two}
+use Rattle.kp_kore.specs.Interpretation.{interpreted}
+use Rattle.kp_kore.specs.Steps.{AnyByRecursion}
 use Rattle.kp_symbolic.specs.Terms.{SymbolicTerm, unknown, offset, known, headed, no_terms, next_term}
 use Rattle.kp_symbolic.specs.States.{SymbolicState}
 use Rattle.kp_symbolic.specs.Folding.{replaced, made}
 use Rattle.kp_symbolic.specs.Sources.{parts_of, all_parts_of, state_parts}
 use Rattle.kp_symbolic.specs.Shown.{Overflows, IsShown, wide_number}
 use Rattle.kp_symbolic.specs.Endings.{simplify_situation}
-use Rattle.kp_terms.specs.Sums.{whole_known}
+use Rattle.kp_symbolic.specs.Sums.{whole_known}
 use Rattle.kp_wide.specs.Wide.{WideCall, is_wide_of, call_if, call_of, wide_call, first_of, first_wide_among, first_wide}
 
 -- ---- what a wide call is

@@ -6,7 +6,7 @@ use Rattle.kp_kore.specs.Syntax.{KoreSort, KorePattern}
 use Rattle.kp_kore.specs.Limits.{most_depth}
 use Rattle.kp_kore.specs.Parts.{term_depth}
 use Rattle.kp_kore.specs.Signature.{KoreSignature}
-use Rattle.kp_semantics.specs.Implied.{Simplified, state, nothing}
+use Rattle.kp_kore.specs.Implied.{Simplified, state, nothing}
 use Rattle.kp_symbolic.specs.Terms.{SymbolicTerm}
 use Rattle.kp_symbolic.specs.States.{Atom, same, Literal, SymbolicState}
 use Rattle.kp_symbolic.specs.Writing.{written_term, written_predicate, written_state}

@@ -5,14 +5,14 @@ use Rattle.kp_kore.specs.Syntax.{KorePattern}
 use Rattle.kp_kore.specs.Parts.{free_variables}
 use Rattle.kp_kore.specs.Signature.{KoreSignature, injection, meaning_of}
 use Rattle.kp_kore.specs.View.{view}
-use Rattle.kp_semantics.specs.Value.{Value}
-use Rattle.kp_semantics.specs.Instance.{Valuation, GivesSorts, IsInstance}
-use Rattle.kp_semantics.specs.Implied as theory
-use Rattle.kp_semantics.specs.Implied.{state, nothing}
+use Rattle.kp_kore.specs.Value.{Value}
+use Rattle.kp_kore.specs.Instance.{Valuation, GivesSorts, IsInstance}
+use Rattle.kp_kore.specs.Implied as theory
+use Rattle.kp_kore.specs.Implied.{state, nothing}
 use Rattle.kp_results.specs.Results as parts
 use Rattle.kp_results.specs.View.{undecided_view}
 use Rattle.kp_clauses.specs.Faults.{state_fault, foreign_symbol, other_shape}
-use Rattle.kp_states.specs.Spelled.{injection_name}
+use Rattle.kp_compile.specs.Spelled.{injection_name}
 use Rattle.kp_symbolic.specs.States.{Literal, SymbolicState, IsStateInstance}
 use Rattle.kp_symbolic.specs.WellFormed.{AreAtHand}
 use Rattle.kp_symbolic.specs.Writing.{InjectsWhereItStands}

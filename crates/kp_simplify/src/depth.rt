@@ -3,12 +3,12 @@ ghost use Rattle.std.specs.Prelude.{◌≡◌, suc, [], ◌∷◌, IfOk, map};
 ghost use Rattle.std.specs.List.{flat_map};
 ghost use Rattle.kp_kore.specs.Parts.{term_depth, most_term_depth};
 ghost use Rattle.kp_kore.specs.View.{view, patterns_view, sort_view};
-ghost use Rattle.kp_terms.specs.Languages.{language_view};
-ghost use Rattle.kp_terms.specs.View.{atom_view, clauses_view, literal_view, state_view, term_view};
+ghost use Rattle.kp_symbolic.specs.Languages.{language_view};
+ghost use Rattle.kp_symbolic.specs.View.{atom_view, clauses_view, literal_view, state_view, term_view};
 ghost use Rattle.kp_simplify.specs.Answers as model;
 
 use kp_kore::{Pattern, Sort};
-use kp_terms::{Atom, Clause, Language, Literal, State, Term};
+use kp_symbolic::{Atom, Clause, Language, Literal, State, Term};
 use kp_writing::term_out;
 use std::alloc::{AllocError, Global};
 

@@ -8,10 +8,10 @@ ghost use Rattle.kp_kore.specs.Syntax.{KorePattern};
 ghost use Rattle.kp_kore.specs.View.{view, sort_view};
 ghost use Rattle.kp_outward.specs.Errors.{IsNoInjection};
 ghost use Rattle.kp_signature.specs.Verify.{VerifiesAs};
-ghost use Rattle.kp_states.specs.Spelled.{injection_name};
+ghost use Rattle.kp_compile.specs.Spelled.{injection_name};
 ghost use Rattle.kp_symbolic.specs.WellFormed.{IsWellFormed};
-ghost use Rattle.kp_terms.specs.Languages.{language_view};
-ghost use Rattle.kp_terms.specs.View.{state_view};
+ghost use Rattle.kp_symbolic.specs.Languages.{language_view};
+ghost use Rattle.kp_symbolic.specs.View.{state_view};
 ghost use Rattle.kp_simplify.specs.Told.{IsAnswered, IsFound, IsUnsimplified, LacksInjection, TellsNoInjection, WantsInjection};
 
 use crate::answer::Simplified;
@@ -21,7 +21,7 @@ use kp_heads::HeadTable;
 use kp_kore::{Pattern, Sort};
 use kp_outward::WritingError;
 use kp_solving::inward;
-use kp_terms::{Language, State};
+use kp_symbolic::{Language, State};
 use std::alloc::Global;
 
 /// Why a pattern isn't simplified.

@@ -9,8 +9,8 @@ use Rattle.kp_kore.specs.Syntax.{KoreSort, KorePattern}
 use Rattle.kp_kore.specs.Signature.{KoreSignature}
 use Rattle.kp_kore.specs.View.{view}
 use Rattle.kp_json.specs.Faults.{Reading, read}
-use Rattle.kp_semantics.specs.Implied as theory
-use Rattle.kp_semantics.specs.Implied.{state, nothing}
+use Rattle.kp_kore.specs.Implied as theory
+use Rattle.kp_kore.specs.Implied.{state, nothing}
 use Rattle.kp_signature.specs.Faults.{fault_view}
 use Rattle.kp_signature.specs.Verify as verify
 use Rattle.kp_signature.specs.Verify.{VerifiesAs}

@@ -5,9 +5,9 @@ use Rattle.kp_kore.specs.Syntax.{KoreSort, KorePattern, variable, application, l
 use Rattle.kp_kore.specs.Parts.{is_term, all_free_variables}
 use Rattle.kp_kore.specs.Signature.{KoreSignature}
 use Rattle.kp_kore.specs.Sorting.{sort_of_term}
-use Rattle.kp_semantics.specs.Implied.{IsOfSort}
-use Rattle.kp_semantics.specs.Instance.{conjuncts, all_conjuncts, conjoined_terms}
-use Rattle.kp_semantics.specs.Steps.{AnyByRecursion}
+use Rattle.kp_kore.specs.Implied.{IsOfSort}
+use Rattle.kp_kore.specs.Instance.{conjuncts, all_conjuncts, conjoined_terms}
+use Rattle.kp_kore.specs.Steps.{AnyByRecursion}
 use Rattle.kp_signature.specs.Places.{own_sort, the_top, part_at}
 use Rattle.kp_signature.specs.Verify.{VerifiesAs}
 use Rattle.kp_signature.proofs.FaultLemmas.{nothing_later, term_has_wanted_sort}

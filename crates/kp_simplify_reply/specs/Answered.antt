@@ -7,8 +7,8 @@ use Rattle.kp_kore.specs.Syntax.{Text, KoreSort, KorePattern, bottom}
 use Rattle.kp_kore.specs.Signature.{KoreSignature, injection, meaning_of}
 use Rattle.kp_json.specs.Faults.{Reading, read, fault, TreeFault}
 use Rattle.kp_signature.specs.Verify.{VerifiesAs}
-use Rattle.kp_states.specs.Spelled.{injection_name}
-use Rattle.kp_semantics.specs.Implied.{Simplified, state, nothing}
+use Rattle.kp_compile.specs.Spelled.{injection_name}
+use Rattle.kp_kore.specs.Implied.{Simplified, state, nothing}
 use Rattle.kp_symbolic.specs.Endings.{Result, answered, left_open, IsRightOfSimplify, IsSimplifyFloorKept}
 use Rattle.kp_clauses.specs.Faults as place
 use Rattle.kp_clauses.specs.Faults.{state_fault}

@@ -11,7 +11,7 @@ ghost use Rattle.kp_replies.specs.Failures.{undecided};
 ghost use Rattle.kp_replies.specs.View.{failure_view};
 ghost use Rattle.kp_requests.specs.View.{reading_view};
 ghost use Rattle.kp_rpc.specs.View.{id_view};
-ghost use Rattle.kp_semantics.specs.Implied as theory;
+ghost use Rattle.kp_kore.specs.Implied as theory;
 ghost use Rattle.kp_server.specs.Ends.{TellsFault};
 ghost use Rattle.kp_signature.specs.Faults.{fault_view};
 ghost use Rattle.kp_signature.specs.Verify.{VerifiesAs};
@@ -20,7 +20,7 @@ ghost use Rattle.kp_simplify.specs.Spelled.{parts_of_cause};
 ghost use Rattle.kp_simplify.specs.Told.{IsFound, IsUnsimplified, LacksInjection, TellsNoInjection};
 ghost use Rattle.kp_symbolic.specs.Endings.{answered, left_open};
 ghost use Rattle.kp_symbolic.specs.Shown as shown;
-ghost use Rattle.kp_terms.specs.Languages.{language_view};
+ghost use Rattle.kp_symbolic.specs.Languages.{language_view};
 ghost use Rattle.kp_simplify_reply.specs.Answered.{IsReplyLine, IsRightAnswer, IsSimplifiedAs, IsUnderstoodAs, pattern_of};
 
 use kp_heads::HeadTable;
@@ -31,7 +31,7 @@ use kp_rpc::{Id, PatternFault, StateFault, fault_text};
 use kp_server::{Failure, not_answered, verify_failure};
 use kp_signature::{Signature, VerifyError, verify};
 use kp_simplify::{Simplified, SimplifyError, simplify};
-use kp_terms::Language;
+use kp_symbolic::Language;
 use std::alloc::{AllocError, Global};
 
 /// The reply to a request of simplify over this signature.

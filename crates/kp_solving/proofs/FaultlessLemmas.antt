@@ -4,8 +4,8 @@ use Rattle.std.proofs.Common.{◌≡◌, true, List, [], ◌∷◌, Some, None}
 use Rattle.std.specs.List.{AllByRecursion}
 use Rattle.kp_kore.specs.Syntax.{KorePattern}
 use Rattle.kp_kore.specs.Signature.{KoreSignature}
-use Rattle.kp_semantics.specs.Foreign.{none_within, has_foreign_head}
-use Rattle.kp_semantics.specs.Instance.{is_predicate, conjoined_predicates}
+use Rattle.kp_kore.specs.Foreign.{none_within, has_foreign_head}
+use Rattle.kp_kore.specs.Instance.{is_predicate, conjoined_predicates}
 use Rattle.kp_signature.specs.Places.{Place}
 use Rattle.kp_signature.specs.Verify.{first_fault}
 use Rattle.kp_symbolic.specs.Terms.{SymbolicTerm, unknown, offset, known, headed, SymbolicTerms, no_terms, next_term, Replaced}
@@ -19,7 +19,7 @@ use Rattle.kp_computed.proofs.Settled.{IsSettled, AreSettled, ArePutSettled}
 use Rattle.kp_computed.proofs.OpenedSettled.{IsSettledAtom, IsSettledLiteral, AreSettledClauses}
 use Rattle.kp_computed.proofs.SolvedSettled.{IsSettledState, step_settled}
 use Rattle.kp_computed.proofs.ReadStates.{opened_is_settled}
-use Rattle.kp_terms.specs.Faultless.{IsFaultless}
+use Rattle.kp_symbolic.specs.Faultless.{IsFaultless}
 use Rattle.kp_replacing.specs.Sums.{HasWrittenSums}
 use Rattle.kp_writing.specs.Parts.{IsFaultlessAtom}
 use Rattle.kp_solving.specs.Readable.{IsReadable, IsWrittenFaultless}

@@ -5,14 +5,14 @@ use Rattle.std.specs.List.{list_all, list_any}
 use Rattle.std.proofs.lemmas.List.{take_more, drop_more}
 use Rattle.kp_kore.specs.Syntax.{Text}
 use Rattle.kp_kore.specs.Signature.{KoreSignature}
-use Rattle.kp_semantics.specs.Instance.{is_named}
+use Rattle.kp_kore.specs.Instance.{is_named}
 use Rattle.kp_symbolic.specs.Terms.{term_variables}
 use Rattle.kp_symbolic.specs.States.{Literal, clause_variables, SymbolicState}
 use Rattle.kp_symbolic.specs.Plain.{stands_alone}
 use Rattle.kp_symbolic.specs.Solving.{Equation, equation_of, literals_in, Solvable, stands_elsewhere, solvable_if, first_of_two, first_solvable_among, most_solved, first_solvable}
-use Rattle.kp_terms.specs.View.{literal_view, clause_view, clauses_view}
-use Rattle.kp_terms.specs.declared.clause.Clause.{Clause}
-use Rattle.kp_terms.specs.declared.clause.Literal.{Literal as Written}
+use Rattle.kp_symbolic.specs.View.{literal_view, clause_view, clauses_view}
+use Rattle.kp_symbolic.specs.declared.clause.Clause.{Clause}
+use Rattle.kp_symbolic.specs.declared.clause.Literal.{Literal as Written}
 use Rattle.kp_solving.specs.Solvables.{solvable_of}
 
 one_left : {X : Type 0} (xs : List X) (i : ℕ) (x : X) → i < length xs → x ≡ get_or xs i x → drop i xs ≡ x ∷ drop (i + 1) xs

@@ -16,8 +16,8 @@ use Rattle.kp_symbolic_laws.proofs.FormedSteps.{read_well_formed}
 use Rattle.kp_kept.proofs.KeptCourse.{read_kept}
 use Rattle.kp_kept.specs.Kept.{CanBeWritten}
 use Rattle.kp_symbolic_laws.specs.Runs.{ComesBy, IsSoundState, OfEachKept}
-use Rattle.kp_terms.specs.View.{state_view}
-use Rattle.kp_terms.specs.declared.state.State.{State}
+use Rattle.kp_symbolic.specs.View.{state_view}
+use Rattle.kp_symbolic.specs.declared.state.State.{State}
 use Rattle.kp_solving.specs.Readable.{IsReadable, IsWrittenFaultless}
 use Rattle.kp_solving.proofs.FaultlessLemmas.{all_readable}
 

@@ -5,9 +5,9 @@ use Rattle.std.specs.List.{AllByRecursion}
 use Rattle.kp_kore.specs.Syntax.{KoreSort}
 use Rattle.kp_kore.specs.Parts.{SortedName, free_variables}
 use Rattle.kp_kore.specs.Signature.{KoreSignature}
-use Rattle.kp_semantics.specs.Value.{Value}
-use Rattle.kp_semantics.specs.Instance.{Valuation, AgreesOn, is_named}
-use Rattle.kp_semantics.proofs.TruthLemmas.{same_truth}
+use Rattle.kp_kore.specs.Value.{Value}
+use Rattle.kp_kore.specs.Instance.{Valuation, AgreesOn, is_named}
+use Rattle.kp_kore.proofs.TruthLemmas.{same_truth}
 use Rattle.kp_symbolic.specs.Terms.{unknown, term_instance, term_variables, under_replaced}
 use Rattle.kp_symbolic.specs.Formulas.{NoneHold}
 use Rattle.kp_symbolic.specs.States.{quoted, same, Literal, IsLiteralTrue, IsClauseTrue, AreTrue, AreGiven, clause_variables, SymbolicState, IsStateInstance}

@@ -7,8 +7,8 @@ use Rattle.kp_symbolic.specs.Formulas.{size_of}
 use Rattle.kp_symbolic.specs.States.{Literal, SymbolicState}
 use Rattle.kp_symbolic.specs.Solving.{Equation, Solvable, opened_clause, solved_clause, literals_in, first_solvable, solved_at}
 use Rattle.kp_symbolic_laws.specs.Runs.{ComesBy, begins, goes_by, IfKeptWhole, OfKeptWhole, OfKeptAt, OfEachKept}
-use Rattle.kp_terms.specs.View.{clause_view, clauses_view}
-use Rattle.kp_terms.specs.declared.clause.Clause.{Clause}
+use Rattle.kp_symbolic.specs.View.{clause_view, clauses_view}
+use Rattle.kp_symbolic.specs.declared.clause.Clause.{Clause}
 use Rattle.kp_solving.specs.Solvables.{solved_or_kept}
 use Rattle.kp_solving.proofs.RoundLemmas.{ahead, same_test, still_same, clause_alike, equal_so, other_so, one_left, none_left, after, capped}
 use Rattle.kp_solving.proofs.SettleLemmas.{first_solved}

@@ -5,14 +5,14 @@ use Rattle.std.proofs.lemmas.List.{drop_more, append_assoc, append-nil, map-appe
 use Rattle.std.specs.Prelude.{if◌then◌else◌}
 use Rattle.kp_kore.specs.Syntax.{KoreSort}
 use Rattle.kp_kore.specs.Signature.{KoreSignature}
-use Rattle.kp_semantics.specs.Instance.{is_named}
+use Rattle.kp_kore.specs.Instance.{is_named}
 use Rattle.kp_symbolic.specs.Formulas.{size_of}
 use Rattle.kp_symbolic.specs.States.{Literal, clause_variables}
 use Rattle.kp_symbolic.specs.Writing.{written_clause}
 use Rattle.kp_symbolic.specs.Clauses.{distributed}
 use Rattle.kp_symbolic.specs.Solving.{Equation, replacement, opened_clause, solved_clause, literals_in, solved_clauses}
-use Rattle.kp_terms.specs.View.{clause_view, clauses_view}
-use Rattle.kp_terms.specs.declared.clause.Clause.{Clause}
+use Rattle.kp_symbolic.specs.View.{clause_view, clauses_view}
+use Rattle.kp_symbolic.specs.declared.clause.Clause.{Clause}
 use Rattle.kp_solving.specs.Solvables.{quoted_clause, solved_or_kept}
 
 -- ---- literals before, as they are counted

@@ -7,9 +7,9 @@ use Rattle.kp_symbolic.specs.States as states
 use Rattle.kp_symbolic.specs.States.{SymbolicState}
 use Rattle.kp_symbolic.specs.Solving.{Solvable, first_solvable, solved_at}
 use Rattle.kp_symbolic_laws.specs.Runs.{ComesBy, begins, goes_by}
-use Rattle.kp_terms.specs.View.{literal_view, clauses_view}
-use Rattle.kp_terms.specs.declared.clause.Clause.{Clause}
-use Rattle.kp_terms.specs.declared.clause.Literal.{Literal}
+use Rattle.kp_symbolic.specs.View.{literal_view, clauses_view}
+use Rattle.kp_symbolic.specs.declared.clause.Clause.{Clause}
+use Rattle.kp_symbolic.specs.declared.clause.Literal.{Literal}
 use Rattle.kp_solving.proofs.SettleLemmas.{first_solved}
 
 -- one state further

@@ -9,8 +9,8 @@ use Rattle.kp_kore.specs.declared.pattern.Pattern.{Pattern}
 use Rattle.kp_symbolic.specs.States as clauses
 use Rattle.kp_symbolic.specs.Writing.{InjectsWhereItStands, written_literal, written_literals, written_clause}
 use Rattle.kp_symbolic_laws.specs.Runs.{HasRoomClause}
-use Rattle.kp_terms.specs.View.{literal_view}
-use Rattle.kp_terms.specs.declared.clause.Literal.{Literal}
+use Rattle.kp_symbolic.specs.View.{literal_view}
+use Rattle.kp_symbolic.specs.declared.clause.Literal.{Literal}
 use Rattle.kp_kept.specs.Kept.{CanBeWrittenAt}
 
 abbrev listed : List KorePattern → KorePatterns

@@ -5,7 +5,7 @@ use Rattle.kp_kore.specs.Signature.{KoreSignature}
 use Rattle.kp_symbolic.specs.Folding.{AreWritten}
 use Rattle.kp_symbolic.specs.States.{Literal, SymbolicState}
 use Rattle.kp_symbolic.specs.Writing.{written_clause}
-use Rattle.kp_terms.specs.Faultless.{IsFaultless}
+use Rattle.kp_symbolic.specs.Faultless.{IsFaultless}
 use Rattle.kp_replacing.specs.Sums.{HasWrittenSums}
 use Rattle.kp_writing.specs.Parts.{IsFaultlessAtom}
 

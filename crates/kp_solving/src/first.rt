@@ -4,14 +4,14 @@ ghost use Rattle.std.specs.Option.{option_map};
 ghost use Rattle.kp_signature.specs.View.{signature_view};
 ghost use Rattle.kp_symbolic.specs.Solving as model;
 ghost use Rattle.kp_symbolic.specs.Solving.{most_solved};
-ghost use Rattle.kp_terms.specs.View.{literal_view, clause_view, clauses_view, state_view};
+ghost use Rattle.kp_symbolic.specs.View.{literal_view, clause_view, clauses_view, state_view};
 ghost use Rattle.kp_readings.specs.Equations.{equation_view};
 ghost use Rattle.kp_solving.specs.Solvables.{solvable_view};
 
 use kp_readings::equation::{Equation, equation_of};
 use kp_readings::names::stands_alone;
 use kp_signature::Signature;
-use kp_terms::{Clause, Literal, State};
+use kp_symbolic::{Clause, Literal, State};
 use std::alloc::{AllocError, Global};
 
 /// As many literals as a state may have that is solved.

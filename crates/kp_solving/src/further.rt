@@ -1,8 +1,8 @@
 // A state with further clauses, and one in which a variable is a term.
 ghost use Rattle.std.specs.Prelude.{◌≡◌, ◌∷◌, [], ◌++◌, IfOk, IfErr};
 ghost use Rattle.kp_compile.specs.declared.error.CompileError.TheVariants.{Memory};
-ghost use Rattle.kp_terms.specs.Languages.{language_view};
-ghost use Rattle.kp_terms.specs.View.{variable_view, term_view, clause_view, clauses_view, variables_view, state_view};
+ghost use Rattle.kp_symbolic.specs.Languages.{language_view};
+ghost use Rattle.kp_symbolic.specs.View.{variable_view, term_view, clause_view, clauses_view, variables_view, state_view};
 ghost use Rattle.kp_readings.specs.Equations.{equation_view};
 ghost use Rattle.kp_solving.specs.Further as model;
 ghost use Rattle.kp_solving.specs.Readable.{IsReadable};
@@ -11,8 +11,8 @@ use crate::round::solve_at;
 use kp_compile::CompileError;
 use kp_distribution::joined::{kept_once, make_clause};
 use kp_readings::equation::Equation;
-use kp_terms::state::share_variables;
-use kp_terms::{Atom, Clause, Language, Literal, State, Term, Variable};
+use kp_symbolic::state::share_variables;
+use kp_symbolic::{Atom, Clause, Language, Literal, State, Term, Variable};
 use std::alloc::{AllocError, Global};
 use std::sync::Arc;
 

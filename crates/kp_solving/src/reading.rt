@@ -11,14 +11,14 @@ ghost use Rattle.kp_symbolic.specs.WellFormed.{IsWellFormed};
 ghost use Rattle.kp_kept.specs.Kept.{CanBeWritten};
 ghost use Rattle.kp_symbolic_laws.specs.Runs.{ComesBy, IsSoundState, OfEachKept};
 ghost use Rattle.kp_solving.specs.Readable.{IsReadable, IsWrittenFaultless};
-ghost use Rattle.kp_terms.specs.Languages.{language_view};
-ghost use Rattle.kp_terms.specs.View.{state_view};
+ghost use Rattle.kp_symbolic.specs.Languages.{language_view};
+ghost use Rattle.kp_symbolic.specs.View.{state_view};
 
 use crate::solving::settle;
 use kp_clauses::{TermFault, open_state};
 use kp_compile::CompileError;
 use kp_kore::{Pattern, Sort};
-use kp_terms::{Language, State};
+use kp_symbolic::{Language, State};
 use std::alloc::Global;
 
 /// What is told where the equations aren't solved: nothing of the pattern's shape.

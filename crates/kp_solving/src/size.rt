@@ -3,8 +3,8 @@
 use kp_compile::subpatterns;
 use kp_ground::Value;
 use kp_kore::Pattern;
-use kp_terms::replaced::replacement_of;
-use kp_terms::{Atom, Clause, Literal, Replaced, Term};
+use kp_symbolic::replaced::replacement_of;
+use kp_symbolic::{Atom, Clause, Literal, Replaced, Term};
 use std::alloc::Global;
 
 /// As many parts as a state may get: a line of more is longer than what a client reads of one reply.

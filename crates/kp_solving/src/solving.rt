@@ -4,8 +4,8 @@ ghost use Rattle.std.specs.Option.{option_map};
 ghost use Rattle.kp_compile.specs.declared.error.CompileError.TheVariants.{Memory};
 ghost use Rattle.kp_symbolic.specs.Solving as model;
 ghost use Rattle.kp_symbolic.specs.Solving.{Solving};
-ghost use Rattle.kp_terms.specs.Languages.{language_view};
-ghost use Rattle.kp_terms.specs.View.{state_view};
+ghost use Rattle.kp_symbolic.specs.Languages.{language_view};
+ghost use Rattle.kp_symbolic.specs.View.{state_view};
 ghost use Rattle.kp_kept.specs.Kept.{CanBeWritten};
 ghost use Rattle.kp_symbolic.specs.States.{SymbolicState};
 ghost use Rattle.kp_symbolic_laws.specs.Runs.{ComesBy, OfKeptAt, OfEachKept};
@@ -14,7 +14,7 @@ ghost use Rattle.kp_solving.specs.Readable.{IsReadable};
 use crate::first::first_solvable;
 use crate::round::solve_at;
 use kp_compile::CompileError;
-use kp_terms::{Language, State};
+use kp_symbolic::{Language, State};
 use std::alloc::Global;
 
 /// The state with its first equation that can be solved solved, if there is one.

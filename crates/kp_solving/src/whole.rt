@@ -8,19 +8,18 @@ ghost use Rattle.kp_signature.specs.View.{signature_view};
 ghost use Rattle.kp_symbolic.specs.Writing as model;
 ghost use Rattle.kp_symbolic.specs.Writing.{InjectsWhereItStands};
 ghost use Rattle.kp_symbolic_laws.specs.Runs.{HasRoomAtom, HasRoomClause};
-ghost use Rattle.kp_terms.specs.Languages.{language_view};
-ghost use Rattle.kp_terms.specs.View.{literal_view, clause_view};
+ghost use Rattle.kp_symbolic.specs.Languages.{language_view};
+ghost use Rattle.kp_symbolic.specs.View.{literal_view, clause_view};
 ghost use Rattle.kp_kept.specs.Kept.{CanBeWrittenAt};
 ghost use Rattle.kp_writing.specs.Parts.{IsFaultlessAtom};
 
-use kp_compile::CompileError;
+use kp_compile::{CompileError, has_injection, injects};
 use kp_kore::{Pattern, Sort};
 use kp_outward::alone::alone_out;
 use kp_outward::joined::bottom_out;
 use kp_signature::Signature;
-use kp_states::{has_injection, injects};
 use kp_substitution::build::disjunction_of;
-use kp_terms::{Clause, Language, Literal};
+use kp_symbolic::{Clause, Language, Literal};
 use kp_writing::literal_out;
 use std::alloc::Global;
 

@@ -5,7 +5,7 @@ use Rattle.std.proofs.lemmas.List.{append_assoc}
 use Rattle.std.proofs.lemmas.List.Elements.{Contains-push_cases}
 use Rattle.kp_kore.specs.Syntax.{KoreSort}
 use Rattle.kp_kore.specs.Signature.{KoreSignature, Head, integers, booleans, tokens, is_head}
-use Rattle.kp_semantics.specs.Value.{whole, truth, token}
+use Rattle.kp_kore.specs.Value.{whole, truth, token}
 use Rattle.kp_signature.proofs.HeadLemmas.{is_head-Decides}
 use Rattle.kp_heads.specs.Heads.{IsLive}
 use Rattle.kp_sort_heads.specs.Live.{Passed, IsNextLive}

@@ -6,8 +6,8 @@ use Rattle.kp_kore.specs.Syntax.{KoreSort}
 use Rattle.kp_kore.specs.Signature.{KoreSignature, Head, integers, booleans, tokens, constructor_of, is_head}
 use Rattle.kp_kore.specs.View.{symbol_sentence_view}
 use Rattle.kp_kore.specs.declared.sentence.SymbolSentence.{SymbolSentence}
-use Rattle.kp_subsorts.specs.Pairs.{subsort_view}
-use Rattle.kp_subsorts.specs.declared.subsort.Subsort.{Subsort}
+use Rattle.kp_signature.specs.Pairs.{subsort_view}
+use Rattle.kp_signature.specs.declared.subsort.Subsort.{Subsort}
 use Rattle.kp_sort_heads.specs.declared.left.Stage.{Stage}
 use Rattle.kp_sort_heads.specs.declared.left.Stage.TheVariants as stage
 use Rattle.kp_sort_heads.specs.declared.left.Left.{Left}

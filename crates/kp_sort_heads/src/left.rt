@@ -6,7 +6,7 @@ ghost use Rattle.kp_sort_heads.specs.Views.{head_view};
 
 use crate::head::Head;
 use kp_kore::{Sort, SymbolSentence};
-use kp_subsorts::Subsort;
+use kp_signature::Subsort;
 
 /// Which of the heads that no sentence lists comes next: whole numbers, truth values, tokens of the sort itself, or none.
 #[derive(Clone, Copy)]

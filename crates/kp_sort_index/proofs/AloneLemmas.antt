@@ -2,12 +2,12 @@
 use Rattle.std.proofs.Common.{◌≡◌, refl, sym, ap, subst, ◌∙◌, ℕ, zero, suc, ◌+◌, ◌<◌, ◌≤◌, ◌⊎◌, inl, inr, Bool, true, false, List, [], ◌∷◌, ◌++◌, length, get_or, Vec, Global, Contains, arith}
 use Rattle.std.specs.Prelude.{IsTrue}
 use Rattle.kp_kore.specs.Syntax.{KoreSort}
-use Rattle.kp_subsorts.specs.Edges.{edges_of, Leads, Reaches, stays, goes}
-use Rattle.kp_subsorts.specs.Order.{IsGraphOf, Under, sorts_of}
-use Rattle.kp_subsorts.specs.declared.graph.SortGraph.{SortGraph}
-use Rattle.kp_subsorts.proofs.EdgeLemmas.{onwards}
-use Rattle.kp_subsorts.proofs.NewOrder.{pushed_length, pushed_before, pushed_last}
-use Rattle.kp_subsorts.proofs.OrderLemmas.{opposite}
+use Rattle.kp_signature.specs.Edges.{edges_of, Leads, Reaches, stays, goes}
+use Rattle.kp_signature.specs.Order.{IsGraphOf, Under, sorts_of}
+use Rattle.kp_signature.specs.declared.graph.SortGraph.{SortGraph}
+use Rattle.kp_signature.proofs.EdgeLemmas.{onwards}
+use Rattle.kp_signature.proofs.NewOrder.{pushed_length, pushed_before, pushed_last}
+use Rattle.kp_signature.proofs.OrderLemmas.{opposite}
 use Rattle.kp_sort_index.specs.Index.{AreStraightBy, IsAlone, IsNarrow}
 
 -- the last edge of a way

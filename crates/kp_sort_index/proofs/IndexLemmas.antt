@@ -3,11 +3,11 @@ use Rattle.std.proofs.Common.{◌≡◌, refl, sym, ap, subst, ◌∙◌, ℕ, �
 use Rattle.std.specs.Prelude.{MatchBool}
 use Rattle.kp_kore.specs.Syntax.{KoreSort, SymbolDeclaration}
 use Rattle.kp_kore.specs.Signature.{KoreSignature, IsBelow, itself, Head, integers, booleans, tokens, constructor_of, IsSortOfHead, symbol_declared}
-use Rattle.kp_subsorts.specs.Edges.{IsNumber}
-use Rattle.kp_subsorts.specs.Order.{sorts_of}
-use Rattle.kp_subsorts.proofs.Below.{onwards}
-use Rattle.kp_subsorts.proofs.OrderLemmas.{sort_below, number_below, under_is_below, below_is_under, none_below}
-use Rattle.kp_semantics.specs.Foreign.{Meet, SplitsByHeads}
+use Rattle.kp_signature.specs.Edges.{IsNumber}
+use Rattle.kp_signature.specs.Order.{sorts_of}
+use Rattle.kp_signature.proofs.Below.{onwards}
+use Rattle.kp_signature.proofs.OrderLemmas.{sort_below, number_below, under_is_below, below_is_under, none_below}
+use Rattle.kp_kore.specs.Foreign.{Meet, SplitsByHeads}
 use Rattle.kp_sort_index.specs.Index.{NumberMeet, NumbersSplit, IsIndexOf}
 use Rattle.kp_sort_index.specs.declared.sort_index.SortIndex.{SortIndex}
 

@@ -6,7 +6,7 @@ use Rattle.kp_kore.specs.Signature.{KoreSignature, injection, meaning_of}
 use Rattle.kp_kore.specs.View.{sort_view, sorts_view, patterns_view}
 use Rattle.kp_kore.specs.declared.sort.Sort.{Sort}
 use Rattle.kp_kore.specs.declared.pattern.Pattern.{Pattern}
-use Rattle.kp_semantics.specs.Foreign.{SplitsByHeads, InjectionsSplit}
+use Rattle.kp_kore.specs.Foreign.{SplitsByHeads, InjectionsSplit}
 use Rattle.kp_sort_index.specs.Index.{is_one_variable}
 
 split_pair : (g : KoreSignature) (f : Text) (t u : KoreSort) (ps : KorePatterns) → (is_one_variable ps ≡ true → meaning_of g f ≡ injection → SplitsByHeads g t u) → InjectionsSplit g (application f (next_sort t (next_sort u no_sorts)) ps)

@@ -2,10 +2,10 @@
 use Rattle.std.proofs.Common.{◌≡◌, sym, subst, ℕ, ◌+◌, ◌<◌, ◌≤◌, ◌⊎◌, ◌↔◌, inl, inr, Bool, true, List, [], ◌∷◌, ◌++◌, length, take, get_or, Contains, arith}
 use Rattle.std.proofs.lemmas.List.{take_more, take_all}
 use Rattle.std.proofs.lemmas.List.Elements.{Contains-append_left, Contains-push, Contains-push_cases, Contains-get_or}
-use Rattle.kp_subsorts.specs.Edges.{stays, goes, IsReachedFrom, Extended}
+use Rattle.kp_signature.specs.Edges.{stays, goes, IsReachedFrom, Extended}
 use Rattle.kp_sort_index.specs.Index.{IsAlone, Under, Over, AreOpposite, OwnsHeads, NumberMeet, NumbersSplit, SetMeet, IsSettled, Covers, AreNotOver, down, up}
 use Rattle.kp_sort_index.specs.declared.sort_index.SortIndex.{SortIndex}
-use Rattle.kp_subsorts.proofs.EdgeLemmas.{nothing_there, further, onwards, there_or_added}
+use Rattle.kp_signature.proofs.EdgeLemmas.{nothing_there, further, onwards, there_or_added}
 
 -- ---- loops
 

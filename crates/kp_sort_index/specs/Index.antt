@@ -5,10 +5,10 @@ use Rattle.std.specs.List.{Contains}
 use Rattle.std.specs.declared.alloc.Global.{Global}
 use Rattle.kp_kore.specs.Syntax.{Text, KoreSort, KorePattern, variable, KorePatterns, no_patterns, next_pattern, SymbolDeclaration}
 use Rattle.kp_kore.specs.Signature.{KoreSignature, Head, IsSortOfHead, has_literals, SymbolMeaning, construction, symbol_declared, symbol_meaning}
-use Rattle.kp_subsorts.specs.Edges.{edges_of, Leads, Reaches, IsNumber}
-use Rattle.kp_subsorts.specs.Order.{IsOrderOf, sorts_of}
-use Rattle.kp_subsorts.specs.Order as order
-use Rattle.kp_subsorts.specs.declared.graph.SortGraph.{SortGraph}
+use Rattle.kp_signature.specs.Edges.{edges_of, Leads, Reaches, IsNumber}
+use Rattle.kp_signature.specs.Order.{IsOrderOf, sorts_of}
+use Rattle.kp_signature.specs.Order as order
+use Rattle.kp_signature.specs.declared.graph.SortGraph.{SortGraph}
 use Rattle.kp_sort_index.specs.declared.sort_index.SortIndex.{SortIndex}
 
 -- ---- what splits, by numbers

@@ -2,11 +2,11 @@
 ghost use Rattle.std.specs.Prelude.{◌≡◌, ◌<◌, [], ℕ, IfOk, IsTrue, List, false, get_or, length};
 ghost use Rattle.std.specs.List.{Contains};
 ghost use Rattle.kp_kore.specs.Syntax.{KoreSort};
-ghost use Rattle.kp_subsorts.specs.Edges.{edges_of};
-ghost use Rattle.kp_subsorts.specs.Order.{IsOrderOf, Under, sorts_of};
+ghost use Rattle.kp_signature.specs.Edges.{edges_of};
+ghost use Rattle.kp_signature.specs.Order.{IsOrderOf, Under, sorts_of};
 ghost use Rattle.kp_sort_index.specs.Index.{AreStraightBy, IsAlone, IsNarrow};
 
-use kp_subsorts::order::SortOrder;
+use kp_signature::order::SortOrder;
 use std::alloc::{AllocError, Global};
 
 /// Marks numbers whose sorts are alone: below them each sort has one directly above it that lies below the others

@@ -4,7 +4,7 @@ ghost use Rattle.kp_kore.specs.Syntax.{application};
 ghost use Rattle.kp_kore.specs.Signature.{injection, meaning_of as meaning_named};
 ghost use Rattle.kp_kore.specs.View.{view, sorts_view, patterns_view};
 ghost use Rattle.kp_signature.specs.View.{signature_view};
-ghost use Rattle.kp_semantics.specs.Foreign.{InjectionsSplit};
+ghost use Rattle.kp_kore.specs.Foreign.{InjectionsSplit};
 ghost use Rattle.kp_sort_index.specs.Index.{IsIndexOf, is_variable, is_one_variable};
 
 use crate::sort_index::SortIndex;

@@ -4,13 +4,13 @@ ghost use Rattle.std.specs.Option.{option_map};
 ghost use Rattle.kp_kore.specs.Syntax.{KoreSort, SymbolDeclaration};
 ghost use Rattle.kp_kore.specs.Signature.{KoreSignature};
 ghost use Rattle.kp_kore.specs.View.{sort_view, symbol_sentence_view};
-ghost use Rattle.kp_subsorts.specs.Order.{IsOrderOf, sorts_of};
+ghost use Rattle.kp_signature.specs.Order.{IsOrderOf, sorts_of};
 ghost use Rattle.kp_signature.specs.View.{signature_view};
 ghost use Rattle.kp_sort_index.specs.Index.{AreMarked, constructed_sort};
 
 use kp_kore::{Name, Sort, SymbolSentence};
+use kp_signature::order::SortOrder;
 use kp_signature::{Meaning, Signature, meaning_of};
-use kp_subsorts::order::SortOrder;
 use std::alloc::{AllocError, Global};
 
 /// Of each number whether some head has its sort for its own.

@@ -6,7 +6,7 @@ ghost use Rattle.kp_sort_index.specs.Index.{IsIndexOf};
 use crate::alone::alone_marks;
 use crate::own_heads::own_heads;
 use kp_signature::Signature;
-use kp_subsorts::order::SortOrder;
+use kp_signature::order::SortOrder;
 use std::alloc::{AllocError, Global};
 
 /// The order of a signature's sorts, and of each sort that has a number whether some head has it for its own, and

@@ -3,16 +3,16 @@ ghost use Rattle.std.specs.Prelude.{◌≡◌, ◌↔◌, ◌⊎◌, ℕ, IfOk, 
 ghost use Rattle.std.specs.List.{Contains};
 ghost use Rattle.kp_kore.specs.View.{sort_view};
 ghost use Rattle.kp_kore.specs.Signature.{KoreSignature};
-ghost use Rattle.kp_subsorts.specs.Edges.{IsReachedFrom};
+ghost use Rattle.kp_signature.specs.Edges.{IsReachedFrom};
 ghost use Rattle.kp_signature.specs.View.{signature_view};
-ghost use Rattle.kp_semantics.specs.Foreign.{SplitsByHeads};
+ghost use Rattle.kp_kore.specs.Foreign.{SplitsByHeads};
 ghost use Rattle.kp_sort_index.specs.Index.{IsIndexOf, IsAlone, AreOpposite, OwnsHeads, Under, Over, up, NumbersSplit, SetMeet, IsSettled, Covers, AreNotOver};
 
 use crate::sort_index::SortIndex;
 use indexmap::IndexSet;
 use kp_kore::Sort;
 use kp_signature::Signature;
-use kp_subsorts::edges::{Numbers, add_all, add_if, all_reached, has, reached_from};
+use kp_signature::edges::{Numbers, add_all, add_if, all_reached, has, reached_from};
 use std::alloc::{AllocError, Global};
 
 impl<'a> SortIndex<'a> {

@@ -5,8 +5,8 @@ use Rattle.kp_symbolic.specs.States.{Literal, SymbolicState, CanBeTrue}
 use Rattle.kp_symbolic.specs.Plain.{rough_clauses}
 use Rattle.kp_symbolic.specs.Verdicts as model
 use Rattle.kp_symbolic.specs.Verdicts.{Weighed, some_valuation, no_valuation, undecided, IsRightVerdict}
-use Rattle.kp_terms.specs.View.{clauses_view}
-use Rattle.kp_terms.specs.declared.clause.Clause.{Clause}
+use Rattle.kp_symbolic.specs.View.{clauses_view}
+use Rattle.kp_symbolic.specs.declared.clause.Clause.{Clause}
 use Rattle.kp_decide.specs.Answers.{IsWeighedAs, IsToldAs, IsRightAnswer}
 use Rattle.kp_weights.specs.declared.weight.Weighed as code
 use Rattle.kp_decide.specs.declared.verdict.Verdict as verdicts

@@ -3,9 +3,9 @@ use Rattle.std.proofs.Common.{◌≡◌, sym, ap, subst, arith, ℕ, zero, suc, 
 use Rattle.std.specs.List.{AllByRecursion, Contains}
 use Rattle.std.proofs.lemmas.List.Elements.{Contains-push, Contains-append_left, Contains-append_right, Contains-append_cases}
 use Rattle.kp_kore.specs.Syntax.{Text}
-use Rattle.kp_semantics.specs.Rules.{Rewrite, rewrite, ForeignLeft, foreign_rule, RewriteRule}
-use Rattle.kp_semantics.specs.Theory.{Theory}
-use Rattle.kp_semantics.specs.Steps.{Fires, IsUnknownBy}
+use Rattle.kp_kore.specs.Rules.{Rewrite, rewrite, ForeignLeft, foreign_rule, RewriteRule}
+use Rattle.kp_kore.specs.Theory.{Theory}
+use Rattle.kp_kore.specs.Steps.{Fires, IsUnknownBy}
 use Rattle.kp_symbolic.specs.States.{Literal, SymbolicState}
 use Rattle.kp_symbolic.specs.Verdicts.{Weighed}
 use Rattle.kp_cases.specs.Parts.{StatePart, whole, IsTold}

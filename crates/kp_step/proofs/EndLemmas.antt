@@ -6,11 +6,11 @@ use Rattle.std.specs.List.{AllByRecursion, AllZip, Contains}
 use Rattle.std.proofs.lemmas.List.Elements.{Contains-push, Contains-append_left, Contains-append_right}
 use Rattle.kp_kore.specs.Syntax.{Text}
 use Rattle.kp_kore.specs.Signature.{KoreSignature}
-use Rattle.kp_semantics.specs.Rules.{RewriteRule}
-use Rattle.kp_semantics.specs.Theory.{Theory}
-use Rattle.kp_semantics.specs.Steps.{IsUnknown, AnyByRecursion}
+use Rattle.kp_kore.specs.Rules.{RewriteRule}
+use Rattle.kp_kore.specs.Theory.{Theory}
+use Rattle.kp_kore.specs.Steps.{IsUnknown, AnyByRecursion}
 use Rattle.kp_symbolic.specs.States.{SymbolicState}
-use Rattle.kp_terms.specs.View.{clauses_view}
+use Rattle.kp_symbolic.specs.View.{clauses_view}
 use Rattle.kp_cases.specs.Parts.{StatePart, whole, OfEachInstance, IsTold}
 use Rattle.kp_turns.specs.Turns.{rules_of}
 use Rattle.kp_turns.specs.NextStates.{StepCase, HaveOwnIds}

@@ -4,14 +4,14 @@ use Rattle.std.specs.Prelude.{MatchOption}
 use Rattle.std.specs.List.{AllByRecursion}
 use Rattle.kp_kore.specs.Syntax.{Text}
 use Rattle.kp_kore.specs.Signature.{KoreSignature}
-use Rattle.kp_semantics.specs.Value.{Value}
-use Rattle.kp_semantics.specs.Rules.{rewrite, RewriteRule, RuleBody, ForeignLeft, foreign_rule}
-use Rattle.kp_semantics.specs.Theory.{Theory}
-use Rattle.kp_semantics.specs.Steps.{IsUnknownBy, IsUnknown}
-use Rattle.kp_semantics.proofs.ListLemmas.{all_append}
-use Rattle.kp_semantics.proofs.TurnLemmas.{of_member}
+use Rattle.kp_kore.specs.Value.{Value}
+use Rattle.kp_kore.specs.Rules.{rewrite, RewriteRule, RuleBody, ForeignLeft, foreign_rule}
+use Rattle.kp_kore.specs.Theory.{Theory}
+use Rattle.kp_kore.specs.Steps.{IsUnknownBy, IsUnknown}
+use Rattle.kp_kore.proofs.ListLemmas.{all_append}
+use Rattle.kp_kore.proofs.TurnLemmas.{of_member}
 use Rattle.kp_symbolic.specs.States.{SymbolicState}
-use Rattle.kp_terms.specs.View.{clauses_view}
+use Rattle.kp_symbolic.specs.View.{clauses_view}
 use Rattle.kp_rule_sets.specs.RuleSets.{RunsAs}
 use Rattle.kp_rule_sets.specs.declared.rule_set.RuleSet.{RuleSet}
 use Rattle.kp_cases.specs.Parts.{whole, OfEachInstance}

@@ -7,12 +7,12 @@ use Rattle.std.proofs.lemmas.Slice.Eq.{bytes_eq-Decides}
 use Rattle.kp_kore.specs.Syntax.{Text, sort_variable}
 use Rattle.kp_kore.specs.Parts.{SortedName}
 use Rattle.kp_kore.specs.Signature.{KoreSignature}
-use Rattle.kp_semantics.specs.Value.{Value, HasSort}
-use Rattle.kp_semantics.specs.Instance.{Valuation, GivesSorts, is_named}
-use Rattle.kp_semantics.specs.Rules.{Rewrite, RuleBody, rewrite}
-use Rattle.kp_semantics.specs.Steps.{Fires, LeadsTo}
-use Rattle.kp_semantics.proofs.NameLemmas.{true_is_false}
-use Rattle.kp_semantics.proofs.ListLemmas.{all_map}
+use Rattle.kp_kore.specs.Value.{Value, HasSort}
+use Rattle.kp_kore.specs.Instance.{Valuation, GivesSorts, is_named}
+use Rattle.kp_kore.specs.Rules.{Rewrite, RuleBody, rewrite}
+use Rattle.kp_kore.specs.Steps.{Fires, LeadsTo}
+use Rattle.kp_kore.proofs.NameLemmas.{true_is_false}
+use Rattle.kp_kore.proofs.ListLemmas.{all_map}
 use Rattle.kp_symbolic.specs.Terms.{Replaced, replacement_for, under_replaced, term_instance}
 use Rattle.kp_symbolic.specs.States.{SymbolicState, IsStateInstance, AreTrue}
 use Rattle.kp_symbolic.proofs.Distribution.{all_first}

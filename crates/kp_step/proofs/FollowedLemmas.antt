@@ -6,11 +6,11 @@ use Rattle.kp_kore.specs.Syntax.{Text, KoreSort}
 use Rattle.kp_kore.specs.Parts.{SortedName}
 use Rattle.kp_kore.specs.Signature.{KoreSignature, IsBelow, itself, is_below}
 use Rattle.kp_kore.specs.View.{view, sort_view, sorted_variable_view}
-use Rattle.kp_subsorts.proofs.Below.{is_below-Decides}
+use Rattle.kp_signature.proofs.Below.{is_below-Decides}
 use Rattle.kp_heads.specs.Heads.{HasValue}
-use Rattle.kp_semantics.specs.Rules.{Rewrite, rewrite}
-use Rattle.kp_semantics.specs.Steps.{Fires}
-use Rattle.kp_semantics.specs.Theory.{Theory}
+use Rattle.kp_kore.specs.Rules.{Rewrite, rewrite}
+use Rattle.kp_kore.specs.Steps.{Fires}
+use Rattle.kp_kore.specs.Theory.{Theory}
 use Rattle.kp_symbolic.specs.Terms.{Replaced}
 use Rattle.kp_symbolic.specs.States.{SymbolicState}
 use Rattle.kp_symbolic.specs.Solving.{Solving}

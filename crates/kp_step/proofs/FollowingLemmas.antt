@@ -5,11 +5,11 @@ use Rattle.kp_kore.specs.Syntax.{Text, KoreSort}
 use Rattle.kp_kore.specs.Signature.{KoreSignature}
 use Rattle.kp_kore.specs.View.{view, sort_view, sorted_variable_view}
 use Rattle.kp_kore.specs.Sorting.{sort_of_term}
-use Rattle.kp_semantics.specs.Value.{Value, HasSort}
-use Rattle.kp_semantics.specs.Rules.{Rewrite, rewrite}
-use Rattle.kp_semantics.specs.Steps.{Fires}
-use Rattle.kp_semantics.specs.Theory.{Theory}
-use Rattle.kp_semantics.proofs.ListLemmas.{all_map}
+use Rattle.kp_kore.specs.Value.{Value, HasSort}
+use Rattle.kp_kore.specs.Rules.{Rewrite, rewrite}
+use Rattle.kp_kore.specs.Steps.{Fires}
+use Rattle.kp_kore.specs.Theory.{Theory}
+use Rattle.kp_kore.proofs.ListLemmas.{all_map}
 use Rattle.kp_symbolic.specs.Terms.{term_variables, Replaced}
 use Rattle.kp_symbolic.specs.States.{SymbolicState}
 use Rattle.kp_symbolic.specs.Solving.{Solving}

@@ -2,14 +2,14 @@
 use Rattle.std.proofs.Common.{subst, List, [], ◌∷◌, Some, None, inl, inr, ◌↔◌}
 use Rattle.std.specs.List.{AllByRecursion, Contains}
 use Rattle.kp_kore.specs.Signature.{KoreSignature}
-use Rattle.kp_semantics.specs.Value.{Value}
-use Rattle.kp_semantics.specs.Sorted.{IsSorted}
-use Rattle.kp_semantics.specs.Instance.{Valuation, GivesSorts}
-use Rattle.kp_semantics.specs.Rules.{RewriteRule, ForeignLeft, foreign_rule}
-use Rattle.kp_semantics.specs.Foreign.{IsSkeletonInstance}
-use Rattle.kp_semantics.specs.Theory.{Theory}
-use Rattle.kp_semantics.specs.Steps.{IsUnknownBy, IsUnknown, AnyByRecursion}
-use Rattle.kp_semantics.proofs.TurnLemmas.{each_member}
+use Rattle.kp_kore.specs.Value.{Value}
+use Rattle.kp_kore.specs.Sorted.{IsSorted}
+use Rattle.kp_kore.specs.Instance.{Valuation, GivesSorts}
+use Rattle.kp_kore.specs.Rules.{RewriteRule, ForeignLeft, foreign_rule}
+use Rattle.kp_kore.specs.Foreign.{IsSkeletonInstance}
+use Rattle.kp_kore.specs.Theory.{Theory}
+use Rattle.kp_kore.specs.Steps.{IsUnknownBy, IsUnknown, AnyByRecursion}
+use Rattle.kp_kore.proofs.TurnLemmas.{each_member}
 use Rattle.kp_symbolic.specs.Terms.{under_replaced}
 use Rattle.kp_symbolic.specs.States.{SymbolicState}
 use Rattle.kp_rules.specs.Skeletons.{Form, Admits}

@@ -4,11 +4,11 @@ use Rattle.std.specs.List.{AllByRecursion, Contains}
 use Rattle.std.proofs.lemmas.Option.{slice_get-get_or}
 use Rattle.std.proofs.lemmas.List.Elements.{Contains-push, Contains-append_left, Contains-append_right}
 use Rattle.kp_kore.specs.Syntax.{Text}
-use Rattle.kp_semantics.specs.Rules.{RewriteRule}
-use Rattle.kp_semantics.specs.Theory.{Theory}
-use Rattle.kp_semantics.specs.Steps.{HasTurn, AnyByRecursion}
-use Rattle.kp_semantics.proofs.ListLemmas.{all_append, all_map, any_left}
-use Rattle.kp_semantics.proofs.TurnLemmas.{of_member}
+use Rattle.kp_kore.specs.Rules.{RewriteRule}
+use Rattle.kp_kore.specs.Theory.{Theory}
+use Rattle.kp_kore.specs.Steps.{HasTurn, AnyByRecursion}
+use Rattle.kp_kore.proofs.ListLemmas.{all_append, all_map, any_left}
+use Rattle.kp_kore.proofs.TurnLemmas.{of_member}
 use Rattle.kp_cases.specs.Parts.{StatePart, OfEachInstance}
 use Rattle.kp_turns.specs.Firing.{AreWhere}
 use Rattle.kp_turns.specs.Turns.{AreAllTurns, Turn, rules_of}

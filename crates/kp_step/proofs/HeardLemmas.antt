@@ -3,7 +3,7 @@ use Rattle.std.proofs.Common.{◌≡◌, sym, ap, subst, ℕ, ◌≤◌, List, [
 use Rattle.std.specs.Prelude.{MatchOption}
 use Rattle.kp_kore.specs.Syntax.{Text}
 use Rattle.kp_kore.specs.Signature.{KoreSignature}
-use Rattle.kp_semantics.specs.Theory.{Theory}
+use Rattle.kp_kore.specs.Theory.{Theory}
 use Rattle.kp_symbolic.specs.States.{SymbolicState}
 use Rattle.kp_rules.specs.Skeletons.{Form, skeleton_view}
 use Rattle.kp_rules.specs.declared.skeleton.Skeleton.{Skeleton}

@@ -6,9 +6,9 @@ use Rattle.std.proofs.lemmas.List.Elements.{Contains-append_left}
 use Rattle.kp_kore.specs.Syntax.{Text}
 use Rattle.kp_kore.specs.Parts.{SortedName}
 use Rattle.kp_kore.specs.Signature.{KoreSignature}
-use Rattle.kp_semantics.specs.Rules.{RewriteRule}
-use Rattle.kp_semantics.specs.Steps.{Fires}
-use Rattle.kp_semantics.proofs.TurnLemmas.{each_member}
+use Rattle.kp_kore.specs.Rules.{RewriteRule}
+use Rattle.kp_kore.specs.Steps.{Fires}
+use Rattle.kp_kore.proofs.TurnLemmas.{each_member}
 use Rattle.kp_symbolic.specs.WellFormed.{AreAtHand}
 use Rattle.kp_symbolic.proofs.Distribution.{all_both, all_first, all_second}
 use Rattle.kp_cases.specs.Parts.{StatePart, OfEachInstance, IsPartBelow, IsGrown}

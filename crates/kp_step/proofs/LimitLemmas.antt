@@ -3,11 +3,11 @@ use Rattle.std.proofs.Common.{◌≡◌, subst, List, [], ◌∷◌, ◌++◌, O
 use Rattle.std.specs.Prelude.{Result, Ok, Err, IfOk, MatchOption}
 use Rattle.std.specs.List.{AllByRecursion}
 use Rattle.kp_kore.specs.Signature.{KoreSignature}
-use Rattle.kp_semantics.specs.Steps.{AnyByRecursion}
-use Rattle.kp_semantics.proofs.ListLemmas.{all_append}
+use Rattle.kp_kore.specs.Steps.{AnyByRecursion}
+use Rattle.kp_kore.proofs.ListLemmas.{all_append}
 use Rattle.kp_symbolic.specs.States.{SymbolicState}
-use Rattle.kp_terms.specs.View.{clauses_view}
-use Rattle.kp_terms.specs.declared.clause.Clause.{Clause}
+use Rattle.kp_symbolic.specs.View.{clauses_view}
+use Rattle.kp_symbolic.specs.declared.clause.Clause.{Clause}
 use Rattle.kp_step.specs.Limits.{Passes, PassesNone, with_more}
 use Rattle.kp_step.specs.Views.{limit_view}
 use Rattle.kp_step.specs.declared.outcome.Limit.{Limit}

@@ -9,12 +9,12 @@ use Rattle.std.proofs.lemmas.List.Elements.{Contains-push, Contains-append_left}
 use Rattle.kp_kore.specs.Syntax.{Text, KoreSort, KoreSorts, no_sorts, next_sort}
 use Rattle.kp_kore.specs.Parts.{SortedName, free_variables}
 use Rattle.kp_kore.specs.Signature.{KoreSignature}
-use Rattle.kp_semantics.specs.Value.{Value, HasSort}
-use Rattle.kp_semantics.specs.Instance.{Valuation, GivesSorts, is_named}
-use Rattle.kp_semantics.specs.Rules.{Rewrite}
-use Rattle.kp_semantics.proofs.ListLemmas.{all_append, all_map}
-use Rattle.kp_semantics.proofs.NameLemmas.{true_is_false}
-use Rattle.kp_semantics.proofs.TurnLemmas.{of_member, each_member}
+use Rattle.kp_kore.specs.Value.{Value, HasSort}
+use Rattle.kp_kore.specs.Instance.{Valuation, GivesSorts, is_named}
+use Rattle.kp_kore.specs.Rules.{Rewrite}
+use Rattle.kp_kore.proofs.ListLemmas.{all_append, all_map}
+use Rattle.kp_kore.proofs.NameLemmas.{true_is_false}
+use Rattle.kp_kore.proofs.TurnLemmas.{of_member, each_member}
 use Rattle.kp_symbolic.specs.Terms.{SymbolicTerm, unknown, term_variables, Replaced, replacement_for}
 use Rattle.kp_symbolic.specs.WellFormed.{AreAtHand}
 use Rattle.kp_symbolic_laws.specs.Runs.{HasOneSortEach}

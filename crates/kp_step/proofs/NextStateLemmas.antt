@@ -6,10 +6,10 @@ use Rattle.std.specs.Str.{bytes_eq}
 use Rattle.kp_kore.specs.Syntax.{Text, KoreSort, KoreSorts, next_sort}
 use Rattle.kp_kore.specs.Parts.{SortedName, free_variables}
 use Rattle.kp_kore.specs.Signature.{KoreSignature}
-use Rattle.kp_semantics.specs.Value.{HasSort}
-use Rattle.kp_semantics.specs.Instance.{Valuation, GivesSorts, is_named, IsTrueUnder}
-use Rattle.kp_semantics.specs.Rules.{Rewrite}
-use Rattle.kp_semantics.proofs.NameLemmas.{true_is_false}
+use Rattle.kp_kore.specs.Value.{HasSort}
+use Rattle.kp_kore.specs.Instance.{Valuation, GivesSorts, is_named, IsTrueUnder}
+use Rattle.kp_kore.specs.Rules.{Rewrite}
+use Rattle.kp_kore.proofs.NameLemmas.{true_is_false}
 use Rattle.kp_symbolic.specs.Terms.{SymbolicTerm, unknown, term_variables, Replaced, replacement_for, under_replaced}
 use Rattle.kp_symbolic.specs.States.{variables_for, AreGiven, Literal, IsClauseTrue, AreTrue, SymbolicState}
 use Rattle.kp_symbolic.specs.Clauses.{without_repeats}

@@ -4,13 +4,13 @@ use Rattle.std.specs.List.{AllZip}
 use Rattle.std.proofs.lemmas.List.{map-append, append-nil}
 use Rattle.kp_kore.specs.Syntax.{Text}
 use Rattle.kp_kore.specs.Signature.{KoreSignature}
-use Rattle.kp_semantics.specs.Rules.{Rewrite, rewrite}
-use Rattle.kp_semantics.specs.Steps.{Fires}
-use Rattle.kp_semantics.specs.Theory.{Theory}
+use Rattle.kp_kore.specs.Rules.{Rewrite, rewrite}
+use Rattle.kp_kore.specs.Steps.{Fires}
+use Rattle.kp_kore.specs.Theory.{Theory}
 use Rattle.kp_rules.specs.declared.rule.Rewrite as code
 use Rattle.kp_cases.specs.Parts.{StatePart, OfEachInstance}
 use Rattle.kp_unify.specs.Narrowed.{NumberedPart}
-use Rattle.kp_terms.specs.View.{state_view}
+use Rattle.kp_symbolic.specs.View.{state_view}
 use Rattle.kp_unify.specs.Views.{signature_of, part_view, numbered_view}
 use Rattle.kp_unify.specs.declared.part.Setting.{Setting}
 use Rattle.kp_unify.specs.declared.part.Part.{Part}

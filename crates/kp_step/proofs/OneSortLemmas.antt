@@ -4,9 +4,9 @@ use Rattle.std.specs.Prelude.{IsTrue}
 use Rattle.std.specs.List.{AllByRecursion}
 use Rattle.kp_kore.specs.Syntax.{Text, KoreSort}
 use Rattle.kp_kore.specs.Parts.{SortedName}
-use Rattle.kp_semantics.specs.Instance.{is_named}
-use Rattle.kp_semantics.proofs.NameLemmas.{true_is_false}
-use Rattle.kp_semantics.proofs.TurnLemmas.{of_member, each_member}
+use Rattle.kp_kore.specs.Instance.{is_named}
+use Rattle.kp_kore.proofs.NameLemmas.{true_is_false}
+use Rattle.kp_kore.proofs.TurnLemmas.{of_member, each_member}
 use Rattle.kp_symbolic.proofs.Distribution.{all_both, all_first, all_second}
 use Rattle.kp_symbolic_laws.specs.Runs.{HasOneSortEach}
 use Rattle.kp_rules.specs.Skeletons.{skeleton_view, forms_of}

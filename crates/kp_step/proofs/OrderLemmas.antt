@@ -4,11 +4,11 @@ use Rattle.std.specs.Prelude.{nat_lt, if◌then◌else◌}
 use Rattle.std.specs.List.{AllByRecursion, Contains, list_all}
 use Rattle.std.proofs.lemmas.Bool.Decides.{Decides-eqb, Decides-ltb}
 use Rattle.std.proofs.lemmas.List.Elements.{Contains-push, Contains-append_left, Contains-append_right, Contains-append_cases}
-use Rattle.kp_semantics.specs.Rules.{Rewrite, rewrite, RewriteRule, ForeignLeft, foreign_rule}
-use Rattle.kp_semantics.specs.Theory.{Theory}
-use Rattle.kp_semantics.proofs.ListLemmas.{all_map}
-use Rattle.kp_semantics.proofs.NameLemmas.{true_is_false}
-use Rattle.kp_semantics.proofs.TurnLemmas.{of_member}
+use Rattle.kp_kore.specs.Rules.{Rewrite, rewrite, RewriteRule, ForeignLeft, foreign_rule}
+use Rattle.kp_kore.specs.Theory.{Theory}
+use Rattle.kp_kore.proofs.ListLemmas.{all_map}
+use Rattle.kp_kore.proofs.NameLemmas.{true_is_false}
+use Rattle.kp_kore.proofs.TurnLemmas.{of_member}
 use Rattle.kp_kore.specs.Signature.{KoreSignature}
 use Rattle.kp_rules.specs.Bodies.{IsBodyOf, IsCodeOf}
 use Rattle.kp_rules.specs.declared.rule.Rule.{Rule}

@@ -2,9 +2,9 @@
 use Rattle.std.proofs.Common.{◌≡◌, subst, ℕ, List, [], ◌∷◌, ◌++◌, map, None}
 use Rattle.std.specs.List.{AllByRecursion, AllZip}
 use Rattle.kp_kore.specs.Syntax.{Text}
-use Rattle.kp_semantics.specs.Rules.{RewriteRule}
-use Rattle.kp_semantics.specs.Theory.{Theory}
-use Rattle.kp_semantics.specs.Steps.{Fires, IsUnknown}
+use Rattle.kp_kore.specs.Rules.{RewriteRule}
+use Rattle.kp_kore.specs.Theory.{Theory}
+use Rattle.kp_kore.specs.Steps.{Fires, IsUnknown}
 use Rattle.kp_symbolic.specs.States.{SymbolicState}
 use Rattle.kp_cases.specs.Parts.{whole, OfEachInstance}
 use Rattle.kp_turns.specs.Turns.{rules_of}

@@ -5,13 +5,13 @@ use Rattle.std.proofs.lemmas.List.Elements.{Contains-append_left}
 use Rattle.kp_kore.specs.Syntax.{Text, KoreSort}
 use Rattle.kp_kore.specs.Parts.{SortedName}
 use Rattle.kp_kore.specs.Signature.{KoreSignature}
-use Rattle.kp_semantics.specs.Value.{Value, HasSort}
-use Rattle.kp_semantics.specs.Instance.{Valuation, GivesSorts, IsTrueUnder}
-use Rattle.kp_semantics.specs.Rules.{Rewrite, rewrite}
-use Rattle.kp_semantics.specs.Steps.{Fires}
-use Rattle.kp_semantics.specs.Theory.{Theory}
-use Rattle.kp_semantics.proofs.ListLemmas.{all_map}
-use Rattle.kp_semantics.proofs.TurnLemmas.{each_member}
+use Rattle.kp_kore.specs.Value.{Value, HasSort}
+use Rattle.kp_kore.specs.Instance.{Valuation, GivesSorts, IsTrueUnder}
+use Rattle.kp_kore.specs.Rules.{Rewrite, rewrite}
+use Rattle.kp_kore.specs.Steps.{Fires}
+use Rattle.kp_kore.specs.Theory.{Theory}
+use Rattle.kp_kore.proofs.ListLemmas.{all_map}
+use Rattle.kp_kore.proofs.TurnLemmas.{each_member}
 use Rattle.kp_symbolic.specs.Terms.{term_variables, Replaced, under_replaced}
 use Rattle.kp_symbolic.specs.States.{Literal, AreTrue, SymbolicState}
 use Rattle.kp_symbolic.specs.WellFormed.{AreAtHand}

@@ -1,7 +1,7 @@
 -- Which rule of a theory the code's rule of a place is.
 use Rattle.std.proofs.Common.{◌≡◌, refl, sym, ap, subst, ◌∙◌, ℕ, Some, None, slice_get}
-use Rattle.kp_semantics.specs.Rules.{Rewrite, rewrite, RuleBody as MeantBody, RewriteRule, ForeignLeft, foreign_rule}
-use Rattle.kp_semantics.specs.Theory.{Theory}
+use Rattle.kp_kore.specs.Rules.{Rewrite, rewrite, RuleBody as MeantBody, RewriteRule, ForeignLeft, foreign_rule}
+use Rattle.kp_kore.specs.Theory.{Theory}
 use Rattle.kp_kore.specs.Signature.{KoreSignature}
 use Rattle.kp_rules.specs.Bodies.{IsBodyOf, IsCodeOf}
 use Rattle.kp_rules.specs.declared.rule.Rule.{Rule}

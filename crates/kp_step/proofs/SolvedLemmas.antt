@@ -3,16 +3,16 @@ use Rattle.std.proofs.Common.{sym, subst, ◌∙◌, List, [], ◌∷◌, inl, i
 use Rattle.std.specs.List.{AllByRecursion, AllZip}
 use Rattle.kp_kore.specs.Syntax.{Text}
 use Rattle.kp_kore.specs.Signature.{KoreSignature}
-use Rattle.kp_semantics.specs.Value.{Value}
-use Rattle.kp_semantics.specs.Instance.{Valuation, GivesSorts, AgreesOn}
-use Rattle.kp_semantics.specs.Cases.{OfOneAlone}
-use Rattle.kp_semantics.specs.Division.{IsHeldBy}
+use Rattle.kp_kore.specs.Value.{Value}
+use Rattle.kp_kore.specs.Instance.{Valuation, GivesSorts, AgreesOn}
+use Rattle.kp_kore.specs.Cases.{OfOneAlone}
+use Rattle.kp_kore.specs.Division.{IsHeldBy}
 use Rattle.kp_symbolic.specs.States.{AreTrue}
 use Rattle.kp_symbolic.specs.WellFormed.{AreAtHand}
 use Rattle.kp_cases.specs.Parts.{StatePart, state_reading, OfEachInstance, IsPartBelow}
 use Rattle.kp_turns.specs.Firing.{AreWhere}
 use Rattle.kp_turns.specs.Turns.{IsLeftTo}
-use Rattle.kp_semantics.specs.Rules.{RewriteRule}
+use Rattle.kp_kore.specs.Rules.{RewriteRule}
 use Rattle.kp_unify.specs.Narrowed.{NumberedPart}
 use Rattle.std.proofs.Common.{Option}
 use Rattle.kp_firing.specs.Ready.{HasInstance, parts_of}

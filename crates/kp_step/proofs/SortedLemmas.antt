@@ -3,7 +3,7 @@ use Rattle.std.proofs.Common.{List, [], ◌∷◌}
 use Rattle.std.specs.List.{AllByRecursion, Contains}
 use Rattle.kp_kore.specs.Parts.{SortedName}
 use Rattle.kp_kore.specs.Signature.{KoreSignature}
-use Rattle.kp_semantics.proofs.ListLemmas.{all_map, all_append}
+use Rattle.kp_kore.proofs.ListLemmas.{all_map, all_append}
 use Rattle.kp_symbolic.specs.States.{atom_variables, clause_variables, Literal, SymbolicState}
 use Rattle.kp_symbolic.specs.WellFormed.{IsWellSortedAtom, AreAtHand}
 use Rattle.kp_symbolic_laws.specs.Runs.{IsSortedLiteral, IsSortedState}

@@ -5,14 +5,14 @@ use Rattle.std.proofs.lemmas.List.{map-append}
 use Rattle.kp_kore.specs.Syntax.{Text}
 use Rattle.kp_kore.specs.Parts.{SortedName}
 use Rattle.kp_kore.specs.Signature.{KoreSignature}
-use Rattle.kp_semantics.specs.Value.{Value, HasSort, Values, no_values, next_value, HaveSorts}
-use Rattle.kp_semantics.specs.Instance.{Valuation, GivesSorts}
-use Rattle.kp_semantics.specs.Rules.{RewriteRule}
-use Rattle.kp_semantics.specs.Theory.{Theory}
-use Rattle.kp_semantics.specs.Steps.{IsUnknown}
-use Rattle.kp_semantics.specs.Cases.{HaveOneSort}
-use Rattle.kp_semantics.proofs.ListLemmas.{all_append, all_left}
-use Rattle.kp_semantics.proofs.TurnLemmas.{each_member}
+use Rattle.kp_kore.specs.Value.{Value, HasSort, Values, no_values, next_value, HaveSorts}
+use Rattle.kp_kore.specs.Instance.{Valuation, GivesSorts}
+use Rattle.kp_kore.specs.Rules.{RewriteRule}
+use Rattle.kp_kore.specs.Theory.{Theory}
+use Rattle.kp_kore.specs.Steps.{IsUnknown}
+use Rattle.kp_kore.specs.Cases.{HaveOneSort}
+use Rattle.kp_kore.proofs.ListLemmas.{all_append, all_left}
+use Rattle.kp_kore.proofs.TurnLemmas.{each_member}
 use Rattle.kp_symbolic.specs.States.{SymbolicState, IsStateInstance}
 use Rattle.kp_symbolic.specs.WellFormed.{AreAtHand}
 use Rattle.kp_symbolic_laws.specs.Runs.{HasOneSortEach}

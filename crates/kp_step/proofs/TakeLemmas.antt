@@ -5,9 +5,9 @@ use Rattle.std.specs.List.{AllByRecursion, AllZip}
 use Rattle.std.proofs.lemmas.List.{map-append}
 use Rattle.kp_kore.specs.Syntax.{Text}
 use Rattle.kp_kore.specs.Signature.{KoreSignature}
-use Rattle.kp_semantics.specs.Rules.{Rewrite, rewrite, RewriteRule}
-use Rattle.kp_semantics.specs.Theory.{Theory}
-use Rattle.kp_semantics.specs.Steps.{Fires}
+use Rattle.kp_kore.specs.Rules.{Rewrite, rewrite, RewriteRule}
+use Rattle.kp_kore.specs.Theory.{Theory}
+use Rattle.kp_kore.specs.Steps.{Fires}
 use Rattle.kp_rules.specs.Sides.{AreSidesOf}
 use Rattle.kp_rules.specs.VerifiedSides.{AreVerifiedSides}
 use Rattle.kp_rules.specs.declared.rule.Rewrite as code

@@ -2,11 +2,11 @@
 use Rattle.std.proofs.Common.{◌≡◌, refl, sym, subst, ℕ, List, [], ◌∷◌, ◌++◌, Some, inl, inr}
 use Rattle.std.specs.List.{AllByRecursion, AllZip, Contains}
 use Rattle.kp_kore.specs.Syntax.{Text}
-use Rattle.kp_semantics.specs.Rules.{RewriteRule}
-use Rattle.kp_semantics.specs.Theory.{Theory}
-use Rattle.kp_semantics.specs.Steps.{Fires, HasTurn}
+use Rattle.kp_kore.specs.Rules.{RewriteRule}
+use Rattle.kp_kore.specs.Theory.{Theory}
+use Rattle.kp_kore.specs.Steps.{Fires, HasTurn}
 use Rattle.kp_symbolic.specs.States.{SymbolicState}
-use Rattle.kp_terms.specs.View.{clauses_view}
+use Rattle.kp_symbolic.specs.View.{clauses_view}
 use Rattle.kp_cases.specs.Parts.{StatePart, whole, with_clauses, OfEachInstance}
 use Rattle.kp_turns.specs.Firing.{HasNoInstance, AreFiringCases}
 use Rattle.kp_turns.specs.Turns.{FiresFirst}

@@ -7,10 +7,10 @@ use Rattle.kp_kore.specs.Attributes.{sorts_equal}
 use Rattle.kp_kore.specs.Parts.{SortedName, free_variables}
 use Rattle.kp_kore.specs.Signature.{KoreSignature}
 use Rattle.kp_signature.specs.Places.{sort_in_scope}
-use Rattle.kp_semantics.specs.Instance.{is_named}
-use Rattle.kp_semantics.specs.Rules.{Rewrite}
-use Rattle.kp_semantics.proofs.ListLemmas.{all_map}
-use Rattle.kp_semantics.proofs.TurnLemmas.{of_member}
+use Rattle.kp_kore.specs.Instance.{is_named}
+use Rattle.kp_kore.specs.Rules.{Rewrite}
+use Rattle.kp_kore.proofs.ListLemmas.{all_map}
+use Rattle.kp_kore.proofs.TurnLemmas.{of_member}
 use Rattle.kp_symbolic_laws.specs.Runs.{HasOneSortEach}
 use Rattle.kp_rules.specs.Known.{is_among}
 use Rattle.kp_rules.specs.VerifiedSides.{IsOfBoth, is_old_or_new, AreVerifiedSides}

@@ -3,11 +3,11 @@
 use Rattle.std.specs.Prelude.{◌≡◌, ◌⊎◌, ◌<◌, ℕ, min, List, [], Option, Some, None}
 use Rattle.std.specs.List.{AllByRecursion, Contains}
 use Rattle.kp_kore.specs.Signature.{KoreSignature}
-use Rattle.kp_semantics.specs.Value.{Value}
-use Rattle.kp_semantics.specs.Instance.{Valuation, GivesSorts}
-use Rattle.kp_semantics.specs.Rules.{RuleBody, rewrite, ForeignLeft, foreign_rule, RewriteRule, most_priority}
-use Rattle.kp_semantics.specs.Theory.{Theory}
-use Rattle.kp_semantics.specs.Steps.{Fires, IsUnknownBy}
+use Rattle.kp_kore.specs.Value.{Value}
+use Rattle.kp_kore.specs.Instance.{Valuation, GivesSorts}
+use Rattle.kp_kore.specs.Rules.{RuleBody, rewrite, ForeignLeft, foreign_rule, RewriteRule, most_priority}
+use Rattle.kp_kore.specs.Theory.{Theory}
+use Rattle.kp_kore.specs.Steps.{Fires, IsUnknownBy}
 use Rattle.kp_symbolic.specs.States.{Literal, SymbolicState, IsStateInstance}
 use Rattle.kp_symbolic.specs.Plain.{rough_clauses}
 use Rattle.kp_symbolic.specs.Verdicts.{Weighed, IsOpen, IsTooHeavy}

@@ -1,6 +1,6 @@
 -- Which new variables the code's are.
 use Rattle.std.specs.Prelude.{map}
-use Rattle.kp_terms.specs.View.{replaced_view, variables_view}
+use Rattle.kp_symbolic.specs.View.{replaced_view, variables_view}
 use Rattle.kp_step.specs.Rights.{ChosenNew}
 use Rattle.kp_step.specs.declared.chosen.Chosen.{Chosen}
 

@@ -5,10 +5,10 @@ use Rattle.std.specs.List.{AllZip, filter}
 use Rattle.kp_kore.specs.Syntax.{Text}
 use Rattle.kp_kore.specs.Parts.{SortedName}
 use Rattle.kp_kore.specs.Signature.{KoreSignature}
-use Rattle.kp_semantics.specs.Value.{Value}
-use Rattle.kp_semantics.specs.Instance.{Valuation, GivesSorts, is_named}
-use Rattle.kp_semantics.specs.Rules.{RuleBody, RewriteRule}
-use Rattle.kp_semantics.specs.Theory.{Theory}
+use Rattle.kp_kore.specs.Value.{Value}
+use Rattle.kp_kore.specs.Instance.{Valuation, GivesSorts, is_named}
+use Rattle.kp_kore.specs.Rules.{RuleBody, RewriteRule}
+use Rattle.kp_kore.specs.Theory.{Theory}
 use Rattle.kp_symbolic.specs.Terms.{Replaced}
 use Rattle.kp_symbolic.specs.States.{SymbolicState, IsStateInstance}
 use Rattle.kp_symbolic.specs.WellFormed.{AreAtHand}

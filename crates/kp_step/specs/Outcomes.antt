@@ -3,14 +3,14 @@
 use Rattle.std.specs.Prelude.{◌≡◌, ℕ, List, [], ◌∷◌, ◌++◌, Option, Some, None, ⊤}
 use Rattle.std.specs.List.{AllByRecursion, AllZip}
 use Rattle.kp_kore.specs.Syntax.{Text}
-use Rattle.kp_semantics.specs.Rules.{RewriteRule}
-use Rattle.kp_semantics.specs.Theory.{Theory}
-use Rattle.kp_semantics.specs.Steps.{Fires}
+use Rattle.kp_kore.specs.Rules.{RewriteRule}
+use Rattle.kp_kore.specs.Theory.{Theory}
+use Rattle.kp_kore.specs.Steps.{Fires}
 use Rattle.kp_symbolic.specs.States.{Literal, SymbolicState}
 use Rattle.kp_symbolic.specs.Verdicts.{Weighed}
 use Rattle.kp_weights.specs.declared.weight.Weighed as code
 use Rattle.kp_decide.specs.Answers.{IsWeighedAs}
-use Rattle.kp_terms.specs.View.{clauses_view, state_view}
+use Rattle.kp_symbolic.specs.View.{clauses_view, state_view}
 use Rattle.kp_cases.specs.Parts.{whole, OfEachInstance, IsSortedPart, IsGrown}
 use Rattle.kp_turns.specs.Firing.{HasNoInstance}
 use Rattle.kp_turns.specs.NextStates.{StepCase, AreStepCases, IsWithinHand}

@@ -1,7 +1,7 @@
 -- The rules of a theory by their places.
 use Rattle.std.specs.Prelude.{◌≡◌, ℕ, Some, slice_get}
-use Rattle.kp_semantics.specs.Rules.{Rewrite, rewrite, RewriteRule}
-use Rattle.kp_semantics.specs.Theory.{Theory}
+use Rattle.kp_kore.specs.Rules.{Rewrite, rewrite, RewriteRule}
+use Rattle.kp_kore.specs.Theory.{Theory}
 
 -- the theory's rule of this place
 abbrev pub IsAt : Theory → ℕ → RewriteRule → Type 0

@@ -4,11 +4,11 @@ use Rattle.kp_kore.specs.Syntax.{Text}
 use Rattle.kp_kore.specs.Signature.{KoreSignature}
 use Rattle.kp_kore.specs.Sorting.{sort_of_term}
 use Rattle.kp_kore.specs.View.{sort_view}
-use Rattle.kp_semantics.specs.Value.{Value}
-use Rattle.kp_semantics.specs.Sorted.{IsSorted}
-use Rattle.kp_semantics.specs.Rules.{Rewrite, rewrite, RewriteRule, ForeignLeft, foreign_rule}
-use Rattle.kp_semantics.specs.Foreign.{IsSkeletonInstance}
-use Rattle.kp_semantics.specs.Theory.{Theory}
+use Rattle.kp_kore.specs.Value.{Value}
+use Rattle.kp_kore.specs.Sorted.{IsSorted}
+use Rattle.kp_kore.specs.Rules.{Rewrite, rewrite, RewriteRule, ForeignLeft, foreign_rule}
+use Rattle.kp_kore.specs.Foreign.{IsSkeletonInstance}
+use Rattle.kp_kore.specs.Theory.{Theory}
 use Rattle.kp_symbolic.specs.States.{SymbolicState}
 use Rattle.kp_rules.specs.Sides.{AreSidesOf}
 use Rattle.kp_rules.specs.VerifiedSides.{AreVerifiedSides}

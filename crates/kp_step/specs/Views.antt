@@ -1,7 +1,7 @@
 -- Which parts, turns, next states and limits the code's are.
 use Rattle.std.specs.Prelude.{List, map, string_bytes}
 use Rattle.kp_symbolic.specs.States.{SymbolicState}
-use Rattle.kp_terms.specs.View.{clauses_view, replaced_view, state_view}
+use Rattle.kp_symbolic.specs.View.{clauses_view, replaced_view, state_view}
 use Rattle.kp_unify.specs.Narrowed.{NumberedPart}
 use Rattle.kp_unify.specs.Views.{part_view, numbered_view}
 use Rattle.kp_unify.specs.declared.part.Part.{Part}

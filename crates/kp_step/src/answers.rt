@@ -4,7 +4,7 @@ ghost use Rattle.std.specs.List.{AllByRecursion};
 ghost use Rattle.kp_kore.specs.Syntax.{Text};
 ghost use Rattle.kp_heads.specs.Made.{IsHeadTableOf};
 ghost use Rattle.kp_symbolic.specs.States.{SymbolicState};
-ghost use Rattle.kp_terms.specs.View.{state_view};
+ghost use Rattle.kp_symbolic.specs.View.{state_view};
 ghost use Rattle.kp_decide.specs.Read.{HasSortedClauses};
 ghost use Rattle.kp_unify.specs.Views.{signature_of};
 ghost use Rattle.kp_firing.specs.Ready.{IsReadyPart};
@@ -14,7 +14,7 @@ ghost use Rattle.kp_step.specs.Answers.{IsRightOpen, ShowsOf, IsRightAnswerOf, A
 use kp_decide::{Verdict, decide};
 use kp_readings::clauses::read_clauses;
 use kp_readings::parts::rough_clauses;
-use kp_terms::{Clause, State};
+use kp_symbolic::{Clause, State};
 use kp_unify::{Part, Setting};
 use kp_weights::Weighed;
 use std::alloc::{AllocError, Global};

@@ -2,16 +2,16 @@
 ghost use Rattle.std.specs.Prelude.{◌≡◌, ◌++◌, IfOk, OnOk, List, map, string_bytes, is_some};
 ghost use Rattle.kp_kore.specs.Syntax.{Text};
 ghost use Rattle.kp_kore.specs.View.{sorted_variable_view};
-ghost use Rattle.kp_semantics.specs.Instance.{is_named};
+ghost use Rattle.kp_kore.specs.Instance.{is_named};
 ghost use Rattle.kp_symbolic.specs.Terms.{unknown, replacement_for};
-ghost use Rattle.kp_terms.specs.View.{replaced_view, variable_view};
+ghost use Rattle.kp_symbolic.specs.View.{replaced_view, variable_view};
 ghost use Rattle.kp_unify.specs.Views.{IsSetting};
 ghost use Rattle.kp_step.specs.Follows as model;
 ghost use Rattle.kp_step.specs.Rights.{AreChosen, IsChosenOne};
 ghost use Rattle.kp_step.specs.Chosen.{chosen_view};
 
 use kp_kore::SortedVariable;
-use kp_terms::{Replaced, Term, Variable};
+use kp_symbolic::{Replaced, Term, Variable};
 use kp_unify::Setting;
 use kp_unify::names::new_variable;
 use std::alloc::{AllocError, Global};

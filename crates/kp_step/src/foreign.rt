@@ -3,9 +3,9 @@ ghost use Rattle.std.specs.Prelude.{◌≡◌, ℕ, IfOk, List, [], MatchOption}
 ghost use Rattle.std.specs.List.{AllByRecursion, Contains};
 ghost use Rattle.kp_kore.specs.Syntax.{Text};
 ghost use Rattle.kp_heads.specs.Made.{IsHeadTableOf};
-ghost use Rattle.kp_semantics.specs.Theory.{Theory};
+ghost use Rattle.kp_kore.specs.Theory.{Theory};
 ghost use Rattle.kp_symbolic.specs.States.{SymbolicState};
-ghost use Rattle.kp_terms.specs.View.{clauses_view};
+ghost use Rattle.kp_symbolic.specs.View.{clauses_view};
 ghost use Rattle.kp_rules.specs.Skeletons.{Form};
 ghost use Rattle.kp_cases.specs.Parts.{with_clauses};
 ghost use Rattle.kp_unify.specs.Narrowed.{NumberedPart};

@@ -3,8 +3,8 @@ ghost use Rattle.std.specs.Prelude.{◌≡◌, ◌↔◌, IfOk, IsTrue, List, []
 ghost use Rattle.std.specs.List.{AllZip};
 ghost use Rattle.kp_kore.specs.Syntax.{Text};
 ghost use Rattle.kp_heads.specs.Made.{IsHeadTableOf};
-ghost use Rattle.kp_semantics.specs.Rules.{Rewrite, rewrite, RewriteRule};
-ghost use Rattle.kp_semantics.specs.Theory.{Theory};
+ghost use Rattle.kp_kore.specs.Rules.{Rewrite, rewrite, RewriteRule};
+ghost use Rattle.kp_kore.specs.Theory.{Theory};
 ghost use Rattle.kp_rules.specs.Sides.{AreSidesOf};
 ghost use Rattle.kp_rules.specs.VerifiedSides.{AreVerifiedSides};
 ghost use Rattle.kp_cases.specs.Parts.{StatePart};

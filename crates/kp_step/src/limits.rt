@@ -2,8 +2,8 @@
 ghost use Rattle.std.specs.Prelude.{◌≡◌, IfOk, MatchOption, ◌++◌, map};
 ghost use Rattle.std.specs.List.{AllByRecursion};
 ghost use Rattle.std.specs.Option.{option_map};
-ghost use Rattle.kp_semantics.specs.Steps.{AnyByRecursion};
-ghost use Rattle.kp_terms.specs.View.{clauses_view, state_view};
+ghost use Rattle.kp_kore.specs.Steps.{AnyByRecursion};
+ghost use Rattle.kp_symbolic.specs.View.{clauses_view, state_view};
 ghost use Rattle.kp_simplify.specs.Answers.{first_deep, state_sides};
 ghost use Rattle.kp_unify.specs.Views.{signature_of};
 ghost use Rattle.kp_wide.specs.Calls.{call_view};
@@ -14,8 +14,8 @@ ghost use Rattle.kp_step.specs.Views.{limit_view, next_told, part_told};
 
 use crate::outcome::{Limit, Next};
 use kp_simplify::depth::deep_in;
-use kp_terms::state::share_variables;
-use kp_terms::{Clause, State};
+use kp_symbolic::state::share_variables;
+use kp_symbolic::{Clause, State};
 use kp_unify::{Part, Setting};
 use kp_wide::{WideCall, first_wide};
 use std::alloc::{AllocError, Global};

@@ -3,7 +3,7 @@ ghost use Rattle.std.specs.Prelude.{◌≡◌, IfOk, List, map};
 ghost use Rattle.std.specs.List.{AllByRecursion, AllZip};
 ghost use Rattle.kp_kore.specs.Syntax.{Text};
 ghost use Rattle.kp_heads.specs.Made.{IsHeadTableOf};
-ghost use Rattle.kp_semantics.specs.Theory.{Theory};
+ghost use Rattle.kp_kore.specs.Theory.{Theory};
 ghost use Rattle.kp_cases.specs.Parts.{StatePart};
 ghost use Rattle.kp_unify.specs.Views.{signature_of, IsSetting, numbered_view};
 ghost use Rattle.kp_step.specs.Rules.{Steps, IsReadAt};

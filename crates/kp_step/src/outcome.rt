@@ -1,7 +1,7 @@
 // What one symbolic step finds.
 
 use crate::answers::Open;
-use kp_terms::State;
+use kp_symbolic::State;
 use kp_unify::Part;
 use std::sync::Arc;
 

@@ -1,6 +1,6 @@
 // The rules of a rule set, as a symbolic step asks for them.
 ghost use Rattle.std.specs.Option.{option_map};
-ghost use Rattle.kp_semantics.specs.Theory.{Theory};
+ghost use Rattle.kp_kore.specs.Theory.{Theory};
 ghost use Rattle.kp_rule_sets.specs.RuleSets.{RunsAs};
 ghost use Rattle.kp_step.specs.Rules.{TellsRead, TellsSkeleton};
 ghost use Rattle.kp_step.specs.Places.{IsPriorityAt};

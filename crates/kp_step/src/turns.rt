@@ -3,10 +3,10 @@ ghost use Rattle.std.specs.Prelude.{◌≡◌, ◌∷◌, [], ℕ, IfOk, IsTrue,
 ghost use Rattle.std.specs.List.{AllZip};
 ghost use Rattle.kp_kore.specs.Syntax.{Text};
 ghost use Rattle.kp_heads.specs.Made.{IsHeadTableOf};
-ghost use Rattle.kp_semantics.specs.Rules.{Rewrite, RewriteRule};
-ghost use Rattle.kp_semantics.specs.Theory.{Theory};
+ghost use Rattle.kp_kore.specs.Rules.{Rewrite, RewriteRule};
+ghost use Rattle.kp_kore.specs.Theory.{Theory};
 ghost use Rattle.kp_symbolic.specs.States.{SymbolicState};
-ghost use Rattle.kp_terms.specs.View.{replaced_view, state_view};
+ghost use Rattle.kp_symbolic.specs.View.{replaced_view, state_view};
 ghost use Rattle.kp_rules.specs.Sides.{AreSidesOf};
 ghost use Rattle.kp_rules.specs.VerifiedSides.{AreVerifiedSides};
 ghost use Rattle.kp_cases.specs.Parts.{StatePart};
@@ -32,7 +32,7 @@ use kp_firing::{Firing, all_clauses, constrained, fire};
 use kp_rule_sets::RuleSet;
 use kp_rules::Sides;
 use kp_solving::constrain;
-use kp_terms::{Replaced, State};
+use kp_symbolic::{Replaced, State};
 use kp_unify::{Part, Setting};
 use std::alloc::{AllocError, Global};
 

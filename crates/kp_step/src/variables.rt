@@ -2,8 +2,8 @@
 ghost use Rattle.std.specs.Prelude.{◌≡◌, ◌↔◌, IsTrue, true, map, string_bytes};
 ghost use Rattle.std.specs.List.{AllByRecursion};
 ghost use Rattle.kp_kore.specs.View.{sort_view};
-ghost use Rattle.kp_semantics.specs.Instance.{is_named};
-ghost use Rattle.kp_terms.specs.View.{replaced_view};
+ghost use Rattle.kp_kore.specs.Instance.{is_named};
+ghost use Rattle.kp_symbolic.specs.View.{replaced_view};
 ghost use Rattle.kp_symbolic_laws.specs.Runs.{HasOneSortEach};
 ghost use Rattle.kp_rules.specs.Skeletons.{skeleton_view, forms_of};
 ghost use Rattle.kp_cases.specs.Courses.{form_variables, all_form_variables};
@@ -11,7 +11,7 @@ ghost use Rattle.kp_step.specs.OneSort.{HasOnly, HaveOnlySortsOf};
 
 use kp_kore::Sort;
 use kp_rules::Skeleton;
-use kp_terms::Replaced;
+use kp_symbolic::Replaced;
 use std::sync::Arc;
 
 /// Whether the variable has another name, or this sort.

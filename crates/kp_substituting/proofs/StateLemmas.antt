@@ -11,8 +11,8 @@ use Rattle.kp_symbolic.specs.States.{Literal}
 use Rattle.kp_symbolic.specs.Writing.{written_clause}
 use Rattle.kp_symbolic.specs.Clauses.{distributed}
 use Rattle.kp_symbolic.specs.Solving.{literals_in}
-use Rattle.kp_terms.specs.View.{clause_view, clauses_view}
-use Rattle.kp_terms.specs.declared.clause.Clause.{Clause}
+use Rattle.kp_symbolic.specs.View.{clause_view, clauses_view}
+use Rattle.kp_symbolic.specs.declared.clause.Clause.{Clause}
 use Rattle.kp_replacing.specs.Replacing.{clause_under}
 use Rattle.kp_replacing.specs.Substituted.{substituted_clause, substituted_clauses}
 use Rattle.kp_substituting.specs.Holding.{holds_one, quoted_under}

@@ -4,8 +4,8 @@ ghost use Rattle.std.specs.List.{AllByRecursion};
 ghost use Rattle.kp_compile.specs.declared.error.CompileError.TheVariants.{Memory};
 ghost use Rattle.kp_kore.specs.View.{view, sort_view};
 ghost use Rattle.kp_symbolic.specs.Writing.{written_clause};
-ghost use Rattle.kp_terms.specs.Languages.{language_view};
-ghost use Rattle.kp_terms.specs.View.{literal_view, clause_view, clauses_view, replaced_view};
+ghost use Rattle.kp_symbolic.specs.Languages.{language_view};
+ghost use Rattle.kp_symbolic.specs.View.{literal_view, clause_view, clauses_view, replaced_view};
 ghost use Rattle.kp_replacing.specs.Substituted as model;
 ghost use Rattle.kp_replacing.specs.Sums.{HasWrittenSums};
 ghost use Rattle.kp_writing.specs.Parts.{IsFaultlessAtom};
@@ -20,7 +20,7 @@ use kp_readings::names::some_has_name;
 use kp_replacing::open_clause;
 use kp_solving::clause::{clause_alone, clauses_of, is_room};
 use kp_solving::whole::whole_out;
-use kp_terms::{Clause, Language, Literal, Replaced};
+use kp_symbolic::{Clause, Language, Literal, Replaced};
 use std::alloc::{AllocError, Global};
 
 /// Whether one of the variables in the place of which a term stands is in one of the literals.

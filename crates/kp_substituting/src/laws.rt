@@ -1,8 +1,8 @@
 // Laws of states with terms in the place of variables.
 ghost use Rattle.std.specs.Prelude.{◌≡◌, List};
 ghost use Rattle.kp_kore.specs.Signature.{KoreSignature, injection, meaning_of};
-ghost use Rattle.kp_semantics.specs.Instance.{Valuation};
-ghost use Rattle.kp_states.specs.Spelled.{injection_name};
+ghost use Rattle.kp_kore.specs.Instance.{Valuation};
+ghost use Rattle.kp_compile.specs.Spelled.{injection_name};
 ghost use Rattle.kp_symbolic.specs.Terms.{Replaced};
 ghost use Rattle.kp_symbolic.specs.States.{AreGiven, SymbolicState};
 ghost use Rattle.kp_symbolic_laws.specs.Runs.{IsSortedState};

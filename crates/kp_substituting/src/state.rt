@@ -3,8 +3,8 @@ ghost use Rattle.std.specs.Prelude.{◌≡◌, IfOk, IfErr, map};
 ghost use Rattle.std.specs.List.{AllByRecursion};
 ghost use Rattle.kp_compile.specs.declared.error.CompileError.TheVariants.{Memory};
 ghost use Rattle.kp_kore.specs.View.{sort_view};
-ghost use Rattle.kp_terms.specs.Languages.{language_view};
-ghost use Rattle.kp_terms.specs.View.{clauses_view, literal_view, replaced_view, state_view};
+ghost use Rattle.kp_symbolic.specs.Languages.{language_view};
+ghost use Rattle.kp_symbolic.specs.View.{clauses_view, literal_view, replaced_view, state_view};
 ghost use Rattle.kp_replacing.specs.Substituted as model;
 ghost use Rattle.kp_replacing.specs.Sums.{HasWrittenSums};
 ghost use Rattle.kp_outward.specs.Errors.{AreFaultlessIn};
@@ -16,7 +16,7 @@ use kp_compile::CompileError;
 use kp_distribution::joined::kept_once;
 use kp_kore::Sort;
 use kp_solving::round::with_literals;
-use kp_terms::{Clause, Language, Replaced, State};
+use kp_symbolic::{Clause, Language, Replaced, State};
 use std::alloc::Global;
 
 /// The clauses with terms in the place of variables, repeats included.

@@ -3,10 +3,10 @@ ghost use Rattle.std.specs.Prelude.{◌≡◌, ◌++◌, IfOk, OnOk, map};
 ghost use Rattle.std.specs.List.{flat_map};
 ghost use Rattle.kp_symbolic.specs.States.{variables_for};
 ghost use Rattle.kp_symbolic.specs.Terms.{replacement_for};
-ghost use Rattle.kp_terms.specs.View.{replaced_view, variable_view, variables_view};
+ghost use Rattle.kp_symbolic.specs.View.{replaced_view, variable_view, variables_view};
 
-use kp_terms::replaced::replacement_of;
-use kp_terms::{Replaced, Variable};
+use kp_symbolic::replaced::replacement_of;
+use kp_symbolic::{Replaced, Variable};
 use std::alloc::{AllocError, Global};
 use std::sync::Arc;
 

@@ -6,7 +6,7 @@ use Rattle.std.proofs.lemmas.Slice.Eq.{bytes_eq-Decides}
 use Rattle.std.proofs.lemmas.List.Elements.{filter-append}
 use Rattle.kp_kore.specs.Syntax.{Text, KoreSort, KorePattern, KorePatterns, variable, set_variable, application, string_literal, literal, top, bottom, negation, next, conjunction, disjunction, implication, equivalence, rewriting, exists, forall, ceil, floor, equals, membership, mu, nu, no_patterns, next_pattern}
 use Rattle.kp_kore.specs.Parts.{SortedName, is_term, free_variables, all_free_variables, without_name}
-use Rattle.kp_semantics.specs.Instance.{conjuncts}
+use Rattle.kp_kore.specs.Instance.{conjuncts}
 use Rattle.kp_substitution.specs.Substitution.{ReplacedName, put_for, is_replaced, hiding, substituted, all_substituted, AreClosed}
 use Rattle.kp_substitution.proofs.Substituted.{closed_hiding}
 

@@ -6,7 +6,7 @@ use Rattle.std.specs.Str.{bytes_eq}
 use Rattle.kp_kore.specs.Syntax.{Text, KoreSort, KorePattern, KorePatterns, variable, set_variable, application, string_literal, literal, top, bottom, negation, next, conjunction, disjunction, implication, equivalence, rewriting, exists, forall, ceil, floor, equals, membership, mu, nu, no_patterns, next_pattern}
 use Rattle.kp_kore.specs.Parts.{is_term, free_variables}
 use Rattle.kp_kore.specs.Signature.{KoreSignature}
-use Rattle.kp_semantics.specs.Instance.{Valuation, assigned, instance}
+use Rattle.kp_kore.specs.Instance.{Valuation, assigned, instance}
 
 -- what stands for the variables of a name
 pub record ReplacedName : Type 0 where

@@ -4,7 +4,7 @@ ghost use Rattle.std.specs.List.{filter};
 ghost use Rattle.kp_kore.specs.Syntax.{KorePattern};
 ghost use Rattle.kp_kore.specs.Parts.{free_variables, is_term};
 ghost use Rattle.kp_kore.specs.Signature.{KoreSignature};
-ghost use Rattle.kp_semantics.specs.Instance.{Valuation, instance, IsTrueUnder};
+ghost use Rattle.kp_kore.specs.Instance.{Valuation, instance, IsTrueUnder};
 ghost use Rattle.kp_substitution.specs.Substitution.{ReplacedName, substituted, is_replaced, AreClosed, with_replaced};
 
 /// Instances and truth of a substituted pattern are those of the pattern under the valuation with the instances of the

@@ -6,7 +6,7 @@ use Rattle.kp_kore.specs.Syntax.{KorePattern}
 use Rattle.kp_kore.specs.Signature.{KoreSignature}
 use Rattle.kp_kore.specs.View.{view}
 use Rattle.kp_kore.specs.declared.pattern.Pattern.{Pattern}
-use Rattle.kp_semantics.specs.Value.{Value}
+use Rattle.kp_kore.specs.Value.{Value}
 use Rattle.kp_rules.specs.declared.rule.Rule.{Rule}
 use Rattle.kp_run.specs.Turns.{BodyFires, FiresAt}
 use Rattle.kp_run.proofs.Among.{all_and_last, any_and_more}

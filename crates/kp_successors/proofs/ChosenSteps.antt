@@ -10,12 +10,12 @@ use Rattle.kp_kore.specs.Attributes.{sorts_equal}
 use Rattle.kp_kore.specs.Parts.{SortedName, free_variables, all_free_variables}
 use Rattle.kp_kore.specs.Signature.{KoreSignature}
 use Rattle.kp_kore.specs.View.{patterns_of}
-use Rattle.kp_semantics.specs.Value.{Value, HasSort}
-use Rattle.kp_semantics.specs.Instance.{Valuation, instance, GivesSorts, AgreesOn, is_named, IsTrueUnder, IsInstance}
-use Rattle.kp_semantics.specs.Rules as model
-use Rattle.kp_semantics.specs.Steps.{LeadsTo}
-use Rattle.kp_semantics.proofs.InstanceLemmas.{same_instance, agrees_first, agrees_second}
-use Rattle.kp_semantics.proofs.TruthLemmas.{same_truth}
+use Rattle.kp_kore.specs.Value.{Value, HasSort}
+use Rattle.kp_kore.specs.Instance.{Valuation, instance, GivesSorts, AgreesOn, is_named, IsTrueUnder, IsInstance}
+use Rattle.kp_kore.specs.Rules as model
+use Rattle.kp_kore.specs.Steps.{LeadsTo}
+use Rattle.kp_kore.proofs.InstanceLemmas.{same_instance, agrees_first, agrees_second}
+use Rattle.kp_kore.proofs.TruthLemmas.{same_truth}
 use Rattle.kp_rules.specs.Bodies.{IsLonePredicate, IsConstrained}
 use Rattle.kp_substitution.specs.Substitution.{ReplacedName, substituted, is_replaced, AreClosed, with_replaced}
 use Rattle.kp_substitution.proofs.Substituted.{substituted_instance, substituted_truth, substituted_is_term}

@@ -6,9 +6,9 @@ use Rattle.kp_kore.specs.Syntax.{KoreSort, KorePattern, variable, set_variable, 
 use Rattle.kp_kore.specs.Parts.{SortedName, is_term, free_variables}
 use Rattle.kp_kore.specs.Signature.{KoreSignature}
 use Rattle.kp_kore.specs.View.{patterns_of}
-use Rattle.kp_semantics.specs.Value.{Value}
-use Rattle.kp_semantics.specs.Instance.{Valuation, instance, IsTrueUnder, conjuncts, all_conjuncts, conjoined_terms, conjoined_predicates, IsInstanceOfOne, IsInstance}
-use Rattle.kp_semantics.proofs.InstanceLemmas.{one_instance}
+use Rattle.kp_kore.specs.Value.{Value}
+use Rattle.kp_kore.specs.Instance.{Valuation, instance, IsTrueUnder, conjuncts, all_conjuncts, conjoined_terms, conjoined_predicates, IsInstanceOfOne, IsInstance}
+use Rattle.kp_kore.proofs.InstanceLemmas.{one_instance}
 use Rattle.kp_rules.specs.Bodies.{IsLonePredicate, is_conjunction}
 use Rattle.kp_substitution.specs.Substitution.{ReplacedName, substituted, AreClosed}
 use Rattle.kp_substitution.proofs.Substituted.{substituted_is_term}

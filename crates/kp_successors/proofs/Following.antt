@@ -5,12 +5,12 @@ use Rattle.kp_kore.specs.Syntax.{Text, KorePattern}
 use Rattle.kp_kore.specs.Parts.{free_variables}
 use Rattle.kp_kore.specs.Signature.{KoreSignature}
 use Rattle.kp_kore.specs.View.{sort_view}
-use Rattle.kp_semantics.specs.Value.{Value, HasSort}
-use Rattle.kp_semantics.specs.Sorted.{IsSorted}
-use Rattle.kp_semantics.specs.Instance.{Valuation, instance, GivesSorts, is_named}
-use Rattle.kp_semantics.specs.Rules as model
-use Rattle.kp_semantics.specs.Steps.{FiresUnder, Rewrites}
-use Rattle.kp_semantics.proofs.InstanceLemmas.{one_instance}
+use Rattle.kp_kore.specs.Value.{Value, HasSort}
+use Rattle.kp_kore.specs.Sorted.{IsSorted}
+use Rattle.kp_kore.specs.Instance.{Valuation, instance, GivesSorts, is_named}
+use Rattle.kp_kore.specs.Rules as model
+use Rattle.kp_kore.specs.Steps.{FiresUnder, Rewrites}
+use Rattle.kp_kore.proofs.InstanceLemmas.{one_instance}
 use Rattle.kp_rules.specs.Heads.{FiresAs}
 use Rattle.kp_rules.specs.Bodies.{IsPlain, IsRewriteOf, IsBodyOf, IsSideOf, IsChoiceOf}
 use Rattle.kp_rules.specs.declared.rule.RuleBody.{RuleBody}
@@ -18,7 +18,7 @@ use Rattle.kp_rules.specs.declared.rule.RuleBody.TheVariants.{Rewrite, Foreign}
 use Rattle.kp_rules.specs.declared.rule.Rewrite as code
 use Rattle.kp_rules.specs.declared.right_side.RightSide.{RightSide}
 use Rattle.kp_rules.proofs.Fired.{fired_under}
-use Rattle.kp_states.specs.Spelled.{IsSpellingOf}
+use Rattle.kp_compile.specs.Spelled.{IsSpellingOf}
 use Rattle.kp_run.specs.Turns.{BodyFires}
 use Rattle.kp_run.proofs.Theories.{leads_to, leads_only_to}
 use Rattle.kp_substitution.specs.Substitution.{is_replaced}

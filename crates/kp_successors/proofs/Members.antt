@@ -6,7 +6,7 @@ use Rattle.std.specs.Bool.{Decides}
 use Rattle.kp_kore.specs.Parts.{SortedName}
 use Rattle.kp_kore.specs.View.{sorted_variable_view}
 use Rattle.kp_kore.specs.declared.pattern_free.SortedVariable.{SortedVariable}
-use Rattle.kp_semantics.specs.Steps.{AnyByRecursion}
+use Rattle.kp_kore.specs.Steps.{AnyByRecursion}
 
 pub any_last : {X : Type 0} (P : X → Type 0) (xs : List X) (x : X) → P x → AnyByRecursion P (xs ++ x ∷ [])
 any_last P [] x p = inl p

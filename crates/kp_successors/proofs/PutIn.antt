@@ -8,9 +8,9 @@ use Rattle.kp_kore.specs.Syntax.{Text}
 use Rattle.kp_kore.specs.Attributes.{sorts_equal}
 use Rattle.kp_kore.specs.Parts.{SortedName}
 use Rattle.kp_kore.specs.Signature.{KoreSignature}
-use Rattle.kp_semantics.specs.Value.{HasSort}
-use Rattle.kp_semantics.specs.Instance.{Valuation, instance, GivesSorts, AgreesOff, AgreesOn, is_named}
-use Rattle.kp_semantics.proofs.SameLemmas.{same_sorts_decide}
+use Rattle.kp_kore.specs.Value.{HasSort}
+use Rattle.kp_kore.specs.Instance.{Valuation, instance, GivesSorts, AgreesOff, AgreesOn, is_named}
+use Rattle.kp_kore.proofs.SameLemmas.{same_sorts_decide}
 use Rattle.kp_substitution.specs.Substitution.{ReplacedName, is_replaced, AreClosed, with_replaced}
 use Rattle.kp_substitution.proofs.SubstitutedForms.{staying}
 use Rattle.kp_rules.specs.Known.{is_among, is_known}

@@ -1,15 +1,15 @@
 -- Causes of errors.
 use Rattle.std.proofs.Common.{◌≡◌, refl, sym, subst, false, Err, List}
 use Rattle.kp_kore.specs.Signature.{KoreSignature}
-use Rattle.kp_semantics.specs.Instance.{Valuation}
+use Rattle.kp_kore.specs.Instance.{Valuation}
 use Rattle.kp_ground.specs.Outcomes.{Gives}
 use Rattle.kp_ground.specs.Solves.{Solves}
 use Rattle.kp_ground.specs.Terms.{RuleTerm, stays_narrow}
 use Rattle.kp_ground.specs.declared.binding.Binding.{Binding}
 use Rattle.kp_ground.specs.declared.evaluate.EvaluationError.{EvaluationError}
 use Rattle.kp_ground.specs.declared.evaluate.EvaluationError.TheVariants as evaluating
-use Rattle.kp_states.specs.declared.error.SpellingError.{SpellingError}
-use Rattle.kp_states.specs.declared.error.SpellingError.TheVariants as spelling
+use Rattle.kp_compile.specs.declared.state_error.SpellingError.{SpellingError}
+use Rattle.kp_compile.specs.declared.state_error.SpellingError.TheVariants as spelling
 use Rattle.kp_successors.specs.Errors.{LacksInjection, IsCausedBy, IsFromEvaluation, IsFromSpelling}
 use Rattle.kp_successors.specs.declared.error.GroundError.{GroundError}
 use Rattle.kp_successors.specs.declared.error.GroundError.TheVariants.{Memory, Number, Foreign, Unread, NoInjection}

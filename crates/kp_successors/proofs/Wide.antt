@@ -5,11 +5,11 @@ use Rattle.std.proofs.lemmas.List.Folds.{list_any-append}
 use Rattle.kp_kore.specs.Syntax.{KorePattern, KorePatterns, variable, set_variable, application, string_literal, literal, top, bottom, negation, next, conjunction, disjunction, implication, equivalence, rewriting, exists, forall, ceil, floor, equals, membership, mu, nu, no_patterns, next_pattern}
 use Rattle.kp_kore.specs.Parts.{SortedName, subpatterns, all_subpatterns, free_variables}
 use Rattle.kp_kore.specs.Signature.{KoreSignature}
-use Rattle.kp_semantics.specs.Value.{Value}
-use Rattle.kp_semantics.specs.Sorted.{IsSorted}
-use Rattle.kp_semantics.specs.Instance.{Valuation, instance, is_named}
-use Rattle.kp_semantics.specs.Numbers.{is_wide_call, computes_wide}
-use Rattle.kp_semantics.specs.Rules as model
+use Rattle.kp_kore.specs.Value.{Value}
+use Rattle.kp_kore.specs.Sorted.{IsSorted}
+use Rattle.kp_kore.specs.Instance.{Valuation, instance, is_named}
+use Rattle.kp_kore.specs.Numbers.{is_wide_call, computes_wide}
+use Rattle.kp_kore.specs.Rules as model
 use Rattle.kp_ground.specs.Conditions.{condition_narrow}
 use Rattle.kp_ground.specs.ConditionView.{condition_view}
 use Rattle.kp_rules.specs.Bodies.{IsRewriteOf, IsBodyOf, IsChoiceOf}

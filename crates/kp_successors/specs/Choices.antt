@@ -6,11 +6,11 @@ use Rattle.kp_kore.specs.Syntax.{Text, KoreSort, KorePattern, variable, top, con
 use Rattle.kp_kore.specs.Parts.{SortedName, free_variables}
 use Rattle.kp_kore.specs.Signature.{KoreSignature}
 use Rattle.kp_kore.specs.View.{patterns_of}
-use Rattle.kp_semantics.specs.Instance.{Valuation, is_named}
-use Rattle.kp_semantics.specs.Rules.{Rewrite}
+use Rattle.kp_kore.specs.Instance.{Valuation, is_named}
+use Rattle.kp_kore.specs.Rules.{Rewrite}
 use Rattle.kp_rules.specs.Bodies.{IsConstrained}
 use Rattle.kp_rules.specs.Known.{is_among, free_beside, are_known}
-use Rattle.kp_states.specs.Spelled.{IsSpellingOf}
+use Rattle.kp_compile.specs.Spelled.{IsSpellingOf}
 use Rattle.kp_substitution.specs.Substitution.{ReplacedName, substituted, is_replaced}
 
 -- \equals{T,S}(x:T, x:T): nothing but that x stands for a value of its sort

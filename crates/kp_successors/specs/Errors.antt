@@ -3,14 +3,14 @@ use Rattle.std.specs.Prelude.{◌≡◌, true, [], ⊤, string_bytes}
 use Rattle.kp_kore.specs.Syntax.{Text, KorePattern}
 use Rattle.kp_kore.specs.Parts.{free_variables}
 use Rattle.kp_kore.specs.Signature.{KoreSignature, injection, meaning_of}
-use Rattle.kp_semantics.specs.Instance.{Valuation}
-use Rattle.kp_semantics.specs.Numbers.{computes_wide}
+use Rattle.kp_kore.specs.Instance.{Valuation}
+use Rattle.kp_kore.specs.Numbers.{computes_wide}
 use Rattle.kp_compile.specs.Verified.{IsVerifiedTerm}
 use Rattle.kp_ground.specs.declared.evaluate.EvaluationError.{EvaluationError}
 use Rattle.kp_ground.specs.declared.evaluate.EvaluationError.TheVariants as evaluating
-use Rattle.kp_states.specs.Spelled.{injection_name}
-use Rattle.kp_states.specs.declared.error.SpellingError.{SpellingError}
-use Rattle.kp_states.specs.declared.error.SpellingError.TheVariants as spelling
+use Rattle.kp_compile.specs.Spelled.{injection_name}
+use Rattle.kp_compile.specs.declared.state_error.SpellingError.{SpellingError}
+use Rattle.kp_compile.specs.declared.state_error.SpellingError.TheVariants as spelling
 use Rattle.kp_successors.specs.declared.error.GroundError.{GroundError}
 use Rattle.kp_successors.specs.declared.error.GroundError.TheVariants.{Memory, Number, Foreign, Unread, NoInjection}
 

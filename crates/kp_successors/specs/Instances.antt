@@ -3,8 +3,8 @@
 use Rattle.kp_kore.specs.Syntax.{KorePattern}
 use Rattle.kp_kore.specs.Parts.{free_variables}
 use Rattle.kp_kore.specs.Signature.{KoreSignature}
-use Rattle.kp_semantics.specs.Value.{Value}
-use Rattle.kp_semantics.specs.Instance.{Valuation, GivesSorts, IsInstance}
+use Rattle.kp_kore.specs.Value.{Value}
+use Rattle.kp_kore.specs.Instance.{Valuation, GivesSorts, IsInstance}
 
 -- an instance of the pattern, where its free variables stand for values of their sorts
 abbrev pub IsSomeInstance : KoreSignature → KorePattern → Value → Type 0

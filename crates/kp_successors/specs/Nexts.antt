@@ -4,14 +4,14 @@ use Rattle.kp_kore.specs.Syntax.{KoreSort, KorePattern}
 use Rattle.kp_kore.specs.Parts.{SortedName}
 use Rattle.kp_kore.specs.Signature.{KoreSignature}
 use Rattle.kp_kore.specs.View.{view, sort_view, sorted_variable_view}
-use Rattle.kp_semantics.specs.Value.{Value, HasSort}
-use Rattle.kp_semantics.specs.Instance.{Valuation, GivesSorts}
+use Rattle.kp_kore.specs.Value.{Value, HasSort}
+use Rattle.kp_kore.specs.Instance.{Valuation, GivesSorts}
 use Rattle.kp_ground.specs.Terms.{term_value, stays_narrow}
 use Rattle.kp_ground.specs.TermView.{term_view}
 use Rattle.kp_rules.specs.declared.rule.Rewrite.{Rewrite}
 use Rattle.kp_rules.specs.declared.right_side.RightSide.{RightSide}
 use Rattle.kp_rules.specs.WideParts.{all_narrow}
-use Rattle.kp_states.specs.Spelled.{IsSpellingOf}
+use Rattle.kp_compile.specs.Spelled.{IsSpellingOf}
 use Rattle.kp_substitution.specs.Substitution.{ReplacedName}
 use Rattle.kp_successors.specs.Choices.{AreNamed, SpellUnder, chosen_pattern}
 

@@ -1,9 +1,9 @@
 -- When the successors of a configuration aren't told, and why.
 use Rattle.std.specs.Prelude.{◌⊎◌, string_bytes, ⊤}
 use Rattle.kp_kore.specs.Syntax.{KorePattern}
-use Rattle.kp_semantics.specs.Value.{Value}
-use Rattle.kp_semantics.specs.Theory.{Theory}
-use Rattle.kp_semantics.specs.Steps.{AnyByRecursion, HasTurn}
+use Rattle.kp_kore.specs.Value.{Value}
+use Rattle.kp_kore.specs.Theory.{Theory}
+use Rattle.kp_kore.specs.Steps.{AnyByRecursion, HasTurn}
 use Rattle.kp_compile.specs.Verified.{IsVerifiedTerm}
 use Rattle.kp_run.specs.Causes.{HasWideCondition}
 use Rattle.kp_run.specs.Runs.{IsFirstUnknown}

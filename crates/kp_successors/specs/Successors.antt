@@ -5,14 +5,14 @@ use Rattle.kp_kore.specs.Syntax.{KoreSort, KorePattern}
 use Rattle.kp_kore.specs.Parts.{free_variables}
 use Rattle.kp_kore.specs.Signature.{KoreSignature}
 use Rattle.kp_kore.specs.Sorting.{sort_of_term}
-use Rattle.kp_semantics.specs.Value.{Value}
-use Rattle.kp_semantics.specs.Instance.{Valuation}
-use Rattle.kp_semantics.specs.Numbers.{computes_wide}
-use Rattle.kp_semantics.specs.Rules.{Rewrite, RuleBody, rewrite, foreign_rule, RewriteRule}
-use Rattle.kp_semantics.specs.Theory.{Theory}
-use Rattle.kp_semantics.specs.Steps.{AnyByRecursion, FiresUnder, HasTurn, StepsBy}
+use Rattle.kp_kore.specs.Value.{Value}
+use Rattle.kp_kore.specs.Instance.{Valuation}
+use Rattle.kp_kore.specs.Numbers.{computes_wide}
+use Rattle.kp_kore.specs.Rules.{Rewrite, RuleBody, rewrite, foreign_rule, RewriteRule}
+use Rattle.kp_kore.specs.Theory.{Theory}
+use Rattle.kp_kore.specs.Steps.{AnyByRecursion, FiresUnder, HasTurn, StepsBy}
 use Rattle.kp_rules.specs.Bodies.{IsPlain}
-use Rattle.kp_states.specs.Spelled.{IsSpellingOf}
+use Rattle.kp_compile.specs.Spelled.{IsSpellingOf}
 use Rattle.kp_run.specs.Causes.{HasWideCondition}
 use Rattle.kp_substitution.specs.Substitution.{ReplacedName}
 use Rattle.kp_successors.specs.Instances.{IsSomeInstance}

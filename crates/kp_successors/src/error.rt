@@ -1,5 +1,5 @@
+use kp_compile::SpellingError;
 use kp_ground::EvaluationError;
-use kp_states::SpellingError;
 use std::alloc::AllocError;
 
 /// Why the successors of a configuration aren't told.

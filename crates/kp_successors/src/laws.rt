@@ -2,10 +2,10 @@
 ghost use Rattle.std.specs.Prelude.{◌↔◌, List};
 ghost use Rattle.kp_kore.specs.Syntax.{KoreSort};
 ghost use Rattle.kp_kore.specs.Signature.{KoreSignature};
-ghost use Rattle.kp_semantics.specs.Value.{Value};
-ghost use Rattle.kp_semantics.specs.Instance.{Valuation};
-ghost use Rattle.kp_semantics.specs.Rules.{Rewrite};
-ghost use Rattle.kp_semantics.specs.Steps.{LeadsTo};
+ghost use Rattle.kp_kore.specs.Value.{Value};
+ghost use Rattle.kp_kore.specs.Instance.{Valuation};
+ghost use Rattle.kp_kore.specs.Rules.{Rewrite};
+ghost use Rattle.kp_kore.specs.Steps.{LeadsTo};
 ghost use Rattle.kp_substitution.specs.Substitution.{ReplacedName};
 ghost use Rattle.kp_successors.specs.Choices.{IsPutIn, SpellUnder, chosen_pattern};
 ghost use Rattle.kp_successors.specs.Instances.{IsSomeInstance};

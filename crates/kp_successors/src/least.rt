@@ -3,8 +3,8 @@ ghost use Rattle.std.specs.Prelude.{◌≡◌, ◌↔◌, ◌++◌, ◌∷◌, [
 ghost use Rattle.std.specs.List.{AllByRecursion};
 ghost use Rattle.kp_kore.specs.Signature.{KoreSignature};
 ghost use Rattle.kp_signature.specs.View.{signature_view};
-ghost use Rattle.kp_semantics.specs.Value as model;
-ghost use Rattle.kp_semantics.specs.Steps.{AnyByRecursion};
+ghost use Rattle.kp_kore.specs.Value as model;
+ghost use Rattle.kp_kore.specs.Steps.{AnyByRecursion};
 ghost use Rattle.kp_ground.specs.View.{value_view};
 ghost use Rattle.kp_rules.specs.declared.rule.Rule.{Rule};
 ghost use Rattle.kp_rule_sets.specs.Turns.{with_first};

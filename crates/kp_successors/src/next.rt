@@ -4,8 +4,8 @@ ghost use Rattle.std.specs.List.{AllByRecursion};
 ghost use Rattle.kp_kore.specs.Syntax.{KorePattern};
 ghost use Rattle.kp_kore.specs.View.{view};
 ghost use Rattle.kp_signature.specs.View.{signature_view};
-ghost use Rattle.kp_semantics.specs.Instance.{Valuation};
-ghost use Rattle.kp_semantics.specs.Steps.{AnyByRecursion};
+ghost use Rattle.kp_kore.specs.Instance.{Valuation};
+ghost use Rattle.kp_kore.specs.Steps.{AnyByRecursion};
 ghost use Rattle.kp_ground.specs.Solves.{Solves, bound_names};
 ghost use Rattle.kp_ground.specs.View.{value_view};
 ghost use Rattle.kp_successors.specs.Errors.{IsCausedBy};
@@ -27,12 +27,12 @@ use crate::chosen::chosen;
 use crate::error::GroundError;
 use crate::narrow::narrow;
 use crate::put_in::put_in;
+use kp_compile::spelled;
 use kp_ground::{Binding, Value};
 use kp_kore::{Pattern, Sort};
 use kp_rule_sets::{RuleSet, head_of};
 use kp_rules::{Rewrite, RightSide, Rule, RuleBody};
 use kp_signature::Signature;
-use kp_states::spelled;
 use std::alloc::{AllocError, Global};
 
 /// The pattern of a rule that fires under these bindings.

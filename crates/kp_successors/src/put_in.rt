@@ -2,24 +2,23 @@
 ghost use Rattle.std.specs.Prelude.{◌≡◌, ◌++◌, ◌∷◌, [], true, IfOk, OnOk, IfErr, string_bytes};
 ghost use Rattle.kp_kore.specs.View.{view, sort_view};
 ghost use Rattle.kp_signature.specs.View.{signature_view};
-ghost use Rattle.kp_semantics.specs.Value.{HasSort};
-ghost use Rattle.kp_semantics.specs.Instance.{Valuation};
+ghost use Rattle.kp_kore.specs.Value.{HasSort};
+ghost use Rattle.kp_kore.specs.Instance.{Valuation};
 ghost use Rattle.kp_ground.specs.Solves.{Solves, bound_names};
 ghost use Rattle.kp_ground.specs.Slots.{is_one_of};
 ghost use Rattle.kp_compile.specs.Names.{names_seen};
-ghost use Rattle.kp_states.specs.Spelled.{IsSpellingOf};
+ghost use Rattle.kp_compile.specs.Spelled.{IsSpellingOf};
 ghost use Rattle.kp_substitution.specs.Seen.{replacements_view, replacement_view};
 ghost use Rattle.kp_successors.specs.Errors.{IsCausedBy};
 ghost use Rattle.kp_successors.specs.Nexts.{left_of, AreForLeft, Spell};
 
 use crate::error::GroundError;
-use kp_compile::{NameSet, slot_of};
+use kp_compile::{NameSet, slot_of, spelled};
 use kp_ground::Binding;
 use kp_ground::binding::bound_at;
 use kp_kore::SortedVariable;
 use kp_rules::{RightSide, is_named};
 use kp_signature::Signature;
-use kp_states::spelled;
 use kp_substitution::Replacement;
 use std::alloc::{AllocError, Global};
 

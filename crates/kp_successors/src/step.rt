@@ -3,13 +3,13 @@ ghost use Rattle.std.specs.Prelude.{◌≡◌, [], IsTrue, IfOk, OnOk, IfErr, ma
 ghost use Rattle.kp_kore.specs.Syntax.{KoreSort};
 ghost use Rattle.kp_kore.specs.Parts.{is_term, free_variables};
 ghost use Rattle.kp_kore.specs.View.{view};
-ghost use Rattle.kp_semantics.specs.Value as model;
-ghost use Rattle.kp_semantics.specs.Sorted.{IsSorted};
-ghost use Rattle.kp_semantics.specs.Theory.{Theory};
-ghost use Rattle.kp_semantics.specs.Steps.{IsUnknown};
+ghost use Rattle.kp_kore.specs.Value as model;
+ghost use Rattle.kp_kore.specs.Sorted.{IsSorted};
+ghost use Rattle.kp_kore.specs.Theory.{Theory};
+ghost use Rattle.kp_kore.specs.Steps.{IsUnknown};
 ghost use Rattle.kp_ground.specs.View.{value_view};
 ghost use Rattle.kp_rule_sets.specs.RuleSets.{RunsAs};
-ghost use Rattle.kp_states.specs.Spelled.{IsGroundState};
+ghost use Rattle.kp_compile.specs.Spelled.{IsGroundState};
 ghost use Rattle.kp_successors.specs.Errors.{IsCausedBy, IsForeignBy};
 ghost use Rattle.kp_successors.specs.Successors.{AreSuccessors, IsTooWide};
 ghost use Rattle.kp_successors.specs.Refusals.{HasWideRule, IsRefusedFor};

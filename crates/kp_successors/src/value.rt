@@ -3,8 +3,8 @@ ghost use Rattle.std.specs.Prelude.{◌≡◌, true, false, [], IsTrue, IfOk, On
 ghost use Rattle.kp_kore.specs.Parts.{is_term as term_test, free_variables};
 ghost use Rattle.kp_kore.specs.View.{view};
 ghost use Rattle.kp_signature.specs.View.{signature_view};
-ghost use Rattle.kp_semantics.specs.Instance.{Valuation, instance};
-ghost use Rattle.kp_semantics.specs.Numbers.{computes_wide};
+ghost use Rattle.kp_kore.specs.Instance.{Valuation, instance};
+ghost use Rattle.kp_kore.specs.Numbers.{computes_wide};
 ghost use Rattle.kp_ground.specs.View.{value_view};
 ghost use Rattle.kp_successors.specs.Errors.{IsUnvalued};
 

@@ -9,8 +9,8 @@ use Rattle.std.proofs.lemmas.Bool.Decides.{Decides-int_eq}
 use Rattle.kp_kore.specs.Syntax.{Text, KoreSort, KoreSorts, KorePattern, KorePatterns, variable, set_variable, application, string_literal, literal, top, bottom, negation, next, conjunction, disjunction, implication, equivalence, rewriting, exists, forall, ceil, floor, equals, membership, mu, nu, no_patterns, next_pattern}
 use Rattle.kp_kore.specs.Attributes.{sorts_equal, all_sorts_equal}
 use Rattle.kp_kore.specs.Parts.{SortedName}
-use Rattle.kp_semantics.proofs.SameLemmas.{sorts_equal-Decides, all_sorts_equal-Decides, values_same-Decides}
-use Rattle.kp_semantics.proofs.InstanceLemmas.{first_true, second_true}
+use Rattle.kp_kore.proofs.SameLemmas.{sorts_equal-Decides, all_sorts_equal-Decides, values_same-Decides}
+use Rattle.kp_kore.proofs.InstanceLemmas.{first_true, second_true}
 use Rattle.kp_symbolic.specs.Terms.{SymbolicTerm, unknown, offset, known, headed, SymbolicTerms, no_terms, next_term, Replaced}
 use Rattle.kp_symbolic.specs.States.{HeadTest, one_head, head_of_sort, Atom, same, has_head, quoted, Literal}
 use Rattle.kp_symbolic.specs.Alike.{patterns_same, all_patterns_same, names_same, terms_same, all_terms_same, tests_same, replacements_same, atoms_same, literals_same}

@@ -6,14 +6,14 @@ use Rattle.kp_kore.specs.Syntax.{Text, KoreSort, sort_variable, KoreSorts, no_so
 use Rattle.kp_kore.specs.Attributes.{sorts_equal}
 use Rattle.kp_kore.specs.Hooks.{Comparison, Connective, both, either, implies, same as same_truth, other, Hook, whole_arithmetic, whole_comparison, truth_connective, truth_negation, values_equal, values_different}
 use Rattle.kp_kore.specs.Signature.{KoreSignature, SymbolMeaning, injection, construction, interpretation, foreign, meaning_of, symbol_meaning, symbol_declared, is_identity, is_constructor, is_plain, fits_hook, fitting_hook, boolean_sort, is_the, is_boolean_sort, has_only_truths, is_number_sort, is_truth_sort, are_one, are_two}
-use Rattle.kp_semantics.specs.Value.{Value, whole, truth, token, constructed, Values, no_values, next_value, values_same, HasSort, HaveSorts}
-use Rattle.kp_semantics.specs.Interpretation.{compared, connected, interpreted}
-use Rattle.kp_semantics.specs.Instance.{Valuation, GivesSorts, applied}
-use Rattle.kp_semantics.proofs.InstanceLemmas.{first_true, second_true}
-use Rattle.kp_semantics.proofs.SameLemmas.{sorts_equal-Decides, same_values_decide, equal_call}
+use Rattle.kp_kore.specs.Value.{Value, whole, truth, token, constructed, Values, no_values, next_value, values_same, HasSort, HaveSorts}
+use Rattle.kp_kore.specs.Interpretation.{compared, connected, interpreted}
+use Rattle.kp_kore.specs.Instance.{Valuation, GivesSorts, applied}
+use Rattle.kp_kore.proofs.InstanceLemmas.{first_true, second_true}
+use Rattle.kp_kore.proofs.SameLemmas.{sorts_equal-Decides, same_values_decide, equal_call}
 use Rattle.kp_signature.proofs.MeaningLemmas.{an_interpretation, it_fits}
 use Rattle.kp_signature.proofs.SortLemmas.{boolean_is_plain}
-use Rattle.kp_states.specs.Spelled.{places_of}
+use Rattle.kp_compile.specs.Spelled.{places_of}
 use Rattle.kp_symbolic.specs.Terms.{SymbolicTerm, unknown, offset, known, headed, SymbolicTerms, no_terms, next_term, term_instance, term_instances, term_variables, all_term_variables}
 use Rattle.kp_symbolic.specs.Formulas.{Formula, all_of, one_of, Holds}
 use Rattle.kp_symbolic.specs.States.{Literal, IsLiteralTrue}

@@ -5,8 +5,8 @@ use Rattle.std.specs.Bool.{beq}
 use Rattle.std.specs.List.{AllByRecursion}
 use Rattle.kp_kore.specs.Parts.{SortedName}
 use Rattle.kp_kore.specs.Signature.{KoreSignature}
-use Rattle.kp_semantics.specs.Value.{head_of}
-use Rattle.kp_semantics.specs.Instance.{Valuation}
+use Rattle.kp_kore.specs.Value.{head_of}
+use Rattle.kp_kore.specs.Instance.{Valuation}
 use Rattle.kp_symbolic.specs.Formulas.{Holds, AllHold, NoneHold}
 use Rattle.kp_symbolic.specs.States.{HeadTest, PassesHead, Atom, same, has_head, quoted, Literal, IsLiteralTrue, IsAtomTrue, AreTrue}
 use Rattle.kp_symbolic.specs.WellFormed.{IsGivenAtom, AreGivenLiterals}

@@ -2,7 +2,7 @@
 use Rattle.std.proofs.Common.{◌≡◌, refl, subst, sym, Bool, true, false, not, cond, ◌||◌, ◌&&◌, ℕ, ◌+◌, List, [], ◌∷◌, ◌++◌, map, length, ◌↔◌}
 use Rattle.std.specs.Prelude.{nat_le, if◌then◌else◌}
 use Rattle.std.specs.List.{AllByRecursion, filter, list_any}
-use Rattle.kp_semantics.proofs.InstanceLemmas.{first_true, second_true}
+use Rattle.kp_kore.proofs.InstanceLemmas.{first_true, second_true}
 use Rattle.kp_symbolic.specs.Formulas.{Formula, fact, all_of, one_of, Formulas, no_formulas, next_formula, Holds, AllHold, NoneHold, NotAllFalse, clauses_same, joined, most_compared, kept_once_after, kept_once, crossed, formula_clauses, joined_clauses, crossed_clauses}
 
 -- what a test that is true tells

@@ -5,10 +5,10 @@ use Rattle.std.specs.Str.{bytes_eq}
 use Rattle.std.proofs.lemmas.Slice.Eq.{bytes_eq-Decides}
 use Rattle.kp_kore.specs.Syntax.{Text, KoreSort, KoreSorts, no_sorts, next_sort}
 use Rattle.kp_kore.specs.Signature.{KoreSignature, is_truth_sort}
-use Rattle.kp_semantics.specs.Value.{Value, constructed, Values, no_values, next_value, HasSort, HaveSorts, ArgumentSorts}
-use Rattle.kp_semantics.specs.Instance.{Valuation}
+use Rattle.kp_kore.specs.Value.{Value, constructed, Values, no_values, next_value, HasSort, HaveSorts, ArgumentSorts}
+use Rattle.kp_kore.specs.Instance.{Valuation}
 use Rattle.kp_signature.proofs.NumberLemmas.{truth_value}
-use Rattle.kp_states.specs.Spelled.{places_of}
+use Rattle.kp_compile.specs.Spelled.{places_of}
 use Rattle.kp_symbolic.specs.Terms.{SymbolicTerm, term_instance}
 use Rattle.kp_symbolic.specs.Formulas.{Formula, Formulas, no_formulas, next_formula, NoneHold}
 use Rattle.kp_symbolic.specs.States.{Literal, IsLiteralTrue}

@@ -3,8 +3,8 @@ use Rattle.std.proofs.Common.{◌≡◌, refl, sym, ◌∙◌, ap, subst, inl, i
 use Rattle.std.specs.Prelude.{if◌then◌else◌}
 use Rattle.std.specs.List.{list_all, filter, AllByRecursion}
 use Rattle.kp_kore.specs.Signature.{KoreSignature}
-use Rattle.kp_semantics.specs.Instance.{Valuation}
-use Rattle.kp_semantics.specs.Steps.{AnyByRecursion}
+use Rattle.kp_kore.specs.Instance.{Valuation}
+use Rattle.kp_kore.specs.Steps.{AnyByRecursion}
 use Rattle.kp_symbolic.specs.Formulas.{NotAllFalse}
 use Rattle.kp_symbolic.specs.States.{Literal, IsLiteralTrue, IsClauseTrue, AreTrue, SymbolicState, CanBeTrue}
 use Rattle.kp_symbolic.specs.Plain.{ReadLiteral, read_clause, read_from, read_clauses, has_form, is_plain_clause, literals_of, plain_part, IsPlainState, plain_clauses, form_of}

@@ -10,11 +10,11 @@ use Rattle.kp_kore.specs.Attributes.{sorts_equal}
 use Rattle.kp_kore.specs.Hooks.{Connective, both, either, implies, same as same_truth, other, Hook, whole_arithmetic, whole_comparison, truth_connective, truth_negation, values_equal, values_different, equal}
 use Rattle.kp_kore.specs.Parts.{SortedName}
 use Rattle.kp_kore.specs.Signature.{KoreSignature, SymbolMeaning, injection, construction, interpretation, foreign, meaning_of, boolean_sort, is_boolean_sort, has_only_truths, is_the, is_truth_sort, are_one, are_two, fits_hook, itself}
-use Rattle.kp_semantics.specs.Value.{Value, whole, truth, token, constructed, Values, no_values, next_value, HasSort, HaveSorts, ArgumentSorts}
-use Rattle.kp_semantics.proofs.InstanceLemmas.{first_true, second_true}
-use Rattle.kp_semantics.proofs.SameLemmas.{sorts_equal-Decides}
+use Rattle.kp_kore.specs.Value.{Value, whole, truth, token, constructed, Values, no_values, next_value, HasSort, HaveSorts, ArgumentSorts}
+use Rattle.kp_kore.proofs.InstanceLemmas.{first_true, second_true}
+use Rattle.kp_kore.proofs.SameLemmas.{sorts_equal-Decides}
 use Rattle.kp_signature.proofs.SortLemmas.{is_that_sort, boolean_is_plain}
-use Rattle.kp_states.specs.Spelled.{places_of, NumbersFit, AllNumbersFit}
+use Rattle.kp_compile.specs.Spelled.{places_of, NumbersFit, AllNumbersFit}
 use Rattle.kp_symbolic.specs.Terms.{SymbolicTerm, unknown, offset, known, headed, SymbolicTerms, no_terms, next_term, term_variables, all_term_variables}
 use Rattle.kp_symbolic.specs.Formulas.{Formula, fact, all_of, one_of, Formulas, no_formulas, next_formula, crossed, joined, formula_clauses, joined_clauses, crossed_clauses}
 use Rattle.kp_symbolic.specs.States.{Literal, atom_variables}

@@ -9,11 +9,11 @@ use Rattle.kp_kore.specs.Syntax.{Text, KoreSort, KorePattern, KorePatterns, vari
 use Rattle.kp_kore.specs.Hooks.{addition, subtraction, Hook, whole_arithmetic}
 use Rattle.kp_kore.specs.Parts.{SortedName, free_variables, all_free_variables}
 use Rattle.kp_kore.specs.Signature.{KoreSignature, SymbolMeaning, injection, construction, interpretation, foreign, meaning_of, is_number_sort}
-use Rattle.kp_semantics.specs.Value.{Value, whole, constructed, Values, next_value, HasSort}
-use Rattle.kp_semantics.specs.Forms.{two}
-use Rattle.kp_semantics.specs.Interpretation.{interpreted}
-use Rattle.kp_semantics.specs.Instance.{Valuation, GivesSorts, applied, instance, instances}
-use Rattle.kp_semantics.specs.Replies.{is_wide_value}
+use Rattle.kp_kore.specs.Value.{Value, whole, constructed, Values, next_value, HasSort}
+use Rattle.kp_kore.specs.Forms.{two}
+use Rattle.kp_kore.specs.Interpretation.{interpreted}
+use Rattle.kp_kore.specs.Instance.{Valuation, GivesSorts, applied, instance, instances}
+use Rattle.kp_kore.specs.Replies.{is_wide_value}
 use Rattle.kp_signature.proofs.NumberLemmas.{number_value}
 use Rattle.kp_symbolic.specs.Terms.{SymbolicTerm, unknown, offset, known, headed, SymbolicTerms, no_terms, next_term, term_instance, term_instances, term_variables, all_term_variables, Replaced, replacement_for, under_replaced}
 use Rattle.kp_symbolic.specs.States.{variables_for, AreGiven}

@@ -5,7 +5,7 @@ use Rattle.std.specs.List.{list_all}
 use Rattle.std.proofs.lemmas.Slice.Eq.{bytes_eq-Decides}
 use Rattle.kp_kore.specs.Syntax.{KoreSort}
 use Rattle.kp_kore.specs.Signature.{KoreSignature, Head, integers, booleans, tokens, constructor_of, heads_of, IsHeadOf}
-use Rattle.kp_semantics.specs.Value.{Value, whole, truth, token, constructed, HasSort, head_of}
+use Rattle.kp_kore.specs.Value.{Value, whole, truth, token, constructed, HasSort, head_of}
 use Rattle.kp_signature.proofs.HeadLemmas.{is_head-Decides, passed_by_heads}
 use Rattle.kp_symbolic.specs.States.{HeadTest, one_head, head_of_sort, PassesHead}
 use Rattle.kp_symbolic.specs.Heads.{passes_head, answer_of, head_answer}

@@ -11,15 +11,15 @@ use Rattle.kp_kore.specs.Attributes.{sorts_equal}
 use Rattle.kp_kore.specs.Hooks.{Hook, addition, whole_arithmetic, whole_comparison, truth_connective, truth_negation, values_equal, values_different}
 use Rattle.kp_kore.specs.Parts.{SortedName, free_variables, without_name}
 use Rattle.kp_kore.specs.Signature.{KoreSignature, SymbolMeaning, injection, construction, interpretation, foreign, meaning_of, Head, integers, booleans, constructor_of, IsHeadOf, is_number_sort, is_truth_sort, are_two, are_one, fits_hook}
-use Rattle.kp_semantics.specs.Value.{Value, whole, truth, token, constructed, Values, no_values, next_value, head_of, HasSort, HaveSorts, ArgumentSorts}
-use Rattle.kp_semantics.specs.Forms.{two}
-use Rattle.kp_semantics.specs.Interpretation.{interpreted}
-use Rattle.kp_semantics.specs.Instance.{Valuation, GivesSorts, assigned, is_named, instance, instances, applied, IsTrueUnder}
-use Rattle.kp_semantics.proofs.InstanceLemmas.{first_true, second_true}
-use Rattle.kp_semantics.proofs.SameLemmas.{sorts_equal-Decides}
-use Rattle.kp_semantics.proofs.TruthLemmas.{stable_truth}
+use Rattle.kp_kore.specs.Value.{Value, whole, truth, token, constructed, Values, no_values, next_value, head_of, HasSort, HaveSorts, ArgumentSorts}
+use Rattle.kp_kore.specs.Forms.{two}
+use Rattle.kp_kore.specs.Interpretation.{interpreted}
+use Rattle.kp_kore.specs.Instance.{Valuation, GivesSorts, assigned, is_named, instance, instances, applied, IsTrueUnder}
+use Rattle.kp_kore.proofs.InstanceLemmas.{first_true, second_true}
+use Rattle.kp_kore.proofs.SameLemmas.{sorts_equal-Decides}
+use Rattle.kp_kore.proofs.TruthLemmas.{stable_truth}
 use Rattle.kp_signature.proofs.NumberLemmas.{number_value, truth_value}
-use Rattle.kp_states.specs.Spelled.{places_of}
+use Rattle.kp_compile.specs.Spelled.{places_of}
 use Rattle.kp_symbolic.specs.Terms.{SymbolicTerm, unknown, offset, known, headed, term_instance, term_instances, term_variables}
 use Rattle.kp_symbolic.specs.Formulas.{Formula}
 use Rattle.kp_symbolic.specs.States.{HeadTest, one_head, head_of_sort, PassesHead, Literal}

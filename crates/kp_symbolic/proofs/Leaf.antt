@@ -8,12 +8,12 @@ use Rattle.std.proofs.lemmas.List.{append_assoc}
 use Rattle.kp_kore.specs.Syntax.{Text, KoreSort, KorePattern, variable, application, literal, negation, conjunction, exists, ceil, equals, membership, no_patterns, next_pattern}
 use Rattle.kp_kore.specs.Parts.{SortedName, is_term, free_variables, all_free_variables}
 use Rattle.kp_kore.specs.Signature.{KoreSignature}
-use Rattle.kp_semantics.specs.Value.{HasSort, head_of}
-use Rattle.kp_semantics.specs.Instance.{Valuation, GivesSorts, AgreesOn, is_named, instance, is_conjoined_pair, IsTrueUnder, conjuncts}
-use Rattle.kp_semantics.specs.Foreign.{has_foreign_head}
-use Rattle.kp_semantics.proofs.InstanceLemmas.{first_true, second_true}
-use Rattle.kp_semantics.proofs.TruthLemmas.{same_truth, stable_truth}
-use Rattle.kp_semantics.proofs.Conjuncts.{truth_of, of_truth}
+use Rattle.kp_kore.specs.Value.{HasSort, head_of}
+use Rattle.kp_kore.specs.Instance.{Valuation, GivesSorts, AgreesOn, is_named, instance, is_conjoined_pair, IsTrueUnder, conjuncts}
+use Rattle.kp_kore.specs.Foreign.{has_foreign_head}
+use Rattle.kp_kore.proofs.InstanceLemmas.{first_true, second_true}
+use Rattle.kp_kore.proofs.TruthLemmas.{same_truth, stable_truth}
+use Rattle.kp_kore.proofs.Conjuncts.{truth_of, of_truth}
 use Rattle.kp_signature.specs.Places.{part_at, after}
 use Rattle.kp_signature.proofs.FaultLemmas.{same_as_wanted, keeps_rules, nothing_earlier, nothing_later}
 use Rattle.kp_signature.proofs.SortedInstances.{none_in_first, none_in_others}

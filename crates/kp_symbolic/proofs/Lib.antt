@@ -28,3 +28,7 @@ pub mod SortedFolding
 pub mod Stable
 pub mod WellSorted
 pub mod Written
+pub mod EachTerm
+pub mod Lists
+pub mod MadeLemmas
+pub mod SumLemmas

@@ -9,8 +9,8 @@ use Rattle.kp_kore.specs.Syntax.{Text}
 use Rattle.kp_kore.specs.Hooks.{Comparison, equal, different, less, at_most, greater, at_least, whole_comparison, values_equal, values_different}
 use Rattle.kp_kore.specs.Parts.{SortedName}
 use Rattle.kp_kore.specs.Signature.{KoreSignature, SymbolMeaning, interpretation, meaning_of, is_truth_sort, has_only_numbers, has_only_truths}
-use Rattle.kp_semantics.specs.Steps.{AnyByRecursion}
-use Rattle.kp_semantics.specs.Value.{whole, truth, token, constructed, no_values}
+use Rattle.kp_kore.specs.Steps.{AnyByRecursion}
+use Rattle.kp_kore.specs.Value.{whole, truth, token, constructed, no_values}
 use Rattle.kp_symbolic.specs.Terms.{SymbolicTerm, unknown, offset, known, headed, no_terms, next_term, term_variables, all_term_variables}
 use Rattle.kp_symbolic.specs.States.{Atom, same, has_head, quoted, atom_variables, clause_variables, Literal, SymbolicState}
 use Rattle.kp_symbolic.specs.WellFormed.{AreAtHand}

@@ -5,8 +5,8 @@ use Rattle.std.specs.List.{AllByRecursion}
 use Rattle.kp_kore.specs.Syntax.{KoreSort, KorePattern, KorePatterns, variable, set_variable, application, string_literal, literal, top, bottom, negation, next, conjunction, disjunction, implication, equivalence, rewriting, exists, forall, ceil, floor, equals, membership, mu, nu, no_patterns, next_pattern}
 use Rattle.kp_kore.specs.Parts.{SortedName, is_term, free_variables, all_free_variables}
 use Rattle.kp_kore.specs.Signature.{KoreSignature}
-use Rattle.kp_semantics.specs.Instance.{Valuation, IsTrueUnder, AllTrueUnder, NoneTrueUnder, PairSame, is_conjoined_pair}
-use Rattle.kp_semantics.proofs.TruthLemmas.{stable_truth}
+use Rattle.kp_kore.specs.Instance.{Valuation, IsTrueUnder, AllTrueUnder, NoneTrueUnder, PairSame, is_conjoined_pair}
+use Rattle.kp_kore.proofs.TruthLemmas.{stable_truth}
 use Rattle.kp_symbolic.specs.Formulas.{Formula, all_of, one_of, Holds, AllHold, NoneHold}
 use Rattle.kp_symbolic.specs.States.{Literal}
 use Rattle.kp_symbolic.specs.Opening.{is_left, Leaf, signed, fixed, pair, agreeing, opened, all_opened}

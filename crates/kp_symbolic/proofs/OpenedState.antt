@@ -5,10 +5,10 @@ use Rattle.kp_kore.specs.Syntax.{KoreSort, KorePattern, KorePatterns, variable, 
 use Rattle.kp_kore.specs.Parts.{SortedName, is_term, free_variables, all_free_variables}
 use Rattle.kp_kore.specs.Signature.{KoreSignature, itself}
 use Rattle.kp_kore.specs.Sorting.{sort_of_term}
-use Rattle.kp_semantics.specs.Value.{Value}
-use Rattle.kp_semantics.specs.Instance.{Valuation, GivesSorts, IsTrueUnder, is_predicate, conjuncts, conjoined_terms, conjoined_predicates, IsInstanceOfOne, IsInstance, instance}
-use Rattle.kp_semantics.specs.Foreign.{none_within, has_foreign_head}
-use Rattle.kp_semantics.proofs.ClaimRuleLemmas.{met_of, conjunction_of}
+use Rattle.kp_kore.specs.Value.{Value}
+use Rattle.kp_kore.specs.Instance.{Valuation, GivesSorts, IsTrueUnder, is_predicate, conjuncts, conjoined_terms, conjoined_predicates, IsInstanceOfOne, IsInstance, instance}
+use Rattle.kp_kore.specs.Foreign.{none_within, has_foreign_head}
+use Rattle.kp_kore.proofs.ClaimRuleLemmas.{met_of, conjunction_of}
 use Rattle.kp_signature.specs.Places.{Place, own_sort}
 use Rattle.kp_signature.specs.Verify.{first_fault}
 use Rattle.kp_signature.proofs.ListLemmas.{all_filtered}

@@ -5,10 +5,10 @@ use Rattle.std.proofs.lemmas.List.Folds.{list_all-append}
 use Rattle.kp_kore.specs.Syntax.{KoreSort, KorePattern, KorePatterns, negation, conjunction, disjunction, implication, equivalence, ceil, floor, equals, membership, no_patterns, next_pattern}
 use Rattle.kp_kore.specs.Parts.{SortedName, is_term, free_variables, all_free_variables, subpatterns}
 use Rattle.kp_kore.specs.Signature.{KoreSignature}
-use Rattle.kp_semantics.specs.Value.{HasSort}
-use Rattle.kp_semantics.specs.Instance.{Valuation, GivesSorts, is_predicate, are_predicates, is_conjoined_pair, conjuncts, all_conjuncts, instance}
-use Rattle.kp_semantics.specs.Foreign.{none_within, has_foreign_head}
-use Rattle.kp_semantics.proofs.InstanceLemmas.{first_true, second_true}
+use Rattle.kp_kore.specs.Value.{HasSort}
+use Rattle.kp_kore.specs.Instance.{Valuation, GivesSorts, is_predicate, are_predicates, is_conjoined_pair, conjuncts, all_conjuncts, instance}
+use Rattle.kp_kore.specs.Foreign.{none_within, has_foreign_head}
+use Rattle.kp_kore.proofs.InstanceLemmas.{first_true, second_true}
 use Rattle.kp_signature.specs.Places.{Place, part_at, after}
 use Rattle.kp_signature.specs.Verify.{first_fault, members_fault}
 use Rattle.kp_signature.proofs.FaultLemmas.{nothing_earlier, nothing_later, term_has_wanted_sort}

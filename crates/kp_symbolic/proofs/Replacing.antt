@@ -9,12 +9,12 @@ use Rattle.kp_kore.specs.Syntax.{Text, SymbolDeclaration}
 use Rattle.kp_kore.specs.Hooks.{Arithmetic, addition, subtraction, multiplication, whole_arithmetic}
 use Rattle.kp_kore.specs.Parts.{SortedName}
 use Rattle.kp_kore.specs.Signature.{KoreSignature, SymbolMeaning, interpretation, meaning_of}
-use Rattle.kp_semantics.specs.Value.{Value, whole, truth, token, constructed, next_value, HasSort}
-use Rattle.kp_semantics.specs.Forms.{two}
-use Rattle.kp_semantics.specs.Interpretation.{interpreted}
-use Rattle.kp_semantics.specs.Instance.{Valuation, GivesSorts, applied}
+use Rattle.kp_kore.specs.Value.{Value, whole, truth, token, constructed, next_value, HasSort}
+use Rattle.kp_kore.specs.Forms.{two}
+use Rattle.kp_kore.specs.Interpretation.{interpreted}
+use Rattle.kp_kore.specs.Instance.{Valuation, GivesSorts, applied}
 use Rattle.kp_kore.specs.Limits.{fits_number}
-use Rattle.kp_semantics.proofs.InstanceLemmas.{first_true}
+use Rattle.kp_kore.proofs.InstanceLemmas.{first_true}
 use Rattle.kp_symbolic.specs.Terms.{SymbolicTerm, unknown, offset, known, headed, SymbolicTerms, no_terms, next_term, term_instance, term_instances, term_variables, all_term_variables, Replaced, replacement_for, under_replaced}
 use Rattle.kp_symbolic.specs.States.{variables_for, AreGiven}
 use Rattle.kp_symbolic.specs.Folding.{is_text_before, least_of, is_arithmetic, least_symbol_among, least_symbol, applied_term, term_for, under_symbol, replaced, all_replaced, AreWritten, AreAllWritten}

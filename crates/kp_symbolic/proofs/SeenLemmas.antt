@@ -4,8 +4,8 @@ use Rattle.std.specs.Prelude.{⊤, if◌then◌else◌}
 use Rattle.std.specs.Bool.{beq}
 use Rattle.kp_kore.specs.Syntax.{Text, KoreSort}
 use Rattle.kp_kore.specs.Signature.{KoreSignature}
-use Rattle.kp_semantics.specs.Value.{Value, truth, constructed, Values, no_values, next_value}
-use Rattle.kp_semantics.specs.Instance.{Valuation, GivesSorts}
+use Rattle.kp_kore.specs.Value.{Value, truth, constructed, Values, no_values, next_value}
+use Rattle.kp_kore.specs.Instance.{Valuation, GivesSorts}
 use Rattle.kp_symbolic.specs.Terms.{SymbolicTerm, known, headed, term_instance, term_variables}
 use Rattle.kp_symbolic.specs.Formulas.{Formula, Holds}
 use Rattle.kp_symbolic.specs.States.{Literal, IsLiteralTrue}

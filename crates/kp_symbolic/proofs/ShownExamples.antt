@@ -5,7 +5,7 @@ use Rattle.std.specs.List.{Contains}
 use Rattle.std.proofs.lemmas.List.Sorted.{IsPermutation-refl}
 use Rattle.kp_kore.specs.Syntax.{KoreSort, KorePattern}
 use Rattle.kp_kore.specs.Signature.{KoreSignature}
-use Rattle.kp_semantics.specs.Value.{constructed, no_values, whole, HasSort}
+use Rattle.kp_kore.specs.Value.{constructed, no_values, whole, HasSort}
 use Rattle.kp_toys.specs.Toys.{sort_int, sort_s}
 use Rattle.kp_toys.specs.ToysTheory.{toys_signature}
 use Rattle.kp_toys.proofs.Sorts.{int_values_exactly}

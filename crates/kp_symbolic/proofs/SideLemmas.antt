@@ -10,11 +10,11 @@ use Rattle.std.proofs.lemmas.Bool.Decides.{Decides-int_eq}
 use Rattle.kp_kore.specs.Syntax.{Text}
 use Rattle.kp_kore.specs.Hooks.{Comparison, equal}
 use Rattle.kp_kore.specs.Signature.{KoreSignature, SymbolMeaning, injection, construction, interpretation, foreign, meaning_of}
-use Rattle.kp_semantics.specs.Value.{Value, whole, truth, token, constructed, Values, no_values, next_value}
-use Rattle.kp_semantics.specs.Interpretation.{compared}
-use Rattle.kp_semantics.specs.Instance.{Valuation, GivesSorts, applied}
-use Rattle.kp_semantics.proofs.SameLemmas.{same_values_decide}
-use Rattle.kp_semantics.proofs.InstanceLemmas.{first_true, second_true}
+use Rattle.kp_kore.specs.Value.{Value, whole, truth, token, constructed, Values, no_values, next_value}
+use Rattle.kp_kore.specs.Interpretation.{compared}
+use Rattle.kp_kore.specs.Instance.{Valuation, GivesSorts, applied}
+use Rattle.kp_kore.proofs.SameLemmas.{same_values_decide}
+use Rattle.kp_kore.proofs.InstanceLemmas.{first_true, second_true}
 use Rattle.kp_symbolic.specs.Terms.{SymbolicTerm, unknown, offset, known, headed, SymbolicTerms, no_terms, next_term, term_instance, term_instances, term_variables}
 use Rattle.kp_symbolic.specs.Formulas.{Formula}
 use Rattle.kp_symbolic.specs.States.{Literal, IsLiteralTrue}

@@ -12,17 +12,17 @@ use Rattle.kp_kore.specs.Hooks.{Arithmetic, addition, subtraction, Hook, whole_a
 use Rattle.kp_kore.specs.Parts.{SortedName, is_term, are_terms, free_variables, all_free_variables, sort_list, pattern_list}
 use Rattle.kp_kore.specs.Signature.{KoreSignature, SymbolMeaning, injection, construction, interpretation, foreign, meaning_of, symbol_declared, alias_declared, is_injection, is_identity, is_constructor, is_plain, fitting_hook, fits_hook, are_two, are_one, is_integer_sort, is_boolean_sort, is_number_sort, is_truth_sort, IsBelow, is_below, itself}
 use Rattle.kp_kore.specs.Sorting.{at_arguments, all_at_arguments, result_sort}
-use Rattle.kp_semantics.specs.Value.{Value, whole, truth, token, Values, no_values, next_value, HasSort, HaveSorts}
-use Rattle.kp_semantics.specs.Interpretation.{interpreted, no_meaning}
-use Rattle.kp_semantics.specs.Instance.{literal_value}
+use Rattle.kp_kore.specs.Value.{Value, whole, truth, token, Values, no_values, next_value, HasSort, HaveSorts}
+use Rattle.kp_kore.specs.Interpretation.{interpreted, no_meaning}
+use Rattle.kp_kore.specs.Instance.{literal_value}
 use Rattle.kp_kore.specs.Limits.{fits_number}
-use Rattle.kp_semantics.specs.Foreign.{none_within, has_foreign_head, is_foreign_meaning}
-use Rattle.kp_semantics.specs.Replies.{is_wide_value}
-use Rattle.kp_semantics.proofs.InstanceLemmas.{first_true, second_true}
+use Rattle.kp_kore.specs.Foreign.{none_within, has_foreign_head, is_foreign_meaning}
+use Rattle.kp_kore.specs.Replies.{is_wide_value}
+use Rattle.kp_kore.proofs.InstanceLemmas.{first_true, second_true}
 use Rattle.kp_signature.specs.Places.{Place, own_sort, Profile, argument_sorts, argument_at, after}
 use Rattle.kp_signature.specs.Verify.{VerifyFault, first_fault, fault_at, arguments_fault, fault_unless, symbol_fault, injection_fault, wrong_number, sort_differs}
 use Rattle.kp_signature.proofs.Applied.{of_profile}
-use Rattle.kp_subsorts.proofs.Below.{is_below-Decides}
+use Rattle.kp_signature.proofs.Below.{is_below-Decides}
 use Rattle.kp_signature.proofs.FaultLemmas.{nothing_earlier, nothing_later, keeps_rules, no_fault_unless, term_has_wanted_sort}
 use Rattle.kp_signature.proofs.ApplicationLemmas.{as_many_arguments}
 use Rattle.kp_signature.proofs.InjLemmas.{inj_goes_across}
@@ -30,7 +30,7 @@ use Rattle.kp_signature.proofs.MeaningLemmas.{an_injection, an_interpretation, i
 use Rattle.kp_signature.proofs.NumberLemmas.{number_value, truth_value}
 use Rattle.kp_signature.proofs.SortedInstances.{term_is_sorted, none_among, none_in_first, none_in_others, same_rest}
 use Rattle.kp_compile.proofs.Literals.{whole_literal}
-use Rattle.kp_states.specs.Spelled.{places_of, NumbersFit, AllNumbersFit}
+use Rattle.kp_compile.specs.Spelled.{places_of, NumbersFit, AllNumbersFit}
 use Rattle.kp_symbolic.specs.Terms.{SymbolicTerm, unknown, offset, known, headed, SymbolicTerms, no_terms, next_term, term_variables, all_term_variables, Replaced, replacement_for}
 use Rattle.kp_symbolic.specs.WellFormed.{stands_in_terms, IsWellSorted, AreWellSorted, AreWellPlaced}
 use Rattle.kp_symbolic.specs.Folding.{least_symbol, Sum, sum_of, can_be_added, summed, summed_call, with_first, values_known, only_term, made_construction, made_call, made, applied_term, term_for, folded, all_folded, under_symbol, replaced, all_replaced}

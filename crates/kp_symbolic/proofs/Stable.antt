@@ -3,10 +3,10 @@ use Rattle.std.proofs.Common.{◌≡◌, refl, Bool, true, false}
 use Rattle.std.specs.Prelude.{MatchBool}
 use Rattle.kp_kore.specs.Signature.{KoreSignature}
 use Rattle.std.specs.Bool.{Decides}
-use Rattle.kp_semantics.specs.Value.{Value, values_same}
-use Rattle.kp_semantics.proofs.SameLemmas.{same_values_decide}
-use Rattle.kp_semantics.specs.Instance.{Valuation}
-use Rattle.kp_semantics.proofs.TruthLemmas.{stable_truth}
+use Rattle.kp_kore.specs.Value.{Value, values_same}
+use Rattle.kp_kore.proofs.SameLemmas.{same_values_decide}
+use Rattle.kp_kore.specs.Instance.{Valuation}
+use Rattle.kp_kore.proofs.TruthLemmas.{stable_truth}
 use Rattle.kp_symbolic.specs.Terms.{under_replaced}
 use Rattle.kp_symbolic.specs.States.{Atom, same, has_head, quoted, IsAtomTrue, Literal, IsLiteralTrue}
 

@@ -4,18 +4,18 @@ use Rattle.kp_kore.specs.Syntax.{Text, KoreSort, KoreSorts, no_sorts, next_sort,
 use Rattle.kp_kore.specs.Hooks.{Hook, addition, whole_arithmetic}
 use Rattle.kp_kore.specs.Signature.{KoreSignature, SymbolMeaning, injection, construction, interpretation, foreign, meaning_of, symbol_declared, alias_declared, is_identity, is_constructor, is_plain, fitting_hook, integer_sort, is_integer_sort, has_only_numbers, is_number_sort, IsBelow, itself}
 use Rattle.kp_kore.specs.Sorting.{at_arguments, all_at_arguments, result_sort}
-use Rattle.kp_semantics.specs.Value.{whole, Values, HasSort, HaveSorts}
-use Rattle.kp_semantics.specs.Forms.{two}
-use Rattle.kp_semantics.specs.Interpretation.{interpreted}
-use Rattle.kp_semantics.specs.Instance.{Valuation, GivesSorts, applied}
-use Rattle.kp_semantics.proofs.InstanceLemmas.{first_true}
+use Rattle.kp_kore.specs.Value.{whole, Values, HasSort, HaveSorts}
+use Rattle.kp_kore.specs.Forms.{two}
+use Rattle.kp_kore.specs.Interpretation.{interpreted}
+use Rattle.kp_kore.specs.Instance.{Valuation, GivesSorts, applied}
+use Rattle.kp_kore.proofs.InstanceLemmas.{first_true}
 use Rattle.kp_signature.specs.Places.{Profile, argument_sorts}
-use Rattle.kp_subsorts.proofs.Below.{onwards}
+use Rattle.kp_signature.proofs.Below.{onwards}
 use Rattle.kp_signature.proofs.SortLemmas.{has_sort_above, at_no_arguments, all_at_no_arguments, is_that_sort}
 use Rattle.kp_signature.proofs.CallLemmas.{call_is_sorted}
 use Rattle.kp_signature.proofs.MeaningLemmas.{meaning_by_tests, an_interpretation, it_fits, no_parameters, constructor_is_plain}
 use Rattle.kp_signature.proofs.NumberLemmas.{number_value}
-use Rattle.kp_states.specs.Spelled.{places_of}
+use Rattle.kp_compile.specs.Spelled.{places_of}
 use Rattle.kp_symbolic.specs.Terms.{SymbolicTerm, unknown, offset, known, headed, SymbolicTerms, no_terms, next_term, term_instance, term_instances, term_variables, all_term_variables}
 use Rattle.kp_symbolic.specs.WellFormed.{stands_in_terms, IsWellSorted, AreWellSorted, IsGivenSorts, AreGivenSorts}
 use Rattle.kp_symbolic.specs.Folding.{AreWritten, AreAllWritten}

@@ -11,15 +11,15 @@ use Rattle.kp_kore.specs.Hooks.{Arithmetic, addition, subtraction, whole_arithme
 use Rattle.kp_kore.specs.Parts.{SortedName, subpatterns, all_subpatterns}
 use Rattle.kp_kore.specs.Signature.{KoreSignature, interpretation, meaning_of, integer_sort, itself}
 use Rattle.kp_kore.specs.Sorting.{result_sort}
-use Rattle.kp_semantics.specs.Value.{Value, whole, no_values, next_value}
-use Rattle.kp_semantics.specs.Forms.{two}
-use Rattle.kp_semantics.specs.Interpretation.{interpreted}
-use Rattle.kp_semantics.specs.Instance.{Valuation, instance, instances, applied, literal_value, IsTrueUnder, NoneTrueUnder, AllTrueUnder}
+use Rattle.kp_kore.specs.Value.{Value, whole, no_values, next_value}
+use Rattle.kp_kore.specs.Forms.{two}
+use Rattle.kp_kore.specs.Interpretation.{interpreted}
+use Rattle.kp_kore.specs.Instance.{Valuation, instance, instances, applied, literal_value, IsTrueUnder, NoneTrueUnder, AllTrueUnder}
 use Rattle.kp_kore.specs.Limits.{fits_number}
-use Rattle.kp_semantics.proofs.InstanceLemmas.{first_true, second_true}
-use Rattle.kp_semantics.proofs.SameLemmas.{sorts_equal-Decides}
-use Rattle.kp_states.specs.Spelled.{placed, places_of, spelling, injected, injection_name, has_two_sorts}
-use Rattle.kp_states.proofs.SpelledMeaning.{InjectsWell, said}
+use Rattle.kp_kore.proofs.InstanceLemmas.{first_true, second_true}
+use Rattle.kp_kore.proofs.SameLemmas.{sorts_equal-Decides}
+use Rattle.kp_compile.specs.Spelled.{placed, places_of, spelling, injected, injection_name, has_two_sorts}
+use Rattle.kp_compile.proofs.SpelledMeaning.{InjectsWell, said}
 use Rattle.kp_symbolic.specs.Terms.{SymbolicTerm, unknown, offset, known, headed, SymbolicTerms, no_terms, next_term, term_instance, term_instances}
 use Rattle.kp_symbolic.specs.WellFormed.{IsWellSorted, AreWellSorted}
 use Rattle.kp_symbolic.specs.Folding.{least_symbol}

@@ -4,7 +4,7 @@ use Rattle.std.specs.Prelude.{ℕ, ◌+◌, Bool, true, false, not, nat_lt, List
 use Rattle.std.specs.Bool.{beq}
 use Rattle.kp_kore.specs.Syntax.{KorePattern, negation}
 use Rattle.kp_kore.specs.Signature.{KoreSignature}
-use Rattle.kp_semantics.specs.Instance.{conjuncts}
+use Rattle.kp_kore.specs.Instance.{conjuncts}
 use Rattle.kp_symbolic.specs.Terms.{unknown, Replaced}
 use Rattle.kp_symbolic.specs.Formulas.{Formula, all_of, one_of, Formulas, no_formulas, next_formula, formula_clauses, kept_once, size_of}
 use Rattle.kp_symbolic.specs.States.{Atom, same, has_head, quoted, Literal}

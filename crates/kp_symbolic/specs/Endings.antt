@@ -8,16 +8,16 @@ use Rattle.std.specs.Str.{bytes_eq}
 use Rattle.kp_kore.specs.Syntax.{KoreSort, KorePattern}
 use Rattle.kp_kore.specs.Parts.{SortedName, free_variables, subpatterns}
 use Rattle.kp_kore.specs.Signature.{KoreSignature, meaning_of, has_only_numbers}
-use Rattle.kp_semantics.specs.Instance.{Valuation, conjoined_predicates, conjoined_terms, is_named}
-use Rattle.kp_semantics.specs.Rules.{RuleBody, rewrite, foreign_rule, RewriteRule, top_binders, under_binders}
-use Rattle.kp_semantics.specs.Foreign.{none_within, has_interpreted_head, repeats_literals_only, InjectionsSplit}
-use Rattle.kp_semantics.specs.Theory.{Theory}
-use Rattle.kp_semantics.specs.Steps.{AnyByRecursion, Fires, IsUnknown, StepsIn}
-use Rattle.kp_semantics.specs.Replies.{IsComputed}
-use Rattle.kp_semantics.specs.AtHand.{OfEach, OfSome, HasSome}
-use Rattle.kp_semantics.specs.Onward.{Leads, Passes}
-use Rattle.kp_semantics.specs.Executions.{Options, listed_in, Reason, depth_bound, RunsTo, IsRightReason}
-use Rattle.kp_semantics.specs.Implied.{Implied, IsRightImplied, Simplified, IsRightSimplified}
+use Rattle.kp_kore.specs.Instance.{Valuation, conjoined_predicates, conjoined_terms, is_named}
+use Rattle.kp_kore.specs.Rules.{RuleBody, rewrite, foreign_rule, RewriteRule, top_binders, under_binders}
+use Rattle.kp_kore.specs.Foreign.{none_within, has_interpreted_head, repeats_literals_only, InjectionsSplit}
+use Rattle.kp_kore.specs.Theory.{Theory}
+use Rattle.kp_kore.specs.Steps.{AnyByRecursion, Fires, IsUnknown, StepsIn}
+use Rattle.kp_kore.specs.Replies.{IsComputed}
+use Rattle.kp_kore.specs.AtHand.{OfEach, OfSome, HasSome}
+use Rattle.kp_kore.specs.Onward.{Leads, Passes}
+use Rattle.kp_kore.specs.Executions.{Options, listed_in, Reason, depth_bound, RunsTo, IsRightReason}
+use Rattle.kp_kore.specs.Implied.{Implied, IsRightImplied, Simplified, IsRightSimplified}
 use Rattle.kp_symbolic.specs.Terms.{SymbolicTerm, unknown, headed, SymbolicTerms, no_terms, next_term, term_instance, term_variables, Replaced, replacement_for}
 use Rattle.kp_symbolic.specs.States.{Literal, SymbolicState}
 use Rattle.kp_symbolic.specs.Folding.{folded}

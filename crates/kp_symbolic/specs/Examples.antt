@@ -3,7 +3,7 @@ use Rattle.std.specs.Prelude.{ℕ, zero, suc, pos, Bool, true, List, [], ◌∷�
 use Rattle.kp_kore.specs.Syntax.{Text, KoreSort, KorePattern, variable, literal, conjunction, disjunction, equivalence, exists, forall, floor, equals, KoreSentence, symbol_sentence}
 use Rattle.kp_kore.specs.Parts.{SortedName}
 use Rattle.kp_kore.specs.Signature.{KoreSignature, signature_of}
-use Rattle.kp_semantics.specs.Value.{whole, truth}
+use Rattle.kp_kore.specs.Value.{whole, truth}
 use Rattle.kp_toys.specs.Toys.{sorts, patterns, sort_int, sort_bool, sort_s, sort_p, sort_e, call, mark, marked, integer, always, injected, basic, toys_sentences}
 use Rattle.kp_toys.specs.ToysTheory.{count_of}
 use Rattle.kp_symbolic.specs.Terms.{SymbolicTerm, unknown, known, headed, SymbolicTerms, no_terms, next_term}

@@ -7,11 +7,11 @@ use Rattle.kp_kore.specs.Syntax.{Text, KorePattern, KorePatterns, variable, appl
 use Rattle.kp_kore.specs.Hooks.{Arithmetic, addition, subtraction, multiplication, Hook, whole_arithmetic}
 use Rattle.kp_kore.specs.Parts.{SortedName}
 use Rattle.kp_kore.specs.Signature.{KoreSignature, SymbolMeaning, injection, construction, interpretation, foreign, meaning_of, is_number_sort}
-use Rattle.kp_semantics.specs.Value.{Value, whole, constructed, Values, no_values, next_value}
-use Rattle.kp_semantics.specs.Interpretation.{interpreted, no_meaning}
-use Rattle.kp_semantics.specs.Instance.{literal_value}
+use Rattle.kp_kore.specs.Value.{Value, whole, constructed, Values, no_values, next_value}
+use Rattle.kp_kore.specs.Interpretation.{interpreted, no_meaning}
+use Rattle.kp_kore.specs.Instance.{literal_value}
 use Rattle.kp_kore.specs.Limits.{fits_number}
-use Rattle.kp_semantics.specs.Replies.{is_wide_value}
+use Rattle.kp_kore.specs.Replies.{is_wide_value}
 use Rattle.kp_symbolic.specs.Terms.{SymbolicTerm, unknown, offset, known, headed, SymbolicTerms, no_terms, next_term, Replaced, replacement_for}
 
 -- ---- symbols by their hooks

@@ -1,10 +1,13 @@
 pub mod Alike
+pub mod Calls
 pub mod Clauses
 pub mod Endings
 pub mod Examples
+pub mod Faultless
 pub mod Folding
 pub mod Formulas
 pub mod Heads
+pub mod Languages
 pub mod Opening
 pub mod Plain
 pub mod Rows
@@ -12,8 +15,10 @@ pub mod Shown
 pub mod Solving
 pub mod Sources
 pub mod States
+pub mod Sums
 pub mod Terms
 pub mod Verdicts
+pub mod View
 pub mod Weighing
 pub mod Weights
 pub mod WellFormed

@@ -11,10 +11,10 @@ use Rattle.kp_kore.specs.Attributes.{sorts_equal}
 use Rattle.kp_kore.specs.Hooks.{Comparison, equal, Connective, both, either, implies, same as same_truth, other, Hook, whole_arithmetic, whole_comparison, truth_connective, truth_negation, values_equal, values_different}
 use Rattle.kp_kore.specs.Parts.{SortedName, is_term, free_variables}
 use Rattle.kp_kore.specs.Signature.{KoreSignature, SymbolMeaning, injection, construction, interpretation, meaning_of, boolean_sort, is_truth_sort, Head, integers, booleans, constructor_of}
-use Rattle.kp_semantics.specs.Value.{Value, truth, constructed, Values, no_values, next_value, head_of}
-use Rattle.kp_semantics.specs.Interpretation.{compared}
-use Rattle.kp_semantics.specs.Instance.{is_named, is_conjoined_pair}
-use Rattle.kp_states.specs.Spelled.{places_of}
+use Rattle.kp_kore.specs.Value.{Value, truth, constructed, Values, no_values, next_value, head_of}
+use Rattle.kp_kore.specs.Interpretation.{compared}
+use Rattle.kp_kore.specs.Instance.{is_named, is_conjoined_pair}
+use Rattle.kp_compile.specs.Spelled.{places_of}
 use Rattle.kp_symbolic.specs.Terms.{SymbolicTerm, unknown, offset, known, headed, SymbolicTerms, no_terms, next_term, term_variables, Replaced}
 use Rattle.kp_symbolic.specs.Formulas.{Formula, fact, all_of, one_of, Formulas, no_formulas, next_formula}
 use Rattle.kp_symbolic.specs.States.{HeadTest, one_head, head_of_sort, Atom, same, has_head, quoted, Literal}

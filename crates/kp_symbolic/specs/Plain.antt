@@ -9,8 +9,8 @@ use Rattle.kp_kore.specs.Attributes.{sorts_equal}
 use Rattle.kp_kore.specs.Hooks.{Comparison, equal, different, less, at_most, greater, at_least, whole_comparison, values_equal, values_different}
 use Rattle.kp_kore.specs.Parts.{SortedName}
 use Rattle.kp_kore.specs.Signature.{KoreSignature, SymbolMeaning, interpretation, meaning_of, is_truth_sort, Head, tokens, heads_of, has_only_numbers, has_only_truths}
-use Rattle.kp_semantics.specs.Value.{Value, whole, truth, token, constructed, no_values}
-use Rattle.kp_semantics.specs.Instance.{is_named}
+use Rattle.kp_kore.specs.Value.{Value, whole, truth, token, constructed, no_values}
+use Rattle.kp_kore.specs.Instance.{is_named}
 use Rattle.kp_symbolic.specs.Terms.{SymbolicTerm, unknown, offset, known, headed, no_terms, next_term, term_variables}
 use Rattle.kp_symbolic.specs.States.{HeadTest, one_head, Atom, same, has_head, quoted, Literal, clause_variables, SymbolicState}
 use Rattle.kp_symbolic.specs.Solving.{Equation, equation_of}

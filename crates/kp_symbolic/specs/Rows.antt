@@ -2,7 +2,7 @@
 use Rattle.std.specs.Prelude.{pos, negsuc, true, false, List, [], ◌∷◌, codes}
 use Rattle.kp_kore.specs.Syntax.{KorePattern, negation, conjunction, equals}
 use Rattle.kp_kore.specs.Parts.{SortedName}
-use Rattle.kp_semantics.specs.Value.{no_values, next_value, constructed}
+use Rattle.kp_kore.specs.Value.{no_values, next_value, constructed}
 use Rattle.kp_toys.specs.Toys.{sort_s, sort_e, patterns, call, integer, injected}
 use Rattle.kp_toys.specs.ToysTheory.{count_of, done}
 use Rattle.kp_symbolic.specs.Terms.{SymbolicTerm, unknown, offset, known, headed}

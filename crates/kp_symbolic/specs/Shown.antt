@@ -7,11 +7,11 @@ use Rattle.kp_kore.specs.Syntax.{Text, KoreSort, sort_variable, KorePattern, var
 use Rattle.kp_kore.specs.Hooks.{whole_arithmetic, whole_comparison}
 use Rattle.kp_kore.specs.Parts.{SortedName, subpatterns, free_variables, term_depth}
 use Rattle.kp_kore.specs.Signature.{KoreSignature, meaning_of, SymbolMeaning, interpretation, is_integer_sort, is_boolean_sort, is_number_sort, has_only_numbers}
-use Rattle.kp_semantics.specs.Value.{whole}
-use Rattle.kp_semantics.specs.Interpretation.{no_meaning, computed}
-use Rattle.kp_semantics.specs.Instance.{Valuation, GivesSorts, conjuncts, is_named}
+use Rattle.kp_kore.specs.Value.{whole}
+use Rattle.kp_kore.specs.Interpretation.{no_meaning, computed}
+use Rattle.kp_kore.specs.Instance.{Valuation, GivesSorts, conjuncts, is_named}
 use Rattle.kp_kore.specs.Limits.{most_depth, fits_number}
-use Rattle.kp_semantics.specs.Steps.{AnyByRecursion}
+use Rattle.kp_kore.specs.Steps.{AnyByRecursion}
 use Rattle.kp_symbolic.specs.Terms.{term_instance, SymbolicTerm, unknown, known, headed, no_terms, next_term, Replaced}
 use Rattle.kp_symbolic.specs.Formulas.{one_of, Formulas, no_formulas, next_formula}
 use Rattle.kp_symbolic.specs.States.{Atom, same, atom_variables, Literal, IsClauseTrue, AreTrue, SymbolicState}

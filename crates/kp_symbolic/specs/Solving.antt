@@ -9,8 +9,8 @@ use Rattle.kp_kore.specs.Hooks.{equal, different, whole_comparison, values_equal
 use Rattle.kp_kore.specs.Parts.{SortedName, free_variables}
 use Rattle.kp_kore.specs.Signature.{KoreSignature, SymbolMeaning, interpretation, meaning_of}
 use Rattle.kp_kore.specs.Sorting.{sort_of_term}
-use Rattle.kp_semantics.specs.Value.{truth}
-use Rattle.kp_semantics.specs.Instance.{Valuation, GivesSorts, is_named, conjoined_terms, conjoined_predicates}
+use Rattle.kp_kore.specs.Value.{truth}
+use Rattle.kp_kore.specs.Instance.{Valuation, GivesSorts, is_named, conjoined_terms, conjoined_predicates}
 use Rattle.kp_symbolic.specs.Terms.{SymbolicTerm, unknown, known, headed, no_terms, next_term, term_variables, Replaced, replacement_for}
 use Rattle.kp_symbolic.specs.Formulas.{Formula, one_of, Formulas, no_formulas, next_formula}
 use Rattle.kp_symbolic.specs.States.{Atom, same, has_head, quoted, Literal, atom_variables, AreGiven, clause_variables, SymbolicState}

@@ -7,12 +7,12 @@ use Rattle.kp_kore.specs.Syntax.{Text, KorePattern, no_sorts}
 use Rattle.kp_kore.specs.Parts.{SortedName, free_variables}
 use Rattle.kp_kore.specs.Signature.{KoreSignature, meaning_of}
 use Rattle.kp_kore.specs.Sorting.{result_sort}
-use Rattle.kp_semantics.specs.Value.{Value, HasSort, Values, no_values, next_value}
-use Rattle.kp_semantics.specs.Instance.{Valuation, is_named}
-use Rattle.kp_semantics.specs.Rules.{RuleBody, rewrite, foreign_rule}
-use Rattle.kp_semantics.specs.Foreign.{IsAnyOfMaybe, IsConstructedBy, by_meaning}
-use Rattle.kp_semantics.specs.Steps.{AnyByRecursion}
-use Rattle.kp_semantics.specs.Replies.{IsFreshName, IsAbsent}
+use Rattle.kp_kore.specs.Value.{Value, HasSort, Values, no_values, next_value}
+use Rattle.kp_kore.specs.Instance.{Valuation, is_named}
+use Rattle.kp_kore.specs.Rules.{RuleBody, rewrite, foreign_rule}
+use Rattle.kp_kore.specs.Foreign.{IsAnyOfMaybe, IsConstructedBy, by_meaning}
+use Rattle.kp_kore.specs.Steps.{AnyByRecursion}
+use Rattle.kp_kore.specs.Replies.{IsFreshName, IsAbsent}
 use Rattle.kp_symbolic.specs.Terms.{SymbolicTerm, unknown, offset, known, headed, SymbolicTerms, no_terms, next_term, term_variables, Replaced, replacement_for}
 use Rattle.kp_symbolic.specs.Formulas.{Formula, fact, all_of, one_of, Formulas, no_formulas, next_formula}
 use Rattle.kp_symbolic.specs.States.{Atom, same, has_head, quoted, Literal, SymbolicState}

@@ -5,8 +5,8 @@ use Rattle.std.specs.List.{AllByRecursion, flat_map}
 use Rattle.kp_kore.specs.Syntax.{Text, KoreSort, KorePattern}
 use Rattle.kp_kore.specs.Parts.{SortedName, free_variables}
 use Rattle.kp_kore.specs.Signature.{KoreSignature, Head, constructor_of, IsHeadOf}
-use Rattle.kp_semantics.specs.Value.{Value, head_of}
-use Rattle.kp_semantics.specs.Instance.{Valuation, GivesSorts, IsInstance, IsTrueUnder}
+use Rattle.kp_kore.specs.Value.{Value, head_of}
+use Rattle.kp_kore.specs.Instance.{Valuation, GivesSorts, IsInstance, IsTrueUnder}
 use Rattle.kp_symbolic.specs.Formulas.{NotAllFalse}
 use Rattle.kp_symbolic.specs.Terms.{SymbolicTerm, term_instance, term_variables, Replaced, replacement_for, under_replaced}
 

@@ -6,10 +6,10 @@ use Rattle.kp_kore.specs.Syntax.{Text}
 use Rattle.kp_kore.specs.Hooks.{whole_arithmetic, addition}
 use Rattle.kp_kore.specs.Parts.{SortedName}
 use Rattle.kp_kore.specs.Signature.{KoreSignature, meaning_of}
-use Rattle.kp_semantics.specs.Value.{Value, whole, Values, no_values, next_value}
-use Rattle.kp_semantics.specs.Forms.{two}
-use Rattle.kp_semantics.specs.Interpretation.{interpreted}
-use Rattle.kp_semantics.specs.Instance.{Valuation, applied}
+use Rattle.kp_kore.specs.Value.{Value, whole, Values, no_values, next_value}
+use Rattle.kp_kore.specs.Forms.{two}
+use Rattle.kp_kore.specs.Interpretation.{interpreted}
+use Rattle.kp_kore.specs.Instance.{Valuation, applied}
 
 mutual
   pub data SymbolicTerm : Type 0 where

@@ -2,7 +2,7 @@
 use Rattle.std.specs.Prelude.{ℕ, ℤ, pos, Bool, true, map, List, [], ◌∷◌, Option, Some, None, codes}
 use Rattle.std.specs.Fmt.{decimal}
 use Rattle.kp_kore.specs.Syntax.{Text, KorePattern, conjunction}
-use Rattle.kp_semantics.specs.Value.{whole, constructed, no_values}
+use Rattle.kp_kore.specs.Value.{whole, constructed, no_values}
 use Rattle.kp_toys.specs.Toys.{sort_s, sort_p, sort_e, patterns, integer}
 use Rattle.kp_toys.specs.ToysTheory.{toys_signature, done}
 use Rattle.kp_kore.specs.Parts.{SortedName}

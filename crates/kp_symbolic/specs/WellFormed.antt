@@ -6,9 +6,9 @@ use Rattle.kp_kore.specs.Syntax.{KoreSort, KoreSorts, no_sorts, next_sort}
 use Rattle.kp_kore.specs.Parts.{SortedName, free_variables}
 use Rattle.kp_kore.specs.Signature.{KoreSignature, SymbolMeaning, construction, interpretation, meaning_of, is_number_sort, IsBelow, is_below}
 use Rattle.kp_kore.specs.Sorting.{result_sort}
-use Rattle.kp_semantics.specs.Value.{HasSort, HaveSorts}
-use Rattle.kp_semantics.specs.Instance.{Valuation, GivesSorts}
-use Rattle.kp_states.specs.Spelled.{own_sort, places_of, NumbersFit}
+use Rattle.kp_kore.specs.Value.{HasSort, HaveSorts}
+use Rattle.kp_kore.specs.Instance.{Valuation, GivesSorts}
+use Rattle.kp_compile.specs.Spelled.{own_sort, places_of, NumbersFit}
 use Rattle.kp_symbolic.specs.Terms.{SymbolicTerm, unknown, offset, known, headed, SymbolicTerms, no_terms, next_term, term_instance, term_instances, term_variables, Replaced, replacement_for}
 use Rattle.kp_symbolic.specs.Folding.{can_be_added, term_for, replaced}
 use Rattle.kp_symbolic.specs.States.{Atom, same, has_head, quoted, Literal, clause_variables, SymbolicState}

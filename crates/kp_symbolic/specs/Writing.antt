@@ -10,9 +10,9 @@ use Rattle.kp_kore.specs.Hooks.{addition, subtraction}
 use Rattle.kp_kore.specs.Parts.{SortedName, free_variables, without_name, variable_names}
 use Rattle.kp_kore.specs.Signature.{KoreSignature, injection, meaning_of}
 use Rattle.kp_kore.specs.Sorting.{result_sort}
-use Rattle.kp_semantics.specs.Instance.{Valuation, is_named, IsTrueUnder}
-use Rattle.kp_semantics.specs.Foreign.{none_within}
-use Rattle.kp_states.specs.Spelled.{placed, places_of, spelling, injection_name, has_two_sorts}
+use Rattle.kp_kore.specs.Instance.{Valuation, is_named, IsTrueUnder}
+use Rattle.kp_kore.specs.Foreign.{none_within}
+use Rattle.kp_compile.specs.Spelled.{placed, places_of, spelling, injection_name, has_two_sorts}
 use Rattle.kp_symbolic.specs.Terms.{SymbolicTerm, unknown, offset, known, headed, SymbolicTerms, next_term, term_variables, Replaced, replacement_for}
 use Rattle.kp_symbolic.specs.WellFormed.{term_sort, is_sort_below}
 use Rattle.kp_symbolic.specs.Folding.{is_text_before, least_symbol, folded}

@@ -1,13 +1,13 @@
 // What predicates and states over the example definition are read as, and what is written for them.
 ghost use Rattle.std.specs.Prelude.{◌≡◌, pos, negsuc, true, false, codes, List, [], ◌∷◌, map};
 ghost use Rattle.kp_kore.specs.Syntax.{negation};
-ghost use Rattle.kp_semantics.specs.Value.{whole, constructed, no_values};
+ghost use Rattle.kp_kore.specs.Value.{whole, constructed, no_values};
 ghost use Rattle.kp_toys.specs.Toys.{sort_int, sort_bool, sort_s, sort_p, call, integer};
 ghost use Rattle.kp_toys.specs.ToysTheory.{toys_signature, count_of};
 ghost use Rattle.kp_kore.specs.Syntax.{equals, equivalence, variable, forall, membership, disjunction, conjunction};
 ghost use Rattle.kp_toys.specs.Toys.{patterns};
 ghost use Rattle.kp_symbolic.specs.Terms.{unknown, offset, known, headed};
-ghost use Rattle.kp_semantics.specs.Value.{truth};
+ghost use Rattle.kp_kore.specs.Value.{truth};
 ghost use Rattle.kp_symbolic.specs.States.{same, quoted};
 ghost use Rattle.kp_symbolic.specs.Solving.{IsReadAs, negated};
 ghost use Rattle.kp_symbolic.specs.Folding.{folded};

@@ -1,7 +1,7 @@
 // What stems from a state and a rule beside it, and what is shown.
 ghost use Rattle.std.specs.Prelude.{◌≡◌, List, [], ◌∷◌, Some};
 ghost use Rattle.kp_toys.specs.ToysTheory.{toys_signature, sq_rule};
-ghost use Rattle.kp_semantics.specs.Instance.{Valuation};
+ghost use Rattle.kp_kore.specs.Instance.{Valuation};
 ghost use Rattle.kp_symbolic.specs.Terms.{unknown};
 ghost use Rattle.kp_symbolic.specs.Sources.{rule_beside, IsMatch, IsSourced};
 ghost use Rattle.kp_symbolic.specs.Weights.{bits};

@@ -2,8 +2,8 @@
 ghost use Rattle.std.specs.Prelude.{◌↔◌, List, [], map};
 ghost use Rattle.std.specs.List.{AllByRecursion};
 ghost use Rattle.kp_kore.specs.Signature.{KoreSignature};
-ghost use Rattle.kp_semantics.specs.Instance.{Valuation};
-ghost use Rattle.kp_semantics.specs.Steps.{AnyByRecursion};
+ghost use Rattle.kp_kore.specs.Instance.{Valuation};
+ghost use Rattle.kp_kore.specs.Steps.{AnyByRecursion};
 ghost use Rattle.kp_symbolic.specs.States.{Literal, IsLiteralTrue, IsClauseTrue, clause_variables, SymbolicState, CanBeTrue};
 ghost use Rattle.kp_symbolic.specs.Plain.{read_clauses, plain_part, IsPlainState, plain_clauses};
 ghost use Rattle.kp_symbolic.specs.Weights.{IsWithinLimits};

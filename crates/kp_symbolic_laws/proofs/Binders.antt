@@ -7,8 +7,8 @@ use Rattle.std.proofs.lemmas.Slice.Eq.{bytes_eq-Decides}
 use Rattle.kp_kore.specs.Syntax.{Text, KoreSort, KorePattern}
 use Rattle.kp_kore.specs.Parts.{SortedName, without_name, variable_names}
 use Rattle.kp_kore.specs.Signature.{KoreSignature, meaning_of, IsBelow, itself}
-use Rattle.kp_semantics.specs.Value.{Value, next_value, HasSort}
-use Rattle.kp_semantics.specs.Instance.{Valuation, GivesSorts, AgreesOn, assigned, applied}
+use Rattle.kp_kore.specs.Value.{Value, next_value, HasSort}
+use Rattle.kp_kore.specs.Instance.{Valuation, GivesSorts, AgreesOn, assigned, applied}
 use Rattle.kp_signature.specs.Places.{sort_in_scope}
 use Rattle.kp_signature.proofs.VariableSorts.{HasItsSort}
 use Rattle.kp_symbolic.specs.Terms.{SymbolicTerm, unknown, offset, known, headed, SymbolicTerms, no_terms, next_term, term_instance, term_instances, term_variables, all_term_variables, Replaced, replacement_for, under_replaced}

@@ -4,7 +4,7 @@ use Rattle.std.specs.Prelude.{pos, codes}
 use Rattle.std.proofs.lemmas.Bool.{ltb-true}
 use Rattle.std.proofs.lemmas.Nat.{pow_pos}
 use Rattle.std.proofs.lemmas.List.Elements.{Contains-get_or}
-use Rattle.kp_semantics.specs.Value.{whole, constructed, no_values, next_value}
+use Rattle.kp_kore.specs.Value.{whole, constructed, no_values, next_value}
 use Rattle.kp_toys.specs.ToysTheory.{toys_signature}
 use Rattle.kp_symbolic.specs.Terms.{unknown}
 use Rattle.kp_symbolic.specs.Solving.{finished}

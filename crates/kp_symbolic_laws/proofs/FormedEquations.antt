@@ -7,7 +7,7 @@ use Rattle.kp_kore.specs.Syntax.{KoreSort, KorePattern}
 use Rattle.kp_kore.specs.Attributes.{sorts_equal}
 use Rattle.kp_kore.specs.Parts.{SortedName}
 use Rattle.kp_kore.specs.Signature.{KoreSignature, meaning_of}
-use Rattle.kp_semantics.specs.Value.{truth}
+use Rattle.kp_kore.specs.Value.{truth}
 use Rattle.kp_symbolic.specs.Terms.{SymbolicTerm, unknown, offset, known, headed, no_terms, next_term}
 use Rattle.kp_symbolic.specs.States.{Atom, same, has_head, quoted, Literal}
 use Rattle.kp_symbolic.specs.Folding.{is_text_before}

@@ -5,7 +5,7 @@ use Rattle.std.specs.List.{AllByRecursion}
 use Rattle.kp_kore.specs.Syntax.{Text, KoreSort, KoreSorts, no_sorts, next_sort, KorePattern, KorePatterns, variable, application, negation, conjunction, exists, ceil, equals, membership, no_patterns, next_pattern}
 use Rattle.kp_kore.specs.Parts.{SortedName, is_term}
 use Rattle.kp_kore.specs.Signature.{KoreSignature, SymbolMeaning, injection, construction, interpretation, foreign, meaning_of}
-use Rattle.kp_semantics.specs.Instance.{is_named, is_conjoined_pair}
+use Rattle.kp_kore.specs.Instance.{is_named, is_conjoined_pair}
 use Rattle.kp_symbolic.specs.Formulas.{Formula}
 use Rattle.kp_symbolic.specs.States.{HeadTest, one_head, head_of_sort, Literal}
 use Rattle.kp_symbolic.specs.Alike.{literals_same}

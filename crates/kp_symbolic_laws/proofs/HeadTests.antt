@@ -9,11 +9,11 @@ use Rattle.kp_kore.specs.Attributes.{sorts_equal}
 use Rattle.kp_kore.specs.Parts.{SortedName, sort_list, free_variables, all_free_variables, without_name, subpatterns}
 use Rattle.kp_kore.specs.Signature.{KoreSignature, construction, meaning_of, IsHeadOf}
 use Rattle.kp_kore.specs.Sorting.{result_sort}
-use Rattle.kp_semantics.specs.Value.{Value, whole, truth, token, constructed, HasSort, head_of}
-use Rattle.kp_semantics.specs.Instance.{Valuation, is_named, assigned, IsTrueUnder}
-use Rattle.kp_semantics.proofs.SameLemmas.{sorts_equal-Decides}
-use Rattle.kp_states.specs.Spelled.{placed, places_of, injected}
-use Rattle.kp_states.proofs.SpelledMeaning.{InjectsWell}
+use Rattle.kp_kore.specs.Value.{Value, whole, truth, token, constructed, HasSort, head_of}
+use Rattle.kp_kore.specs.Instance.{Valuation, is_named, assigned, IsTrueUnder}
+use Rattle.kp_kore.proofs.SameLemmas.{sorts_equal-Decides}
+use Rattle.kp_compile.specs.Spelled.{placed, places_of, injected}
+use Rattle.kp_compile.proofs.SpelledMeaning.{InjectsWell}
 use Rattle.kp_symbolic.specs.States.{HeadTest, one_head, head_of_sort, has_head, PassesHead}
 use Rattle.kp_symbolic.specs.Opening.{are_variables, HeadQuestion, head_question}
 use Rattle.kp_symbolic.specs.Writing.{least_fresh, new_variables, under_exists, variables_of, written_test, IsSaid}

@@ -8,8 +8,8 @@ use Rattle.std.proofs.lemmas.Slice.Eq.{bytes_eq-Decides}
 use Rattle.kp_kore.specs.Syntax.{Text, KoreSort}
 use Rattle.kp_kore.specs.Parts.{SortedName, free_variables}
 use Rattle.kp_kore.specs.Signature.{KoreSignature, SymbolMeaning, injection, construction, interpretation, foreign, meaning_of, constructor_of, integers, itself}
-use Rattle.kp_semantics.specs.Value.{head_of}
-use Rattle.kp_semantics.specs.Instance.{is_named}
+use Rattle.kp_kore.specs.Value.{head_of}
+use Rattle.kp_kore.specs.Instance.{is_named}
 use Rattle.kp_symbolic.specs.Terms.{SymbolicTerm, unknown, offset, known, headed, term_variables, Replaced, replacement_for}
 use Rattle.kp_symbolic.specs.Formulas.{Formula}
 use Rattle.kp_symbolic.specs.States.{HeadTest, Atom, same, has_head, quoted, atom_variables, variables_for, Literal, clause_variables}

@@ -8,8 +8,8 @@ use Rattle.std.proofs.lemmas.Fmt.{decimal_is_IsNumeral_wide}
 use Rattle.std.proofs.lemmas.Slice.Eq.{bytes_eq-Decides}
 use Rattle.kp_kore.specs.Syntax.{Text, KoreSorts, no_sorts, next_sort}
 use Rattle.kp_kore.specs.Parts.{sort_list}
-use Rattle.kp_semantics.specs.Instance.{is_named}
-use Rattle.kp_semantics.proofs.SameLemmas.{sorts_equal-Decides}
+use Rattle.kp_kore.specs.Instance.{is_named}
+use Rattle.kp_kore.proofs.SameLemmas.{sorts_equal-Decides}
 use Rattle.kp_symbolic.specs.Weights.{each_once}
 use Rattle.kp_symbolic.specs.Opening.{are_variables}
 use Rattle.kp_symbolic.specs.Writing.{fresh_name, fresh_from, least_fresh, new_variables, variables_of}

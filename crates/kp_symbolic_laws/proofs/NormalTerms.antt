@@ -8,9 +8,9 @@ use Rattle.kp_kore.specs.Syntax.{Text, KorePattern, KorePatterns, variable, appl
 use Rattle.kp_kore.specs.Hooks.{addition, subtraction, Hook, whole_arithmetic}
 use Rattle.kp_kore.specs.Parts.{SortedName}
 use Rattle.kp_kore.specs.Signature.{KoreSignature, SymbolMeaning, injection, construction, interpretation, foreign, meaning_of}
-use Rattle.kp_semantics.specs.Value.{Value, whole, Values}
-use Rattle.kp_semantics.specs.Interpretation.{interpreted}
-use Rattle.kp_semantics.specs.Replies.{is_wide_value}
+use Rattle.kp_kore.specs.Value.{Value, whole, Values}
+use Rattle.kp_kore.specs.Interpretation.{interpreted}
+use Rattle.kp_kore.specs.Replies.{is_wide_value}
 use Rattle.kp_symbolic.specs.Terms.{SymbolicTerm, unknown, offset, known, headed, SymbolicTerms, no_terms, next_term, Replaced, replacement_for}
 use Rattle.kp_symbolic.specs.WellFormed.{IsFolded}
 use Rattle.kp_symbolic.specs.Folding.{least_symbol, Sum, sum_of, can_be_added, summed, summed_call, values_known, only_term, made_construction, made_call, made, applied_term, term_for, folded, all_folded, under_symbol, replaced, all_replaced}

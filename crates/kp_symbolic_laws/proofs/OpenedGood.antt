@@ -7,9 +7,9 @@ use Rattle.std.proofs.lemmas.Slice.Eq.{bytes_eq-Decides}
 use Rattle.kp_kore.specs.Syntax.{Text, KoreSort, KoreSorts, no_sorts, next_sort, KorePattern, KorePatterns, variable, set_variable, application, string_literal, literal, top, bottom, negation, next, conjunction, disjunction, implication, equivalence, rewriting, exists, forall, ceil, floor, equals, membership, mu, nu, no_patterns, next_pattern}
 use Rattle.kp_kore.specs.Parts.{SortedName, is_term, free_variables, all_free_variables, without_name}
 use Rattle.kp_kore.specs.Signature.{KoreSignature, SymbolMeaning, injection, construction, interpretation, foreign, meaning_of}
-use Rattle.kp_semantics.specs.Instance.{is_named, is_predicate, are_predicates, is_conjoined_pair}
-use Rattle.kp_semantics.specs.Foreign.{has_foreign_head}
-use Rattle.kp_semantics.proofs.InstanceLemmas.{first_true, second_true}
+use Rattle.kp_kore.specs.Instance.{is_named, is_predicate, are_predicates, is_conjoined_pair}
+use Rattle.kp_kore.specs.Foreign.{has_foreign_head}
+use Rattle.kp_kore.proofs.InstanceLemmas.{first_true, second_true}
 use Rattle.kp_signature.specs.Places.{part_at, after}
 use Rattle.kp_signature.proofs.FaultLemmas.{same_as_wanted, keeps_rules, nothing_earlier, nothing_later, term_has_wanted_sort}
 use Rattle.kp_signature.proofs.SortedInstances.{none_in_first, none_in_others}

@@ -3,8 +3,8 @@ use Rattle.std.proofs.Common.{◌≡◌, refl, Bool, true, false, ◌&&◌, ◌|
 use Rattle.std.specs.Prelude.{IsTrue, is_some}
 use Rattle.std.specs.List.{list_all}
 use Rattle.kp_kore.specs.Signature.{KoreSignature, is_integer_sort}
-use Rattle.kp_semantics.proofs.InstanceLemmas.{first_true, second_true}
-use Rattle.kp_semantics.proofs.ListLemmas.{all_map}
+use Rattle.kp_kore.proofs.InstanceLemmas.{first_true, second_true}
+use Rattle.kp_kore.proofs.ListLemmas.{all_map}
 use Rattle.kp_symbolic.specs.States.{Literal, SymbolicState}
 use Rattle.kp_symbolic.specs.Plain.{form_of, ReadLiteral, read_clauses, whole_part}
 use Rattle.kp_symbolic.specs.Weights.{Weight, bits, literals, product}

@@ -5,9 +5,9 @@ use Rattle.kp_kore.specs.Syntax.{KoreSort, KorePattern, KorePatterns, variable, 
 use Rattle.kp_kore.specs.Parts.{SortedName, is_term, free_variables, all_free_variables}
 use Rattle.kp_kore.specs.Signature.{KoreSignature}
 use Rattle.kp_kore.specs.Sorting.{sort_of_term}
-use Rattle.kp_semantics.specs.Instance.{Valuation, GivesSorts, is_predicate, conjuncts, conjoined_predicates}
-use Rattle.kp_semantics.specs.Foreign.{none_within, has_foreign_head}
-use Rattle.kp_semantics.proofs.TurnLemmas.{of_member, each_member}
+use Rattle.kp_kore.specs.Instance.{Valuation, GivesSorts, is_predicate, conjuncts, conjoined_predicates}
+use Rattle.kp_kore.specs.Foreign.{none_within, has_foreign_head}
+use Rattle.kp_kore.proofs.TurnLemmas.{of_member, each_member}
 use Rattle.kp_signature.specs.Places.{Place, own_sort, sort_in_scope}
 use Rattle.kp_signature.specs.Verify.{first_fault}
 use Rattle.kp_signature.proofs.VariableSorts.{HasItsSort}

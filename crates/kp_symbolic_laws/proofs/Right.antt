@@ -7,11 +7,11 @@ use Rattle.kp_kore.specs.Syntax.{KoreSort, KoreSorts, no_sorts, next_sort}
 use Rattle.kp_kore.specs.Attributes.{sorts_equal}
 use Rattle.kp_kore.specs.Parts.{SortedName}
 use Rattle.kp_kore.specs.Signature.{KoreSignature, meaning_of, is_below, IsBelow}
-use Rattle.kp_semantics.specs.Value.{Value, whole, truth, token, constructed, HasSort}
-use Rattle.kp_semantics.specs.Instance.{is_named}
-use Rattle.kp_semantics.proofs.InstanceLemmas.{second_true}
-use Rattle.kp_subsorts.proofs.Below.{is_below-Decides}
-use Rattle.kp_states.specs.Spelled.{own_sort, places_of}
+use Rattle.kp_kore.specs.Value.{Value, whole, truth, token, constructed, HasSort}
+use Rattle.kp_kore.specs.Instance.{is_named}
+use Rattle.kp_kore.proofs.InstanceLemmas.{second_true}
+use Rattle.kp_signature.proofs.Below.{is_below-Decides}
+use Rattle.kp_compile.specs.Spelled.{own_sort, places_of}
 use Rattle.kp_symbolic.specs.Terms.{SymbolicTerm, unknown, offset, known, headed, no_terms, next_term, term_variables}
 use Rattle.kp_symbolic.specs.States.{Atom, same, has_head, quoted, atom_variables, Literal}
 use Rattle.kp_symbolic.specs.WellFormed.{term_sort, is_sort_below, IsWellSorted, AreWellSorted, IsWellSortedAtom, AreAtHand}

@@ -4,9 +4,9 @@ use Rattle.std.specs.Prelude.{MatchBool, ⊤}
 use Rattle.kp_kore.specs.Syntax.{KoreSort, KorePattern, KorePatterns, negation, conjunction, disjunction, implication, equivalence, exists, forall, ceil, floor, equals, membership, no_patterns, next_pattern}
 use Rattle.kp_kore.specs.Parts.{is_term, free_variables}
 use Rattle.kp_kore.specs.Signature.{KoreSignature}
-use Rattle.kp_semantics.specs.Instance.{is_predicate, are_predicates, is_conjoined_pair}
-use Rattle.kp_semantics.specs.Foreign.{none_within, has_foreign_head}
-use Rattle.kp_semantics.proofs.InstanceLemmas.{first_true, second_true}
+use Rattle.kp_kore.specs.Instance.{is_predicate, are_predicates, is_conjoined_pair}
+use Rattle.kp_kore.specs.Foreign.{none_within, has_foreign_head}
+use Rattle.kp_kore.proofs.InstanceLemmas.{first_true, second_true}
 use Rattle.kp_signature.specs.Places.{Place, part_at, under_binder}
 use Rattle.kp_signature.specs.Verify.{fault_at, first_fault}
 use Rattle.kp_signature.proofs.FaultLemmas.{nothing_later, term_has_wanted_sort}

@@ -3,11 +3,11 @@ use Rattle.std.proofs.Common.{◌≡◌, true, subst, List, [], ◌∷◌, Some,
 use Rattle.std.specs.List.{AllByRecursion}
 use Rattle.kp_kore.specs.Syntax.{KorePattern}
 use Rattle.kp_kore.specs.Signature.{KoreSignature, injection, meaning_of}
-use Rattle.kp_semantics.specs.Instance.{is_predicate, conjoined_predicates}
-use Rattle.kp_semantics.specs.Foreign.{none_within, has_foreign_head}
+use Rattle.kp_kore.specs.Instance.{is_predicate, conjoined_predicates}
+use Rattle.kp_kore.specs.Foreign.{none_within, has_foreign_head}
 use Rattle.kp_signature.specs.Places.{Place}
 use Rattle.kp_signature.specs.Verify.{first_fault}
-use Rattle.kp_states.specs.Spelled.{injection_name}
+use Rattle.kp_compile.specs.Spelled.{injection_name}
 use Rattle.kp_symbolic.specs.States.{Atom, same, has_head, quoted, Literal, SymbolicState, HasInstancesOf}
 use Rattle.kp_symbolic.specs.Writing.{written_clause}
 use Rattle.kp_symbolic.specs.Solving.{Solvable, first_solvable, solved_at, Solving, finished, goes_on, IsReadAs}

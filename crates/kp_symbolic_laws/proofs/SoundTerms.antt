@@ -11,12 +11,12 @@ use Rattle.kp_kore.specs.Limits.{fits_number}
 use Rattle.kp_kore.specs.Parts.{SortedName, free_variables, all_free_variables}
 use Rattle.kp_kore.specs.Signature.{KoreSignature, construction, meaning_of, integer_sort, boolean_sort, IsSortOfHead, constructor_of, itself}
 use Rattle.kp_kore.specs.Sorting.{result_sort}
-use Rattle.kp_semantics.specs.Value.{Value, whole, truth, token, constructed, Values, no_values, next_value, HasSort, HaveSorts, ArgumentSorts}
-use Rattle.kp_semantics.specs.Interpretation.{no_meaning}
-use Rattle.kp_semantics.specs.Instance.{Valuation, instance, literal_value}
-use Rattle.kp_semantics.proofs.InstanceLemmas.{second_true}
-use Rattle.kp_states.specs.Spelled.{placed, injected, injection_name, places_of, spelling, spellings, truth_text, NumbersFit, AllNumbersFit}
-use Rattle.kp_states.proofs.SpelledMeaning.{said}
+use Rattle.kp_kore.specs.Value.{Value, whole, truth, token, constructed, Values, no_values, next_value, HasSort, HaveSorts, ArgumentSorts}
+use Rattle.kp_kore.specs.Interpretation.{no_meaning}
+use Rattle.kp_kore.specs.Instance.{Valuation, instance, literal_value}
+use Rattle.kp_kore.proofs.InstanceLemmas.{second_true}
+use Rattle.kp_compile.specs.Spelled.{placed, injected, injection_name, places_of, spelling, spellings, truth_text, NumbersFit, AllNumbersFit}
+use Rattle.kp_compile.proofs.SpelledMeaning.{said}
 use Rattle.kp_symbolic.specs.Terms.{SymbolicTerm, unknown, offset, known, headed, SymbolicTerms, no_terms, next_term, term_variables, all_term_variables, Replaced, replacement_for}
 use Rattle.kp_symbolic.specs.WellFormed.{IsWellSorted, AreWellSorted}
 use Rattle.kp_symbolic.specs.Folding.{least_symbol, with_first, value_known, values_known, made_construction, made, applied_term, term_for, folded, all_folded, under_symbol, replaced, all_replaced}

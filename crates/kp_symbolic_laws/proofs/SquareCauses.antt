@@ -9,9 +9,9 @@ use Rattle.kp_kore.specs.Syntax.{Text, no_sorts}
 use Rattle.kp_kore.specs.Parts.{subpatterns}
 use Rattle.kp_kore.specs.Signature.{construction, meaning_of}
 use Rattle.kp_kore.specs.Sorting.{result_sort}
-use Rattle.kp_semantics.specs.Value.{Value, whole, truth, token, constructed, Values, no_values, next_value}
-use Rattle.kp_semantics.specs.Rules.{RewriteRule}
-use Rattle.kp_semantics.specs.Foreign.{IsConstructedBy, by_meaning, IsAnyOfMaybe}
+use Rattle.kp_kore.specs.Value.{Value, whole, truth, token, constructed, Values, no_values, next_value}
+use Rattle.kp_kore.specs.Rules.{RewriteRule}
+use Rattle.kp_kore.specs.Foreign.{IsConstructedBy, by_meaning, IsAnyOfMaybe}
 use Rattle.kp_toys.specs.ToysTheory.{toys_signature, toys, sq_rule, dec_rule, stop_rule, pick_rule, num_rule, up_rule, odd_rule, spin_rule, van_rule, back_rule}
 use Rattle.kp_toys.proofs.AtOnce.{at_once_leads, at_once_passes, never}
 use Rattle.kp_toys.proofs.Firing.{computed_by_test}

@@ -6,9 +6,9 @@ use Rattle.kp_kore.specs.Syntax.{KoreSort, no_sorts, KorePattern, KorePatterns, 
 use Rattle.kp_kore.specs.Parts.{SortedName, is_term, are_terms}
 use Rattle.kp_kore.specs.Signature.{KoreSignature}
 use Rattle.kp_kore.specs.Sorting.{result_sort}
-use Rattle.kp_semantics.specs.Instance.{is_predicate, are_predicates, is_conjoined_pair}
-use Rattle.kp_semantics.proofs.InstanceLemmas.{first_true, second_true}
-use Rattle.kp_states.specs.Spelled.{places_of}
+use Rattle.kp_kore.specs.Instance.{is_predicate, are_predicates, is_conjoined_pair}
+use Rattle.kp_kore.proofs.InstanceLemmas.{first_true, second_true}
+use Rattle.kp_compile.specs.Spelled.{places_of}
 use Rattle.kp_symbolic.specs.Terms.{SymbolicTerm, unknown, offset, known, headed, Replaced}
 use Rattle.kp_symbolic.specs.States.{one_head, head_of_sort, Atom, same, has_head, quoted, Literal}
 use Rattle.kp_symbolic.specs.Writing.{least_fresh, new_variables, under_exists, variables_of, bound_name, renamed, written_under, all_written_under, written_atom, written_signed, written_literal, is_solved_by, is_second_solved, turned_if, written_literals, written_clause, written_clauses}

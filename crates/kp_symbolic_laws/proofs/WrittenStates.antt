@@ -5,13 +5,13 @@ use Rattle.std.proofs.lemmas.List.Folds.{list_all-append}
 use Rattle.kp_kore.specs.Syntax.{KoreSort, KorePattern, variable, application, literal, negation, conjunction, equals, next_pattern}
 use Rattle.kp_kore.specs.Parts.{SortedName, is_term, free_variables, subpatterns, all_subpatterns}
 use Rattle.kp_kore.specs.Signature.{KoreSignature, injection, meaning_of}
-use Rattle.kp_semantics.specs.Instance.{Valuation, GivesSorts, instance, IsTrueUnder, AllTrueUnder, are_predicates, conjuncts, conjoined_terms, conjoined_predicates, IsInstanceOfOne, IsInstance}
-use Rattle.kp_semantics.specs.Value.{Value}
-use Rattle.kp_semantics.proofs.Conjuncts.{filter_none, filter_all, no_terms, truth_of, of_truth}
-use Rattle.kp_semantics.proofs.ClaimRuleLemmas.{met_of, conjunction_of}
-use Rattle.kp_states.specs.Spelled.{injection_name, has_two_sorts}
-use Rattle.kp_states.proofs.SpelledForms.{both_true}
-use Rattle.kp_states.proofs.SpelledMeaning.{InjectsWell}
+use Rattle.kp_kore.specs.Instance.{Valuation, GivesSorts, instance, IsTrueUnder, AllTrueUnder, are_predicates, conjuncts, conjoined_terms, conjoined_predicates, IsInstanceOfOne, IsInstance}
+use Rattle.kp_kore.specs.Value.{Value}
+use Rattle.kp_kore.proofs.Conjuncts.{filter_none, filter_all, no_terms, truth_of, of_truth}
+use Rattle.kp_kore.proofs.ClaimRuleLemmas.{met_of, conjunction_of}
+use Rattle.kp_compile.specs.Spelled.{injection_name, has_two_sorts}
+use Rattle.kp_compile.proofs.SpelledForms.{both_true}
+use Rattle.kp_compile.proofs.SpelledMeaning.{InjectsWell}
 use Rattle.kp_symbolic.specs.Terms.{SymbolicTerm, unknown, offset, known, headed, Replaced, replacement_for, term_instance}
 use Rattle.kp_symbolic.specs.States.{one_head, head_of_sort, Atom, same, has_head, quoted, atom_variables, variables_for, AreGiven, Literal, SymbolicState, AreTrue, IsStateInstance}
 use Rattle.kp_symbolic.specs.WellFormed.{IsWellSortedAtom, AreAtHand}

@@ -10,15 +10,15 @@ use Rattle.kp_kore.specs.Hooks.{addition, subtraction}
 use Rattle.kp_kore.specs.Parts.{SortedName, is_term, are_terms, free_variables, all_free_variables, subpatterns, all_subpatterns}
 use Rattle.kp_kore.specs.Signature.{KoreSignature, injection, meaning_of, integer_sort, boolean_sort, IsBelow, itself}
 use Rattle.kp_kore.specs.Sorting.{result_sort}
-use Rattle.kp_semantics.specs.Value.{Value, whole, truth, token, constructed, no_values, next_value, HasSort}
-use Rattle.kp_semantics.specs.Instance.{Valuation, GivesSorts, assigned, instance, IsTrueUnder, AllTrueUnder, NoneTrueUnder, PairSame, applied, is_predicate, are_predicates, is_conjoined_pair}
-use Rattle.kp_semantics.proofs.InstanceLemmas.{first_true, second_true}
-use Rattle.kp_semantics.proofs.SameLemmas.{sorts_equal-Decides}
-use Rattle.kp_semantics.proofs.TruthLemmas.{same_truth}
-use Rattle.kp_subsorts.proofs.Below.{is_below-Decides}
-use Rattle.kp_states.specs.Spelled.{placed, injected, injection_name, places_of, own_sort, spelling, truth_text, has_two_sorts, NumbersFit}
-use Rattle.kp_states.proofs.SpelledForms.{spelling_term}
-use Rattle.kp_states.proofs.SpelledMeaning.{InjectsWell, said}
+use Rattle.kp_kore.specs.Value.{Value, whole, truth, token, constructed, no_values, next_value, HasSort}
+use Rattle.kp_kore.specs.Instance.{Valuation, GivesSorts, assigned, instance, IsTrueUnder, AllTrueUnder, NoneTrueUnder, PairSame, applied, is_predicate, are_predicates, is_conjoined_pair}
+use Rattle.kp_kore.proofs.InstanceLemmas.{first_true, second_true}
+use Rattle.kp_kore.proofs.SameLemmas.{sorts_equal-Decides}
+use Rattle.kp_kore.proofs.TruthLemmas.{same_truth}
+use Rattle.kp_signature.proofs.Below.{is_below-Decides}
+use Rattle.kp_compile.specs.Spelled.{placed, injected, injection_name, places_of, own_sort, spelling, truth_text, has_two_sorts, NumbersFit}
+use Rattle.kp_compile.proofs.SpelledForms.{spelling_term}
+use Rattle.kp_compile.proofs.SpelledMeaning.{InjectsWell, said}
 use Rattle.kp_symbolic.specs.Terms.{SymbolicTerm, unknown, offset, known, headed, SymbolicTerms, no_terms, next_term, Replaced, term_instance, replacement_for, under_replaced}
 use Rattle.kp_symbolic.specs.States.{variables_for, AreGiven}
 use Rattle.kp_symbolic.specs.WellFormed.{is_sort_below, IsWellSorted, AreWellPlaced}

@@ -9,11 +9,11 @@ use Rattle.kp_kore.specs.Hooks.{addition, subtraction}
 use Rattle.kp_kore.specs.Parts.{SortedName, is_term, free_variables, all_free_variables, without_name}
 use Rattle.kp_kore.specs.Signature.{KoreSignature}
 use Rattle.kp_kore.specs.Sorting.{result_sort}
-use Rattle.kp_semantics.specs.Instance.{is_predicate, are_predicates, is_conjoined_pair}
-use Rattle.kp_semantics.proofs.InstanceLemmas.{first_true, second_true}
-use Rattle.kp_semantics.proofs.ListLemmas.{all_map}
-use Rattle.kp_states.specs.Spelled.{places_of}
-use Rattle.kp_states.proofs.SpelledForms.{spelling_closed}
+use Rattle.kp_kore.specs.Instance.{is_predicate, are_predicates, is_conjoined_pair}
+use Rattle.kp_kore.proofs.InstanceLemmas.{first_true, second_true}
+use Rattle.kp_kore.proofs.ListLemmas.{all_map}
+use Rattle.kp_compile.specs.Spelled.{places_of}
+use Rattle.kp_compile.proofs.SpelledForms.{spelling_closed}
 use Rattle.kp_symbolic.specs.Terms.{SymbolicTerm, unknown, offset, known, headed, SymbolicTerms, no_terms, next_term, term_variables, all_term_variables, Replaced, replacement_for}
 use Rattle.kp_symbolic.specs.Folding.{least_symbol, folded}
 use Rattle.kp_symbolic.specs.States.{Atom, same, has_head, quoted, atom_variables, variables_for, Literal, clause_variables, SymbolicState}

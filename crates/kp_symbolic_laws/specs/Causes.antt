@@ -1,7 +1,7 @@
 -- A run and implications over the example definition that are left undecided, or must not be, and what is shown of them.
 use Rattle.std.specs.Prelude.{negsuc, List, [], ◌∷◌, codes, None}
 use Rattle.kp_kore.specs.Syntax.{KorePattern, negation, conjunction, exists}
-use Rattle.kp_semantics.specs.Executions.{Options}
+use Rattle.kp_kore.specs.Executions.{Options}
 use Rattle.kp_toys.specs.Toys.{sort_s, sort_int, patterns, call, integer}
 use Rattle.kp_toys.specs.ToysTheory.{count_of, sq_rule}
 use Rattle.kp_symbolic.specs.Terms.{SymbolicTerm, unknown, offset, headed, Replaced}

@@ -6,8 +6,8 @@ use Rattle.std.specs.Str.{bytes_eq}
 use Rattle.kp_kore.specs.Syntax.{Text, KoreSort, KorePattern, KorePatterns, negation, conjunction, disjunction, implication, equivalence, exists, forall, ceil, floor, equals, membership, no_patterns, next_pattern}
 use Rattle.kp_kore.specs.Parts.{SortedName, sort_list, is_term, free_variables, variable_names}
 use Rattle.kp_kore.specs.Signature.{KoreSignature, construction, meaning_of}
-use Rattle.kp_semantics.specs.Instance.{Valuation, IsTrueUnder, is_named, is_predicate, is_conjoined_pair}
-use Rattle.kp_states.specs.Spelled.{places_of}
+use Rattle.kp_kore.specs.Instance.{Valuation, IsTrueUnder, is_named, is_predicate, is_conjoined_pair}
+use Rattle.kp_compile.specs.Spelled.{places_of}
 use Rattle.kp_symbolic.specs.Terms.{term_variables, Replaced}
 use Rattle.kp_symbolic.specs.States.{HeadTest, one_head, head_of_sort, Atom, same, has_head, quoted, atom_variables, clause_variables, Literal, IsClauseTrue, SymbolicState}
 use Rattle.kp_symbolic.specs.WellFormed.{IsWellSorted, IsWellSortedAtom, AreWellPlaced, AreAtHand}

@@ -5,7 +5,7 @@ use Rattle.std.specs.Prelude.{◌≡◌, true, List, ⊤}
 use Rattle.std.specs.List.{AllByRecursion}
 use Rattle.kp_kore.specs.Syntax.{KorePattern}
 use Rattle.kp_kore.specs.Signature.{KoreSignature}
-use Rattle.kp_semantics.specs.Instance.{is_predicate}
+use Rattle.kp_kore.specs.Instance.{is_predicate}
 use Rattle.kp_symbolic.specs.Terms.{SymbolicTerm, headed, SymbolicTerms, no_terms, next_term, Replaced}
 use Rattle.kp_symbolic.specs.WellFormed.{IsFolded}
 use Rattle.kp_symbolic.specs.States.{Atom, same, has_head, quoted, Literal, SymbolicState}

@@ -6,10 +6,10 @@ ghost use Rattle.kp_kore.specs.Syntax.{Text, KoreSort, KoreSorts, KorePattern, v
 ghost use Rattle.kp_kore.specs.Attributes.{sorts_equal};
 ghost use Rattle.kp_kore.specs.Parts.{SortedName, sort_list, free_variables};
 ghost use Rattle.kp_kore.specs.Signature.{KoreSignature, injection, construction, meaning_of};
-ghost use Rattle.kp_semantics.specs.Value.{Value, HasSort};
-ghost use Rattle.kp_semantics.specs.Instance.{Valuation, GivesSorts, IsInstance, AllTrueUnder, is_named, is_predicate};
-ghost use Rattle.kp_states.specs.Spelled.{places_of, injection_name};
-ghost use Rattle.kp_semantics.specs.Foreign.{none_within, has_foreign_head};
+ghost use Rattle.kp_kore.specs.Value.{Value, HasSort};
+ghost use Rattle.kp_kore.specs.Instance.{Valuation, GivesSorts, IsInstance, AllTrueUnder, is_named, is_predicate};
+ghost use Rattle.kp_compile.specs.Spelled.{places_of, injection_name};
+ghost use Rattle.kp_kore.specs.Foreign.{none_within, has_foreign_head};
 ghost use Rattle.kp_signature.specs.Places.{Place};
 ghost use Rattle.kp_signature.specs.Verify.{first_fault};
 ghost use Rattle.kp_symbolic.specs.Terms.{Replaced};

@@ -3,11 +3,11 @@ use Rattle.std.proofs.Common.{◌≡◌, refl, sym, subst, ℕ, suc, List, [], �
 use Rattle.std.specs.List.{AllByRecursion}
 use Rattle.kp_kore.specs.Syntax.{Text, KorePattern}
 use Rattle.kp_kore.specs.Parts.{SortedName, free_variables}
-use Rattle.kp_semantics.specs.Instance.{Valuation, AgreesOff, AgreesOn, IsInstance}
-use Rattle.kp_semantics.specs.Theory.{Theory}
-use Rattle.kp_semantics.specs.Replies.{IsFreshName, IsAbsent, variables_beyond}
-use Rattle.kp_semantics.specs.Onward.{Leads, Passes}
-use Rattle.kp_semantics.proofs.ConjunctionLemmas.{same_pattern_instance}
+use Rattle.kp_kore.specs.Instance.{Valuation, AgreesOff, AgreesOn, IsInstance}
+use Rattle.kp_kore.specs.Theory.{Theory}
+use Rattle.kp_kore.specs.Replies.{IsFreshName, IsAbsent, variables_beyond}
+use Rattle.kp_kore.specs.Onward.{Leads, Passes}
+use Rattle.kp_kore.proofs.ConjunctionLemmas.{same_pattern_instance}
 
 -- what agrees off nothing agrees
 agree_everywhere : (v w : Valuation) (xs ys : List SortedName) → xs ≡ [] → AgreesOff xs v w → AgreesOn ys w v

@@ -1,12 +1,12 @@
 -- New variables, ensured conditions and priorities.
 use Rattle.std.proofs.Common.{◌≡◌, refl, sym, ◌∙◌, ap, subst, inl, inr, Bool, true, false, [], ℤ, ◌↔◌, arith, pos, ◌∷◌}
 use Rattle.std.specs.Prelude.{codes}
-use Rattle.kp_semantics.specs.Value.{Value, whole, constructed, no_values, next_value}
+use Rattle.kp_kore.specs.Value.{Value, whole, constructed, no_values, next_value}
 use Rattle.std.specs.Prelude.{◌||◌}
 use Rattle.std.specs.Str.{bytes_eq}
 use Rattle.kp_kore.specs.Syntax.{Text}
-use Rattle.kp_semantics.specs.Instance.{Valuation, assigned}
-use Rattle.kp_semantics.specs.Steps.{StepsIn, Steps, StepsBy, IsFinal, IsUnknown, Fires, HasTurn}
+use Rattle.kp_kore.specs.Instance.{Valuation, assigned}
+use Rattle.kp_kore.specs.Steps.{StepsIn, Steps, StepsBy, IsFinal, IsUnknown, Fires, HasTurn}
 use Rattle.kp_toys.specs.ToysTheory.{toys, toys_signature, back_rule}
 use Rattle.kp_toys.specs.ToysValues.{vg_value, vh_value, lone_value, goal_value, made}
 use Rattle.kp_toys.specs.SmallTheories.{two_priorities, blocked, choosing, shadowed, from_call, from_lone, goal_of_lone}

@@ -1,10 +1,10 @@
 -- A claim that holds and one that doesn't.
 use Rattle.std.proofs.Common.{◌≡◌, refl, sym, ◌∙◌, ap, subst, inl, inr, List, [], ◌∷◌, ℤ, pos, arith}
 use Rattle.std.specs.Prelude.{codes}
-use Rattle.kp_semantics.specs.Value.{Value, whole, constructed, no_values, next_value}
-use Rattle.kp_semantics.specs.Instance.{Valuation, assigned, instance}
-use Rattle.kp_semantics.specs.Steps.{Steps, IsFinal, IsUnknown, Fires, IsCompleteRun}
-use Rattle.kp_semantics.specs.Claims.{Holds, IsReached, Misses}
+use Rattle.kp_kore.specs.Value.{Value, whole, constructed, no_values, next_value}
+use Rattle.kp_kore.specs.Instance.{Valuation, assigned, instance}
+use Rattle.kp_kore.specs.Steps.{Steps, IsFinal, IsUnknown, Fires, IsCompleteRun}
+use Rattle.kp_kore.specs.Claims.{Holds, IsReached, Misses}
 use Rattle.kp_toys.specs.ToysTheory.{toys, toys_signature, van_rule}
 use Rattle.kp_toys.specs.ToysValues.{vf_value, vg_value, vh_value}
 use Rattle.kp_toys.specs.ToysClaims.{back_to_start, back_somewhere}

@@ -4,12 +4,12 @@ use Rattle.std.specs.Prelude.{codes, Some, int_lt}
 use Rattle.std.proofs.lemmas.Int.{ints}
 use Rattle.kp_kore.specs.Parts.{subpatterns}
 use Rattle.kp_kore.specs.Hooks.{whole_comparison, greater, less}
-use Rattle.kp_semantics.specs.Value.{Value, whole, truth, no_values, next_value}
-use Rattle.kp_semantics.specs.Interpretation.{interpreted}
-use Rattle.kp_semantics.specs.Instance.{Valuation}
-use Rattle.kp_semantics.specs.Steps.{IsUnknown, StepsIn}
-use Rattle.kp_semantics.specs.AtHand.{OfSome}
-use Rattle.kp_semantics.specs.Executions.{IsRightExecuted, IsBranching, branching, vacuous, stuck, depth_bound}
+use Rattle.kp_kore.specs.Value.{Value, whole, truth, no_values, next_value}
+use Rattle.kp_kore.specs.Interpretation.{interpreted}
+use Rattle.kp_kore.specs.Instance.{Valuation}
+use Rattle.kp_kore.specs.Steps.{IsUnknown, StepsIn}
+use Rattle.kp_kore.specs.AtHand.{OfSome}
+use Rattle.kp_kore.specs.Executions.{IsRightExecuted, IsBranching, branching, vacuous, stuck, depth_bound}
 use Rattle.kp_toys.specs.ToysTheory.{toys, toys_signature, done}
 use Rattle.kp_toys.specs.ToysValues.{count, odd}
 use Rattle.kp_toys.specs.ToysReplies.{count_x, count_of_none, done_for_nobody, to_bound, at_once, counted_down, stopped, below_zero, exchanged_down, exchanged_stop, whenever, whatever_follows, first_half, second_half, impossible, vacuous_later, odd_one, aborted_by_odd, aborted_by_stop}

@@ -3,13 +3,13 @@ use Rattle.std.proofs.Common.{◌≡◌, refl, sym, ◌∙◌, ap, subst, ◌⊎
 use Rattle.std.specs.Prelude.{codes, Option, Some, None}
 use Rattle.kp_kore.specs.Syntax.{Text}
 use Rattle.kp_kore.specs.Hooks.{Comparison, whole_comparison, equal, greater}
-use Rattle.kp_semantics.specs.Value.{Value, whole, truth, no_values, next_value}
-use Rattle.kp_semantics.specs.Interpretation.{interpreted}
-use Rattle.kp_semantics.specs.Instance.{Valuation, IsInstance}
-use Rattle.kp_semantics.specs.Rules.{RewriteRule}
-use Rattle.kp_semantics.specs.Steps.{Fires, HasTurn, StepsBy, NoneFires, AnyByRecursion}
-use Rattle.kp_semantics.specs.AtHand.{GivesAll, IsOver, IsTrueOver}
-use Rattle.kp_semantics.specs.Cases.{IsCase, GoesTo, NextState, OfOneAlone, AreParts, FollowExactly, AreNextStates}
+use Rattle.kp_kore.specs.Value.{Value, whole, truth, no_values, next_value}
+use Rattle.kp_kore.specs.Interpretation.{interpreted}
+use Rattle.kp_kore.specs.Instance.{Valuation, IsInstance}
+use Rattle.kp_kore.specs.Rules.{RewriteRule}
+use Rattle.kp_kore.specs.Steps.{Fires, HasTurn, StepsBy, NoneFires, AnyByRecursion}
+use Rattle.kp_kore.specs.AtHand.{GivesAll, IsOver, IsTrueOver}
+use Rattle.kp_kore.specs.Cases.{IsCase, GoesTo, NextState, OfOneAlone, AreParts, FollowExactly, AreNextStates}
 use Rattle.kp_toys.specs.Toys.{sort_int}
 use Rattle.kp_toys.specs.ToysTheory.{toys, toys_signature, dec_rule, stop_rule}
 use Rattle.kp_toys.specs.ToysValues.{count}

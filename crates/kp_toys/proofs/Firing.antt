@@ -4,14 +4,14 @@ use Rattle.std.specs.Prelude.{codes, IsTrue}
 use Rattle.std.specs.List.{AllByRecursion, list_all}
 use Rattle.kp_kore.specs.Syntax.{KoreSort, KorePattern}
 use Rattle.kp_kore.specs.Parts.{SortedName, free_variables}
-use Rattle.kp_semantics.specs.Cases.{NextState, HaveOneSort}
+use Rattle.kp_kore.specs.Cases.{NextState, HaveOneSort}
 use Rattle.kp_kore.specs.Signature.{KoreSignature}
-use Rattle.kp_semantics.specs.Value.{Value, constructed, no_values, next_value}
-use Rattle.kp_semantics.specs.Rules.{RewriteRule}
-use Rattle.kp_semantics.specs.Steps.{Fires, NoneFires, AnyByRecursion, IsUnknown}
-use Rattle.kp_semantics.specs.Replies.{is_open_call, is_wide_value}
-use Rattle.kp_semantics.specs.Instance.{Valuation, instance}
-use Rattle.kp_semantics.proofs.InstanceLemmas.{first_true, second_true}
+use Rattle.kp_kore.specs.Value.{Value, constructed, no_values, next_value}
+use Rattle.kp_kore.specs.Rules.{RewriteRule}
+use Rattle.kp_kore.specs.Steps.{Fires, NoneFires, AnyByRecursion, IsUnknown}
+use Rattle.kp_kore.specs.Replies.{is_open_call, is_wide_value}
+use Rattle.kp_kore.specs.Instance.{Valuation, instance}
+use Rattle.kp_kore.proofs.InstanceLemmas.{first_true, second_true}
 use Rattle.kp_toys.specs.ToysTheory.{toys, toys_signature, dec_rule, stop_rule, pick_rule, num_rule, sq_rule, up_rule, odd_rule, spin_rule, van_rule, back_rule}
 use Rattle.kp_toys.specs.ToysValues.{count, vg_value}
 use Rattle.kp_toys.proofs.Matching.{other_head, false_true, known, texts_differ}

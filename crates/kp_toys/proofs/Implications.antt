@@ -5,11 +5,11 @@ use Rattle.std.proofs.lemmas.Int.{ints}
 use Rattle.kp_kore.specs.Syntax.{top, bottom}
 use Rattle.kp_kore.specs.Parts.{subpatterns}
 use Rattle.kp_kore.specs.Hooks.{whole_arithmetic, addition, subtraction}
-use Rattle.kp_semantics.specs.Value.{Value, whole, no_values, next_value, HasSort}
-use Rattle.kp_semantics.specs.Interpretation.{interpreted}
-use Rattle.kp_semantics.specs.Instance.{Valuation, assigned, IsInstance}
-use Rattle.kp_semantics.specs.Sides.{IsSidesFault, unused_binder, other_terms, unclear_name}
-use Rattle.kp_semantics.specs.Implied.{IsWitness, IsCondition, witnessed, vacuous, IsRightImplied, not_valid, valid, IsRightSimplified, state, nothing}
+use Rattle.kp_kore.specs.Value.{Value, whole, no_values, next_value, HasSort}
+use Rattle.kp_kore.specs.Interpretation.{interpreted}
+use Rattle.kp_kore.specs.Instance.{Valuation, assigned, IsInstance}
+use Rattle.kp_kore.specs.Sides.{IsSidesFault, unused_binder, other_terms, unclear_name}
+use Rattle.kp_kore.specs.Implied.{IsWitness, IsCondition, witnessed, vacuous, IsRightImplied, not_valid, valid, IsRightSimplified, state, nothing}
 use Rattle.kp_toys.specs.Toys.{sort_int, sort_s}
 use Rattle.kp_toys.specs.ToysTheory.{toys_signature, done, count_of, y}
 use Rattle.kp_toys.specs.ToysValues.{count, done_value, goal_value}

@@ -1,10 +1,10 @@
 -- A step that keeps its number: the state after it speaks of the same variable.
 use Rattle.std.proofs.Common.{◌≡◌, refl, sym, ◌∙◌, ap, subst, inl, inr, true, false, [], pos, ℕ, zero, suc, ◌<◌, arith}
 use Rattle.std.specs.Prelude.{codes}
-use Rattle.kp_semantics.specs.Value.{Value, whole, constructed, no_values, next_value, HasSort}
-use Rattle.kp_semantics.specs.Instance.{Valuation, assigned}
-use Rattle.kp_semantics.specs.Steps.{Steps, StepsIn, IsFinal}
-use Rattle.kp_semantics.specs.Replies.{After, IsAfter}
+use Rattle.kp_kore.specs.Value.{Value, whole, constructed, no_values, next_value, HasSort}
+use Rattle.kp_kore.specs.Instance.{Valuation, assigned}
+use Rattle.kp_kore.specs.Steps.{Steps, StepsIn, IsFinal}
+use Rattle.kp_kore.specs.Replies.{After, IsAfter}
 use Rattle.kp_toys.specs.Toys.{sort_int}
 use Rattle.kp_toys.specs.ToysTheory.{toys_signature, vh_of}
 use Rattle.kp_toys.specs.ToysValues.{vh_value}

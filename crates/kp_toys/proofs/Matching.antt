@@ -6,13 +6,13 @@ use Rattle.std.proofs.lemmas.Slice.Eq.{bytes_eq-Decides}
 use Rattle.kp_kore.specs.Syntax.{Text}
 use Rattle.kp_kore.specs.Signature.{itself}
 use Rattle.kp_kore.specs.Hooks.{whole_arithmetic, subtraction, whole_comparison, equal, greater}
-use Rattle.kp_semantics.specs.Value.{Value, whole, truth, constructed, no_values, next_value, values_same, HasSort}
-use Rattle.kp_semantics.specs.Interpretation.{interpreted}
-use Rattle.kp_semantics.specs.Instance.{Valuation, instance}
-use Rattle.kp_semantics.specs.Foreign.{IsSkeletonInstance}
-use Rattle.kp_semantics.specs.Rules.{Rewrite, RewriteRule, RuleBody, rewrite, foreign_rule}
-use Rattle.kp_semantics.specs.Steps.{Fires, IsUnknown, Steps, StepsBy, NoneBefore, Rewrites, IsFinal, NoneFires, AnyByRecursion}
-use Rattle.kp_semantics.proofs.SameLemmas.{same_values_decide}
+use Rattle.kp_kore.specs.Value.{Value, whole, truth, constructed, no_values, next_value, values_same, HasSort}
+use Rattle.kp_kore.specs.Interpretation.{interpreted}
+use Rattle.kp_kore.specs.Instance.{Valuation, instance}
+use Rattle.kp_kore.specs.Foreign.{IsSkeletonInstance}
+use Rattle.kp_kore.specs.Rules.{Rewrite, RewriteRule, RuleBody, rewrite, foreign_rule}
+use Rattle.kp_kore.specs.Steps.{Fires, IsUnknown, Steps, StepsBy, NoneBefore, Rewrites, IsFinal, NoneFires, AnyByRecursion}
+use Rattle.kp_kore.proofs.SameLemmas.{same_values_decide}
 use Rattle.kp_toys.specs.Toys.{n, sort_int, sort_s, call}
 use Rattle.kp_toys.specs.ToysTheory.{toys, toys_signature, dec_rule, stop_rule, back_rule}
 use Rattle.kp_toys.specs.ToysValues.{count, done_value, odd, vg_value, vh_value}

@@ -5,9 +5,9 @@ use Rattle.std.specs.List.{AllByRecursion, list_all}
 use Rattle.kp_kore.specs.Syntax.{KoreSort, no_sorts, next_sort, KorePattern, application}
 use Rattle.kp_kore.specs.Signature.{KoreSignature, IsBelow, itself, through}
 use Rattle.kp_kore.specs.Parts.{subpatterns}
-use Rattle.kp_semantics.specs.Foreign.{InjectionsSplit, Meet, SplitsByHeads}
-use Rattle.kp_semantics.specs.Theory.{IsTheoryOf}
-use Rattle.kp_semantics.proofs.InstanceLemmas.{first_true, second_true}
+use Rattle.kp_kore.specs.Foreign.{InjectionsSplit, Meet, SplitsByHeads}
+use Rattle.kp_kore.specs.Theory.{IsTheoryOf}
+use Rattle.kp_kore.proofs.InstanceLemmas.{first_true, second_true}
 use Rattle.kp_toys.specs.Toys.{toys_definition, sort_int, sort_e, dec_axiom, stop_axiom, pick_axiom, sq_axiom, up_axiom, spin_axiom, van_axiom, back_axiom}
 use Rattle.kp_toys.specs.ToysTheory.{toys, toys_signature}
 use Rattle.kp_toys.proofs.Sorts.{the_pair}

@@ -1,11 +1,11 @@
 -- Next states of count(X) that aren't right.
 use Rattle.std.proofs.Common.{◌≡◌, refl, sym, subst, inl, inr, [], ◌∷◌, pos, negsuc}
 use Rattle.std.specs.Prelude.{codes, Some, None}
-use Rattle.kp_semantics.specs.Value.{Value, whole}
-use Rattle.kp_semantics.specs.Instance.{assigned, IsInstance}
-use Rattle.kp_semantics.specs.AtHand.{IsTrueOver, IsOver}
-use Rattle.kp_semantics.specs.Cases.{IsCase, GoesTo, AreNextStates}
-use Rattle.kp_semantics.specs.Steps.{StepsBy}
+use Rattle.kp_kore.specs.Value.{Value, whole}
+use Rattle.kp_kore.specs.Instance.{assigned, IsInstance}
+use Rattle.kp_kore.specs.AtHand.{IsTrueOver, IsOver}
+use Rattle.kp_kore.specs.Cases.{IsCase, GoesTo, AreNextStates}
+use Rattle.kp_kore.specs.Steps.{StepsBy}
 use Rattle.kp_toys.specs.ToysTheory.{toys, toys_signature, dec_rule}
 use Rattle.kp_toys.specs.ToysValues.{count}
 use Rattle.kp_toys.specs.ToysReplies.{count_x, counted_down, stopped, below_zero, exchanged_down, exchanged_stop, whenever, whatever_follows, first_half, second_half, impossible}

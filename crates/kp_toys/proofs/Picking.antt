@@ -4,12 +4,12 @@ use Rattle.std.specs.Prelude.{codes, Option, Some, None}
 use Rattle.kp_kore.specs.Syntax.{Text, no_sorts, SymbolDeclaration}
 use Rattle.kp_kore.specs.Parts.{subpatterns}
 use Rattle.kp_kore.specs.Signature.{itself}
-use Rattle.kp_semantics.specs.Value.{Value, HasSort}
-use Rattle.kp_semantics.specs.Instance.{Valuation, IsInstance}
-use Rattle.kp_semantics.specs.Steps.{Fires, HasTurn, StepsBy, NoneFires, AnyByRecursion, IsUnknown}
-use Rattle.kp_semantics.specs.AtHand.{GivesAll, IsOver, IsTrueOver}
-use Rattle.kp_semantics.specs.Cases.{IsCase, GoesTo, NextState, OfOneAlone, AreParts, FollowExactly}
-use Rattle.kp_semantics.specs.Executions.{IsRightExecuted, IsBranching, branching}
+use Rattle.kp_kore.specs.Value.{Value, HasSort}
+use Rattle.kp_kore.specs.Instance.{Valuation, IsInstance}
+use Rattle.kp_kore.specs.Steps.{Fires, HasTurn, StepsBy, NoneFires, AnyByRecursion, IsUnknown}
+use Rattle.kp_kore.specs.AtHand.{GivesAll, IsOver, IsTrueOver}
+use Rattle.kp_kore.specs.Cases.{IsCase, GoesTo, NextState, OfOneAlone, AreParts, FollowExactly}
+use Rattle.kp_kore.specs.Executions.{IsRightExecuted, IsBranching, branching}
 use Rattle.kp_toys.specs.Toys.{sort_p, patterns, mark}
 use Rattle.kp_toys.specs.ToysTheory.{toys, toys_signature, pick_rule}
 use Rattle.kp_toys.specs.ToysValues.{done_value, made}

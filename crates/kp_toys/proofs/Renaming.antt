@@ -5,14 +5,14 @@ use Rattle.std.proofs.lemmas.Fmt.{decimal-digits_of}
 use Rattle.std.specs.Prelude.{codes, Option, Some, None}
 use Rattle.kp_kore.specs.Syntax.{Text}
 use Rattle.kp_kore.specs.Parts.{subpatterns}
-use Rattle.kp_semantics.specs.Value.{Value, whole}
-use Rattle.kp_semantics.specs.Instance.{Valuation, assigned, IsInstance}
-use Rattle.kp_semantics.specs.Steps.{HasTurn, Steps, StepsBy, StepsIn, IsFinal, AnyByRecursion}
-use Rattle.kp_semantics.specs.AtHand.{IsOver, IsTrueOver}
-use Rattle.kp_semantics.specs.Replies.{IsFreshName}
-use Rattle.kp_semantics.specs.Onward.{Leads}
-use Rattle.kp_semantics.specs.Cases.{IsCase, GoesTo, OfOneAlone, AreNextStates}
-use Rattle.kp_semantics.specs.Executions.{IsRightExecuted, depth_bound}
+use Rattle.kp_kore.specs.Value.{Value, whole}
+use Rattle.kp_kore.specs.Instance.{Valuation, assigned, IsInstance}
+use Rattle.kp_kore.specs.Steps.{HasTurn, Steps, StepsBy, StepsIn, IsFinal, AnyByRecursion}
+use Rattle.kp_kore.specs.AtHand.{IsOver, IsTrueOver}
+use Rattle.kp_kore.specs.Replies.{IsFreshName}
+use Rattle.kp_kore.specs.Onward.{Leads}
+use Rattle.kp_kore.specs.Cases.{IsCase, GoesTo, OfOneAlone, AreNextStates}
+use Rattle.kp_kore.specs.Executions.{IsRightExecuted, depth_bound}
 use Rattle.kp_toys.specs.Toys.{sort_int}
 use Rattle.kp_toys.specs.ToysTheory.{toys, toys_signature, vg, vh_of, y, back_rule}
 use Rattle.kp_toys.specs.ToysValues.{vg_value, vh_value}

@@ -1,10 +1,10 @@
 -- The reply to execute of count(2): done, stuck, after three steps.
 use Rattle.std.proofs.Common.{◌≡◌, refl, sym, ◌∙◌, subst, true, false, [], pos, ℕ, zero, suc, ◌<◌, arith}
 use Rattle.std.specs.Prelude.{codes}
-use Rattle.kp_semantics.specs.Value.{Value, whole}
-use Rattle.kp_semantics.specs.Instance.{Valuation}
-use Rattle.kp_semantics.specs.Steps.{Steps, StepsIn, IsFinal, IsUnknown, NoneFires}
-use Rattle.kp_semantics.specs.Replies.{After, IsAfter, IsRightExecuted, stuck, depth_bound, NoneListed}
+use Rattle.kp_kore.specs.Value.{Value, whole}
+use Rattle.kp_kore.specs.Instance.{Valuation}
+use Rattle.kp_kore.specs.Steps.{Steps, StepsIn, IsFinal, IsUnknown, NoneFires}
+use Rattle.kp_kore.specs.Replies.{After, IsAfter, IsRightExecuted, stuck, depth_bound, NoneListed}
 use Rattle.kp_toys.specs.Toys.{integer}
 use Rattle.kp_toys.specs.ToysTheory.{toys, count_of, done}
 use Rattle.kp_toys.specs.ToysValues.{count, done_value}

@@ -6,12 +6,12 @@ use Rattle.std.specs.Str.{bytes_eq}
 use Rattle.kp_kore.specs.Syntax.{Text, KoreSort, SymbolDeclaration}
 use Rattle.kp_kore.specs.Attributes.{sorts_equal}
 use Rattle.kp_kore.specs.Signature.{IsBelow, itself, through, SymbolMeaning, symbol_meaning, construction, integer_sort, boolean_sort, is_token_sort}
-use Rattle.kp_semantics.specs.Value.{no_values, next_value, Value, whole, truth, token, constructed, Values, HasSort}
-use Rattle.kp_semantics.proofs.SameLemmas.{same_sorts_decide}
-use Rattle.kp_semantics.proofs.InstanceLemmas.{first_true, second_true}
-use Rattle.kp_semantics.proofs.TurnLemmas.{of_member}
-use Rattle.kp_semantics.specs.Instance.{Valuation}
-use Rattle.kp_semantics.specs.Steps.{Fires, NoneFires}
+use Rattle.kp_kore.specs.Value.{no_values, next_value, Value, whole, truth, token, constructed, Values, HasSort}
+use Rattle.kp_kore.proofs.SameLemmas.{same_sorts_decide}
+use Rattle.kp_kore.proofs.InstanceLemmas.{first_true, second_true}
+use Rattle.kp_kore.proofs.TurnLemmas.{of_member}
+use Rattle.kp_kore.specs.Instance.{Valuation}
+use Rattle.kp_kore.specs.Steps.{Fires, NoneFires}
 use Rattle.kp_toys.specs.ToysTheory.{toys, num_rule}
 use Rattle.kp_toys.specs.ToysValues.{num_value, nil_value}
 use Rattle.kp_toys.proofs.Matching.{differ, other_head}

@@ -4,16 +4,16 @@ use Rattle.std.specs.Prelude.{codes, Option, Some, None}
 use Rattle.kp_kore.specs.Syntax.{Text, KorePattern, top}
 use Rattle.kp_kore.specs.Hooks.{equal}
 use Rattle.kp_kore.specs.Parts.{subpatterns}
-use Rattle.kp_semantics.specs.Value.{Value, whole}
-use Rattle.kp_semantics.specs.Instance.{Valuation, instance}
-use Rattle.kp_semantics.specs.Rules.{RewriteRule, rewrite}
+use Rattle.kp_kore.specs.Value.{Value, whole}
+use Rattle.kp_kore.specs.Instance.{Valuation, instance}
+use Rattle.kp_kore.specs.Rules.{RewriteRule, rewrite}
 use Rattle.kp_toys.specs.Toys.{sort_s}
-use Rattle.kp_semantics.specs.Steps.{HasTurn, StepsBy, StepsIn, IsUnknown, AnyByRecursion}
-use Rattle.kp_semantics.specs.Replies.{IsAfter, NoneListed}
-use Rattle.kp_semantics.specs.AtHand.{OfSome, IsOver, IsTrueOver}
-use Rattle.kp_semantics.specs.Onward.{Leads, Passes}
-use Rattle.kp_semantics.specs.Cases.{NextState, IsCase, GoesTo, OfOneAlone, HasTurnAlone, AreNextStates}
-use Rattle.kp_semantics.specs.Executions.{IsRightExecuted, branching}
+use Rattle.kp_kore.specs.Steps.{HasTurn, StepsBy, StepsIn, IsUnknown, AnyByRecursion}
+use Rattle.kp_kore.specs.Replies.{IsAfter, NoneListed}
+use Rattle.kp_kore.specs.AtHand.{OfSome, IsOver, IsTrueOver}
+use Rattle.kp_kore.specs.Onward.{Leads, Passes}
+use Rattle.kp_kore.specs.Cases.{NextState, IsCase, GoesTo, OfOneAlone, HasTurnAlone, AreNextStates}
+use Rattle.kp_kore.specs.Executions.{IsRightExecuted, branching}
 use Rattle.kp_toys.specs.ToysTheory.{toys, toys_signature, done, dec_rule}
 use Rattle.kp_toys.specs.ToysValues.{count, done_value, lone_value}
 use Rattle.kp_toys.specs.ToysReplies.{count_two_pattern, count_zero_pattern, to_done, stop_before, stop_behind, stop_around, before_stop, behind_stop, stuck_behind_stop, to_bound, at_once, to_done_of_lone, to_goal_of_lone}

@@ -1,8 +1,8 @@
 -- Theories of one or two rules over the example's signature, each for one question.
 use Rattle.std.specs.Prelude.{Some, ℕ, List, [], ◌∷◌, codes}
 use Rattle.kp_kore.specs.Syntax.{KorePattern, bottom}
-use Rattle.kp_semantics.specs.Rules.{rewrite, foreign_rule, RewriteRule}
-use Rattle.kp_semantics.specs.Theory.{Theory}
+use Rattle.kp_kore.specs.Rules.{rewrite, foreign_rule, RewriteRule}
+use Rattle.kp_kore.specs.Theory.{Theory}
 use Rattle.kp_toys.specs.Toys.{integer, sort_int, sort_s, call, n}
 use Rattle.kp_toys.specs.ToysTheory.{toys_signature, count_of, vh_of, y, done}
 

@@ -1,7 +1,7 @@
 -- Claims over the example.
 use Rattle.std.specs.Prelude.{[], ◌∷◌, codes}
 use Rattle.kp_kore.specs.Syntax.{KorePattern, variable}
-use Rattle.kp_semantics.specs.Claims.{ReachabilityClaim}
+use Rattle.kp_kore.specs.Claims.{ReachabilityClaim}
 use Rattle.kp_toys.specs.Toys.{sort_int, call}
 use Rattle.kp_toys.specs.ToysTheory.{vh_of, y}
 

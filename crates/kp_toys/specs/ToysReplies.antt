@@ -1,9 +1,9 @@
 -- Replies to requests over the example.
 use Rattle.std.specs.Prelude.{ℕ, Some, None, [], ◌∷◌, codes}
 use Rattle.kp_kore.specs.Syntax.{Text, KorePattern, variable, top, bottom, negation, conjunction, equals, exists}
-use Rattle.kp_semantics.specs.Cases.{NextState}
-use Rattle.kp_semantics.specs.Executions.{Options, Executed, Reason, cut_point, terminal, stuck, aborted, vacuous}
-use Rattle.kp_semantics.specs.Causes.{foreign}
+use Rattle.kp_kore.specs.Cases.{NextState}
+use Rattle.kp_kore.specs.Executions.{Options, Executed, Reason, cut_point, terminal, stuck, aborted, vacuous}
+use Rattle.kp_kore.specs.Causes.{foreign}
 use Rattle.kp_toys.specs.Toys.{integer, sort_int, sort_s, sort_bool, sort_p, call, patterns, plain_sort, always}
 use Rattle.kp_toys.specs.ToysTheory.{count_of, done, vh_of, y}
 use Rattle.kp_toys.specs.ToysClaims.{x, fresh}

@@ -2,8 +2,8 @@
 use Rattle.std.specs.Prelude.{List, [], ◌∷◌, ◌++◌, codes}
 use Rattle.kp_kore.specs.Syntax.{Text, KorePattern, variable, equals}
 use Rattle.kp_kore.specs.Signature.{KoreSignature, signature_of}
-use Rattle.kp_semantics.specs.Rules.{rewrite, foreign_rule, RewriteRule, usual_priority}
-use Rattle.kp_semantics.specs.Theory.{Theory}
+use Rattle.kp_kore.specs.Rules.{rewrite, foreign_rule, RewriteRule, usual_priority}
+use Rattle.kp_kore.specs.Theory.{Theory}
 use Rattle.kp_toys.specs.Toys.{sort_int, sort_bool, sort_s, call, integer, always, n, injected, basic, toys_sentences}
 use Rattle.std.specs.Prelude.{Some}
 

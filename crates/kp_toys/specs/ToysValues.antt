@@ -1,7 +1,7 @@
 -- Configurations of the example.
 use Rattle.std.specs.Prelude.{ℤ, List, [], ◌∷◌, codes}
 use Rattle.kp_kore.specs.Syntax.{Text}
-use Rattle.kp_semantics.specs.Value.{Value, whole, constructed, Values, no_values, next_value}
+use Rattle.kp_kore.specs.Value.{Value, whole, constructed, Values, no_values, next_value}
 
 abbrev pub values : List Value → Values
 values [] = no_values

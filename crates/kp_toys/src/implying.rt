@@ -1,8 +1,8 @@
 // Results of implies and simplify that are right over the example, and such that aren't.
 ghost use Rattle.std.specs.Prelude.{codes};
 ghost use Rattle.kp_kore.specs.Syntax.{top, bottom};
-ghost use Rattle.kp_semantics.specs.Implied.{IsRightImplied, not_valid, valid, IsRightSimplified, state, nothing};
-ghost use Rattle.kp_semantics.specs.Sides.{IsSidesFault, unused_binder, other_terms, unclear_name};
+ghost use Rattle.kp_kore.specs.Implied.{IsRightImplied, not_valid, valid, IsRightSimplified, state, nothing};
+ghost use Rattle.kp_kore.specs.Sides.{IsSidesFault, unused_binder, other_terms, unclear_name};
 ghost use Rattle.kp_toys.specs.Toys.{sort_s};
 ghost use Rattle.kp_toys.specs.ToysTheory.{toys_signature, done, count_of, y};
 ghost use Rattle.kp_toys.specs.SmallTheories.{goal_of_lone};

@@ -1,9 +1,9 @@
 // What the example definition means, and which values have which sorts.
 ghost use Rattle.std.specs.Prelude.{◌≡◌, ◌↔◌, ℤ, pos, true, codes, IsTrue, List, []};
 ghost use Rattle.kp_kore.specs.Syntax.{Text, KorePattern, KoreSort, exists, forall};
-ghost use Rattle.kp_semantics.specs.Value.{Value, whole, Values, constructed, HasSort};
-ghost use Rattle.kp_semantics.specs.Instance.{Valuation, IsTrueUnder};
-ghost use Rattle.kp_semantics.specs.Theory.{IsTheoryOf};
+ghost use Rattle.kp_kore.specs.Value.{Value, whole, Values, constructed, HasSort};
+ghost use Rattle.kp_kore.specs.Instance.{Valuation, IsTrueUnder};
+ghost use Rattle.kp_kore.specs.Theory.{IsTheoryOf};
 ghost use Rattle.kp_toys.specs.Toys.{toys_definition, sort_int, sort_s, sort_e, plain_sort};
 ghost use Rattle.kp_toys.specs.ToysTheory.{toys, toys_signature};
 

@@ -1,7 +1,7 @@
 // Replies that are right over the example, and such that aren't.
 ghost use Rattle.std.specs.Prelude.{[], ◌∷◌, List};
-ghost use Rattle.kp_semantics.specs.Executions.{IsRightExecuted, vacuous, stuck, depth_bound, branching};
-ghost use Rattle.kp_semantics.specs.Cases.{AreNextStates};
+ghost use Rattle.kp_kore.specs.Executions.{IsRightExecuted, vacuous, stuck, depth_bound, branching};
+ghost use Rattle.kp_kore.specs.Cases.{AreNextStates};
 ghost use Rattle.kp_toys.specs.ToysTheory.{toys, done, vg, vh_of, y};
 ghost use Rattle.kp_toys.specs.ToysClaims.{x, vf_of, fresh};
 ghost use Rattle.kp_toys.specs.SmallTheories.{keeping, lone, at_once_by_two};

@@ -1,7 +1,7 @@
 // Claims over the example, and one reply that is right.
 ghost use Rattle.std.specs.Prelude.{[], codes, List};
-ghost use Rattle.kp_semantics.specs.Claims.{Holds};
-ghost use Rattle.kp_semantics.specs.Replies.{After, IsRightExecuted, stuck, depth_bound};
+ghost use Rattle.kp_kore.specs.Claims.{Holds};
+ghost use Rattle.kp_kore.specs.Replies.{After, IsRightExecuted, stuck, depth_bound};
 ghost use Rattle.kp_toys.specs.Toys.{integer};
 ghost use Rattle.kp_toys.specs.ToysTheory.{toys, count_of, done, vh_of};
 ghost use Rattle.kp_toys.specs.ToysClaims.{back_to_start, back_somewhere, x, vf_of, fresh};

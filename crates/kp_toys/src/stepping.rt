@@ -1,7 +1,7 @@
 // Steps of the example.
 ghost use Rattle.std.specs.Prelude.{◌≡◌, ◌↔◌, ℤ, pos, [], List};
-ghost use Rattle.kp_semantics.specs.Value.{Value, whole};
-ghost use Rattle.kp_semantics.specs.Steps.{Steps, StepsIn, IsFinal, IsUnknown, HasTurn, Fires, NoneFires};
+ghost use Rattle.kp_kore.specs.Value.{Value, whole};
+ghost use Rattle.kp_kore.specs.Steps.{Steps, StepsIn, IsFinal, IsUnknown, HasTurn, Fires, NoneFires};
 ghost use Rattle.kp_toys.specs.ToysTheory.{toys, toys_signature, num_rule, done};
 ghost use Rattle.kp_toys.specs.ToysValues.{count, done_value, odd, vg_value, vh_value, lone_value, goal_value, num_value, nil_value};
 ghost use Rattle.kp_toys.specs.SmallTheories.{two_priorities, blocked, choosing, shadowed, from_call, from_lone, goal_of_lone};

@@ -1,7 +1,6 @@
 use kp_claim_files::module_text;
 use kp_claim_sentences::{ClaimItem, comma_parts};
-use kp_kore::{Pattern, Sort};
-use kp_semantics::Claim;
+use kp_kore::{Claim, Pattern, Sort};
 use kp_text::read_pattern;
 use std::alloc::Global;
 use std::test::Fail;

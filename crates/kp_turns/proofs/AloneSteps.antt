@@ -3,15 +3,15 @@ use Rattle.std.proofs.Common.{◌≡◌, refl, sym, subst, [], ◌∷◌, Some}
 use Rattle.std.specs.Prelude.{MatchOption}
 use Rattle.std.specs.List.{AllByRecursion, Contains}
 use Rattle.kp_kore.specs.Signature.{KoreSignature}
-use Rattle.kp_semantics.specs.Value.{Value}
-use Rattle.kp_semantics.specs.Instance.{Valuation, GivesSorts}
-use Rattle.kp_semantics.specs.Rules.{RewriteRule}
-use Rattle.kp_semantics.specs.Theory.{Theory}
-use Rattle.kp_semantics.specs.Steps.{AnyByRecursion, StepsBy, Steps}
-use Rattle.kp_semantics.specs.Cases.{GoesTo}
-use Rattle.kp_semantics.specs.Scopes.{Extends}
-use Rattle.kp_semantics.proofs.ListLemmas.{any_map, any_all}
-use Rattle.kp_semantics.proofs.TurnLemmas.{each_member}
+use Rattle.kp_kore.specs.Value.{Value}
+use Rattle.kp_kore.specs.Instance.{Valuation, GivesSorts}
+use Rattle.kp_kore.specs.Rules.{RewriteRule}
+use Rattle.kp_kore.specs.Theory.{Theory}
+use Rattle.kp_kore.specs.Steps.{AnyByRecursion, StepsBy, Steps}
+use Rattle.kp_kore.specs.Cases.{GoesTo}
+use Rattle.kp_kore.specs.Scopes.{Extends}
+use Rattle.kp_kore.proofs.ListLemmas.{any_map, any_all}
+use Rattle.kp_kore.proofs.TurnLemmas.{each_member}
 use Rattle.kp_symbolic.specs.States.{SymbolicState, IsStateInstance}
 use Rattle.kp_turns.specs.NextStates.{FollowsBy, StepCase, placed, AreStepCases, IsWithinHand}
 use Rattle.kp_turns.proofs.AtHandLemmas.{agree_of_hand, hand_in_hand, agree_then}

@@ -5,13 +5,13 @@ use Rattle.std.specs.List.{AllByRecursion, Contains}
 use Rattle.kp_kore.specs.Syntax.{Text, KorePattern}
 use Rattle.kp_kore.specs.Parts.{SortedName, free_variables}
 use Rattle.kp_kore.specs.Signature.{KoreSignature}
-use Rattle.kp_semantics.specs.Value.{HasSort}
-use Rattle.kp_semantics.specs.Instance.{Valuation, GivesSorts, AgreesOff, AgreesOn, is_named}
-use Rattle.kp_semantics.specs.Replies.{variables_beyond}
-use Rattle.kp_semantics.specs.Cases.{HaveOneSort}
-use Rattle.kp_semantics.proofs.ListLemmas.{all_map, all_filter}
-use Rattle.kp_semantics.proofs.NameLemmas.{by_name, members_named, taken_named, true_is_false}
-use Rattle.kp_semantics.proofs.TurnLemmas.{of_member, each_member}
+use Rattle.kp_kore.specs.Value.{HasSort}
+use Rattle.kp_kore.specs.Instance.{Valuation, GivesSorts, AgreesOff, AgreesOn, is_named}
+use Rattle.kp_kore.specs.Replies.{variables_beyond}
+use Rattle.kp_kore.specs.Cases.{HaveOneSort}
+use Rattle.kp_kore.proofs.ListLemmas.{all_map, all_filter}
+use Rattle.kp_kore.proofs.NameLemmas.{by_name, members_named, taken_named, true_is_false}
+use Rattle.kp_kore.proofs.TurnLemmas.{of_member, each_member}
 use Rattle.kp_symbolic.proofs.Distribution.{all_both, all_first, all_second}
 use Rattle.kp_symbolic.specs.WellFormed.{AreAtHand}
 use Rattle.kp_turns.specs.NextStates.{HasNoLost}

@@ -8,16 +8,16 @@ use Rattle.std.proofs.lemmas.Slice.Eq.{bytes_eq-Decides}
 use Rattle.kp_kore.specs.Syntax.{Text, KorePattern}
 use Rattle.kp_kore.specs.Parts.{SortedName, free_variables}
 use Rattle.kp_kore.specs.Signature.{KoreSignature}
-use Rattle.kp_semantics.specs.Value.{Value, HasSort}
-use Rattle.kp_semantics.specs.Instance.{Valuation, GivesSorts, AgreesOn, is_named}
-use Rattle.kp_semantics.specs.Rules.{RewriteRule}
-use Rattle.kp_semantics.specs.Theory.{Theory}
-use Rattle.kp_semantics.specs.Steps.{AnyByRecursion, HasTurn, NoneFires}
-use Rattle.kp_semantics.specs.AtHand.{OfSome, HasSome}
-use Rattle.kp_semantics.specs.Cases.{IsCase, NextState, HaveOneSort}
-use Rattle.kp_semantics.specs.Executions.{Options, is_among, IsStuck, IsBranching, IsCutPoint}
-use Rattle.kp_semantics.proofs.ListLemmas.{all_map}
-use Rattle.kp_semantics.proofs.TurnLemmas.{of_member, none_fires}
+use Rattle.kp_kore.specs.Value.{Value, HasSort}
+use Rattle.kp_kore.specs.Instance.{Valuation, GivesSorts, AgreesOn, is_named}
+use Rattle.kp_kore.specs.Rules.{RewriteRule}
+use Rattle.kp_kore.specs.Theory.{Theory}
+use Rattle.kp_kore.specs.Steps.{AnyByRecursion, HasTurn, NoneFires}
+use Rattle.kp_kore.specs.AtHand.{OfSome, HasSome}
+use Rattle.kp_kore.specs.Cases.{IsCase, NextState, HaveOneSort}
+use Rattle.kp_kore.specs.Executions.{Options, is_among, IsStuck, IsBranching, IsCutPoint}
+use Rattle.kp_kore.proofs.ListLemmas.{all_map}
+use Rattle.kp_kore.proofs.TurnLemmas.{of_member, none_fires}
 use Rattle.kp_symbolic.specs.States.{SymbolicState, IsStateInstance}
 use Rattle.kp_symbolic.specs.WellFormed.{AreAtHand}
 use Rattle.kp_symbolic.proofs.Distribution.{all_both}

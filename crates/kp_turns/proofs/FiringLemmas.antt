@@ -5,15 +5,15 @@ use Rattle.std.specs.List.{AllByRecursion, list_all}
 use Rattle.std.proofs.lemmas.List.{append-nil}
 use Rattle.kp_kore.specs.Parts.{SortedName, free_variables}
 use Rattle.kp_kore.specs.Signature.{KoreSignature}
-use Rattle.kp_semantics.specs.Value.{Value}
-use Rattle.kp_semantics.specs.Instance.{Valuation, IsTrueUnder, GivesSorts, AgreesOn, is_named}
-use Rattle.kp_semantics.specs.Rules.{Rewrite, RuleBody, rewrite}
-use Rattle.kp_semantics.specs.Cases.{OfOneAlone}
-use Rattle.kp_semantics.specs.Division.{IsHeldBy}
-use Rattle.kp_semantics.specs.Steps.{Fires}
-use Rattle.kp_semantics.proofs.ListLemmas.{all_map}
-use Rattle.kp_semantics.proofs.NameLemmas.{by_name}
-use Rattle.kp_semantics.proofs.ClaimRuleLemmas.{all_true}
+use Rattle.kp_kore.specs.Value.{Value}
+use Rattle.kp_kore.specs.Instance.{Valuation, IsTrueUnder, GivesSorts, AgreesOn, is_named}
+use Rattle.kp_kore.specs.Rules.{Rewrite, RuleBody, rewrite}
+use Rattle.kp_kore.specs.Cases.{OfOneAlone}
+use Rattle.kp_kore.specs.Division.{IsHeldBy}
+use Rattle.kp_kore.specs.Steps.{Fires}
+use Rattle.kp_kore.proofs.ListLemmas.{all_map}
+use Rattle.kp_kore.proofs.NameLemmas.{by_name}
+use Rattle.kp_kore.proofs.ClaimRuleLemmas.{all_true}
 use Rattle.kp_symbolic.specs.Terms.{under_replaced}
 use Rattle.kp_symbolic.specs.States.{Literal, IsClauseTrue, AreTrue}
 use Rattle.kp_symbolic.proofs.Distribution.{all_both, all_first, all_second}

@@ -5,17 +5,17 @@ use Rattle.std.specs.List.{AllByRecursion, Contains}
 use Rattle.kp_kore.specs.Syntax.{KorePattern}
 use Rattle.kp_kore.specs.Parts.{free_variables}
 use Rattle.kp_kore.specs.Signature.{KoreSignature}
-use Rattle.kp_semantics.specs.Value.{Value}
-use Rattle.kp_semantics.specs.Instance.{Valuation, GivesSorts, IsInstance}
-use Rattle.kp_semantics.specs.Rules.{RewriteRule}
-use Rattle.kp_semantics.specs.Theory.{Theory}
-use Rattle.kp_semantics.specs.Steps.{AnyByRecursion, Fires, HasTurn, StepsBy, Steps}
-use Rattle.kp_semantics.specs.Cases.{GoesTo, HasTurnAlone}
-use Rattle.kp_semantics.specs.Scopes.{Extends, LeadsIn}
-use Rattle.kp_semantics.proofs.ListLemmas.{any_map, any_all}
-use Rattle.kp_semantics.proofs.TurnLemmas.{has_turn, each_member}
-use Rattle.kp_semantics.proofs.ConjunctionLemmas.{same_pattern_instance}
-use Rattle.kp_semantics.proofs.TruthLemmas.{agrees_back}
+use Rattle.kp_kore.specs.Value.{Value}
+use Rattle.kp_kore.specs.Instance.{Valuation, GivesSorts, IsInstance}
+use Rattle.kp_kore.specs.Rules.{RewriteRule}
+use Rattle.kp_kore.specs.Theory.{Theory}
+use Rattle.kp_kore.specs.Steps.{AnyByRecursion, Fires, HasTurn, StepsBy, Steps}
+use Rattle.kp_kore.specs.Cases.{GoesTo, HasTurnAlone}
+use Rattle.kp_kore.specs.Scopes.{Extends, LeadsIn}
+use Rattle.kp_kore.proofs.ListLemmas.{any_map, any_all}
+use Rattle.kp_kore.proofs.TurnLemmas.{has_turn, each_member}
+use Rattle.kp_kore.proofs.ConjunctionLemmas.{same_pattern_instance}
+use Rattle.kp_kore.proofs.TruthLemmas.{agrees_back}
 use Rattle.kp_symbolic.specs.States.{SymbolicState, IsStateInstance}
 use Rattle.kp_cases.specs.Parts.{whole, OfEachInstance}
 use Rattle.kp_turns.specs.NextStates.{FollowsBy, StepCase, placed, AreStepCases, IsPatternOf, IsWithinHand}

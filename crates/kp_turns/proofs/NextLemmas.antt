@@ -5,17 +5,17 @@ use Rattle.std.specs.List.{AllByRecursion, AllZip, Contains}
 use Rattle.kp_kore.specs.Syntax.{KorePattern}
 use Rattle.kp_kore.specs.Parts.{SortedName, free_variables}
 use Rattle.kp_kore.specs.Signature.{KoreSignature}
-use Rattle.kp_semantics.specs.Value.{Value}
-use Rattle.kp_semantics.specs.Instance.{Valuation, GivesSorts, AgreesOn, IsInstance, is_predicate}
-use Rattle.kp_semantics.specs.Rules.{RewriteRule}
-use Rattle.kp_semantics.specs.Theory.{Theory}
-use Rattle.kp_semantics.specs.Steps.{AnyByRecursion, HasTurn, StepsBy, Rewrites}
-use Rattle.kp_semantics.specs.AtHand.{GivesAll, OfEach, OfSome, IsOver, IsTrueOver, HasNewNames}
-use Rattle.kp_semantics.specs.Cases.{IsCase, GoesTo, NextState, OfOneAlone, HaveOneSort, AreNextStates}
-use Rattle.kp_semantics.specs.Scopes.{Extends}
-use Rattle.kp_semantics.specs.Replies.{variables_beyond}
-use Rattle.kp_semantics.proofs.TruthLemmas.{same_truth, agrees_back}
-use Rattle.kp_semantics.proofs.ConjunctionLemmas.{same_pattern_instance}
+use Rattle.kp_kore.specs.Value.{Value}
+use Rattle.kp_kore.specs.Instance.{Valuation, GivesSorts, AgreesOn, IsInstance, is_predicate}
+use Rattle.kp_kore.specs.Rules.{RewriteRule}
+use Rattle.kp_kore.specs.Theory.{Theory}
+use Rattle.kp_kore.specs.Steps.{AnyByRecursion, HasTurn, StepsBy, Rewrites}
+use Rattle.kp_kore.specs.AtHand.{GivesAll, OfEach, OfSome, IsOver, IsTrueOver, HasNewNames}
+use Rattle.kp_kore.specs.Cases.{IsCase, GoesTo, NextState, OfOneAlone, HaveOneSort, AreNextStates}
+use Rattle.kp_kore.specs.Scopes.{Extends}
+use Rattle.kp_kore.specs.Replies.{variables_beyond}
+use Rattle.kp_kore.proofs.TruthLemmas.{same_truth, agrees_back}
+use Rattle.kp_kore.proofs.ConjunctionLemmas.{same_pattern_instance}
 use Rattle.kp_symbolic.specs.States.{SymbolicState, IsStateInstance}
 use Rattle.kp_symbolic.specs.WellFormed.{AreAtHand}
 use Rattle.kp_symbolic.proofs.Distribution.{all_both, all_first}
@@ -40,7 +40,7 @@ valued g request p s v h given =
       mixed both h.values.0 v,
       record {
         sorts = mixed_sorts g both s.variables h.values.0 v (all_both (Contains s.variables) (free_variables p) (free_variables request) h.pattern.at_hand h.request_at_hand) h.one_sort h.values.1
-            (all_both (λ x. Rattle.kp_semantics.specs.Value.HasSort g x.sort (v x.name)) (free_variables p) (free_variables request) given.0 given.1.0);
+            (all_both (λ x. Rattle.kp_kore.specs.Value.HasSort g x.sort (v x.name)) (free_variables p) (free_variables request) given.0 given.1.0);
         agrees = all_first (λ x. mixed both h.values.0 v x.name ≡ v x.name) (free_variables p) (free_variables request) (mixed_agrees both h.values.0 v);
       },
     )

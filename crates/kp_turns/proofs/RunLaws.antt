@@ -5,21 +5,21 @@ use Rattle.std.specs.List.{AllByRecursion, Contains, list_any, filter}
 use Rattle.std.specs.Str.{bytes_eq}
 use Rattle.kp_kore.specs.Syntax.{Text, KorePattern}
 use Rattle.kp_kore.specs.Parts.{SortedName, free_variables}
-use Rattle.kp_semantics.specs.Value.{Value}
-use Rattle.kp_semantics.specs.Instance.{Valuation, GivesSorts, is_named}
-use Rattle.kp_semantics.specs.Rules.{RewriteRule}
-use Rattle.kp_semantics.specs.Theory.{Theory}
-use Rattle.kp_semantics.specs.Steps.{Fires, HasTurn, Steps, StepsIn, IsFinal, IsUnknown}
-use Rattle.kp_semantics.specs.Replies.{is_listed, NoneListed, IsFreshName, IsAbsent}
-use Rattle.kp_semantics.specs.AtHand.{OfEach, OfSome}
-use Rattle.kp_semantics.specs.Onward.{Leads, Passes}
-use Rattle.kp_semantics.specs.Cases.{HasTurnAlone}
-use Rattle.kp_semantics.specs.Scopes.{Extends, LeadsIn, AreExtended}
-use Rattle.kp_semantics.proofs.ConjunctionLemmas.{same_pattern_instance}
-use Rattle.kp_semantics.proofs.ListLemmas.{all_append, all_map}
-use Rattle.kp_semantics.proofs.RunLemmas.{steps_join, steps_split, leads_of}
-use Rattle.kp_semantics.proofs.TurnLemmas.{of_member, each_member}
-use Rattle.kp_semantics.proofs.TruthLemmas.{agrees_back}
+use Rattle.kp_kore.specs.Value.{Value}
+use Rattle.kp_kore.specs.Instance.{Valuation, GivesSorts, is_named}
+use Rattle.kp_kore.specs.Rules.{RewriteRule}
+use Rattle.kp_kore.specs.Theory.{Theory}
+use Rattle.kp_kore.specs.Steps.{Fires, HasTurn, Steps, StepsIn, IsFinal, IsUnknown}
+use Rattle.kp_kore.specs.Replies.{is_listed, NoneListed, IsFreshName, IsAbsent}
+use Rattle.kp_kore.specs.AtHand.{OfEach, OfSome}
+use Rattle.kp_kore.specs.Onward.{Leads, Passes}
+use Rattle.kp_kore.specs.Cases.{HasTurnAlone}
+use Rattle.kp_kore.specs.Scopes.{Extends, LeadsIn, AreExtended}
+use Rattle.kp_kore.proofs.ConjunctionLemmas.{same_pattern_instance}
+use Rattle.kp_kore.proofs.ListLemmas.{all_append, all_map}
+use Rattle.kp_kore.proofs.RunLemmas.{steps_join, steps_split, leads_of}
+use Rattle.kp_kore.proofs.TurnLemmas.{of_member, each_member}
+use Rattle.kp_kore.proofs.TruthLemmas.{agrees_back}
 use Rattle.kp_symbolic.specs.States.{SymbolicState, IsStateInstance}
 use Rattle.kp_symbolic.specs.WellFormed.{AreAtHand}
 use Rattle.kp_cases.specs.Parts.{whole, OfEachInstance, IsGrown, IsNewVariable}

@@ -5,15 +5,15 @@ use Rattle.std.specs.List.{AllByRecursion, AllZip, Contains, flat_map}
 use Rattle.std.specs.Option.{option_map}
 use Rattle.kp_kore.specs.Syntax.{Text}
 use Rattle.kp_kore.specs.Signature.{KoreSignature}
-use Rattle.kp_semantics.specs.Value.{Value}
-use Rattle.kp_semantics.specs.Instance.{Valuation, GivesSorts}
-use Rattle.kp_semantics.specs.Rules.{RuleBody, rewrite, foreign_rule, RewriteRule}
-use Rattle.kp_semantics.specs.Theory.{Theory}
-use Rattle.kp_semantics.specs.Steps.{AnyByRecursion, Fires, HasTurn, StepsBy, NoneFires, Rewrites}
-use Rattle.kp_semantics.specs.Cases.{IsCase, GoesTo, OfOneAlone}
-use Rattle.kp_semantics.specs.Division.{IsHeldBy}
-use Rattle.kp_semantics.proofs.ListLemmas.{all_map, any_all}
-use Rattle.kp_semantics.proofs.TurnLemmas.{each_member}
+use Rattle.kp_kore.specs.Value.{Value}
+use Rattle.kp_kore.specs.Instance.{Valuation, GivesSorts}
+use Rattle.kp_kore.specs.Rules.{RuleBody, rewrite, foreign_rule, RewriteRule}
+use Rattle.kp_kore.specs.Theory.{Theory}
+use Rattle.kp_kore.specs.Steps.{AnyByRecursion, Fires, HasTurn, StepsBy, NoneFires, Rewrites}
+use Rattle.kp_kore.specs.Cases.{IsCase, GoesTo, OfOneAlone}
+use Rattle.kp_kore.specs.Division.{IsHeldBy}
+use Rattle.kp_kore.proofs.ListLemmas.{all_map, any_all}
+use Rattle.kp_kore.proofs.TurnLemmas.{each_member}
 use Rattle.kp_symbolic.specs.States.{SymbolicState, IsStateInstance}
 use Rattle.kp_symbolic.proofs.Distribution.{all_both}
 use Rattle.kp_cases.specs.Parts.{StatePart, state_reading, IsPartBelow, whole, OfEachInstance}

@@ -2,12 +2,12 @@
 use Rattle.std.proofs.Common.{◌<◌, List, [], ◌∷◌, ◌++◌, Option, Some, None}
 use Rattle.std.specs.List.{AllByRecursion, Contains}
 use Rattle.kp_kore.specs.Signature.{KoreSignature}
-use Rattle.kp_semantics.specs.Value.{Value}
-use Rattle.kp_semantics.specs.Rules.{RewriteRule}
-use Rattle.kp_semantics.specs.Theory.{Theory}
-use Rattle.kp_semantics.specs.Steps.{Fires, HasTurn, NoneFires}
-use Rattle.kp_semantics.proofs.ListLemmas.{all_map}
-use Rattle.kp_semantics.proofs.TurnLemmas.{of_member, has_turn, none_fires}
+use Rattle.kp_kore.specs.Value.{Value}
+use Rattle.kp_kore.specs.Rules.{RewriteRule}
+use Rattle.kp_kore.specs.Theory.{Theory}
+use Rattle.kp_kore.specs.Steps.{Fires, HasTurn, NoneFires}
+use Rattle.kp_kore.proofs.ListLemmas.{all_map}
+use Rattle.kp_kore.proofs.TurnLemmas.{of_member, has_turn, none_fires}
 use Rattle.kp_symbolic.proofs.Distribution.{all_both, all_first, all_second}
 use Rattle.kp_cases.specs.Parts.{StatePart, OfEachInstance, IsTold}
 use Rattle.kp_turns.specs.Firing.{AreWhere, AreDividedSoFar}

@@ -5,13 +5,13 @@ use Rattle.std.specs.List.{AllByRecursion, AllZip, Contains}
 use Rattle.std.specs.Option.{option_map}
 use Rattle.kp_kore.specs.Syntax.{Text, KorePattern}
 use Rattle.kp_kore.specs.Parts.{free_variables}
-use Rattle.kp_semantics.specs.Value.{Value}
-use Rattle.kp_semantics.specs.Instance.{Valuation, GivesSorts}
-use Rattle.kp_semantics.specs.Rules.{RewriteRule}
-use Rattle.kp_semantics.specs.Theory.{Theory}
-use Rattle.kp_semantics.specs.AtHand.{HasSome}
-use Rattle.kp_semantics.specs.Cases.{NextState, HaveOneSort}
-use Rattle.kp_semantics.specs.Executions.{Options, is_among, IsStuck, IsBranching, IsCutPoint}
+use Rattle.kp_kore.specs.Value.{Value}
+use Rattle.kp_kore.specs.Instance.{Valuation, GivesSorts}
+use Rattle.kp_kore.specs.Rules.{RewriteRule}
+use Rattle.kp_kore.specs.Theory.{Theory}
+use Rattle.kp_kore.specs.AtHand.{HasSome}
+use Rattle.kp_kore.specs.Cases.{NextState, HaveOneSort}
+use Rattle.kp_kore.specs.Executions.{Options, is_among, IsStuck, IsBranching, IsCutPoint}
 use Rattle.kp_symbolic.specs.States.{SymbolicState, IsStateInstance}
 use Rattle.kp_symbolic.specs.WellFormed.{AreAtHand}
 use Rattle.kp_cases.specs.Parts.{whole, IsGrown}

@@ -3,10 +3,10 @@
 use Rattle.std.specs.Prelude.{◌↔◌, List, ◌∷◌, ◌++◌, Option, Some, None, ⊤, MatchOption}
 use Rattle.std.specs.List.{AllByRecursion}
 use Rattle.kp_kore.specs.Signature.{KoreSignature}
-use Rattle.kp_semantics.specs.Value.{Value}
-use Rattle.kp_semantics.specs.Instance.{IsTrueUnder}
-use Rattle.kp_semantics.specs.Rules.{Rewrite, RuleBody}
-use Rattle.kp_semantics.specs.Steps.{Fires}
+use Rattle.kp_kore.specs.Value.{Value}
+use Rattle.kp_kore.specs.Instance.{IsTrueUnder}
+use Rattle.kp_kore.specs.Rules.{Rewrite, RuleBody}
+use Rattle.kp_kore.specs.Steps.{Fires}
 use Rattle.kp_symbolic.specs.Terms.{under_replaced}
 use Rattle.kp_symbolic.specs.States.{Literal, AreTrue}
 use Rattle.kp_cases.specs.Parts.{StatePart, OfEachInstance, IsDividedWhere, IsDivided, HoldsWhere}

@@ -4,11 +4,11 @@ use Rattle.std.specs.Prelude.{◌≡◌, ◌<◌, ◌++◌, List, [], ◌∷◌,
 use Rattle.std.specs.List.{AllByRecursion, AllZip, Contains}
 use Rattle.kp_kore.specs.Syntax.{KorePattern}
 use Rattle.kp_kore.specs.Signature.{KoreSignature}
-use Rattle.kp_semantics.specs.Rules.{Rewrite, RuleBody, rewrite, RewriteRule}
-use Rattle.kp_semantics.specs.Theory.{Theory}
-use Rattle.kp_semantics.specs.Steps.{Fires, HasTurn, NoneFires}
-use Rattle.kp_semantics.specs.Cases.{NextState, HasTurnAlone, AreNextStates}
-use Rattle.kp_semantics.specs.Scopes.{LeadsIn}
+use Rattle.kp_kore.specs.Rules.{Rewrite, RuleBody, rewrite, RewriteRule}
+use Rattle.kp_kore.specs.Theory.{Theory}
+use Rattle.kp_kore.specs.Steps.{Fires, HasTurn, NoneFires}
+use Rattle.kp_kore.specs.Cases.{NextState, HasTurnAlone, AreNextStates}
+use Rattle.kp_kore.specs.Scopes.{LeadsIn}
 use Rattle.kp_symbolic.specs.States.{Literal, AreTrue, SymbolicState}
 use Rattle.kp_rules.specs.Skeletons.{Form}
 use Rattle.kp_cases.specs.Parts.{StatePart, IsRestricted, OfEachInstance, whole}

@@ -6,15 +6,15 @@ use Rattle.std.specs.Option.{option_map}
 use Rattle.kp_kore.specs.Syntax.{KorePattern}
 use Rattle.kp_kore.specs.Parts.{SortedName, free_variables}
 use Rattle.kp_kore.specs.Signature.{KoreSignature}
-use Rattle.kp_semantics.specs.Value.{Value}
-use Rattle.kp_semantics.specs.Instance.{Valuation, GivesSorts, IsInstance, IsTrueUnder, is_named, is_predicate}
-use Rattle.kp_semantics.specs.Rules.{RewriteRule, RuleBody}
-use Rattle.kp_semantics.specs.Theory.{Theory}
-use Rattle.kp_semantics.specs.Steps.{Rewrites, IsUnknown}
-use Rattle.kp_semantics.specs.Replies.{variables_beyond}
-use Rattle.kp_semantics.specs.AtHand.{HasNewNames}
-use Rattle.kp_semantics.specs.Cases.{NextState, HaveOneSort}
-use Rattle.kp_semantics.specs.Scopes.{Extends}
+use Rattle.kp_kore.specs.Value.{Value}
+use Rattle.kp_kore.specs.Instance.{Valuation, GivesSorts, IsInstance, IsTrueUnder, is_named, is_predicate}
+use Rattle.kp_kore.specs.Rules.{RewriteRule, RuleBody}
+use Rattle.kp_kore.specs.Theory.{Theory}
+use Rattle.kp_kore.specs.Steps.{Rewrites, IsUnknown}
+use Rattle.kp_kore.specs.Replies.{variables_beyond}
+use Rattle.kp_kore.specs.AtHand.{HasNewNames}
+use Rattle.kp_kore.specs.Cases.{NextState, HaveOneSort}
+use Rattle.kp_kore.specs.Scopes.{Extends}
 use Rattle.kp_symbolic.specs.States.{AreTrue, SymbolicState, IsStateInstance}
 use Rattle.kp_symbolic.specs.WellFormed.{AreAtHand}
 use Rattle.kp_cases.specs.Parts.{StatePart, whole, OfEachInstance}

@@ -5,14 +5,14 @@ use Rattle.std.specs.List.{Contains, list_any}
 use Rattle.std.specs.Str.{bytes_eq}
 use Rattle.kp_kore.specs.Syntax.{Text, KorePattern}
 use Rattle.kp_kore.specs.Parts.{free_variables}
-use Rattle.kp_semantics.specs.Rules.{RewriteRule}
-use Rattle.kp_semantics.specs.Theory.{Theory}
-use Rattle.kp_semantics.specs.Steps.{Fires, StepsIn}
-use Rattle.kp_semantics.specs.Replies.{is_listed, IsAbsent}
-use Rattle.kp_semantics.specs.AtHand.{OfEach, OfSome}
-use Rattle.kp_semantics.specs.Onward.{Leads, Passes}
-use Rattle.kp_semantics.specs.Cases.{HaveOneSort, HasTurnAlone}
-use Rattle.kp_semantics.specs.Value.{Value}
+use Rattle.kp_kore.specs.Rules.{RewriteRule}
+use Rattle.kp_kore.specs.Theory.{Theory}
+use Rattle.kp_kore.specs.Steps.{Fires, StepsIn}
+use Rattle.kp_kore.specs.Replies.{is_listed, IsAbsent}
+use Rattle.kp_kore.specs.AtHand.{OfEach, OfSome}
+use Rattle.kp_kore.specs.Onward.{Leads, Passes}
+use Rattle.kp_kore.specs.Cases.{HaveOneSort, HasTurnAlone}
+use Rattle.kp_kore.specs.Value.{Value}
 use Rattle.kp_symbolic.specs.States.{SymbolicState}
 use Rattle.kp_symbolic.specs.WellFormed.{AreAtHand}
 use Rattle.kp_cases.specs.Parts.{whole, OfEachInstance, IsGrown}

@@ -2,13 +2,13 @@
 -- Source: All-Path Reachability Logic; the K Haskell backend's JSON-RPC documentation (execute).
 use Rattle.std.specs.Prelude.{◌≡◌, ◌<◌, ℕ, suc, List}
 use Rattle.kp_kore.specs.Syntax.{Text}
-use Rattle.kp_semantics.specs.Value.{Value}
-use Rattle.kp_semantics.specs.Instance.{Valuation, GivesSorts}
-use Rattle.kp_semantics.specs.Theory.{Theory}
-use Rattle.kp_semantics.specs.Steps.{StepsIn, IsFinal}
-use Rattle.kp_semantics.specs.Replies.{NoneListed}
-use Rattle.kp_semantics.specs.Cases.{HasTurnAlone}
-use Rattle.kp_semantics.specs.Scopes.{Extends}
+use Rattle.kp_kore.specs.Value.{Value}
+use Rattle.kp_kore.specs.Instance.{Valuation, GivesSorts}
+use Rattle.kp_kore.specs.Theory.{Theory}
+use Rattle.kp_kore.specs.Steps.{StepsIn, IsFinal}
+use Rattle.kp_kore.specs.Replies.{NoneListed}
+use Rattle.kp_kore.specs.Cases.{HasTurnAlone}
+use Rattle.kp_kore.specs.Scopes.{Extends}
 use Rattle.kp_symbolic.specs.States.{SymbolicState, IsStateInstance}
 use Rattle.kp_symbolic.specs.WellFormed.{AreAtHand}
 use Rattle.kp_cases.specs.Parts.{whole, OfEachInstance, IsGrown}

@@ -3,10 +3,10 @@
 use Rattle.std.specs.Prelude.{◌<◌, List, map, Option, Some, None, ⊤}
 use Rattle.std.specs.List.{AllByRecursion, Contains}
 use Rattle.kp_kore.specs.Signature.{KoreSignature}
-use Rattle.kp_semantics.specs.Value.{Value}
-use Rattle.kp_semantics.specs.Rules.{RewriteRule}
-use Rattle.kp_semantics.specs.Theory.{Theory}
-use Rattle.kp_semantics.specs.Steps.{Fires, HasTurn, NoneFires}
+use Rattle.kp_kore.specs.Value.{Value}
+use Rattle.kp_kore.specs.Rules.{RewriteRule}
+use Rattle.kp_kore.specs.Theory.{Theory}
+use Rattle.kp_kore.specs.Steps.{Fires, HasTurn, NoneFires}
 use Rattle.kp_cases.specs.Parts.{StatePart, OfEachInstance}
 use Rattle.kp_turns.specs.Firing.{AreWhere}
 

@@ -2,9 +2,9 @@
 ghost use Rattle.std.specs.Prelude.{List, [], ◌∷◌, Some, None};
 ghost use Rattle.kp_kore.specs.Syntax.{Text};
 ghost use Rattle.kp_kore.specs.Signature.{KoreSignature};
-ghost use Rattle.kp_semantics.specs.Rules.{RuleBody, RewriteRule};
-ghost use Rattle.kp_semantics.specs.Theory.{Theory};
-ghost use Rattle.kp_semantics.specs.Steps.{Fires};
+ghost use Rattle.kp_kore.specs.Rules.{RuleBody, RewriteRule};
+ghost use Rattle.kp_kore.specs.Theory.{Theory};
+ghost use Rattle.kp_kore.specs.Steps.{Fires};
 ghost use Rattle.kp_cases.specs.Parts.{StatePart, IsTold};
 ghost use Rattle.kp_turns.specs.Firing.{FiresNowhere, AreFiringCases, AreWhere};
 ghost use Rattle.kp_turns.specs.Turns.{IsLeftTo};

@@ -2,8 +2,8 @@
 use Rattle.std.proofs.Common.{◌≡◌, refl, sym, ap, ◌∙◌, ℕ, suc, ◌+◌, ◌-◌, ◌<◌, ◌≤◌, List, [], ◌∷◌, ◌++◌, map, length, drop, get_or, arith}
 use Rattle.std.proofs.lemmas.List.{append_assoc, map-append}
 use Rattle.kp_rules.specs.Skeletons.{Form}
-use Rattle.kp_terms.specs.View.{term_view}
-use Rattle.kp_terms.specs.declared.term.Term.{Term}
+use Rattle.kp_symbolic.specs.View.{term_view}
+use Rattle.kp_symbolic.specs.declared.term.Term.{Term}
 use Rattle.kp_unify.specs.Replaced.{pair_of, pairs_of}
 use Rattle.kp_unify.specs.Views.{pair_view}
 use Rattle.kp_unify.specs.declared.course.Pair.{Pair}

@@ -7,16 +7,16 @@ use Rattle.kp_kore.specs.Syntax.{Text, KoreSort, no_sorts, next_sort}
 use Rattle.kp_kore.specs.Hooks.{Hook, whole_arithmetic, whole_comparison, truth_connective, truth_negation, values_equal, values_different}
 use Rattle.kp_kore.specs.Parts.{SortedName}
 use Rattle.kp_kore.specs.Signature.{KoreSignature, SymbolMeaning, construction, interpretation, injection, foreign, meaning_of, integers, constructor_of}
-use Rattle.kp_semantics.specs.Value.{Value, whole, truth, token, constructed, HasSort, head_of}
-use Rattle.kp_semantics.specs.Instance.{Valuation, GivesSorts, applied}
-use Rattle.kp_semantics.specs.Foreign.{IsConstructedBy}
+use Rattle.kp_kore.specs.Value.{Value, whole, truth, token, constructed, HasSort, head_of}
+use Rattle.kp_kore.specs.Instance.{Valuation, GivesSorts, applied}
+use Rattle.kp_kore.specs.Foreign.{IsConstructedBy}
 use Rattle.kp_ground.specs.View.{values_of}
-use Rattle.kp_states.specs.Spelled.{places_of}
+use Rattle.kp_compile.specs.Spelled.{places_of}
 use Rattle.kp_symbolic.specs.Terms.{SymbolicTerm, offset, known, headed, term_instance, term_instances, term_variables, all_term_variables}
 use Rattle.kp_symbolic.specs.WellFormed.{IsWellSorted, stands_in_terms}
 use Rattle.kp_symbolic.specs.Opening.{head_of_call}
 use Rattle.kp_symbolic.proofs.Distribution.{all_first, all_second}
-use Rattle.kp_terms.specs.View.{terms_of}
+use Rattle.kp_symbolic.specs.View.{terms_of}
 use Rattle.kp_rules.specs.Skeletons.{Form, fixed, forms_of, Admits, AdmitAll}
 use Rattle.kp_cases.specs.Rows.{HasMembers, IsHeadOfSymbol}
 use Rattle.kp_cases.proofs.RowLemmas.{admits_members, head_admitted, value_head}

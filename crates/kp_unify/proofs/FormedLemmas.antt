@@ -7,8 +7,8 @@ use Rattle.std.specs.Str.{bytes_eq}
 use Rattle.kp_kore.specs.Syntax.{Text, KoreSort}
 use Rattle.kp_kore.specs.Parts.{SortedName}
 use Rattle.kp_kore.specs.Signature.{KoreSignature, construction, meaning_of, Head, integers, booleans, tokens, constructor_of, is_head, possible_heads, heads_of, IsHeadOf}
-use Rattle.kp_semantics.specs.Value.{constructed, Values, no_values, next_value}
-use Rattle.kp_semantics.specs.Instance.{is_named}
+use Rattle.kp_kore.specs.Value.{constructed, Values, no_values, next_value}
+use Rattle.kp_kore.specs.Instance.{is_named}
 use Rattle.kp_signature.proofs.HeadLemmas.{is_head-Decides}
 use Rattle.kp_symbolic.specs.Terms.{SymbolicTerm, unknown, known, SymbolicTerms, no_terms, next_term, Replaced, replacement_for}
 use Rattle.kp_symbolic.specs.States.{HeadTest, one_head, same, has_head, Literal, clause_variables}

@@ -9,9 +9,9 @@ use Rattle.kp_kore.specs.Syntax.{Text}
 use Rattle.kp_kore.specs.Hooks.{Hook, whole_arithmetic, whole_comparison, truth_connective, truth_negation, values_equal, values_different}
 use Rattle.kp_kore.specs.Parts.{SortedName, sort_list}
 use Rattle.kp_kore.specs.Signature.{KoreSignature, SymbolMeaning, construction, interpretation, injection, foreign, meaning_of, Head, constructor_of, IsHeadOf}
-use Rattle.kp_semantics.specs.Value.{constructed, Values}
+use Rattle.kp_kore.specs.Value.{constructed, Values}
 use Rattle.kp_heads.specs.Heads.{HasValue, IsLive}
-use Rattle.kp_states.specs.Spelled.{places_of}
+use Rattle.kp_compile.specs.Spelled.{places_of}
 use Rattle.kp_symbolic.specs.Terms.{SymbolicTerm, unknown, known, headed, SymbolicTerms}
 use Rattle.kp_symbolic.specs.WellFormed.{stands_in_terms}
 use Rattle.kp_symbolic.specs.Heads.{is_construction}
@@ -24,7 +24,7 @@ use Rattle.kp_cases.specs.Courses.{FormPair, Course, with_pairs, paired, all_kno
 use Rattle.kp_cases.specs.Rows.{HasMembers, IsHeadOfSymbol, IsOfHead}
 use Rattle.kp_cases.proofs.OnRows.{of_left, of_headed, of_known, terms_of_headed, terms_of_known}
 use Rattle.kp_cases.proofs.RowLemmas.{other_number_never, constructor_never, no_such_head}
-use Rattle.kp_terms.specs.View.{terms_of}
+use Rattle.kp_symbolic.specs.View.{terms_of}
 use Rattle.kp_unify.specs.Narrowed.{with_split}
 use Rattle.kp_unify.specs.Replaced.{pair_of, pairs_of}
 use Rattle.kp_unify.specs.Way.{Stage, IsOnWay, IsNarrowedToConstructor, IsAllApart, IsNextPair}

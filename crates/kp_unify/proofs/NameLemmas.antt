@@ -12,8 +12,8 @@ use Rattle.kp_kore.specs.View.{sort_view}
 use Rattle.kp_kore.specs.declared.sort.Sort.{Sort}
 use Rattle.kp_kore.specs.Parts.{SortedName}
 use Rattle.kp_symbolic.specs.Writing.{fresh_name}
-use Rattle.kp_terms.specs.View.{variable_view, variables_view}
-use Rattle.kp_terms.specs.declared.variable.Variable.{Variable}
+use Rattle.kp_symbolic.specs.View.{variable_view, variables_view}
+use Rattle.kp_symbolic.specs.declared.variable.Variable.{Variable}
 use Rattle.kp_unify.specs.Names.{IsNextName, AreNextVariables}
 
 -- each number from one on and below another makes a name in use

@@ -7,11 +7,11 @@ use Rattle.kp_kore.specs.Parts.{SortedName, sort_list}
 use Rattle.kp_kore.specs.Signature.{KoreSignature}
 use Rattle.kp_kore.specs.View.{sort_view, sorts_view}
 use Rattle.kp_kore.specs.declared.sort.Sort.{Sort}
-use Rattle.kp_semantics.specs.Value.{Value, HasSort}
-use Rattle.kp_states.specs.Spelled.{places_of}
+use Rattle.kp_kore.specs.Value.{Value, HasSort}
+use Rattle.kp_compile.specs.Spelled.{places_of}
 use Rattle.kp_symbolic.specs.Terms.{SymbolicTerm, unknown, offset, known, headed, SymbolicTerms, next_term}
-use Rattle.kp_terms.specs.View.{variable_view, variables_view, terms_of}
-use Rattle.kp_terms.specs.declared.variable.Variable.{Variable}
+use Rattle.kp_symbolic.specs.View.{variable_view, variables_view, terms_of}
+use Rattle.kp_symbolic.specs.declared.variable.Variable.{Variable}
 use Rattle.kp_symbolic.specs.States.{one_head, head_of_sort, Literal}
 use Rattle.kp_cases.specs.Parts.{with_clauses}
 use Rattle.kp_cases.specs.Narrowings.{are_never, head_clauses, has_other_head, heads_inside, heads_outside, constructor_term, all_unknown, part_with_term}

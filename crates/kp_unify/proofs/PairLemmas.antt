@@ -3,8 +3,8 @@ use Rattle.std.proofs.Common.{◌≡◌, refl, sym, ap, subst, ◌∙◌, ℕ, L
 use Rattle.std.specs.Option.{option_map}
 use Rattle.kp_kore.specs.Syntax.{Text, KoreSort}
 use Rattle.kp_kore.specs.Signature.{KoreSignature, tokens, IsHeadOf, itself, IsSortOfHead}
-use Rattle.kp_semantics.specs.Value.{Value, whole, truth, token, constructed, HasSort, head_of}
-use Rattle.kp_states.specs.Spelled.{own_sort, NumbersFit}
+use Rattle.kp_kore.specs.Value.{Value, whole, truth, token, constructed, HasSort, head_of}
+use Rattle.kp_compile.specs.Spelled.{own_sort, NumbersFit}
 use Rattle.kp_symbolic.specs.Terms.{SymbolicTerm, known, SymbolicTerms, term_instance, term_variables, replacement_for}
 use Rattle.kp_symbolic.proofs.Distribution.{all_both}
 use Rattle.kp_symbolic.proofs.HeadLemmas.{head_from_sort}

@@ -7,17 +7,17 @@ use Rattle.std.proofs.lemmas.Slice.Eq.{bytes_eq-Decides}
 use Rattle.kp_kore.specs.Syntax.{Text, KoreSort, KoreSorts, no_sorts, next_sort}
 use Rattle.kp_kore.specs.Parts.{SortedName, sort_list}
 use Rattle.kp_kore.specs.Signature.{KoreSignature, construction, meaning_of, integers, constructor_of, is_head, IsHeadOf}
-use Rattle.kp_semantics.specs.Value.{Value, whole, truth, token, constructed, Values, no_values, next_value, HasSort, HaveSorts, ArgumentSorts, head_of}
+use Rattle.kp_kore.specs.Value.{Value, whole, truth, token, constructed, Values, no_values, next_value, HasSort, HaveSorts, ArgumentSorts, head_of}
 use Rattle.kp_signature.proofs.HeadLemmas.{is_head-Decides}
 use Rattle.kp_heads.specs.Heads.{HasValue, IsLive}
-use Rattle.kp_states.specs.Spelled.{NumbersFit, places_of, own_sort}
+use Rattle.kp_compile.specs.Spelled.{NumbersFit, places_of, own_sort}
 use Rattle.kp_ground.specs.View.{value_view, values_of}
 use Rattle.kp_ground.specs.declared.value.Value as ground
 use Rattle.kp_symbolic.specs.Heads.{is_construction}
 use Rattle.kp_symbolic.specs.Terms.{SymbolicTerm, unknown, offset, known, headed, next_term, replacement_for}
 use Rattle.kp_symbolic.proofs.SideLemmas.{construction_is_meant}
 use Rattle.kp_symbolic_laws.specs.Runs.{HasOneSortEach}
-use Rattle.kp_terms.specs.View.{terms_of}
+use Rattle.kp_symbolic.specs.View.{terms_of}
 use Rattle.kp_rules.specs.Skeletons.{Form, one_of, fixed, forms_of}
 use Rattle.kp_cases.specs.Parts.{StatePart, IsTold}
 use Rattle.kp_cases.specs.Courses.{form_variables, all_known}

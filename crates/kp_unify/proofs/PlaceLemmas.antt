@@ -5,8 +5,8 @@ use Rattle.std.specs.List.{Contains}
 use Rattle.kp_kore.specs.Syntax.{Text, KoreSort}
 use Rattle.kp_kore.specs.Parts.{SortedName}
 use Rattle.kp_kore.specs.Signature.{KoreSignature, SymbolMeaning, construction, interpretation, injection, foreign, meaning_of, Head, integers, constructor_of, is_head, is_below}
-use Rattle.kp_semantics.specs.Value.{Value, HasSort, head_of}
-use Rattle.kp_subsorts.proofs.Below.{is_below-Decides}
+use Rattle.kp_kore.specs.Value.{Value, HasSort, head_of}
+use Rattle.kp_signature.proofs.Below.{is_below-Decides}
 use Rattle.kp_signature.proofs.HeadLemmas.{is_head-Decides}
 use Rattle.kp_heads.specs.Heads.{HasValue}
 use Rattle.kp_symbolic.specs.Terms.{SymbolicTerm, unknown, offset, known, headed}

@@ -5,7 +5,7 @@ use Rattle.std.proofs.lemmas.List.{drop_more, drop_all}
 use Rattle.kp_kore.specs.Syntax.{KoreSort}
 use Rattle.kp_kore.specs.Parts.{SortedName}
 use Rattle.kp_kore.specs.Signature.{KoreSignature, Head, is_below, is_head}
-use Rattle.kp_subsorts.proofs.Below.{is_below-Decides}
+use Rattle.kp_signature.proofs.Below.{is_below-Decides}
 use Rattle.kp_signature.proofs.HeadLemmas.{is_head-Decides}
 use Rattle.kp_symbolic.specs.Terms.{SymbolicTerm, unknown}
 use Rattle.kp_symbolic.specs.WellFormed.{IsWellSorted}

@@ -8,9 +8,9 @@ use Rattle.std.proofs.lemmas.Slice.Eq.{bytes_eq-Decides}
 use Rattle.kp_kore.specs.Syntax.{KoreSort}
 use Rattle.kp_kore.specs.Attributes.{sorts_equal}
 use Rattle.kp_kore.specs.Signature.{KoreSignature, Head, integers, booleans, tokens, constructor_of, is_head, possible_heads, heads_of, IsHeadOf}
-use Rattle.kp_semantics.specs.Value.{HasSort, head_of}
-use Rattle.kp_semantics.proofs.ListLemmas.{all_append, all_right}
-use Rattle.kp_subsorts.proofs.Same.{sorts_equal-Decides}
+use Rattle.kp_kore.specs.Value.{HasSort, head_of}
+use Rattle.kp_kore.proofs.ListLemmas.{all_append, all_right}
+use Rattle.kp_signature.proofs.Same.{sorts_equal-Decides}
 use Rattle.kp_signature.proofs.HeadLemmas.{is_head-Decides, passed_by_heads}
 use Rattle.kp_heads.specs.Heads.{IsLive}
 use Rattle.kp_sort_heads.specs.Live.{Passed}

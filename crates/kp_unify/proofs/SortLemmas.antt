@@ -6,8 +6,8 @@ use Rattle.std.specs.List.{list_all, filter, find}
 use Rattle.kp_kore.specs.Syntax.{KoreSort}
 use Rattle.kp_kore.specs.Signature.{KoreSignature, Head, is_head, possible_heads, IsHeadOf, IsBelow, itself, through, is_below}
 use Rattle.kp_signature.proofs.HeadLemmas.{is_head-Decides, passed_by_heads}
-use Rattle.kp_subsorts.proofs.Below.{is_below-Decides}
-use Rattle.kp_semantics.proofs.InstanceLemmas.{first_true, second_true}
+use Rattle.kp_signature.proofs.Below.{is_below-Decides}
+use Rattle.kp_kore.proofs.InstanceLemmas.{first_true, second_true}
 use Rattle.kp_cases.specs.Courses.{IsMeet}
 use Rattle.kp_unify.specs.Heads.{is_common_in, has_common_heads, is_meet}
 

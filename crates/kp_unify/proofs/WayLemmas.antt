@@ -10,10 +10,10 @@ use Rattle.std.proofs.lemmas.Slice.Eq.{bytes_eq-Decides}
 use Rattle.kp_kore.specs.Syntax.{Text, KoreSort, KoreSorts, no_sorts, next_sort}
 use Rattle.kp_kore.specs.Parts.{SortedName, sort_list}
 use Rattle.kp_kore.specs.Signature.{KoreSignature, construction, meaning_of, constructor_of, IsHeadOf}
-use Rattle.kp_semantics.specs.Value.{Value, constructed, no_values, HasSort, ArgumentSorts}
-use Rattle.kp_semantics.specs.Instance.{is_named}
+use Rattle.kp_kore.specs.Value.{Value, constructed, no_values, HasSort, ArgumentSorts}
+use Rattle.kp_kore.specs.Instance.{is_named}
 use Rattle.kp_heads.specs.Heads.{HasValue}
-use Rattle.kp_states.specs.Spelled.{places_of}
+use Rattle.kp_compile.specs.Spelled.{places_of}
 use Rattle.kp_symbolic.specs.Terms.{unknown, known}
 use Rattle.kp_symbolic.specs.States.{Literal, one_head, head_of_sort}
 use Rattle.kp_symbolic.specs.Solving.{Equation}

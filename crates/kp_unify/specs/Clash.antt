@@ -3,8 +3,8 @@
 use Rattle.std.specs.Prelude.{List}
 use Rattle.kp_kore.specs.Syntax.{KoreSort, KoreSorts}
 use Rattle.kp_kore.specs.Signature.{KoreSignature}
-use Rattle.kp_semantics.specs.Value.{Value, Values}
-use Rattle.kp_semantics.specs.Instance.{Valuation, GivesSorts}
+use Rattle.kp_kore.specs.Value.{Value, Values}
+use Rattle.kp_kore.specs.Instance.{Valuation, GivesSorts}
 use Rattle.kp_symbolic.specs.Terms.{SymbolicTerm, SymbolicTerms, term_instance, term_instances, term_variables, all_term_variables}
 use Rattle.kp_symbolic.specs.WellFormed.{IsWellSorted, AreWellSorted}
 use Rattle.kp_rules.specs.Skeletons.{Form, forms_of, Admits, AdmitAll}

@@ -5,7 +5,7 @@ use Rattle.std.specs.List.{list_all, filter, find}
 use Rattle.kp_kore.specs.Syntax.{KoreSort}
 use Rattle.kp_kore.specs.Parts.{SortedName}
 use Rattle.kp_kore.specs.Signature.{KoreSignature, Head, is_head, heads_of, is_below}
-use Rattle.kp_semantics.specs.Value.{Value, HasSort}
+use Rattle.kp_kore.specs.Value.{Value, HasSort}
 use Rattle.kp_symbolic.specs.Terms.{SymbolicTerm, unknown, offset, known, headed}
 use Rattle.kp_symbolic.specs.Heads.{passes_head}
 use Rattle.kp_symbolic.specs.States.{Literal}

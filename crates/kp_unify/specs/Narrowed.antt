@@ -5,7 +5,7 @@ use Rattle.std.specs.List.{flat_map}
 use Rattle.kp_kore.specs.Syntax.{Text}
 use Rattle.kp_kore.specs.Parts.{SortedName}
 use Rattle.kp_kore.specs.Signature.{KoreSignature}
-use Rattle.kp_semantics.specs.Value.{constructed, no_values}
+use Rattle.kp_kore.specs.Value.{constructed, no_values}
 use Rattle.kp_symbolic.specs.Terms.{SymbolicTerm, unknown, known}
 use Rattle.kp_symbolic.specs.States.{same, Literal, SymbolicState}
 use Rattle.kp_symbolic.specs.Clauses.{distributed, is_too_large, without_repeats}

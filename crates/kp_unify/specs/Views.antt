@@ -5,8 +5,8 @@ use Rattle.kp_kore.specs.Signature.{KoreSignature}
 use Rattle.kp_kore.specs.View.{sort_view}
 use Rattle.kp_names.specs.Met.{Lists}
 use Rattle.kp_heads.specs.Made.{IsHeadTableOf}
-use Rattle.kp_terms.specs.Languages.{language_view}
-use Rattle.kp_terms.specs.View.{term_view, replaced_view, clauses_view, state_view}
+use Rattle.kp_symbolic.specs.Languages.{language_view}
+use Rattle.kp_symbolic.specs.View.{term_view, replaced_view, clauses_view, state_view}
 use Rattle.kp_cases.specs.Parts.{StatePart}
 use Rattle.kp_cases.specs.Cases as cases
 use Rattle.kp_cases.specs.Courses as model

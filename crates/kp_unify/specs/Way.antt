@@ -6,8 +6,8 @@ use Rattle.std.specs.Str.{bytes_eq}
 use Rattle.kp_kore.specs.Syntax.{Text, KoreSort}
 use Rattle.kp_kore.specs.Parts.{SortedName, sort_list}
 use Rattle.kp_kore.specs.Signature.{KoreSignature}
-use Rattle.kp_semantics.specs.Value.{Value}
-use Rattle.kp_states.specs.Spelled.{own_sort, places_of}
+use Rattle.kp_kore.specs.Value.{Value}
+use Rattle.kp_compile.specs.Spelled.{own_sort, places_of}
 use Rattle.kp_symbolic.specs.Terms.{SymbolicTerm, unknown, SymbolicTerms}
 use Rattle.kp_symbolic.specs.States.{head_of_sort}
 use Rattle.kp_symbolic.specs.WellFormed.{IsWellSorted}

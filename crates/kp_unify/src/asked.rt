@@ -9,7 +9,7 @@ ghost use Rattle.kp_signature.specs.View.{signature_view};
 ghost use Rattle.kp_symbolic.specs.Heads.{is_constructor_head, passes_head};
 ghost use Rattle.kp_symbolic.specs.States.{one_head, head_of_sort};
 ghost use Rattle.kp_sort_heads.specs.Views.{head_view};
-ghost use Rattle.kp_terms.specs.View.{variable_view, test_view, literal_view, clause_view, clauses_view};
+ghost use Rattle.kp_symbolic.specs.View.{variable_view, test_view, literal_view, clause_view, clauses_view};
 ghost use Rattle.kp_cases.specs.Narrowings as model;
 ghost use Rattle.kp_unify.specs.Heads.{clause_without};
 
@@ -18,7 +18,7 @@ use kp_distribution::joined::{kept_once, make_clause};
 use kp_kore::{Name, Sort, SymbolSentence};
 use kp_signature::Signature;
 use kp_sort_heads::{Head, heads, is_head};
-use kp_terms::{Clause, HeadTest, Literal, Variable};
+use kp_symbolic::{Clause, HeadTest, Literal, Variable};
 use std::alloc::{AllocError, Global};
 use std::sync::Arc;
 

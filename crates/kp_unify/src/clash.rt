@@ -4,14 +4,14 @@ ghost use Rattle.std.specs.Str.{bytes_eq};
 ghost use Rattle.kp_ground.specs.View.{value_view, values_of};
 ghost use Rattle.kp_rules.specs.Skeletons as model;
 ghost use Rattle.kp_rules.specs.Skeletons.{forms_of};
-ghost use Rattle.kp_terms.specs.View.{term_view, terms_of};
+ghost use Rattle.kp_symbolic.specs.View.{term_view, terms_of};
 ghost use Rattle.kp_cases.specs.Rows.{HasMembers};
 ghost use Rattle.kp_unify.specs.Forms.{form_view, members_view};
 ghost use Rattle.kp_unify.specs.Clash.{IsNever, AreNever, IsNeverOf, AreNeverOf};
 
 use crate::forms::{Ask, Form, Members, ask_of};
 use kp_ground::Value;
-use kp_terms::Term;
+use kp_symbolic::Term;
 
 /// Whether a literal is another value than a term.
 fn literal_differs(literal: &Value, term: &Term) -> bool

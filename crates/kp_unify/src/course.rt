@@ -1,8 +1,8 @@
 // A left side against a part, on its way.
 ghost use Rattle.std.specs.Prelude.{◌≡◌, ◌∷◌, ◌++◌, [], IfOk, OnOk, length, map};
 ghost use Rattle.kp_rules.specs.Skeletons.{skeleton_view};
-ghost use Rattle.kp_terms.specs.Languages.{language_view};
-ghost use Rattle.kp_terms.specs.View.{term_view, replaced_view};
+ghost use Rattle.kp_symbolic.specs.Languages.{language_view};
+ghost use Rattle.kp_symbolic.specs.View.{term_view, replaced_view};
 ghost use Rattle.kp_cases.specs.Courses as model;
 ghost use Rattle.kp_unify.specs.Forms.{form_view, members_view};
 ghost use Rattle.kp_unify.specs.Replaced.{binding_put, equality_put, pair_put, pairs_of};
@@ -15,7 +15,7 @@ use kp_compile::CompileError;
 use kp_kore::Sort;
 use kp_readings::equation::Equation;
 use kp_rules::skeleton::Skeleton;
-use kp_terms::{Language, Replaced, Term};
+use kp_symbolic::{Language, Replaced, Term};
 use std::alloc::{AllocError, Global};
 use std::sync::Arc;
 
@@ -197,7 +197,7 @@ fn replaced_pairs<'a>(
 
 impl<'a> Course<'a> {
     ghost use Rattle.std.specs.Prelude.{◌≡◌, OnOk};
-    ghost use Rattle.kp_terms.specs.Languages.{language_view};
+    ghost use Rattle.kp_symbolic.specs.Languages.{language_view};
     ghost use Rattle.kp_readings.specs.Equations.{equation_view};
     ghost use Rattle.kp_cases.specs.Courses as model;
     ghost use Rattle.kp_unify.specs.Views.{part_view, course_view};

@@ -1,28 +1,27 @@
 // Which sorts the head of a term has.
 ghost use Rattle.std.specs.Prelude.{◌≡◌, Some, FitsSigned};
 ghost use Rattle.std.specs.Int.{w128};
-ghost use Rattle.kp_hooks.specs.HookView.{hook_view};
+ghost use Rattle.kp_kore.specs.HookView.{hook_view};
 ghost use Rattle.kp_kore.specs.Parts.{SortedName};
 ghost use Rattle.kp_kore.specs.Signature as model;
 ghost use Rattle.kp_kore.specs.View.{sort_view, symbol_sentence_view};
-ghost use Rattle.kp_semantics.specs.Value.{head_of};
+ghost use Rattle.kp_kore.specs.Value.{head_of};
 ghost use Rattle.kp_signature.specs.View.{signature_view};
 ghost use Rattle.kp_ground.specs.View.{value_view};
-ghost use Rattle.kp_states.specs.Spelled.{NumbersFit};
+ghost use Rattle.kp_compile.specs.Spelled.{NumbersFit};
 ghost use Rattle.kp_symbolic.specs.Heads.{is_construction};
 ghost use Rattle.kp_symbolic.specs.Opening.{head_of_call};
 ghost use Rattle.kp_symbolic.specs.Terms.{unknown};
-ghost use Rattle.kp_terms.specs.View.{term_view};
+ghost use Rattle.kp_symbolic.specs.View.{term_view};
 ghost use Rattle.kp_cases.specs.Rows.{IsHeadOfSymbol, IsOfHead};
 ghost use Rattle.kp_unify.specs.Literals.{IsLiteral};
 
 use kp_deciding::kinds::{has_numbers, has_tokens_of, has_truths, lies_below};
 use kp_ground::Value;
-use kp_hooks::Hook;
-use kp_kore::{Sort, SymbolSentence};
+use kp_kore::{Hook, Sort, SymbolSentence};
 use kp_signature::symbols::is_constructor as is_construction_declared;
 use kp_signature::{Function, Meaning, Signature, meaning_of};
-use kp_terms::Term;
+use kp_symbolic::Term;
 
 /// Whether the symbol of this name is a constructor that makes values of the sort.
 pub fn makes(signature: &Signature, symbol: &str, sort: &Sort) -> bool

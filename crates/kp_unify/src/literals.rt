@@ -6,7 +6,7 @@ ghost use Rattle.kp_symbolic.specs.Clauses.{is_too_large};
 ghost use Rattle.kp_symbolic.specs.Formulas.{Formula};
 ghost use Rattle.kp_symbolic.specs.States as states;
 ghost use Rattle.kp_symbolic.specs.Terms.{unknown};
-ghost use Rattle.kp_terms.specs.View.{variable_view, term_view, test_view, literal_view, clauses_view};
+ghost use Rattle.kp_symbolic.specs.View.{variable_view, term_view, test_view, literal_view, clauses_view};
 ghost use Rattle.kp_distribution.specs.Distribution.{distribution_of};
 ghost use Rattle.kp_distribution.specs.View.{distributed_view};
 ghost use Rattle.kp_cases.specs.Narrowings as narrowings;
@@ -20,7 +20,7 @@ use kp_kore::Sort;
 use kp_leaves::test::open_test;
 use kp_opening::open_same;
 use kp_signature::Signature;
-use kp_terms::{Atom, Clause, HeadTest, Literal, Term, Variable};
+use kp_symbolic::{Atom, Clause, HeadTest, Literal, Term, Variable};
 use std::alloc::{AllocError, Global};
 use std::sync::Arc;
 

@@ -6,7 +6,7 @@ ghost use Rattle.kp_signature.specs.View.{signature_view};
 ghost use Rattle.kp_heads.specs.Made.{IsHeadTableOf};
 ghost use Rattle.kp_rules.specs.Skeletons as forms;
 ghost use Rattle.kp_rules.specs.Skeletons.{skeleton_view};
-ghost use Rattle.kp_terms.specs.View.{clauses_view, state_view};
+ghost use Rattle.kp_symbolic.specs.View.{clauses_view, state_view};
 ghost use Rattle.kp_cases.specs.Parts as parts;
 ghost use Rattle.kp_cases.specs.Parts.{StatePart};
 ghost use Rattle.kp_cases.specs.Courses.{all_equality_clauses, IsSortedEquality};
@@ -22,7 +22,7 @@ use crate::part::{Meeting, MetPart, Part, Setting, whole};
 use kp_compile::CompileError;
 use kp_rules::skeleton::Skeleton;
 use kp_signature::Signature;
-use kp_terms::{Clause, State};
+use kp_symbolic::{Clause, State};
 use std::alloc::{AllocError, Global};
 
 /// All pairs: whether the left side may meet the part. One with as many parts as there are numbers of 64 bits doesn't fit into

@@ -4,12 +4,12 @@ ghost use Rattle.kp_kore.specs.Syntax.{Text};
 ghost use Rattle.kp_kore.specs.View.{sort_view};
 ghost use Rattle.kp_names.specs.Met.{Lists};
 ghost use Rattle.kp_symbolic.specs.Writing as model;
-ghost use Rattle.kp_terms.specs.View.{variable_view, variables_view};
+ghost use Rattle.kp_symbolic.specs.View.{variable_view, variables_view};
 ghost use Rattle.kp_unify.specs.Names.{IsNextName, AreNextVariables};
 
 use kp_kore::{Name, Sort};
 use kp_names::names::{Names, is_noted};
-use kp_terms::Variable;
+use kp_symbolic::Variable;
 use std::alloc::{AllocError, Global};
 use std::sync::Arc;
 

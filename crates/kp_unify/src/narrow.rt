@@ -3,12 +3,12 @@ ghost use Rattle.std.specs.Prelude.{◌≡◌, false, List, IfOk, length, map, s
 ghost use Rattle.kp_kore.specs.Signature.{construction, meaning_of as named};
 ghost use Rattle.kp_kore.specs.Parts.{SortedName};
 ghost use Rattle.kp_kore.specs.View.{sort_view};
-ghost use Rattle.kp_semantics.specs.Value.{constructed, no_values};
+ghost use Rattle.kp_kore.specs.Value.{constructed, no_values};
 ghost use Rattle.kp_signature.specs.View.{signature_view};
 ghost use Rattle.kp_symbolic.specs.States.{one_head, head_of_sort};
 ghost use Rattle.kp_symbolic.specs.Terms.{unknown, known};
-ghost use Rattle.kp_terms.specs.Languages.{language_view};
-ghost use Rattle.kp_terms.specs.View.{variable_view, variables_view, term_view, terms_of, clauses_view};
+ghost use Rattle.kp_symbolic.specs.Languages.{language_view};
+ghost use Rattle.kp_symbolic.specs.View.{variable_view, variables_view, term_view, terms_of, clauses_view};
 ghost use Rattle.kp_readings.specs.Equations.{equation_view};
 ghost use Rattle.kp_cases.specs.Parts.{with_clauses};
 ghost use Rattle.kp_cases.specs.Narrowings as model;
@@ -28,8 +28,8 @@ use kp_kore::Sort;
 use kp_opening::sides::places_of;
 use kp_readings::equation::Equation;
 use kp_signature::Signature;
-use kp_terms::state::share_variables;
-use kp_terms::{Clause, Language, State, Term, Variable, apply};
+use kp_symbolic::state::share_variables;
+use kp_symbolic::{Clause, Language, State, Term, Variable, apply};
 use std::alloc::{AllocError, Global};
 use std::sync::Arc;
 
@@ -177,8 +177,8 @@ impl<'a> Course<'a> {
     ghost use Rattle.kp_kore.specs.Syntax.{Text};
     ghost use Rattle.kp_kore.specs.View.{sort_view};
     ghost use Rattle.kp_names.specs.Met.{Lists};
-    ghost use Rattle.kp_terms.specs.Languages.{language_view};
-    ghost use Rattle.kp_terms.specs.View.{variable_view, variables_view, term_view, terms_of, clauses_view};
+    ghost use Rattle.kp_symbolic.specs.Languages.{language_view};
+    ghost use Rattle.kp_symbolic.specs.View.{variable_view, variables_view, term_view, terms_of, clauses_view};
     ghost use Rattle.kp_cases.specs.Courses.{replaced_course};
     ghost use Rattle.kp_cases.specs.Narrowings.{part_with_term};
     ghost use Rattle.kp_unify.specs.Narrowed.{equation_of, with_split};

@@ -1,12 +1,12 @@
 // Parts of a state, and what a left side makes of one.
 ghost use Rattle.std.specs.Prelude.{◌≡◌, IfOk};
-ghost use Rattle.kp_terms.specs.View.{state_view};
+ghost use Rattle.kp_symbolic.specs.View.{state_view};
 ghost use Rattle.kp_cases.specs.Parts as model;
 ghost use Rattle.kp_unify.specs.Views.{part_view};
 
 use kp_heads::HeadTable;
 use kp_names::names::Names;
-use kp_terms::{Clause, Language, Replaced, State};
+use kp_symbolic::{Clause, Language, Replaced, State};
 use std::alloc::{AllocError, Global};
 
 /// What holds for a whole step: the language with its table of heads, and the names that were met before.

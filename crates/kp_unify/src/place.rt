@@ -1,7 +1,7 @@
 // A term against a sort.
 ghost use Rattle.std.specs.Prelude.{◌≡◌};
 ghost use Rattle.std.specs.Option.{option_map};
-ghost use Rattle.kp_terms.specs.View.{variable_view, term_view};
+ghost use Rattle.kp_symbolic.specs.View.{variable_view, term_view};
 ghost use Rattle.kp_unify.specs.Heads.{variable_in};
 
 use crate::course::Course;
@@ -11,7 +11,7 @@ use crate::part::Setting;
 use crate::sorts::{meet_of, share_values};
 use kp_compile::CompileError;
 use kp_kore::Sort;
-use kp_terms::{Term, Variable};
+use kp_symbolic::{Term, Variable};
 use std::alloc::Global;
 use std::sync::Arc;
 
@@ -32,7 +32,7 @@ impl<'a> Course<'a> {
     ghost use Rattle.kp_heads.specs.Made.{IsHeadTableOf};
     ghost use Rattle.kp_rules.specs.Skeletons.{Form};
     ghost use Rattle.kp_symbolic.specs.Terms.{unknown};
-    ghost use Rattle.kp_terms.specs.View.{variable_view, term_view};
+    ghost use Rattle.kp_symbolic.specs.View.{variable_view, term_view};
     ghost use Rattle.kp_cases.specs.Parts.{StatePart};
     ghost use Rattle.kp_cases.specs.Courses.{IsMeet};
     ghost use Rattle.kp_unify.specs.Views.{signature_of, stage_view, IsSetting};

@@ -3,8 +3,8 @@ ghost use Rattle.std.specs.Prelude.{◌≡◌, ◌++◌, ◌∷◌, [], IfOk, ma
 ghost use Rattle.std.specs.List.{flat_map};
 ghost use Rattle.kp_symbolic.specs.Clauses.{without_repeats};
 ghost use Rattle.kp_symbolic.specs.Solving as solving;
-ghost use Rattle.kp_terms.specs.Languages.{language_view};
-ghost use Rattle.kp_terms.specs.View.{clause_view, clauses_view, replaced_view, state_view, variables_view};
+ghost use Rattle.kp_symbolic.specs.Languages.{language_view};
+ghost use Rattle.kp_symbolic.specs.View.{clause_view, clauses_view, replaced_view, state_view, variables_view};
 ghost use Rattle.kp_readings.specs.Equations.{equation_view};
 ghost use Rattle.kp_cases.specs.Narrowings.{put_clause};
 ghost use Rattle.kp_unify.specs.Narrowed as model;
@@ -15,8 +15,8 @@ use kp_distribution::joined::kept_once;
 use kp_readings::equation::Equation;
 use kp_readings::names::some_has_name;
 use kp_replacing::open_clause;
-use kp_terms::state::share_variables;
-use kp_terms::{Clause, Language, Replaced, State, Variable};
+use kp_symbolic::state::share_variables;
+use kp_symbolic::{Clause, Language, Replaced, State, Variable};
 use std::alloc::{AllocError, Global};
 use std::sync::Arc;
 

@@ -5,7 +5,7 @@ ghost use Rattle.std.specs.List.{find};
 ghost use Rattle.kp_kore.specs.Signature.{is_below, is_head};
 ghost use Rattle.kp_kore.specs.Syntax.{KoreSort};
 ghost use Rattle.kp_kore.specs.View.{sort_view};
-ghost use Rattle.kp_subsorts.specs.Pairs.{subsort_view};
+ghost use Rattle.kp_signature.specs.Pairs.{subsort_view};
 ghost use Rattle.kp_signature.specs.View.{signature_view};
 ghost use Rattle.kp_heads.specs.Made.{IsHeadTableOf};
 ghost use Rattle.kp_sort_heads.specs.Views.{head_view};
@@ -15,9 +15,8 @@ ghost use Rattle.kp_unify.specs.Heads as model;
 use kp_deciding::kinds::lies_below;
 use kp_heads::HeadTable;
 use kp_kore::Sort;
-use kp_signature::Signature;
+use kp_signature::{Signature, Subsort};
 use kp_sort_heads::{Head, heads, is_head};
-use kp_subsorts::Subsort;
 
 /// Whether some value has both sorts, where the table is the signature's.
 pub fn share_values(table: &HeadTable, signature: &Signature, first: &Sort, second: &Sort) -> bool

@@ -3,7 +3,7 @@ use indexmap::IndexMap;
 use kp_heads::HeadTable;
 use kp_names::names::Names;
 use kp_rules::skeleton::Skeleton;
-use kp_terms::{Language, State, Term, Variable, term_under};
+use kp_symbolic::{Language, State, Term, Variable, term_under};
 use kp_text::read_pattern;
 use kp_unify::{Meeting, Setting, cases};
 use std::alloc::Global;

@@ -4,7 +4,7 @@ ghost use Rattle.std.specs.Option.{option_map};
 ghost use Rattle.std.specs.Str.{bytes_eq};
 ghost use Rattle.indexmap.specs.IndexSet.{contains_text, index_set_len};
 ghost use Rattle.kp_kore.specs.Syntax.{Text};
-ghost use Rattle.kp_hooks.specs.HookView.{comparison_view};
+ghost use Rattle.kp_kore.specs.HookView.{comparison_view};
 ghost use Rattle.kp_symbolic.specs.Plain.{WholePart, compares};
 ghost use Rattle.kp_symbolic.specs.Weights as model;
 ghost use Rattle.kp_deciding.specs.Forms.{form_view};
@@ -15,9 +15,8 @@ ghost use Rattle.kp_weights.specs.Told.{told, weight_view, names_in_bounds, Tell
 use indexmap::IndexSet;
 use kp_deciding::bounds::{Difference, all_bounds, largest_length};
 use kp_deciding::{Form, ReadLiteral};
-use kp_hooks::Comparison;
-use kp_kore::Name;
-use kp_terms::Variable;
+use kp_kore::{Comparison, Name};
+use kp_symbolic::Variable;
 use std::alloc::{AllocError, Global};
 
 /// What is limited: the numeric variables with the digits of the largest constant, the literals, the choices.

@@ -7,11 +7,11 @@ use Rattle.kp_kore.specs.Syntax.{Text}
 use Rattle.kp_symbolic.specs.Terms.{SymbolicTerm, headed}
 use Rattle.kp_symbolic.specs.States.{SymbolicState}
 use Rattle.kp_symbolic.specs.Sources.{parts_of, all_parts_of, atom_parts, clause_parts}
-use Rattle.kp_terms.specs.View.{term_view, terms_of, replaced_view, literal_view, clause_view, clauses_view}
-use Rattle.kp_terms.specs.declared.term.Term.{Term}
-use Rattle.kp_terms.specs.declared.atom.Replaced.{Replaced}
-use Rattle.kp_terms.specs.declared.clause.Literal.{Literal}
-use Rattle.kp_terms.specs.declared.clause.Clause.{Clause}
+use Rattle.kp_symbolic.specs.View.{term_view, terms_of, replaced_view, literal_view, clause_view, clauses_view}
+use Rattle.kp_symbolic.specs.declared.term.Term.{Term}
+use Rattle.kp_symbolic.specs.declared.atom.Replaced.{Replaced}
+use Rattle.kp_symbolic.specs.declared.clause.Literal.{Literal}
+use Rattle.kp_symbolic.specs.declared.clause.Clause.{Clause}
 use Rattle.kp_wide.specs.Wide.{WideCall, wide_call, first_of, first_wide_among, first_wide}
 
 first_behind : (a b c : Option WideCall) → first_of (first_of a b) c ≡ first_of a (first_of b c)

@@ -3,14 +3,14 @@
 use Rattle.std.specs.Prelude.{ℤ, Bool, false, List, [], ◌∷◌, Option, Some, None, if◌then◌else◌}
 use Rattle.kp_kore.specs.Syntax.{Text}
 use Rattle.kp_kore.specs.Signature.{KoreSignature, SymbolMeaning, interpretation, meaning_of}
-use Rattle.kp_semantics.specs.Value.{whole}
-use Rattle.kp_semantics.specs.Forms.{two}
-use Rattle.kp_semantics.specs.Interpretation.{interpreted}
-use Rattle.kp_semantics.specs.Replies.{is_wide_value}
+use Rattle.kp_kore.specs.Value.{whole}
+use Rattle.kp_kore.specs.Forms.{two}
+use Rattle.kp_kore.specs.Interpretation.{interpreted}
+use Rattle.kp_kore.specs.Replies.{is_wide_value}
 use Rattle.kp_symbolic.specs.Terms.{SymbolicTerm, headed, no_terms, next_term}
 use Rattle.kp_symbolic.specs.States.{SymbolicState}
 use Rattle.kp_symbolic.specs.Sources.{state_parts}
-use Rattle.kp_terms.specs.Sums.{whole_known}
+use Rattle.kp_symbolic.specs.Sums.{whole_known}
 
 pub record WideCall : Type 0 where
   pub symbol : Text

@@ -3,22 +3,22 @@ ghost use Rattle.std.specs.Prelude.{◌≡◌, Some, map, string_bytes};
 ghost use Rattle.std.specs.List.{flat_map};
 ghost use Rattle.std.specs.Option.{option_map};
 ghost use Rattle.kp_ground.specs.View.{value_view};
-ghost use Rattle.kp_hooks.specs.HookView.{arithmetic_view};
+ghost use Rattle.kp_kore.specs.HookView.{arithmetic_view};
 ghost use Rattle.kp_kore.specs.Hooks.{whole_arithmetic};
 ghost use Rattle.kp_kore.specs.Signature.{interpretation};
 ghost use Rattle.kp_signature.specs.Meanings.{meaning_view};
 ghost use Rattle.kp_signature.specs.View.{signature_view};
 ghost use Rattle.kp_symbolic.specs.Sources.{parts_of, all_parts_of, atom_parts, clause_parts};
 ghost use Rattle.kp_symbolic.specs.Terms.{headed};
-ghost use Rattle.kp_terms.specs.Sums.{whole_in, whole_known};
-ghost use Rattle.kp_terms.specs.View.{term_view, terms_of, replaced_view, atom_view, literal_view, clauses_view, state_view};
+ghost use Rattle.kp_symbolic.specs.Sums.{whole_in, whole_known};
+ghost use Rattle.kp_symbolic.specs.View.{term_view, terms_of, replaced_view, atom_view, literal_view, clauses_view, state_view};
 ghost use Rattle.kp_wide.specs.Calls.{call_view};
 ghost use Rattle.kp_wide.specs.Wide as model;
 
 use kp_ground::Value;
-use kp_hooks::{Arithmetic, Hook};
+use kp_kore::{Arithmetic, Hook};
 use kp_signature::{Function, Meaning, Signature, meaning_of};
-use kp_terms::{Atom, Clause, Literal, Replaced, State, Term};
+use kp_symbolic::{Atom, Clause, Literal, Replaced, State, Term};
 use std::sync::Arc;
 
 /// A call of a symbol of two numbers. `call_view` in specs/Calls.antt says which call it is.

@@ -6,8 +6,8 @@ use Rattle.kp_kore.specs.View.{view, patterns_view}
 use Rattle.kp_kore.specs.declared.pattern.Pattern.{Pattern}
 use Rattle.kp_symbolic.specs.Terms.{Replaced}
 use Rattle.kp_symbolic.specs.Writing.{variables_of, written_under, all_written_under}
-use Rattle.kp_terms.specs.View.{variable_view}
-use Rattle.kp_terms.specs.declared.variable.Variable.{Variable}
+use Rattle.kp_symbolic.specs.View.{variable_view}
+use Rattle.kp_symbolic.specs.declared.variable.Variable.{Variable}
 use Rattle.kp_writing.specs.Parts.{variable_pattern}
 
 pub variables_are : (ps : List Pattern) (xs : List Variable) → map view ps ≡ map (λ x. variable_pattern (variable_view x)) xs → patterns_view ps ≡ variables_of (map variable_view xs)

@@ -8,7 +8,7 @@ use Rattle.kp_kore.specs.declared.pattern.Pattern.{Pattern}
 use Rattle.kp_signature.specs.Places.{Place, part_at, after, under_binder}
 use Rattle.kp_signature.specs.Verify.{VerifyFault, first_fault, fault_at, members_fault, first_of}
 use Rattle.kp_signature.proofs.FaultLemmas.{nothing_earlier, nothing_later}
-use Rattle.kp_terms.specs.Faultless.{IsFaultless}
+use Rattle.kp_symbolic.specs.Faultless.{IsFaultless}
 
 second_none : (a b c : Option VerifyFault) → first_of (a ∷ b ∷ c ∷ []) ≡ None → b ≡ None
 second_none a b c h = nothing_earlier b _ (nothing_later a _ h)

@@ -6,8 +6,8 @@ use Rattle.kp_kore.specs.Signature.{KoreSignature}
 use Rattle.kp_kore.specs.declared.sort.Sort.{Sort}
 use Rattle.kp_kore.specs.declared.pattern.Pattern.{Pattern}
 use Rattle.kp_symbolic.specs.Writing.{written_term, written_terms}
-use Rattle.kp_terms.specs.View.{term_view, terms_of}
-use Rattle.kp_terms.specs.declared.term.Term.{Term}
+use Rattle.kp_symbolic.specs.View.{term_view, terms_of}
+use Rattle.kp_symbolic.specs.declared.term.Term.{Term}
 
 -- what is written for the first i terms at the first i places
 abbrev pub written_first : KoreSignature → ℕ → List Sort → List Term → KorePatterns

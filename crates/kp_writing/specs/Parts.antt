@@ -10,7 +10,7 @@ use Rattle.kp_symbolic.specs.States.{Atom, same, has_head, quoted, variables_for
 use Rattle.kp_symbolic.specs.Folding.{folded}
 use Rattle.kp_symbolic.specs.Writing.{bound_name, renamed, written_term, written_under}
 use Rattle.kp_symbolic_laws.specs.Runs.{IsRoomAt, HasRoom}
-use Rattle.kp_terms.specs.Faultless.{IsFaultless}
+use Rattle.kp_symbolic.specs.Faultless.{IsFaultless}
 
 -- a variable at its own sort
 abbrev pub variable_pattern : SortedName → KorePattern

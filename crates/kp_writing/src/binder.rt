@@ -6,12 +6,12 @@ ghost use Rattle.kp_kore.specs.View.{view, sort_view};
 ghost use Rattle.kp_symbolic.specs.Terms.{unknown};
 ghost use Rattle.kp_symbolic.specs.Writing as model;
 ghost use Rattle.kp_symbolic_laws.specs.Runs.{IsRoomAt};
-ghost use Rattle.kp_terms.specs.View.{replaced_view};
+ghost use Rattle.kp_symbolic.specs.View.{replaced_view};
 
 use crate::incoming::{add_variable_names, names_coming_in};
 use kp_fresh::fresh::fresh;
 use kp_kore::{Name, Pattern, Sort};
-use kp_terms::{Replaced, Term, Variable};
+use kp_symbolic::{Replaced, Term, Variable};
 use std::alloc::{AllocError, Global};
 use std::sync::Arc;
 

@@ -6,13 +6,13 @@ ghost use Rattle.kp_kore.specs.Parts.{names_at, variable_names, without_name};
 ghost use Rattle.kp_kore.specs.View.{view, sorted_variable_view};
 ghost use Rattle.kp_symbolic.specs.Terms.{term_variables};
 ghost use Rattle.kp_symbolic.specs.Writing as model;
-ghost use Rattle.kp_terms.specs.View.{replaced_view, term_view, variables_view};
+ghost use Rattle.kp_symbolic.specs.View.{replaced_view, term_view, variables_view};
 ghost use Rattle.kp_writing.specs.Parts.{names_for};
 
 use kp_compile::subpatterns;
 use kp_kore::{Name, Pattern, SortedVariable};
-use kp_terms::replaced::replacement_of;
-use kp_terms::{Replaced, Term, Variable};
+use kp_symbolic::replaced::replacement_of;
+use kp_symbolic::{Replaced, Term, Variable};
 use std::alloc::{AllocError, Global};
 use std::sync::Arc;
 

@@ -5,9 +5,9 @@ ghost use Rattle.kp_kore.specs.Syntax.{equals};
 ghost use Rattle.kp_kore.specs.View.{view, sort_view};
 ghost use Rattle.kp_symbolic.specs.Writing.{written_atom, written_literal, written_signed, written_term, written_under};
 ghost use Rattle.kp_symbolic_laws.specs.Runs.{HasRoom, HasRoomAtom};
-ghost use Rattle.kp_terms.specs.Faultless.{IsFaultless};
-ghost use Rattle.kp_terms.specs.Languages.{language_view};
-ghost use Rattle.kp_terms.specs.View.{atom_view, literal_view, replaced_view, term_view};
+ghost use Rattle.kp_symbolic.specs.Faultless.{IsFaultless};
+ghost use Rattle.kp_symbolic.specs.Languages.{language_view};
+ghost use Rattle.kp_symbolic.specs.View.{atom_view, literal_view, replaced_view, term_view};
 ghost use Rattle.kp_writing.specs.Parts.{IsFaultlessAtom};
 
 use crate::quoted::quoted_out;
@@ -16,7 +16,7 @@ use crate::test::test_out;
 use kp_compile::CompileError;
 use kp_kore::{Pattern, Sort};
 use kp_substitution::build::{equals_of, negation_of};
-use kp_terms::{Atom, Language, Literal, Replaced, Term};
+use kp_symbolic::{Atom, Language, Literal, Replaced, Term};
 use std::alloc::{AllocError, Global};
 
 /// A term as a pattern of this sort, boxed.

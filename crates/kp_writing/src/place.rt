@@ -5,14 +5,14 @@ ghost use Rattle.kp_kore.specs.Syntax.{application, no_sorts, variable as variab
 ghost use Rattle.kp_kore.specs.View.{view, sort_view, patterns_view};
 ghost use Rattle.kp_signature.specs.Places.{own_sort as sort_of_pattern};
 ghost use Rattle.kp_signature.specs.View.{signature_view};
-ghost use Rattle.kp_states.specs.Spelled.{placed};
-ghost use Rattle.kp_terms.specs.View.{variable_view};
+ghost use Rattle.kp_compile.specs.Spelled.{placed};
+ghost use Rattle.kp_symbolic.specs.View.{variable_view};
 
+use kp_compile::placed_at;
 use kp_kore::{Name, Pattern, Sort};
 use kp_signature::{Signature, own_sort};
-use kp_states::placed_at;
 use kp_substitution::build::application_of;
-use kp_terms::Variable;
+use kp_symbolic::Variable;
 use std::alloc::{AllocError, Global};
 
 /// A variable as a pattern of its own sort.

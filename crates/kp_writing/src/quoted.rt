@@ -9,9 +9,9 @@ ghost use Rattle.kp_signature.specs.View.{signature_view};
 ghost use Rattle.kp_symbolic.specs.Writing as model;
 ghost use Rattle.kp_symbolic.specs.Writing.{all_written_under, written_term, written_under};
 ghost use Rattle.kp_symbolic_laws.specs.Runs.{AllHaveRoom, HasRoom};
-ghost use Rattle.kp_terms.specs.Faultless.{IsFaultless};
-ghost use Rattle.kp_terms.specs.Languages.{language_view};
-ghost use Rattle.kp_terms.specs.View.{replaced_view, term_view};
+ghost use Rattle.kp_symbolic.specs.Faultless.{IsFaultless};
+ghost use Rattle.kp_symbolic.specs.Languages.{language_view};
+ghost use Rattle.kp_symbolic.specs.View.{replaced_view, term_view};
 ghost use Rattle.kp_writing.specs.Parts.{HasRoomUnder, written_bound, written_leaf};
 
 use crate::binder::{bound_name, renamed};
@@ -20,7 +20,7 @@ use kp_compile::CompileError;
 use kp_kore::{Name, Pattern, Sort};
 use kp_signature::{Signature, own_sort};
 use kp_substitution::build;
-use kp_terms::{Language, Replaced, Term, term_under};
+use kp_symbolic::{Language, Replaced, Term, term_under};
 use std::alloc::{AllocError, Global};
 
 /// The sort variable without a name.

@@ -5,14 +5,14 @@ ghost use Rattle.std.specs.Option.{option_map};
 ghost use Rattle.kp_kore.specs.Syntax.{literal};
 ghost use Rattle.kp_kore.specs.View.{view, sort_view};
 ghost use Rattle.kp_symbolic.specs.Writing.{written_call, written_sum};
-ghost use Rattle.kp_terms.specs.Languages.{language_view};
-ghost use Rattle.kp_terms.specs.View.{variable_view};
+ghost use Rattle.kp_symbolic.specs.Languages.{language_view};
+ghost use Rattle.kp_symbolic.specs.View.{variable_view};
 ghost use Rattle.kp_writing.specs.Parts.{sum_pattern};
 
 use crate::place::variable_out;
 use kp_kore::{Name, Pattern, Sort};
 use kp_substitution::build::application_of;
-use kp_terms::{Language, Variable};
+use kp_symbolic::{Language, Variable};
 use std::alloc::{AllocError, Global};
 use std::sync::Arc;
 

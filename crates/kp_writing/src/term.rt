@@ -1,16 +1,16 @@
 // Symbolic terms as patterns.
 ghost use Rattle.std.specs.Prelude.{◌≡◌, IfOk, map};
 ghost use Rattle.kp_kore.specs.View.{view, sort_view, sorts_view, patterns_view};
-ghost use Rattle.kp_states.specs.Spelled.{placed};
+ghost use Rattle.kp_compile.specs.Spelled.{placed};
 ghost use Rattle.kp_symbolic.specs.Writing.{written_sum, written_term, written_terms};
-ghost use Rattle.kp_terms.specs.Languages.{language_view};
-ghost use Rattle.kp_terms.specs.View.{term_view, terms_of, variable_view};
+ghost use Rattle.kp_symbolic.specs.Languages.{language_view};
+ghost use Rattle.kp_symbolic.specs.View.{term_view, terms_of, variable_view};
 
 use crate::place::{applied_at, variable_at};
 use crate::sum::sum_out;
+use kp_compile::{placed_at, places_of, spelled_at};
 use kp_kore::{Pattern, Sort};
-use kp_states::{placed_at, places_of, spelled_at};
-use kp_terms::{Language, Term, Variable};
+use kp_symbolic::{Language, Term, Variable};
 use std::alloc::{AllocError, Global};
 
 /// The sum of a variable and a constant as a pattern of this sort.

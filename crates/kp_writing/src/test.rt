@@ -6,21 +6,21 @@ ghost use Rattle.kp_kore.specs.Sorting.{result_sort};
 ghost use Rattle.kp_kore.specs.Syntax.{application, equals, exists as exists_pattern, variable as variable_pattern, no_sorts};
 ghost use Rattle.kp_kore.specs.View.{view, sort_view, sorts_view, patterns_view};
 ghost use Rattle.kp_signature.specs.View.{signature_view};
-ghost use Rattle.kp_states.specs.Spelled as spelled;
-ghost use Rattle.kp_states.specs.Spelled.{placed};
+ghost use Rattle.kp_compile.specs.Spelled as spelled;
+ghost use Rattle.kp_compile.specs.Spelled.{placed};
 ghost use Rattle.kp_symbolic.specs.Writing as model;
 ghost use Rattle.kp_symbolic.specs.Writing.{least_fresh, variables_of, written_test};
 ghost use Rattle.kp_symbolic.specs.States.{one_head, head_of_sort, has_head};
 ghost use Rattle.kp_symbolic_laws.specs.Runs.{HasRoomAtom};
-ghost use Rattle.kp_terms.specs.View.{test_view, variable_view};
+ghost use Rattle.kp_symbolic.specs.View.{test_view, variable_view};
 
 use crate::place::{applied_at, variable_at, variable_out};
+use kp_compile::places_of;
 use kp_fresh::fresh::fresh;
 use kp_kore::{Name, Pattern, Sort};
 use kp_signature::Signature;
-use kp_states::places_of;
 use kp_substitution::build::{equals_of, exists_of};
-use kp_terms::{HeadTest, Variable};
+use kp_symbolic::{HeadTest, Variable};
 use std::alloc::{AllocError, Global};
 
 /// These names behind one more.

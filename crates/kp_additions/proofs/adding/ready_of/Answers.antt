@@ -3,7 +3,7 @@ use Rattle.std.specs.Str.{IsUtf8}
 use Rattle.kp_kore.specs.View.{module_view, sentence_view}
 use Rattle.kp_text.specs.Spelling.{IsFaultOf, IsModuleText, SpellsModule}
 use Rattle.kp_signature.specs.View.{signature_view}
-use Rattle.kp_semantics.specs.Theory.{imports_in}
+use Rattle.kp_kore.specs.Theory.{imports_in}
 use Rattle.kp_book.specs.Books.{Opening, Registration}
 use Rattle.kp_extensions.specs.Extending.{AreSetsOf}
 use Rattle.kp_modules.specs.Tables.{rule_set_of}

@@ -2,7 +2,7 @@ use Rattle.std.proofs.Common.{rules, ◌≡◌, ◌≤◌, ◌+◌, sym, subst, 
 use Rattle.std.specs.declared.sync.Arc.{Arc}
 use Rattle.kp_kore.specs.View.{sentence_view}
 use Rattle.kp_rule_sets.specs.declared.rule_set.RuleSet.{RuleSet}
-use Rattle.kp_semantics.specs.Theory.{imports_in}
+use Rattle.kp_kore.specs.Theory.{imports_in}
 use Rattle.kp_book.specs.Books.{Opening, Registration}
 use Rattle.kp_additions.specs.Served.{HasSeenAt}
 use Rattle.kp_additions.specs.Told.{AreMeant, TellsUnbound}

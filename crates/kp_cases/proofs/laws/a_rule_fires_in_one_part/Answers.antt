@@ -1,4 +1,4 @@
-use Rattle.kp_semantics.specs.Steps.{Fires}
+use Rattle.kp_kore.specs.Steps.{Fires}
 use Rattle.kp_cases.proofs.Excluding.{holding_part, other_parts, none_holds}
 use Rattle.kp_cases.proofs.laws.a_rule_fires_in_one_part.Goals as goal
 

@@ -1,6 +1,6 @@
 use Rattle.std.proofs.Common.{◌∷◌, ◌++◌}
-use Rattle.kp_semantics.specs.Division.{NoneOf}
-use Rattle.kp_semantics.specs.Steps.{Fires}
+use Rattle.kp_kore.specs.Division.{NoneOf}
+use Rattle.kp_kore.specs.Steps.{Fires}
 use Rattle.kp_cases.proofs.PartLemmas.{divides_further_where, divides_of_these}
 use Rattle.kp_cases.proofs.laws.rules_are_excluded_one_by_one.Goals as goal
 

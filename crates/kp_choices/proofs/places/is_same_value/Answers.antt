@@ -1,7 +1,7 @@
 use Rattle.kp_ground.specs.View.{value_view}
 use Rattle.kp_choices.proofs.PlaceLemmas.{tested}
-use Rattle.kp_semantics.specs.Value.{values_same}
-use Rattle.kp_semantics.proofs.SameLemmas.{values_same-Decides}
+use Rattle.kp_kore.specs.Value.{values_same}
+use Rattle.kp_kore.proofs.SameLemmas.{values_same-Decides}
 use Rattle.kp_choices.proofs.places.is_same_value.Goals as goal
 
 pub returns : goal.returns

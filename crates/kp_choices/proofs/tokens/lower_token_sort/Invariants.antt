@@ -1,6 +1,6 @@
 use Rattle.std.proofs.Common.{◌≡◌, map, drop}
 use Rattle.kp_kore.specs.View.{sort_view}
-use Rattle.kp_subsorts.specs.Pairs.{subsort_view}
+use Rattle.kp_signature.specs.Pairs.{subsort_view}
 use Rattle.kp_signature.specs.View.{signature_view}
 use Rattle.kp_deciding.specs.Kinds.{lower_sorts}
 use Rattle.kp_choices.specs.Kinds.{tokens_among}

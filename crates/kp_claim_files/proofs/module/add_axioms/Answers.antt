@@ -2,7 +2,7 @@ use Rattle.std.proofs.Common.{sym, ap, ◌∙◌, map, drop, [], ◌∷◌, ◌+
 use Rattle.std.proofs.lemmas.List.{append_assoc}
 use Rattle.kp_kore.specs.Syntax.{axiom_sentence}
 use Rattle.kp_kore.specs.View.{sentence_view}
-use Rattle.kp_semantics.specs.ClaimModules.{claim_axiom}
+use Rattle.kp_kore.specs.ClaimModules.{claim_axiom}
 use Rattle.kp_claim_sentences.specs.Items.{sorted_view}
 use Rattle.kp_claim_files.specs.Modules.{claims_at}
 use Rattle.kp_claim_files.proofs.ClaimsAt.{claims_on}

@@ -1,7 +1,7 @@
 use Rattle.std.proofs.Common.{◌≡◌, ◌++◌, map, drop}
 use Rattle.kp_kore.specs.Syntax.{axiom_sentence}
 use Rattle.kp_kore.specs.View.{sentence_view}
-use Rattle.kp_semantics.specs.ClaimModules.{claim_axiom}
+use Rattle.kp_kore.specs.ClaimModules.{claim_axiom}
 use Rattle.kp_claim_files.specs.Modules.{claims_at}
 use Rattle.kp_claim_files.proofs.module.add_axioms.Given as goal
 

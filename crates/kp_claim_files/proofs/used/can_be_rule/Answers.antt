@@ -1,7 +1,7 @@
 use Rattle.std.proofs.Common.{◌≡◌, sym, subst, ◌∙◌, refl, IsTrue, MatchBool}
 use Rattle.kp_kore.specs.View.{axiom_sentence_view}
-use Rattle.kp_semantics.specs.Rules.{is_rewriting}
-use Rattle.kp_semantics.specs.ClaimModules.{claim_axiom, CanBeRule}
+use Rattle.kp_kore.specs.Rules.{is_rewriting}
+use Rattle.kp_kore.specs.ClaimModules.{claim_axiom, CanBeRule}
 use Rattle.kp_signature.specs.View.{signature_view}
 use Rattle.kp_rules.specs.Bodies.{IsReadAs, IsFaulty}
 use Rattle.kp_claim_sentences.specs.Items.{sorted_view}

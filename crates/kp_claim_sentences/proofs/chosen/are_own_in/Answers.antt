@@ -2,7 +2,7 @@ use Rattle.std.proofs.Common.{◌≡◌, ◌&&◌, ◌||◌, sym, ap, ◌∙◌,
 use Rattle.std.specs.List.{list_all}
 use Rattle.kp_kore.specs.Parts.{SortedName, free_variables}
 use Rattle.kp_kore.specs.View.{view, sorted_variable_view}
-use Rattle.kp_semantics.specs.Instance.{is_named}
+use Rattle.kp_kore.specs.Instance.{is_named}
 use Rattle.kp_rules.specs.Shapes.{variables_seen}
 use Rattle.kp_claim_sentences.specs.Noted.{has_name}
 use Rattle.kp_claim_sentences.proofs.Noting.{listed_named, all_same, none_own, own_all}

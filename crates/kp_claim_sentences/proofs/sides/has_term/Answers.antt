@@ -1,7 +1,7 @@
 use Rattle.std.proofs.Common.{◌∙◌}
 use Rattle.kp_kore.specs.View.{view}
-use Rattle.kp_semantics.specs.Instance.{conjoined_predicates}
-use Rattle.kp_semantics.specs.Rules.{constrained_term}
+use Rattle.kp_kore.specs.Instance.{conjoined_predicates}
+use Rattle.kp_kore.specs.Rules.{constrained_term}
 use Rattle.kp_rules.specs.Shapes.{side_view}
 use Rattle.kp_claim_sentences.proofs.Noting.{some_both}
 use Rattle.kp_claim_sentences.proofs.sides.has_term.Goals as goal

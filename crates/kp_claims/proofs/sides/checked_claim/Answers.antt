@@ -3,7 +3,7 @@ use Rattle.kp_kore.specs.View.{view}
 use Rattle.kp_signature.specs.Places.{the_top}
 use Rattle.kp_signature.specs.Verify.{first_fault}
 use Rattle.kp_signature.specs.View.{signature_view}
-use Rattle.kp_states.specs.Spelled.{first_foreign}
+use Rattle.kp_compile.specs.Spelled.{first_foreign}
 use Rattle.kp_claims.specs.Faults.{bare_claim, IsFaultOfSides, TellsOf}
 use Rattle.kp_claims.specs.Sides.{sides_view}
 use Rattle.kp_claims.proofs.Claimed.{meaning_faultless, told_by_verify, told_by_foreign, told_by_number}

@@ -2,8 +2,8 @@ use Rattle.std.proofs.Common.{sym, subst}
 use Rattle.std.specs.List.{AllByRecursion}
 use Rattle.kp_compile.specs.Parts.{seen}
 use Rattle.kp_kore.specs.View.{view}
-use Rattle.kp_terms.specs.Faultless.{IsFaultless}
-use Rattle.kp_terms.specs.Languages.{language_view}
+use Rattle.kp_symbolic.specs.Faultless.{IsFaultless}
+use Rattle.kp_symbolic.specs.Languages.{language_view}
 use Rattle.kp_leaves.proofs.FaultlessLemmas.{handed}
 use Rattle.kp_clauses.proofs.FaultlessLemmas.{of_conjuncts}
 use Rattle.kp_clauses.proofs.conjunct.clauses_of.Goals as goal

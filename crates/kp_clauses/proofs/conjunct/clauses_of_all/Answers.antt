@@ -1,7 +1,7 @@
 use Rattle.std.proofs.Common.{map}
 use Rattle.std.proofs.lemmas.Result.{err_from_is_err_and}
-use Rattle.kp_terms.specs.Languages.{language_view}
-use Rattle.kp_terms.specs.View.{clauses_view, replaced_view}
+use Rattle.kp_symbolic.specs.Languages.{language_view}
+use Rattle.kp_symbolic.specs.View.{clauses_view, replaced_view}
 use Rattle.kp_clauses.proofs.ConjunctLemmas.{next_conjunct}
 use Rattle.kp_clauses.proofs.FaultlessLemmas.{at_place}
 use Rattle.kp_clauses.proofs.conjunct.clauses_of_all.Goals as goal

@@ -1,8 +1,8 @@
 use Rattle.std.proofs.Common.{◌≡◌, ◌++◌, ◌≤◌, map, drop}
 use Rattle.kp_compile.specs.Parts.{seen}
 use Rattle.kp_symbolic.specs.Clauses.{clauses_of_conjuncts}
-use Rattle.kp_terms.specs.Languages.{language_view}
-use Rattle.kp_terms.specs.View.{replaced_view, clauses_view}
+use Rattle.kp_symbolic.specs.Languages.{language_view}
+use Rattle.kp_symbolic.specs.View.{replaced_view, clauses_view}
 use Rattle.kp_clauses.proofs.conjunct.clauses_of_all.Given as goal
 
 abbrev pub invariant-loop-i : goal.invariant-loop-i

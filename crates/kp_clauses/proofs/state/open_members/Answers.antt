@@ -3,7 +3,7 @@ use Rattle.std.specs.List.{filter, find}
 use Rattle.kp_compile.specs.Parts.{seen}
 use Rattle.kp_kore.specs.Parts.{is_term}
 use Rattle.kp_kore.specs.View.{view}
-use Rattle.kp_terms.specs.Languages.{language_view}
+use Rattle.kp_symbolic.specs.Languages.{language_view}
 use Rattle.kp_clauses.proofs.FaultlessLemmas.{of_members, not_found}
 use Rattle.kp_clauses.proofs.state.open_members.Goals as goal
 

@@ -5,9 +5,9 @@ use Rattle.kp_kore.specs.Syntax.{KorePattern}
 use Rattle.kp_kore.specs.Parts.{is_term}
 use Rattle.kp_kore.specs.View.{view, sort_view}
 use Rattle.kp_compile.specs.Parts.{seen}
-use Rattle.kp_terms.specs.Faultless.{IsFaultless}
-use Rattle.kp_terms.specs.Languages.{language_view}
-use Rattle.kp_terms.specs.View.{state_view}
+use Rattle.kp_symbolic.specs.Faultless.{IsFaultless}
+use Rattle.kp_symbolic.specs.Languages.{language_view}
+use Rattle.kp_symbolic.specs.View.{state_view}
 use Rattle.kp_clauses.specs.Faults.{members_fault}
 use Rattle.kp_clauses.specs.Opened.{opened_of}
 use Rattle.kp_clauses.proofs.FaultlessLemmas.{of_conjuncts}

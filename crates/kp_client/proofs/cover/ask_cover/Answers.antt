@@ -1,7 +1,7 @@
 use Rattle.std.proofs.Common.{◌<◌, ◌^◌, subst, arith}
 use Rattle.serde_json.specs.Data.{unsigned}
 use Rattle.kp_kore.specs.View.{view}
-use Rattle.kp_semantics.specs.ClaimView.{claim_view}
+use Rattle.kp_kore.specs.ClaimView.{claim_view}
 use Rattle.kp_replies.specs.Read.{implies}
 use Rattle.kp_rpc.specs.Request.{id_number}
 use Rattle.kp_client.specs.Answers.{IsHeard}

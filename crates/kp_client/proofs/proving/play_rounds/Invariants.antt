@@ -1,4 +1,4 @@
-use Rattle.kp_semantics.specs.ClaimView.{claim_view}
+use Rattle.kp_kore.specs.ClaimView.{claim_view}
 use Rattle.kp_graph.specs.TreeView.{tree_view}
 use Rattle.kp_client.specs.Answers.{Played}
 use Rattle.kp_client.proofs.proving.play_rounds.Given as goal

@@ -2,8 +2,8 @@ use Rattle.std.proofs.Common.{◌≡◌, [], subst}
 use Rattle.kp_kore.specs.Parts.{free_variables}
 use Rattle.kp_graph.specs.Says.{TreeSays}
 use Rattle.std.specs.Prelude.{IfOk}
-use Rattle.kp_semantics.specs.Claims.{ReachabilityClaim, Holds}
-use Rattle.kp_semantics.specs.ClaimView.{claim_view}
+use Rattle.kp_kore.specs.Claims.{ReachabilityClaim, Holds}
+use Rattle.kp_kore.specs.ClaimView.{claim_view}
 use Rattle.kp_graph.specs.TreeView.{tree_view}
 use Rattle.kp_client.specs.Rounds.{passed, failed_at}
 use Rattle.kp_client.specs.Sound.{AreReadBack, IsGround, IsStuckAt}

@@ -4,7 +4,7 @@ use mir.Syntax.{w64}
 use mir.Val.{SFits}
 use Rattle.std.proofs.lemmas.Result.{IfOk-weaker}
 use Rattle.kp_kore.specs.View.{view}
-use Rattle.kp_semantics.specs.ClaimView.{claim_view}
+use Rattle.kp_kore.specs.ClaimView.{claim_view}
 use Rattle.kp_graph.specs.TreeView.{tree_view}
 use Rattle.kp_graph.specs.Tree.{reply, cover as covered, with_arc, with_hold}
 use Rattle.kp_client.specs.Answers.{PlaysRound, PlaysSteps, IsCoverAnswer}

@@ -4,7 +4,7 @@ use Rattle.kp_kore.specs.Parts.{is_term, subpatterns, free_variables}
 use Rattle.kp_kore.specs.Syntax.{negation, conjunction, disjunction, implication, equivalence, equals, membership, ceil, floor}
 use Rattle.kp_kore.specs.View.{view, sort_view, patterns_view}
 use Rattle.kp_kore.specs.declared.pattern.Pattern.{the_lemmas}
-use Rattle.kp_semantics.specs.Numbers.{is_wide_call, computes_wide}
+use Rattle.kp_kore.specs.Numbers.{is_wide_call, computes_wide}
 use Rattle.kp_signature.specs.View.{signature_view}
 use Rattle.kp_compile.specs.Exact.{IsConditionOf, AreConditionsOf, IsConditionNarrowAs, AreConditionsNarrowAs, ConditionReadsAs, ConditionsReadAs, are_named}
 use Rattle.kp_compile.specs.Names.{names_seen}

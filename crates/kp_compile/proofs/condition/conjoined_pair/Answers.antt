@@ -2,7 +2,7 @@ use Rattle.std.proofs.Common.{rules, ◌≡◌, ◌∙◌, sym, ap, length}
 use Rattle.kp_kore.specs.Syntax.{conjunction}
 use Rattle.kp_kore.specs.View.{view, sort_view, patterns_view}
 use Rattle.kp_kore.specs.declared.pattern.Pattern.{the_lemmas}
-use Rattle.kp_semantics.specs.Instance.{is_conjoined_pair}
+use Rattle.kp_kore.specs.Instance.{is_conjoined_pair}
 use Rattle.kp_compile.proofs.Arity.{not_two_conjoined, first_no_term, second_no_term}
 use Rattle.kp_compile.proofs.condition.conjoined_pair.Goals as goal
 use Rattle.kp_compile.proofs.condition.conjoined_pair.Goals.{else-len-eq2-via-then-len-eq2+then-is_term+else-is_term-2, else-len-eq2-via-then-len-eq2+else-is_term, else-len-eq2-via-else-len-eq2}

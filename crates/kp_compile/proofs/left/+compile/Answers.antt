@@ -5,7 +5,7 @@ use Rattle.kp_kore.specs.Parts.{all_free_variables, free_variables}
 use Rattle.kp_kore.specs.View.{view, sort_view, sorts_view, patterns_view}
 use Rattle.kp_kore.specs.Signature.{meaning_of, construction, injection, interpretation}
 use Rattle.kp_kore.specs.declared.pattern.Pattern.{the_lemmas}
-use Rattle.kp_semantics.specs.Value.{constructed}
+use Rattle.kp_kore.specs.Value.{constructed}
 use Rattle.kp_ground.specs.Slots.{is_numbered, joined, left_places, names_after}
 use Rattle.kp_signature.specs.View.{signature_view}
 use Rattle.kp_compile.specs.Exact.{IsLeftOf, AreLeftsOf}

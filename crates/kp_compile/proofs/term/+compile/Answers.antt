@@ -6,8 +6,8 @@ use Rattle.kp_kore.specs.Parts.{free_variables}
 use Rattle.kp_kore.specs.View.{view, sorts_view, patterns_view}
 use Rattle.kp_kore.specs.Signature.{meaning_of, construction, injection, interpretation}
 use Rattle.kp_kore.specs.declared.pattern.Pattern.{the_lemmas}
-use Rattle.kp_semantics.specs.Value.{constructed}
-use Rattle.kp_hooks.specs.HookView.{hook_view}
+use Rattle.kp_kore.specs.Value.{constructed}
+use Rattle.kp_kore.specs.HookView.{hook_view}
 use Rattle.kp_ground.specs.TermView.{term_view}
 use Rattle.kp_signature.specs.View.{signature_view}
 use Rattle.kp_compile.specs.Exact.{IsTermOf, AreTermsOf, IsNarrowAs, AreTermsNarrowAs, ReadsAs, ReadAllAs, are_named}

@@ -5,9 +5,9 @@ use Rattle.kp_kore.specs.Syntax.{negation, conjunction, disjunction, implication
 use Rattle.kp_kore.specs.View.{view, sort_view, patterns_view}
 use Rattle.kp_kore.specs.declared.pattern.Pattern.{the_lemmas}
 use Rattle.kp_symbolic.specs.Opening.{all_opened, opened_leaf}
-use Rattle.kp_terms.specs.Faultless.{IsFaultless}
-use Rattle.kp_terms.specs.Languages.{language_view}
-use Rattle.kp_terms.specs.View.{replaced_view}
+use Rattle.kp_symbolic.specs.Faultless.{IsFaultless}
+use Rattle.kp_symbolic.specs.Languages.{language_view}
+use Rattle.kp_symbolic.specs.View.{replaced_view}
 use Rattle.kp_distribution.specs.Distribution.{distribution_of, distributions_of, all_distributed, one_distributed, agreement_of}
 use Rattle.kp_distribution.specs.View.{distributed_view}
 use Rattle.kp_leaves.proofs.FaultlessLemmas.{handed, of_negation, of_ceil, of_floor, of_conjunction, of_disjunction, first_implied, second_implied, first_equivalent, second_equivalent}

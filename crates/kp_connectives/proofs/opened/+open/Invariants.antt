@@ -1,8 +1,8 @@
 use Rattle.std.proofs.Common.{◌≡◌, ◌++◌, true, false, map, drop}
 use Rattle.kp_kore.specs.View.{patterns_view}
 use Rattle.kp_symbolic.specs.Opening.{all_opened, opened_leaf}
-use Rattle.kp_terms.specs.Languages.{language_view}
-use Rattle.kp_terms.specs.View.{replaced_view}
+use Rattle.kp_symbolic.specs.Languages.{language_view}
+use Rattle.kp_symbolic.specs.View.{replaced_view}
 use Rattle.kp_distribution.specs.Distribution.{distributions_of}
 use Rattle.kp_distribution.specs.View.{distributed_view}
 use Rattle.kp_connectives.proofs.opened.+open.Given as goal

@@ -2,8 +2,8 @@ use Rattle.std.proofs.Common.{rules, ◌≡◌, ◌∙◌, sym, subst, true, fal
 use Rattle.std.specs.List.{AllByRecursion, list_all}
 use Rattle.kp_signature.specs.View.{signature_view}
 use Rattle.kp_heads.specs.Heads.{HasValue}
-use Rattle.kp_terms.specs.View as terms
-use Rattle.kp_terms.specs.View.{state_view, variables_view}
+use Rattle.kp_symbolic.specs.View as terms
+use Rattle.kp_symbolic.specs.View.{state_view, variables_view}
 use Rattle.kp_deciding.specs.Readings.{clauses_view}
 use Rattle.kp_decide.specs.Heads.{AreStanding}
 use Rattle.kp_decide.specs.Read.{has_literal, AreReadOf}

@@ -1,6 +1,6 @@
 use Rattle.std.proofs.Common.{rules, arith, ◌≡◌, ◌∙◌, sym, subst, true, false, None, length}
 use Rattle.kp_signature.specs.View.{signature_view}
-use Rattle.kp_terms.specs.View.{state_view}
+use Rattle.kp_symbolic.specs.View.{state_view}
 use Rattle.kp_deciding.specs.Readings.{clauses_view}
 use Rattle.kp_weights.specs.Told.{TellsOver}
 use Rattle.kp_choices.specs.Holding.{CanBeAsked, CanBeDecided}

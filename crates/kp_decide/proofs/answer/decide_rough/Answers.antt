@@ -1,6 +1,6 @@
 use Rattle.std.proofs.Common.{rules, ◌≡◌, ◌∙◌, sym, subst, false}
 use Rattle.kp_signature.specs.View.{signature_view}
-use Rattle.kp_terms.specs.View.{state_view}
+use Rattle.kp_symbolic.specs.View.{state_view}
 use Rattle.kp_deciding.specs.Readings.{clauses_view}
 use Rattle.kp_weights.specs.Told.{TellsOver}
 use Rattle.kp_decide.proofs.Answered.{if_ok, right_where_all_met, open_where_none_met, open_where_none_plain, heavy_where_over}

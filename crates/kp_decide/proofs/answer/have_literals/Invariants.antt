@@ -1,6 +1,6 @@
 use Rattle.std.proofs.Common.{◌≡◌, drop}
 use Rattle.std.specs.List.{list_all}
-use Rattle.kp_terms.specs.View.{clauses_view}
+use Rattle.kp_symbolic.specs.View.{clauses_view}
 use Rattle.kp_decide.specs.Read.{has_literal}
 use Rattle.kp_decide.proofs.answer.have_literals.Given as goal
 

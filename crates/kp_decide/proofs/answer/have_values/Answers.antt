@@ -2,7 +2,7 @@ use Rattle.std.proofs.Common.{rules, ◌≡◌, ◌∙◌, sym, subst, true, fal
 use Rattle.kp_demands.proofs.Lists.{image_at}
 use Rattle.kp_signature.specs.View.{signature_view}
 use Rattle.kp_heads.specs.Heads.{HasValue}
-use Rattle.kp_terms.specs.View.{variable_view}
+use Rattle.kp_symbolic.specs.View.{variable_view}
 use Rattle.kp_decide.proofs.Along.{image_more}
 use Rattle.kp_decide.proofs.HeadSearch.{true_false}
 use Rattle.kp_decide.proofs.answer.have_values.Goals as goal

@@ -2,7 +2,7 @@ use Rattle.std.proofs.Common.{take}
 use Rattle.std.specs.List.{AllByRecursion}
 use Rattle.kp_heads.specs.Heads.{HasValue}
 use Rattle.kp_signature.specs.View.{signature_view}
-use Rattle.kp_terms.specs.View.{variables_view}
+use Rattle.kp_symbolic.specs.View.{variables_view}
 use Rattle.kp_decide.proofs.answer.have_values.Given as goal
 
 abbrev pub invariant-loop-variable : goal.invariant-loop-variable

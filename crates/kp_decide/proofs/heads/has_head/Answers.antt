@@ -4,7 +4,7 @@ use Rattle.kp_signature.specs.View.{signature_view}
 use Rattle.kp_heads.specs.Made.{IsHeadTableOf}
 use Rattle.kp_sort_heads.specs.Live.{IsNextLive}
 use Rattle.kp_sort_heads.specs.Views.{head_view, left_of}
-use Rattle.kp_terms.specs.View.{variable_view}
+use Rattle.kp_symbolic.specs.View.{variable_view}
 use Rattle.kp_deciding.specs.Readings.{clauses_view}
 use Rattle.kp_decide.proofs.HeadSearch.{searched_none, searched_more, found, found_none}
 use Rattle.kp_decide.proofs.heads.has_head.Goals as goal

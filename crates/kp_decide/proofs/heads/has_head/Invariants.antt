@@ -1,7 +1,7 @@
 use Rattle.std.proofs.Common.{◌≡◌, length}
 use Rattle.kp_signature.specs.View.{signature_view}
 use Rattle.kp_sort_heads.specs.Views.{left_of}
-use Rattle.kp_terms.specs.View.{variable_view}
+use Rattle.kp_symbolic.specs.View.{variable_view}
 use Rattle.kp_deciding.specs.Readings.{clauses_view}
 use Rattle.kp_decide.proofs.HeadSearch.{IsSearched}
 use Rattle.kp_decide.proofs.heads.has_head.Given as goal

@@ -1,6 +1,6 @@
 use Rattle.std.proofs.Common.{◌≡◌, map, length}
 use Rattle.kp_kore.specs.View.{sort_view}
-use Rattle.kp_subsorts.specs.Pairs.{subsort_view}
+use Rattle.kp_signature.specs.Pairs.{subsort_view}
 use Rattle.kp_signature.specs.View.{signature_view}
 use Rattle.kp_deciding.specs.Kinds.{lower_sorts, one_kind_of_tokens}
 use Rattle.kp_deciding.proofs.kinds.has_one_kind.Given as goal

@@ -1,7 +1,7 @@
 use Rattle.std.proofs.Common.{◌≡◌, map, drop}
 use Rattle.kp_kore.specs.Signature.{is_boolean_sort}
 use Rattle.kp_kore.specs.View.{sort_view}
-use Rattle.kp_subsorts.specs.Pairs.{subsort_view}
+use Rattle.kp_signature.specs.Pairs.{subsort_view}
 use Rattle.kp_signature.specs.View.{signature_view}
 use Rattle.kp_deciding.specs.Kinds.{lower_sorts, some_below}
 use Rattle.kp_deciding.proofs.kinds.has_truths_among.Given as goal

@@ -1,7 +1,7 @@
 use Rattle.std.proofs.Common.{◌≡◌, List, map, true}
 use Rattle.kp_kore.specs.Signature.{KoreSignature}
 use Rattle.kp_kore.specs.Syntax.{Text}
-use Rattle.kp_semantics.specs.Instance.{Valuation}
+use Rattle.kp_kore.specs.Instance.{Valuation}
 use Rattle.kp_ground.specs.Slots.{is_numbered, joined, left_places}
 use Rattle.kp_depths.specs.View.{AreDepthsUnder, AreDepthsOfLefts}
 use Rattle.kp_depths.proofs.Slotted.{IsBoundSoFar}

@@ -4,7 +4,7 @@ use Rattle.kp_kore.specs.Parts.{most_term_depth}
 use Rattle.kp_kore.specs.View.{sorts_view}
 use Rattle.kp_signature.specs.View.{signature_view}
 use Rattle.kp_ground.specs.View.{value_view, values_of}
-use Rattle.kp_states.specs.Spelled.{spellings}
+use Rattle.kp_compile.specs.Spelled.{spellings}
 use Rattle.kp_depths.specs.Depths.{counted}
 use Rattle.kp_depths.specs.View.{AreDepthsOfAll}
 use Rattle.kp_depths.proofs.Levels.{depth_from}

@@ -2,8 +2,8 @@ use Rattle.std.proofs.Common.{rules, ◌≡◌, ◌∙◌, sym, ap, subst, take,
 use Rattle.std.proofs.lemmas.Result.{IfOk-weaker}
 use Rattle.std.specs.List.{list_all}
 use Rattle.kp_kore.specs.Syntax.{Text}
-use Rattle.kp_semantics.specs.Instance.{Valuation}
-use Rattle.kp_semantics.specs.Value.{constructed}
+use Rattle.kp_kore.specs.Instance.{Valuation}
+use Rattle.kp_kore.specs.Value.{constructed}
 use Rattle.kp_ground.specs.Slots.{stands_at, term_reads}
 use Rattle.kp_ground.specs.Terms.{bound, built, term_value}
 use Rattle.kp_ground.specs.TermView.{term_view, terms_of}

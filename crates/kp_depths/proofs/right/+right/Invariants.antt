@@ -2,7 +2,7 @@ use Rattle.std.proofs.Common.{◌≡◌, List, take, true}
 use Rattle.std.specs.List.{list_all}
 use Rattle.kp_kore.specs.Syntax.{Text}
 use Rattle.kp_signature.specs.View.{signature_view}
-use Rattle.kp_semantics.specs.Instance.{Valuation}
+use Rattle.kp_kore.specs.Instance.{Valuation}
 use Rattle.kp_ground.specs.Slots.{term_reads}
 use Rattle.kp_depths.specs.View.{AreDepthsOfAll, AreDepthsUnder, AreTermValues}
 use Rattle.kp_depths.proofs.right.+right.Given as goal

@@ -1,7 +1,7 @@
 use Rattle.std.proofs.Common.{◌≡◌, ◌++◌, map, drop}
 use Rattle.kp_symbolic.specs.Alike.{literals_same}
 use Rattle.kp_symbolic.specs.Formulas.{joined}
-use Rattle.kp_terms.specs.View.{clause_view, clauses_view}
+use Rattle.kp_symbolic.specs.View.{clause_view, clauses_view}
 use Rattle.kp_distribution.proofs.joined.add_joined.Given as goal
 
 abbrev pub invariant-loop-other : goal.invariant-loop-other

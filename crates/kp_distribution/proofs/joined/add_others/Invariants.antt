@@ -1,7 +1,7 @@
 use Rattle.std.proofs.Common.{◌≡◌, ◌++◌, not, map, drop}
 use Rattle.std.specs.List.{filter, list_any}
 use Rattle.kp_symbolic.specs.Alike.{literals_same}
-use Rattle.kp_terms.specs.View.{literal_view}
+use Rattle.kp_symbolic.specs.View.{literal_view}
 use Rattle.kp_distribution.proofs.joined.add_others.Given as goal
 
 abbrev pub invariant-loop-literal : goal.invariant-loop-literal

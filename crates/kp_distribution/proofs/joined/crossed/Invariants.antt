@@ -1,7 +1,7 @@
 use Rattle.std.proofs.Common.{◌≡◌, ◌++◌, map, drop}
 use Rattle.kp_symbolic.specs.Alike.{literals_same}
 use Rattle.kp_symbolic.specs.Formulas.{crossed}
-use Rattle.kp_terms.specs.View.{clauses_view}
+use Rattle.kp_symbolic.specs.View.{clauses_view}
 use Rattle.kp_distribution.proofs.joined.crossed.Given as goal
 
 abbrev pub invariant-loop-first : goal.invariant-loop-first

@@ -2,7 +2,7 @@ use Rattle.std.proofs.Common.{◌≡◌, drop}
 use Rattle.std.specs.List.{list_any}
 use Rattle.kp_symbolic.specs.Alike.{literals_same}
 use Rattle.kp_symbolic.specs.Formulas.{clauses_same}
-use Rattle.kp_terms.specs.View.{clause_view, clauses_view}
+use Rattle.kp_symbolic.specs.View.{clause_view, clauses_view}
 use Rattle.kp_distribution.proofs.joined.is_kept.Given as goal
 
 abbrev pub invariant-loop-other : goal.invariant-loop-other

@@ -1,6 +1,6 @@
 use Rattle.std.proofs.Common.{◌≡◌}
 use Rattle.kp_symbolic.specs.Alike.{literals_same}
-use Rattle.kp_terms.specs.View.{literal_view}
+use Rattle.kp_symbolic.specs.View.{literal_view}
 use Rattle.kp_opening.proofs.SameLemmas.{same_decision}
 use Rattle.kp_distribution.proofs.AlikeItself.{literals_same-Decides}
 use Rattle.kp_distribution.proofs.joined.is_same.Goals as goal

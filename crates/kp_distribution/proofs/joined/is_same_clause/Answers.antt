@@ -1,7 +1,7 @@
 use Rattle.std.proofs.Common.{◌≡◌}
 use Rattle.kp_symbolic.specs.Alike.{literals_same}
 use Rattle.kp_symbolic.specs.Formulas.{clauses_same}
-use Rattle.kp_terms.specs.View.{clause_view}
+use Rattle.kp_symbolic.specs.View.{clause_view}
 use Rattle.kp_opening.proofs.SameLemmas.{same_decision}
 use Rattle.kp_distribution.proofs.AlikeItself.{clauses_same-Decides}
 use Rattle.kp_distribution.proofs.joined.is_same_clause.Goals as goal

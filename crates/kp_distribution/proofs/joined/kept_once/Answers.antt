@@ -1,5 +1,5 @@
 use Rattle.std.proofs.Common.{rules, ◌≡◌, ◌∙◌, sym, ap, true, false, min, ◌-◌, ◌^◌, ◌∷◌, [], ◌++◌}
-use Rattle.kp_terms.specs.View.{clause_view, clauses_view}
+use Rattle.kp_symbolic.specs.View.{clause_view, clauses_view}
 use Rattle.kp_distribution.proofs.KeptLemmas.{literals_in, is_repeat, repeat_left, other_kept, one_more_counted}
 use Rattle.kp_distribution.proofs.joined.kept_once.Goals as goal
 

@@ -1,5 +1,5 @@
 use Rattle.std.proofs.Common.{◌≡◌, ◌-◌, ◌^◌, min, []}
-use Rattle.kp_terms.specs.View.{clauses_view}
+use Rattle.kp_symbolic.specs.View.{clauses_view}
 use Rattle.kp_distribution.proofs.KeptLemmas.{kept_from, literals_in}
 use Rattle.kp_distribution.proofs.joined.kept_once.Given as goal
 

@@ -1,5 +1,5 @@
 use Rattle.std.proofs.Common.{◌≡◌, ◌++◌, map, drop}
-use Rattle.kp_terms.specs.View.{literal_view}
+use Rattle.kp_symbolic.specs.View.{literal_view}
 use Rattle.kp_distribution.proofs.joined.share_literals.Given as goal
 
 abbrev pub invariant-loop-literal : goal.invariant-loop-literal

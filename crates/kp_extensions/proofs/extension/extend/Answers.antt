@@ -2,7 +2,7 @@ use Rattle.std.proofs.Common.{◌≡◌, sym, ap, subst, map}
 use Rattle.std.specs.List.{AllZip}
 use Rattle.kp_kore.specs.View.{module_view, sentence_view}
 use Rattle.kp_signature.specs.View.{signature_view}
-use Rattle.kp_semantics.specs.Theory.{rewrite_axioms_from}
+use Rattle.kp_kore.specs.Theory.{rewrite_axioms_from}
 use Rattle.kp_book.specs.Books.{extended}
 use Rattle.kp_extensions.specs.Extending.{AreSetsOf, IsTakenFrom}
 use Rattle.kp_modules.specs.Made.{IsSetOf}

@@ -2,7 +2,7 @@ use Rattle.std.proofs.Common.{rules, ◌≡◌, sym, ap, subst, ◌∙◌, map, 
 use Rattle.std.specs.List.{AllZip}
 use Rattle.kp_kore.specs.View.{sentence_view}
 use Rattle.kp_signature.specs.View.{signature_view}
-use Rattle.kp_semantics.specs.Theory.{rewrite_axioms_from}
+use Rattle.kp_kore.specs.Theory.{rewrite_axioms_from}
 use Rattle.kp_modules.specs.Axioms.{axioms_view}
 use Rattle.kp_extensions.specs.Extending.{AreAllSound, ExtendFault, IsFirstUnsound, IsTakenFrom, extend_fault, rule_fault}
 use Rattle.kp_modules.specs.Made.{AreRewriting}

@@ -2,7 +2,7 @@ use Rattle.std.proofs.Common.{rules, ◌≡◌, ap, sym, subst, ◌∙◌, ◌�
 use Rattle.std.specs.List.{AllZip}
 use Rattle.std.proofs.lemmas.List.{take_all}
 use Rattle.kp_signature.specs.View.{signature_view}
-use Rattle.kp_semantics.specs.Rules.{is_rewriting}
+use Rattle.kp_kore.specs.Rules.{is_rewriting}
 use Rattle.kp_rules.specs.declared.rule.Rule.{Rule}
 use Rattle.kp_modules.specs.Axioms.{axiom_view, axioms_view}
 use Rattle.kp_extensions.specs.Extending.{AreAllSound, ExtendFault, IsFirstUnsound, IsTakenFrom, extend_fault, rule_fault}

@@ -1,7 +1,7 @@
 use Rattle.std.proofs.Common.{List, take}
 use Rattle.kp_kore.specs.Syntax.{Text}
 use Rattle.kp_kore.specs.Signature.{KoreSignature}
-use Rattle.kp_semantics.specs.Theory.{NumberedAxiom}
+use Rattle.kp_kore.specs.Theory.{NumberedAxiom}
 use Rattle.kp_extensions.specs.Extending.{AreTakenFrom}
 use Rattle.kp_modules.specs.Labels.{Counts}
 use Rattle.kp_modules.specs.Made.{AreMadeOf}

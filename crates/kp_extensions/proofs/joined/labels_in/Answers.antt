@@ -1,5 +1,5 @@
 use Rattle.std.proofs.Common.{rules, ◌≡◌, ◌≤◌, ◌+◌, sym, subst, length, take, get_or}
-use Rattle.kp_semantics.specs.Theory.{labels_of}
+use Rattle.kp_kore.specs.Theory.{labels_of}
 use Rattle.kp_extensions.specs.Extending.{IsTakenFrom}
 use Rattle.kp_modules.specs.Labels.{Counts}
 use Rattle.kp_extensions.proofs.Gathering.{zip_at, zip_all}

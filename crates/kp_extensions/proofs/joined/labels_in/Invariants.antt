@@ -1,6 +1,6 @@
 use Rattle.std.proofs.Common.{List, take}
 use Rattle.kp_kore.specs.Signature.{KoreSignature}
-use Rattle.kp_semantics.specs.Theory.{NumberedAxiom, labels_of}
+use Rattle.kp_kore.specs.Theory.{NumberedAxiom, labels_of}
 use Rattle.kp_extensions.specs.Extending.{AreTakenFrom}
 use Rattle.kp_modules.specs.Labels.{Counts}
 use Rattle.kp_extensions.proofs.joined.labels_in.Given as goal

@@ -1,6 +1,6 @@
 use Rattle.std.proofs.Common.{◌≡◌, sym, subst, Option, List, MatchOption, Bor}
 use Rattle.std.specs.List.{AllZip}
-use Rattle.kp_semantics.specs.Theory.{modules_reached, rewrite_axioms}
+use Rattle.kp_kore.specs.Theory.{modules_reached, rewrite_axioms}
 use Rattle.kp_rules.specs.declared.rule.Rule.{Rule}
 use Rattle.kp_modules.specs.Keeping.{own_axioms, own_rules}
 use Rattle.kp_modules.specs.Tables.{rule_set_of}

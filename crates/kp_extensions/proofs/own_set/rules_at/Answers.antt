@@ -1,6 +1,6 @@
 use Rattle.std.proofs.Common.{rules, ◌≡◌, ◌≤◌, ◌+◌, sym, subst, Some, length, slice_get, take, get_or}
 use Rattle.std.proofs.lemmas.Grind.{get_or_default_zero}
-use Rattle.kp_semantics.specs.Theory.{modules_reached, rewrite_axioms}
+use Rattle.kp_kore.specs.Theory.{modules_reached, rewrite_axioms}
 use Rattle.kp_extensions.specs.Extending.{AreTakenFrom}
 use Rattle.kp_extensions.proofs.Gathering.{zip_at, zip_all}
 use Rattle.kp_extensions.proofs.Owned.{each_at, axioms_further}

@@ -1,7 +1,7 @@
 use Rattle.std.proofs.Common.{◌≡◌, List, Some, map, slice_get, take}
 use Rattle.kp_kore.specs.Syntax.{Text, KoreModule, KoreDefinition}
 use Rattle.kp_kore.specs.Signature.{KoreSignature}
-use Rattle.kp_semantics.specs.Theory.{modules_reached, rewrite_axioms}
+use Rattle.kp_kore.specs.Theory.{modules_reached, rewrite_axioms}
 use Rattle.kp_modules.specs.Keeping.{KeepsReached}
 use Rattle.kp_modules.specs.Made.{IsSetOf}
 use Rattle.kp_modules.specs.Tables.{rule_set_of}

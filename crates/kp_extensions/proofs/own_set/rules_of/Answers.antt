@@ -1,5 +1,5 @@
 use Rattle.std.proofs.Common.{◌≡◌, sym, subst, true, false, Option, MatchOption, Vec, ℕ, Global}
-use Rattle.kp_semantics.specs.Theory.{modules_reached, rewrite_axioms}
+use Rattle.kp_kore.specs.Theory.{modules_reached, rewrite_axioms}
 use Rattle.kp_modules.specs.Keeping.{StandsAt}
 use Rattle.kp_imports.specs.Names.{names_of}
 use Rattle.kp_imports.specs.Reaching.{has}

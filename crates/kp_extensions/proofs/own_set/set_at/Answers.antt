@@ -1,6 +1,6 @@
 use Rattle.std.proofs.Common.{◌≡◌, sym, ap, subst, ◌∙◌}
 use Rattle.kp_signature.specs.View.{signature_view}
-use Rattle.kp_semantics.specs.Theory.{rewrite_axioms}
+use Rattle.kp_kore.specs.Theory.{rewrite_axioms}
 use Rattle.kp_modules.specs.Made.{IsSetOf}
 use Rattle.kp_extensions.specs.Extending.{AreTakenFrom}
 use Rattle.kp_extensions.proofs.own_set.set_at.Goals as goal

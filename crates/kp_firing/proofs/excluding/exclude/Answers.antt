@@ -1,5 +1,5 @@
 use Rattle.std.proofs.Common.{sym, subst}
-use Rattle.kp_semantics.specs.Rules.{rewrite}
+use Rattle.kp_kore.specs.Rules.{rewrite}
 use Rattle.kp_rules.specs.Skeletons.{skeleton_view}
 use Rattle.kp_decide.proofs.Answered.{if_ok}
 use Rattle.kp_unify.specs.Views.{signature_of, part_view, numbered_view}

@@ -1,6 +1,6 @@
 use Rattle.std.proofs.Common.{List, ◌++◌}
 use Rattle.kp_kore.specs.Syntax.{Text}
-use Rattle.kp_semantics.specs.Rules.{RuleBody}
+use Rattle.kp_kore.specs.Rules.{RuleBody}
 use Rattle.kp_cases.specs.Parts.{StatePart}
 use Rattle.kp_unify.specs.Views.{signature_of}
 use Rattle.kp_firing.specs.Silent.{IsExcluded}

@@ -1,7 +1,7 @@
 use Rattle.std.proofs.Common.{rules, ◌≡◌, ◌∙◌, ap, subst}
 use Rattle.std.specs.Prelude.{IsTrue}
 use Rattle.kp_symbolic.specs.States.{CanBeTrue}
-use Rattle.kp_terms.specs.View.{clauses_view, state_view}
+use Rattle.kp_symbolic.specs.View.{clauses_view, state_view}
 use Rattle.kp_solving.specs.Further.{constrained}
 use Rattle.kp_decide.specs.Read.{HasSortedClauses}
 use Rattle.kp_decide.proofs.Answered.{if_ok}

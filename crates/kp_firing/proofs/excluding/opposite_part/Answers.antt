@@ -3,7 +3,7 @@ use Rattle.std.specs.List.{AllByRecursion}
 use Rattle.kp_symbolic.specs.Clauses.{is_too_large, denied}
 use Rattle.kp_symbolic.specs.Solving.{negated}
 use Rattle.kp_kept.specs.Kept.{CanBeWrittenAt}
-use Rattle.kp_terms.specs.View.{clauses_view, state_view}
+use Rattle.kp_symbolic.specs.View.{clauses_view, state_view}
 use Rattle.kp_cases.specs.Parts.{with_clauses}
 use Rattle.kp_unify.specs.Views.{signature_of, part_view}
 use Rattle.kp_firing.specs.Firings.{clauses_of_firing}

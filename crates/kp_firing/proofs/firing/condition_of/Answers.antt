@@ -2,8 +2,8 @@ use Rattle.std.proofs.Common.{rules, ◌≡◌, ◌∙◌, ap, subst, map}
 use Rattle.std.specs.Result.{IfOk}
 use Rattle.kp_kore.specs.View.{view}
 use Rattle.kp_compile.specs.Parts.{seen}
-use Rattle.kp_terms.specs.Languages.{language_view}
-use Rattle.kp_terms.specs.View.{clauses_view, replaced_view}
+use Rattle.kp_symbolic.specs.Languages.{language_view}
+use Rattle.kp_symbolic.specs.View.{clauses_view, replaced_view}
 use Rattle.kp_firing.specs.Conditions.{condition_clauses}
 use Rattle.kp_firing.proofs.firing.condition_of.Goals as goal
 

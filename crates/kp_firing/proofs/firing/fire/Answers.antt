@@ -4,7 +4,7 @@ use Rattle.std.specs.List.{AllByRecursion}
 use Rattle.kp_kore.specs.View.{view}
 use Rattle.kp_rules.specs.Skeletons.{skeleton_view}
 use Rattle.kp_symbolic.specs.WellFormed.{AreWellPlaced}
-use Rattle.kp_terms.specs.View.{clauses_view, replaced_view}
+use Rattle.kp_symbolic.specs.View.{clauses_view, replaced_view}
 use Rattle.kp_cases.specs.Courses.{IsBoundTo, form_variables}
 use Rattle.kp_unify.specs.Views.{signature_of, part_view, met_view, numbered_view}
 use Rattle.kp_unify.specs.Way.{IsAllApart, IsMeeting}

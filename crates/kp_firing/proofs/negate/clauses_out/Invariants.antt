@@ -3,8 +3,8 @@ use Rattle.std.specs.List.{AllByRecursion}
 use Rattle.kp_kore.specs.View.{view, sort_view}
 use Rattle.kp_symbolic.specs.Writing.{written_clause}
 use Rattle.kp_kept.specs.Kept.{CanBeWrittenAt}
-use Rattle.kp_terms.specs.Languages.{language_view}
-use Rattle.kp_terms.specs.View.{clause_view}
+use Rattle.kp_symbolic.specs.Languages.{language_view}
+use Rattle.kp_symbolic.specs.View.{clause_view}
 use Rattle.kp_firing.proofs.negate.clauses_out.Given as goal
 
 abbrev pub invariant-loop-clause : goal.invariant-loop-clause

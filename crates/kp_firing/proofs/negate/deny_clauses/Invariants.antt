@@ -1,7 +1,7 @@
 use Rattle.std.proofs.Common.{◌≡◌, ◌++◌, map, drop}
 use Rattle.kp_signature.specs.View.{signature_view}
 use Rattle.kp_symbolic.specs.Clauses.{denied_clauses}
-use Rattle.kp_terms.specs.View.{clauses_view}
+use Rattle.kp_symbolic.specs.View.{clauses_view}
 use Rattle.kp_distribution.specs.Distribution.{distributions_of}
 use Rattle.kp_distribution.specs.View.{distributed_view}
 use Rattle.kp_firing.proofs.negate.deny_clauses.Given as goal

@@ -2,7 +2,7 @@ use Rattle.std.proofs.Common.{rules, ◌≡◌, ◌∙◌, false, subst}
 use Rattle.std.specs.Result.{IfOk}
 use Rattle.kp_signature.specs.View.{signature_view}
 use Rattle.kp_symbolic.specs.Clauses.{opened_atom}
-use Rattle.kp_terms.specs.View.{literal_view}
+use Rattle.kp_symbolic.specs.View.{literal_view}
 use Rattle.kp_opening.specs.View.{formula_view}
 use Rattle.kp_distribution.specs.Distribution.{distribution_of}
 use Rattle.kp_distribution.specs.View.{distributed_view}

@@ -1,7 +1,7 @@
 use Rattle.std.proofs.Common.{◌≡◌, ◌++◌, false, map, drop}
 use Rattle.kp_signature.specs.View.{signature_view}
 use Rattle.kp_symbolic.specs.Clauses.{opened_literals}
-use Rattle.kp_terms.specs.View.{literal_view}
+use Rattle.kp_symbolic.specs.View.{literal_view}
 use Rattle.kp_distribution.specs.Distribution.{distributions_of}
 use Rattle.kp_distribution.specs.View.{distributed_view}
 use Rattle.kp_firing.proofs.negate.deny_literals.Given as goal

@@ -4,8 +4,8 @@ use Rattle.std.specs.List.{AllByRecursion}
 use Rattle.kp_kore.specs.View.{sort_view}
 use Rattle.kp_symbolic.specs.Clauses.{is_too_large, denied}
 use Rattle.kp_kept.specs.Kept.{CanBeWrittenAt}
-use Rattle.kp_terms.specs.Languages.{language_view}
-use Rattle.kp_terms.specs.View.{clauses_view}
+use Rattle.kp_symbolic.specs.Languages.{language_view}
+use Rattle.kp_symbolic.specs.View.{clauses_view}
 use Rattle.kp_distribution.specs.Distribution.{distribution_of}
 use Rattle.kp_distribution.specs.View.{distributed_view}
 use Rattle.kp_outward.proofs.RoomLemmas.{on_ok}

@@ -2,7 +2,7 @@ use Rattle.std.proofs.Common.{◌≡◌, refl, ap, subst}
 use Rattle.std.specs.Result.{IfOk}
 use Rattle.kp_signature.specs.View.{signature_view}
 use Rattle.kp_opening.specs.View.{formula_view}
-use Rattle.kp_terms.specs.View.{atom_view, literal_view, term_view, test_view, variable_view}
+use Rattle.kp_symbolic.specs.View.{atom_view, literal_view, term_view, test_view, variable_view}
 use Rattle.kp_firing.proofs.NegateLemmas.{head_opened}
 use Rattle.kp_firing.proofs.negate.open_again.Goals as goal
 

@@ -1,6 +1,6 @@
 use Rattle.kp_kore.specs.View.{sort_view}
 use Rattle.kp_kept.specs.Kept.{CanBeWrittenAt}
-use Rattle.kp_terms.specs.Languages.{language_view}
+use Rattle.kp_symbolic.specs.Languages.{language_view}
 use Rattle.kp_firing.proofs.NegateLemmas.{of_each}
 use Rattle.kp_firing.proofs.negate.quote_denied.Goals as goal
 

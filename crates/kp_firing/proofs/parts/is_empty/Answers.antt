@@ -1,5 +1,5 @@
 use Rattle.kp_signature.specs.View.{signature_view}
-use Rattle.kp_terms.specs.View.{state_view}
+use Rattle.kp_symbolic.specs.View.{state_view}
 use Rattle.kp_firing.proofs.parts.is_empty.Goals as goal
 
 pub returns : goal.returns

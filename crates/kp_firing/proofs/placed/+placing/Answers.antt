@@ -1,7 +1,7 @@
 use Rattle.std.proofs.Common.{rules, ◌≡◌, ◌≤◌, length, map, string_bytes}
 use Rattle.kp_kore.specs.View.{sort_view}
 use Rattle.kp_signature.specs.View.{signature_view}
-use Rattle.kp_terms.specs.View.{replaced_view}
+use Rattle.kp_symbolic.specs.View.{replaced_view}
 use Rattle.kp_rules.specs.Skeletons.{one_of, built, skeleton_view, forms_of}
 use Rattle.kp_rules.specs.declared.skeleton.Skeleton.{the_lemmas}
 use Rattle.kp_firing.proofs.PlacedLemmas.{variable_placed, built_placed, member_further, members_done}

@@ -2,7 +2,7 @@ use Rattle.std.proofs.Common.{map, drop}
 use Rattle.std.specs.List.{AllByRecursion}
 use Rattle.kp_signature.specs.View.{signature_view}
 use Rattle.kp_symbolic.specs.WellFormed.{AreWellPlaced}
-use Rattle.kp_terms.specs.View.{replaced_view}
+use Rattle.kp_symbolic.specs.View.{replaced_view}
 use Rattle.kp_rules.specs.Skeletons.{skeleton_view, forms_of}
 use Rattle.kp_cases.specs.Parts.{StatePart}
 use Rattle.kp_cases.specs.Courses.{IsBoundTo, all_form_variables}

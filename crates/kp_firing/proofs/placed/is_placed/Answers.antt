@@ -4,7 +4,7 @@ use Rattle.kp_kore.specs.Parts.{SortedName}
 use Rattle.kp_kore.specs.View.{sort_view}
 use Rattle.kp_signature.specs.View.{signature_view}
 use Rattle.kp_symbolic.specs.Terms.{replacement_for}
-use Rattle.kp_terms.specs.View.{replaced_view, term_view}
+use Rattle.kp_symbolic.specs.View.{replaced_view, term_view}
 use Rattle.kp_firing.proofs.PlacedLemmas.{bound_placed}
 use Rattle.kp_firing.proofs.placed.is_placed.Goals as goal
 

@@ -1,6 +1,6 @@
 use Rattle.std.proofs.Common.{◌≡◌, ◌++◌, drop}
 use Rattle.kp_kore.specs.View.{patterns_view}
-use Rattle.kp_semantics.specs.Instance.{all_conjuncts}
+use Rattle.kp_kore.specs.Instance.{all_conjuncts}
 use Rattle.kp_compile.specs.Parts.{seen}
 use Rattle.kp_forms.proofs.conjunction.+conjuncts.Given as goal
 

@@ -1,6 +1,6 @@
 use Rattle.std.proofs.Common.{◌≡◌, drop}
 use Rattle.kp_kore.specs.View.{patterns_view}
-use Rattle.kp_semantics.specs.Instance.{are_predicates}
+use Rattle.kp_kore.specs.Instance.{are_predicates}
 use Rattle.kp_forms.proofs.form.+predicate.Given as goal
 
 abbrev pub invariant-are_predicates-loop-pattern : goal.invariant-are_predicates-loop-pattern

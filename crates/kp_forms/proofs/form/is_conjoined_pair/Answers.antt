@@ -2,7 +2,7 @@ use Rattle.std.proofs.Common.{rules, ◌≡◌, ◌∙◌, sym, ap, subst}
 use Rattle.kp_kore.specs.Syntax.{conjunction}
 use Rattle.kp_kore.specs.View.{view, sort_view, patterns_view}
 use Rattle.kp_kore.specs.declared.pattern.Pattern.{the_lemmas}
-use Rattle.kp_semantics.specs.Instance.{is_conjoined_pair}
+use Rattle.kp_kore.specs.Instance.{is_conjoined_pair}
 use Rattle.kp_forms.proofs.form.is_conjoined_pair.Goals as goal
 
 pub returns-in-And : goal.returns-in-And

@@ -1,5 +1,5 @@
 use Rattle.std.proofs.Common.{◌≡◌, ◌++◌, ◌||◌, map, false}
-use Rattle.kp_semantics.specs.ClaimRules.{is_progress}
+use Rattle.kp_kore.specs.ClaimRules.{is_progress}
 use Rattle.kp_graph.specs.Tree.{open_node}
 use Rattle.kp_graph.specs.View.{nodes_view, child_view, rule_view}
 use Rattle.kp_graph.proofs.nodes.branch_nodes.Given as goal

@@ -1,5 +1,5 @@
 use Rattle.std.proofs.Common.{◌≡◌, ◌-◌, ◌≤◌, drop}
-use Rattle.kp_semantics.specs.ClaimRules.{is_digest_and_number}
+use Rattle.kp_kore.specs.ClaimRules.{is_digest_and_number}
 use Rattle.kp_graph.proofs.steps.is_digest_and_number.Given as goal
 
 abbrev pub invariant-loop-place : goal.invariant-loop-place

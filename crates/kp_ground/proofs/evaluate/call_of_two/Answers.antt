@@ -1,5 +1,5 @@
 use Rattle.std.proofs.Common.{◌≡◌, ◌∙◌, ap, refl, not}
-use Rattle.kp_semantics.specs.Value.{truth, values_same}
+use Rattle.kp_kore.specs.Value.{truth, values_same}
 use Rattle.kp_ground.specs.View.{value_view}
 use Rattle.kp_ground.proofs.ValueLists.{same_answer}
 use Rattle.kp_ground.proofs.evaluate.call_of_two.Goals as goal

@@ -1,7 +1,7 @@
 use Rattle.std.proofs.Common.{sym, ap, subst, ◌∙◌, [], ◌∷◌, ◌++◌, map, take}
 use Rattle.std.proofs.lemmas.List.{map_more}
 use Rattle.kp_kore.specs.View.{sort_view}
-use Rattle.kp_subsorts.specs.Numbering.{sorts_in}
+use Rattle.kp_signature.specs.Numbering.{sorts_in}
 use Rattle.kp_heads.specs.Made.{HasNumbers}
 use Rattle.kp_heads.proofs.Making.{numbers_more}
 use Rattle.kp_heads.proofs.made.numbers_for.Goals as goal

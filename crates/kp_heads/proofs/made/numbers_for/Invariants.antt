@@ -1,6 +1,6 @@
 use Rattle.std.proofs.Common.{map, take}
 use Rattle.kp_kore.specs.View.{sort_view}
-use Rattle.kp_subsorts.specs.Numbering.{IsNumbering, sorts_in}
+use Rattle.kp_signature.specs.Numbering.{IsNumbering, sorts_in}
 use Rattle.kp_heads.specs.Made.{HasNumbers}
 use Rattle.kp_heads.proofs.made.numbers_for.Given as goal
 

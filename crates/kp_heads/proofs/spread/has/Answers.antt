@@ -1,5 +1,5 @@
 use Rattle.std.proofs.Common.{◌∙◌, sym}
-use Rattle.kp_subsorts.proofs.EdgeLemmas.{in_set}
+use Rattle.kp_signature.proofs.EdgeLemmas.{in_set}
 use Rattle.kp_heads.proofs.spread.has.Goals as goal
 
 pub returns : goal.returns

@@ -1,8 +1,8 @@
 use Rattle.std.proofs.Common.{rules, ℕ, ◌<◌, ◌≤◌, List, subst, [], ◌∷◌, ◌++◌, inl, inr, take, get_or, length, Contains}
 use Rattle.std.proofs.lemmas.List.{take_all}
 use Rattle.std.proofs.lemmas.List.Elements.{Contains-push_cases}
-use Rattle.kp_subsorts.specs.Edges.{edges_of}
-use Rattle.kp_subsorts.proofs.EdgeLemmas.{first_ones, is_found, is_read}
+use Rattle.kp_signature.specs.Edges.{edges_of}
+use Rattle.kp_signature.proofs.EdgeLemmas.{first_ones, is_found, is_read}
 use Rattle.kp_heads.specs.Rows.{Woken}
 use Rattle.kp_heads.proofs.Rows.{Spreading, spreading_start, spreading_more, all_spread, in_taken}
 use Rattle.kp_heads.proofs.spread.spread.Goals as goal

@@ -1,5 +1,5 @@
 use Rattle.std.proofs.Common.{rules, ◌≡◌, true, Contains, sym, subst, ℕ}
-use Rattle.kp_subsorts.proofs.EdgeLemmas.{inserted}
+use Rattle.kp_signature.proofs.EdgeLemmas.{inserted}
 use Rattle.kp_heads.proofs.Rows.{not_tried, is_tried}
 use Rattle.kp_heads.proofs.spread.try_row.Goals as goal
 

@@ -1,6 +1,6 @@
 use Rattle.std.proofs.Common.{rules, ◌≡◌, true, MatchBool, sym, subst, ◌∷◌, []}
-use Rattle.kp_subsorts.specs.Edges.{Extended}
-use Rattle.kp_subsorts.proofs.EdgeLemmas.{inserted}
+use Rattle.kp_signature.specs.Edges.{Extended}
+use Rattle.kp_signature.proofs.EdgeLemmas.{inserted}
 use Rattle.kp_heads.proofs.table.add_if.Goals as goal
 
 pub returns : goal.returns

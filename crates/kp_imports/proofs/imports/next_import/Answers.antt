@@ -1,6 +1,6 @@
 use Rattle.std.proofs.Common.{rules, sym, ◌∙◌, ◌≡◌, ◌<◌, ◌+◌, ◌∷◌, [], take, length, string_bytes, true, get_or}
 use Rattle.kp_kore.specs.View.{sentence_view}
-use Rattle.kp_semantics.specs.Theory.{imports_in}
+use Rattle.kp_kore.specs.Theory.{imports_in}
 use Rattle.kp_imports.specs.declared.imports.Mark.{Mark}
 use Rattle.kp_imports.specs.Walks.{is_done, import_names}
 use Rattle.kp_imports.specs.Faults.{TellsUnplaced}

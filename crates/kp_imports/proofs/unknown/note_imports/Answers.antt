@@ -2,7 +2,7 @@ use Rattle.std.proofs.Common.{rules, ◌≡◌, ◌<◌, ◌+◌, sym, ap, subst
 use Rattle.std.proofs.lemmas.List.{append-nil}
 use Rattle.std.specs.List.{AllByRecursion}
 use Rattle.kp_kore.specs.View.{sentence_view}
-use Rattle.kp_semantics.specs.Theory.{imports_in}
+use Rattle.kp_kore.specs.Theory.{imports_in}
 use Rattle.kp_imports.specs.Faults.{TellsUnplaced}
 use Rattle.kp_imports.specs.Walks.{import_names, IsReachedPlace}
 use Rattle.kp_imports.proofs.Chains.{exit, imported_here, import_reached}

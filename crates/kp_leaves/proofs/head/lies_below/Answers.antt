@@ -1,7 +1,7 @@
 use Rattle.kp_kore.specs.Signature.{IsBelow, is_below}
 use Rattle.kp_kore.specs.View.{sort_view}
 use Rattle.kp_signature.specs.View.{signature_view}
-use Rattle.kp_subsorts.proofs.Below.{is_below-Decides}
+use Rattle.kp_signature.proofs.Below.{is_below-Decides}
 use Rattle.kp_opening.proofs.SameLemmas.{same_decision}
 use Rattle.kp_leaves.proofs.head.lies_below.Goals as goal
 

@@ -4,9 +4,9 @@ use Rattle.kp_kore.specs.Syntax.{conjunction}
 use Rattle.kp_kore.specs.View.{view, sort_view, patterns_view}
 use Rattle.kp_kore.specs.declared.pattern.Pattern.{the_lemmas}
 use Rattle.kp_symbolic.specs.Opening.{opened_ceil}
-use Rattle.kp_terms.specs.Faultless.{IsFaultless}
-use Rattle.kp_terms.specs.Languages.{language_view}
-use Rattle.kp_terms.specs.View.{replaced_view}
+use Rattle.kp_symbolic.specs.Faultless.{IsFaultless}
+use Rattle.kp_symbolic.specs.Languages.{language_view}
+use Rattle.kp_symbolic.specs.View.{replaced_view}
 use Rattle.kp_opening.specs.View.{formula_view}
 use Rattle.kp_leaves.proofs.FaultlessLemmas.{handed, of_conjunction}
 use Rattle.kp_leaves.proofs.leaf.open_ceil.Goals as goal

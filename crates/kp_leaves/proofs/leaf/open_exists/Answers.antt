@@ -2,7 +2,7 @@ use Rattle.std.proofs.Common.{rules, ◌≡◌, sym, subst, []}
 use Rattle.std.specs.Option.{option_map}
 use Rattle.kp_kore.specs.View.{view}
 use Rattle.kp_symbolic.specs.Opening.{head_question}
-use Rattle.kp_terms.specs.Languages.{language_view}
+use Rattle.kp_symbolic.specs.Languages.{language_view}
 use Rattle.kp_leaves.specs.Leaves.{IsFaultlessQuestion}
 use Rattle.kp_leaves.specs.View.{question_view}
 use Rattle.kp_leaves.proofs.FaultlessLemmas.{handed, of_question}

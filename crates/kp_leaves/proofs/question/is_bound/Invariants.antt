@@ -1,5 +1,5 @@
 use Rattle.std.proofs.Common.{◌≡◌, map, drop}
-use Rattle.kp_semantics.specs.Instance.{is_named}
+use Rattle.kp_kore.specs.Instance.{is_named}
 use Rattle.kp_leaves.specs.View.{bound_view}
 use Rattle.kp_leaves.proofs.question.is_bound.Given as goal
 

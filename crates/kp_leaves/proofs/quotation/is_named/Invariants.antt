@@ -1,6 +1,6 @@
 use Rattle.std.proofs.Common.{◌≡◌, map, drop}
 use Rattle.kp_kore.specs.View.{sorted_variable_view}
-use Rattle.kp_semantics.specs.Instance.{is_named}
+use Rattle.kp_kore.specs.Instance.{is_named}
 use Rattle.kp_leaves.proofs.quotation.is_named.Given as goal
 
 abbrev pub invariant-loop-variable : goal.invariant-loop-variable

@@ -1,8 +1,8 @@
 use Rattle.std.proofs.Common.{◌≡◌, ◌++◌, map, drop}
 use Rattle.std.specs.List.{filter}
 use Rattle.kp_kore.specs.View.{sorted_variable_view}
-use Rattle.kp_semantics.specs.Instance.{is_named}
-use Rattle.kp_terms.specs.View.{replaced_view}
+use Rattle.kp_kore.specs.Instance.{is_named}
+use Rattle.kp_symbolic.specs.View.{replaced_view}
 use Rattle.kp_leaves.proofs.quotation.replaced_among.Given as goal
 
 abbrev pub invariant-loop-one : goal.invariant-loop-one

@@ -2,8 +2,8 @@ use Rattle.std.proofs.Common.{rules, ◌≡◌, refl, subst, true, false, [], �
 use Rattle.kp_kore.specs.Signature.{integers, booleans, tokens, constructor_of}
 use Rattle.kp_kore.specs.View.{sort_view, symbol_sentence_view}
 use Rattle.kp_signature.specs.View.{signature_view}
-use Rattle.kp_subsorts.specs.Pairs.{subsort_view}
-use Rattle.kp_terms.specs.View.{test_view}
+use Rattle.kp_signature.specs.Pairs.{subsort_view}
+use Rattle.kp_symbolic.specs.View.{test_view}
 use Rattle.kp_leaves.specs.Answers.{all_agree}
 use Rattle.kp_leaves.proofs.AgreeLemmas.{first_refused, lower_refused, rest_answers}
 use Rattle.kp_leaves.proofs.test.all_agree.Goals as goal

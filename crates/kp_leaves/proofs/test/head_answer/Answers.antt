@@ -2,7 +2,7 @@ use Rattle.std.proofs.Common.{rules, ◌≡◌, true, false}
 use Rattle.kp_kore.specs.Signature.{possible_heads}
 use Rattle.kp_kore.specs.View.{sort_view}
 use Rattle.kp_signature.specs.View.{signature_view}
-use Rattle.kp_terms.specs.View.{test_view}
+use Rattle.kp_symbolic.specs.View.{test_view}
 use Rattle.kp_leaves.specs.Answers.{all_agree}
 use Rattle.kp_leaves.proofs.AgreeLemmas.{all_pass, none_passes, some_pass}
 use Rattle.kp_leaves.proofs.test.head_answer.Goals as goal

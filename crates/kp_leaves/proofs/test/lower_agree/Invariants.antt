@@ -1,9 +1,9 @@
 use Rattle.std.proofs.Common.{◌≡◌, map, drop}
 use Rattle.kp_kore.specs.Signature.{tokens}
 use Rattle.kp_kore.specs.View.{sort_view}
-use Rattle.kp_subsorts.specs.Pairs.{subsort_view}
+use Rattle.kp_signature.specs.Pairs.{subsort_view}
 use Rattle.kp_signature.specs.View.{signature_view}
-use Rattle.kp_terms.specs.View.{test_view}
+use Rattle.kp_symbolic.specs.View.{test_view}
 use Rattle.kp_leaves.specs.Answers.{all_agree}
 use Rattle.kp_leaves.proofs.test.lower_agree.Given as goal
 

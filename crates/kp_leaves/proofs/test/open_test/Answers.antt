@@ -3,8 +3,8 @@ use Rattle.kp_signature.specs.View.{signature_view}
 use Rattle.kp_symbolic.specs.Formulas.{fact}
 use Rattle.kp_symbolic.specs.Opening.{opened_test}
 use Rattle.kp_symbolic.specs.Terms.{headed}
-use Rattle.kp_terms.specs.View.{term_view, terms_of, test_view, literal_view}
-use Rattle.kp_terms.specs.declared.term.Term.{the_lemmas}
+use Rattle.kp_symbolic.specs.View.{term_view, terms_of, test_view, literal_view}
+use Rattle.kp_symbolic.specs.declared.term.Term.{the_lemmas}
 use Rattle.kp_opening.specs.View.{formula_view}
 use Rattle.kp_leaves.proofs.test.open_test.Goals as goal
 

@@ -2,7 +2,7 @@ use Rattle.std.proofs.Common.{◌≡◌, map, drop}
 use Rattle.kp_kore.specs.Signature.{constructor_of}
 use Rattle.kp_kore.specs.View.{sort_view, symbol_sentence_view}
 use Rattle.kp_signature.specs.View.{signature_view}
-use Rattle.kp_terms.specs.View.{test_view}
+use Rattle.kp_symbolic.specs.View.{test_view}
 use Rattle.kp_leaves.specs.Answers.{all_agree}
 use Rattle.kp_leaves.proofs.test.symbols_agree.Given as goal
 

@@ -1,6 +1,6 @@
 use Rattle.std.proofs.Common.{◌≡◌, ◌≤◌, ◌+◌, ◌++◌, drop, map, string_bytes}
 use Rattle.kp_kore.specs.View.{sentence_view}
-use Rattle.kp_semantics.specs.Theory.{rewrite_axioms_from}
+use Rattle.kp_kore.specs.Theory.{rewrite_axioms_from}
 use Rattle.kp_modules.specs.Axioms.{axioms_view}
 use Rattle.kp_modules.proofs.axioms.add_axioms.Given as goal
 

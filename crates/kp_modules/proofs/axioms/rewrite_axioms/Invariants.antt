@@ -1,6 +1,6 @@
 use Rattle.std.proofs.Common.{◌≡◌, ◌++◌, drop, map}
 use Rattle.kp_kore.specs.View.{module_view}
-use Rattle.kp_semantics.specs.Theory.{rewrite_axioms}
+use Rattle.kp_kore.specs.Theory.{rewrite_axioms}
 use Rattle.kp_modules.specs.Axioms.{axioms_view}
 use Rattle.kp_modules.proofs.axioms.rewrite_axioms.Given as goal
 

@@ -1,6 +1,6 @@
 use Rattle.std.proofs.Common.{rules, ◌≡◌, sym, subst, ◌≤◌, take, get_or, length}
 use Rattle.std.proofs.lemmas.List.{take_all}
-use Rattle.kp_semantics.specs.Theory.{labels_of}
+use Rattle.kp_kore.specs.Theory.{labels_of}
 use Rattle.kp_modules.specs.Axioms.{axioms_view}
 use Rattle.kp_modules.specs.Labels.{Counts}
 use Rattle.kp_modules.proofs.Labelled.{labels_more}

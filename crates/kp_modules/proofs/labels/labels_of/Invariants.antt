@@ -1,5 +1,5 @@
 use Rattle.std.proofs.Common.{take}
-use Rattle.kp_semantics.specs.Theory.{labels_of}
+use Rattle.kp_kore.specs.Theory.{labels_of}
 use Rattle.kp_modules.specs.Axioms.{axioms_view}
 use Rattle.kp_modules.specs.Labels.{Counts}
 use Rattle.kp_modules.proofs.labels.labels_of.Given as goal

@@ -1,6 +1,6 @@
 use Rattle.std.proofs.Common.{◌≡◌, sym, ap, ◌∙◌, string_bytes, true, false}
 use Rattle.std.specs.Option.{option_map}
-use Rattle.kp_semantics.specs.Theory.{rule_id}
+use Rattle.kp_kore.specs.Theory.{rule_id}
 use Rattle.kp_modules.specs.Labels.{stands_once}
 use Rattle.kp_modules.proofs.Labelled.{label_names, number_names, shared_name}
 use Rattle.kp_modules.proofs.labels.rule_id.Goals as goal

@@ -3,7 +3,7 @@ use Rattle.std.specs.List.{AllByRecursion, filter_map}
 use Rattle.kp_kore.specs.Syntax.{Text}
 use Rattle.kp_kore.specs.View.{module_view, definition_view}
 use Rattle.kp_signature.specs.Names.{first_place}
-use Rattle.kp_semantics.specs.Theory.{module_named, names_reached}
+use Rattle.kp_kore.specs.Theory.{module_named, names_reached}
 use Rattle.kp_imports.specs.Walks.{IsLaidOut, IsOver}
 use Rattle.kp_imports.specs.Faults.{IsImportFault, IsFirstFault, IsUnknown, TellsFirst, duplicate_module, no_main_module, unknown_import}
 use Rattle.kp_imports.specs.Names.{AreOnce, IsFirstRepeated, module_names, names_of}

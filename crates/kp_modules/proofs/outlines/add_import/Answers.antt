@@ -2,7 +2,7 @@ use Rattle.std.proofs.Common.{rules, ◌≡◌, ◌++◌, ◌∷◌, [], ap, ◌
 use Rattle.std.specs.Prelude.{option_to_list}
 use Rattle.std.specs.Option.{option_map}
 use Rattle.kp_kore.specs.View.{sentence_view}
-use Rattle.kp_semantics.specs.Theory.{imports_in}
+use Rattle.kp_kore.specs.Theory.{imports_in}
 use Rattle.kp_imports.proofs.Sentences.{import_added}
 use Rattle.kp_modules.proofs.outlines.add_import.Goals as goal
 

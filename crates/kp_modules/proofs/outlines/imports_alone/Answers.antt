@@ -1,6 +1,6 @@
 use Rattle.std.proofs.Common.{rules, ◌≡◌, ◌≤◌, ◌++◌, ◌∷◌, [], refl, sym, ap, ◌∙◌, get_or, length}
 use Rattle.kp_kore.specs.View.{sentence_view}
-use Rattle.kp_semantics.specs.Theory.{imports_in}
+use Rattle.kp_kore.specs.Theory.{imports_in}
 use Rattle.kp_imports.proofs.Sentences.{all_taken, one_further}
 use Rattle.kp_modules.proofs.outlines.imports_alone.Goals as goal
 

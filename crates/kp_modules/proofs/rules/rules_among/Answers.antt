@@ -1,7 +1,7 @@
 use Rattle.std.proofs.Common.{rules, ◌≡◌, ap, subst, ◌∙◌, ◌≤◌, true, get_or, length}
 use Rattle.std.proofs.lemmas.List.{take_all}
 use Rattle.kp_signature.specs.View.{signature_view}
-use Rattle.kp_semantics.specs.Rules.{is_rewriting}
+use Rattle.kp_kore.specs.Rules.{is_rewriting}
 use Rattle.kp_modules.specs.Axioms.{axiom_view, axioms_view}
 use Rattle.kp_imports.specs.Faults.{AreSound, TellsFaulty}
 use Rattle.kp_modules.specs.Made.{AreMadeOf}

@@ -1,7 +1,7 @@
 use Rattle.std.proofs.Common.{◌≡◌, sym, ap, subst, ◌∙◌, map, IfOk, IfErr, OnOk}
 use Rattle.kp_kore.specs.View.{module_view}
 use Rattle.kp_signature.specs.View.{signature_view}
-use Rattle.kp_semantics.specs.Theory.{rewrite_axioms, labels_of}
+use Rattle.kp_kore.specs.Theory.{rewrite_axioms, labels_of}
 use Rattle.kp_modules.specs.Axioms.{axioms_view}
 use Rattle.kp_imports.specs.Faults.{AreSound, TellsFaulty}
 use Rattle.kp_modules.specs.Labels.{Counts}

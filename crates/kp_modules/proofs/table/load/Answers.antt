@@ -2,7 +2,7 @@ use Rattle.std.proofs.Common.{rules, ◌≡◌, sym, true, string_bytes, ap, ◌
 use Rattle.kp_kore.specs.Signature.{signature_of, sorts_in, symbols_in}
 use Rattle.kp_kore.specs.Syntax.{Text}
 use Rattle.kp_kore.specs.View.{module_view, definition_view}
-use Rattle.kp_semantics.specs.Theory.{modules_reached, rewrite_axioms}
+use Rattle.kp_kore.specs.Theory.{modules_reached, rewrite_axioms}
 use Rattle.kp_signature.specs.Table.{sort_names, symbol_names}
 use Rattle.kp_signature.specs.View.{sentences_of}
 use Rattle.kp_imports.specs.Faults.{signature_reached, AreSound, TellsFaulty, TellsFirst, duplicate_symbol}

@@ -2,7 +2,7 @@ use Rattle.std.proofs.Common.{◌≡◌, sym, ap, subst, ◌∙◌, map}
 use Rattle.std.proofs.lemmas.Result.{err_from_is_err_and}
 use Rattle.kp_kore.specs.Signature.{signature_of}
 use Rattle.kp_kore.specs.View.{module_view}
-use Rattle.kp_semantics.specs.Theory.{rewrite_axioms, labels_of}
+use Rattle.kp_kore.specs.Theory.{rewrite_axioms, labels_of}
 use Rattle.kp_signature.specs.View.{signature_view, sentences_of}
 use Rattle.kp_imports.specs.Faults.{AreSound, TellsFaulty}
 use Rattle.kp_modules.specs.Made.{AreMadeOf}

@@ -1,12 +1,12 @@
 use Rattle.std.proofs.Common.{rules, ◌≡◌, ◌∙◌, ◌<◌, ◌≤◌, ◌+◌, ◌++◌, ◌∷◌, sym, ap, ap₂, map, drop, subst, length, IfOk, arith}
-use Rattle.kp_hooks.specs.HookView.{hook_view}
-use Rattle.kp_terms.proofs.MadeLemmas.{not_negation}
+use Rattle.kp_kore.specs.HookView.{hook_view}
+use Rattle.kp_symbolic.proofs.MadeLemmas.{not_negation}
 use Rattle.kp_signature.specs.View.{signature_view}
-use Rattle.kp_states.specs.Spelled.{places_of}
+use Rattle.kp_compile.specs.Spelled.{places_of}
 use Rattle.kp_symbolic.specs.Formulas.{fact}
 use Rattle.kp_symbolic.specs.Opening.{all_if, opened_members, seen_term, seen_terms}
-use Rattle.kp_terms.specs.View.{literal_view, term_view, terms_of}
-use Rattle.kp_terms.specs.declared.term.Term.{the_lemmas}
+use Rattle.kp_symbolic.specs.View.{literal_view, term_view, terms_of}
+use Rattle.kp_symbolic.specs.declared.term.Term.{the_lemmas}
 use Rattle.kp_opening.specs.Seen.{members_seen, members_in}
 use Rattle.kp_opening.specs.View.{formula_view}
 use Rattle.kp_opening.proofs.SeenLemmas.{negation_of_others, call_of_others, told_when_asked, members_are_seen, listed_parts, members_after, next_place, nothing_left, added_member, ended}

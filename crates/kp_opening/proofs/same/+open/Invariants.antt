@@ -1,6 +1,6 @@
 use Rattle.std.proofs.Common.{◌≡◌, ◌++◌, ◌+◌, ◌*◌, map, drop}
 use Rattle.kp_signature.specs.View.{signature_view}
-use Rattle.kp_terms.specs.View.{term_view, terms_of}
+use Rattle.kp_symbolic.specs.View.{term_view, terms_of}
 use Rattle.kp_opening.specs.View.{formula_view}
 use Rattle.kp_opening.proofs.SeenLemmas.{members_after}
 use Rattle.kp_opening.proofs.Sizes.{term_size, terms_size}

@@ -1,7 +1,7 @@
 use Rattle.kp_kore.specs.Attributes.{sorts_equal}
 use Rattle.kp_kore.specs.View.{sort_view}
 use Rattle.std.proofs.Common.{◌≡◌}
-use Rattle.kp_semantics.proofs.SameLemmas.{sorts_equal-Decides}
+use Rattle.kp_kore.proofs.SameLemmas.{sorts_equal-Decides}
 use Rattle.kp_opening.proofs.SameLemmas.{same_decision}
 use Rattle.kp_opening.proofs.same.is_same_sort.Goals as goal
 

@@ -1,7 +1,7 @@
 use Rattle.std.proofs.Common.{◌≡◌, map, drop}
 use Rattle.kp_signature.specs.View.{signature_view}
 use Rattle.kp_symbolic.specs.Opening.{some_hold_name}
-use Rattle.kp_terms.specs.View.{term_view, terms_of}
+use Rattle.kp_symbolic.specs.View.{term_view, terms_of}
 use Rattle.kp_opening.proofs.sides.+holds.Given as goal
 
 abbrev pub invariant-some_hold_name-loop-term : goal.invariant-some_hold_name-loop-term

@@ -1,6 +1,6 @@
 use Rattle.std.proofs.Common.{◌≡◌}
 use Rattle.kp_symbolic.specs.Alike.{terms_same}
-use Rattle.kp_terms.specs.View.{term_view}
+use Rattle.kp_symbolic.specs.View.{term_view}
 use Rattle.kp_opening.proofs.SameLemmas.{same_decision, terms_same-Decides}
 use Rattle.kp_opening.proofs.sides.are_same.Goals as goal
 

@@ -1,8 +1,8 @@
 use Rattle.std.proofs.Common.{rules, ◌≡◌, ◌∙◌, sym, ap, map, subst, IfOk, string_bytes}
 use Rattle.kp_ground.specs.View.{value_view, values_of}
 use Rattle.kp_ground.specs.declared.value.Value.{the_lemmas}
-use Rattle.kp_semantics.specs.Value.{constructed}
-use Rattle.kp_terms.specs.View.{term_view}
+use Rattle.kp_kore.specs.Value.{constructed}
+use Rattle.kp_symbolic.specs.View.{term_view}
 use Rattle.kp_opening.specs.Seen.{known_members}
 use Rattle.kp_opening.proofs.Firsts.{known_are_members}
 use Rattle.kp_opening.proofs.sides.value_members.Goals as goal

@@ -3,7 +3,7 @@ use Rattle.kp_kore.specs.View.{view, sort_view}
 use Rattle.kp_signature.specs.View.{signature_view}
 use Rattle.kp_symbolic.specs.States.{same}
 use Rattle.kp_symbolic.specs.Writing.{written_literal, variable_first}
-use Rattle.kp_terms.specs.View.{literal_view, term_view}
+use Rattle.kp_symbolic.specs.View.{literal_view, term_view}
 use Rattle.kp_outward.proofs.TurnedLemmas.{as_it_stands, equation_first, denied_first, other_first, is_equality}
 use Rattle.kp_outward.proofs.alone.alone_out.Goals as goal
 

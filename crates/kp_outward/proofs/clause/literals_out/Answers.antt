@@ -2,7 +2,7 @@ use Rattle.std.proofs.Common.{rules, arith, ◌≡◌}
 use Rattle.kp_kore.specs.View.{sort_view}
 use Rattle.kp_signature.specs.View.{signature_view}
 use Rattle.kp_symbolic.specs.Writing.{written_literal}
-use Rattle.kp_terms.specs.View.{literal_view}
+use Rattle.kp_symbolic.specs.View.{literal_view}
 use Rattle.kp_outward.specs.View.{spelled_view}
 use Rattle.kp_outward.proofs.RoomLemmas.{HasRoomLiteral, all_further, all_done, written_further, written_all}
 use Rattle.kp_outward.proofs.clause.literals_out.Goals as goal

@@ -3,7 +3,7 @@ use Rattle.std.specs.List.{AllByRecursion}
 use Rattle.kp_kore.specs.View.{sort_view}
 use Rattle.kp_signature.specs.View.{signature_view}
 use Rattle.kp_symbolic.specs.Writing.{written_literal}
-use Rattle.kp_terms.specs.View.{literal_view}
+use Rattle.kp_symbolic.specs.View.{literal_view}
 use Rattle.kp_outward.specs.View.{patterns_in}
 use Rattle.kp_outward.proofs.RoomLemmas.{HasRoomLiteral}
 use Rattle.kp_outward.proofs.clause.literals_out.Given as goal

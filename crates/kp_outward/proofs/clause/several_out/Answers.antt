@@ -1,7 +1,7 @@
 use Rattle.std.proofs.Common.{map}
 use Rattle.kp_kore.specs.View.{view, sort_view}
 use Rattle.kp_signature.specs.View.{signature_view}
-use Rattle.kp_terms.specs.View.{literal_view}
+use Rattle.kp_symbolic.specs.View.{literal_view}
 use Rattle.kp_outward.proofs.ArrangedLemmas.{several_written}
 use Rattle.kp_outward.proofs.clause.several_out.Goals as goal
 

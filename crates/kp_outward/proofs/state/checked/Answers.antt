@@ -1,8 +1,8 @@
 use Rattle.std.proofs.Common.{rules, ◌≡◌, inl, subst, not, true, false}
 use Rattle.kp_kore.specs.View.{view}
-use Rattle.kp_semantics.specs.Foreign.{none_within}
+use Rattle.kp_kore.specs.Foreign.{none_within}
 use Rattle.kp_signature.specs.View.{signature_view}
-use Rattle.kp_states.specs.Spelled.{has_two_sorts}
+use Rattle.kp_compile.specs.Spelled.{has_two_sorts}
 use Rattle.kp_outward.proofs.InjectionLemmas.{none_stands, one_stands}
 use Rattle.kp_outward.proofs.state.checked.Goals as goal
 

@@ -3,7 +3,7 @@ use Rattle.std.specs.List.{AllZip}
 use Rattle.std.proofs.lemmas.Result.{err_from_is_err_and}
 use Rattle.kp_kore.specs.View.{sort_view}
 use Rattle.kp_signature.specs.View.{signature_view}
-use Rattle.kp_terms.specs.View.{clause_view}
+use Rattle.kp_symbolic.specs.View.{clause_view}
 use Rattle.kp_compile.proofs.Compiled.{zip_push, zip_whole}
 use Rattle.kp_outward.specs.Arranged.{IsWrittenClause, IsSpelledClause}
 use Rattle.kp_outward.proofs.FaultlessLemmas.{one_faultless}

@@ -2,7 +2,7 @@ use Rattle.std.proofs.Common.{option_map}
 use Rattle.std.proofs.lemmas.Result.{IfErr-weaker, err_from_is_err_and}
 use Rattle.kp_kore.specs.View.{view, sort_view}
 use Rattle.kp_signature.specs.View.{signature_view}
-use Rattle.kp_terms.specs.View.{clauses_view}
+use Rattle.kp_symbolic.specs.View.{clauses_view}
 use Rattle.kp_outward.proofs.FaultlessLemmas.{clauses_faultless}
 use Rattle.kp_outward.proofs.InjectionLemmas.{refused_predicate, handed_predicate}
 use Rattle.kp_outward.proofs.RoomLemmas.{ok_always}

@@ -1,7 +1,7 @@
 use Rattle.std.proofs.Common.{option_map}
 use Rattle.kp_kore.specs.View.{view, sort_view}
 use Rattle.kp_signature.specs.View.{signature_view}
-use Rattle.kp_terms.specs.View.{clauses_view}
+use Rattle.kp_symbolic.specs.View.{clauses_view}
 use Rattle.kp_outward.specs.View.{patterns_in}
 use Rattle.kp_outward.proofs.ArrangedLemmas.{predicate_written}
 use Rattle.kp_outward.proofs.state.predicate_unchecked.Goals as goal

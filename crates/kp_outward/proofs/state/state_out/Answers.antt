@@ -1,7 +1,7 @@
 use Rattle.std.proofs.lemmas.Result.{IfErr-weaker, err_from_is_err_and}
 use Rattle.kp_kore.specs.View.{view}
 use Rattle.kp_signature.specs.View.{signature_view}
-use Rattle.kp_terms.specs.View.{state_view}
+use Rattle.kp_symbolic.specs.View.{state_view}
 use Rattle.kp_outward.proofs.FaultlessLemmas.{clauses_faultless}
 use Rattle.kp_outward.proofs.InjectionLemmas.{refused_state, handed_state}
 use Rattle.kp_outward.proofs.LawLemmas.{has_instances, has_variables}

@@ -1,7 +1,7 @@
 use Rattle.std.proofs.Common.{rules}
 use Rattle.kp_kore.specs.View.{view}
 use Rattle.kp_signature.specs.View.{signature_view}
-use Rattle.kp_terms.specs.View.{state_view}
+use Rattle.kp_symbolic.specs.View.{state_view}
 use Rattle.kp_outward.specs.View.{patterns_in}
 use Rattle.kp_outward.proofs.ArrangedLemmas.{state_written}
 use Rattle.kp_outward.proofs.state.unchecked.Goals as goal

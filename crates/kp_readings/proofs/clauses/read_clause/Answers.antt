@@ -1,7 +1,7 @@
 use Rattle.std.proofs.Common.{rules, ◌≡◌, subst, ◌++◌, List, map, length, IfOk}
 use Rattle.kp_signature.specs.View.{signature_view}
 use Rattle.kp_symbolic.specs.Plain as model
-use Rattle.kp_terms.specs.View.{clauses_view, state_view}
+use Rattle.kp_symbolic.specs.View.{clauses_view, state_view}
 use Rattle.kp_deciding.specs.Readings.{read_view}
 use Rattle.kp_readings.proofs.ReadLemmas.{not_alone}
 use Rattle.kp_readings.proofs.clauses.read_clause.Goals as goal

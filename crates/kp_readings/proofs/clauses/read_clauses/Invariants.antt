@@ -1,8 +1,8 @@
 use Rattle.std.proofs.Common.{◌≡◌, ◌++◌, take, drop}
 use Rattle.kp_signature.specs.View.{signature_view}
 use Rattle.kp_symbolic.specs.Plain.{read_from, read_clauses}
-use Rattle.kp_terms.specs.View as terms
-use Rattle.kp_terms.specs.View.{state_view}
+use Rattle.kp_symbolic.specs.View as terms
+use Rattle.kp_symbolic.specs.View.{state_view}
 use Rattle.kp_deciding.specs.Readings.{clauses_view}
 use Rattle.kp_deciding.specs.Unknowns.{AreReadOfKind}
 use Rattle.kp_readings.proofs.clauses.read_clauses.Given as goal

@@ -1,7 +1,7 @@
 use Rattle.std.proofs.Common.{◌≡◌, ◌++◌, map, drop}
 use Rattle.kp_signature.specs.View.{signature_view}
 use Rattle.kp_symbolic.specs.Plain.{form_of}
-use Rattle.kp_terms.specs.View.{literal_view}
+use Rattle.kp_symbolic.specs.View.{literal_view}
 use Rattle.kp_deciding.specs.Readings.{read_view}
 use Rattle.kp_deciding.specs.Unknowns.{IsClauseOfKind}
 use Rattle.kp_readings.specs.Each.{read_literal}

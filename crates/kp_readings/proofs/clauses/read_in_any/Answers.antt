@@ -1,6 +1,6 @@
 use Rattle.kp_signature.specs.View.{signature_view}
 use Rattle.kp_symbolic.specs.States.{atom_variables}
-use Rattle.kp_terms.specs.View.{literal_view}
+use Rattle.kp_symbolic.specs.View.{literal_view}
 use Rattle.kp_deciding.proofs.UnknownLemmas.{said_among}
 use Rattle.kp_readings.proofs.clauses.read_in_any.Goals as goal
 

@@ -1,5 +1,5 @@
 use Rattle.std.proofs.Common.{◌≡◌, drop}
-use Rattle.kp_terms.specs.View.{clauses_view}
+use Rattle.kp_symbolic.specs.View.{clauses_view}
 use Rattle.kp_readings.specs.Names.{is_named_in}
 use Rattle.kp_readings.proofs.names.clauses_have_name.Given as goal
 

@@ -1,8 +1,8 @@
 use Rattle.std.proofs.Common.{rules, ◌≡◌, sym, ap, ◌∙◌, ◌+◌, ◌||◌, true, false, map, drop}
 use Rattle.std.specs.List.{flat_map}
-use Rattle.kp_semantics.specs.Instance.{is_named}
+use Rattle.kp_kore.specs.Instance.{is_named}
 use Rattle.kp_symbolic.specs.States.{Literal, atom_variables}
-use Rattle.kp_terms.specs.View.{literal_view}
+use Rattle.kp_symbolic.specs.View.{literal_view}
 use Rattle.kp_readings.proofs.NameLemmas.{named_at}
 use Rattle.kp_readings.proofs.names.some_has_name.Goals as goal
 

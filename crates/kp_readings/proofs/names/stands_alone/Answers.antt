@@ -1,7 +1,7 @@
 use Rattle.std.proofs.Common.{rules, ◌≡◌, refl, sym, true, false}
-use Rattle.kp_semantics.specs.Instance.{is_named}
+use Rattle.kp_kore.specs.Instance.{is_named}
 use Rattle.kp_symbolic.specs.Terms.{term_variables}
-use Rattle.kp_terms.specs.View.{clauses_view, state_view, term_view}
+use Rattle.kp_symbolic.specs.View.{clauses_view, state_view, term_view}
 use Rattle.kp_readings.specs.Names.{is_named_in}
 use Rattle.kp_readings.proofs.NameLemmas.{alone_by}
 use Rattle.kp_readings.proofs.names.stands_alone.Goals as goal

@@ -2,10 +2,10 @@ use Rattle.std.proofs.Common.{rules, ◌≡◌, sym, ap, ◌∙◌, ◌+◌, ◌
 use Rattle.std.specs.List.{flat_map}
 use Rattle.kp_kore.specs.Parts.{SortedName}
 use Rattle.kp_kore.specs.View.{sorted_variable_view}
-use Rattle.kp_semantics.specs.Instance.{is_named}
+use Rattle.kp_kore.specs.Instance.{is_named}
 use Rattle.kp_symbolic.specs.States.{variables_for}
 use Rattle.kp_symbolic.specs.Terms.{replacement_for}
-use Rattle.kp_terms.specs.View.{replaced_view}
+use Rattle.kp_symbolic.specs.View.{replaced_view}
 use Rattle.kp_readings.proofs.NameLemmas.{named_at}
 use Rattle.kp_readings.proofs.names.stands_for_one.Goals as goal
 

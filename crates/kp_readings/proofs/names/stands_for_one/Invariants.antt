@@ -1,10 +1,10 @@
 use Rattle.std.proofs.Common.{◌≡◌, map, drop}
 use Rattle.std.specs.List.{flat_map}
 use Rattle.kp_kore.specs.View.{sorted_variable_view}
-use Rattle.kp_semantics.specs.Instance.{is_named}
+use Rattle.kp_kore.specs.Instance.{is_named}
 use Rattle.kp_symbolic.specs.States.{variables_for}
 use Rattle.kp_symbolic.specs.Terms.{replacement_for}
-use Rattle.kp_terms.specs.View.{replaced_view}
+use Rattle.kp_symbolic.specs.View.{replaced_view}
 use Rattle.kp_readings.proofs.names.stands_for_one.Given as goal
 
 abbrev pub invariant-loop-variable : goal.invariant-loop-variable

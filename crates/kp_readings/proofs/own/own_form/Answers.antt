@@ -2,7 +2,7 @@ use Rattle.std.proofs.Common.{Some, None}
 use Rattle.std.proofs.lemmas.Result.{IfOk-weaker}
 use Rattle.kp_signature.specs.View.{signature_view}
 use Rattle.kp_symbolic.specs.States.{atom_variables}
-use Rattle.kp_terms.specs.View.{literal_view}
+use Rattle.kp_symbolic.specs.View.{literal_view}
 use Rattle.kp_deciding.specs.Unknowns.{IsSaidAmong}
 use Rattle.kp_deciding.proofs.UnknownLemmas.{said_among}
 use Rattle.kp_readings.specs.Own.{IsSetApart}

@@ -1,7 +1,7 @@
 use Rattle.std.proofs.Common.{◌≡◌, ◌++◌, not, map, drop}
 use Rattle.std.specs.List.{filter}
 use Rattle.kp_symbolic.specs.Plain.{is_plain_clause, literals_of}
-use Rattle.kp_terms.specs.View as terms
+use Rattle.kp_symbolic.specs.View as terms
 use Rattle.kp_deciding.specs.Readings.{clauses_view}
 use Rattle.kp_readings.proofs.parts.rough_clauses.Given as goal
 

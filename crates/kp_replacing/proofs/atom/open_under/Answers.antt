@@ -1,8 +1,8 @@
 use Rattle.std.proofs.Common.{rules, ◌≡◌, map}
 use Rattle.kp_kore.specs.View.{view}
 use Rattle.kp_symbolic.specs.States.{quoted}
-use Rattle.kp_terms.specs.Languages.{language_view}
-use Rattle.kp_terms.specs.View.{atom_view, replaced_view}
+use Rattle.kp_symbolic.specs.Languages.{language_view}
+use Rattle.kp_symbolic.specs.View.{atom_view, replaced_view}
 use Rattle.kp_replacing.proofs.SumLemmas.{of_quoted}
 use Rattle.kp_replacing.proofs.atom.open_under.Goals as goal
 

@@ -1,7 +1,7 @@
 use Rattle.std.proofs.Common.{◌≡◌, ◌++◌, map, drop}
 use Rattle.kp_symbolic.specs.Solving.{is_single}
-use Rattle.kp_terms.specs.Languages.{language_view}
-use Rattle.kp_terms.specs.View.{literal_view, replaced_view}
+use Rattle.kp_symbolic.specs.Languages.{language_view}
+use Rattle.kp_symbolic.specs.View.{literal_view, replaced_view}
 use Rattle.kp_distribution.specs.Distribution.{distributions_of}
 use Rattle.kp_distribution.specs.View.{distributed_view}
 use Rattle.kp_replacing.specs.Replacing.{all_opened_under}

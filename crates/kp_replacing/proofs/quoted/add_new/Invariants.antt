@@ -1,9 +1,9 @@
 use Rattle.std.proofs.Common.{◌≡◌, ◌++◌, ◌&&◌, not, map, drop, is_some}
 use Rattle.std.specs.List.{filter}
 use Rattle.kp_kore.specs.View.{sorted_variable_view}
-use Rattle.kp_semantics.specs.Instance.{is_named}
+use Rattle.kp_kore.specs.Instance.{is_named}
 use Rattle.kp_symbolic.specs.Terms.{replacement_for}
-use Rattle.kp_terms.specs.View.{replaced_view}
+use Rattle.kp_symbolic.specs.View.{replaced_view}
 use Rattle.kp_replacing.proofs.quoted.add_new.Given as goal
 
 abbrev pub invariant-loop-one : goal.invariant-loop-one

@@ -1,6 +1,6 @@
 use Rattle.std.proofs.Common.{◌≡◌, ◌++◌, map, drop}
-use Rattle.kp_terms.specs.Languages.{language_view}
-use Rattle.kp_terms.specs.View.{replaced_view}
+use Rattle.kp_symbolic.specs.Languages.{language_view}
+use Rattle.kp_symbolic.specs.View.{replaced_view}
 use Rattle.kp_replacing.specs.Replacing.{with_terms}
 use Rattle.kp_replacing.proofs.quoted.with_terms.Given as goal
 

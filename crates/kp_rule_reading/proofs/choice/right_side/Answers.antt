@@ -4,7 +4,7 @@ use Rattle.std.proofs.lemmas.Result.{err_from_is_err_and}
 use Rattle.kp_kore.specs.Parts.{free_variables, subpatterns}
 use Rattle.kp_kore.specs.View.{view, sorted_variable_view}
 use Rattle.kp_signature.specs.View.{signature_view}
-use Rattle.kp_semantics.specs.Rules.{new_variables_of}
+use Rattle.kp_kore.specs.Rules.{new_variables_of}
 use Rattle.kp_compile.specs.Exact.{are_named}
 use Rattle.kp_compile.specs.Names.{names_seen}
 use Rattle.kp_rules.specs.Known.{are_known}

@@ -3,7 +3,7 @@ use Rattle.std.specs.Str.{bytes_eq}
 use Rattle.std.proofs.lemmas.Map.Text.{hash_set_updates_text}
 use Rattle.indexmap.specs.IndexSet.{contains_text}
 use Rattle.kp_kore.specs.Syntax.{Text}
-use Rattle.kp_semantics.specs.Foreign.{repeats_literals_only}
+use Rattle.kp_kore.specs.Foreign.{repeats_literals_only}
 use Rattle.kp_signature.specs.View.{signature_view}
 use Rattle.kp_rule_reading.specs.Reading.{Names}
 use Rattle.kp_rule_reading.proofs.NameSets.{names_from, named_more, repeats_more, repeats_not}

@@ -1,5 +1,5 @@
 use Rattle.std.proofs.Common.{◌≡◌, ◌-◌, length, true}
-use Rattle.kp_semantics.specs.Foreign.{repeats_literals_only}
+use Rattle.kp_kore.specs.Foreign.{repeats_literals_only}
 use Rattle.kp_signature.specs.View.{signature_view}
 use Rattle.kp_rule_reading.specs.Reading.{Names}
 use Rattle.kp_rule_reading.proofs.NameSets.{names_from}

@@ -4,7 +4,7 @@ use Rattle.std.proofs.lemmas.List.{drop_all}
 use Rattle.std.proofs.lemmas.Result.{err_from_is_err_and}
 use Rattle.kp_kore.specs.View.{sorted_variable_view}
 use Rattle.kp_signature.specs.View.{signature_view}
-use Rattle.kp_semantics.specs.Numbers.{computes_wide}
+use Rattle.kp_kore.specs.Numbers.{computes_wide}
 use Rattle.kp_compile.specs.Names.{names_seen}
 use Rattle.kp_compile.specs.Verified.{IsVerifiedTerm}
 use Rattle.kp_rules.specs.Shapes.{seen}

@@ -2,8 +2,8 @@ use Rattle.std.proofs.Common.{◌≡◌, true, not, ◌&&◌, map, drop}
 use Rattle.std.specs.List.{list_all, list_any, AllByRecursion}
 use Rattle.kp_kore.specs.View.{sorted_variable_view}
 use Rattle.kp_signature.specs.View.{signature_view}
-use Rattle.kp_semantics.specs.Instance.{Valuation}
-use Rattle.kp_semantics.specs.Numbers.{computes_wide}
+use Rattle.kp_kore.specs.Instance.{Valuation}
+use Rattle.kp_kore.specs.Numbers.{computes_wide}
 use Rattle.kp_ground.specs.Slots.{term_reads}
 use Rattle.kp_compile.specs.Names.{names_seen}
 use Rattle.kp_rules.specs.Shapes.{seen}

@@ -1,6 +1,6 @@
 use Rattle.std.proofs.Common.{◌↔◌, drop}
 use Rattle.std.specs.List.{AllByRecursion}
-use Rattle.kp_semantics.specs.Foreign.{InjectionsSplit}
+use Rattle.kp_kore.specs.Foreign.{InjectionsSplit}
 use Rattle.kp_signature.specs.View.{signature_view}
 use Rattle.kp_rules.specs.Shapes.{seen}
 use Rattle.kp_rule_reading.proofs.parts_read.all_split.Given as goal

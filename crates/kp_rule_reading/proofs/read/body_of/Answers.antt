@@ -3,13 +3,13 @@ use Rattle.std.proofs.lemmas.Bool.{MatchBool-at_true, MatchBool-at_false}
 use Rattle.std.proofs.lemmas.Result.{IfOk-weaker, IfErr-weaker, err_from_is_err_and}
 use Rattle.kp_kore.specs.Syntax.{rewriting}
 use Rattle.kp_kore.specs.View.{view, sort_view, axiom_sentence_view}
-use Rattle.kp_semantics.specs.Rules.{rewrite_of}
+use Rattle.kp_kore.specs.Rules.{rewrite_of}
 use Rattle.kp_signature.specs.Places.{the_top}
 use Rattle.kp_signature.specs.Verify.{first_fault}
 use Rattle.kp_signature.specs.View.{signature_view}
 use Rattle.kp_rules.specs.Bodies.{IsFaulty}
 use Rattle.kp_kore.specs.Parts.{free_variables}
-use Rattle.kp_semantics.specs.Instance.{is_named}
+use Rattle.kp_kore.specs.Instance.{is_named}
 use Rattle.kp_rule_reading.specs.Reading.{IsStatementRead, is_left_read}
 use Rattle.kp_rule_reading.proofs.KnownSides.{known_right}
 use Rattle.kp_rule_reading.proofs.Named.{conditions_named, right_passes}

@@ -3,7 +3,7 @@ use Rattle.std.specs.List.{list_all}
 use Rattle.indexmap.specs.IndexSet.{contains_text}
 use Rattle.kp_kore.specs.Parts.{free_variables}
 use Rattle.kp_kore.specs.View.{view, sorted_variable_view}
-use Rattle.kp_semantics.specs.Instance.{is_named}
+use Rattle.kp_kore.specs.Instance.{is_named}
 use Rattle.kp_rule_reading.specs.Reading.{Names, is_plain_by, is_binder, is_top_pattern}
 use Rattle.kp_rule_reading.proofs.Named.{plain_parts}
 use Rattle.kp_rules.specs.Shapes.{seen}

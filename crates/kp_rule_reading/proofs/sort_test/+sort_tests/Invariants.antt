@@ -2,8 +2,8 @@ use Rattle.std.proofs.Common.{take}
 use Rattle.kp_kore.specs.Parts.{all_free_variables}
 use Rattle.kp_kore.specs.View.{sorts_view, patterns_view}
 use Rattle.kp_signature.specs.View.{signature_view}
-use Rattle.kp_semantics.specs.Value.{HaveSorts}
-use Rattle.kp_semantics.specs.Instance.{Valuation, instances}
+use Rattle.kp_kore.specs.Value.{HaveSorts}
+use Rattle.kp_kore.specs.Instance.{Valuation, instances}
 use Rattle.kp_compile.specs.Names.{names_seen}
 use Rattle.kp_rule_reading.specs.Tests.{Adds, ReadMore}
 use Rattle.kp_rule_reading.proofs.sort_test.+sort_tests.Given as goal

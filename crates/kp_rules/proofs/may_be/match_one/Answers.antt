@@ -2,7 +2,7 @@ use Rattle.std.proofs.Common.{◌≡◌, string_bytes}
 use Rattle.kp_kore.specs.Signature.{IsHeadOf}
 use Rattle.kp_kore.specs.View.{sort_view}
 use Rattle.kp_signature.specs.View.{signature_view}
-use Rattle.kp_semantics.specs.Value.{head_of}
+use Rattle.kp_kore.specs.Value.{head_of}
 use Rattle.kp_ground.specs.View.{value_view}
 use Rattle.kp_rules.proofs.Showing.{matches_with}
 use Rattle.kp_rules.proofs.may_be.match_one.Goals as goal

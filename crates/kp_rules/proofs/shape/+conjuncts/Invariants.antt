@@ -1,6 +1,6 @@
 use Rattle.std.proofs.Common.{◌≡◌, ◌++◌, drop}
 use Rattle.kp_kore.specs.View.{patterns_view}
-use Rattle.kp_semantics.specs.Instance.{all_conjuncts}
+use Rattle.kp_kore.specs.Instance.{all_conjuncts}
 use Rattle.kp_rules.specs.Shapes.{seen}
 use Rattle.kp_rules.proofs.shape.+conjuncts.Given as goal
 

@@ -1,5 +1,5 @@
 use Rattle.std.proofs.Common.{◌≡◌, drop}
-use Rattle.kp_semantics.specs.Rules.{have_distinct_names}
+use Rattle.kp_kore.specs.Rules.{have_distinct_names}
 use Rattle.kp_rules.specs.Shapes.{variables_seen}
 use Rattle.kp_rules.proofs.shape.are_distinct.Given as goal
 

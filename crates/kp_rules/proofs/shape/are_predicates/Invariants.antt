@@ -1,6 +1,6 @@
 use Rattle.std.proofs.Common.{◌≡◌, drop}
 use Rattle.std.specs.List.{list_all}
-use Rattle.kp_semantics.specs.Instance.{is_predicate}
+use Rattle.kp_kore.specs.Instance.{is_predicate}
 use Rattle.kp_rules.specs.Shapes.{seen}
 use Rattle.kp_rules.proofs.shape.are_predicates.Given as goal
 

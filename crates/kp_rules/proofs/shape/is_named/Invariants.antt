@@ -1,5 +1,5 @@
 use Rattle.std.proofs.Common.{◌≡◌, drop}
-use Rattle.kp_semantics.specs.Instance.{is_named}
+use Rattle.kp_kore.specs.Instance.{is_named}
 use Rattle.kp_rules.specs.Shapes.{variables_seen}
 use Rattle.kp_rules.proofs.shape.is_named.Given as goal
 

@@ -5,7 +5,7 @@ use Rattle.kp_kore.specs.View.{view, sort_view, sorts_view, patterns_view}
 use Rattle.kp_kore.specs.Signature.{meaning_of, construction, injection, interpretation, foreign}
 use Rattle.kp_kore.specs.declared.pattern.Pattern.{the_lemmas}
 use Rattle.kp_signature.specs.View.{signature_view}
-use Rattle.kp_semantics.specs.Foreign.{InjectionsSplit}
+use Rattle.kp_kore.specs.Foreign.{InjectionsSplit}
 use Rattle.kp_signature.specs.Meanings.{meaning_view, function_view}
 use Rattle.kp_compile.proofs.Compiled.{zip_push, zip_whole}
 use Rattle.kp_rules.specs.Skeletons.{skeleton_view, StandsFor, StandForAll, StandsForFirst}

@@ -1,5 +1,5 @@
 use Rattle.std.proofs.Common.{rules, ◌≡◌, map, true, arith, string_bytes}
-use Rattle.kp_semantics.specs.Value.{constructed}
+use Rattle.kp_kore.specs.Value.{constructed}
 use Rattle.kp_ground.specs.Terms.{left_value, left_built}
 use Rattle.kp_ground.specs.LeftView.{left_view, lefts_of}
 use Rattle.kp_ground.specs.View.{value_view, values_of}

@@ -2,7 +2,7 @@ use Rattle.std.proofs.Common.{◌≡◌, subst, inl, inr}
 use Rattle.std.proofs.lemmas.Result.{err_from_is_err_and}
 use Rattle.std.specs.Prelude.{string_bytes}
 use Rattle.kp_kore.specs.View.{sort_view}
-use Rattle.kp_semantics.specs.Sorted.{IsSorted}
+use Rattle.kp_kore.specs.Sorted.{IsSorted}
 use Rattle.kp_signature.specs.View.{signature_view}
 use Rattle.kp_ground.specs.View.{value_view}
 use Rattle.kp_run.specs.Runs.{IsAt, IsStuck, IsFirstUnknown, GoesOnlyTo, IsNext, IsWrittenNext, written_of}

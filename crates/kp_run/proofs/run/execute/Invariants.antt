@@ -1,5 +1,5 @@
 use Rattle.kp_signature.specs.View.{signature_view}
-use Rattle.kp_semantics.specs.Theory.{Theory}
+use Rattle.kp_kore.specs.Theory.{Theory}
 use Rattle.kp_ground.specs.View.{value_view}
 use Rattle.kp_depths.specs.View.{AreDepthsOf}
 use Rattle.kp_rule_sets.specs.RuleSets.{RunsAs}

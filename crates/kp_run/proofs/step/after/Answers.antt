@@ -11,10 +11,10 @@ use Rattle.kp_ground.specs.View.{value_view}
 use Rattle.kp_kore.specs.Parts.{term_depth}
 use Rattle.kp_kore.specs.View.{sort_view}
 use Rattle.kp_signature.specs.View.{signature_view}
-use Rattle.kp_states.specs.Spelled.{spelling}
+use Rattle.kp_compile.specs.Spelled.{spelling}
 use Rattle.kp_depths.specs.View.{AreDepthsOf}
 use Rattle.kp_run.specs.Turns.{deep}
-use Rattle.kp_states.specs.declared.state.State.{State}
+use Rattle.kp_compile.specs.declared.state.State.{State}
 use Rattle.kp_run.proofs.Turning.{is_beyond}
 use Rattle.kp_run.proofs.step.after.Goals as goal
 

@@ -1,6 +1,6 @@
 use Rattle.std.proofs.Common.{length}
 use Rattle.kp_signature.specs.View.{signature_view}
-use Rattle.kp_semantics.specs.Sorted.{IsSorted}
+use Rattle.kp_kore.specs.Sorted.{IsSorted}
 use Rattle.kp_ground.specs.View.{value_view}
 use Rattle.kp_rule_sets.specs.Merged.{left_of}
 use Rattle.kp_rule_sets.specs.Tops.{may_have, top_of}

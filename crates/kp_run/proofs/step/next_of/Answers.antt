@@ -2,7 +2,7 @@ use Rattle.std.proofs.Common.{rules, ◌≡◌, subst}
 use Rattle.std.proofs.lemmas.Result.{IfOk-weaker}
 use Rattle.std.specs.Prelude.{MatchOption, string_bytes}
 use Rattle.kp_ground.specs.View.{value_view}
-use Rattle.kp_semantics.specs.Steps.{IsUnknown}
+use Rattle.kp_kore.specs.Steps.{IsUnknown}
 use Rattle.kp_run.specs.Runs.{IsFirstUnknown, written_of}
 use Rattle.kp_run.proofs.Runs.{first_is_unknown}
 use Rattle.kp_run.proofs.States.{one_told, one_not_answered}

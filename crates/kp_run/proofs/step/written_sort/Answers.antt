@@ -2,7 +2,7 @@ use Rattle.std.proofs.Common.{sym, subst}
 use Rattle.std.proofs.lemmas.Result.{IfOk-weaker}
 use Rattle.kp_kore.specs.View.{sort_view}
 use Rattle.kp_signature.specs.View.{signature_view}
-use Rattle.kp_semantics.specs.Value.{HasSort}
+use Rattle.kp_kore.specs.Value.{HasSort}
 use Rattle.kp_run.proofs.Above.{has_sort_above}
 use Rattle.kp_run.proofs.step.written_sort.Goals as goal
 

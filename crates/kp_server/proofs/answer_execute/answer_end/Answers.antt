@@ -4,8 +4,8 @@ use Rattle.kp_kore.specs.Signature.{KoreSignature, injection, meaning_of}
 use Rattle.kp_kore.specs.View.{view, sort_view}
 use Rattle.kp_ground.specs.View.{value_view}
 use Rattle.kp_signature.specs.View.{signature_view}
-use Rattle.kp_semantics.specs.Foreign.{none_within}
-use Rattle.kp_states.specs.Spelled.{spelling, has_two_sorts, injection_name}
+use Rattle.kp_kore.specs.Foreign.{none_within}
+use Rattle.kp_compile.specs.Spelled.{spelling, has_two_sorts, injection_name}
 use Rattle.kp_results.specs.View.{executed_view}
 use Rattle.kp_server.proofs.Ended.{end_is_right, spelled_at, unanswered}
 use Rattle.kp_server.proofs.Trees.{result_has_tree}

@@ -1,8 +1,8 @@
 use Rattle.std.proofs.Common.{subst}
 use Rattle.kp_kore.specs.View.{view, sort_view}
 use Rattle.kp_signature.specs.View.{signature_view}
-use Rattle.kp_states.specs.Spelled.{first_foreign}
-use Rattle.kp_states.specs.States.{IsTold}
+use Rattle.kp_compile.specs.Spelled.{first_foreign}
+use Rattle.kp_compile.specs.States.{IsTold}
 use Rattle.kp_server.specs.Untold.{IsLeftOut}
 use Rattle.kp_server.proofs.Ended.{t2_pattern}
 use Rattle.kp_server.proofs.untold.ground_state.Goals as goal

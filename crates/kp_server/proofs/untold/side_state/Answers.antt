@@ -1,8 +1,8 @@
 use Rattle.std.proofs.Common.{subst}
 use Rattle.kp_kore.specs.View.{view}
 use Rattle.kp_signature.specs.View.{signature_view}
-use Rattle.kp_states.specs.Spelled.{first_foreign}
-use Rattle.kp_states.specs.States.{IsTold}
+use Rattle.kp_compile.specs.Spelled.{first_foreign}
+use Rattle.kp_compile.specs.States.{IsTold}
 use Rattle.kp_server.proofs.untold.side_state.Goals as goal
 
 pub returns-in-Err-OtherShape-clause-found : goal.returns-in-Err-OtherShape-clause-found

@@ -1,5 +1,5 @@
 use Rattle.std.proofs.Common.{map}
-use Rattle.kp_subsorts.specs.Pairs.{subsort_view}
+use Rattle.kp_signature.specs.Pairs.{subsort_view}
 use Rattle.kp_signature.proofs.SubsortPairs.{pairs_more}
 use Rattle.kp_signature.proofs.subsorts.add_subsorts.Goals as goal
 

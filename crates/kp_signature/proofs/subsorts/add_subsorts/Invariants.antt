@@ -1,7 +1,7 @@
 use Rattle.std.proofs.Common.{◌≡◌, ◌++◌, map, take}
 use Rattle.kp_kore.specs.Signature.{subsorts_among}
 use Rattle.kp_kore.specs.View.{patterns_view}
-use Rattle.kp_subsorts.specs.Pairs.{subsort_view}
+use Rattle.kp_signature.specs.Pairs.{subsort_view}
 use Rattle.kp_signature.proofs.subsorts.add_subsorts.Given as goal
 
 abbrev pub invariant-loop-attribute : goal.invariant-loop-attribute

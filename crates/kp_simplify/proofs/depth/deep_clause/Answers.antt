@@ -1,5 +1,5 @@
 use Rattle.std.proofs.Common.{rules, ◌≤◌, length}
-use Rattle.kp_terms.specs.Languages.{language_view}
+use Rattle.kp_symbolic.specs.Languages.{language_view}
 use Rattle.kp_simplify.proofs.FirstDeep.{clauses_here, clauses_later, clauses_none}
 use Rattle.kp_simplify.proofs.depth.deep_clause.Goals as goal
 

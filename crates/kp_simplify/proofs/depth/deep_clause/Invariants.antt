@@ -1,4 +1,4 @@
-use Rattle.kp_terms.specs.Languages.{language_view}
+use Rattle.kp_symbolic.specs.Languages.{language_view}
 use Rattle.kp_simplify.proofs.FirstDeep.{ClausesLeft}
 use Rattle.kp_simplify.proofs.depth.deep_clause.Given as goal
 

@@ -1,5 +1,5 @@
 use Rattle.std.proofs.Common.{rules, ◌≤◌, length}
-use Rattle.kp_terms.specs.Languages.{language_view}
+use Rattle.kp_symbolic.specs.Languages.{language_view}
 use Rattle.kp_simplify.proofs.FirstDeep.{literals_here, literals_later, literals_none}
 use Rattle.kp_simplify.proofs.depth.deep_literal.Goals as goal
 

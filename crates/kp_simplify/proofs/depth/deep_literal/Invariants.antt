@@ -1,4 +1,4 @@
-use Rattle.kp_terms.specs.Languages.{language_view}
+use Rattle.kp_symbolic.specs.Languages.{language_view}
 use Rattle.kp_simplify.proofs.FirstDeep.{LiteralsLeft}
 use Rattle.kp_simplify.proofs.depth.deep_literal.Given as goal
 

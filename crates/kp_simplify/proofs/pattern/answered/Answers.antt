@@ -1,4 +1,4 @@
-use Rattle.kp_terms.specs.Languages.{language_view}
+use Rattle.kp_symbolic.specs.Languages.{language_view}
 use Rattle.kp_simplify.proofs.pattern.answered.Goals as goal
 
 pub returns-in-Err-clause-refused : goal.returns-in-Err-clause-refused

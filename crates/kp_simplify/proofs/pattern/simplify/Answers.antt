@@ -1,7 +1,7 @@
 use Rattle.std.proofs.lemmas.Result.{IfErr-weaker}
 use Rattle.kp_kore.specs.View.{view, sort_view}
-use Rattle.kp_terms.specs.Languages.{language_view}
-use Rattle.kp_terms.specs.View.{state_view}
+use Rattle.kp_symbolic.specs.Languages.{language_view}
+use Rattle.kp_symbolic.specs.View.{state_view}
 use Rattle.kp_simplify.proofs.FoundLemmas.{found_where, wanted_where}
 use Rattle.kp_simplify.proofs.pattern.simplify.Goals as goal
 

@@ -1,8 +1,8 @@
 use Rattle.std.proofs.Common.{sym, subst}
 use Rattle.std.proofs.lemmas.Result.{IfErr-weaker}
 use Rattle.kp_symbolic.specs.Verdicts.{IsRightVerdict, undecided}
-use Rattle.kp_terms.specs.Languages.{language_view}
-use Rattle.kp_terms.specs.View.{state_view, clauses_view}
+use Rattle.kp_symbolic.specs.Languages.{language_view}
+use Rattle.kp_symbolic.specs.View.{state_view, clauses_view}
 use Rattle.kp_decide.specs.Answers.{IsRightAnswer}
 use Rattle.kp_decide.proofs.GivenLemmas.{well_formed_sorted}
 use Rattle.kp_simplify.proofs.AnswerLemmas.{if_ok, none_answered, right_none, right_some, shown_of}

@@ -1,6 +1,6 @@
 use Rattle.std.proofs.lemmas.Result.{IfErr-weaker}
-use Rattle.kp_terms.specs.Languages.{language_view}
-use Rattle.kp_terms.specs.View.{state_view}
+use Rattle.kp_symbolic.specs.Languages.{language_view}
+use Rattle.kp_symbolic.specs.View.{state_view}
 use Rattle.kp_simplify.proofs.AnswerLemmas.{if_ok, wide_answered, none_wide}
 use Rattle.kp_simplify.proofs.stated.found.Goals as goal
 

@@ -1,5 +1,5 @@
-use Rattle.kp_terms.specs.Languages.{language_view}
-use Rattle.kp_terms.specs.View.{state_view}
+use Rattle.kp_symbolic.specs.Languages.{language_view}
+use Rattle.kp_symbolic.specs.View.{state_view}
 use Rattle.kp_simplify.proofs.AnswerLemmas.{wide_answered}
 use Rattle.kp_simplify.proofs.stated.left_open.Goals as goal
 

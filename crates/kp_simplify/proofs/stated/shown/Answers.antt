@@ -5,8 +5,8 @@ use Rattle.kp_outward.specs.Arranged.{AreArranged}
 use Rattle.kp_outward.specs.Errors.{InjectsIfThere}
 use Rattle.kp_symbolic.specs.States.{Literal}
 use Rattle.kp_symbolic.specs.Writing.{written_predicate}
-use Rattle.kp_terms.specs.Languages.{language_view}
-use Rattle.kp_terms.specs.View.{state_view, clauses_view}
+use Rattle.kp_symbolic.specs.Languages.{language_view}
+use Rattle.kp_symbolic.specs.View.{state_view, clauses_view}
 use Rattle.kp_simplify.proofs.AnswerLemmas.{predicate_wants, shown_answered}
 use Rattle.kp_simplify.proofs.stated.shown.Goals as goal
 

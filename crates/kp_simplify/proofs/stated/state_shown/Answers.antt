@@ -1,7 +1,7 @@
 use Rattle.std.proofs.Common.{refl}
 use Rattle.kp_kore.specs.View.{view}
-use Rattle.kp_terms.specs.Languages.{language_view}
-use Rattle.kp_terms.specs.View.{state_view}
+use Rattle.kp_symbolic.specs.Languages.{language_view}
+use Rattle.kp_symbolic.specs.View.{state_view}
 use Rattle.kp_simplify.proofs.AnswerLemmas.{state_wants, written_answered}
 use Rattle.kp_simplify.proofs.FoundLemmas.{no_state}
 use Rattle.kp_simplify.proofs.stated.state_shown.Goals as goal

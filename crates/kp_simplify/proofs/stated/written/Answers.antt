@@ -1,7 +1,7 @@
 use Rattle.std.proofs.Common.{◌≡◌, ◌∙◌, sym, None}
 use Rattle.std.proofs.lemmas.Result.{IfErr-weaker}
-use Rattle.kp_terms.specs.Languages.{language_view}
-use Rattle.kp_terms.specs.View.{state_view}
+use Rattle.kp_symbolic.specs.Languages.{language_view}
+use Rattle.kp_symbolic.specs.View.{state_view}
 use Rattle.kp_simplify.specs.Answers.{first_deep, state_sides}
 use Rattle.kp_simplify.proofs.AnswerLemmas.{if_ok, deep_answered}
 use Rattle.kp_simplify.proofs.stated.written.Goals as goal

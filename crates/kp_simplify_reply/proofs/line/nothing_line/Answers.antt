@@ -1,7 +1,7 @@
 use Rattle.std.proofs.Common.{ap, sym, ◌∙◌}
 use Rattle.kp_kore.specs.Syntax.{bottom}
 use Rattle.kp_kore.specs.View.{sort_view}
-use Rattle.kp_semantics.specs.Implied.{nothing}
+use Rattle.kp_kore.specs.Implied.{nothing}
 use Rattle.kp_simplify_reply.proofs.line.nothing_line.Goals as goal
 
 pub returns : goal.returns

@@ -1,7 +1,7 @@
 use Rattle.std.proofs.Common.{sym, subst}
 use Rattle.kp_kore.specs.View.{view}
 use Rattle.kp_signature.specs.Verify.{VerifiesAs}
-use Rattle.kp_terms.specs.Languages.{language_view}
+use Rattle.kp_symbolic.specs.Languages.{language_view}
 use Rattle.kp_simplify_reply.proofs.line.understood_line.Goals as goal
 
 pub returns-in-Ok : goal.returns-in-Ok

@@ -3,7 +3,7 @@ use Rattle.kp_heads.specs.Made.{IsHeadTableOf}
 use Rattle.kp_kore.specs.View.{view, sort_view}
 use Rattle.kp_rpc.specs.View.{id_view}
 use Rattle.kp_signature.specs.View.{signature_view}
-use Rattle.kp_terms.specs.Languages.{language_view}
+use Rattle.kp_symbolic.specs.Languages.{language_view}
 use Rattle.kp_simplify_reply.proofs.Lines.{line_over}
 use Rattle.kp_simplify_reply.proofs.line.verified_line.Goals as goal
 

@@ -1,6 +1,6 @@
 use Rattle.std.proofs.Common.{rules, ◌++◌}
 use Rattle.kp_readings.specs.Equations.{equation_view}
-use Rattle.kp_terms.specs.View.{clauses_view, state_view}
+use Rattle.kp_symbolic.specs.View.{clauses_view, state_view}
 use Rattle.kp_solving.proofs.FirstLemmas.{nowhere_else, somewhere_else}
 use Rattle.kp_solving.proofs.first.solvable_if.Goals as goal
 

@@ -1,6 +1,6 @@
 use Rattle.std.proofs.Common.{◌≡◌, subst, IfErr}
 use Rattle.kp_compile.specs.declared.error.CompileError.TheVariants.{Memory}
-use Rattle.kp_terms.specs.Languages.{language_view}
+use Rattle.kp_symbolic.specs.Languages.{language_view}
 use Rattle.kp_solving.specs.Readable.{IsReadable}
 use Rattle.kp_solving.proofs.further.refine.Goals as goal
 

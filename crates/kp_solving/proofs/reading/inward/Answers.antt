@@ -1,7 +1,7 @@
 use Rattle.kp_clauses.specs.Faults.{state_fault}
 use Rattle.kp_kore.specs.View.{view}
-use Rattle.kp_terms.specs.Languages.{language_view}
-use Rattle.kp_terms.specs.View.{state_view}
+use Rattle.kp_symbolic.specs.Languages.{language_view}
+use Rattle.kp_symbolic.specs.View.{state_view}
 use Rattle.kp_signature.specs.Places.{the_top}
 use Rattle.kp_solving.proofs.ReadLemmas.{read_where_solved, right_where_solved, sound_where_solved, formed_where_solved, unread_where_kept}
 use Rattle.kp_solving.proofs.reading.inward.Goals as goal

@@ -4,8 +4,8 @@ use Rattle.std.proofs.lemmas.Result.{err_from_is_err_and}
 use Rattle.kp_kore.specs.View.{sort_view}
 use Rattle.kp_symbolic_laws.specs.Runs.{OfKeptWhole}
 use Rattle.kp_kept.specs.Kept.{CanBeWrittenAt}
-use Rattle.kp_terms.specs.Languages.{language_view}
-use Rattle.kp_terms.specs.View.{literal_view, clauses_view}
+use Rattle.kp_symbolic.specs.Languages.{language_view}
+use Rattle.kp_symbolic.specs.View.{literal_view, clauses_view}
 use Rattle.kp_readings.specs.Equations.{equation_view}
 use Rattle.kp_replacing.specs.Sums.{HasWrittenSums}
 use Rattle.kp_writing.specs.Parts.{IsFaultlessAtom}

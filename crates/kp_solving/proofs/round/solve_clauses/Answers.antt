@@ -3,8 +3,8 @@ use Rattle.std.specs.List.{AllByRecursion}
 use Rattle.std.proofs.lemmas.Result.{err_from_is_err_and}
 use Rattle.kp_kore.specs.View.{sort_view}
 use Rattle.kp_symbolic.specs.Solving.{literals_in}
-use Rattle.kp_terms.specs.Languages.{language_view}
-use Rattle.kp_terms.specs.View.{clause_view, clauses_view, literal_view}
+use Rattle.kp_symbolic.specs.Languages.{language_view}
+use Rattle.kp_symbolic.specs.View.{clause_view, clauses_view, literal_view}
 use Rattle.kp_readings.specs.Equations.{equation_view}
 use Rattle.kp_solving.specs.Solvables.{solved_or_kept}
 use Rattle.kp_symbolic_laws.specs.Runs.{OfKeptWhole}

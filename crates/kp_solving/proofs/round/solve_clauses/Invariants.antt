@@ -1,8 +1,8 @@
 use Rattle.std.proofs.Common.{◌≡◌, ◌++◌, Some}
 use Rattle.kp_kore.specs.View.{sort_view}
 use Rattle.kp_symbolic.specs.Solving.{solved_clauses}
-use Rattle.kp_terms.specs.Languages.{language_view}
-use Rattle.kp_terms.specs.View.{clauses_view}
+use Rattle.kp_symbolic.specs.Languages.{language_view}
+use Rattle.kp_symbolic.specs.View.{clauses_view}
 use Rattle.kp_readings.specs.Equations.{equation_view}
 use Rattle.kp_symbolic_laws.specs.Runs.{OfKeptWhole}
 use Rattle.kp_kept.specs.Kept.{CanBeWrittenAt}

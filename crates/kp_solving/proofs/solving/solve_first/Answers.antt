@@ -1,7 +1,7 @@
 use Rattle.std.proofs.Common.{◌≡◌, subst, Some}
 use Rattle.std.specs.Option.{option_map}
-use Rattle.kp_terms.specs.Languages.{language_view}
-use Rattle.kp_terms.specs.View.{state_view}
+use Rattle.kp_symbolic.specs.Languages.{language_view}
+use Rattle.kp_symbolic.specs.View.{state_view}
 use Rattle.kp_symbolic.specs.Solving.{first_solvable}
 use Rattle.kp_kept.specs.Kept.{CanBeWritten}
 use Rattle.kp_solving.specs.Solvables.{solvable_view}

@@ -1,5 +1,5 @@
 use Rattle.std.proofs.Common.{rules, arith, ◌≡◌, length}
-use Rattle.kp_terms.specs.Languages.{language_view}
+use Rattle.kp_symbolic.specs.Languages.{language_view}
 use Rattle.kp_outward.proofs.RoomLemmas.{none_room, one_room}
 use Rattle.kp_solving.proofs.whole.clause_out.Goals as goal
 

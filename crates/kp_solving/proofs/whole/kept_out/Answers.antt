@@ -2,8 +2,8 @@ use Rattle.std.specs.List.{AllByRecursion}
 use Rattle.kp_compile.specs.declared.error.CompileError.TheVariants.{Memory}
 use Rattle.kp_kore.specs.View.{view, sort_view}
 use Rattle.kp_symbolic.specs.Writing.{written_clause}
-use Rattle.kp_terms.specs.Languages.{language_view}
-use Rattle.kp_terms.specs.View.{literal_view, clause_view}
+use Rattle.kp_symbolic.specs.Languages.{language_view}
+use Rattle.kp_symbolic.specs.View.{literal_view, clause_view}
 use Rattle.kp_writing.specs.Parts.{IsFaultlessAtom}
 use Rattle.kp_solving.proofs.WholeLemmas.{kept_right, written_as, refused_anyway}
 use Rattle.kp_solving.proofs.whole.kept_out.Goals as goal

@@ -1,9 +1,9 @@
 use Rattle.std.proofs.Common.{rules, ◌≡◌, ◌≤◌, length}
 use Rattle.kp_kore.specs.View.{view, sort_view}
 use Rattle.kp_symbolic.specs.Writing.{written_literal}
-use Rattle.kp_terms.specs.Languages.{language_view}
-use Rattle.kp_terms.specs.View.{literal_view}
-use Rattle.kp_terms.specs.declared.clause.Literal.{Literal}
+use Rattle.kp_symbolic.specs.Languages.{language_view}
+use Rattle.kp_symbolic.specs.View.{literal_view}
+use Rattle.kp_symbolic.specs.declared.clause.Literal.{Literal}
 use Rattle.kp_outward.proofs.RoomLemmas.{HasRoomLiteral, all_further, all_done}
 use Rattle.kp_solving.proofs.WholeLemmas.{all_literals, written_further}
 use Rattle.kp_solving.proofs.whole.literals_out.Goals as goal

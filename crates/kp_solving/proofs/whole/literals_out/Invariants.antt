@@ -2,8 +2,8 @@ use Rattle.std.proofs.Common.{◌≡◌, map, take, drop}
 use Rattle.std.specs.List.{AllByRecursion}
 use Rattle.kp_kore.specs.View.{view, sort_view}
 use Rattle.kp_symbolic.specs.Writing.{written_literal}
-use Rattle.kp_terms.specs.Languages.{language_view}
-use Rattle.kp_terms.specs.View.{literal_view}
+use Rattle.kp_symbolic.specs.Languages.{language_view}
+use Rattle.kp_symbolic.specs.View.{literal_view}
 use Rattle.kp_outward.proofs.RoomLemmas.{HasRoomLiteral}
 use Rattle.kp_solving.proofs.whole.literals_out.Given as goal
 

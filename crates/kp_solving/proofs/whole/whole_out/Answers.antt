@@ -1,6 +1,6 @@
 use Rattle.std.proofs.Common.{rules, ◌≡◌, subst}
 use Rattle.std.specs.List.{AllByRecursion}
-use Rattle.kp_terms.specs.Languages.{language_view}
+use Rattle.kp_symbolic.specs.Languages.{language_view}
 use Rattle.kp_outward.proofs.RoomLemmas.{HasRoomLiteral, on_ok, clause_room}
 use Rattle.kp_solving.proofs.whole.whole_out.Goals as goal
 

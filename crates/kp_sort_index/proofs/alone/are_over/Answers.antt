@@ -1,6 +1,6 @@
 use Rattle.std.proofs.Common.{rules, ◌≡◌, true, get_or}
 use Rattle.std.proofs.lemmas.List.Elements.{Contains-get_or}
-use Rattle.kp_subsorts.specs.Order.{Under}
+use Rattle.kp_signature.specs.Order.{Under}
 use Rattle.kp_sort_index.proofs.SplitLemmas.{none_yet, all_more, all_done}
 use Rattle.kp_sort_index.proofs.alone.are_over.Goals as goal
 

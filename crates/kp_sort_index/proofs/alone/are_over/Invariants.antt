@@ -1,6 +1,6 @@
 use Rattle.std.proofs.Common.{ℕ, ◌<◌, List, take, length, Contains}
 use Rattle.kp_kore.specs.Syntax.{KoreSort}
-use Rattle.kp_subsorts.specs.Order.{IsOrderOf, Under, sorts_of}
+use Rattle.kp_signature.specs.Order.{IsOrderOf, Under, sorts_of}
 use Rattle.kp_sort_index.proofs.alone.are_over.Given as goal
 
 abbrev pub invariant-loop-number : goal.invariant-loop-number

@@ -1,5 +1,5 @@
 use Rattle.std.proofs.Common.{rules, ap, ◌∙◌, length}
-use Rattle.kp_subsorts.proofs.SpanLemmas.{edges_read, one_longer}
+use Rattle.kp_signature.proofs.SpanLemmas.{edges_read, one_longer}
 use Rattle.kp_sort_index.specs.Index.{IsNarrow}
 use Rattle.kp_sort_index.proofs.AloneLemmas.{no_mark, marks_more}
 use Rattle.kp_sort_index.proofs.alone.narrow_marks.Goals as goal

@@ -1,7 +1,7 @@
 use Rattle.std.proofs.Common.{◌≡◌, ℕ, List, false, get_or, length}
 use Rattle.std.specs.Prelude.{IsTrue}
 use Rattle.kp_kore.specs.Syntax.{KoreSort}
-use Rattle.kp_subsorts.specs.Order.{IsOrderOf}
+use Rattle.kp_signature.specs.Order.{IsOrderOf}
 use Rattle.kp_sort_index.specs.Index.{IsNarrow}
 use Rattle.kp_sort_index.proofs.alone.narrow_marks.Given as goal
 

@@ -1,6 +1,6 @@
 use Rattle.std.proofs.Common.{rules, ℕ, List, Bool, false, ◌<◌, ap, subst, ◌∙◌, length, get_or, Contains}
 use Rattle.std.specs.Prelude.{IsTrue}
-use Rattle.kp_subsorts.proofs.SpanLemmas.{edges_read, one_longer}
+use Rattle.kp_signature.proofs.SpanLemmas.{edges_read, one_longer}
 use Rattle.kp_sort_index.proofs.AloneLemmas.{no_straight, straight_more}
 use Rattle.kp_sort_index.proofs.alone.straight_marks.Goals as goal
 

@@ -1,7 +1,7 @@
 use Rattle.std.proofs.Common.{refl, ◌≡◌, ◌<◌, subst, ◌∙◌, length, arith}
 use Rattle.kp_kore.specs.View.{sort_view}
-use Rattle.kp_subsorts.specs.Numbering.{TellsNumber}
-use Rattle.kp_subsorts.specs.Order.{sorts_of}
+use Rattle.kp_signature.specs.Numbering.{TellsNumber}
+use Rattle.kp_signature.specs.Order.{sorts_of}
 use Rattle.kp_sort_index.proofs.MarkLemmas.{marked, unnumbered}
 use Rattle.kp_sort_index.proofs.own_heads.mark.Goals as goal
 

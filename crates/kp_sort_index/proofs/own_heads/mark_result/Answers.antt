@@ -2,7 +2,7 @@ use Rattle.std.proofs.Common.{◌≡◌, sym, ap, ◌∙◌, Some, None, Bor}
 use Rattle.std.specs.Option.{option_map}
 use Rattle.kp_kore.specs.View.{sort_view, symbol_sentence_view}
 use Rattle.kp_kore.specs.declared.sort.Sort.{Sort}
-use Rattle.kp_subsorts.specs.Order.{sorts_of}
+use Rattle.kp_signature.specs.Order.{sorts_of}
 use Rattle.kp_signature.specs.View.{signature_view}
 use Rattle.kp_sort_index.specs.Index.{constructed_sort}
 use Rattle.kp_sort_index.proofs.MarkLemmas.{unconstructed}

@@ -1,7 +1,7 @@
 use Rattle.std.proofs.Common.{rules, ◌≤◌, sym, ap, subst, ◌∙◌, [], ◌∷◌, ◌++◌, map, take, length}
 use Rattle.std.proofs.lemmas.List.{map_more, take_all}
 use Rattle.kp_kore.specs.View.{symbol_sentence_view}
-use Rattle.kp_subsorts.specs.Order.{sorts_of}
+use Rattle.kp_signature.specs.Order.{sorts_of}
 use Rattle.kp_signature.specs.View.{signature_view}
 use Rattle.kp_sort_index.specs.Index.{AreMarked}
 use Rattle.kp_sort_index.proofs.own_heads.mark_results.Goals as goal

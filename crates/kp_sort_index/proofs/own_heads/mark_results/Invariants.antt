@@ -1,6 +1,6 @@
 use Rattle.std.proofs.Common.{[], map, take}
 use Rattle.kp_kore.specs.View.{symbol_sentence_view}
-use Rattle.kp_subsorts.specs.Order.{IsOrderOf, sorts_of}
+use Rattle.kp_signature.specs.Order.{IsOrderOf, sorts_of}
 use Rattle.kp_signature.specs.View.{signature_view}
 use Rattle.kp_sort_index.specs.Index.{AreMarked}
 use Rattle.kp_sort_index.proofs.own_heads.mark_results.Given as goal

@@ -1,4 +1,4 @@
-use Rattle.kp_terms.specs.View.{state_view}
+use Rattle.kp_symbolic.specs.View.{state_view}
 use Rattle.kp_unify.specs.Views.{signature_of}
 use Rattle.kp_step.proofs.AnswerLemmas.{says_some, says_none}
 use Rattle.kp_step.proofs.answers.answer_of.Goals as goal

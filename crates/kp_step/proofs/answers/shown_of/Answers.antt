@@ -1,6 +1,6 @@
 use Rattle.std.proofs.Common.{rules, ◌≡◌, refl, [], None}
 use Rattle.kp_symbolic.specs.Plain.{rough_clauses}
-use Rattle.kp_terms.specs.View.{clauses_view, state_view}
+use Rattle.kp_symbolic.specs.View.{clauses_view, state_view}
 use Rattle.kp_unify.specs.Views.{signature_of}
 use Rattle.kp_step.proofs.AnswerLemmas.{some_clauses, shown_by_state}
 use Rattle.kp_step.proofs.answers.shown_of.Goals as goal

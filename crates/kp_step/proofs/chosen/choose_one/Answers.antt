@@ -3,7 +3,7 @@ use Rattle.std.specs.Prelude.{is_some}
 use Rattle.std.proofs.lemmas.List.{map-append}
 use Rattle.kp_kore.specs.View.{sorted_variable_view}
 use Rattle.kp_symbolic.specs.Terms.{unknown, replacement_for}
-use Rattle.kp_terms.specs.View.{variable_view, replaced_view, variables_view}
+use Rattle.kp_symbolic.specs.View.{variable_view, replaced_view, variables_view}
 use Rattle.kp_step.specs.Chosen.{chosen_view}
 use Rattle.kp_step.proofs.ChosenLemmas.{is_chosen}
 use Rattle.kp_step.proofs.chosen.choose_one.Goals as goal

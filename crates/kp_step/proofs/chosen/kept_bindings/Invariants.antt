@@ -1,6 +1,6 @@
 use Rattle.std.proofs.Common.{◌≡◌, ◌++◌, map, drop}
 use Rattle.kp_kore.specs.View.{sorted_variable_view}
-use Rattle.kp_terms.specs.View.{replaced_view}
+use Rattle.kp_symbolic.specs.View.{replaced_view}
 use Rattle.kp_step.specs.Follows.{kept_bindings}
 use Rattle.kp_step.proofs.chosen.kept_bindings.Given as goal
 

@@ -1,8 +1,8 @@
 use Rattle.std.proofs.Common.{◌≡◌, List, Option, take, drop}
 use Rattle.std.specs.List.{AllByRecursion}
 use Rattle.kp_kore.specs.Syntax.{Text}
-use Rattle.kp_semantics.specs.Rules.{Rewrite, rewrite, RewriteRule}
-use Rattle.kp_semantics.specs.Steps.{Fires}
+use Rattle.kp_kore.specs.Rules.{Rewrite, rewrite, RewriteRule}
+use Rattle.kp_kore.specs.Steps.{Fires}
 use Rattle.kp_rules.specs.Sides.{AreSidesOf}
 use Rattle.kp_rules.specs.VerifiedSides.{AreVerifiedSides}
 use Rattle.kp_cases.specs.Parts.{StatePart, OfEachInstance}

@@ -1,8 +1,8 @@
 use Rattle.std.proofs.Common.{subst, map}
 use Rattle.std.specs.Prelude.{MatchOption}
 use Rattle.std.specs.List.{AllByRecursion}
-use Rattle.kp_semantics.specs.Steps.{AnyByRecursion}
-use Rattle.kp_semantics.proofs.ListLemmas.{any_left}
+use Rattle.kp_kore.specs.Steps.{AnyByRecursion}
+use Rattle.kp_kore.proofs.ListLemmas.{any_left}
 use Rattle.kp_unify.specs.Views.{signature_of}
 use Rattle.kp_step.specs.Limits.{Passes, PassesNone}
 use Rattle.kp_step.specs.Views.{limit_view, next_told, part_told}

@@ -1,4 +1,4 @@
-use Rattle.kp_terms.specs.View.{state_view}
+use Rattle.kp_symbolic.specs.View.{state_view}
 use Rattle.kp_unify.specs.Views.{signature_of}
 use Rattle.kp_step.specs.Limits.{Passes, PassesNone}
 use Rattle.kp_step.specs.Views.{limit_view, part_told}

@@ -1,6 +1,6 @@
 use Rattle.std.proofs.Common.{map, drop}
 use Rattle.std.specs.List.{AllByRecursion}
-use Rattle.kp_semantics.specs.Steps.{AnyByRecursion}
+use Rattle.kp_kore.specs.Steps.{AnyByRecursion}
 use Rattle.kp_unify.specs.Views.{signature_of}
 use Rattle.kp_step.specs.Limits.{TermLimit, Passes, PassesNone}
 use Rattle.kp_step.specs.Views.{part_told}

@@ -1,6 +1,6 @@
 use Rattle.std.proofs.Common.{rules, ◌≡◌, ◌<◌, ◌≤◌, sym, subst, ◌++◌, ◌∷◌, [], length, get_or, map}
 use Rattle.std.specs.List.{AllZip}
-use Rattle.kp_terms.specs.View.{replaced_view}
+use Rattle.kp_symbolic.specs.View.{replaced_view}
 use Rattle.kp_unify.specs.Views.{numbered_view}
 use Rattle.kp_step.specs.Found.{IsMetIn}
 use Rattle.kp_step.specs.Follows.{IsNextAt}

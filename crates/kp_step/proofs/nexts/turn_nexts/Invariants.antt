@@ -1,7 +1,7 @@
 use Rattle.std.proofs.Common.{◌≡◌, List, map, take}
 use Rattle.std.specs.List.{AllZip}
 use Rattle.kp_kore.specs.Syntax.{Text}
-use Rattle.kp_semantics.specs.Theory.{Theory}
+use Rattle.kp_kore.specs.Theory.{Theory}
 use Rattle.kp_cases.specs.Parts.{StatePart}
 use Rattle.kp_unify.specs.Views.{signature_of, IsSetting}
 use Rattle.kp_step.specs.Rules.{IsReadAt}

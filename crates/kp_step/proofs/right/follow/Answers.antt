@@ -1,6 +1,6 @@
 use Rattle.std.proofs.Common.{◌≡◌, ap, ◌∙◌, subst, map, ◌++◌}
 use Rattle.kp_kore.specs.View.{sort_view, sorted_variable_view}
-use Rattle.kp_terms.specs.View.{replaced_view, variables_view, state_view}
+use Rattle.kp_symbolic.specs.View.{replaced_view, variables_view, state_view}
 use Rattle.kp_unify.specs.Views.{signature_of, numbered_view}
 use Rattle.kp_step.specs.Chosen.{chosen_view}
 use Rattle.kp_step.specs.Follows.{kept_bindings}

@@ -2,8 +2,8 @@ use Rattle.std.proofs.Common.{sym, subst, map}
 use Rattle.std.specs.List.{AllByRecursion}
 use Rattle.kp_kore.specs.View.{sorted_variable_view}
 use Rattle.kp_heads.specs.Heads.{HasValue}
-use Rattle.kp_semantics.specs.Rules.{rewrite}
-use Rattle.kp_terms.specs.View.{state_view}
+use Rattle.kp_kore.specs.Rules.{rewrite}
+use Rattle.kp_symbolic.specs.View.{state_view}
 use Rattle.kp_unify.specs.Views.{signature_of, part_view, numbered_view}
 use Rattle.kp_step.specs.Follows.{IsNextOf}
 use Rattle.kp_step.proofs.FollowedLemmas.{given_values, values_of, follows_never}

@@ -1,4 +1,4 @@
-use Rattle.kp_terms.specs.View.{state_view}
+use Rattle.kp_symbolic.specs.View.{state_view}
 use Rattle.kp_unify.specs.Views.{signature_of}
 use Rattle.kp_step.proofs.EndLemmas.{passes_number, open_at_all}
 use Rattle.kp_step.proofs.stepping.from_open.Goals as goal

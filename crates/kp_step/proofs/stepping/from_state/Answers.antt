@@ -1,4 +1,4 @@
-use Rattle.kp_terms.specs.View.{state_view}
+use Rattle.kp_symbolic.specs.View.{state_view}
 use Rattle.kp_unify.specs.Views.{signature_of, numbered_view}
 use Rattle.kp_step.proofs.EndLemmas.{passes_itself, step_from}
 use Rattle.kp_step.proofs.stepping.from_state.Goals as goal

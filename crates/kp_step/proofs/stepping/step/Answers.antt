@@ -1,5 +1,5 @@
 use Rattle.std.proofs.Common.{subst}
-use Rattle.kp_terms.specs.View.{state_view}
+use Rattle.kp_symbolic.specs.View.{state_view}
 use Rattle.kp_unify.specs.Views.{signature_of}
 use Rattle.kp_step.specs.Answers.{IsRightAnswerOf}
 use Rattle.kp_step.proofs.EndLemmas.{answer_at}

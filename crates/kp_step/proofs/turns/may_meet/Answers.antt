@@ -1,5 +1,5 @@
 use Rattle.std.proofs.Common.{◌≡◌, ◌∙◌, ap}
-use Rattle.kp_terms.specs.View.{clauses_view, state_view}
+use Rattle.kp_symbolic.specs.View.{clauses_view, state_view}
 use Rattle.kp_cases.specs.Parts.{with_clauses}
 use Rattle.kp_unify.specs.Views.{signature_of}
 use Rattle.kp_step.specs.Answers.{firing_model}

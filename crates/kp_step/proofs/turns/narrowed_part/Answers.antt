@@ -1,5 +1,5 @@
 use Rattle.std.proofs.Common.{◌∙◌, ap}
-use Rattle.kp_terms.specs.View.{clauses_view}
+use Rattle.kp_symbolic.specs.View.{clauses_view}
 use Rattle.kp_step.proofs.TriedLemmas.{narrowed}
 use Rattle.kp_step.proofs.turns.narrowed_part.Goals as goal
 

@@ -1,5 +1,5 @@
 use Rattle.std.proofs.Common.{sym, ap, subst, map}
-use Rattle.kp_terms.specs.View.{replaced_view}
+use Rattle.kp_symbolic.specs.View.{replaced_view}
 use Rattle.kp_rules.specs.Skeletons.{skeleton_view}
 use Rattle.kp_rules.specs.Sides.{AreSidesOf}
 use Rattle.kp_rules.specs.VerifiedSides.{AreVerifiedSides}

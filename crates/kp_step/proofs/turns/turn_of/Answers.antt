@@ -1,5 +1,5 @@
 use Rattle.std.proofs.Common.{◌≡◌, refl, sym, ap, ◌∙◌, map, []}
-use Rattle.kp_terms.specs.View.{replaced_view}
+use Rattle.kp_symbolic.specs.View.{replaced_view}
 use Rattle.kp_step.specs.Views.{numbered_views}
 use Rattle.kp_step.proofs.TriedLemmas.{no_items, some_items, turn_told, no_turn_told, some_views}
 use Rattle.kp_step.proofs.turns.turn_of.Goals as goal

@@ -1,6 +1,6 @@
 use Rattle.std.proofs.Common.{ap}
 use Rattle.std.specs.Option.{option_map}
-use Rattle.kp_terms.specs.View.{state_view}
+use Rattle.kp_symbolic.specs.View.{state_view}
 use Rattle.kp_unify.specs.Views.{signature_of}
 use Rattle.kp_step.specs.Answers.{firing_model}
 use Rattle.kp_step.specs.Views.{limit_view}

@@ -1,5 +1,5 @@
 use Rattle.std.proofs.Common.{◌≡◌, true, map, drop, string_bytes}
-use Rattle.kp_semantics.specs.Instance.{is_named}
+use Rattle.kp_kore.specs.Instance.{is_named}
 use Rattle.kp_rules.specs.Skeletons.{skeleton_view, forms_of}
 use Rattle.kp_cases.specs.Courses.{all_form_variables}
 use Rattle.kp_step.proofs.variables.+named.Given as goal

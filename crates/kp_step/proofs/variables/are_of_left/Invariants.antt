@@ -1,7 +1,7 @@
 use Rattle.std.proofs.Common.{◌≡◌, true, map, drop}
 use Rattle.std.specs.List.{AllByRecursion}
-use Rattle.kp_semantics.specs.Instance.{is_named}
-use Rattle.kp_terms.specs.View.{replaced_view}
+use Rattle.kp_kore.specs.Instance.{is_named}
+use Rattle.kp_symbolic.specs.View.{replaced_view}
 use Rattle.kp_rules.specs.Skeletons.{skeleton_view}
 use Rattle.kp_cases.specs.Courses.{form_variables}
 use Rattle.kp_step.proofs.variables.are_of_left.Given as goal

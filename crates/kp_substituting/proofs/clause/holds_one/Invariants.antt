@@ -1,5 +1,5 @@
 use Rattle.std.proofs.Common.{◌≡◌, map, drop}
-use Rattle.kp_terms.specs.View.{literal_view, replaced_view}
+use Rattle.kp_symbolic.specs.View.{literal_view, replaced_view}
 use Rattle.kp_substituting.specs.Holding.{holds_one}
 use Rattle.kp_substituting.proofs.clause.holds_one.Given as goal
 

@@ -2,8 +2,8 @@ use Rattle.std.proofs.Common.{rules, ◌≡◌, sym, subst, ◌∙◌, map, true
 use Rattle.std.specs.Result.{IfOk}
 use Rattle.kp_kore.specs.View.{sort_view}
 use Rattle.kp_symbolic.specs.Clauses.{is_too_large}
-use Rattle.kp_terms.specs.Languages.{language_view}
-use Rattle.kp_terms.specs.View.{clause_view, clauses_view, replaced_view}
+use Rattle.kp_symbolic.specs.Languages.{language_view}
+use Rattle.kp_symbolic.specs.View.{clause_view, clauses_view, replaced_view}
 use Rattle.kp_distribution.specs.Distribution.{distribution_of}
 use Rattle.kp_distribution.specs.View.{distributed_view}
 use Rattle.kp_replacing.specs.Replacing.{clause_under}

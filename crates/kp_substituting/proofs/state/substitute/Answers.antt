@@ -1,8 +1,8 @@
 use Rattle.std.proofs.Common.{sym, subst}
 use Rattle.std.specs.List.{AllByRecursion}
 use Rattle.std.proofs.lemmas.Result.{err_from_is_err_and}
-use Rattle.kp_terms.specs.Languages.{language_view}
-use Rattle.kp_terms.specs.View.{literal_view}
+use Rattle.kp_symbolic.specs.Languages.{language_view}
+use Rattle.kp_symbolic.specs.View.{literal_view}
 use Rattle.kp_replacing.specs.Sums.{HasWrittenSums}
 use Rattle.kp_writing.specs.Parts.{IsFaultlessAtom}
 use Rattle.kp_solving.proofs.WayLemmas.{clauses_have}

@@ -1,7 +1,7 @@
 use Rattle.std.proofs.Common.{◌≡◌, ◌++◌, map}
 use Rattle.kp_kore.specs.View.{sort_view}
-use Rattle.kp_terms.specs.Languages.{language_view}
-use Rattle.kp_terms.specs.View.{clauses_view, replaced_view}
+use Rattle.kp_symbolic.specs.Languages.{language_view}
+use Rattle.kp_symbolic.specs.View.{clauses_view, replaced_view}
 use Rattle.kp_replacing.specs.Substituted.{substituted_clauses}
 use Rattle.kp_substituting.proofs.StateLemmas.{substituted_from}
 use Rattle.kp_substituting.proofs.state.substitute_clauses.Given as goal

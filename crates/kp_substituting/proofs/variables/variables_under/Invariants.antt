@@ -2,7 +2,7 @@ use Rattle.std.proofs.Common.{◌≡◌, ◌++◌, map, drop}
 use Rattle.std.specs.List.{flat_map}
 use Rattle.kp_symbolic.specs.States.{variables_for}
 use Rattle.kp_symbolic.specs.Terms.{replacement_for}
-use Rattle.kp_terms.specs.View.{replaced_view, variables_view}
+use Rattle.kp_symbolic.specs.View.{replaced_view, variables_view}
 use Rattle.kp_substituting.proofs.variables.variables_under.Given as goal
 
 abbrev pub invariant-loop-variable : goal.invariant-loop-variable

@@ -1,6 +1,6 @@
 use Rattle.std.proofs.Common.{◌↔◌, IsTrue, sym, ◌∙◌, subst}
 use Rattle.kp_signature.specs.View.{signature_view}
-use Rattle.kp_semantics.specs.Instance.{Valuation}
+use Rattle.kp_kore.specs.Instance.{Valuation}
 use Rattle.kp_ground.specs.View.{value_view}
 use Rattle.kp_rules.specs.Heads.{FiresAs}
 use Rattle.kp_run.specs.Turns.{BodyFires}

@@ -1,6 +1,6 @@
 use Rattle.std.proofs.Common.{◌≡◌}
 use Rattle.kp_kore.specs.View.{sort_view}
-use Rattle.kp_semantics.proofs.SameLemmas.{same_sorts_decide}
+use Rattle.kp_kore.proofs.SameLemmas.{same_sorts_decide}
 use Rattle.kp_kore.specs.Attributes.{sorts_equal}
 use Rattle.kp_successors.proofs.Members.{same_decision}
 use Rattle.kp_successors.proofs.member.is_same_sort.Goals as goal

@@ -1,5 +1,5 @@
 use Rattle.std.proofs.Common.{◌≡◌, drop}
-use Rattle.kp_semantics.specs.Instance.{Valuation}
+use Rattle.kp_kore.specs.Instance.{Valuation}
 use Rattle.kp_ground.specs.Solves.{Solves}
 use Rattle.kp_rules.specs.WideParts.{all_narrow}
 use Rattle.kp_successors.proofs.narrow.evaluate_each.Given as goal

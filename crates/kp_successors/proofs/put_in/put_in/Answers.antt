@@ -2,7 +2,7 @@ use Rattle.std.proofs.Common.{rules, ◌≡◌, sym, ap, subst, ◌∙◌, ◌+�
 use Rattle.std.specs.List.{AllByRecursion}
 use Rattle.kp_kore.specs.View.{sorted_variable_view}
 use Rattle.kp_signature.specs.View.{signature_view}
-use Rattle.kp_semantics.specs.Instance.{is_named}
+use Rattle.kp_kore.specs.Instance.{is_named}
 use Rattle.kp_compile.specs.Names.{names_seen}
 use Rattle.kp_substitution.specs.Seen.{replacement_view, replacements_view}
 use Rattle.kp_successors.specs.Nexts.{left_of, new_of}

@@ -2,12 +2,12 @@ use Rattle.std.proofs.Common.{◌≡◌, sym, subst, true, string_bytes}
 use Rattle.std.proofs.lemmas.Result.{err_from_is_err_and}
 use Rattle.kp_kore.specs.View.{view, sort_view}
 use Rattle.kp_signature.specs.View.{signature_view}
-use Rattle.kp_semantics.specs.Value.{HasSort}
+use Rattle.kp_kore.specs.Value.{HasSort}
 use Rattle.kp_ground.specs.Slots.{is_one_of, stands_at}
 use Rattle.kp_ground.specs.View.{value_view}
 use Rattle.kp_ground.proofs.SlotLemmas.{slot_within}
 use Rattle.kp_compile.specs.Names.{names_seen}
-use Rattle.kp_states.specs.Spelled.{IsSpellingOf}
+use Rattle.kp_compile.specs.Spelled.{IsSpellingOf}
 use Rattle.kp_successors.proofs.Refused.{from_spelling}
 use Rattle.kp_successors.proofs.put_in.replacement_of.Goals as goal
 

@@ -3,9 +3,9 @@ use Rattle.std.specs.Prelude.{MatchOption}
 use Rattle.std.proofs.lemmas.Result.{err_from_is_err_and}
 use Rattle.kp_kore.specs.View.{view}
 use Rattle.kp_ground.specs.View.{value_view}
-use Rattle.kp_semantics.specs.Instance.{Valuation, instance}
-use Rattle.kp_semantics.specs.Numbers.{computes_wide}
-use Rattle.kp_semantics.specs.Steps.{IsUnknown}
+use Rattle.kp_kore.specs.Instance.{Valuation, instance}
+use Rattle.kp_kore.specs.Numbers.{computes_wide}
+use Rattle.kp_kore.specs.Steps.{IsUnknown}
 use Rattle.kp_run.specs.Runs.{IsFirstUnknown}
 use Rattle.kp_run.proofs.Theories.{told_here}
 use Rattle.kp_successors.specs.Successors.{AreSuccessors}

@@ -6,7 +6,7 @@ use Rattle.kp_compile.specs.Exact.{are_named}
 use Rattle.kp_compile.specs.Names.{names_seen}
 use Rattle.kp_ground.specs.Slots.{term_reads}
 use Rattle.kp_signature.specs.View.{signature_view}
-use Rattle.kp_semantics.specs.Numbers.{computes_wide}
+use Rattle.kp_kore.specs.Numbers.{computes_wide}
 use Rattle.kp_ground.specs.Terms.{stays_narrow}
 use Rattle.kp_ground.specs.TermView.{term_view}
 use Rattle.kp_successors.proofs.Finding.{not_none, is_none, not_wide, unvalued}

@@ -1,6 +1,6 @@
 use Rattle.std.specs.List.{AllByRecursion}
 use Rattle.kp_kore.specs.Parts.{free_variables, all_free_variables}
-use Rattle.kp_semantics.specs.Instance.{GivesSorts}
+use Rattle.kp_kore.specs.Instance.{GivesSorts}
 use Rattle.kp_symbolic.specs.Terms.{replacement_for, under_replaced}
 use Rattle.kp_symbolic.specs.States.{IsLiteralTrue, variables_for}
 use Rattle.kp_symbolic.proofs.Opened.{opened_says, variables_closed}

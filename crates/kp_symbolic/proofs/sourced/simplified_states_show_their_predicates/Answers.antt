@@ -1,7 +1,7 @@
 use Rattle.std.proofs.Common.{[], ◌∷◌, ap, refl}
 use Rattle.std.specs.Prelude.{pos, codes}
 use Rattle.std.proofs.lemmas.Bool.{ltb-true}
-use Rattle.kp_semantics.specs.Value.{whole}
+use Rattle.kp_kore.specs.Value.{whole}
 use Rattle.kp_toys.specs.Toys.{sort_s, integer}
 use Rattle.kp_toys.specs.ToysTheory.{toys_signature}
 use Rattle.kp_symbolic.specs.Weighing.{square_below, square_predicate, wide_bound, wide_shown}

@@ -1,4 +1,4 @@
-use Rattle.kp_semantics.specs.Steps.{Fires}
+use Rattle.kp_kore.specs.Steps.{Fires}
 use Rattle.kp_turns.specs.Turns.{IsLeftTo}
 use Rattle.kp_turns.proofs.PartsWhere.{sets_out, goes_on, drops_parts}
 use Rattle.kp_turns.proofs.TurnsFound.{left_to_none, left_to_rule, less_is_left, as_much_is_left}

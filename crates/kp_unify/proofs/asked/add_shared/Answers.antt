@@ -8,7 +8,7 @@ use Rattle.kp_signature.specs.View.{signature_view}
 use Rattle.kp_symbolic.specs.Heads.{passes_head}
 use Rattle.kp_sort_heads.specs.Left.{IsNext}
 use Rattle.kp_sort_heads.specs.Views.{head_view, left_of}
-use Rattle.kp_terms.specs.View.{variable_view, test_view, literal_view}
+use Rattle.kp_symbolic.specs.View.{variable_view, test_view, literal_view}
 use Rattle.kp_cases.specs.Narrowings.{tested}
 use Rattle.kp_unify.proofs.HeadLists.{taken, left_out, none_left, both_tests}
 use Rattle.kp_unify.proofs.asked.add_shared.Goals as goal

@@ -5,7 +5,7 @@ use Rattle.kp_kore.specs.View.{sort_view}
 use Rattle.kp_signature.specs.View.{signature_view}
 use Rattle.kp_symbolic.specs.Heads.{passes_head}
 use Rattle.kp_sort_heads.specs.Views.{left_of}
-use Rattle.kp_terms.specs.View.{variable_view, test_view, literal_view}
+use Rattle.kp_symbolic.specs.View.{variable_view, test_view, literal_view}
 use Rattle.kp_cases.specs.Narrowings.{tested}
 use Rattle.kp_unify.proofs.asked.add_shared.Given as goal
 

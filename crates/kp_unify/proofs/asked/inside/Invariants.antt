@@ -4,7 +4,7 @@ use Rattle.kp_kore.specs.Signature.{is_head, heads_of}
 use Rattle.kp_kore.specs.View.{sort_view}
 use Rattle.kp_signature.specs.View.{signature_view}
 use Rattle.kp_sort_heads.specs.Views.{left_of}
-use Rattle.kp_terms.specs.View.{variable_view, clauses_view}
+use Rattle.kp_symbolic.specs.View.{variable_view, clauses_view}
 use Rattle.kp_unify.specs.Heads.{clause_without}
 use Rattle.kp_unify.proofs.asked.inside.Given as goal
 

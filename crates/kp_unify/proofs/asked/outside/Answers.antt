@@ -6,7 +6,7 @@ use Rattle.kp_kore.specs.View.{sort_view}
 use Rattle.kp_signature.specs.View.{signature_view}
 use Rattle.kp_sort_heads.specs.Left.{IsNext}
 use Rattle.kp_sort_heads.specs.Views.{head_view, left_of}
-use Rattle.kp_terms.specs.View.{variable_view, clause_view, clauses_view}
+use Rattle.kp_symbolic.specs.View.{variable_view, clause_view, clauses_view}
 use Rattle.kp_cases.specs.Narrowings.{tested}
 use Rattle.kp_unify.proofs.HeadLists.{begins, taken, left_out}
 use Rattle.kp_unify.proofs.asked.outside.Goals as goal

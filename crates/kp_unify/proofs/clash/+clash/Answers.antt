@@ -3,8 +3,8 @@ use Rattle.std.specs.Prelude.{IsTrue}
 use Rattle.kp_ground.specs.View.{value_view}
 use Rattle.kp_symbolic.specs.Terms.{offset, known, headed}
 use Rattle.kp_rules.specs.Skeletons.{forms_of}
-use Rattle.kp_terms.specs.View.{variable_view, term_view, terms_of}
-use Rattle.kp_terms.specs.declared.term.Term.{the_lemmas}
+use Rattle.kp_symbolic.specs.View.{variable_view, term_view, terms_of}
+use Rattle.kp_symbolic.specs.declared.term.Term.{the_lemmas}
 use Rattle.kp_cases.specs.Rows.{HasMembers}
 use Rattle.kp_unify.specs.Clash.{IsNeverOf, AreNeverOf}
 use Rattle.kp_unify.specs.Forms.{form_view, members_view, IsAsked}

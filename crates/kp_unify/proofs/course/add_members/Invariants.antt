@@ -1,5 +1,5 @@
 use Rattle.std.proofs.Common.{◌≡◌, ◌++◌, ◌≤◌, length, map, drop}
-use Rattle.kp_terms.specs.View.{term_view}
+use Rattle.kp_symbolic.specs.View.{term_view}
 use Rattle.kp_unify.specs.Forms.{members_view}
 use Rattle.kp_unify.specs.Replaced.{pairs_of}
 use Rattle.kp_unify.specs.Views.{pair_view}

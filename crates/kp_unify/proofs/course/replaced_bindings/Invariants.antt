@@ -1,6 +1,6 @@
 use Rattle.std.proofs.Common.{◌≡◌, ◌++◌, map, drop}
-use Rattle.kp_terms.specs.Languages.{language_view}
-use Rattle.kp_terms.specs.View.{replaced_view}
+use Rattle.kp_symbolic.specs.Languages.{language_view}
+use Rattle.kp_symbolic.specs.View.{replaced_view}
 use Rattle.kp_unify.specs.Replaced.{binding_put}
 use Rattle.kp_unify.proofs.course.replaced_bindings.Given as goal
 

@@ -1,5 +1,5 @@
 use Rattle.std.proofs.Common.{rules, ◌≡◌, sym, subst, map, string_bytes}
-use Rattle.kp_semantics.specs.Value.{constructed}
+use Rattle.kp_kore.specs.Value.{constructed}
 use Rattle.kp_ground.specs.View.{value_view, values_of}
 use Rattle.kp_ground.specs.declared.value.Value.{the_lemmas}
 use Rattle.kp_rules.specs.Skeletons as model

@@ -1,5 +1,5 @@
 use Rattle.std.proofs.Common.{◌≡◌, drop}
-use Rattle.kp_terms.specs.View.{clauses_view}
+use Rattle.kp_symbolic.specs.View.{clauses_view}
 use Rattle.kp_cases.specs.Narrowings.{are_never}
 use Rattle.kp_unify.proofs.literals.are_never.Given as goal
 

@@ -4,7 +4,7 @@ use Rattle.kp_kore.specs.View.{sort_view}
 use Rattle.kp_signature.specs.View.{signature_view}
 use Rattle.kp_symbolic.specs.Clauses.{is_too_large}
 use Rattle.kp_symbolic.specs.Opening.{opened_same}
-use Rattle.kp_terms.specs.View.{term_view, clauses_view}
+use Rattle.kp_symbolic.specs.View.{term_view, clauses_view}
 use Rattle.kp_distribution.specs.Distribution.{distribution_of}
 use Rattle.kp_distribution.specs.View.{distributed_view}
 use Rattle.kp_cases.specs.Courses.{Equality}

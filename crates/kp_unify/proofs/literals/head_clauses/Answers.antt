@@ -3,7 +3,7 @@ use Rattle.kp_signature.specs.View.{signature_view}
 use Rattle.kp_symbolic.specs.Opening.{literal_fact, opened_test}
 use Rattle.kp_symbolic.specs.States.{has_head}
 use Rattle.kp_symbolic.specs.Terms.{unknown}
-use Rattle.kp_terms.specs.View.{variable_view, test_view}
+use Rattle.kp_symbolic.specs.View.{variable_view, test_view}
 use Rattle.kp_distribution.specs.Distribution.{distribution_of}
 use Rattle.kp_distribution.specs.View.{distributed_view}
 use Rattle.kp_unify.proofs.OpenedLemmas.{test_kept}

@@ -1,7 +1,7 @@
 use Rattle.std.proofs.Common.{◌≡◌, sym, subst, map}
 use Rattle.std.specs.Prelude.{IfOk, MatchOption}
 use Rattle.kp_rules.specs.Skeletons.{skeleton_view}
-use Rattle.kp_terms.specs.View.{state_view}
+use Rattle.kp_symbolic.specs.View.{state_view}
 use Rattle.kp_cases.specs.Parts.{whole}
 use Rattle.kp_unify.specs.Views.{signature_of, numbered_view, met_view}
 use Rattle.kp_unify.specs.Way.{IsMeetable, IsAllApart, IsMeeting}

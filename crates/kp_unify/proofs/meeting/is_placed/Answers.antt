@@ -2,7 +2,7 @@ use Rattle.std.proofs.Common.{rules, ◌≡◌, subst}
 use Rattle.kp_kore.specs.View.{sort_view}
 use Rattle.kp_signature.specs.View.{signature_view}
 use Rattle.kp_symbolic.specs.WellFormed.{IsWellSorted}
-use Rattle.kp_terms.specs.View.{term_view}
+use Rattle.kp_symbolic.specs.View.{term_view}
 use Rattle.kp_unify.proofs.PlacedLemmas.{placed_by_test}
 use Rattle.kp_unify.proofs.meeting.is_placed.Goals as goal
 

@@ -2,7 +2,7 @@ use Rattle.std.proofs.Common.{List, map, take}
 use Rattle.kp_kore.specs.Syntax.{Text}
 use Rattle.kp_kore.specs.View.{sort_view}
 use Rattle.kp_names.specs.Met.{Lists}
-use Rattle.kp_terms.specs.View.{variables_view}
+use Rattle.kp_symbolic.specs.View.{variables_view}
 use Rattle.kp_unify.specs.Names.{AreNextVariables}
 use Rattle.kp_unify.proofs.names.new_variables.Given as goal
 

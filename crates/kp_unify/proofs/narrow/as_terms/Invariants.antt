@@ -1,6 +1,6 @@
 use Rattle.std.proofs.Common.{◌≡◌, ◌++◌, map, drop}
 use Rattle.kp_symbolic.specs.Terms.{unknown}
-use Rattle.kp_terms.specs.View.{variable_view, term_view}
+use Rattle.kp_symbolic.specs.View.{variable_view, term_view}
 use Rattle.kp_unify.proofs.narrow.as_terms.Given as goal
 
 abbrev pub invariant-loop-variable : goal.invariant-loop-variable

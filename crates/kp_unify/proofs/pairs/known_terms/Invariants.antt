@@ -1,7 +1,7 @@
 use Rattle.std.proofs.Common.{◌≡◌, ◌++◌, map, drop}
 use Rattle.kp_ground.specs.View.{value_view}
 use Rattle.kp_symbolic.specs.Terms.{known}
-use Rattle.kp_terms.specs.View.{term_view}
+use Rattle.kp_symbolic.specs.View.{term_view}
 use Rattle.kp_unify.proofs.pairs.known_terms.Given as goal
 
 abbrev pub invariant-loop-value : goal.invariant-loop-value

@@ -1,7 +1,7 @@
 use Rattle.std.proofs.Common.{◌≡◌, ◌++◌, drop}
 use Rattle.std.specs.List.{flat_map}
-use Rattle.kp_terms.specs.Languages.{language_view}
-use Rattle.kp_terms.specs.View.{clauses_view}
+use Rattle.kp_symbolic.specs.Languages.{language_view}
+use Rattle.kp_symbolic.specs.View.{clauses_view}
 use Rattle.kp_readings.specs.Equations.{equation_view}
 use Rattle.kp_cases.specs.Narrowings.{put_clause}
 use Rattle.kp_unify.proofs.put.put_in_clauses.Given as goal

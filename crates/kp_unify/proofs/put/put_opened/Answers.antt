@@ -1,7 +1,7 @@
 use Rattle.std.proofs.Common.{rules, ◌≡◌, sym, subst, ◌∙◌, map, true, false, not}
 use Rattle.kp_symbolic.specs.Clauses.{is_too_large}
-use Rattle.kp_terms.specs.Languages.{language_view}
-use Rattle.kp_terms.specs.View.{clause_view, clauses_view, replaced_view}
+use Rattle.kp_symbolic.specs.Languages.{language_view}
+use Rattle.kp_symbolic.specs.View.{clause_view, clauses_view, replaced_view}
 use Rattle.kp_distribution.specs.Distribution.{distribution_of}
 use Rattle.kp_distribution.specs.View.{distributed_view}
 use Rattle.kp_readings.specs.Equations.{equation_view}

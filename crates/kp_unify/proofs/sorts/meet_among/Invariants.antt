@@ -1,7 +1,7 @@
 use Rattle.std.proofs.Common.{◌≡◌, map, drop}
 use Rattle.std.specs.List.{find}
 use Rattle.kp_kore.specs.View.{sort_view}
-use Rattle.kp_subsorts.specs.Pairs.{subsort_view}
+use Rattle.kp_signature.specs.Pairs.{subsort_view}
 use Rattle.kp_signature.specs.View.{signature_view}
 use Rattle.kp_unify.specs.Heads.{is_meet}
 use Rattle.kp_unify.proofs.sorts.meet_among.Given as goal

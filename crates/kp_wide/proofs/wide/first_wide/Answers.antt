@@ -1,7 +1,7 @@
 use Rattle.std.proofs.Common.{rules, ap, ◌∙◌}
 use Rattle.kp_signature.specs.View.{signature_view}
 use Rattle.kp_symbolic.specs.Sources.{clause_parts}
-use Rattle.kp_terms.specs.View.{clauses_view, state_view}
+use Rattle.kp_symbolic.specs.View.{clauses_view, state_view}
 use Rattle.kp_wide.specs.Wide.{first_wide_among}
 use Rattle.kp_wide.proofs.WideLemmas.{in_the_term, in_the_clauses}
 use Rattle.kp_wide.proofs.wide.first_wide.Goals as goal

@@ -2,7 +2,7 @@ use Rattle.std.proofs.Common.{◌≡◌, sym, subst, ◌∙◌}
 use Rattle.std.specs.Option.{option_map}
 use Rattle.kp_signature.specs.View.{signature_view}
 use Rattle.kp_symbolic.specs.Sources.{atom_parts}
-use Rattle.kp_terms.specs.View.{atom_view, term_view}
+use Rattle.kp_symbolic.specs.View.{atom_view, term_view}
 use Rattle.kp_wide.specs.Calls.{call_view}
 use Rattle.kp_wide.specs.Wide.{first_wide_among}
 use Rattle.kp_wide.proofs.WideLemmas.{sides_are}

@@ -1,7 +1,7 @@
 use Rattle.std.proofs.Common.{◌≡◌, ◌++◌, map, drop, string_bytes}
 use Rattle.kp_kore.specs.View.{sort_view}
 use Rattle.kp_symbolic.specs.Writing.{renamed}
-use Rattle.kp_terms.specs.View.{replaced_view}
+use Rattle.kp_symbolic.specs.View.{replaced_view}
 use Rattle.kp_writing.proofs.binder.renamed.Given as goal
 
 abbrev pub invariant-loop-one : goal.invariant-loop-one

@@ -2,7 +2,7 @@ use Rattle.std.proofs.Common.{◌≡◌, ◌++◌, map, drop, string_bytes}
 use Rattle.std.specs.List.{flat_map}
 use Rattle.kp_kore.specs.Parts.{without_name}
 use Rattle.kp_kore.specs.View.{sorted_variable_view}
-use Rattle.kp_terms.specs.View.{replaced_view}
+use Rattle.kp_symbolic.specs.View.{replaced_view}
 use Rattle.kp_writing.specs.Parts.{names_for}
 use Rattle.kp_writing.proofs.incoming.add_incoming.Given as goal
 

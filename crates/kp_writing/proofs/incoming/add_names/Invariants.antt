@@ -1,5 +1,5 @@
 use Rattle.std.proofs.Common.{◌≡◌, ◌++◌, map, drop, string_bytes}
-use Rattle.kp_terms.specs.View.{variables_view}
+use Rattle.kp_symbolic.specs.View.{variables_view}
 use Rattle.kp_writing.proofs.incoming.add_names.Given as goal
 
 abbrev pub invariant-loop-variable : goal.invariant-loop-variable

@@ -2,7 +2,7 @@ use Rattle.std.proofs.Common.{rules, ◌≡◌, ◌∙◌, sym, map, string_byte
 use Rattle.std.specs.List.{flat_map}
 use Rattle.kp_kore.specs.Parts.{free_variables, without_name}
 use Rattle.kp_kore.specs.View.{view}
-use Rattle.kp_terms.specs.View.{replaced_view}
+use Rattle.kp_symbolic.specs.View.{replaced_view}
 use Rattle.kp_writing.specs.Parts.{names_for}
 use Rattle.kp_writing.proofs.NamesLemmas.{names_are}
 use Rattle.kp_writing.proofs.incoming.names_coming_in.Goals as goal

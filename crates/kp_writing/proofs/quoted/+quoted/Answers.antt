@@ -8,8 +8,8 @@ use Rattle.kp_kore.specs.declared.pattern.Pattern.{the_lemmas}
 use Rattle.kp_signature.specs.View.{signature_view}
 use Rattle.kp_symbolic.specs.Writing.{written_under}
 use Rattle.kp_symbolic_laws.specs.Runs.{HasRoom}
-use Rattle.kp_terms.specs.Faultless.{IsFaultless}
-use Rattle.kp_terms.specs.View.{replaced_view}
+use Rattle.kp_symbolic.specs.Faultless.{IsFaultless}
+use Rattle.kp_symbolic.specs.View.{replaced_view}
 use Rattle.kp_writing.specs.Parts.{HasRoomUnder}
 use Rattle.kp_writing.proofs.BoundLemmas.{all_written}
 use Rattle.kp_writing.proofs.FaultlessLemmas.{of_negation, of_conjunction, of_disjunction, first_implied, second_implied, first_equivalent, second_equivalent, of_exists, of_forall, of_ceil, of_floor, first_equal, second_equal, first_in, second_in}

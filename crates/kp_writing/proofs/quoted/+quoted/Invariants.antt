@@ -3,7 +3,7 @@ use Rattle.kp_kore.specs.View.{view, patterns_view}
 use Rattle.kp_signature.specs.View.{signature_view}
 use Rattle.kp_symbolic.specs.Writing.{written_under}
 use Rattle.kp_symbolic_laws.specs.Runs.{AllHaveRoom}
-use Rattle.kp_terms.specs.View.{replaced_view}
+use Rattle.kp_symbolic.specs.View.{replaced_view}
 use Rattle.kp_writing.proofs.quoted.+quoted.Given as goal
 
 abbrev pub invariant-all_quoted-loop-pattern : goal.invariant-all_quoted-loop-pattern

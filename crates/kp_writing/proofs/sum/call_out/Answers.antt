@@ -1,7 +1,7 @@
 use Rattle.std.proofs.Common.{rules, ◌≡◌, ap, ◌∙◌, string_bytes, Some, option_map}
 use Rattle.std.proofs.lemmas.Result.{IfOk-weaker}
 use Rattle.kp_symbolic.specs.Writing.{written_call}
-use Rattle.kp_terms.specs.View.{variable_view}
+use Rattle.kp_symbolic.specs.View.{variable_view}
 use Rattle.kp_writing.specs.Parts.{sum_pattern}
 use Rattle.kp_writing.proofs.sum.call_out.Goals as goal
 

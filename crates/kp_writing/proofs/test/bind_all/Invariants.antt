@@ -1,7 +1,7 @@
 use Rattle.std.proofs.Common.{◌≡◌, ◌≤◌, map, drop, length}
 use Rattle.kp_kore.specs.View.{view, sort_view}
 use Rattle.kp_symbolic.specs.Writing.{under_exists}
-use Rattle.kp_terms.specs.View.{variable_view}
+use Rattle.kp_symbolic.specs.View.{variable_view}
 use Rattle.kp_writing.proofs.test.bind_all.Given as goal
 
 abbrev pub invariant-loop-left : goal.invariant-loop-left

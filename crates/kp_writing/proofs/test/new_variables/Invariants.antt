@@ -1,7 +1,7 @@
 use Rattle.std.proofs.Common.{◌≡◌, [], ◌∷◌, ◌++◌, map, drop, string_bytes}
 use Rattle.kp_kore.specs.View.{sorts_view}
 use Rattle.kp_symbolic.specs.Writing.{new_variables}
-use Rattle.kp_terms.specs.View.{variable_view}
+use Rattle.kp_symbolic.specs.View.{variable_view}
 use Rattle.kp_writing.proofs.test.new_variables.Given as goal
 
 abbrev pub invariant-loop-sort : goal.invariant-loop-sort

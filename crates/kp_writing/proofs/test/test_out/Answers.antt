@@ -4,7 +4,7 @@ use Rattle.kp_kore.specs.View.{sort_view}
 use Rattle.kp_signature.specs.View.{signature_view}
 use Rattle.kp_symbolic.specs.States.{head_of_sort}
 use Rattle.kp_symbolic.specs.Writing.{written_test}
-use Rattle.kp_terms.specs.View.{test_view, variable_view}
+use Rattle.kp_symbolic.specs.View.{test_view, variable_view}
 use Rattle.kp_writing.proofs.test.test_out.Goals as goal
 
 pub returns-in-Sort-clause-written : goal.returns-in-Sort-clause-written

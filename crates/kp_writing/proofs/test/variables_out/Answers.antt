@@ -1,7 +1,7 @@
 use Rattle.std.proofs.Common.{◌≡◌, sym, ap, ◌∙◌, [], ◌++◌, drop, map, arith}
 use Rattle.std.proofs.lemmas.List.{append-nil, drop_all}
 use Rattle.kp_kore.specs.View.{view}
-use Rattle.kp_terms.specs.View.{variable_view}
+use Rattle.kp_symbolic.specs.View.{variable_view}
 use Rattle.kp_writing.specs.Parts.{variable_pattern}
 use Rattle.kp_writing.proofs.BoundLemmas.{variables_are}
 use Rattle.kp_writing.proofs.test.variables_out.Goals as goal

@@ -1,6 +1,6 @@
 use Rattle.std.proofs.Common.{◌≡◌, ◌++◌, map, drop}
 use Rattle.kp_kore.specs.View.{view}
-use Rattle.kp_terms.specs.View.{variable_view}
+use Rattle.kp_symbolic.specs.View.{variable_view}
 use Rattle.kp_writing.specs.Parts.{variable_pattern}
 use Rattle.kp_writing.proofs.test.variables_out.Given as goal
 

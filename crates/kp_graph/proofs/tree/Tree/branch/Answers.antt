@@ -1,6 +1,6 @@
 use Rattle.std.proofs.Common.{◌≡◌, ◌≤◌, ◌<◌, ◌+◌, ◌||◌, None, map, false, length, sym, ◌∙◌, ap, subst, arith}
 use Rattle.std.proofs.lemmas.List.{length-map}
-use Rattle.kp_semantics.specs.ClaimRules.{is_progress}
+use Rattle.kp_kore.specs.ClaimRules.{is_progress}
 use Rattle.kp_graph.specs.Tree.{NodeArc, branch, numbers_from, open_node, progress_at, arc_fault, with_branch}
 use Rattle.kp_graph.specs.View.{node_view, nodes_view, arc_view, child_view, rule_view}
 use Rattle.kp_graph.specs.Kept.{before_open}

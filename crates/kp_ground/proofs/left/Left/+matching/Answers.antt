@@ -1,5 +1,5 @@
 use Rattle.std.proofs.Common.{rules, ◌≡◌, ◌∙◌, sym, ap, ◌+◌, ◌++◌, map, drop, arith, string_bytes}
-use Rattle.kp_semantics.specs.Value.{constructed}
+use Rattle.kp_kore.specs.Value.{constructed}
 use Rattle.kp_ground.specs.Slots.{is_numbered, joined, left_places, names_after}
 use Rattle.kp_ground.specs.Solves.{bound_names}
 use Rattle.kp_ground.specs.Terms.{left_value, left_built}

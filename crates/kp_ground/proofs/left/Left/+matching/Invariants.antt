@@ -1,5 +1,5 @@
 use Rattle.std.proofs.Common.{◌≡◌, ◌↔◌, map, take, drop, true}
-use Rattle.kp_semantics.specs.Instance.{Valuation}
+use Rattle.kp_kore.specs.Instance.{Valuation}
 use Rattle.kp_ground.specs.Slots.{names_after, is_numbered, joined, left_places}
 use Rattle.kp_ground.specs.Solves.{Solves, bound_names}
 use Rattle.kp_ground.specs.Matches.{IsSolvable}

@@ -2,7 +2,7 @@ use Rattle.std.proofs.Common.{rules, map, ◌≡◌, ◌∙◌, sym, ap, ap₂, 
 use Rattle.std.proofs.lemmas.Result.{err_from_is_err_and}
 use Rattle.kp_ground.proofs.TermLemmas.{err_of_arguments, term_values-terms_of, all_stay_narrow-terms_of}
 use Rattle.std.specs.List.{list_all}
-use Rattle.kp_semantics.specs.Value.{constructed}
+use Rattle.kp_kore.specs.Value.{constructed}
 use Rattle.kp_ground.specs.View.{value_view, values_of}
 use Rattle.kp_ground.specs.Slots.{stands_at, term_reads}
 use Rattle.kp_ground.specs.Solves.{bound_names}

@@ -1,6 +1,6 @@
 use Rattle.std.proofs.Common.{sym, ap, subst, ◌∙◌, ◌++◌, map}
 use Rattle.kp_kore.specs.View.{sort_view, symbol_sentence_view}
-use Rattle.kp_subsorts.specs.Numbering.{sorts_in}
+use Rattle.kp_signature.specs.Numbering.{sorts_in}
 use Rattle.kp_heads.specs.Steps.{constructor_step}
 use Rattle.kp_heads.specs.Made.{AreNumbers}
 use Rattle.kp_heads.proofs.Making.{row_made, number_stays, sorts_twice, listed_sorts}

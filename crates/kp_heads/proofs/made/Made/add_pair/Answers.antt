@@ -1,7 +1,7 @@
 use Rattle.std.proofs.Common.{sym, ap, subst, ◌∙◌, [], ◌∷◌, ◌++◌}
 use Rattle.kp_kore.specs.View.{sort_view}
-use Rattle.kp_subsorts.specs.Pairs.{subsort_view}
-use Rattle.kp_subsorts.specs.Numbering.{sorts_in}
+use Rattle.kp_signature.specs.Pairs.{subsort_view}
+use Rattle.kp_signature.specs.Numbering.{sorts_in}
 use Rattle.kp_heads.specs.Steps.{pair_step}
 use Rattle.kp_heads.specs.Made.{AreNumbers}
 use Rattle.kp_heads.proofs.Making.{row_made, number_stays, sorts_twice}

@@ -1,6 +1,6 @@
 use Rattle.std.proofs.Common.{rules, ◌≤◌, sym, ap, subst, ◌∙◌, [], ◌∷◌, ◌++◌, map, take, length}
 use Rattle.std.proofs.lemmas.List.{map_more, map-append, take_all}
-use Rattle.kp_subsorts.specs.Pairs.{subsort_view}
+use Rattle.kp_signature.specs.Pairs.{subsort_view}
 use Rattle.kp_heads.specs.Steps.{pair_step}
 use Rattle.kp_heads.specs.Made.{IsMade}
 use Rattle.kp_heads.proofs.made.Made.add_pairs.Goals as goal

@@ -1,5 +1,5 @@
 use Rattle.std.proofs.Common.{[], map, take}
-use Rattle.kp_subsorts.specs.Pairs.{subsort_view}
+use Rattle.kp_signature.specs.Pairs.{subsort_view}
 use Rattle.kp_heads.specs.Steps.{pair_step}
 use Rattle.kp_heads.specs.Made.{IsMade}
 use Rattle.kp_heads.proofs.made.Made.add_pairs.Given as goal

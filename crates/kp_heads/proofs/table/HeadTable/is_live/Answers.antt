@@ -3,7 +3,7 @@ use Rattle.std.specs.Option.{option_map}
 use Rattle.kp_kore.specs.Parts.{sort_list}
 use Rattle.kp_kore.specs.View.{sort_view, sorts_view, symbol_sentence_view}
 use Rattle.kp_kore.specs.declared.sentence.SymbolSentence.{SymbolSentence}
-use Rattle.kp_semantics.specs.Value.{constructed}
+use Rattle.kp_kore.specs.Value.{constructed}
 use Rattle.kp_signature.specs.View.{signature_view}
 use Rattle.kp_heads.specs.Steps.{constructor_declared}
 use Rattle.kp_heads.proofs.Making.{listed_sorts}

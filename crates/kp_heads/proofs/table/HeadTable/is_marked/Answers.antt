@@ -1,7 +1,7 @@
 use Rattle.std.proofs.Common.{sym, subst, ◌∙◌, inl, inr}
 use Rattle.kp_kore.specs.View.{sort_view}
-use Rattle.kp_subsorts.proofs.EdgeLemmas.{in_set}
-use Rattle.kp_subsorts.specs.Numbering.{sorts_in, TellsNumber}
+use Rattle.kp_signature.proofs.EdgeLemmas.{in_set}
+use Rattle.kp_signature.specs.Numbering.{sorts_in, TellsNumber}
 use Rattle.kp_heads.proofs.table.HeadTable.is_marked.Goals as goal
 
 pub returns-in-Some-clause-sound : goal.returns-in-Some-clause-sound

@@ -2,7 +2,7 @@ use Rattle.std.proofs.Common.{rules, ◌≡◌, ◌↔◌, ℕ, refl, sym, subst
 use Rattle.std.proofs.lemmas.List.{length-map}
 use Rattle.kp_kore.specs.View.{sort_view}
 use Rattle.kp_signature.specs.View.{signature_view}
-use Rattle.kp_subsorts.specs.Numbering.{sorts_in}
+use Rattle.kp_signature.specs.Numbering.{sorts_in}
 use Rattle.kp_heads.specs.Steps.{steps_of}
 use Rattle.kp_heads.specs.Rows.{AreUsers, IsGiven, NeedBelow}
 use Rattle.kp_heads.specs.Made.{AreLiteralNumbers}

@@ -1,6 +1,6 @@
 use Rattle.std.proofs.Common.{◌≡◌, sym, ap, subst, ◌∙◌, length, slice_get, Some, None, MatchOption}
 use Rattle.std.specs.Option.{option_copied}
-use Rattle.kp_semantics.specs.Theory.{modules_reached}
+use Rattle.kp_kore.specs.Theory.{modules_reached}
 use Rattle.kp_signature.proofs.FirstPlaces.{lent}
 use Rattle.kp_modules.specs.Keeping.{own_rules}
 use Rattle.kp_modules.specs.Tables.{rule_set_of}

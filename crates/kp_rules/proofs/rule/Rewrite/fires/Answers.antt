@@ -1,7 +1,7 @@
 use Rattle.std.proofs.Common.{◌≡◌, ◌↔◌, ◌∙◌, List, [], ap, sym, subst, true, false}
-use Rattle.kp_semantics.specs.Value as model
-use Rattle.kp_semantics.specs.Value.{truth}
-use Rattle.kp_semantics.specs.Instance.{Valuation}
+use Rattle.kp_kore.specs.Value as model
+use Rattle.kp_kore.specs.Value.{truth}
+use Rattle.kp_kore.specs.Instance.{Valuation}
 use Rattle.kp_ground.specs.Matches.{IsSolvable}
 use Rattle.kp_ground.specs.Slots.{is_numbered, left_places, names_after}
 use Rattle.kp_ground.specs.Solves.{Solves, bound_names}

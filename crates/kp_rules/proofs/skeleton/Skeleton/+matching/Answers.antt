@@ -2,7 +2,7 @@ use Rattle.std.proofs.Common.{rules, ◌≡◌, refl, map, string_bytes, arith}
 use Rattle.std.proofs.lemmas.List.{drop_all}
 use Rattle.kp_kore.specs.View.{sort_view}
 use Rattle.kp_signature.specs.View.{signature_view}
-use Rattle.kp_semantics.specs.Value.{constructed}
+use Rattle.kp_kore.specs.Value.{constructed}
 use Rattle.kp_ground.specs.View.{value_view, values_of}
 use Rattle.kp_ground.specs.declared.value.Value.{the_lemmas as value_lemmas}
 use Rattle.kp_rules.specs.Skeletons.{skeleton_view, forms_of, any_of, one_of, built}

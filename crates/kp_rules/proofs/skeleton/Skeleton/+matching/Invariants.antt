@@ -1,5 +1,5 @@
 use Rattle.std.proofs.Common.{◌↔◌}
-use Rattle.kp_semantics.specs.Instance.{Valuation}
+use Rattle.kp_kore.specs.Instance.{Valuation}
 use Rattle.kp_signature.specs.View.{signature_view}
 use Rattle.kp_ground.specs.Solves.{Solves}
 use Rattle.kp_rules.specs.Skeletons.{IsSolvable}

@@ -2,7 +2,7 @@ use Rattle.std.proofs.Common.{◌≡◌, map, drop}
 use Rattle.kp_kore.specs.View.{sort_view}
 use Rattle.kp_signature.specs.Alone.{no_tokens_below}
 use Rattle.kp_signature.specs.Table.{table_view}
-use Rattle.kp_subsorts.specs.Pairs.{subsort_view}
+use Rattle.kp_signature.specs.Pairs.{subsort_view}
 use Rattle.kp_signature.proofs.declarations.Declarations.has_no_tokens.Given as goal
 
 -- all pass exactly where those that are left do

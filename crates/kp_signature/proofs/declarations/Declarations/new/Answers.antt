@@ -2,9 +2,9 @@ use Rattle.std.proofs.Common.{◌≡◌, sym, ap, subst, ◌∙◌, ◌+◌, ◌
 use Rattle.std.proofs.lemmas.List.{append-nil, take_more}
 use Rattle.std.proofs.lemmas.Grind.{flat_map-append}
 use Rattle.kp_kore.specs.View.{sentence_view}
-use Rattle.kp_subsorts.specs.Order.{IsOrderOf}
+use Rattle.kp_signature.specs.Order.{IsOrderOf}
 use Rattle.kp_signature.specs.Table.{IsTableOf}
-use Rattle.kp_subsorts.specs.Pairs.{subsort_view}
+use Rattle.kp_signature.specs.Pairs.{subsort_view}
 use Rattle.kp_signature.specs.View.{sentences_of}
 use Rattle.kp_signature.proofs.declarations.Declarations.new.Goals as goal
 

@@ -1,5 +1,5 @@
 use Rattle.kp_signature.specs.Table.{table_view}
-use Rattle.kp_subsorts.proofs.HiddenOrder.{order_out}
+use Rattle.kp_signature.proofs.HiddenOrder.{order_out}
 use Rattle.kp_signature.proofs.declarations.Declarations.order.Goals as goal
 
 pub returns : goal.returns

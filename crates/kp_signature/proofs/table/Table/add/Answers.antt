@@ -2,7 +2,7 @@ use Rattle.std.proofs.Common.{rules, ◌≡◌, sym, ap, ◌∙◌, map, [], ◌
 use Rattle.std.proofs.lemmas.List.{append-nil}
 use Rattle.kp_kore.specs.Signature.{sorts_in, symbols_in, aliases_in, subsorts_in, subsorts_among}
 use Rattle.kp_kore.specs.View.{sentence_view, sort_sentence_view, symbol_sentence_view, alias_sentence_view, patterns_view}
-use Rattle.kp_subsorts.specs.Pairs.{subsort_view}
+use Rattle.kp_signature.specs.Pairs.{subsort_view}
 use Rattle.kp_signature.proofs.Declaring.{sorts_in-append, symbols_in-append, aliases_in-append, subsorts_in-append, kept, kept_places, nothing_more}
 use Rattle.kp_signature.proofs.table.Table.add.Goals as goal
 

@@ -1,10 +1,10 @@
 use Rattle.std.proofs.Common.{rules, ◌≡◌, true, subst}
 use Rattle.std.proofs.lemmas.Result.{IfOk-weaker}
 use Rattle.kp_kore.specs.View.{sort_view}
-use Rattle.kp_subsorts.specs.Numbering.{TellsNumber}
-use Rattle.kp_subsorts.specs.Order.{sorts_of}
+use Rattle.kp_signature.specs.Numbering.{TellsNumber}
+use Rattle.kp_signature.specs.Order.{sorts_of}
 use Rattle.kp_signature.specs.View.{signature_view}
-use Rattle.kp_subsorts.proofs.OrderLemmas.{opposite}
+use Rattle.kp_signature.proofs.OrderLemmas.{opposite}
 use Rattle.kp_sort_index.proofs.IndexLemmas.{lower_alone, upper_alone, sorts_split, numbers_split, matched}
 use Rattle.kp_sort_index.proofs.SplitLemmas.{alone_splits}
 use Rattle.kp_sort_index.proofs.sort_index.SortIndex.splits.Goals as goal

@@ -1,6 +1,6 @@
 use Rattle.std.proofs.Common.{◌↔◌, ℕ, List, Vec, Global, subst, Contains}
 use Rattle.std.specs.Prelude.{IfOk}
-use Rattle.kp_subsorts.specs.Edges.{Reaches, edges_of}
+use Rattle.kp_signature.specs.Edges.{Reaches, edges_of}
 use Rattle.kp_sort_index.proofs.sort_index.SortIndex.up_from.Goals as goal
 
 pub returns : goal.returns

@@ -3,7 +3,7 @@ use Rattle.std.specs.Prelude.{OnOk, string_bytes}
 use Rattle.std.specs.Option.{option_map}
 use Rattle.kp_kore.specs.View.{sort_view}
 use Rattle.kp_symbolic.specs.Terms.{replacement_for}
-use Rattle.kp_terms.specs.View.{term_view, replaced_view}
+use Rattle.kp_symbolic.specs.View.{term_view, replaced_view}
 use Rattle.kp_unify.specs.Views.{stage_view}
 use Rattle.kp_unify.specs.Way.{bound_stage}
 use Rattle.kp_unify.proofs.course.Course.bind.Goals as goal

@@ -2,7 +2,7 @@ use Rattle.std.proofs.Common.{rules, ◌≡◌, subst}
 use Rattle.std.specs.Prelude.{is_some}
 use Rattle.kp_kore.specs.View.{sort_view}
 use Rattle.kp_rules.specs.Skeletons.{any_of}
-use Rattle.kp_terms.specs.View.{term_view}
+use Rattle.kp_symbolic.specs.View.{term_view}
 use Rattle.kp_unify.specs.Replaced.{pair_of}
 use Rattle.kp_unify.specs.Views.{signature_of, stage_view}
 use Rattle.kp_unify.specs.Way.{IsAllApart, IsGone, IsPlaced, GoesOnIf}

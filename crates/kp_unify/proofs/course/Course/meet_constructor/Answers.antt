@@ -2,8 +2,8 @@ use Rattle.std.proofs.Common.{rules, ◌≡◌, sym, ◌∙◌, ap, subst, map, 
 use Rattle.std.specs.Prelude.{string_bytes}
 use Rattle.kp_ground.specs.View.{value_view}
 use Rattle.kp_symbolic.specs.Terms.{unknown, offset, known, headed}
-use Rattle.kp_terms.specs.View.{variable_view, term_view, terms_of}
-use Rattle.kp_terms.specs.declared.term.Term.{the_lemmas}
+use Rattle.kp_symbolic.specs.View.{variable_view, term_view, terms_of}
+use Rattle.kp_symbolic.specs.declared.term.Term.{the_lemmas}
 use Rattle.kp_rules.specs.Skeletons.{forms_of}
 use Rattle.kp_cases.specs.Rows.{HasMembers}
 use Rattle.kp_unify.specs.Forms.{members_view}

@@ -4,8 +4,8 @@ use Rattle.kp_kore.specs.View.{sort_view}
 use Rattle.kp_ground.specs.View.{value_view}
 use Rattle.kp_rules.specs.Skeletons.{fixed}
 use Rattle.kp_symbolic.specs.Terms.{known}
-use Rattle.kp_terms.specs.View.{term_view}
-use Rattle.kp_terms.specs.declared.term.Term.{the_lemmas}
+use Rattle.kp_symbolic.specs.View.{term_view}
+use Rattle.kp_symbolic.specs.declared.term.Term.{the_lemmas}
 use Rattle.kp_unify.specs.Views.{signature_of, stage_view}
 use Rattle.kp_unify.specs.Way.{IsNextPair}
 use Rattle.kp_unify.specs.Replaced.{pair_of}

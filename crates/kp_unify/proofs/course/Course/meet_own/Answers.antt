@@ -1,11 +1,11 @@
 use Rattle.std.proofs.Common.{sym, ◌∙◌, ap, subst}
 use Rattle.std.specs.Prelude.{MatchOption}
 use Rattle.kp_kore.specs.View.{sort_view}
-use Rattle.kp_semantics.specs.Value.{head_of}
+use Rattle.kp_kore.specs.Value.{head_of}
 use Rattle.kp_signature.proofs.HeadLemmas.{is_head-Decides}
 use Rattle.kp_ground.specs.View.{value_view}
 use Rattle.kp_rules.specs.Skeletons.{fixed}
-use Rattle.kp_terms.specs.View.{term_view}
+use Rattle.kp_symbolic.specs.View.{term_view}
 use Rattle.kp_unify.specs.Replaced.{equality_of}
 use Rattle.kp_unify.specs.Views.{signature_of, stage_view}
 use Rattle.kp_unify.specs.Way.{IsAllApart, IsPlaced, equal_stage}

@@ -3,7 +3,7 @@ use Rattle.std.specs.Prelude.{string_bytes}
 use Rattle.kp_kore.specs.View.{sort_view}
 use Rattle.kp_ground.specs.View.{value_view}
 use Rattle.kp_rules.specs.Skeletons.{anything, nothing, any_of, one_of, fixed}
-use Rattle.kp_terms.specs.View.{term_view}
+use Rattle.kp_symbolic.specs.View.{term_view}
 use Rattle.kp_unify.specs.Forms.{form_view, IsAsked}
 use Rattle.kp_unify.specs.Views.{signature_of, stage_view}
 use Rattle.kp_unify.proofs.PairLemmas.{next_anything, next_nothing}

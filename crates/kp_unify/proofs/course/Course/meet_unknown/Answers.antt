@@ -1,7 +1,7 @@
 use Rattle.std.proofs.Common.{sym, ◌∙◌, ap, map, length}
 use Rattle.std.specs.Prelude.{string_bytes}
 use Rattle.kp_kore.specs.View.{sort_view}
-use Rattle.kp_terms.specs.View.{variable_view, term_view}
+use Rattle.kp_symbolic.specs.View.{variable_view, term_view}
 use Rattle.kp_unify.specs.Forms.{members_view}
 use Rattle.kp_unify.specs.Views.{signature_of, stage_view}
 use Rattle.kp_unify.proofs.PairSteps.{called_head, never_called, called_constructs, called_gone, met_as}

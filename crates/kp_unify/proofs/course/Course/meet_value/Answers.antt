@@ -1,9 +1,9 @@
 use Rattle.std.proofs.Common.{◌≡◌, sym, ◌∙◌, ap, subst, map, length}
 use Rattle.std.specs.Prelude.{MatchOption}
 use Rattle.kp_kore.specs.Signature.{constructor_of}
-use Rattle.kp_semantics.specs.Value.{constructed, head_of}
+use Rattle.kp_kore.specs.Value.{constructed, head_of}
 use Rattle.kp_ground.specs.View.{value_view, values_of}
-use Rattle.kp_terms.specs.View.{term_view, terms_of}
+use Rattle.kp_symbolic.specs.View.{term_view, terms_of}
 use Rattle.kp_unify.specs.Forms.{members_view}
 use Rattle.kp_unify.specs.Views.{stage_view}
 use Rattle.kp_unify.specs.Way.{GoesOnIf}

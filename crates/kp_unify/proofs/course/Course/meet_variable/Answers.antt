@@ -2,7 +2,7 @@ use Rattle.std.proofs.Common.{subst}
 use Rattle.std.specs.Prelude.{MatchOption, string_bytes}
 use Rattle.kp_kore.specs.View.{sort_view}
 use Rattle.kp_rules.specs.Skeletons.{one_of}
-use Rattle.kp_terms.specs.View.{term_view}
+use Rattle.kp_symbolic.specs.View.{term_view}
 use Rattle.kp_unify.specs.Views.{signature_of, stage_view}
 use Rattle.kp_unify.specs.Way.{IsAllApart, IsPlaced}
 use Rattle.kp_unify.proofs.PairLemmas.{variable_going}

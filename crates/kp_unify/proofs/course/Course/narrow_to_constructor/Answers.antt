@@ -3,9 +3,9 @@ use Rattle.std.specs.Prelude.{string_bytes}
 use Rattle.kp_kore.specs.Parts.{sort_list}
 use Rattle.kp_kore.specs.View.{sort_view}
 use Rattle.kp_symbolic.specs.Terms.{unknown}
-use Rattle.kp_states.specs.Spelled.{places_of}
-use Rattle.kp_terms.specs.Languages.{language_view}
-use Rattle.kp_terms.specs.View.{variable_view, variables_view, term_view, terms_of, clauses_view}
+use Rattle.kp_compile.specs.Spelled.{places_of}
+use Rattle.kp_symbolic.specs.Languages.{language_view}
+use Rattle.kp_symbolic.specs.View.{variable_view, variables_view, term_view, terms_of, clauses_view}
 use Rattle.kp_cases.specs.Narrowings.{all_unknown}
 use Rattle.kp_unify.specs.Names.{AreNextVariables}
 use Rattle.kp_unify.specs.Views.{numbered_view, course_view, stage_view}

@@ -1,7 +1,7 @@
 use Rattle.std.proofs.Common.{◌≡◌, map, sym, ◌∙◌, ap, subst}
 use Rattle.kp_kore.specs.View.{sort_view}
-use Rattle.kp_terms.specs.Languages.{language_view}
-use Rattle.kp_terms.specs.View.{variable_view, term_view, clauses_view}
+use Rattle.kp_symbolic.specs.Languages.{language_view}
+use Rattle.kp_symbolic.specs.View.{variable_view, term_view, clauses_view}
 use Rattle.kp_unify.specs.Names.{IsNextName}
 use Rattle.kp_unify.specs.Views.{numbered_view, course_view, stage_view}
 use Rattle.kp_unify.proofs.NarrowedLemmas.{narrowed, sort_record}

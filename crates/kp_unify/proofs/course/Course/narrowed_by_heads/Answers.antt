@@ -1,6 +1,6 @@
 use Rattle.std.proofs.Common.{sym, subst}
 use Rattle.kp_kore.specs.View.{sort_view}
-use Rattle.kp_terms.specs.View.{variable_view}
+use Rattle.kp_symbolic.specs.View.{variable_view}
 use Rattle.kp_unify.specs.Heads.{ShareValues}
 use Rattle.kp_unify.specs.Views.{signature_of, stage_view}
 use Rattle.kp_unify.specs.Way.{IsPlaced}

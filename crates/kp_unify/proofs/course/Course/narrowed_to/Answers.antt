@@ -1,6 +1,6 @@
 use Rattle.std.proofs.Common.{true, false}
 use Rattle.kp_kore.specs.View.{sort_view}
-use Rattle.kp_terms.specs.View.{variable_view, term_view}
+use Rattle.kp_symbolic.specs.View.{variable_view, term_view}
 use Rattle.kp_unify.specs.Views.{signature_of, stage_view}
 use Rattle.kp_unify.proofs.PlaceLemmas.{dead_meet, never_shared, placed_by_sort}
 use Rattle.kp_unify.proofs.NarrowedLemmas.{not_told}

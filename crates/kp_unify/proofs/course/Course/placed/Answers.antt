@@ -1,7 +1,7 @@
 use Rattle.std.proofs.Common.{sym, ◌∙◌, ap, subst}
 use Rattle.std.specs.Option.{option_map}
 use Rattle.kp_kore.specs.View.{sort_view}
-use Rattle.kp_terms.specs.View.{variable_view, term_view}
+use Rattle.kp_symbolic.specs.View.{variable_view, term_view}
 use Rattle.kp_unify.specs.Views.{signature_of, stage_view}
 use Rattle.kp_unify.specs.Way.{IsGoing, IsPlaced}
 use Rattle.kp_unify.proofs.PlaceLemmas.{placed_as_is, never_placed}

@@ -1,5 +1,0 @@
-use Rattle.kp_semantics.proofs.Soundness.{runs_reach}
-use Rattle.kp_semantics.proofs.claim_laws.a_claim_that_each_run_reaches_holds.Goals as goal
-
-pub returns : goal.returns
-returns c = runs_reach

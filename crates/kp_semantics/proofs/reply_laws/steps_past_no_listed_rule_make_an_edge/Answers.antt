@@ -1,5 +1,0 @@
-use Rattle.kp_semantics.proofs.Ended.{steps_edge}
-use Rattle.kp_semantics.proofs.reply_laws.steps_past_no_listed_rule_make_an_edge.Goals as goal
-
-pub returns : goal.returns
-returns c = steps_edge

@@ -1,6 +1,0 @@
-use Rattle.std.proofs.Common.{[]}
-use Rattle.kp_subsorts.specs.Order.{IsGraphOf}
-use Rattle.kp_subsorts.proofs.graph.SortGraph.add_sorts.Given as goal
-
-abbrev pub invariant-loop-place : goal.invariant-loop-place
-invariant-loop-place l = IsGraphOf [] l.fn.self → IsGraphOf [] l.self

@@ -1,4 +1,0 @@
-use Rattle.kp_subsorts.proofs.order.SortOrder.number_of.Goals as goal
-
-pub returns : goal.returns
-returns c pairs ix = c.number_of.ensures ix.graph.numbering

@@ -1,6 +1,0 @@
-use Rattle.std.proofs.Common.{take}
-use Rattle.kp_subsorts.specs.Spans.{IsWithin}
-use Rattle.kp_subsorts.proofs.spans.is_within.Given as goal
-
-abbrev pub invariant-loop-span : goal.invariant-loop-span
-invariant-loop-span l = ¬ IsWithin (take l.span-index l.spans) l.number

@@ -1,4 +1,0 @@
-pub mod EachTerm
-pub mod Lists
-pub mod MadeLemmas
-pub mod SumLemmas
