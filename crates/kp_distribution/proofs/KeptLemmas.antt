@@ -9,6 +9,8 @@ use Rattle.kp_symbolic.specs.Formulas.{clauses_same, kept_once_after, kept_once}
 use Rattle.kp_symbolic.specs.States.{Literal}
 use Rattle.kp_symbolic.specs.View.{clause_view, clauses_view}
 use Rattle.kp_symbolic.specs.declared.clause.Clause.{Clause}
+use Rattle.kp_distribution.specs.Keys.{clauses_with}
+use Rattle.kp_distribution.specs.declared.keyed.Keyed.{Keyed}
 
 abbrev turned : List (List Literal) → List (List Literal)
 turned [] = []
@@ -69,16 +71,16 @@ none_left kept all e = sym (append-nil kept) ∙ e
 
 -- ---- clauses of the code
 
-pushed : (kept more : List Clause) (c : Clause) → more ≡ kept ++ c ∷ [] → clauses_view more ≡ clauses_view kept ++ clause_view c ∷ []
-pushed kept more c is = ap clauses_view is ∙ map-append clause_view kept (c ∷ [])
+pub pushed : (kept more : List Keyed) (k : Keyed) → more ≡ kept ++ k ∷ [] → clauses_with more ≡ clauses_with kept ++ clause_view k.clause ∷ []
+pushed kept more k is = ap clauses_with is ∙ map-append (λ x. clause_view x.clause) kept (k ∷ [])
 
-pub repeat_left : (kept old rest : List Clause) (c : Clause) (all : List (List Literal)) → is_repeat (clauses_view kept) (clause_view c) ≡ true → old ≡ c ∷ rest →
-    kept_from (clauses_view kept) (clauses_view old) ≡ all → kept_from (clauses_view kept) (clauses_view rest) ≡ all
-repeat_left kept old rest c all e o h = skipped (clauses_view kept) (clause_view c) (clauses_view rest) e ∙ ap (λ xs. kept_from (clauses_view kept) (clauses_view xs)) (sym o) ∙ h
+pub repeat_left : (kept : List Keyed) (old rest : List Clause) (c : Clause) (all : List (List Literal)) → is_repeat (clauses_with kept) (clause_view c) ≡ true → old ≡ c ∷ rest →
+    kept_from (clauses_with kept) (clauses_view old) ≡ all → kept_from (clauses_with kept) (clauses_view rest) ≡ all
+repeat_left kept old rest c all e o h = skipped (clauses_with kept) (clause_view c) (clauses_view rest) e ∙ ap (λ xs. kept_from (clauses_with kept) (clauses_view xs)) (sym o) ∙ h
 
-pub other_kept : (kept more old rest : List Clause) (c : Clause) (all : List (List Literal)) → is_repeat (clauses_view kept) (clause_view c) ≡ false → more ≡ kept ++ c ∷ [] → old ≡ c ∷ rest →
-    kept_from (clauses_view kept) (clauses_view old) ≡ all → kept_from (clauses_view more) (clauses_view rest) ≡ all
-other_kept kept more old rest c all e is o h = ap (λ xs. kept_from xs (clauses_view rest)) (pushed kept more c is) ∙ added (clauses_view kept) (clause_view c) (clauses_view rest) e ∙ ap (λ xs. kept_from (clauses_view kept) (clauses_view xs)) (sym o) ∙ h
+pub other_kept : (kept more : List Keyed) (old rest : List Clause) (c : Clause) (all : List (List Literal)) → is_repeat (clauses_with kept) (clause_view c) ≡ false → clauses_with more ≡ clauses_with kept ++ clause_view c ∷ [] → old ≡ c ∷ rest →
+    kept_from (clauses_with kept) (clauses_view old) ≡ all → kept_from (clauses_with more) (clauses_view rest) ≡ all
+other_kept kept more old rest c all e is o h = ap (λ xs. kept_from xs (clauses_view rest)) is ∙ added (clauses_with kept) (clause_view c) (clauses_view rest) e ∙ ap (λ xs. kept_from (clauses_with kept) (clauses_view xs)) (sym o) ∙ h
 
-pub one_more_counted : (kept more : List Clause) (c : Clause) → more ≡ kept ++ c ∷ [] → literals_in (clauses_view more) ≡ literals_in (clauses_view kept) + length (clause_view c)
-one_more_counted kept more c is = ap literals_in (pushed kept more c is) ∙ one_more_in (clauses_view kept) (clause_view c)
+pub one_more_counted : (kept more : List Keyed) (c : Clause) → clauses_with more ≡ clauses_with kept ++ clause_view c ∷ [] → literals_in (clauses_with more) ≡ literals_in (clauses_with kept) + length (clause_view c)
+one_more_counted kept more c is = ap literals_in is ∙ one_more_in (clauses_with kept) (clause_view c)

@@ -2,3 +2,4 @@ pub mod AlikeItself
 pub mod Counting
 pub mod DistributionLemmas
 pub mod KeptLemmas
+pub mod KeyLemmas

@@ -5,7 +5,9 @@ ghost use Rattle.kp_symbolic.specs.Alike.{literals_same};
 ghost use Rattle.kp_symbolic.specs.Formulas as model;
 ghost use Rattle.kp_symbolic.specs.Formulas.{most_compared};
 ghost use Rattle.kp_symbolic.specs.View.{literal_view, clause_view, clauses_view};
+ghost use Rattle.kp_distribution.specs.Keys.{keyed_same, clauses_with};
 
+use crate::keyed::{Keyed, are_same_keys, with_key};
 use kp_symbolic::{Clause, Literal};
 use std::alloc::{AllocError, Global};
 use std::sync::Arc;
@@ -119,12 +121,19 @@ fn is_same_clause(clause: &Clause, other: &Clause) -> bool
     clause.same(other)
 }
 
-/// Whether the clause is among these.
-fn is_kept(clause: &Clause, clauses: &[Clause]) -> bool
-    ensures { result ≡ list_any (model.clauses_same literals_same (clause_view clause.now)) (clauses_view clauses.now) }
+/// Whether both have one key, and are the same clause.
+fn is_same_keyed(keyed: &Keyed, other: &Keyed) -> bool
+    ensures { result ≡ keyed_same keyed.now other.now }
 {
-    for other in clauses {
-        if is_same_clause(clause, other) {
+    are_same_keys(keyed.key, other.key) && is_same_clause(&keyed.clause, &other.clause)
+}
+
+/// Whether the clause is among these.
+fn is_kept(keyed: &Keyed, kept: &[Keyed]) -> bool
+    ensures { result ≡ list_any (keyed_same keyed.now) kept.now }
+{
+    for other in kept {
+        if is_same_keyed(keyed, other) {
             return true;
         }
     }
@@ -139,10 +148,10 @@ fn are_compared(literals: usize) -> bool
 }
 
 /// Whether the clause is among those that were kept, as long as these are compared.
-fn is_repeat(literals: usize, clause: &Clause, kept: &[Clause]) -> bool
-    ensures { (n : ℕ) → literals ≡ min n (2 ^ 64 - 1) → result ≡ (nat_le n most_compared && list_any (model.clauses_same literals_same (clause_view clause.now)) (clauses_view kept.now)) }
+fn is_repeat(literals: usize, keyed: &Keyed, kept: &[Keyed]) -> bool
+    ensures { (n : ℕ) → literals ≡ min n (2 ^ 64 - 1) → result ≡ (nat_le n most_compared && list_any (keyed_same keyed.now) kept.now) }
 {
-    are_compared(literals) && is_kept(clause, kept)
+    are_compared(literals) && is_kept(keyed, kept)
 }
 
 /// How many literals these are and those of the clause.
@@ -152,6 +161,18 @@ fn with_literals(literals: usize, clause: &Clause) -> usize
     literals.saturating_add(clause.literals.len())
 }
 
+/// The clauses without their keys.
+fn without_keys(alloc: Global, kept: Vec<Keyed>) -> Result<Vec<Clause>, AllocError>
+    ensures { IfOk result (λ cs. clauses_view cs.items ≡ clauses_with kept.items) }
+{
+    let mut clauses = Vec::new(alloc);
+    for keyed in kept {
+        let Keyed { clause, .. } = keyed;
+        clauses.push(clause)?;
+    }
+    Ok(clauses)
+}
+
 /// Each clause unless it is among those kept before it.
 pub fn kept_once(alloc: Global, clauses: Vec<Clause>) -> Result<Vec<Clause>, AllocError>
     ensures { IfOk result (λ cs. clauses_view cs.items ≡ model.kept_once literals_same (clauses_view clauses.items)) }
@@ -159,10 +180,11 @@ pub fn kept_once(alloc: Global, clauses: Vec<Clause>) -> Result<Vec<Clause>, All
     let mut kept = Vec::new(alloc);
     let mut literals: usize = 0;
     for clause in clauses {
-        if !is_repeat(literals, &clause, &kept) {
-            literals = with_literals(literals, &clause);
-            kept.push(clause)?;
+        let keyed = with_key(clause);
+        if !is_repeat(literals, &keyed, &kept) {
+            literals = with_literals(literals, &keyed.clause);
+            kept.push(keyed)?;
         }
     }
-    Ok(kept)
+    without_keys(alloc, kept)
 }

@@ -7,6 +7,7 @@ pub mod count;
 pub mod distributed;
 pub mod formula;
 pub mod joined;
+pub mod keyed;
 
 pub use distributed::Distributed;
 pub use formula::distribute;
