@@ -4,6 +4,7 @@ pub mod EmptyLemmas
 pub mod FirstDeep
 pub mod FloorLemmas
 pub mod FoundLemmas
+pub mod ShallowLemmas
 pub mod ShownLemmas
 pub mod StateLemmas
 pub mod TermDepths

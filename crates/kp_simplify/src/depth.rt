@@ -7,6 +7,7 @@ ghost use Rattle.kp_symbolic.specs.Languages.{language_view};
 ghost use Rattle.kp_symbolic.specs.View.{atom_view, clauses_view, literal_view, state_view, term_view};
 ghost use Rattle.kp_simplify.specs.Answers as model;
 
+use crate::shallow::is_shallow;
 use kp_kore::{Pattern, Sort};
 use kp_symbolic::{Atom, Clause, Language, Literal, State, Term};
 use kp_writing::term_out;
@@ -14,6 +15,9 @@ use std::alloc::{AllocError, Global};
 
 /// As many levels as a term may have.
 const MOST_DEPTH: u64 = 48;
+
+/// Half as many: each level of a term is written with at most one `inj` more, so a term of these isn't too deep.
+const SURELY_WRITTEN: u64 = 24;
 
 /// One level more.
 fn with_level(levels: u64) -> Result<u64, AllocError>
@@ -57,6 +61,9 @@ fn deep_term(
 ) -> Result<Option<u64>, AllocError>
     ensures { IfOk result (λ o. o ≡ model.too_deep (model.depth_of (language_view language.now) (model.side_of (sort_view sort.now) (term_view term.now)))) }
 {
+    if is_shallow(term, SURELY_WRITTEN) {
+        return Ok(None);
+    }
     let depth = depth_of(&term_out(term, alloc, language, sort)?)?;
     if depth > MOST_DEPTH {
         return Ok(Some(depth));

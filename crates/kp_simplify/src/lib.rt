@@ -4,8 +4,9 @@
 
 pub mod answer;
 pub mod depth;
-mod limits;
+pub mod limits;
 pub mod pattern;
+mod shallow;
 mod stated;
 
 pub use answer::Simplified;
