@@ -16,6 +16,7 @@ use Rattle.kp_rpc.specs.Reply.{result_reply, reply_bytes}
 use Rattle.kp_rpc.specs.Questions.{with_text}
 use Rattle.kp_rpc.proofs.Floats.{IsPlain, two_plain, wrapped_is_plain, plain_is}
 use Rattle.kp_replies.specs.Written.{with_pattern, with_optional, with_state, state_tree, next_tree, first_item, next_trees, with_ending, with_nexts, executed_members, executed_tree, valid_object, implied_tree, simplified_tree, added_tree}
+use Rattle.kp_replies.specs.Aborted.{with_undecided, aborted_members, aborted_tree}
 use Rattle.kp_replies.specs.Failures.{not_in_a_term, not_one_term, two_meanings, bad_text, unknown_import, bad_axiom, bad_sentence, full_book, Failure, bad_sides, undecided, bad_module, duplicate, limit_tree, with_limit, undecided_data, failure_data, failure_error}
 
 -- ---- members
@@ -187,3 +188,23 @@ error_plain f d h = rw h refl
 pub failure_exact : (f : Failure) (d : Data) (make : Data → Data) (text : List ℕ) → Some d ≡ failure_data f → (has_float d ≡ false → text ≡ reply_bytes (make d))
     → Some text ≡ option_map reply_bytes (option_map make (failure_data f))
 failure_exact f d make text e h = ap Some (h (plain_is (failure_data f) d (data_plain f) e)) ∙ ap (λ x. option_map reply_bytes (option_map make x)) e
+
+-- ---- runs that are aborted by what isn't decided
+
+with_undecided_plain : (u : Undecided) (o : Members) → members_have_float o ≡ false → MembersPlain (with_undecided u o)
+with_undecided_plain (predicate p l) o m = pattern_plain (codes "unknown-predicate") p (with_limit l o) (with_limit_plain l o m)
+with_undecided_plain (limit l) o m = put_plain (codes "limit") (limit_tree l) o (limit_plain l) m
+
+aborted_members_plain : (depth : ℕ) (s : Data) → has_float s ≡ false → members_have_float (aborted_members depth s) ≡ false
+aborted_members_plain depth s h =
+    let o : Members = put (codes "state") s no_members in
+    let r : Members = put (codes "reason") (string (codes "aborted")) o in
+    put_plain (codes "depth") (number (unsigned depth)) r refl (put_plain (codes "reason") (string (codes "aborted")) o refl (put_plain (codes "state") s no_members h refl))
+
+aborted_from_plain : (depth : ℕ) (u : Undecided) (s : Option Data) → IsPlain s → IsPlain (option_and_then (λ d. option_map object (with_undecided u (aborted_members depth d))) s)
+aborted_from_plain depth u None h = tt
+aborted_from_plain depth u (Some s) h = object_plain (with_undecided u (aborted_members depth s)) (with_undecided_plain u (aborted_members depth s) (aborted_members_plain depth s h))
+
+pub aborted_exact : (depth : ℕ) (s : StateParts) (u : Undecided) (d : Data) (id : RequestId) (text : List ℕ) → Some d ≡ aborted_tree depth s u
+    → (has_float d ≡ false → text ≡ reply_bytes (result_reply id d)) → Some text ≡ option_map (λ t. reply_bytes (result_reply id t)) (aborted_tree depth s u)
+aborted_exact depth s u d id text e h = exact (aborted_tree depth s u) d id text (aborted_from_plain depth u (state_tree s) (state_plain s)) e h

@@ -1,3 +1,4 @@
+pub mod Aborted
 pub mod Examples
 pub mod Failures
 pub mod Read

@@ -95,7 +95,7 @@ fn weight_value(alloc: Global, weight: Weight, number: u64) -> Result<Value, All
 }
 
 /// The tree of a limit.
-fn limit_value(alloc: Global, limit: &Limit) -> Result<Value, AllocError>
+pub fn limit_value(alloc: Global, limit: &Limit) -> Result<Value, AllocError>
     ensures { IfOk result (λ v. view v ≡ limit_tree (limit_view limit.now)) }
 {
     match limit {
@@ -109,7 +109,11 @@ fn limit_value(alloc: Global, limit: &Limit) -> Result<Value, AllocError>
 }
 
 /// The object with a limit, where there is one.
-fn with_limit_at(alloc: Global, object: Object, limit: &Option<Limit>) -> Result<Object, AllocError>
+pub fn with_limit_at(
+    alloc: Global,
+    object: Object,
+    limit: &Option<Limit>,
+) -> Result<Object, AllocError>
     ensures { IfOk result (λ o. members_view o.entries ≡ with_limit (option_map limit_view limit.now) (members_view object.entries)) }
 {
     match limit {

@@ -25,7 +25,7 @@ fn reply_value(alloc: Global, id: &Id, outcome: Value) -> Result<Value, AllocErr
 }
 
 /// The bytes of the reply with a result, from its tree.
-fn written_result(alloc: Global, id: &Id, outcome: Value) -> Result<Vec<u8>, AllocError>
+pub fn written_result(alloc: Global, id: &Id, outcome: Value) -> Result<Vec<u8>, AllocError>
     ensures { IfOk result (λ b. has_float (view outcome) ≡ false → b.items ≡ reply_bytes (result_reply (id_view id.now) (view outcome))) }
 {
     let tree = reply_value(alloc, id, outcome)?;
