@@ -337,15 +337,20 @@ static ROWS: [(Asked, Reply); 40] = [
         Asked::Run("Lblcount", "1", r#","module":"BASE""#),
         Reply::Result(r#""depth":1,"reason":"stuck""#, "Lblcount", "0"),
     ),
+    // a run stops behind a rule
+    (
+        Asked::Term(COUNTED, r#","terminal-rules":["dec"]"#),
+        Reply::Result(
+            r#""depth":1,"reason":"terminal-rule","rule":"dec""#,
+            "Lblcount",
+            "0",
+        ),
+    ),
     // runs are refused
     (Asked::Term(FOREIGN, ""), Reply::Error(T1)),
     (
         Asked::Term(FOREIGN, r#","module":"NOPE""#),
         Reply::Error(NO_MODULE),
-    ),
-    (
-        Asked::Term(COUNTED, r#","terminal-rules":["dec"]"#),
-        Reply::Error(T2),
     ),
     (
         Asked::Term(COUNTED, r#","max-depth":-1"#),

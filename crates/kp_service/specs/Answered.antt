@@ -1,43 +1,19 @@
--- Which reply to execute and implies is right at a book: what is read of their states and sides is a pattern, or
--- its tree's first fault.
--- Source: the K Haskell backend's JSON-RPC documentation (execute, implies, their codes).
+-- Which reply to implies is right at a book: what is read of its sides is a pattern, or its tree's first fault.
+-- Source: the K Haskell backend's JSON-RPC documentation (implies, its codes).
 use Rattle.std.specs.Prelude.{◌≡◌, List, Option, None}
 use Rattle.serde_json.specs.Data.{Data}
 use Rattle.kp_kore.specs.Syntax.{Text, KoreSort, KorePattern}
 use Rattle.kp_json.specs.Faults.{Reading, read, fault}
 use Rattle.kp_signature.specs.Verify.{VerifiesAs}
 use Rattle.kp_compile.specs.Spelled.{first_foreign}
-use Rattle.kp_rpc.specs.Request.{RequestId, ExecuteOptions, ExecuteRequest, ImpliesRequest}
+use Rattle.kp_rpc.specs.Request.{RequestId, ImpliesRequest}
 use Rattle.kp_rpc.specs.Reply.{RequestError, VerifyFault, no_module, no_pattern, not_verified, other_shape, error_reply}
-use Rattle.kp_replies.specs.Replies.{IsBare}
-use Rattle.kp_replies.specs.Right.{IsRightReply, IsRightImpliesReply}
+use Rattle.kp_replies.specs.Right.{IsRightImpliesReply}
 use Rattle.kp_book.specs.Books.{Opening, Registration}
-use Rattle.kp_server.specs.Normal.{IsNormal, TellsFirst}
-use Rattle.kp_server.specs.Right.{IsTold, IsPatternFault, NoneLeftOut, IsImpliesTold}
+use Rattle.kp_server.specs.Right.{IsPatternFault, NoneLeftOut, IsImpliesTold}
 use Rattle.kp_server.specs.Setting.{Setting}
-use Rattle.kp_server.specs.Untold.{IsLeftOut, IsImpliesUntold}
+use Rattle.kp_server.specs.Untold.{IsImpliesUntold}
 use Rattle.kp_service.specs.Meant.{IsUnbound, IsServedAt}
-
--- ---- execute
-
--- what is wrong with the state, whose module is bound: its tree spells no pattern; the pattern has a fault, or is left out
-abbrev pub IsStateError : Setting → ExecuteOptions → Reading KorePattern → RequestError → Type 0
-IsStateError s options (fault f) e = e ≡ no_pattern f
-IsStateError s options (read p) (not_verified f) = IsPatternFault s.theory.signature (IsLeftOut s options) p f
-IsStateError s options (read p) _ = ⊥
-
--- the run of this request is told, and the reply has the right result of it over the theory, in the normal spelling,
--- without a predicate and next states, and tells the foreign rule that goes first
-pub record IsExecuted (s : Setting) (request : ExecuteRequest) (reply : Data) : Type 0 where
-  pub is_told : IsTold s request
-  pub right : IsRightReply s.theory request reply
-  pub normal : IsNormal s.theory request.state is_told.sort right.result.depth right.result.state.term
-  pub first : TellsFirst s.theory right.result.ending normal.later.value
-  pub bare : IsBare right.result
-
-pub data IsExecutedAs (s : Setting) (id : RequestId) (options : ExecuteOptions) : Reading KorePattern → Data → Type 0 where
-  bad_state : (state : Reading KorePattern) (e : RequestError) → IsStateError s options state e → IsExecutedAs s id options state (error_reply id e)
-  executed : (p : KorePattern) (reply : Data) → IsExecuted s (record { id = id; state = p; options = options }) reply → IsExecutedAs s id options (read p) reply
 
 -- ---- implies
 

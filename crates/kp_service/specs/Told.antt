@@ -1,27 +1,20 @@
 -- What is told between a call and the line of its reply; for private clauses.
-use Rattle.std.specs.Prelude.{◌≡◌, ℕ, List, [], Option, Some, ⊤}
+use Rattle.std.specs.Prelude.{◌≡◌, ℕ, List, Option, Some, ⊤}
 use Rattle.serde_json.specs.Data.{Data}
 use Rattle.kp_kore.specs.Syntax.{Text, KoreSort, KorePattern}
 use Rattle.kp_kore.specs.Signature.{KoreSignature}
-use Rattle.kp_ground.specs.View.{value_view}
 use Rattle.kp_json.specs.Faults.{Reading, read, fault, TreeFault}
-use Rattle.kp_kore.specs.Theory.{Theory}
 use Rattle.kp_signature.specs.Verify.{VerifiesAs}
 use Rattle.kp_compile.specs.declared.state.State.{State}
-use Rattle.kp_run.specs.Causes.{IsStateIn, StopsUntold}
-use Rattle.kp_run.specs.Runs.{IsRunOf, written_of}
-use Rattle.kp_run.specs.declared.run.Executed.{Executed}
-use Rattle.kp_results.specs.Results.{ExecutedParts}
-use Rattle.kp_rpc.specs.Request.{RequestId, ExecuteOptions, bound_of}
+use Rattle.kp_rpc.specs.Request.{RequestId}
 use Rattle.kp_rpc.specs.Reply.{no_pattern, error_reply, result_reply, reply_bytes}
 use Rattle.kp_rpc.specs.View.{state_fault_view}
-use Rattle.kp_replies.specs.Written.{executed_tree, implied_tree}
-use Rattle.kp_server.specs.Ends.{IsStateAt}
+use Rattle.kp_replies.specs.Written.{implied_tree}
 use Rattle.kp_server.specs.Setting.{Setting}
 use Rattle.kp_server.specs.Sides.{IsSideState, AreBothCompared, result_at}
 use Rattle.kp_server.specs.declared.failure.Failure.{Failure}
 use Rattle.kp_server.specs.declared.failure.Failure.TheVariants as failure
-use Rattle.kp_service.specs.Answered.{IsStateError, IsImpliesError}
+use Rattle.kp_service.specs.Answered.{IsImpliesError}
 
 -- ---- lines
 
@@ -34,10 +27,6 @@ abbrev pub IsFaultLine : RequestId → Failure → List ℕ → Type 0
 IsFaultLine id failure.Memory line = ⊥
 IsFaultLine id (failure.Fault f) line = line ≡ reply_bytes (error_reply id (state_fault_view f))
 
--- the line has the result of a run
-abbrev pub IsEndLine : RequestId → ExecutedParts → List ℕ → Type 0
-IsEndLine id x line = (tree : Data) × (executed_tree x ≡ Some tree) × (line ≡ reply_bytes (result_reply id tree))
-
 -- the line has the result of implies: valid at a sort, or not
 abbrev pub IsImpliedLine : RequestId → Option KoreSort → List ℕ → Type 0
 IsImpliedLine id o line = (tree : Data) × (implied_tree (result_at o) ≡ Some tree) × (line ≡ reply_bytes (result_reply id tree))
@@ -49,21 +38,10 @@ abbrev pub IsTreeFailure : Reading KorePattern → Failure → Type 0
 IsTreeFailure state failure.Memory = ⊤
 IsTreeFailure state (failure.Fault f) = (x : TreeFault) × (state ≡ fault x) × (state_fault_view f ≡ no_pattern x)
 
--- it tells what is wrong with the state of execute
-abbrev pub IsStateFailure : Setting → ExecuteOptions → Reading KorePattern → Failure → Type 0
-IsStateFailure s options state failure.Memory = ⊤
-IsStateFailure s options state (failure.Fault f) = IsStateError s options state (state_fault_view f)
-
--- with the sides of implies
+-- it tells what is wrong with the sides of implies
 abbrev pub IsSidesFailure : Setting → Option Text → Reading KorePattern → Reading KorePattern → Failure → Type 0
 IsSidesFailure s asked antecedent consequent failure.Memory = ⊤
 IsSidesFailure s asked antecedent consequent (failure.Fault f) = IsImpliesError s asked antecedent consequent (state_fault_view f)
-
--- the pattern verifies, and is this ground state
-pub record IsStateOf (g : KoreSignature) (p : KorePattern) (found : State) : Type 0 where
-  pub sort : KoreSort
-  pub verifies : VerifiesAs g p sort
-  pub is_state : IsStateAt g p sort found
 
 -- the pattern verifies without foreign symbols, and is this ground state if it is one
 pub record IsSideOf (g : KoreSignature) (p : KorePattern) (found : Option State) : Type 0 where
@@ -72,31 +50,12 @@ pub record IsSideOf (g : KoreSignature) (p : KorePattern) (found : Option State)
   pub is_state : IsSideState g p sort found
 
 -- what was read is a pattern
-pub record IsStateRead (g : KoreSignature) (state : Reading KorePattern) (found : State) : Type 0 where
-  pub pattern : KorePattern
-  pub is_read : state ≡ read pattern
-  pub is_of : IsStateOf g pattern found
-
 pub record IsSideRead (g : KoreSignature) (side : Reading KorePattern) (found : Option State) : Type 0 where
   pub pattern : KorePattern
   pub is_read : side ≡ read pattern
   pub is_of : IsSideOf g pattern found
 
 -- ---- results
-
--- there are no rules to stop at
-pub record ListsNone (options : ExecuteOptions) : Type 0 where
-  pub cut_points : options.cut_points ≡ []
-  pub terminals : options.terminals ≡ []
-
--- the run from the state is told, and ends so
-pub record IsEndOf (t : Theory) (options : ExecuteOptions) (state : Reading KorePattern) (end : Executed) : Type 0 where
-  pub start : State
-  pub is_start : IsStateRead t.signature state start
-  pub plain : ListsNone options
-  pub run : IsRunOf t (value_view start.value) (bound_of options) end
-  pub ends : IsStateIn t end.depth (written_of start) (written_of end.state)
-  pub told : ¬ StopsUntold t (written_of start) (bound_of options)
 
 -- the sides are compared so: at this sort, or as other values
 pub record IsImpliedOf (g : KoreSignature) (antecedent consequent : Reading KorePattern) (o : Option KoreSort) : Type 0 where

@@ -10,14 +10,13 @@ ghost use Rattle.kp_server.specs.Ends.{IsWrongPattern};
 ghost use Rattle.kp_server.specs.Right.{NoneLeftOut};
 ghost use Rattle.kp_server.specs.Setting.{IsElsewhere, Setting};
 ghost use Rattle.kp_service.specs.Answered.{IsImpliedAs};
-ghost use Rattle.kp_service.specs.Told.{IsImpliedLine, IsImpliedOf, IsLineOf, IsSideOf, IsSidesFailure, IsTreeFailure};
+ghost use Rattle.kp_service.specs.Told.{IsFaultLine, IsImpliedLine, IsImpliedOf, IsLineOf, IsSideOf, IsSidesFailure, IsTreeFailure};
 
-use crate::executed::failure_line;
 use kp_compile::State;
 use kp_kore::{Pattern, Sort};
 use kp_replies::implied_text;
 use kp_requests::Reading;
-use kp_rpc::{Id, StateFault};
+use kp_rpc::{Id, StateFault, fault_text};
 use kp_rule_sets::RuleSet;
 use kp_server::{Failure, compared_sides, implied_at, side_state, verify_failure};
 use kp_signature::{Signature, verify};
@@ -37,6 +36,16 @@ pub fn implied_line(
     match implied(alloc, rules, antecedent, consequent) {
         Ok(sort) => result_line(alloc, id, &sort),
         Err(failure) => failure_line(alloc, id, failure),
+    }
+}
+
+/// The reply with a failure.
+fn failure_line(alloc: Global, id: &Id, failure: Failure) -> Result<Vec<u8>, AllocError>
+    ensures { IfOk result (λ line. IsFaultLine (id_view id.now) failure line.items) }
+{
+    match failure {
+        Failure::Fault(fault) => fault_text(alloc, id, &fault),
+        Failure::Memory => Err(AllocError),
     }
 }
 

@@ -1,0 +1,16 @@
+pub mod ChecksLemmas
+pub mod JoinedLemmas
+pub mod AddedLemmas
+pub mod NextLemmas
+pub mod DecidedLemmas
+pub mod EndLemmas
+pub mod ReasonLemmas
+pub mod ResultLemmas
+pub mod ComputedLemmas
+pub mod LostLemmas
+pub mod EndedLemmas
+pub mod ReadLemmas
+pub mod AnswerLemmas
+pub mod TestedLemmas
+pub mod OnwardLemmas
+pub mod RunLemmas

@@ -1,0 +1,7 @@
+use Rattle.kp_execute.proofs.executing.answered.Goals as goal
+
+pub returns-in-Ok-clause-found : goal.returns-in-Ok-clause-found
+returns-in-Ok-clause-found c = c.in-Ok.ensures
+
+pub returns-in-Err-clause-refused : goal.returns-in-Err-clause-refused
+returns-in-Err-clause-refused c = c.unwritten.ensures

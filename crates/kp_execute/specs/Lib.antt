@@ -1,0 +1,10 @@
+pub mod Answers
+pub mod Known
+pub mod Checks
+pub mod Ended
+pub mod Endings
+pub mod Laws
+pub mod Lost
+pub mod Onward
+pub mod Told
+pub mod Written

@@ -1,0 +1,177 @@
+// The answer of a run.
+ghost use Rattle.std.specs.Prelude.{◌≡◌, IfOk, List, string_bytes};
+ghost use Rattle.kp_kore.specs.Syntax.{Text, KorePattern};
+ghost use Rattle.kp_kore.specs.Theory.{Theory};
+ghost use Rattle.kp_kore.specs.Executions as model;
+ghost use Rattle.kp_results.specs.View.{executed_view, undecided_view, state_view as parts_view};
+ghost use Rattle.kp_rule_sets.specs.RuleSets.{RunsAs};
+ghost use Rattle.kp_symbolic.specs.Languages.{language_view};
+ghost use Rattle.kp_symbolic.specs.View.{state_view};
+ghost use Rattle.kp_step.specs.Outcomes.{IsRightStep};
+ghost use Rattle.kp_step.specs.declared.outcome.StepOutcome.TheVariants.{Foreign};
+ghost use Rattle.kp_execute.specs.declared.ending.Run as runs;
+ghost use Rattle.kp_execute.specs.Answers.{IsOpenBy, IsRightAnswer, aborted_with, answer_view};
+ghost use Rattle.kp_execute.specs.Known.{EndsOpen, IsRunOf};
+ghost use Rattle.kp_execute.specs.Told.{IsToldEnd};
+ghost use Rattle.kp_execute.specs.Written.{IsRunWritten, IsStateWritten};
+
+use crate::answer::Answer;
+use crate::cases::id_at;
+use crate::ending::{Ending, Run};
+use crate::open::{clauses_told, limit_told};
+use crate::result::{Ended, run_parts};
+use crate::tested::{is_end_right, is_state_computed};
+use kp_outward::WritingError;
+use kp_results::{Cause, Executed, Reason, State as Parts, Undecided};
+use kp_rule_sets::RuleSet;
+use kp_step::StepOutcome;
+use kp_symbolic::Language;
+use std::alloc::Global;
+
+/// The answer that names a foreign rule.
+fn aborted(alloc: Global, depth: u64, state: Parts, id: String) -> Answer
+    ensures { answer_view result ≡ aborted_with depth (parts_view state) (string_bytes id) }
+{
+    Answer::Executed {
+        executed: Executed {
+            depth,
+            state,
+            reason: Reason::Aborted {
+                cause: Cause::ForeignRule { id },
+            },
+            next_states: Vec::new(alloc),
+        },
+    }
+}
+
+/// The answer that names the foreign rule of this place, where the last state is written so.
+fn by_foreign(
+    alloc: Global,
+    rules: &RuleSet,
+    run: &Run,
+    state: Parts,
+    place: usize,
+) -> Result<Answer, WritingError>
+    ensures { (t : Theory) (o : model.Options) (p : KorePattern) → RunsAs t rules.now → EndsOpen t o p run.now (parts_view state) (Foreign place) → IfOk result (λ a. IsRightAnswer t o p (answer_view a)) }
+{
+    match id_at(alloc, rules, place) {
+        Ok(id) => Ok(aborted(alloc, run.depth, state, id)),
+        Err(error) => Err(error),
+    }
+}
+
+/// What isn't decided of the last state. Want of memory where the step tells no such thing.
+fn undecided_of(
+    alloc: Global,
+    language: &Language,
+    run: &Run,
+    why: &StepOutcome,
+) -> Result<Undecided, WritingError>
+    ensures { (t : Theory) (used : List Text) → let s = state_view run.now.state in language_view language.now ≡ t.signature → IsRightStep t used s why.now → IfOk result (λ u. IsOpenBy t s (undecided_view u)) }
+{
+    match why {
+        StepOutcome::Undecided { told, rule } => {
+            clauses_told(alloc, language, &run.state, told, *rule)
+        }
+        StepOutcome::Limited { limit } => match limit_told(alloc, limit) {
+            Ok(undecided) => Ok(undecided),
+            Err(_error) => Err(WritingError::Memory),
+        },
+        StepOutcome::Empty | StepOutcome::Cases { .. } | StepOutcome::Foreign { .. } => {
+            Err(WritingError::Memory)
+        }
+    }
+}
+
+/// The answer that tells what isn't decided of the last state, which is written so.
+fn left_open(
+    alloc: Global,
+    language: &Language,
+    run: &Run,
+    state: Parts,
+    why: &StepOutcome,
+) -> Result<Answer, WritingError>
+    ensures { (t : Theory) (o : model.Options) (p : KorePattern) → language_view language.now ≡ t.signature → EndsOpen t o p run.now (parts_view state) why.now → IfOk result (λ a. IsRightAnswer t o p (answer_view a)) }
+{
+    match undecided_of(alloc, language, run, why) {
+        Ok(undecided) => Ok(Answer::LeftOpen {
+            depth: run.depth,
+            state,
+            undecided,
+        }),
+        Err(error) => Err(error),
+    }
+}
+
+/// The answer where a step tells this of the last state, which is written so.
+fn by_cause(
+    alloc: Global,
+    language: &Language,
+    rules: &RuleSet,
+    run: &Run,
+    state: Parts,
+    why: &StepOutcome,
+) -> Result<Answer, WritingError>
+    ensures { (t : Theory) (o : model.Options) (p : KorePattern) → RunsAs t rules.now → language_view language.now ≡ t.signature → EndsOpen t o p run.now (parts_view state) why.now → IfOk result (λ a. IsRightAnswer t o p (answer_view a)) }
+{
+    match why {
+        StepOutcome::Foreign { rule } => by_foreign(alloc, rules, run, state, *rule),
+        StepOutcome::Undecided { .. }
+        | StepOutcome::Limited { .. }
+        | StepOutcome::Empty
+        | StepOutcome::Cases { .. } => left_open(alloc, language, run, state, why),
+    }
+}
+
+/// The answer where what follows isn't known, if no open call stands in what is written for the last state: else want of memory is
+/// told.
+fn open_end(
+    alloc: Global,
+    language: &Language,
+    rules: &RuleSet,
+    run: &Run,
+    state: Parts,
+) -> Result<Answer, WritingError>
+    ensures { (t : Theory) (o : model.Options) (p : KorePattern) → RunsAs t rules.now → language_view language.now ≡ t.signature → IsRunOf t o p run.now → IsStateWritten t.signature (state_view run.now.state) (parts_view state) →
+        IfOk result (λ a. IsRightAnswer t o p (answer_view a)) }
+{
+    if !is_state_computed(alloc, language.signature, &state) {
+        return Err(WritingError::Memory);
+    }
+    match &run.ending {
+        Ending::Aborted { why } => by_cause(alloc, language, rules, run, state, why),
+        _ => Err(WritingError::Memory),
+    }
+}
+
+/// The answer of a run that is written so, if no open call stands in what is written for its last state: else want of memory is
+/// told.
+fn ended(alloc: Global, language: &Language, executed: Executed) -> Result<Answer, WritingError>
+    ensures { (t : Theory) (o : model.Options) (p : KorePattern) (r : runs.Run) → language_view language.now ≡ t.signature → IsRunOf t o p r → IsToldEnd t r.ending → IsRunWritten t r (executed_view executed) → IfOk result (λ a. IsRightAnswer t o p (answer_view a)) }
+{
+    if !is_state_computed(alloc, language.signature, &executed.state) {
+        return Err(WritingError::Memory);
+    }
+    Ok(Answer::Executed { executed })
+}
+
+/// The answer of a run. Want of memory is told, too, where what was added to a part of its last state can't be written right.
+///
+/// # Errors
+/// As of `run_parts`, and `NoInjection` where an `inj` would stand in what isn't decided that the signature doesn't have.
+pub fn answer_of(
+    alloc: Global,
+    language: &Language,
+    rules: &RuleSet,
+    run: &Run,
+) -> Result<Answer, WritingError>
+    ensures { (t : Theory) (o : model.Options) (p : KorePattern) → RunsAs t rules.now → language_view language.now ≡ t.signature → IsRunOf t o p run.now → IfOk result (λ a. IsRightAnswer t o p (answer_view a)) }
+{
+    if !is_end_right(alloc, language, &run.ending) {
+        return Err(WritingError::Memory);
+    }
+    match run_parts(alloc, language, rules, run)? {
+        Ended::Result { executed } => ended(alloc, language, executed),
+        Ended::Open { state } => open_end(alloc, language, rules, run, state),
+    }
+}

@@ -1,0 +1,12 @@
+use Rattle.std.proofs.Common.{subst}
+use Rattle.kp_rpc.specs.View.{id_view}
+use Rattle.kp_server.specs.Ends.{IsWrongPattern}
+use Rattle.kp_server.specs.Right.{NoneLeftOut}
+use Rattle.kp_simplify_reply.proofs.Lines.{unverified}
+use Rattle.kp_execute_reply.proofs.Lines.{fault_line}
+use Rattle.kp_execute_reply.proofs.line.unverified_line.Goals as goal
+
+pub returns-in-Fault : goal.returns-in-Fault
+returns-in-Fault c = λ s options p tells.
+    let g = s.theory.signature in
+    fault_line c.fault_text.result s (id_view c.args.id.now) options p c.in-Fault.fault (subst (IsWrongPattern g NoneLeftOut p) c.in-Fault.is (c.verify_failure.ensures g p tells)) (unverified g p c.args.error tells (c.is_memory.ensures c.if-is_memory.false)) c.fault_text.ensures

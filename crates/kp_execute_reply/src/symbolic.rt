@@ -1,0 +1,162 @@
+// The run of a symbolic state.
+ghost use Rattle.std.specs.Prelude.{◌≡◌, IfOk, None, Option, map, string_bytes};
+ghost use Rattle.serde_json.specs.Data.{Data};
+ghost use Rattle.kp_clauses.specs.Faults.{state_fault};
+ghost use Rattle.kp_heads.specs.Made.{IsHeadTableOf};
+ghost use Rattle.kp_kore.specs.Syntax.{KorePattern};
+ghost use Rattle.kp_kore.specs.View.{view, sort_view};
+ghost use Rattle.kp_results.specs.View as results;
+ghost use Rattle.kp_rpc.specs.Reply.{reply_bytes};
+ghost use Rattle.kp_rpc.specs.Request.{ExecuteOptions};
+ghost use Rattle.kp_rpc.specs.View.{id_view, options_view};
+ghost use Rattle.kp_replies.specs.Right.{asked_options};
+ghost use Rattle.kp_rule_sets.specs.RuleSets.{RunsAs};
+ghost use Rattle.kp_server.specs.Setting.{Setting};
+ghost use Rattle.kp_signature.specs.Verify.{VerifiesAs};
+ghost use Rattle.kp_symbolic.specs.Languages.{language_view};
+ghost use Rattle.kp_simplify_reply.specs.Answered.{IsReplyLine};
+ghost use Rattle.kp_execute.specs.Answers.{IsRightAnswer, IsUnexecuted, answer_view};
+ghost use Rattle.kp_execute_reply.specs.Answered.{IsUnderstoodAs, reply_of};
+ghost use Rattle.kp_execute_reply.specs.Lines.{IsLineOf, or_t2};
+
+use kp_execute::{Answer, ExecuteError, execute};
+use kp_heads::HeadTable;
+use kp_kore::{Pattern, Sort};
+use kp_replies::{aborted_text, executed_text};
+use kp_results::Options as Asked;
+use kp_rpc::{Id, Options, PatternFault, StateFault, bound_of, fault_text};
+use kp_rule_sets::RuleSet;
+use kp_server::not_answered;
+use kp_symbolic::Language;
+use std::alloc::{AllocError, Global};
+
+/// The same texts.
+fn copied(alloc: Global, texts: &[String]) -> Result<Vec<String>, AllocError>
+    ensures { IfOk result (λ copies. map string_bytes copies.items ≡ map string_bytes texts.now) }
+{
+    let mut copies = Vec::new(alloc);
+    for text in texts {
+        copies.push(text.clone()?)?;
+    }
+    Ok(copies)
+}
+
+/// What a run is asked for.
+fn asked(alloc: Global, options: &Options) -> Result<Asked, AllocError>
+    ensures { IfOk result (λ o. results.options_view o ≡ asked_options (options_view options.now)) }
+{
+    let cut_points = copied(alloc, &options.cut_points)?;
+    let terminals = copied(alloc, &options.terminals)?;
+    Ok(Asked {
+        bound: bound_of(options),
+        cut_points,
+        terminals,
+    })
+}
+
+/// The line of a reply; T2 where there is none: Kore JSON has no tag for a pattern in it.
+fn line_or_fault(alloc: Global, id: &Id, line: Option<Vec<u8>>) -> Result<Vec<u8>, AllocError>
+    ensures { (reply : Option Data) → IsLineOf line reply → IfOk result (λ text. text.items ≡ reply_bytes (or_t2 (id_view id.now) reply)) }
+{
+    match line {
+        Some(line) => Ok(line),
+        None => fault_text(alloc, id, &not_answered()),
+    }
+}
+
+/// The line of the reply that tells an answer, where there is one.
+fn line_of(alloc: Global, id: &Id, answer: &Answer) -> Result<Option<Vec<u8>>, AllocError>
+    ensures { IfOk result (λ line. IsLineOf line (reply_of (id_view id.now) (answer_view answer.now))) }
+{
+    match answer {
+        Answer::Executed { executed } => executed_text(alloc, id, executed),
+        Answer::LeftOpen {
+            depth,
+            state,
+            undecided,
+        } => aborted_text(alloc, id, *depth, state, undecided),
+    }
+}
+
+/// The line that tells an answer; T2 where no reply tells it.
+fn answer_line(alloc: Global, id: &Id, answer: &Answer) -> Result<Vec<u8>, AllocError>
+    ensures { (s : Setting) (options : ExecuteOptions) (p : KorePattern) → state_fault s.theory.signature p ≡ None → IsRightAnswer s.theory (asked_options options) p (answer_view answer.now) →
+        IfOk result (λ line. IsReplyLine (IsUnderstoodAs s (id_view id.now) options p) line.items) }
+{
+    let line = line_of(alloc, id, answer)?;
+    line_or_fault(alloc, id, line)
+}
+
+/// The line that tells why a pattern isn't executed.
+fn refused_line(alloc: Global, id: &Id, error: ExecuteError) -> Result<Vec<u8>, AllocError>
+    ensures { (s : Setting) (options : ExecuteOptions) (p : KorePattern) → IsUnexecuted s.theory.signature p error → IfOk result (λ line. IsReplyLine (IsUnderstoodAs s (id_view id.now) options p) line.items) }
+{
+    match error {
+        ExecuteError::Memory => Err(AllocError),
+        ExecuteError::NoStep => Err(AllocError),
+        ExecuteError::ForeignSymbol { name } => fault_text(
+            alloc,
+            id,
+            &StateFault::Verify(PatternFault::ForeignSymbol { name }),
+        ),
+        ExecuteError::OtherShape => fault_text(alloc, id, &not_answered()),
+        ExecuteError::NoInjection => fault_text(alloc, id, &not_answered()),
+    }
+}
+
+/// The line of the reply to a verified pattern of this sort, over the language with its table of heads, where this is asked for.
+fn asked_line(
+    alloc: Global,
+    language: &Language,
+    table: &HeadTable,
+    rules: &RuleSet,
+    id: &Id,
+    pattern: &Pattern,
+    sort: Sort,
+    asked: &Asked,
+) -> Result<Vec<u8>, AllocError>
+    requires { IsHeadTableOf (language_view language.now) table.now }
+    ensures { (s : Setting) (options : ExecuteOptions) → RunsAs s.theory rules.now → language_view language.now ≡ s.theory.signature → results.options_view asked.now ≡ asked_options options →
+        VerifiesAs s.theory.signature (view pattern.now) (sort_view sort) → IfOk result (λ line. IsReplyLine (IsUnderstoodAs s (id_view id.now) options (view pattern.now)) line.items) }
+{
+    match execute(alloc, language, table, rules, pattern, sort, asked) {
+        Ok(answer) => answer_line(alloc, id, &answer),
+        Err(error) => refused_line(alloc, id, error),
+    }
+}
+
+/// The same with what the options of a request ask for.
+fn line_over(
+    alloc: Global,
+    language: &Language,
+    table: &HeadTable,
+    rules: &RuleSet,
+    id: &Id,
+    pattern: &Pattern,
+    sort: Sort,
+    options: &Options,
+) -> Result<Vec<u8>, AllocError>
+    requires { IsHeadTableOf (language_view language.now) table.now }
+    ensures { (s : Setting) → RunsAs s.theory rules.now → language_view language.now ≡ s.theory.signature → VerifiesAs s.theory.signature (view pattern.now) (sort_view sort) →
+        IfOk result (λ line. IsReplyLine (IsUnderstoodAs s (id_view id.now) (options_view options.now) (view pattern.now)) line.items) }
+{
+    let asked = asked(alloc, options)?;
+    asked_line(alloc, language, table, rules, id, pattern, sort, &asked)
+}
+
+/// The line of the reply to execute of a verified pattern of this sort, by symbolic steps.
+pub fn symbolic_line(
+    alloc: Global,
+    rules: &RuleSet,
+    id: &Id,
+    pattern: &Pattern,
+    sort: Sort,
+    options: &Options,
+) -> Result<Vec<u8>, AllocError>
+    ensures { (s : Setting) → RunsAs s.theory rules.now → VerifiesAs s.theory.signature (view pattern.now) (sort_view sort) →
+        IfOk result (λ line. IsReplyLine (IsUnderstoodAs s (id_view id.now) (options_view options.now) (view pattern.now)) line.items) }
+{
+    let language = Language::new(alloc, &rules.signature)?;
+    let table = HeadTable::new(alloc, &rules.signature)?;
+    line_over(alloc, &language, &table, rules, id, pattern, sort, options)
+}
