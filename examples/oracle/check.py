@@ -21,8 +21,7 @@ def wanted_reply(definition, request_id, term, sort, bound):
     """The reply, and the word under which it is counted."""
     ended = execute(definition, value_of(term, {}), sort, bound)
     if ended is None:
-        error = {"code": 2, "data": {"kind": "T2"}, "message": "Could not verify pattern"}
-        return line({"error": error, "id": request_id, "jsonrpc": "2.0"}), "T2"
+        return None, "T2"
     reason, depth, value, last = ended[:4]
     result = {"depth": depth, "reason": reason, "state": {"term": wrapped(value_json(definition, value, last))}}
     if reason == "aborted":
@@ -65,7 +64,9 @@ class Check:
             except Wide:
                 continue
             self.counts[word] += 1
-            self.run(["stdio", path, "--module", "MAIN"], json.dumps(request).encode(), (0, reply), f"{name}, request {place}")
+            # (runs that leave ground values are judged by examples/execute)
+            if word != "T2":
+                self.run(["stdio", path, "--module", "MAIN"], json.dumps(request).encode(), (0, reply), f"{name}, request {place}")
 
     def implications(self, maker, path, name):
         for place in range(3):

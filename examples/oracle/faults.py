@@ -1,6 +1,6 @@
 #!/usr/bin/env python3
 """faults.py PROGRAM FIRST LAST: states with one to three planted faults over random definitions, against the first fault that the
-rules tell: of the JSON (J1 to J4), of the term (V1 to V7), a foreign symbol (T1), a variable (T2). It prints each difference."""
+rules tell: of the JSON (J1 to J4), of the term (V1 to V7), a foreign symbol (T1). It prints each difference."""
 
 import collections
 import copy
@@ -168,13 +168,11 @@ class Verified:
         return upper
 
     def all_meant(self, tree):
-        """T1 of the first foreign symbol, T2 where a variable stands in the term."""
+        """T1 of the first foreign symbol."""
         below = [it for it in objects(tree) if it.get("tag") in PATTERNS]
         for it in below:
             if it["tag"] == "App" and it["name"] in self.definition.foreign:
                 self.refuse("T1", it["name"])
-        if any(it["tag"] == "EVar" for it in below):
-            raise Fault(2, {"kind": "T2"})
 
 
 def objects(tree):
@@ -224,7 +222,7 @@ class Planter:
         below = [it for it in objects(tree) if isinstance(it.get("tag"), str) and it["tag"] in PATTERNS]
         sorts = [it for it in objects(tree) if it.get("tag") == "SortApp"]
         plants = [self.any_member] * 3 + [self.name] * 2 + [self.count, self.other, self.other, self.literal, self.literal]
-        plants += [self.variable, self.injected, self.nested, self.sort, self.foreign]
+        plants += [self.injected, self.nested, self.sort, self.foreign]
         plant = self.pick(plants)
         if plant == self.any_member:
             self.any_member(self.pick(objects(tree)))
@@ -269,9 +267,6 @@ class Planter:
 
     def literal(self, tree):
         self.replace(tree, literal_json(self.pick(self.maker.definition.sorts), self.pick(TEXTS)))
-
-    def variable(self, tree):
-        self.replace(tree, {"name": "V", "sort": sort_json(self.pick(self.maker.definition.sorts)), "tag": "EVar"})
 
     def injected(self, tree):
         sorts = [sort_json(self.pick(self.maker.definition.sorts)) for _ in range(2)]

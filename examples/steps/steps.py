@@ -42,12 +42,29 @@ CONSTRUCTORS = {
 }
 SORTS = ["D", "E", "PP", "QQ", "M", "C", "V", "K", "S"]
 LITERAL_SORTS = ["Int", "Bool", "T"]
-HOOKS = ["add", "sub", "mul", "lt", "le", "eq"]
+# the hook, the sorts of its arguments, its sort, its function
+HOOKS = {
+    "add": ("INT.add", ["Int", "Int"], "Int", lambda x, y: x + y),
+    "sub": ("INT.sub", ["Int", "Int"], "Int", lambda x, y: x - y),
+    "mul": ("INT.mul", ["Int", "Int"], "Int", lambda x, y: x * y),
+    "lt": ("INT.lt", ["Int", "Int"], "Bool", lambda x, y: x < y),
+    "le": ("INT.le", ["Int", "Int"], "Bool", lambda x, y: x <= y),
+    "eq": ("INT.eq", ["Int", "Int"], "Bool", lambda x, y: x == y),
+    "gt": ("INT.gt", ["Int", "Int"], "Bool", lambda x, y: x > y),
+    "ge": ("INT.ge", ["Int", "Int"], "Bool", lambda x, y: x >= y),
+    "ne": ("INT.ne", ["Int", "Int"], "Bool", lambda x, y: x != y),
+    "both": ("BOOL.and", ["Bool", "Bool"], "Bool", lambda x, y: x and y),
+    "either": ("BOOL.or", ["Bool", "Bool"], "Bool", lambda x, y: x or y),
+    "implied": ("BOOL.implies", ["Bool", "Bool"], "Bool", lambda x, y: not x or y),
+    "alike": ("BOOL.eq", ["Bool", "Bool"], "Bool", lambda x, y: x == y),
+    "unlike": ("BOOL.ne", ["Bool", "Bool"], "Bool", lambda x, y: x != y),
+    "opposite": ("BOOL.not", ["Bool"], "Bool", lambda x: not x),
+}
 BELOW = {s: [s] + [low for low in SUBSORTS if s in SUBSORTS[low]] for s in SORTS + LITERAL_SORTS}
 BUILT = {s: [n for n, (_, r) in CONSTRUCTORS.items() if r == s] for s in SORTS + LITERAL_SORTS}
 HEADS = {s: {h for low in BELOW[s] for h in BUILT[low] + ([low] if low in LITERAL_SORTS else [])} for s in BELOW}
 SMALL, LARGE = range(-2, 4), range(-10, 13)
-TOKENS = ["a", "b", "z"]
+TOKENS = ["a", "b", "x", "y", "z"]
 
 # ---- texts
 
@@ -162,7 +179,7 @@ def literal_value(sort, content):
         return ("#", int(content))
     if sort == "Bool":
         return ("?", content == "true")
-    return ("t", content)
+    return ("~", content)
 
 
 def value_of(p, v):
@@ -176,17 +193,14 @@ def value_of(p, v):
     name, parts = p[1], [value_of(it, v) for it in p[3]]
     if name == "inj":
         return parts[0]
-    if name in ("add", "sub", "mul"):
-        x, y = parts[0][1], parts[1][1]
-        return ("#", x + y if name == "add" else x - y if name == "sub" else x * y)
-    if name in ("lt", "le", "eq"):
-        x, y = parts[0][1], parts[1][1]
-        return ("?", x < y if name == "lt" else x <= y if name == "le" else x == y)
+    if name in HOOKS:
+        _, _, result, function = HOOKS[name]
+        return ("#" if result == "Int" else "?", function(*[it[1] for it in parts]))
     return (name, *parts)
 
 
 def head(value):
-    return {"#": "Int", "?": "Bool", "t": "T"}.get(value[0], value[0])
+    return {"#": "Int", "?": "Bool", "~": "T"}.get(value[0], value[0])
 
 
 def has_sort(value, sort):
@@ -203,7 +217,7 @@ def pool(sort, numbers, memo={}):
             elif low == "Bool":
                 found += [("?", False), ("?", True)]
             elif low == "T":
-                found += [("t", it) for it in TOKENS]
+                found += [("~", it) for it in TOKENS]
             for name in BUILT[low]:
                 if low != "V":
                     lists = [pool(s, numbers) for s in CONSTRUCTORS[name][0]]
@@ -426,6 +440,9 @@ def successors(rule, v):
 
 
 class Maker:
+    # the heads of right terms
+    ends = ["out", "end", "k", "u", "g", "f", "h", "b", "t"]
+
     def __init__(self, seed):
         self.random = random.Random(seed)
         self.variables, self.count = {}, 0
@@ -528,7 +545,7 @@ class Maker:
     def right(self, left_variables):
         """A right term over the variables of the left side, and new ones."""
         self.variables, new = dict(left_variables), {}
-        name = self.random.choice(["out", "end", "k", "u", "g", "f", "h", "b", "t"] + (["v"] if self.chance(0.1) else []))
+        name = self.random.choice(self.ends + (["v"] if self.chance(0.1) else []))
 
         def part(sort):
             known = [n for n, s in left_variables.items() if s == sort]
@@ -575,9 +592,8 @@ def definition_text(rules):
     lines.append('  hooked-sort Int{} [hook{}("INT.Int"), hasDomainValues{}()]')
     lines.append('  hooked-sort Bool{} [hook{}("BOOL.Bool"), hasDomainValues{}()]')
     lines.append("  sort T{} [hasDomainValues{}()]")
-    for name in HOOKS:
-        result = "Bool" if name in ("lt", "le", "eq") else "Int"
-        lines.append(f'  hooked-symbol {name}{{}}(Int{{}}, Int{{}}) : {result}{{}} [hook{{}}("INT.{name}"), function{{}}()]')
+    for name, (hook, places, result, _) in HOOKS.items():
+        lines.append(f'  hooked-symbol {name}{{}}({", ".join(map(sort_text, places))}) : {result}{{}} [hook{{}}("{hook}"), function{{}}()]')
     lines.append("  symbol inj{From, To}(From) : To [sortInjection{}()]")
     lines.append("  symbol other{}(Int{}) : Int{} [function{}()]")
     lines += [f"  sort {s}{{}} []" for s in SORTS]
@@ -614,7 +630,7 @@ def within(value):
 def numbers_in(value):
     if value[0] == "#":
         return [value]
-    return [] if value[0] in ("?", "t") else [it for part in value[1:] for it in numbers_in(part)]
+    return [] if value[0] in ("?", "~") else [it for part in value[1:] for it in numbers_in(part)]
 
 
 def has_instance(predicate, term, clauses, own):
@@ -745,4 +761,5 @@ def main():
         judge(*sys.argv[2:])
 
 
-main()
+if __name__ == "__main__":
+    main()
