@@ -12,8 +12,6 @@ mod connections;
 #[cfg(test)]
 mod echo;
 #[cfg(test)]
-mod executed;
-#[cfg(test)]
 mod extensions;
 #[cfg(test)]
 mod ids;
