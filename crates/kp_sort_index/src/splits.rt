@@ -41,7 +41,7 @@ impl<'a> SortIndex<'a> {
     }
 
     /// Whether the number is marked as alone.
-    fn is_alone(&self, number: usize) -> bool
+    pub fn is_alone(&self, number: usize) -> bool
         ensures { (g : KoreSignature) → IsIndexOf g self.now → IsTrue result → IsAlone self.now.order.now.graph number }
     {
         if number < self.alone.len() {
@@ -64,28 +64,28 @@ impl<'a> SortIndex<'a> {
     }
 
     /// The sort and all sorts below it.
-    fn down_from(&self, alloc: Global, number: usize) -> Result<Numbers, AllocError>
+    pub fn down_from(&self, alloc: Global, number: usize) -> Result<Numbers, AllocError>
         ensures { IfOk result (λ found. (j : ℕ) → Contains found.keys j ↔ Under self.now number j) }
     {
         reached_from(alloc, &self.order.graph.below, number)
     }
 
     /// The sort and all sorts above it.
-    fn up_from(&self, alloc: Global, number: usize) -> Result<Numbers, AllocError>
+    pub fn up_from(&self, alloc: Global, number: usize) -> Result<Numbers, AllocError>
         ensures { IfOk result (λ found. (j : ℕ) → Contains found.keys j ↔ Over self.now number j) }
     {
         reached_from(alloc, &self.order.graph.above, number)
     }
 
     /// The sorts and all sorts above them.
-    fn all_above(&self, alloc: Global, numbers: &Numbers) -> Result<Numbers, AllocError>
+    pub fn all_above(&self, alloc: Global, numbers: &Numbers) -> Result<Numbers, AllocError>
         ensures { IfOk result (λ found. (j : ℕ) → Contains found.keys j ↔ IsReachedFrom (up self.now) numbers.now.keys j) }
     {
         all_reached(alloc, &self.order.graph.above, numbers)
     }
 
     /// Those that are the own sort of some head.
-    fn with_heads(&self, alloc: Global, numbers: &[usize]) -> Result<Numbers, AllocError>
+    pub fn with_heads(&self, alloc: Global, numbers: &[usize]) -> Result<Numbers, AllocError>
         ensures { IfOk result (λ found. (j : ℕ) → Contains found.keys j ↔ (Contains numbers.now j × OwnsHeads self.now j)) }
     {
         let mut found = IndexSet::new(alloc);
@@ -106,7 +106,7 @@ impl<'a> SortIndex<'a> {
     }
 
     /// Whether each of these sorts is settled.
-    fn all_settled(
+    pub fn all_settled(
         &self,
         alloc: Global,
         numbers: &[usize],

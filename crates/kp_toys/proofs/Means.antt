@@ -64,25 +64,25 @@ pub toys_means : IsTheoryOf toys_definition (codes "TOYS") toys
 toys_means = record {
   signature = refl;
   rules = (
-    record { id = refl; priority = refl; body = record { shape = refl; no_parameters = refl; no_foreign_symbol = refl; left_repeats = refl; left_uninterpreted = refl; condition_variables = ((refl), tt); condition_quantifiers = ((refl), tt); condition_floors = ((refl), tt); literals = refl; depths = refl; priority = refl; no_set_variable = refl; injections = all_split_without (subpatterns dec_axiom) refl } },
+    record { id = refl; priority = refl; body = record { shape = refl; no_parameters = refl; no_foreign_symbol = refl; left_repeats = refl; left_uninterpreted = refl; condition_variables = ((refl), tt); condition_quantifiers = ((refl), tt); condition_floors = ((refl), tt); literals = refl; depths = refl; priority = refl; no_set_variable = refl; injections = all_split_without (subpatterns dec_axiom) refl; lone_variable = tt } },
     (
-      record { id = refl; priority = refl; body = record { shape = refl; no_parameters = refl; no_foreign_symbol = refl; left_repeats = refl; left_uninterpreted = refl; condition_variables = ((refl), tt); condition_quantifiers = ((refl), tt); condition_floors = ((refl), tt); literals = refl; depths = refl; priority = refl; no_set_variable = refl; injections = all_split_without (subpatterns stop_axiom) refl } },
+      record { id = refl; priority = refl; body = record { shape = refl; no_parameters = refl; no_foreign_symbol = refl; left_repeats = refl; left_uninterpreted = refl; condition_variables = ((refl), tt); condition_quantifiers = ((refl), tt); condition_floors = ((refl), tt); literals = refl; depths = refl; priority = refl; no_set_variable = refl; injections = all_split_without (subpatterns stop_axiom) refl; lone_variable = tt } },
       (
-        record { id = refl; priority = refl; body = record { shape = refl; no_parameters = refl; no_foreign_symbol = refl; left_repeats = refl; left_uninterpreted = refl; condition_variables = tt; condition_quantifiers = tt; condition_floors = tt; literals = refl; depths = refl; priority = refl; no_set_variable = refl; injections = all_split_without (subpatterns pick_axiom) refl } },
+        record { id = refl; priority = refl; body = record { shape = refl; no_parameters = refl; no_foreign_symbol = refl; left_repeats = refl; left_uninterpreted = refl; condition_variables = tt; condition_quantifiers = tt; condition_floors = tt; literals = refl; depths = refl; priority = refl; no_set_variable = refl; injections = all_split_without (subpatterns pick_axiom) refl; lone_variable = tt } },
         (
-          record { id = refl; priority = refl; body = record { shape = refl; no_parameters = refl; no_foreign_symbol = refl; left_repeats = refl; left_uninterpreted = refl; condition_variables = tt; condition_quantifiers = tt; condition_floors = tt; literals = refl; depths = refl; priority = refl; no_set_variable = refl; injections = (tt, (tt, ((λ e. int_splits), (tt, (tt, tt))))) } },
+          record { id = refl; priority = refl; body = record { shape = refl; no_parameters = refl; no_foreign_symbol = refl; left_repeats = refl; left_uninterpreted = refl; condition_variables = tt; condition_quantifiers = tt; condition_floors = tt; literals = refl; depths = refl; priority = refl; no_set_variable = refl; injections = (tt, (tt, ((λ e. int_splits), (tt, (tt, tt))))); lone_variable = tt } },
           (
-            record { id = refl; priority = refl; body = record { shape = refl; no_parameters = refl; no_foreign_symbol = refl; left_repeats = refl; left_uninterpreted = refl; condition_variables = ((refl), tt); condition_quantifiers = ((refl), tt); condition_floors = ((refl), tt); literals = refl; depths = refl; priority = refl; no_set_variable = refl; injections = all_split_without (subpatterns sq_axiom) refl } },
+            record { id = refl; priority = refl; body = record { shape = refl; no_parameters = refl; no_foreign_symbol = refl; left_repeats = refl; left_uninterpreted = refl; condition_variables = ((refl), tt); condition_quantifiers = ((refl), tt); condition_floors = ((refl), tt); literals = refl; depths = refl; priority = refl; no_set_variable = refl; injections = all_split_without (subpatterns sq_axiom) refl; lone_variable = tt } },
             (
-              record { id = refl; priority = refl; body = record { shape = refl; no_parameters = refl; no_foreign_symbol = refl; left_repeats = refl; left_uninterpreted = refl; condition_variables = tt; condition_quantifiers = tt; condition_floors = tt; literals = refl; depths = refl; priority = refl; no_set_variable = refl; injections = all_split_without (subpatterns up_axiom) refl } },
+              record { id = refl; priority = refl; body = record { shape = refl; no_parameters = refl; no_foreign_symbol = refl; left_repeats = refl; left_uninterpreted = refl; condition_variables = tt; condition_quantifiers = tt; condition_floors = tt; literals = refl; depths = refl; priority = refl; no_set_variable = refl; injections = all_split_without (subpatterns up_axiom) refl; lone_variable = tt } },
               (
                 record { id = refl; priority = refl; body = (refl, (λ r i. false_true i.no_foreign_symbol)) },
                 (
-                  record { id = refl; priority = refl; body = record { shape = refl; no_parameters = refl; no_foreign_symbol = refl; left_repeats = refl; left_uninterpreted = refl; condition_variables = tt; condition_quantifiers = tt; condition_floors = tt; literals = refl; depths = refl; priority = refl; no_set_variable = refl; injections = all_split_without (subpatterns spin_axiom) refl } },
+                  record { id = refl; priority = refl; body = record { shape = refl; no_parameters = refl; no_foreign_symbol = refl; left_repeats = refl; left_uninterpreted = refl; condition_variables = tt; condition_quantifiers = tt; condition_floors = tt; literals = refl; depths = refl; priority = refl; no_set_variable = refl; injections = all_split_without (subpatterns spin_axiom) refl; lone_variable = tt } },
                   (
-                    record { id = refl; priority = refl; body = record { shape = refl; no_parameters = refl; no_foreign_symbol = refl; left_repeats = refl; left_uninterpreted = refl; condition_variables = tt; condition_quantifiers = tt; condition_floors = tt; literals = refl; depths = refl; priority = refl; no_set_variable = refl; injections = all_split_without (subpatterns van_axiom) refl } },
+                    record { id = refl; priority = refl; body = record { shape = refl; no_parameters = refl; no_foreign_symbol = refl; left_repeats = refl; left_uninterpreted = refl; condition_variables = tt; condition_quantifiers = tt; condition_floors = tt; literals = refl; depths = refl; priority = refl; no_set_variable = refl; injections = all_split_without (subpatterns van_axiom) refl; lone_variable = tt } },
                     (
-                      record { id = refl; priority = refl; body = record { shape = refl; no_parameters = refl; no_foreign_symbol = refl; left_repeats = refl; left_uninterpreted = refl; condition_variables = tt; condition_quantifiers = tt; condition_floors = tt; literals = refl; depths = refl; priority = refl; no_set_variable = refl; injections = all_split_without (subpatterns back_axiom) refl } },
+                      record { id = refl; priority = refl; body = record { shape = refl; no_parameters = refl; no_foreign_symbol = refl; left_repeats = refl; left_uninterpreted = refl; condition_variables = tt; condition_quantifiers = tt; condition_floors = tt; literals = refl; depths = refl; priority = refl; no_set_variable = refl; injections = all_split_without (subpatterns back_axiom) refl; lone_variable = tt } },
                       tt,
                     ),
                   ),
