@@ -11,6 +11,7 @@ pub mod LostLemmas
 pub mod EndedLemmas
 pub mod ReadLemmas
 pub mod AnswerLemmas
+pub mod WantsLemmas
 pub mod TestedLemmas
 pub mod OnwardLemmas
 pub mod RunLemmas

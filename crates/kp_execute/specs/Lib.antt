@@ -7,4 +7,5 @@ pub mod Laws
 pub mod Lost
 pub mod Onward
 pub mod Told
+pub mod Wants
 pub mod Written

@@ -1,8 +1,9 @@
 // The answer of a run.
-ghost use Rattle.std.specs.Prelude.{◌≡◌, IfOk, List, string_bytes};
+ghost use Rattle.std.specs.Prelude.{◌≡◌, IfErr, IfOk, List, string_bytes};
 ghost use Rattle.kp_kore.specs.Syntax.{Text, KorePattern};
 ghost use Rattle.kp_kore.specs.Theory.{Theory};
 ghost use Rattle.kp_kore.specs.Executions as model;
+ghost use Rattle.kp_outward.specs.Errors.{IsNoInjection};
 ghost use Rattle.kp_results.specs.View.{executed_view, undecided_view, state_view as parts_view};
 ghost use Rattle.kp_rule_sets.specs.RuleSets.{RunsAs};
 ghost use Rattle.kp_symbolic.specs.Languages.{language_view};
@@ -13,6 +14,7 @@ ghost use Rattle.kp_execute.specs.declared.ending.Run as runs;
 ghost use Rattle.kp_execute.specs.Answers.{IsOpenBy, IsRightAnswer, aborted_with, answer_view};
 ghost use Rattle.kp_execute.specs.Known.{EndsOpen, IsRunOf};
 ghost use Rattle.kp_execute.specs.Told.{IsToldEnd};
+ghost use Rattle.kp_execute.specs.Wants.{EndWants, RunWants, StepWants};
 ghost use Rattle.kp_execute.specs.Written.{IsRunWritten, IsStateWritten};
 
 use crate::answer::Answer;
@@ -52,7 +54,8 @@ fn by_foreign(
     state: Parts,
     place: usize,
 ) -> Result<Answer, WritingError>
-    ensures { (t : Theory) (o : model.Options) (p : KorePattern) → RunsAs t rules.now → EndsOpen t o p run.now (parts_view state) (Foreign place) → IfOk result (λ a. IsRightAnswer t o p (answer_view a)) }
+    ensures answered { (t : Theory) (o : model.Options) (p : KorePattern) → RunsAs t rules.now → EndsOpen t o p run.now (parts_view state) (Foreign place) → IfOk result (λ a. IsRightAnswer t o p (answer_view a)) }
+    ensures refused { IfErr result (λ e. ¬ IsNoInjection e) }
 {
     match id_at(alloc, rules, place) {
         Ok(id) => Ok(aborted(alloc, run.depth, state, id)),
@@ -67,7 +70,8 @@ fn undecided_of(
     run: &Run,
     why: &StepOutcome,
 ) -> Result<Undecided, WritingError>
-    ensures { (t : Theory) (used : List Text) → let s = state_view run.now.state in language_view language.now ≡ t.signature → IsRightStep t used s why.now → IfOk result (λ u. IsOpenBy t s (undecided_view u)) }
+    ensures told { (t : Theory) (used : List Text) → let s = state_view run.now.state in language_view language.now ≡ t.signature → IsRightStep t used s why.now → IfOk result (λ u. IsOpenBy t s (undecided_view u)) }
+    ensures wants { IfErr result (λ e. IsNoInjection e → StepWants (language_view language.now) (state_view run.now.state).sort why.now) }
 {
     match why {
         StepOutcome::Undecided { told, rule } => {
@@ -91,7 +95,8 @@ fn left_open(
     state: Parts,
     why: &StepOutcome,
 ) -> Result<Answer, WritingError>
-    ensures { (t : Theory) (o : model.Options) (p : KorePattern) → language_view language.now ≡ t.signature → EndsOpen t o p run.now (parts_view state) why.now → IfOk result (λ a. IsRightAnswer t o p (answer_view a)) }
+    ensures answered { (t : Theory) (o : model.Options) (p : KorePattern) → language_view language.now ≡ t.signature → EndsOpen t o p run.now (parts_view state) why.now → IfOk result (λ a. IsRightAnswer t o p (answer_view a)) }
+    ensures wants { IfErr result (λ e. IsNoInjection e → StepWants (language_view language.now) (state_view run.now.state).sort why.now) }
 {
     match undecided_of(alloc, language, run, why) {
         Ok(undecided) => Ok(Answer::LeftOpen {
@@ -112,7 +117,8 @@ fn by_cause(
     state: Parts,
     why: &StepOutcome,
 ) -> Result<Answer, WritingError>
-    ensures { (t : Theory) (o : model.Options) (p : KorePattern) → RunsAs t rules.now → language_view language.now ≡ t.signature → EndsOpen t o p run.now (parts_view state) why.now → IfOk result (λ a. IsRightAnswer t o p (answer_view a)) }
+    ensures answered { (t : Theory) (o : model.Options) (p : KorePattern) → RunsAs t rules.now → language_view language.now ≡ t.signature → EndsOpen t o p run.now (parts_view state) why.now → IfOk result (λ a. IsRightAnswer t o p (answer_view a)) }
+    ensures wants { IfErr result (λ e. IsNoInjection e → StepWants (language_view language.now) (state_view run.now.state).sort why.now) }
 {
     match why {
         StepOutcome::Foreign { rule } => by_foreign(alloc, rules, run, state, *rule),
@@ -132,8 +138,9 @@ fn open_end(
     run: &Run,
     state: Parts,
 ) -> Result<Answer, WritingError>
-    ensures { (t : Theory) (o : model.Options) (p : KorePattern) → RunsAs t rules.now → language_view language.now ≡ t.signature → IsRunOf t o p run.now → IsStateWritten t.signature (state_view run.now.state) (parts_view state) →
+    ensures answered { (t : Theory) (o : model.Options) (p : KorePattern) → RunsAs t rules.now → language_view language.now ≡ t.signature → IsRunOf t o p run.now → IsStateWritten t.signature (state_view run.now.state) (parts_view state) →
         IfOk result (λ a. IsRightAnswer t o p (answer_view a)) }
+    ensures wants { IfErr result (λ e. IsNoInjection e → EndWants (language_view language.now) (state_view run.now.state).sort run.now.ending) }
 {
     if !is_state_computed(alloc, language.signature, &state) {
         return Err(WritingError::Memory);
@@ -147,7 +154,8 @@ fn open_end(
 /// The answer of a run that is written so, if no open call stands in what is written for its last state: else want of memory is
 /// told.
 fn ended(alloc: Global, language: &Language, executed: Executed) -> Result<Answer, WritingError>
-    ensures { (t : Theory) (o : model.Options) (p : KorePattern) (r : runs.Run) → language_view language.now ≡ t.signature → IsRunOf t o p r → IsToldEnd t r.ending → IsRunWritten t r (executed_view executed) → IfOk result (λ a. IsRightAnswer t o p (answer_view a)) }
+    ensures answered { (t : Theory) (o : model.Options) (p : KorePattern) (r : runs.Run) → language_view language.now ≡ t.signature → IsRunOf t o p r → IsToldEnd t r.ending → IsRunWritten t r (executed_view executed) → IfOk result (λ a. IsRightAnswer t o p (answer_view a)) }
+    ensures refused { IfErr result (λ e. ¬ IsNoInjection e) }
 {
     if !is_state_computed(alloc, language.signature, &executed.state) {
         return Err(WritingError::Memory);
@@ -165,7 +173,8 @@ pub fn answer_of(
     rules: &RuleSet,
     run: &Run,
 ) -> Result<Answer, WritingError>
-    ensures { (t : Theory) (o : model.Options) (p : KorePattern) → RunsAs t rules.now → language_view language.now ≡ t.signature → IsRunOf t o p run.now → IfOk result (λ a. IsRightAnswer t o p (answer_view a)) }
+    ensures answered { (t : Theory) (o : model.Options) (p : KorePattern) → RunsAs t rules.now → language_view language.now ≡ t.signature → IsRunOf t o p run.now → IfOk result (λ a. IsRightAnswer t o p (answer_view a)) }
+    ensures wants { IfErr result (λ e. IsNoInjection e → RunWants (language_view language.now) run.now) }
 {
     if !is_end_right(alloc, language, &run.ending) {
         return Err(WritingError::Memory);

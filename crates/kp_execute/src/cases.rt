@@ -1,10 +1,13 @@
 // The next states of a reply, and the parts where no rule fires.
-ghost use Rattle.std.specs.Prelude.{◌≡◌, ◌++◌, ◌∷◌, [], IfOk, OnOk, string_bytes};
+ghost use Rattle.std.specs.Prelude.{◌≡◌, ◌++◌, ◌∷◌, [], IfErr, IfOk, OnOk, string_bytes};
 ghost use Rattle.std.specs.List.{AllZip};
 ghost use Rattle.kp_results.specs.View.{next_view, nexts_view};
 ghost use Rattle.kp_rule_sets.specs.RuleSets.{RunsAs};
 ghost use Rattle.kp_kore.specs.Theory.{Theory};
+ghost use Rattle.kp_kore.specs.Steps.{AnyByRecursion};
+ghost use Rattle.kp_outward.specs.Errors.{IsNoInjection};
 ghost use Rattle.kp_symbolic.specs.Languages.{language_view};
+ghost use Rattle.kp_execute.specs.Wants.{CasesWant, NextWants, RemainderWants};
 ghost use Rattle.kp_execute.specs.Written.{AreCasesWritten, IsIdAt, IsNextWritten, IsRemainderWritten};
 
 use crate::written::{added_predicate, state_parts};
@@ -18,7 +21,8 @@ use std::alloc::{AllocError, Global};
 
 /// The id of the rule at this place. Want of memory where there is none.
 pub fn id_at(alloc: Global, rules: &RuleSet, place: usize) -> Result<String, WritingError>
-    ensures { (t : Theory) → RunsAs t rules.now → IfOk result (λ id. IsIdAt t place (string_bytes id)) }
+    ensures found { (t : Theory) → RunsAs t rules.now → IfOk result (λ id. IsIdAt t place (string_bytes id)) }
+    ensures refused { IfErr result (λ e. ¬ IsNoInjection e) }
 {
     match rules.rule_at(place) {
         Some(rule) => Ok(String::from_str(alloc, rule.id.as_str())?),
@@ -33,7 +37,8 @@ pub fn next_parts(
     rules: &RuleSet,
     next: &Next,
 ) -> Result<NextState, WritingError>
-    ensures { (t : Theory) → RunsAs t rules.now → language_view language.now ≡ t.signature → IfOk result (λ x. IsNextWritten t next.now (next_view x)) }
+    ensures written { (t : Theory) → RunsAs t rules.now → language_view language.now ≡ t.signature → IfOk result (λ x. IsNextWritten t next.now (next_view x)) }
+    ensures wants { IfErr result (λ e. IsNoInjection e → NextWants (language_view language.now) next.now) }
 {
     let rule = id_at(alloc, rules, next.rule)?;
     let predicate = added_predicate(alloc, language, &next.part.state.sort, &next.part.added)?;
@@ -53,7 +58,8 @@ fn remainder_parts(
     language: &Language,
     part: &Part,
 ) -> Result<NextState, WritingError>
-    ensures { (t : Theory) → language_view language.now ≡ t.signature → IfOk result (λ x. IsRemainderWritten t part.now (next_view x)) }
+    ensures written { (t : Theory) → language_view language.now ≡ t.signature → IfOk result (λ x. IsRemainderWritten t part.now (next_view x)) }
+    ensures wants { IfErr result (λ e. IsNoInjection e → RemainderWants (language_view language.now) part.now) }
 {
     let predicate = added_predicate(alloc, language, &part.state.sort, &part.added)?;
     match state_parts(alloc, language, &part.state) {
@@ -80,7 +86,8 @@ fn all_next_parts(
     rules: &RuleSet,
     nexts: &[Next],
 ) -> Result<Vec<NextState>, WritingError>
-    ensures { (t : Theory) → RunsAs t rules.now → language_view language.now ≡ t.signature → IfOk result (λ xs. AllZip (IsNextWritten t) nexts.now (nexts_view xs.items)) }
+    ensures written { (t : Theory) → RunsAs t rules.now → language_view language.now ≡ t.signature → IfOk result (λ xs. AllZip (IsNextWritten t) nexts.now (nexts_view xs.items)) }
+    ensures wants { IfErr result (λ e. IsNoInjection e → AnyByRecursion (NextWants (language_view language.now)) nexts.now) }
 {
     let mut found = Vec::new(alloc);
     for next in nexts {
@@ -95,7 +102,8 @@ fn remainders(
     language: &Language,
     remainder: &[Part],
 ) -> Result<Vec<NextState>, WritingError>
-    ensures { (t : Theory) → language_view language.now ≡ t.signature → IfOk result (λ xs. AllZip (IsRemainderWritten t) remainder.now (nexts_view xs.items)) }
+    ensures written { (t : Theory) → language_view language.now ≡ t.signature → IfOk result (λ xs. AllZip (IsRemainderWritten t) remainder.now (nexts_view xs.items)) }
+    ensures wants { IfErr result (λ e. IsNoInjection e → AnyByRecursion (RemainderWants (language_view language.now)) remainder.now) }
 {
     let mut found = Vec::new(alloc);
     for part in remainder {
@@ -112,7 +120,8 @@ pub fn case_parts(
     nexts: &[Next],
     remainder: &[Part],
 ) -> Result<Vec<NextState>, WritingError>
-    ensures { (t : Theory) → RunsAs t rules.now → language_view language.now ≡ t.signature → IfOk result (λ xs. AreCasesWritten t nexts.now remainder.now (nexts_view xs.items)) }
+    ensures written { (t : Theory) → RunsAs t rules.now → language_view language.now ≡ t.signature → IfOk result (λ xs. AreCasesWritten t nexts.now remainder.now (nexts_view xs.items)) }
+    ensures wants { IfErr result (λ e. IsNoInjection e → CasesWant (language_view language.now) nexts.now remainder.now) }
 {
     let mut found = all_next_parts(alloc, language, rules, nexts)?;
     let mut others = remainders(alloc, language, remainder)?;

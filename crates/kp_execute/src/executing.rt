@@ -9,6 +9,7 @@ ghost use Rattle.kp_kore.specs.Theory.{Theory};
 ghost use Rattle.kp_kore.specs.Executions as model;
 ghost use Rattle.kp_kore.specs.View.{view, sort_view};
 ghost use Rattle.kp_names.specs.Met.{Lists};
+ghost use Rattle.kp_outward.specs.Errors.{IsNoInjection};
 ghost use Rattle.kp_kore.specs.Parts.{variable_names};
 ghost use Rattle.kp_results.specs.View.{options_view};
 ghost use Rattle.kp_rule_sets.specs.RuleSets.{RunsAs};
@@ -20,6 +21,7 @@ ghost use Rattle.kp_unify.specs.Views.{signature_of};
 ghost use Rattle.kp_execute.specs.Answers.{IsRightAnswer, IsUnexecuted, answer_view};
 ghost use Rattle.kp_execute.specs.Known.{Begins, IsRunOf};
 ghost use Rattle.kp_execute.specs.Told.{IsReadRight};
+ghost use Rattle.kp_execute.specs.Wants.{LacksInjection, RunWants, TellsNoInjection};
 
 use crate::answer::{Answer, ExecuteError};
 use crate::answered::answer_of;
@@ -64,7 +66,8 @@ fn names_of(alloc: Global, pattern: &Pattern) -> Result<Names, AllocError>
 
 /// Why the pattern isn't read. The literals of a verified pattern can be read.
 fn unread(error: TermFault) -> ExecuteError
-    ensures { (g : KoreSignature) (p : KorePattern) → IsToldOf (state_fault g p) error → IsUnexecuted g p result }
+    ensures told { (g : KoreSignature) (p : KorePattern) → IsToldOf (state_fault g p) error → IsUnexecuted g p result }
+    ensures wants { ¬ TellsNoInjection result }
 {
     match error {
         TermFault::Memory | TermFault::Unread => ExecuteError::Memory,
@@ -85,7 +88,8 @@ fn without_injection(signature: &Signature) -> ExecuteError
 
 /// Why a run isn't written. The numbers of a verified pattern can be read.
 fn unwritten(signature: &Signature, error: WritingError) -> ExecuteError
-    ensures { (p : KorePattern) → IsUnexecuted (signature_view signature.now) p result }
+    ensures told { (p : KorePattern) → IsUnexecuted (signature_view signature.now) p result }
+    ensures wants { TellsNoInjection result → IsNoInjection error }
 {
     match error {
         WritingError::Memory | WritingError::Shape => ExecuteError::Memory,
@@ -95,7 +99,8 @@ fn unwritten(signature: &Signature, error: WritingError) -> ExecuteError
 
 /// Why a run isn't made.
 fn unstepped(error: CompileError) -> ExecuteError
-    ensures { (g : KoreSignature) (p : KorePattern) → IsUnexecuted g p result }
+    ensures told { (g : KoreSignature) (p : KorePattern) → IsUnexecuted g p result }
+    ensures wants { ¬ TellsNoInjection result }
 {
     match error {
         CompileError::Memory => ExecuteError::Memory,
@@ -112,6 +117,7 @@ fn answered(
 ) -> Result<Answer, ExecuteError>
     ensures found { (t : Theory) (o : model.Options) (p : KorePattern) → RunsAs t rules.now → language_view language.now ≡ t.signature → IsRunOf t o p run.now → IfOk result (λ a. IsRightAnswer t o p (answer_view a)) }
     ensures refused { (p : KorePattern) → IfErr result (IsUnexecuted (language_view language.now) p) }
+    ensures wants { IfErr result (λ e. TellsNoInjection e → RunWants (language_view language.now) run.now) }
 {
     match answer_of(alloc, language, rules, run) {
         Ok(answer) => Ok(answer),
@@ -130,6 +136,7 @@ fn by_run(
     requires { IsHeadTableOf (signature_of setting) setting.table.now }
     ensures found { (t : Theory) (p : KorePattern) → Begins t p (state_view state) setting.entry rules.now → IfOk result (λ a. IsRightAnswer t (options_view options.now) p (answer_view a)) }
     ensures refused { (p : KorePattern) → IfErr result (IsUnexecuted (signature_of setting.entry) p) }
+    ensures wants { (t : Theory) (p : KorePattern) → Begins t p (state_view state) setting.entry rules.now → IfErr result (λ e. TellsNoInjection e → LacksInjection t (options_view options.now) p) }
 {
     if !have_own_ids(alloc, rules)? {
         return Err(ExecuteError::Memory);
@@ -154,6 +161,8 @@ fn executed(
     ensures found { (t : Theory) → let p = view pattern.now in RunsAs t rules.now → language_view language.now ≡ t.signature → IsReadRight t.signature p (state_view state) →
         IfOk result (λ a. IsRightAnswer t (options_view options.now) p (answer_view a)) }
     ensures refused { (p : KorePattern) → IfErr result (IsUnexecuted (language_view language.now) p) }
+    ensures wants { (t : Theory) → let p = view pattern.now in RunsAs t rules.now → language_view language.now ≡ t.signature → IsReadRight t.signature p (state_view state) →
+        IfErr result (λ e. TellsNoInjection e → LacksInjection t (options_view options.now) p) }
 {
     let met = names_of(alloc, pattern)?;
     let setting = Setting {
@@ -184,6 +193,8 @@ pub fn execute(
         IfOk result (λ a. IsRightAnswer t (options_view options.now) p (answer_view a)) }
     ensures clear { OnOk result (state_fault (language_view language.now) (view pattern.now) ≡ None) }
     ensures refused { IfErr result (IsUnexecuted (language_view language.now) (view pattern.now)) }
+    ensures wants { (t : Theory) → let p = view pattern.now in RunsAs t rules.now → language_view language.now ≡ t.signature → VerifiesAs t.signature p (sort_view sort) →
+        IfErr result (λ e. TellsNoInjection e → LacksInjection t (options_view options.now) p) }
 {
     match inward(alloc, language, pattern, sort) {
         Ok(state) => executed(alloc, language, table, rules, pattern, state, options),

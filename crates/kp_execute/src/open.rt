@@ -1,6 +1,7 @@
 // What isn't decided of a run's last state, as it is told.
-ghost use Rattle.std.specs.Prelude.{◌≡◌, IfOk, string_bytes};
+ghost use Rattle.std.specs.Prelude.{◌≡◌, IfErr, IfOk, string_bytes};
 ghost use Rattle.kp_kore.specs.Theory.{Theory};
+ghost use Rattle.kp_outward.specs.Errors.{IsNoInjection};
 ghost use Rattle.kp_results.specs.View.{undecided_view};
 ghost use Rattle.kp_symbolic.specs.States.{SymbolicState};
 ghost use Rattle.kp_symbolic.specs.Languages.{language_view};
@@ -10,6 +11,7 @@ ghost use Rattle.kp_step.specs.Limits.{IsPassed};
 ghost use Rattle.kp_step.specs.Views.{limit_view};
 ghost use Rattle.kp_wide.specs.Calls.{call_view};
 ghost use Rattle.kp_execute.specs.Answers.{IsOpenBy, call_of};
+ghost use Rattle.kp_execute.specs.Wants.{ClausesWant};
 
 use crate::written::predicate_of;
 use kp_outward::WritingError;
@@ -30,7 +32,8 @@ pub fn clauses_told(
     told: &Open,
     place: Option<usize>,
 ) -> Result<Undecided, WritingError>
-    ensures { (t : Theory) → language_view language.now ≡ t.signature → IsToldOpen t (state_view state.now) (clauses_view told.now.shown.items) told.now.over place → IfOk result (λ u. IsOpenBy t (state_view state.now) (undecided_view u)) }
+    ensures told { (t : Theory) → language_view language.now ≡ t.signature → IsToldOpen t (state_view state.now) (clauses_view told.now.shown.items) told.now.over place → IfOk result (λ u. IsOpenBy t (state_view state.now) (undecided_view u)) }
+    ensures wants { IfErr result (λ e. IsNoInjection e → ClausesWant (language_view language.now) (state_view state.now).sort (clauses_view told.now.shown.items)) }
 {
     match predicate_of(alloc, language, &state.sort, &told.shown)? {
         Some(predicate) => Ok(Undecided::Predicate {

@@ -1,14 +1,17 @@
 // The result of execute that a run's end is written as.
-ghost use Rattle.std.specs.Prelude.{◌≡◌, IfOk, OnOk, [], true};
+ghost use Rattle.std.specs.Prelude.{◌≡◌, IfErr, IfOk, OnOk, [], true};
 ghost use Rattle.std.specs.List.{list_all};
 ghost use Rattle.kp_results.specs.Results as parts;
 ghost use Rattle.kp_results.specs.View.{executed_view, nexts_view, reason_view, state_view as parts_view};
 ghost use Rattle.kp_rule_sets.specs.RuleSets.{RunsAs};
+ghost use Rattle.kp_kore.specs.Syntax.{KoreSort};
 ghost use Rattle.kp_kore.specs.Theory.{Theory};
+ghost use Rattle.kp_outward.specs.Errors.{IsNoInjection};
 ghost use Rattle.kp_symbolic.specs.Languages.{language_view};
-ghost use Rattle.kp_symbolic.specs.View.{variables_view};
+ghost use Rattle.kp_symbolic.specs.View.{state_view, variables_view};
 ghost use Rattle.kp_execute.specs.Ended.{IsCutWritten, IsEndOf, IsEnded, IsStopWritten, result_with};
 ghost use Rattle.kp_execute.specs.Lost.{mentions_none_lost, parts_variables};
+ghost use Rattle.kp_execute.specs.Wants.{CasesWant, EndWants, NextWants, RunWants};
 ghost use Rattle.kp_execute.specs.Written.{AreCasesWritten, IsShown};
 
 use crate::cases::{add, case_parts, id_at, next_parts};
@@ -56,8 +59,9 @@ fn branching(
     nexts: &[Next],
     remainder: &[Part],
 ) -> Result<End, WritingError>
-    ensures { (t : Theory) → RunsAs t rules.now → language_view language.now ≡ t.signature →
+    ensures written { (t : Theory) → RunsAs t rules.now → language_view language.now ≡ t.signature →
         IfOk result (λ e. (reason_view e.reason ≡ parts.branching) × AreCasesWritten t nexts.now remainder.now (nexts_view e.nexts.items)) }
+    ensures wants { IfErr result (λ e. IsNoInjection e → CasesWant (language_view language.now) nexts.now remainder.now) }
 {
     let nexts = case_parts(alloc, language, rules, nexts, remainder)?;
     Ok(End {
@@ -73,7 +77,8 @@ fn cut_point(
     rules: &RuleSet,
     next: &Next,
 ) -> Result<End, WritingError>
-    ensures { (t : Theory) → RunsAs t rules.now → language_view language.now ≡ t.signature → IfOk result (λ e. IsCutWritten t next.now (reason_view e.reason) (nexts_view e.nexts.items)) }
+    ensures written { (t : Theory) → RunsAs t rules.now → language_view language.now ≡ t.signature → IfOk result (λ e. IsCutWritten t next.now (reason_view e.reason) (nexts_view e.nexts.items)) }
+    ensures wants { IfErr result (λ e. IsNoInjection e → NextWants (language_view language.now) next.now) }
 {
     let rule = id_at(alloc, rules, next.rule)?;
     let mut nexts = Vec::new(alloc);
@@ -86,7 +91,8 @@ fn cut_point(
 
 /// The last step was by the rule of this place, which is one to stop behind.
 fn terminal(alloc: Global, rules: &RuleSet, place: usize) -> Result<End, WritingError>
-    ensures { (t : Theory) → RunsAs t rules.now → IfOk result (λ e. IsStopWritten t place (reason_view e.reason) (nexts_view e.nexts.items)) }
+    ensures written { (t : Theory) → RunsAs t rules.now → IfOk result (λ e. IsStopWritten t place (reason_view e.reason) (nexts_view e.nexts.items)) }
+    ensures refused { IfErr result (λ e. ¬ IsNoInjection e) }
 {
     let rule = id_at(alloc, rules, place)?;
     Ok(without_nexts(alloc, Reason::Terminal { rule }))
@@ -99,7 +105,8 @@ fn end_of(
     rules: &RuleSet,
     ending: &Ending,
 ) -> Result<Option<End>, WritingError>
-    ensures { (t : Theory) → RunsAs t rules.now → language_view language.now ≡ t.signature → IfOk result (IsEndOf t ending.now) }
+    ensures written { (t : Theory) → RunsAs t rules.now → language_view language.now ≡ t.signature → IfOk result (IsEndOf t ending.now) }
+    ensures wants { IfErr result (λ e. IsNoInjection e → (sort : KoreSort) → EndWants (language_view language.now) sort ending.now) }
 {
     match ending {
         Ending::Vacuous => Ok(Some(without_nexts(alloc, Reason::Vacuous))),
@@ -147,6 +154,7 @@ fn result_of(
     ensures same { IfOk result (λ x. executed_view x ≡ result_with depth (parts_view written) (reason_view end.reason) (nexts_view end.nexts.items)) }
     ensures none_lost { OnOk result (list_all (mentions_none_lost (variables_view state.now.variables.items) (parts_variables (parts_view written))) (nexts_view end.nexts.items) ≡ true) }
     ensures shown { OnOk result (IsShown (parts_view written).predicate) }
+    ensures refused { IfErr result (λ e. ¬ IsNoInjection e) }
 {
     test_told(alloc, state, &written, &end.nexts)?;
     let End { reason, nexts } = end;
@@ -170,7 +178,8 @@ pub fn run_parts(
     rules: &RuleSet,
     run: &Run,
 ) -> Result<Ended, WritingError>
-    ensures { (t : Theory) → RunsAs t rules.now → language_view language.now ≡ t.signature → IfOk result (IsEnded t run.now) }
+    ensures written { (t : Theory) → RunsAs t rules.now → language_view language.now ≡ t.signature → IfOk result (IsEnded t run.now) }
+    ensures wants { IfErr result (λ e. IsNoInjection e → RunWants (language_view language.now) run.now) }
 {
     let written = state_parts(alloc, language, &run.state)?;
     match end_of(alloc, language, rules, &run.ending)? {

@@ -28,6 +28,7 @@ use Rattle.kp_server.specs.declared.failure.Failure.TheVariants as failure
 use Rattle.kp_simplify_reply.specs.Answered.{IsReplyLine}
 use Rattle.kp_simplify_reply.proofs.Lines.{right_line}
 use Rattle.kp_execute.specs.Answers.{RunAnswer, executed, left_open, IsRightAnswer, IsUnexecuted}
+use Rattle.kp_execute.specs.Wants.{LacksInjection, TellsNoInjection}
 use Rattle.kp_execute.specs.declared.answer.ExecuteError.{ExecuteError}
 use Rattle.kp_execute.specs.declared.answer.ExecuteError.TheVariants as error
 use Rattle.kp_execute_reply.specs.Answered.{IsExecuted, reply_of, IsUntold, no_injection, no_state, no_tag, IsUnderstoodAs, by_values, told, foreign, left_out, IsExecutedAs, faulty}
@@ -110,8 +111,9 @@ foreign_line r s id options p e name is h l =
 pub other_shape_untold : (s : Setting) (options : ExecuteOptions) (p : KorePattern) (e : ExecuteError) → e ≡ error.OtherShape → IsUnexecuted s.theory.signature p e → IsUntold s options p
 other_shape_untold s options p e is h = no_state (subst (IsUnexecuted s.theory.signature p) is h)
 
-pub no_injection_untold : (s : Setting) (options : ExecuteOptions) (p : KorePattern) (e : ExecuteError) → e ≡ error.NoInjection → IsUnexecuted s.theory.signature p e → IsUntold s options p
-no_injection_untold s options p e is h = no_injection (subst (IsUnexecuted s.theory.signature p) is h)
+pub no_injection_untold : (s : Setting) (options : ExecuteOptions) (p : KorePattern) (e : ExecuteError) → e ≡ error.NoInjection → IsUnexecuted s.theory.signature p e → (TellsNoInjection e → LacksInjection s.theory (asked_options options) p) →
+    IsUntold s options p
+no_injection_untold s options p e is h wants = no_injection (subst (IsUnexecuted s.theory.signature p) is h) (wants is)
 
 -- ---- signatures
 
@@ -121,6 +123,10 @@ clear_over g h same p c = subst (λ k. state_fault k p ≡ None) same c
 
 pub unexecuted_over : (g h : KoreSignature) → g ≡ h → (p : KorePattern) (e : ExecuteError) → IsUnexecuted g p e → IsUnexecuted h p e
 unexecuted_over g h same p e u = subst (λ k. IsUnexecuted k p e) same u
+
+-- the run of what was asked
+pub lacks_over : (t : Theory) (o : theory.Options) (q : theory.Options) → o ≡ q → (p : KorePattern) (e : ExecuteError) → (TellsNoInjection e → LacksInjection t o p) → TellsNoInjection e → LacksInjection t q p
+lacks_over t o q same p e wants is = subst (λ k. LacksInjection t k p) same (wants is)
 
 -- the answer to what was asked
 pub right_over : (t : Theory) (o : theory.Options) (q : theory.Options) → o ≡ q → (p : KorePattern) (a : RunAnswer) → IsRightAnswer t o p a → IsRightAnswer t q p a

@@ -22,6 +22,7 @@ use Rattle.kp_server.specs.Right.{IsTold}
 use Rattle.kp_server.specs.Setting.{Setting}
 use Rattle.kp_simplify_reply.specs.Answered.{IsFirstFault}
 use Rattle.kp_execute.specs.Answers.{RunAnswer, executed, left_open, IsRightAnswer}
+use Rattle.kp_execute.specs.Wants.{LacksInjection}
 
 -- ---- answers
 
@@ -41,11 +42,11 @@ reply_of id (left_open depth state u) = option_map (result_reply id) (aborted_tr
 
 -- ---- refusals
 
--- why no answer is told of a verified pattern: it isn't one term and predicates; the signature has no inj for what would be
--- written; Kore JSON has no tag for a pattern in the answer
+-- why no answer is told of a verified pattern: it isn't one term and predicates; the signature has no inj, and one would stand in
+-- what is written for the end of a right run; Kore JSON has no tag for a pattern in the answer
 pub data IsUntold (s : Setting) (options : ExecuteOptions) (p : KorePattern) : Type 0 where
   no_state : state_fault s.theory.signature p ≡ Some place.other_shape → IsUntold s options p
-  no_injection : meaning_of s.theory.signature injection_name ≢ injection → IsUntold s options p
+  no_injection : meaning_of s.theory.signature injection_name ≢ injection → LacksInjection s.theory (asked_options options) p → IsUntold s options p
   no_tag : (id : RequestId) (a : RunAnswer) → IsRightAnswer s.theory (asked_options options) p a → reply_of id a ≡ None → IsUntold s options p
 
 -- ---- replies

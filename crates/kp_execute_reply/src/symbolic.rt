@@ -16,6 +16,7 @@ ghost use Rattle.kp_signature.specs.Verify.{VerifiesAs};
 ghost use Rattle.kp_symbolic.specs.Languages.{language_view};
 ghost use Rattle.kp_simplify_reply.specs.Answered.{IsReplyLine};
 ghost use Rattle.kp_execute.specs.Answers.{IsRightAnswer, IsUnexecuted, answer_view};
+ghost use Rattle.kp_execute.specs.Wants.{LacksInjection, TellsNoInjection};
 ghost use Rattle.kp_execute_reply.specs.Answered.{IsUnderstoodAs, reply_of};
 ghost use Rattle.kp_execute_reply.specs.Lines.{IsLineOf, or_t2};
 
@@ -89,7 +90,8 @@ fn answer_line(alloc: Global, id: &Id, answer: &Answer) -> Result<Vec<u8>, Alloc
 
 /// The line that tells why a pattern isn't executed.
 fn refused_line(alloc: Global, id: &Id, error: ExecuteError) -> Result<Vec<u8>, AllocError>
-    ensures { (s : Setting) (options : ExecuteOptions) (p : KorePattern) → IsUnexecuted s.theory.signature p error → IfOk result (λ line. IsReplyLine (IsUnderstoodAs s (id_view id.now) options p) line.items) }
+    ensures { (s : Setting) (options : ExecuteOptions) (p : KorePattern) → IsUnexecuted s.theory.signature p error → (TellsNoInjection error → LacksInjection s.theory (asked_options options) p) →
+        IfOk result (λ line. IsReplyLine (IsUnderstoodAs s (id_view id.now) options p) line.items) }
 {
     match error {
         ExecuteError::Memory => Err(AllocError),

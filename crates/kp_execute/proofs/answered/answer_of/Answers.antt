@@ -1,11 +1,24 @@
 use Rattle.std.proofs.Common.{subst}
 use Rattle.kp_execute.specs.Ended.{IsEnded}
+use Rattle.std.proofs.lemmas.Result.{IfErr-weaker, err_from_is_err_and}
+use Rattle.kp_execute.specs.Wants.{in_end}
 use Rattle.kp_execute.proofs.answered.answer_of.Goals as goal
 
-pub returns-in-Result : goal.returns-in-Result
-returns-in-Result c = λ t o p runs same is.
-    c.ended.ensures t o p c.args.run.now same is (c.is_end_right.ensures t same c.if-not-is_end_right.false) (subst (IsEnded t c.args.run.now) c.in-Result.is (c.in_ok-executed.ensures t runs same))
+pub returns-in-Result-clause-answered : goal.returns-in-Result-clause-answered
+returns-in-Result-clause-answered c = λ t o p runs same is.
+    c.ended.ensures.answered t o p c.args.run.now same is (c.is_end_right.ensures t same c.if-not-is_end_right.false) (subst (IsEnded t c.args.run.now) c.in-Result.is (c.in_ok-executed.ensures.written t runs same))
 
-pub returns-in-Open : goal.returns-in-Open
-returns-in-Open c = λ t o p runs same is.
-    c.open_end.ensures t o p runs same is (subst (IsEnded t c.args.run.now) c.in-Open.is (c.in_ok-executed.ensures t runs same)).0
+pub returns-in-Open-clause-answered : goal.returns-in-Open-clause-answered
+returns-in-Open-clause-answered c = λ t o p runs same is.
+    c.open_end.ensures.answered t o p runs same is (subst (IsEnded t c.args.run.now) c.in-Open.is (c.in_ok-executed.ensures.written t runs same)).0
+
+pub returns-in_err-executed-clause-wants : goal.returns-in_err-executed-clause-wants
+returns-in_err-executed-clause-wants c =
+    let p = err_from_is_err_and c.from_residual.result c.from_residual.ensures.1 in
+    rw (p.1, p.2) c.in_err-executed.ensures.wants
+
+pub returns-in-Result-clause-wants : goal.returns-in-Result-clause-wants
+returns-in-Result-clause-wants c = IfErr-weaker c.ended.result _ _ (λ e no is. absurd (no is)) c.ended.ensures.refused
+
+pub returns-in-Open-clause-wants : goal.returns-in-Open-clause-wants
+returns-in-Open-clause-wants c = IfErr-weaker c.open_end.result _ _ (λ e w is. in_end (w is)) c.open_end.ensures.wants

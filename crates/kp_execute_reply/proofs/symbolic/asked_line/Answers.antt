@@ -3,7 +3,7 @@ use Rattle.kp_replies.specs.Right.{asked_options}
 use Rattle.kp_results.specs.View as results
 use Rattle.kp_symbolic.specs.Languages.{language_view}
 use Rattle.kp_execute.specs.Answers.{answer_view}
-use Rattle.kp_execute_reply.proofs.Lines.{clear_over, right_over, unexecuted_over}
+use Rattle.kp_execute_reply.proofs.Lines.{clear_over, lacks_over, right_over, unexecuted_over}
 use Rattle.kp_execute_reply.proofs.symbolic.asked_line.Goals as goal
 
 pub returns-in-Ok : goal.returns-in-Ok
@@ -16,3 +16,4 @@ pub returns-in-Err : goal.returns-in-Err
 returns-in-Err c = λ s options runs same asked verified.
     let p = view c.args.pattern.now in
     c.refused_line.ensures s options p (unexecuted_over (language_view c.args.language.now) s.theory.signature same p c.in-Err.error c.in-Err.ensures.refused)
+    (lacks_over s.theory (results.options_view c.args.asked.now) (asked_options options) asked p c.in-Err.error (c.in-Err.ensures.wants s.theory runs same verified))
