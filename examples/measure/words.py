@@ -9,6 +9,7 @@ words.py clauses: lists the clauses of more than 260 characters, the longest fir
 - A limit is a constant of the code once.
 - A public type's name is that of one crate, or stands in the document's table of names of several types.
 - A file of the repository that a document names is there, and so is the definition that it names behind a file.
+- The tables of docs/ARCHITECTURE.md have the crates of crates.txt but those of tests, in order.
 - No function, outside the crates of tests, has a name that nobody could guess (VAGUE), or is without its `///` line.
 """
 import glob
@@ -139,6 +140,16 @@ def files():
             found.add(f"{document}: there is no {name}")
 
 
+def crates():
+    """The tables of crates are those of crates.txt."""
+    listed = [it for it in re.findall(r"(?m)^(\w+):", text_of("crates.txt")) if not it.endswith("_trials")]
+    told = re.findall(r"(?m)^\| `(kp\w+)` \|", text_of("docs/ARCHITECTURE.md"))
+    for name in sorted(set(listed) ^ set(told)):
+        found.add(f"docs/ARCHITECTURE.md: `{name}` stands in one of crates.txt and the tables of crates")
+    if set(listed) == set(told) and listed != told:
+        found.add("docs/ARCHITECTURE.md: the tables of crates are in another order than crates.txt")
+
+
 def functions():
     """No vague name, and a line above each function."""
     for path in sources():
@@ -168,7 +179,7 @@ def lengths():
                 clauses.append((size, f"{path}:{text[: it.start()].count(chr(10)) + 1}"))
 
 
-for rule in (definitions, errors, limits, types, files, functions, lengths):
+for rule in (definitions, errors, limits, types, files, crates, functions, lengths):
     rule()
 if sys.argv[1:] == ["clauses"]:
     print("\n".join(f"{size} {place}" for size, place in sorted(clauses, reverse=True)))
