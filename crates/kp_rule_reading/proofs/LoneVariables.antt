@@ -1,8 +1,9 @@
 -- A sort that has a meet with each sort that shares heads with it, by numbers and back.
-use Rattle.std.proofs.Common.{◌≡◌, sym, subst, ◌∙◌, ℕ, ◌↔◌, ◌⊎◌, inl, inr, List, Contains}
-use Rattle.kp_kore.specs.Syntax.{KoreSort}
+use Rattle.std.proofs.Common.{◌≡◌, sym, subst, ◌∙◌, ℕ, ◌↔◌, ◌⊎◌, inl, inr, Bool, List, Contains}
+use Rattle.std.specs.Prelude.{Result, IfOk, MatchBool}
+use Rattle.kp_kore.specs.Syntax.{Text, KoreSort, KorePattern, variable}
 use Rattle.kp_kore.specs.Signature.{KoreSignature, IsBelow, itself, through, Head}
-use Rattle.kp_kore.specs.Foreign.{Meet}
+use Rattle.kp_kore.specs.Foreign.{Meet, LoneVariableSplits}
 use Rattle.kp_signature.specs.Edges.{stays, goes, IsNumber, IsReachedFrom}
 use Rattle.kp_signature.specs.Order.{sorts_of}
 use Rattle.kp_signature.proofs.Below.{onwards}
@@ -140,3 +141,13 @@ module _ (g : KoreSignature) (x : SortIndex) (ix : IsIndexOf g x) where
         let own = (ix.heads n o.0 o.1).0 shared.heads in
         let a = sort_over k n o.0 o.1 shared.second in
         numbers_of_meet k a.0 a.1 (split a.0 own.0 ((o.0, own.1, a.2), (o.0, own.1, o.2)))
+
+-- ---- the left term
+
+lone_at : {E : Type 0} (g : KoreSignature) (x : Text) (t : KoreSort) (r : Result Bool E) → IfOk r (λ b. MatchBool b (SortSplits g t) (¬ SortSplits g t)) →
+    IfOk r (λ b. MatchBool b (LoneVariableSplits g (variable x t)) (¬ LoneVariableSplits g (variable x t)))
+lone_at g x t r h = h
+
+pub lone_by : {E : Type 0} (g : KoreSignature) (p : KorePattern) (x : Text) (t : KoreSort) → p ≡ variable x t → (r : Result Bool E) → IfOk r (λ b. MatchBool b (SortSplits g t) (¬ SortSplits g t)) →
+    IfOk r (λ b. MatchBool b (LoneVariableSplits g p) (¬ LoneVariableSplits g p))
+lone_by g p x t e r h = subst (λ q. IfOk r (λ b. MatchBool b (LoneVariableSplits g q) (¬ LoneVariableSplits g q))) (sym e) (lone_at g x t r h)
