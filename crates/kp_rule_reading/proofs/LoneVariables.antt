@@ -1,8 +1,8 @@
 -- A sort that has a meet with each sort that shares heads with it, by numbers and back.
-use Rattle.std.proofs.Common.{◌≡◌, sym, subst, ◌∙◌, ℕ, ◌↔◌, ◌⊎◌, inl, inr, Bool, List, Contains}
+use Rattle.std.proofs.Common.{◌≡◌, sym, subst, ◌∙◌, ℕ, ◌↔◌, inl, inr, Bool, List, Contains}
 use Rattle.std.specs.Prelude.{Result, IfOk, MatchBool}
 use Rattle.kp_kore.specs.Syntax.{Text, KoreSort, KorePattern, variable}
-use Rattle.kp_kore.specs.Signature.{KoreSignature, IsBelow, itself, through, Head}
+use Rattle.kp_kore.specs.Signature.{KoreSignature, IsBelow, itself, through}
 use Rattle.kp_kore.specs.Foreign.{Meet, LoneVariableSplits}
 use Rattle.kp_signature.specs.Edges.{stays, goes, IsNumber, IsReachedFrom}
 use Rattle.kp_signature.specs.Order.{sorts_of}
