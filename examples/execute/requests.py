@@ -18,7 +18,7 @@ sys.path += [os.path.join(os.path.dirname(os.path.abspath(__file__)), "..", it) 
 import steps
 from model import literal_json, sort_json, wrapped
 from steps import SMALL, application, conjuncts, connective, definition_text, firing, free_variables, has_instance
-from steps import instances, is_open, is_true, meets_skeleton, parts_of, pool, solutions, successors, value_of, within
+from steps import instances, is_open, is_true, meets_skeleton, parts_of, pool, renamed, solutions, successors, value_of, within
 
 SCHEMA = {
     "vacuous": [set()],
@@ -164,12 +164,6 @@ class Maker(steps.Maker):
             self.random.shuffle(parts)
             return connective("and", parts[0], connective("and", *parts[1:]))
         return parts[0] if len(parts) == 1 else connective("and", *parts)
-
-
-def renamed(p, old, new):
-    if p[0] == "variable":
-        return (p[0], new, p[2]) if p[1] == old else p
-    return p if p[0] == "literal" else (*p[:3], [renamed(it, old, new) for it in p[3]])
 
 
 def make(seed, definitions, requests):

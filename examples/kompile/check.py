@@ -52,7 +52,7 @@ def imp_requests():
         request("a quotient", imp("n = n / 2 ; ~> .", n="X")),
         request("both", imp("if (true && false) { } else { } ~> .")),
         request("an identifier", imp("Q:Id ~> .", n="X", sum="Y")),
-        request("an identifier, not sum", imp("Q:Id = 1 ; ~> .", n="X", sum="Y")),
+        request("an identifier, assigned", imp("Q:Id = 1 ; ~> .", n="X", sum="Y")),
         request("an unbound one", imp("n = x ; ~> .")),
         request("a truth value", imp("if (T:Bool) { n = 1 ; } else { n = 2 ; } ~> .")),
         request("blocks", imp("if (0 <= n) C:Block else D:Block ~> .", n="X", where=["X == 7"])),

@@ -307,6 +307,12 @@ def bind_by(p, v):
     return None
 
 
+def renamed(p, old, new):
+    if p[0] == "variable":
+        return (p[0], new, p[2]) if p[1] == old else p
+    return p if p[0] == "literal" else (*p[:3], [renamed(it, old, new) for it in p[3]])
+
+
 def solutions(formulas, variables, v):
     """The valuations of these variables, beside v, that make the formulas true."""
     v, waiting, changed = dict(v), list(formulas), True
@@ -326,9 +332,12 @@ def solutions(formulas, variables, v):
                     later.append(p)
                 else:
                     changed = True
-            elif p[1] == "exists" and p[3][0][1] not in v:
-                variables = {**variables, p[3][0][1]: p[3][0][2]}
-                later += conjuncts(p[3][1])
+            elif p[1] == "exists":
+                name = p[3][0][1]
+                while name in v or name in variables:
+                    name += "'"
+                variables = {**variables, name: p[3][0][2]}
+                later += conjuncts(renamed(p[3][1], p[3][0][1], name))
                 changed = True
             else:
                 later.append(p)
