@@ -229,10 +229,11 @@ def grown(sort, found, source, literals):
 
 
 def has_instance(predicate, term, clauses, own):
-    """Variables that stand in the predicate alone are chosen first: the others are then told by equations."""
+    """Variables that no equation tells are chosen first: the others are then told by equations."""
     parts = [*clauses, *steps.conjuncts(predicate)]
     every = {name: of for it in parts for name, of in steps.free_variables(it).items()}
-    order = {**{name: of for name, of in every.items() if name not in own}, **own}
+    told = {it[3][0][1] for it in parts if it[1] == "equals" and it[3][0][0] == "variable"}
+    order = {**{name: of for name, of in every.items() if name not in own and name not in told}, **every, **own}
     return any(True for _ in steps.solutions(parts, order, {}))
 
 
