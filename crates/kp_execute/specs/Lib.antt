@@ -6,5 +6,6 @@ pub mod Endings
 pub mod Laws
 pub mod Lost
 pub mod Onward
+pub mod Order
 pub mod Told
 pub mod Written
