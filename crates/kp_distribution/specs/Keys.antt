@@ -5,7 +5,7 @@ use Rattle.kp_kore.specs.Syntax.{Text}
 use Rattle.kp_kore.specs.Value.{Value, whole, truth, token, constructed}
 use Rattle.kp_symbolic.specs.Alike.{literals_same}
 use Rattle.kp_symbolic.specs.Formulas.{clauses_same}
-use Rattle.kp_symbolic.specs.States.{Atom, same, has_head, quoted, Literal}
+use Rattle.kp_symbolic.specs.States.{HeadTest, one_head, head_of_sort, Atom, same, has_head, quoted, Literal}
 use Rattle.kp_symbolic.specs.Terms.{SymbolicTerm, unknown, offset, known, headed, SymbolicTerms, no_terms, next_term}
 use Rattle.kp_symbolic.specs.View.{clause_view}
 use Rattle.kp_distribution.specs.declared.keyed.Keyed.{Keyed}
@@ -46,9 +46,14 @@ with_term k (offset x c) = with_argument k (offset x c)
 with_term k (known u) = with_argument k (known u)
 with_term k (headed f ts) = with_arguments k ts
 
+-- a key with the constructor whose head is asked for
+abbrev pub with_test : ℕ → HeadTest → ℕ
+with_test k (one_head f) = with_text k f
+with_test k (head_of_sort s) = k
+
 abbrev pub with_atom : ℕ → Atom → ℕ
 with_atom k (same s t u) = with_term (with_term k t) u
-with_atom k (has_head x test) = with_text k x.name
+with_atom k (has_head x test) = with_test (with_text k x.name) test
 with_atom k (quoted p rs) = k
 
 -- a key with what stands in a literal, and whether it is to be true

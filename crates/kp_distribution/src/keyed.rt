@@ -1,11 +1,11 @@
 // A number made of a clause's literals, by which most clauses differ.
 ghost use Rattle.std.specs.Prelude.{◌≡◌, map};
 ghost use Rattle.kp_ground.specs.View.{value_view};
-ghost use Rattle.kp_symbolic.specs.View.{term_view, terms_of, atom_view, literal_view, clause_view};
+ghost use Rattle.kp_symbolic.specs.View.{term_view, terms_of, test_view, atom_view, literal_view, clause_view};
 ghost use Rattle.kp_distribution.specs.Keys as model;
 
 use kp_ground::Value;
-use kp_symbolic::{Atom, Clause, Literal, Term};
+use kp_symbolic::{Atom, Clause, HeadTest, Literal, Term};
 
 /// What a key is multiplied by before a further number is added.
 const SPREAD: u128 = 0x9E37_79B9_7F4A_7C15;
@@ -90,13 +90,23 @@ fn with_term(key: u128, term: &Term) -> u128
     }
 }
 
+/// The key with the constructor whose head is asked for.
+fn with_test(key: u128, test: &HeadTest) -> u128
+    ensures { result ≡ model.with_test key (test_view test.now) }
+{
+    match test {
+        HeadTest::Constructor { symbol } => with_text(key, symbol),
+        HeadTest::Sort { .. } => key,
+    }
+}
+
 /// The key with what stands in an atom.
 fn with_atom(key: u128, atom: &Atom) -> u128
     ensures { result ≡ model.with_atom key (atom_view atom.now) }
 {
     match atom {
         Atom::Same { left, right, .. } => with_term(with_term(key, left), right),
-        Atom::Head { variable, .. } => with_text(key, &variable.name),
+        Atom::Head { variable, test } => with_test(with_text(key, &variable.name), test),
         Atom::Quoted { .. } => key,
     }
 }
