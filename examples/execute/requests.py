@@ -18,7 +18,7 @@ sys.path += [os.path.join(os.path.dirname(os.path.abspath(__file__)), "..", it) 
 import steps
 from model import literal_json, sort_json, wrapped
 from steps import SMALL, application, conjuncts, connective, definition_text, firing, free_variables, has_instance
-from steps import instances, is_open, is_true, meets_skeleton, parts_of, pool, solutions, successors, value_of, within
+from steps import instances, is_open, is_true, meets_skeleton, parts_of, pool, renamed, solutions, successors, value_of, within
 
 SCHEMA = {
     "vacuous": [set()],
@@ -155,6 +155,8 @@ class Maker(steps.Maker):
 
     def shaped(self, state):
         """The state with its parts in another order, or with a predicate of a sort without values."""
+        if self.sort != "S":
+            return state
         parts = conjuncts(state)
         if self.chance(0.02):
             parts.append(steps.equals("V", ("variable", "Z", "V"), ("variable", "Z", "V")))
@@ -162,12 +164,6 @@ class Maker(steps.Maker):
             self.random.shuffle(parts)
             return connective("and", parts[0], connective("and", *parts[1:]))
         return parts[0] if len(parts) == 1 else connective("and", *parts)
-
-
-def renamed(p, old, new):
-    if p[0] == "variable":
-        return (p[0], new, p[2]) if p[1] == old else p
-    return p if p[0] == "literal" else (*p[:3], [renamed(it, old, new) for it in p[3]])
 
 
 def make(seed, definitions, requests):
@@ -258,12 +254,19 @@ def clauses_of(tree):
     clauses = conjuncts(unwrapped(tree))
     texts = [compact(tree_of(it)) for it in clauses]
     check(texts == sorted(set(texts)), "clauses out of order")
-    check(tree["term"] == tree_of(predicate_of(clauses)), "a predicate of another form")
+    check(tree["term"] == tree_of(predicate_of(clauses, tree["term"]["sort"]["name"])), "a predicate of another form")
     return clauses
 
 
-def predicate_of(clauses):
-    return clauses[0] if len(clauses) == 1 else connective("and" if clauses else "top", *clauses)
+def predicate_of(clauses, sort="S"):
+    return clauses[0] if len(clauses) == 1 else ("connective", "and" if clauses else "top", [sort], clauses)
+
+
+def sort_of(term):
+    """The sort of a state's term."""
+    if term[0] != "application":
+        return term[-1] if term[0] == "variable" else term[1]
+    return term[2][1] if term[1] == "inj" else (steps.HOOKS[term[1]][2] if term[1] in steps.HOOKS else steps.CONSTRUCTORS[term[1]][1])
 
 
 def is_plain(clause):
@@ -480,7 +483,7 @@ def shortened(line):
 def asked_again(state, bound):
     """A request of a state, or a next state, of a reply."""
     trees = [state[key]["term"] for key in ("term", "predicate") if key in state]
-    pattern = trees[0] if len(trees) == 1 else {"patterns": trees, "sort": sort_json("S"), "tag": "And"}
+    pattern = trees[0] if len(trees) == 1 else {"patterns": trees, "sort": sort_json(sort_of(pattern_of(trees[0]))), "tag": "And"}
     return {**CALL, "params": {"max-depth": bound, "state": wrapped(pattern)}}
 
 

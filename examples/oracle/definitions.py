@@ -134,6 +134,9 @@ class Maker:
         if self.chance(0.05):
             known = []
             rule.left = self.term(rule.sort, known, 2, is_left=True)
+        if self.chance(0.04):
+            known = [("variable", "X0", rule.sort)]
+            rule.left = known[0]
         rule.condition = [self.predicate(known, 1) for _ in range(self.pick([0, 0, 0, 1, 1, 2]))]
         new = [("variable", "NEW", INT)] if self.chance(0.06) else []
         rule.right = self.term(rule.sort, known + new, 3, True)

@@ -159,10 +159,9 @@ def is_literal_sort(definition, sort):
     return sort in (INT, BOOL) or sort in definition.tokens
 
 
-def splits_no_sort(definition, lower, upper):
-    """Whether a variable of the lower sort under `inj` to the upper one can't be told by sorts: some sort below the upper
-    one has heads in common with the lower one, and no sort below both has exactly these."""
-    for sort in definition.below[upper]:
+def has_no_meet(definition, lower, sorts):
+    """Whether one of these sorts has heads in common with the lower one, and no sort below both has exactly these."""
+    for sort in sorts:
         common = definition.heads[sort] & definition.heads[lower]
         both = definition.below[sort] & definition.below[lower]
         if common and not any(definition.heads[it] == common for it in both):
@@ -171,7 +170,13 @@ def splits_no_sort(definition, lower, upper):
 
 
 def is_unsplit(definition, term):
-    return term[0] == "injection" and term[3][0] == "variable" and splits_no_sort(definition, term[1], term[2])
+    """Whether it is a variable under `inj` that can't be told by the sorts below the upper one."""
+    return term[0] == "injection" and term[3][0] == "variable" and has_no_meet(definition, term[1], definition.below[term[2]])
+
+
+def is_lone_unsplit(definition, left):
+    """Whether the left term is a variable alone that can't be told by sorts."""
+    return left[0] == "variable" and has_no_meet(definition, left[2], definition.sorts)
 
 
 def is_foreign(definition, rule):
@@ -181,6 +186,8 @@ def is_foreign(definition, rule):
     if any(symbol in HOOKS for symbol in symbols(rule.left)):
         return True
     if any(is_unsplit(definition, part) for term in terms for part in parts(term)):
+        return True
+    if is_lone_unsplit(definition, rule.left):
         return True
     names = [it[1] for it in variables(rule.left)]
     if any(names.count(it[1]) > 1 and not is_literal_sort(definition, it[2]) for it in variables(rule.left)):

@@ -307,6 +307,12 @@ def bind_by(p, v):
     return None
 
 
+def renamed(p, old, new):
+    if p[0] == "variable":
+        return (p[0], new, p[2]) if p[1] == old else p
+    return p if p[0] == "literal" else (*p[:3], [renamed(it, old, new) for it in p[3]])
+
+
 def solutions(formulas, variables, v):
     """The valuations of these variables, beside v, that make the formulas true."""
     v, waiting, changed = dict(v), list(formulas), True
@@ -326,9 +332,12 @@ def solutions(formulas, variables, v):
                     later.append(p)
                 else:
                     changed = True
-            elif p[1] == "exists" and p[3][0][1] not in v:
-                variables = {**variables, p[3][0][1]: p[3][0][2]}
-                later += conjuncts(p[3][1])
+            elif p[1] == "exists":
+                name = p[3][0][1]
+                while name in v or name in variables:
+                    name += "'"
+                variables = {**variables, name: p[3][0][2]}
+                later += conjuncts(renamed(p[3][1], p[3][0][1], name))
                 changed = True
             else:
                 later.append(p)
@@ -360,9 +369,9 @@ def is_true_over(predicate, v, own):
 
 
 class Rule:
-    def __init__(self, identity, left, condition, right, ensured, priority, new):
+    def __init__(self, identity, left, condition, right, ensured, priority, new, sort="S"):
         self.identity, self.left, self.condition, self.right = identity, left, condition, right
-        self.ensured, self.priority, self.new = ensured, priority, new
+        self.ensured, self.priority, self.new, self.sort = ensured, priority, new, sort
         self.is_foreign = is_foreign(self)
 
     def text(self):
@@ -379,15 +388,16 @@ class Rule:
             attributes += ", owise{}()"
         elif self.priority != 50:
             attributes += f', priority{{}}("{self.priority}")'
-        return f"  axiom{{}} \\rewrites{{S{{}}}}({left}, {text(right)}) [{attributes}]"
+        return f"  axiom{{}} \\rewrites{{{sort_text(self.sort)}}}({left}, {text(right)}) [{attributes}]"
 
 
 def parts_of(p):
     return [p] + ([it for part in p[3] for it in parts_of(part)] if p[0] in ("application", "connective") else [])
 
 
-def splits_no_sort(low, high):
-    for sort in BELOW[high]:
+def has_no_meet(low, sorts):
+    """Whether one of these sorts has heads in common with the lower one, and no sort below both has exactly these."""
+    for sort in sorts:
         common = HEADS[sort] & HEADS[low]
         both = set(BELOW[sort]) & set(BELOW[low])
         if common and not any(HEADS[it] == common for it in both):
@@ -395,13 +405,21 @@ def splits_no_sort(low, high):
     return False
 
 
+def splits_no_sort(low, high):
+    return has_no_meet(low, BELOW[high])
+
+
 def is_unsplit(p):
     return p[0] == "application" and p[1] == "inj" and p[3][0][0] == "variable" and splits_no_sort(*p[2])
 
 
+def is_lone_unsplit(left):
+    return left[0] == "variable" and has_no_meet(left[2], BELOW)
+
+
 def is_foreign(rule):
     every = [it for p in [rule.left, rule.right, *rule.condition, *rule.ensured] for it in parts_of(p)]
-    if any(it[0] == "application" and it[1] == "other" or is_unsplit(it) for it in every):
+    if any(it[0] == "application" and it[1] == "other" or is_unsplit(it) for it in every) or is_lone_unsplit(rule.left):
         return True
     of_left = [it for it in parts_of(rule.left) if it[0] == "variable"]
     names = collections.Counter(it[1] for it in of_left)
@@ -446,6 +464,7 @@ class Maker:
     def __init__(self, seed):
         self.random = random.Random(seed)
         self.variables, self.count = {}, 0
+        self.has_lone, self.sort = False, "S"
 
     def chance(self, share):
         return self.random.random() < share
@@ -564,7 +583,24 @@ class Maker:
 
         return application(name, *[part(s) for s in CONSTRUCTORS[name][0]]), new
 
+    def lone_rule(self, identity):
+        """A rule of which a variable alone is the left term, most often of a sort that has values in common with others."""
+        sort, self.variables, self.has_lone = self.random.choice(["PP", "QQ", "D", "M", "K", "C"]), {}, True
+        left = self.variable(sort, "L", False)
+        right = left if self.chance(0.2) else self.closed(sort)
+        return Rule(identity, left, [], right, [], self.random.choice([20, 50, 50, 200]), {}, sort)
+
+    def lone_state(self):
+        """A state of such a sort: a variable, one under inj, or a closed term."""
+        self.sort, self.variables = self.random.choice(["PP", "QQ", "M", "K"]), {}
+        if self.chance(0.3):
+            return self.closed(self.sort)
+        low = self.random.choice(BELOW[self.sort])
+        return injected(low, self.sort, self.variable(low, "X", False))
+
     def rule(self, identity, heads):
+        if self.chance(0.02):
+            return self.lone_rule(identity)
         self.variables = {}
         repeat = LITERAL_SORTS if self.chance(0.95) else LITERAL_SORTS + ["D", "PP", "M", "C"]
         left = self.configuration(heads, "L", 2, repeat, 0.5)
@@ -581,7 +617,9 @@ class Maker:
         return Rule(identity, left, condition, right, ensured, self.random.choice([20, 50, 50, 50, 100, 200, 200]), new)
 
     def state(self, heads):
-        self.variables = {}
+        if self.has_lone and self.chance(0.5):
+            return self.lone_state()
+        self.sort, self.variables = "S", {}
         term = self.configuration(heads, "X", 2, SORTS + LITERAL_SORTS, 0.65)
         clauses = self.predicates(dict(self.variables), 0.3, 3)
         return connective("and", term, *clauses) if clauses else term

@@ -1,8 +1,7 @@
 -- Clauses that are the same have one key, so comparing keys first tells the same clauses apart.
-use Rattle.std.proofs.Common.{◌≡◌, refl, sym, ap, ap₂, ◌∙◌, ℕ, ℤ, nat_le, Bool, true, false, ◌&&◌, ◌||◌, Option, Some, None, List, [], ◌∷◌, ◌++◌, map}
+use Rattle.std.proofs.Common.{◌≡◌, refl, sym, ap, ap₂, ◌∙◌, ℕ, nat_le, Bool, true, false, ◌&&◌, ◌||◌, List, [], ◌∷◌, ◌++◌, map}
 use Rattle.std.specs.List.{list_any}
-use Rattle.std.specs.Ordering.{int_eq}
-use Rattle.std.proofs.lemmas.Bool.Decides.{Decides-int_eq}
+use Rattle.std.proofs.lemmas.Bool.Decides.{Decides-eqb}
 use Rattle.std.proofs.lemmas.List.{map-append}
 use Rattle.kp_symbolic.specs.Alike.{literals_same}
 use Rattle.kp_symbolic.specs.Formulas.{clauses_same}
@@ -16,14 +15,13 @@ use Rattle.kp_distribution.proofs.AlikeItself.{clauses_same-Decides}
 abbrev pub AreKeyed : List Keyed → Type 0
 AreKeyed ks = map (λ k. k.key) ks ≡ map (λ k. key_of (clause_view k.clause)) ks
 
-key_itself : (k : Option ℤ) → keys_same k k ≡ true
-key_itself (Some n) = (Decides-int_eq n n).1 refl
-key_itself None = refl
+key_itself : (k : ℕ) → keys_same k k ≡ true
+key_itself k = (Decides-eqb k k).1 refl
 
 one_key : (c d : List Literal) → clauses_same literals_same c d ≡ true → keys_same (key_of c) (key_of d) ≡ true
 one_key c d e = ap (λ x. keys_same (key_of c) (key_of x)) (sym ((clauses_same-Decides c d).0 e)) ∙ key_itself (key_of c)
 
-told : (c d : List Literal) (j k : Option ℤ) → j ≡ key_of c → k ≡ key_of d → keys_same j k && clauses_same literals_same c d ≡ clauses_same literals_same c d
+told : (c d : List Literal) (j k : ℕ) → j ≡ key_of c → k ≡ key_of d → keys_same j k && clauses_same literals_same c d ≡ clauses_same literals_same c d
 told c d j k p q = ap₂ (λ x y. keys_same x y && clauses_same literals_same c d) p q ∙ by (clauses_same literals_same c d) (keys_same (key_of c) (key_of d)) (one_key c d)
   where
     by : (a b : Bool) → (a ≡ true → b ≡ true) → b && a ≡ a

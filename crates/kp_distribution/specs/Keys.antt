@@ -1,53 +1,75 @@
--- A number by which most clauses differ, and clauses told apart by their numbers first.
-use Rattle.std.specs.Prelude.{ℤ, Bool, true, false, ◌&&◌, Option, Some, None, List, [], ◌∷◌, map}
-use Rattle.std.specs.Ordering.{int_eq}
+-- A number made of a clause's literals, by which most clauses differ, and clauses told apart by their numbers first.
+use Rattle.std.specs.Prelude.{ℕ, ◌+◌, ◌*◌, ◌%◌, ◌^◌, ◌==◌, ℤ, Bool, ◌&&◌, if◌then◌else◌, List, [], ◌∷◌, map}
+use Rattle.std.specs.Int.{w128, cast_unsigned}
+use Rattle.kp_kore.specs.Syntax.{Text}
+use Rattle.kp_kore.specs.Value.{Value, whole, truth, token, constructed}
 use Rattle.kp_symbolic.specs.Alike.{literals_same}
 use Rattle.kp_symbolic.specs.Formulas.{clauses_same}
-use Rattle.kp_symbolic.specs.States.{Atom, same, has_head, quoted, Literal}
-use Rattle.kp_symbolic.specs.Sums.{whole_in}
+use Rattle.kp_symbolic.specs.States.{HeadTest, one_head, head_of_sort, Atom, same, has_head, quoted, Literal}
 use Rattle.kp_symbolic.specs.Terms.{SymbolicTerm, unknown, offset, known, headed, SymbolicTerms, no_terms, next_term}
 use Rattle.kp_symbolic.specs.View.{clause_view}
 use Rattle.kp_distribution.specs.declared.keyed.Keyed.{Keyed}
 
--- the number that a term is, or that is added to its variable
-abbrev pub number_at : SymbolicTerm → Option ℤ
-number_at (unknown x) = None
-number_at (offset x c) = Some c
-number_at (known u) = whole_in u
-number_at (headed f ts) = None
+-- a key with a further number: multiplied by an odd number first, so that what stands earlier is told, too
+abbrev pub with_number : ℕ → ℕ → ℕ
+with_number k n = ((k * 0x9e37_79b9_7f4a_7c15) % 2 ^ 128 + n) % 2 ^ 128
 
--- the same of the first of terms
-abbrev pub first_number : SymbolicTerms → Option ℤ
-first_number no_terms = None
-first_number (next_term t ts) = number_at t
+abbrev pub with_whole : ℕ → ℤ → ℕ
+with_whole k n = with_number k (cast_unsigned w128 n)
 
--- the same of a term, or of its first argument
-abbrev pub number_of : SymbolicTerm → Option ℤ
-number_of (unknown x) = None
-number_of (offset x c) = Some c
-number_of (known u) = whole_in u
-number_of (headed f ts) = first_number ts
+abbrev pub with_text : ℕ → Text → ℕ
+with_text k [] = k
+with_text k (b ∷ bs) = with_text (with_number k b) bs
 
--- the first of two numbers that there is
-abbrev pub either_number : Option ℤ → Option ℤ → Option ℤ
-either_number (Some n) o = Some n
-either_number None o = o
+-- a key with the number, the token or the constructor that a value is
+abbrev pub with_value : ℕ → Value → ℕ
+with_value k (whole n) = with_whole k n
+with_value k (truth b) = k
+with_value k (token s x) = with_text k x
+with_value k (constructed f us) = with_text k f
 
-abbrev pub number_of_atom : Atom → Option ℤ
-number_of_atom (same s t u) = either_number (number_of t) (number_of u)
-number_of_atom (has_head x test) = None
-number_of_atom (quoted p rs) = None
+-- a key with what stands in an argument, not in its own arguments
+abbrev pub with_argument : ℕ → SymbolicTerm → ℕ
+with_argument k (unknown x) = with_text k x.name
+with_argument k (offset x c) = with_whole (with_text k x.name) c
+with_argument k (known u) = with_value k u
+with_argument k (headed f ts) = k
 
--- a number of a clause's first literal
-abbrev pub key_of : List Literal → Option ℤ
-key_of [] = None
-key_of (l ∷ c) = number_of_atom l.atom
+abbrev pub with_arguments : ℕ → SymbolicTerms → ℕ
+with_arguments k no_terms = k
+with_arguments k (next_term t ts) = with_arguments (with_argument k t) ts
 
-abbrev pub keys_same : Option ℤ → Option ℤ → Bool
-keys_same (Some m) (Some n) = int_eq m n
-keys_same (Some m) None = false
-keys_same None (Some n) = false
-keys_same None None = true
+-- a key with what stands in a term, or in its arguments
+abbrev pub with_term : ℕ → SymbolicTerm → ℕ
+with_term k (unknown x) = with_argument k (unknown x)
+with_term k (offset x c) = with_argument k (offset x c)
+with_term k (known u) = with_argument k (known u)
+with_term k (headed f ts) = with_arguments k ts
+
+-- a key with the constructor whose head is asked for
+abbrev pub with_test : ℕ → HeadTest → ℕ
+with_test k (one_head f) = with_text k f
+with_test k (head_of_sort s) = k
+
+abbrev pub with_atom : ℕ → Atom → ℕ
+with_atom k (same s t u) = with_term (with_term k t) u
+with_atom k (has_head x test) = with_test (with_text k x.name) test
+with_atom k (quoted p rs) = k
+
+-- a key with what stands in a literal, and whether it is to be true
+abbrev pub with_literal : ℕ → Literal → ℕ
+with_literal k l = with_number (with_atom k l.atom) (if l.holds then 1 else 0)
+
+abbrev pub with_literals : ℕ → List Literal → ℕ
+with_literals k [] = k
+with_literals k (l ∷ c) = with_literals (with_literal k l) c
+
+-- a number made of a clause's literals
+abbrev pub key_of : List Literal → ℕ
+key_of c = with_literals 0 c
+
+abbrev pub keys_same : ℕ → ℕ → Bool
+keys_same m n = m == n
 
 -- ---- clauses of the code with their keys
 

@@ -1,99 +1,139 @@
-// A number of a clause's first literal, by which most clauses differ.
+// A number made of a clause's literals, by which most clauses differ.
 ghost use Rattle.std.specs.Prelude.{◌≡◌, map};
 ghost use Rattle.kp_ground.specs.View.{value_view};
-ghost use Rattle.kp_symbolic.specs.Sums.{whole_in};
-ghost use Rattle.kp_symbolic.specs.View.{term_view, terms_of, atom_view, literal_view, clause_view};
+ghost use Rattle.kp_symbolic.specs.View.{term_view, terms_of, test_view, atom_view, literal_view, clause_view};
 ghost use Rattle.kp_distribution.specs.Keys as model;
-ghost use Rattle.kp_distribution.specs.Keys.{first_number};
 
 use kp_ground::Value;
-use kp_symbolic::{Atom, Clause, Literal, Term};
+use kp_symbolic::{Atom, Clause, HeadTest, Literal, Term};
+
+/// What a key is multiplied by before a further number is added.
+const SPREAD: u128 = 0x9E37_79B9_7F4A_7C15;
 
 /// A clause and its key.
 #[derive(Drop)]
 pub struct Keyed {
-    pub key: Option<i128>,
+    pub key: u128,
     pub clause: Clause,
 }
 
-/// The number that a value is.
-fn number_in(value: &Value) -> Option<i128>
-    ensures { result ≡ whole_in (value_view value.now) }
+/// The key with a further number.
+fn with_number(key: u128, number: u128) -> u128
+    ensures { result ≡ model.with_number key number }
+{
+    key.wrapping_mul(SPREAD).wrapping_add(number)
+}
+
+/// The key with a further whole number.
+fn with_whole(key: u128, number: i128) -> u128
+    ensures { result ≡ model.with_whole key number }
+{
+    with_number(key, number.cast_unsigned())
+}
+
+/// The key with a text's bytes.
+fn with_text(key: u128, text: &str) -> u128
+    ensures { result ≡ model.with_text key text.now }
+{
+    let mut mixed = key;
+    for byte in text.as_bytes() {
+        mixed = with_number(mixed, *byte as u128);
+    }
+    mixed
+}
+
+/// The key with the number, the token or the constructor that a value is.
+fn with_value(key: u128, value: &Value) -> u128
+    ensures { result ≡ model.with_value key (value_view value.now) }
 {
     match value {
-        Value::Whole { number } => Some(*number),
-        Value::Truth { .. } | Value::Token { .. } | Value::Constructed { .. } => None,
+        Value::Whole { number } => with_whole(key, *number),
+        Value::Truth { .. } => key,
+        Value::Token { text, .. } => with_text(key, text),
+        Value::Constructed { constructor, .. } => with_text(key, constructor),
     }
 }
 
-/// The number that a term is, or that is added to its variable.
-fn number_at(term: &Term) -> Option<i128>
-    ensures { result ≡ model.number_at (term_view term.now) }
+/// The key with what stands in an argument, not in its own arguments.
+fn with_argument(key: u128, term: &Term) -> u128
+    ensures { result ≡ model.with_argument key (term_view term.now) }
 {
     match term {
-        Term::Offset { constant, .. } => Some(*constant),
-        Term::Known { value } => number_in(value),
-        Term::Unknown { .. } | Term::Headed { .. } => None,
+        Term::Unknown { variable } => with_text(key, &variable.name),
+        Term::Offset { variable, constant } => with_whole(
+            with_text(key, &variable.name),
+            *constant,
+        ),
+        Term::Known { value } => with_value(key, value),
+        Term::Headed { .. } => key,
     }
 }
 
-/// The same of the first of terms.
-fn number_of_first(terms: &[Term]) -> Option<i128>
-    ensures { result ≡ first_number (terms_of (map term_view terms.now)) }
+/// The key with what stands in each of the arguments.
+fn with_arguments(key: u128, terms: &[Term]) -> u128
+    ensures { result ≡ model.with_arguments key (terms_of (map term_view terms.now)) }
 {
-    match terms {
-        [first, ..] => number_at(first),
-        [] => None,
+    let mut mixed = key;
+    for term in terms {
+        mixed = with_argument(mixed, term);
     }
+    mixed
 }
 
-/// The same of a term, or of its first argument.
-fn number_of(term: &Term) -> Option<i128>
-    ensures { result ≡ model.number_of (term_view term.now) }
+/// The key with what stands in a term, or in its arguments.
+fn with_term(key: u128, term: &Term) -> u128
+    ensures { result ≡ model.with_term key (term_view term.now) }
 {
     match term {
-        Term::Headed { arguments, .. } => number_of_first(arguments),
-        Term::Offset { constant, .. } => Some(*constant),
-        Term::Known { value } => number_in(value),
-        Term::Unknown { .. } => None,
+        Term::Headed { arguments, .. } => with_arguments(key, arguments),
+        Term::Unknown { .. } | Term::Offset { .. } | Term::Known { .. } => with_argument(key, term),
     }
 }
 
-/// The first of the numbers of both terms that there is.
-fn number_of_either(left: &Term, right: &Term) -> Option<i128>
-    ensures { result ≡ model.either_number (model.number_of (term_view left.now)) (model.number_of (term_view right.now)) }
+/// The key with the constructor whose head is asked for.
+fn with_test(key: u128, test: &HeadTest) -> u128
+    ensures { result ≡ model.with_test key (test_view test.now) }
 {
-    match number_of(left) {
-        Some(number) => Some(number),
-        None => number_of(right),
+    match test {
+        HeadTest::Constructor { symbol } => with_text(key, symbol),
+        HeadTest::Sort { .. } => key,
     }
 }
 
-/// The number of an equality.
-fn number_of_atom(atom: &Atom) -> Option<i128>
-    ensures { result ≡ model.number_of_atom (atom_view atom.now) }
+/// The key with what stands in an atom.
+fn with_atom(key: u128, atom: &Atom) -> u128
+    ensures { result ≡ model.with_atom key (atom_view atom.now) }
 {
     match atom {
-        Atom::Same { left, right, .. } => number_of_either(left, right),
-        Atom::Head { .. } | Atom::Quoted { .. } => None,
+        Atom::Same { left, right, .. } => with_term(with_term(key, left), right),
+        Atom::Head { variable, test } => with_test(with_text(key, &variable.name), test),
+        Atom::Quoted { .. } => key,
     }
 }
 
-/// The number of the first literal.
-fn key_of_literals(literals: &[Literal]) -> Option<i128>
-    ensures { result ≡ model.key_of (map literal_view literals.now) }
+/// The key with what stands in a literal, and whether it is to be true.
+fn with_literal(key: u128, literal: &Literal) -> u128
+    ensures { result ≡ model.with_literal key (literal_view literal.now) }
 {
-    match literals {
-        [first, ..] => number_of_atom(&first.atom),
-        [] => None,
-    }
+    with_number(with_atom(key, &literal.atom), literal.holds as u128)
 }
 
-/// The number of a clause's first literal.
-fn key_of(clause: &Clause) -> Option<i128>
+/// The key with what stands in each of the literals.
+fn with_literals(key: u128, literals: &[Literal]) -> u128
+    ensures { result ≡ model.with_literals key (map literal_view literals.now) }
+{
+    let mut mixed = key;
+    for literal in literals {
+        mixed = with_literal(mixed, literal);
+    }
+    mixed
+}
+
+/// The key of a clause.
+fn key_of(clause: &Clause) -> u128
     ensures { result ≡ model.key_of (clause_view clause.now) }
 {
-    key_of_literals(&clause.literals)
+    with_literals(0, &clause.literals)
 }
 
 /// The clause with its key.
@@ -106,17 +146,8 @@ pub fn with_key(clause: Clause) -> Keyed
 }
 
 /// Whether the keys are the same.
-pub fn are_same_keys(key: Option<i128>, other: Option<i128>) -> bool
+pub fn are_same_keys(key: u128, other: u128) -> bool
     ensures { result ≡ model.keys_same key other }
 {
-    match key {
-        Some(number) => match other {
-            Some(n) => number == n,
-            None => false,
-        },
-        None => match other {
-            Some(_) => false,
-            None => true,
-        },
-    }
+    key == other
 }

@@ -47,14 +47,15 @@ use Rattle.kp_execute.specs.Endings.{IsRunFrom, IsRightEnding, IsRightRun}
 use Rattle.kp_execute.specs.declared.ending.Ending as runs
 use Rattle.kp_execute.specs.declared.ending.Ending.TheVariants.{Vacuous, DepthBound, Stuck, Branching, CutPoint, Terminal, Aborted}
 use Rattle.kp_execute.specs.declared.ending.Run.{Run}
-use Rattle.kp_execute.specs.Written.{AreWritten, IsIdAt, IsEndWritten, IsRunWritten, pattern_of}
-use Rattle.kp_execute.specs.Told.{IsToldEnd, IsReadRight}
-use Rattle.kp_execute.specs.Known.{Begins, IsRunOf, EndsOpen}
+use Rattle.kp_execute.specs.Written.{AreWritten, IsIdAt, IsEndWritten, pattern_of}
+use Rattle.kp_execute.specs.Told.{IsReadRight}
+use Rattle.kp_execute.specs.Known.{Begins, IsRunOf, EndsWith, EndsOpen}
 use Rattle.kp_execute.specs.Answers.{IsOpenBy, call_of, by_clauses, by_weight, by_number, IsFirstTold, IsEndedRun, IsOpenRun, IsRightAnswer, aborted_with}
 use Rattle.kp_execute.proofs.JoinedLemmas.{state_pattern}
 use Rattle.kp_execute.proofs.NextLemmas.{parts_pattern}
 use Rattle.kp_execute.proofs.EndLemmas.{Stands, stands, leads, at_hand}
 use Rattle.kp_execute.proofs.ReasonLemmas.{passes}
+use Rattle.kp_execute.proofs.OrderLemmas.{end_in_order}
 use Rattle.kp_execute.proofs.ResultLemmas.{says_right}
 use Rattle.kp_execute.proofs.ReadLemmas.{read_ready, read_request}
 
@@ -99,12 +100,13 @@ never_foreign t s (CutPoint next) e xs w = subst (IsFirstTold t s) (sym w.3) tt
 never_foreign t s (Terminal place) e xs w = subst (IsFirstTold t s) (sym w.2) tt
 never_foreign t s (Aborted why) e xs w = absurd w
 
-pub ended_right : (t : Theory) (o : Options) (request : KorePattern) (r : Run) (x : ExecutedParts) → IsRunOf t o request r → IsToldEnd t r.ending → IsRunWritten t r x → IsComputed t.signature (pattern_of (state_view r.state).sort x.state) → IsEndedRun t o request x
-ended_right t o request r x h told w computed = record {
+pub ended_right : (t : Theory) (o : Options) (request : KorePattern) (x : ExecutedParts) (e : EndsWith t o request x) → IsComputed t.signature (pattern_of (state_view e.whole.state).sort x.state) → IsEndedRun t o request x
+ended_right t o request x e computed = let r = e.whole in let h = e.run in record {
   state = state_view r.state;
-  written = w.state;
-  means = says_right t o h.used request h.first r x (record { own_ids = h.own_ids; request_of = h.request_of; run = h.run; told = told; written = w; computed = computed });
-  first = never_foreign t (state_view r.state) r.ending x.ending x.nexts w.end;
+  written = e.written.state;
+  means = says_right t o h.used request h.first r x (record { own_ids = h.own_ids; request_of = h.request_of; run = h.run; told = e.told; written = e.written; computed = computed });
+  first = never_foreign t (state_view r.state) r.ending x.ending x.nexts e.written.end;
+  order = end_in_order t r.ending x.ending x.nexts e.written.end e.order;
 }
 
 -- ---- a run that ends with what a step tells
@@ -169,6 +171,7 @@ foreign_right t o request r x place id h at =
         };
       };
       first = (place, at.0, at.1, at.2, m);
+      order = tt;
     }
 
 -- ---- what isn't decided

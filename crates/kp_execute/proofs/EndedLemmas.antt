@@ -43,7 +43,7 @@ id_is_at t rules place x id runs found e =
     let r : (r : RewriteRule) × (slice_get t.rules place ≡ Some r) × IsCodeOf t.signature r x = zip_at (IsCodeOf t.signature) t.rules rules.rules.items place x runs.each found in
     (r.0, r.1, e ∙ r.2.id)
 
-one_rule : (t : Theory) (place : ℕ) (r s : RewriteRule) → IsAt t place r → IsAt t place s → r ≡ s
+pub one_rule : (t : Theory) (place : ℕ) (r s : RewriteRule) → IsAt t place r → IsAt t place s → r ≡ s
 one_rule t place r s a b = inside (sym a ∙ b)
   where
     inside : {X : Type 0} {x y : X} → Some x ≡ Some y → x ≡ y

@@ -9,6 +9,7 @@ pub mod ResultLemmas
 pub mod ComputedLemmas
 pub mod LostLemmas
 pub mod EndedLemmas
+pub mod OrderLemmas
 pub mod ReadLemmas
 pub mod AnswerLemmas
 pub mod WantsLemmas

@@ -6,7 +6,7 @@ use Rattle.std.specs.Str.{bytes_eq}
 use Rattle.kp_kore.specs.Syntax.{Text, KoreSort, KorePattern}
 use Rattle.kp_kore.specs.Parts.{SortedName, free_variables}
 use Rattle.kp_kore.specs.Signature.{KoreSignature}
-use Rattle.kp_kore.specs.Instance.{is_named, is_predicate}
+use Rattle.kp_kore.specs.Instance.{is_named}
 use Rattle.kp_kore.specs.Replies.{IsFreshName, IsAbsent, variables_beyond}
 use Rattle.kp_kore.specs.AtHand.{HasNewNames}
 use Rattle.kp_kore.specs.Rules.{RewriteRule}

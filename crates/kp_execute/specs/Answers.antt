@@ -26,6 +26,7 @@ use Rattle.kp_step.specs.Causes.{IsLeftOpen, IsFirstMet}
 use Rattle.kp_step.specs.Limits as limits
 use Rattle.kp_step.specs.Limits.{IsPassed}
 use Rattle.kp_execute.specs.Laws.{MeansRight}
+use Rattle.kp_execute.specs.Order.{AreInOrder}
 use Rattle.kp_execute.specs.Written.{AreWritten, IsStateWritten, pattern_of}
 use Rattle.kp_execute.specs.declared.answer.Answer.{Answer}
 use Rattle.kp_execute.specs.declared.answer.Answer.TheVariants as answer
@@ -68,12 +69,13 @@ abbrev pub IsFirstTold : Theory → SymbolicState → Ending → Type 0
 IsFirstTold t s (aborted (foreign id)) = (place : ℕ) × (r : RewriteRule) × IsAt t place r × (id ≡ r.id) × IsFirstMet t s place
 IsFirstTold t s ending = ⊤
 
--- the parts are a right result of the run, whose state is written so
+-- the parts are a right result of the run, whose state is written so; the next states stand in their rules' turns
 pub record IsEndedRun (t : Theory) (o : Options) (request : KorePattern) (x : ExecutedParts) : Type 0 where
   pub state : SymbolicState
   pub written : IsStateWritten t.signature state x.state
   pub means : MeansRight t o request x
   pub first : IsFirstTold t state x.ending
+  pub order : AreInOrder t x.nexts
 
 -- the run came to this state below its bound, after so many steps; none that it passed is final or has the turn of a listed
 -- rule; and of this state something isn't decided

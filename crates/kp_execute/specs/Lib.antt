@@ -6,6 +6,7 @@ pub mod Endings
 pub mod Laws
 pub mod Lost
 pub mod Onward
+pub mod Order
 pub mod Told
 pub mod Wants
 pub mod Written

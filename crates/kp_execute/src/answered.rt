@@ -10,17 +10,16 @@ ghost use Rattle.kp_symbolic.specs.Languages.{language_view};
 ghost use Rattle.kp_symbolic.specs.View.{state_view};
 ghost use Rattle.kp_step.specs.Outcomes.{IsRightStep};
 ghost use Rattle.kp_step.specs.declared.outcome.StepOutcome.TheVariants.{Foreign};
-ghost use Rattle.kp_execute.specs.declared.ending.Run as runs;
 ghost use Rattle.kp_execute.specs.Answers.{IsOpenBy, IsRightAnswer, aborted_with, answer_view};
-ghost use Rattle.kp_execute.specs.Known.{EndsOpen, IsRunOf};
-ghost use Rattle.kp_execute.specs.Told.{IsToldEnd};
+ghost use Rattle.kp_execute.specs.Known.{EndsOpen, EndsWith, IsRunOf};
 ghost use Rattle.kp_execute.specs.Wants.{EndWants, RunWants, StepWants};
-ghost use Rattle.kp_execute.specs.Written.{IsRunWritten, IsStateWritten};
+ghost use Rattle.kp_execute.specs.Written.{IsStateWritten};
 
 use crate::answer::Answer;
 use crate::cases::id_at;
 use crate::ending::{Ending, Run};
 use crate::open::{clauses_told, limit_told};
+use crate::order::is_end_in_turn;
 use crate::result::{Ended, run_parts};
 use crate::tested::{is_end_right, is_state_computed};
 use kp_outward::WritingError;
@@ -154,7 +153,7 @@ fn open_end(
 /// The answer of a run that is written so, if no open call stands in what is written for its last state: else want of memory is
 /// told.
 fn ended(alloc: Global, language: &Language, executed: Executed) -> Result<Answer, WritingError>
-    ensures answered { (t : Theory) (o : model.Options) (p : KorePattern) (r : runs.Run) → language_view language.now ≡ t.signature → IsRunOf t o p r → IsToldEnd t r.ending → IsRunWritten t r (executed_view executed) → IfOk result (λ a. IsRightAnswer t o p (answer_view a)) }
+    ensures answered { (t : Theory) (o : model.Options) (p : KorePattern) → language_view language.now ≡ t.signature → EndsWith t o p (executed_view executed) → IfOk result (λ a. IsRightAnswer t o p (answer_view a)) }
     ensures refused { IfErr result (λ e. ¬ IsNoInjection e) }
 {
     if !is_state_computed(alloc, language.signature, &executed.state) {
@@ -163,7 +162,8 @@ fn ended(alloc: Global, language: &Language, executed: Executed) -> Result<Answe
     Ok(Answer::Executed { executed })
 }
 
-/// The answer of a run. Want of memory is told, too, where what was added to a part of its last state can't be written right.
+/// The answer of a run. Want of memory is told, too, where what was added to a part of its last state can't be written right, and
+/// where its next states don't stand in their rules' turns.
 ///
 /// # Errors
 /// As of `run_parts`, and `NoInjection` where an `inj` would stand in what isn't decided that the signature doesn't have.
@@ -177,6 +177,9 @@ pub fn answer_of(
     ensures wants { IfErr result (λ e. IsNoInjection e → RunWants (language_view language.now) run.now) }
 {
     if !is_end_right(alloc, language, &run.ending) {
+        return Err(WritingError::Memory);
+    }
+    if !is_end_in_turn(rules, &run.ending) {
         return Err(WritingError::Memory);
     }
     match run_parts(alloc, language, rules, run)? {

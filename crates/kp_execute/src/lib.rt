@@ -12,6 +12,7 @@ pub mod laws;
 pub mod listed;
 pub mod lost;
 pub mod open;
+pub mod order;
 pub mod result;
 pub mod runs;
 pub mod steps;

@@ -4,6 +4,7 @@ pub mod Declared
 pub mod KnownSides
 pub mod LeftForms
 pub mod LeftTerms
+pub mod LoneVariables
 pub mod NameSets
 pub mod Named
 pub mod NewVariables

@@ -18,7 +18,7 @@ use Rattle.kp_signature.specs.Verify.{first_fault}
 use Rattle.kp_compile.specs.Verified.{misapplies_injection}
 use Rattle.kp_rules.specs.Bodies.{IsBodyOf, IsReadAs, IsRewriteOf, IsVerifiedLeft, IsConstrained, HasFault, IsFaulty}
 use Rattle.kp_rule_reading.specs.Priorities.{Tells}
-use Rattle.kp_rule_reading.specs.Reading.{IsStatementRead, IsReadBody, IsMadeOf, IsSound, IsShapeRead, is_side_read, is_plain_by}
+use Rattle.kp_rule_reading.specs.Reading.{IsStatementRead, IsReadBody, IsMadeOf, IsSound, IsShapeRead, IsLeftSideRead, is_plain_by}
 use Rattle.kp_rules.specs.Shapes.{seen}
 use Rattle.kp_rule_reading.specs.declared.priority.Priority.{Priority}
 use Rattle.kp_rules.specs.declared.rule.RuleBody.{RuleBody}
@@ -104,7 +104,7 @@ sides_are g m w verified injections over made = record {
 pub rewrite_body : (g : KoreSignature) (a : Statement) (s : KoreSort) (l r : KorePattern) (m : model.Rewrite) (w : code.Rewrite) → a.pattern ≡ rewriting s l r →
     (first_fault g the_top (rewriting s l r) ≡ None → model.rewrite_of (rewriting s l r) ≡ Some m → (c : Place) × (first_fault g c m.left ≡ None)) →
     (first_fault g the_top (rewriting s l r) ≡ None → model.rewrite_of (rewriting s l r) ≡ Some m → IsTrue (none_within (has_foreign_head g) (rewriting s l r)) → (v : Valuation) → GivesSorts g v (free_variables m.left) → m.new_variables ≡ [] → HasSort g s (instance g v m.right)) →
-    IsStatementRead g a → model.rewrite_of (rewriting s l r) ≡ Some m → is_side_read g m.left m.condition ≡ true → first_fault g the_top a.pattern ≡ None → none_within (misapplies_injection g) a.pattern ≡ true → none_within (applies_undeclared g) a.pattern ≡ true →
+    IsStatementRead g a → model.rewrite_of (rewriting s l r) ≡ Some m → IsLeftSideRead g m.left m.condition → first_fault g the_top a.pattern ≡ None → none_within (misapplies_injection g) a.pattern ≡ true → none_within (applies_undeclared g) a.pattern ≡ true →
     m.new_variables ≡ model.new_variables_of m.left r → IsMadeOf g s m w → w.chooses ≡ not (is_plain_by (λ y. is_named y (free_variables m.left)) r m.ensured) → IsReadBody g a (Rewrite w)
 rewrite_body g a s l r m w e place sorted statement shape side fault injections declared new made chooses =
     let read : IsRead g a.parameters a.attributes a.pattern m = is_read g a m statement (ap model.rewrite_of e ∙ shape) side in
@@ -120,11 +120,11 @@ rewrite_body g a s l r m w e place sorted statement shape side fault injections 
 
 -- ---- faults
 
-pub faulty : (g : KoreSignature) (a : Statement) (m : model.Rewrite) → IsStatementRead g a → model.rewrite_of a.pattern ≡ Some m → is_side_read g m.left m.condition ≡ true → HasFault g a.pattern → IsFaulty g a
+pub faulty : (g : KoreSignature) (a : Statement) (m : model.Rewrite) → IsStatementRead g a → model.rewrite_of a.pattern ≡ Some m → IsLeftSideRead g m.left m.condition → HasFault g a.pattern → IsFaulty g a
 faulty g a m statement shape side fault = record { rule = m; read = is_read g a m statement shape side; has = fault }
 
 pub sound_where_read : (g : KoreSignature) (a : Statement) (s : KoreSort) (l r : KorePattern) (m : model.Rewrite) → a.pattern ≡ rewriting s l r → IsStatementRead g a → model.rewrite_of (rewriting s l r) ≡ Some m →
-    is_side_read g m.left m.condition ≡ true → first_fault g the_top a.pattern ≡ None → none_within (misapplies_injection g) a.pattern ≡ true → none_within (applies_undeclared g) a.pattern ≡ true → IsSound g m
+    IsLeftSideRead g m.left m.condition → first_fault g the_top a.pattern ≡ None → none_within (misapplies_injection g) a.pattern ≡ true → none_within (applies_undeclared g) a.pattern ≡ true → IsSound g m
 sound_where_read g a s l r m e statement shape side fault injections declared = sound g a s l r m e (is_read g a m statement (ap model.rewrite_of e ∙ shape) side) fault injections declared
 
 pub no_fault : (g : KoreSignature) (a : Statement) → first_fault g the_top a.pattern ≡ None → none_within (misapplies_injection g) a.pattern ≡ true → none_within (applies_undeclared g) a.pattern ≡ true → ¬ IsFaulty g a
@@ -160,9 +160,7 @@ pub unread_by_shape : (g : KoreSignature) (a : Statement) (s : KoreSort) (l r : 
     (m : model.Rewrite) → ¬ IsRead g a.parameters a.attributes a.pattern m
 unread_by_shape g a s l r o e none told = λ m h.
     let refused : IsShapeRead g (rewriting s l r) r None = subst (IsShapeRead g (rewriting s l r) r) none told in
-    let t : is_side_read g m.left m.condition ≡ true = side_read g a m h in
-    let f : is_side_read g m.left m.condition ≡ false = refused m (ap model.rewrite_of (sym e) ∙ h.shape) in
-    absurd (cc)
+    refused m (ap model.rewrite_of (sym e) ∙ h.shape) (side_read g a m h)
 
 pub foreign_by_shape : (g : KoreSignature) (a : Statement) (s : KoreSort) (l r : KorePattern) (b : RuleBody) (o : Option Shape) → a.pattern ≡ rewriting s l r → o ≡ None → IsShapeRead g (rewriting s l r) r o →
     IsBodyOf g (left_of s l) b → IsReadBody g a b

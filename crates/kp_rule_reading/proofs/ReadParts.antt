@@ -9,7 +9,7 @@ use Rattle.kp_kore.specs.Instance.{is_named}
 use Rattle.kp_kore.specs.Rules.{Rewrite, rewrite_of}
 use Rattle.kp_kore.specs.Limits.{most_depth}
 use Rattle.kp_kore.specs.Foreign.{IsRead, none_within, applies_foreign, has_interpreted_head, is_set_variable, is_wide_literal, is_quantifier, is_floor_of_term, repeats_literals_only}
-use Rattle.kp_rule_reading.specs.Reading.{is_part_read, is_condition_part, is_predicate_read, is_left_read, is_side_read, IsStatementRead}
+use Rattle.kp_rule_reading.specs.Reading.{is_part_read, is_condition_part, is_predicate_read, is_left_read, IsLeftSideRead, IsStatementRead}
 
 pub both_true : (a b : Bool) → a && b ≡ true → (a ≡ true) × (b ≡ true)
 both_true true b h = (refl, h)
@@ -80,13 +80,13 @@ conditions_pass xs (c ∷ cs) n q f =
 
 -- ---- the whole
 
-pub is_read : (g : KoreSignature) (a : Statement) (m : Rewrite) → IsStatementRead g a → rewrite_of a.pattern ≡ Some m → is_side_read g m.left m.condition ≡ true → IsRead g a.parameters a.attributes a.pattern m
+pub is_read : (g : KoreSignature) (a : Statement) (m : Rewrite) → IsStatementRead g a → rewrite_of a.pattern ≡ Some m → IsLeftSideRead g m.left m.condition → IsRead g a.parameters a.attributes a.pattern m
 is_read g a m h e side =
     let ps = subpatterns a.pattern in
     let foreign = both_true (list_all (no_foreign g) ps) (list_all (no_set g) ps && (list_all (no_wide g) ps && list_all (is_shallow g) ps)) (sym (parts_apart g ps) ∙ h.parts) in
     let set = both_true (list_all (no_set g) ps) (list_all (no_wide g) ps && list_all (is_shallow g) ps) foreign.1 in
     let wide = both_true (list_all (no_wide g) ps) (list_all (is_shallow g) ps) set.1 in
-    let s = both_true (is_left_read g m.left) (list_all (is_predicate_read (λ y. is_named y (free_variables m.left))) m.condition) side in
+    let s = both_true (is_left_read g m.left) (list_all (is_predicate_read (λ y. is_named y (free_variables m.left))) m.condition) side.side in
     let left = both_true (list_all (λ p. not (has_interpreted_head g p)) (subpatterns m.left)) (repeats_literals_only g (free_variables m.left)) s.0 in
     let condition = conditions_read (free_variables m.left) m.condition s.1 in
     record {
@@ -103,6 +103,7 @@ is_read g a m h e side =
       priority = h.priority;
       no_set_variable = set.0;
       injections = h.injections;
+      lone_variable = side.lone_variable;
     }
 
 pub statement_read : (g : KoreSignature) (a : Statement) (m : Rewrite) → IsRead g a.parameters a.attributes a.pattern m → IsStatementRead g a
@@ -117,8 +118,10 @@ statement_read g a m h =
       injections = h.injections;
     }
 
-pub side_read : (g : KoreSignature) (a : Statement) (m : Rewrite) → IsRead g a.parameters a.attributes a.pattern m → is_side_read g m.left m.condition ≡ true
-side_read g a m h =
-    and_true (is_left_read g m.left) (list_all (is_predicate_read (λ y. is_named y (free_variables m.left))) m.condition)
-    (and_true (list_all (λ p. not (has_interpreted_head g p)) (subpatterns m.left)) (repeats_literals_only g (free_variables m.left)) h.left_uninterpreted h.left_repeats)
-    (conditions_pass (free_variables m.left) m.condition h.condition_variables h.condition_quantifiers h.condition_floors)
+pub side_read : (g : KoreSignature) (a : Statement) (m : Rewrite) → IsRead g a.parameters a.attributes a.pattern m → IsLeftSideRead g m.left m.condition
+side_read g a m h = record {
+  side = and_true (is_left_read g m.left) (list_all (is_predicate_read (λ y. is_named y (free_variables m.left))) m.condition)
+      (and_true (list_all (λ p. not (has_interpreted_head g p)) (subpatterns m.left)) (repeats_literals_only g (free_variables m.left)) h.left_uninterpreted h.left_repeats)
+      (conditions_pass (free_variables m.left) m.condition h.condition_variables h.condition_quantifiers h.condition_floors);
+  lone_variable = h.lone_variable;
+}

@@ -1,5 +1,6 @@
 -- What is read of a rewrite's sides.
-use Rattle.std.proofs.Common.{◌≡◌, sym, ap, ◌∙◌, Bool, true, false, ◌&&◌, not, List, Option, Some, None, String}
+use Rattle.std.proofs.Common.{◌≡◌, sym, ap, subst, ◌∙◌, Bool, true, false, ◌&&◌, not, List, Option, Some, None, String}
+use Rattle.std.specs.Prelude.{Result, Ok, Err, IfOk, MatchBool}
 use Rattle.std.specs.List.{list_all}
 use Rattle.std.specs.Option.{option_map}
 use Rattle.std.specs.declared.alloc.Global.{Global}
@@ -10,7 +11,8 @@ use Rattle.kp_kore.specs.Signature.{KoreSignature}
 use Rattle.kp_kore.specs.View.{view}
 use Rattle.kp_kore.specs.Instance.{is_named}
 use Rattle.kp_kore.specs.Rules.{Rewrite, rewrite_of}
-use Rattle.kp_rule_reading.specs.Reading.{Names, IsShapeRead, is_left_read, is_predicate_read, is_side_read, is_binder, is_top_pattern, is_plain_by}
+use Rattle.kp_kore.specs.Foreign.{LoneVariableSplits}
+use Rattle.kp_rule_reading.specs.Reading.{Names, IsShapeRead, IsLeftSideRead, is_left_read, is_predicate_read, is_side_read, is_binder, is_top_pattern, is_plain_by}
 use Rattle.kp_rules.specs.Shapes.{seen, rewrite_seen}
 use Rattle.kp_rules.specs.declared.shape.Shape.{Shape}
 use Rattle.kp_rule_reading.proofs.NameSets.{same_names, same_predicates}
@@ -29,17 +31,34 @@ pub plain_same : {S : Type 0} (names : IndexSet (String Global) S) (xs ys : List
 plain_same names xs ys r ensured n e =
     ap (λ b. not (is_binder r) && (list_all is_top_pattern ensured && b)) (same_names (contains_text names) (λ y. is_named y ys) r (names_same names xs ys n e))
 
-side_maybe : KoreSignature → Option Rewrite → Bool
-side_maybe g (Some m) = is_side_read g m.left m.condition
-side_maybe g None = false
+-- ---- the left side
+
+pub side_refused : (g : KoreSignature) (left : KorePattern) (condition : List KorePattern) → is_side_read g left condition ≡ false → ¬ IsLeftSideRead g left condition
+side_refused g left condition refused side = let so = side.side in absurd (cc)
+
+lone_told : (g : KoreSignature) (left : KorePattern) (condition : List KorePattern) → is_side_read g left condition ≡ true → (b : Bool) →
+    MatchBool b (LoneVariableSplits g left) (¬ LoneVariableSplits g left) → MatchBool b (IsLeftSideRead g left condition) (¬ IsLeftSideRead g left condition)
+lone_told g left condition so true h = record { side = so; lone_variable = h }
+lone_told g left condition so false h = λ side. h side.lone_variable
+
+pub side_by_lone : {E : Type 0} (g : KoreSignature) (left : KorePattern) (condition : List KorePattern) → is_side_read g left condition ≡ true → (r : Result Bool E) →
+    IfOk r (λ b. MatchBool b (LoneVariableSplits g left) (¬ LoneVariableSplits g left)) → IfOk r (λ b. MatchBool b (IsLeftSideRead g left condition) (¬ IsLeftSideRead g left condition))
+side_by_lone g left condition so (Ok b) h = lone_told g left condition so b h
+side_by_lone g left condition so (Err e) h = tt
+
+-- ---- the shape
+
+side_maybe : KoreSignature → Option Rewrite → Type 0
+side_maybe g (Some m) = IsLeftSideRead g m.left m.condition
+side_maybe g None = ⊥
 
 pub shape_refused : (g : KoreSignature) (p r : KorePattern) (o : Option Shape) (shape : Shape) → o ≡ Some shape → option_map (rewrite_seen r) o ≡ rewrite_of p →
-    is_side_read g (view shape.left.term.now) (seen shape.left.predicates.items) ≡ false → IsShapeRead g p r None
+    (¬ IsLeftSideRead g (view shape.left.term.now) (seen shape.left.predicates.items)) → IsShapeRead g p r None
 unfolding side_maybe
-shape_refused g p r o shape e told bad = λ m h. sym (ap (side_maybe g) (sym (ap (option_map (rewrite_seen r)) e) ∙ told ∙ h)) ∙ bad
+shape_refused g p r o shape e told bad = λ m h side. bad (subst (side_maybe g) (sym (sym (ap (option_map (rewrite_seen r)) e) ∙ told ∙ h)) side)
 
 pub shape_read : (g : KoreSignature) (p r : KorePattern) (o : Option Shape) (shape : Shape) → o ≡ Some shape → option_map (rewrite_seen r) o ≡ rewrite_of p →
-    is_side_read g (view shape.left.term.now) (seen shape.left.predicates.items) ≡ true → IsShapeRead g p r (Some shape)
+    IsLeftSideRead g (view shape.left.term.now) (seen shape.left.predicates.items) → IsShapeRead g p r (Some shape)
 shape_read g p r o shape e told so = (sym told ∙ ap (option_map (rewrite_seen r)) e, so)
 
 pub no_shape : (g : KoreSignature) (p r : KorePattern) (o : Option Shape) → o ≡ None → option_map (rewrite_seen r) o ≡ rewrite_of p → IsShapeRead g p r None

@@ -1,5 +1,6 @@
 pub mod Compiled
 pub mod LeftForms
+pub mod Lone
 pub mod Priorities
 pub mod Reading
 pub mod Tests

@@ -11,7 +11,7 @@ use Rattle.kp_kore.specs.Sorted.{IsSorted}
 use Rattle.kp_kore.specs.Instance.{Valuation, instance, is_named, GivesSorts, IsTrueUnder}
 use Rattle.kp_kore.specs.Rules as model
 use Rattle.kp_kore.specs.Limits.{most_depth}
-use Rattle.kp_kore.specs.Foreign.{Reads, is_wide_literal, applies_foreign, has_interpreted_head, is_set_variable, is_quantifier, is_floor_of_term, repeats_literals_only, InjectionsSplit, is_read_priority}
+use Rattle.kp_kore.specs.Foreign.{Reads, is_wide_literal, applies_foreign, has_interpreted_head, is_set_variable, is_quantifier, is_floor_of_term, repeats_literals_only, InjectionsSplit, LoneVariableSplits, is_read_priority}
 use Rattle.std.specs.Bool.{Decides}
 use Rattle.kp_kore.specs.Numbers.{computes_wide}
 use Rattle.kp_ground.specs.Conditions.{condition_holds, condition_narrow as is_condition_narrow}
@@ -53,6 +53,11 @@ is_left_read g left = list_all (λ p. not (has_interpreted_head g p)) (subpatter
 abbrev pub is_side_read : KoreSignature → KorePattern → List KorePattern → Bool
 is_side_read g left condition = is_left_read g left && list_all (is_predicate_read (λ y. is_named y (free_variables left))) condition
 
+-- the same, and a variable alone as the left term has a meet of its sort with each that shares heads with it
+pub record IsLeftSideRead (g : KoreSignature) (left : KorePattern) (condition : List KorePattern) : Type 0 where
+  pub side : is_side_read g left condition ≡ true
+  pub lone_variable : LoneVariableSplits g left
+
 abbrev pub is_binder : KorePattern → Bool
 is_binder (exists s x t p) = true
 is_binder _ = false
@@ -67,8 +72,8 @@ is_plain_by named right ensured = not (is_binder right) && (list_all is_top_patt
 
 -- the shape's parts are the rewrite's, and its left side is read; or no rewrite's is
 abbrev pub IsShapeRead : KoreSignature → KorePattern → KorePattern → Option Shape → Type 0
-IsShapeRead g p right (Some shape) = (model.rewrite_of p ≡ Some (rewrite_seen right shape)) × (is_side_read g (view shape.left.term.now) (seen shape.left.predicates.items) ≡ true)
-IsShapeRead g p right None = (m : model.Rewrite) → model.rewrite_of p ≡ Some m → is_side_read g m.left m.condition ≡ false
+IsShapeRead g p right (Some shape) = (model.rewrite_of p ≡ Some (rewrite_seen right shape)) × IsLeftSideRead g (view shape.left.term.now) (seen shape.left.predicates.items)
+IsShapeRead g p right None = (m : model.Rewrite) → model.rewrite_of p ≡ Some m → ¬ IsLeftSideRead g m.left m.condition
 
 -- what doesn't depend on the sides
 pub record IsStatementRead (g : KoreSignature) (a : Statement) : Type 0 where

@@ -5,6 +5,7 @@ mod choice;
 mod depth;
 mod label;
 mod left_side;
+mod lone;
 mod names;
 mod old_parts;
 mod parts_read;

@@ -18,12 +18,13 @@ ghost use Rattle.kp_rules.specs.Bodies.{IsReadAs, IsBodyOf, HasFault, IsFaulty};
 ghost use Rattle.kp_sort_index.specs.Index.{IsIndexOf};
 ghost use Rattle.kp_rule_reading.specs.Compiled.{IsKnownRight};
 ghost use Rattle.kp_rule_reading.specs.Priorities.{Tells};
-ghost use Rattle.kp_rule_reading.specs.Reading.{IsStatementRead, rule_error, IsReadBody, IsMadeOf, IsSound, IsShapeRead, is_left_read, is_predicate_read, is_side_read, RightPasses, is_binder as binder_test, is_top_pattern, is_plain_by};
+ghost use Rattle.kp_rule_reading.specs.Reading.{IsStatementRead, rule_error, IsReadBody, IsMadeOf, IsSound, IsShapeRead, IsLeftSideRead, is_left_read, is_predicate_read, is_side_read, RightPasses, is_binder as binder_test, is_top_pattern, is_plain_by};
 ghost use Rattle.kp_rules.specs.Shapes.{seen, rewrite_seen};
 ghost use Rattle.kp_rule_reading.specs.declared.read.RuleError.TheVariants.{Memory, Fault};
 ghost use Rattle.kp_rules.specs.declared.rule.RuleBody.TheVariants as body;
 ghost use Rattle.kp_rules.specs.declared.skeleton.Skeleton.TheVariants as skeleton;
 
+use crate::lone::is_lone_split;
 use crate::names::{are_named, names_of, repeats_literals_only};
 use crate::parts_read::{
     all_split, are_condition_parts, are_declared, are_read_parts, are_uninterpreted, inject_one,
@@ -114,7 +115,7 @@ fn body_of(
     if !is_read_statement(alloc, signature, index, statement)? {
         return foreign_body(alloc, signature, index, sort, left);
     }
-    match read_shape(alloc, signature, left, right)? {
+    match read_shape(alloc, signature, index, left, right)? {
         Some(shape) => {
             check(alloc, signature, &statement.pattern)?;
             let rewrite = rewrite_from(alloc, signature, sort, &shape, right)?;
@@ -277,18 +278,36 @@ fn is_read_side(alloc: Global, signature: &Signature, side: &Side<'_>) -> Result
     is_read_condition(alloc, &side.predicates, &names)
 }
 
-/// The parts of the sides, where they have the shape of a rule's, and the left term and the condition are read.
+/// Whether the left side is read: its term and its condition, and a variable alone as its term splits.
+fn is_read_left_side(
+    alloc: Global,
+    signature: &Signature,
+    index: &SortIndex,
+    side: &Side<'_>,
+) -> Result<bool, AllocError>
+    requires index { IsIndexOf (signature_view signature.now) index.now }
+    ensures { let g = signature_view signature.now in let term' = view side.now.term.now in let condition' = seen side.now.predicates.items in IfOk result (λ b. MatchBool b (IsLeftSideRead g term' condition') (¬ IsLeftSideRead g term' condition')) }
+{
+    if !is_read_side(alloc, signature, side)? {
+        return Ok(false);
+    }
+    is_lone_split(alloc, signature, index, side.term)
+}
+
+/// The parts of the sides, where they have the shape of a rule's, and the left side is read.
 fn read_shape<'a>(
     alloc: Global,
     signature: &Signature,
+    index: &SortIndex,
     left: &'a Pattern,
     right: &'a Pattern,
 ) -> Result<Option<Shape<'a>>, AllocError>
+    requires index { IsIndexOf (signature_view signature.now) index.now }
     ensures { (s : KoreSort) → IfOk result (IsShapeRead (signature_view signature.now) (rewriting s (view left.now) (view right.now)) (view right.now)) }
 {
     match shape_of(alloc, left, right)? {
         Some(shape) => {
-            if !is_read_side(alloc, signature, &shape.left)? {
+            if !is_read_left_side(alloc, signature, index, &shape.left)? {
                 return Ok(None);
             }
             Ok(Some(shape))

@@ -6,6 +6,8 @@ mod compiling;
 #[cfg(test)]
 mod hooks;
 #[cfg(test)]
+mod lone;
+#[cfg(test)]
 mod rules;
 #[cfg(test)]
 mod stepping;

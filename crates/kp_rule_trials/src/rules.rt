@@ -100,7 +100,12 @@ fn last_axiom(module: &Module) -> Option<&AxiomSentence> {
 }
 
 /// What is told of a rule and a value, by their texts.
-fn told(alloc: Global, signature: &Signature, rule: &str, text: &str) -> Result<String, Fail> {
+pub(crate) fn told(
+    alloc: Global,
+    signature: &Signature,
+    rule: &str,
+    text: &str,
+) -> Result<String, Fail> {
     let module = module(alloc, rule)?;
     let value = value(alloc, signature, text)?;
     match last_axiom(&module) {

@@ -3,8 +3,9 @@ use Rattle.std.proofs.Common.{◌≡◌, refl, sym, subst, ℕ, List, [], ◌∷
 use Rattle.std.specs.List.{AllByRecursion}
 use Rattle.kp_kore.specs.Syntax.{Text}
 use Rattle.kp_kore.specs.Signature.{KoreSignature}
-use Rattle.kp_kore.specs.Value.{HasSort}
+use Rattle.kp_kore.specs.Value.{Value, HasSort}
 use Rattle.kp_kore.specs.Sorted.{IsSorted}
+use Rattle.kp_kore.specs.Instance.{Valuation}
 use Rattle.kp_kore.specs.Rules.{rewrite, ForeignLeft, foreign_rule, RuleBody, RewriteRule}
 use Rattle.kp_kore.specs.Theory.{Theory}
 use Rattle.kp_kore.specs.Steps.{IsUnknownBy}
@@ -13,7 +14,7 @@ use Rattle.kp_symbolic.specs.States.{SymbolicState}
 use Rattle.kp_symbolic.proofs.WellSorted.{term_sorted}
 use Rattle.kp_symbolic_laws.specs.Runs.{HasOneSortEach}
 use Rattle.kp_symbolic.specs.View.{clauses_view}
-use Rattle.kp_rules.specs.Skeletons.{Form, skeleton_view}
+use Rattle.kp_rules.specs.Skeletons.{Form, Admits, skeleton_view}
 use Rattle.kp_rules.specs.declared.skeleton.Skeleton.{Skeleton}
 use Rattle.kp_cases.specs.Parts.{StatePart, whole, with_clauses, IsSortedPart, OfEachInstance}
 use Rattle.kp_cases.specs.Cases.{MetPart}
@@ -92,6 +93,15 @@ tells_apart t used s place k q w f apart rule at =
     (subst (λ b. OfEachInstance g (whole s) (λ v c. ¬ IsUnknownBy g b c)) (sym f.body)
     (subst (λ p. OfEachInstance g p (λ v c. ¬ IsUnknownBy g (foreign_rule f.left) c)) w.is
     (unknown_nowhere g f.left (skeleton_view k) q.part (q.part ∷ []) f.stands (each_sorted g q.part w.ready.sorted, tt) apart)))
+
+-- where its left side stands for no value at all
+pub tells_never : (t : Theory) (used : List Text) (s : SymbolicState) (place : ℕ) (k : Skeleton) (q : NumberedPart) → IsWholeReady t.signature used s q → IsForeignAt t place k → ((v : Valuation) (u : Value) → ¬ Admits t.signature v (skeleton_view k) u) → TellsForeign t s place answer.Nothing
+tells_never t used s place k q w f never rule at =
+    let g = t.signature in
+    let sorted = subst (λ p. OfEachInstance g p (λ v c. IsSorted g c)) w.is (each_sorted g q.part w.ready.sorted) in
+    subst (λ x. OfEachInstance g (whole s) (λ v c. ¬ IsUnknownBy g x.body c)) (one_at t place f.rule rule f.at at)
+    (subst (λ b. OfEachInstance g (whole s) (λ v c. ¬ IsUnknownBy g b c)) (sym f.body)
+    (λ v c h i u. let a = (f.stands c (sorted v c h i)).1 u in never a.0 c a.1))
 
 -- and where the rule isn't foreign
 pub tells_read : (t : Theory) (s : SymbolicState) (place : ℕ) → ((r : RewriteRule) (l : ForeignLeft) → IsAt t place r → ¬ (r.body ≡ foreign_rule l)) → TellsForeign t s place answer.Nothing

@@ -19,6 +19,7 @@ pub mod SortedLemmas
 pub mod OutcomeLemmas
 pub mod VerifiedLemmas
 pub mod OneSortLemmas
+pub mod SharedLemmas
 pub mod MadeLemmas
 pub mod FollowingLemmas
 pub mod AskedLemmas

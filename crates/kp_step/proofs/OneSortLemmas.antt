@@ -35,12 +35,12 @@ front_of P ks i k h e =
     subst (λ js. AllOf P js ↔ (AllByRecursion P xs × AllOf P (drop (i + 1) ks))) (sym (waiting ks i k h e))
     ((λ a. (all_first P xs ys a, all_second P xs ys a)), (λ a. all_both P xs ys a.0 a.1))
 
-part_more : (P : SortedName → Type 0) (ks : List Skeleton) (i : ℕ) (k : Skeleton) → i < length ks → k ≡ get_or ks i k → AllByRecursion P (form_variables (skeleton_view k)) → AllOf P (drop i ks) ↔ AllOf P ks → AllOf P (drop (i + 1) ks) ↔ AllOf P ks
+pub part_more : (P : SortedName → Type 0) (ks : List Skeleton) (i : ℕ) (k : Skeleton) → i < length ks → k ≡ get_or ks i k → AllByRecursion P (form_variables (skeleton_view k)) → AllOf P (drop i ks) ↔ AllOf P ks → AllOf P (drop (i + 1) ks) ↔ AllOf P ks
 part_more P ks i k h e p a =
     let f = front_of P ks i k h e in
     ((λ rest. a.0 (f.1 (p, rest))), (λ all. (f.0 (a.1 all)).1))
 
-part_fails : (P : SortedName → Type 0) (ks : List Skeleton) (i : ℕ) (k : Skeleton) → i < length ks → k ≡ get_or ks i k → ¬ AllByRecursion P (form_variables (skeleton_view k)) → AllOf P (drop i ks) ↔ AllOf P ks → IsTrue false ↔ AllOf P ks
+pub part_fails : (P : SortedName → Type 0) (ks : List Skeleton) (i : ℕ) (k : Skeleton) → i < length ks → k ≡ get_or ks i k → ¬ AllByRecursion P (form_variables (skeleton_view k)) → AllOf P (drop i ks) ↔ AllOf P ks → IsTrue false ↔ AllOf P ks
 part_fails P ks i k h e n a =
     let f = front_of P ks i k h e in
     ((λ no. absurd (true_is_false (sym no))), (λ all. absurd (n (f.0 (a.1 all)).0)))

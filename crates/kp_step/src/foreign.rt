@@ -19,6 +19,7 @@ ghost use Rattle.kp_step.specs.Outcomes.{IsRightStep};
 use crate::answers::{Answer, Open, answer_of};
 use crate::outcome::StepOutcome;
 use crate::rules::foreign_at;
+use crate::shared::has_shared_sorts;
 use crate::variables::has_one_sort_each;
 use kp_compile::CompileError;
 use kp_firing::constrained;
@@ -42,7 +43,21 @@ fn met_answer(
     Ok(answer_of(alloc, setting, &whole.state, &part.state)?)
 }
 
-/// Whether the left side of a foreign rule stands for an instance of the part. Refused where it has one name at two sorts.
+/// Whether a left side with one name at two sorts stands for an instance. It stands for nothing, where two such sorts share no
+/// value; refused where each two share one.
+fn at_two_sorts(setting: Setting<'_>, skeleton: &Skeleton) -> Result<Answer, CompileError>
+    requires { IsHeadTableOf (signature_of setting) setting.table.now }
+    ensures { (t : Theory) (used : List Text) (s : SymbolicState) (place : ℕ) (q : NumberedPart) → let g = signature_of setting.entry in g ≡ t.signature → IsWholeReady g used s q → IsForeignAt t place skeleton.now →
+        IfOk result (TellsForeign t s place) }
+{
+    if has_shared_sorts(setting.table, setting.language.signature, skeleton) {
+        return Err(CompileError::Shape);
+    }
+    Ok(Answer::Nothing)
+}
+
+/// Whether the left side of a foreign rule stands for an instance of the part. Refused where it has one name at two sorts, each
+/// two of which share a value.
 fn meets(
     alloc: Global,
     setting: Setting<'_>,
@@ -54,7 +69,7 @@ fn meets(
         IfOk result (TellsForeign t s place) }
 {
     if !has_one_sort_each(skeleton) {
-        return Err(CompileError::Shape);
+        return at_two_sorts(setting, skeleton);
     }
     match meet(alloc, &setting, whole, skeleton)? {
         Some(meeting) => met_answer(alloc, setting, whole, &meeting.met),

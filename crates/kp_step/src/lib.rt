@@ -11,6 +11,7 @@ pub mod nexts;
 pub mod outcome;
 pub mod right;
 pub mod rules;
+pub mod shared;
 pub mod stepping;
 pub mod turns;
 pub mod variables;

@@ -6,7 +6,14 @@ use Rattle.kp_execute.proofs.answered.answer_of.Goals as goal
 
 pub returns-in-Result-clause-answered : goal.returns-in-Result-clause-answered
 returns-in-Result-clause-answered c = λ t o p runs same is.
-    c.ended.ensures.answered t o p c.args.run.now same is (c.is_end_right.ensures t same c.if-not-is_end_right.false) (subst (IsEnded t c.args.run.now) c.in-Result.is (c.in_ok-executed.ensures.written t runs same))
+    let r = c.args.run.now in
+    c.ended.ensures.answered t o p same (record {
+      whole = r;
+      run = is;
+      told = c.is_end_right.ensures t same c.if-not-is_end_right.false;
+      order = c.is_end_in_turn.ensures t runs c.if-not-is_end_in_turn.false;
+      written = subst (IsEnded t r) c.in-Result.is (c.in_ok-executed.ensures.written t runs same);
+    })
 
 pub returns-in-Open-clause-answered : goal.returns-in-Open-clause-answered
 returns-in-Open-clause-answered c = λ t o p runs same is.

@@ -7,7 +7,7 @@ use Rattle.kp_execute.proofs.AnswerLemmas.{ended_right}
 use Rattle.kp_execute.proofs.answered.ended.Goals as goal
 
 pub returns-clause-answered : goal.returns-clause-answered
-returns-clause-answered c = λ t o p r same is told w.
+returns-clause-answered c = λ t o p same e.
     let x = executed_view c.args.executed in
-    let sort = (state_view r.state).sort in
-    ended_right t o p r x is told w (subst (λ g. IsComputed g (pattern_of sort x.state)) same (c.is_state_computed.ensures c.if-not-is_state_computed.false sort))
+    let sort = (state_view e.whole.state).sort in
+    ended_right t o p x e (subst (λ g. IsComputed g (pattern_of sort x.state)) same (c.is_state_computed.ensures c.if-not-is_state_computed.false sort))

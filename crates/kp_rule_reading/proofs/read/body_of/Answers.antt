@@ -113,7 +113,7 @@ rewrite_from-requires-clause-condition c =
     let r = view c.args.right.now in
     let told = shape_told g (rewriting s l r) r c.in_ok-shape.field-0 c.in-Some.shape c.in-Some.is (c.in_ok-shape.ensures s) in
     let m = rewrite_seen r c.in-Some.shape in
-    conditions_named (λ y. is_named y (free_variables m.left)) m.condition (both_true (is_left_read g m.left) _ told.1).1
+    conditions_named (λ y. is_named y (free_variables m.left)) m.condition (both_true (is_left_read g m.left) _ told.1.side).1
 
 pub rewrite_from-requires-clause-right : goal.rewrite_from-requires-clause-right
 rewrite_from-requires-clause-right c =

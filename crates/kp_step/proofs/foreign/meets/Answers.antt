@@ -26,3 +26,6 @@ returns-in-None c t used s place e setting w f =
     let all = c.in_ok-meeting.ensures used setting (meetable g used form q w.ready (c.has_one_sort_each.ensures.0 c.if-not-has_one_sort_each.false)) in
     let apart = subst (λ o. MatchOption o (IsAllApart g form q.part) (λ x. IsMeeting g used form q.part (met_view x.met) x.met.part.next (map numbered_view x.apart.items))) c.in-None.is all in
     tells_all_apart t used s place c.args.skeleton.now q g e w f apart
+
+pub returns-then-not-has_one_sort_each : goal.returns-then-not-has_one_sort_each
+returns-then-not-has_one_sort_each c t used s place e setting w f = c.at_two_sorts.ensures t used s place (numbered_view c.args.whole.now) e w f

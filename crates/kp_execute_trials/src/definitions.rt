@@ -1,0 +1,135 @@
+use kp_kore::Definition;
+use kp_modules::{Table, load};
+use kp_text::read_definition;
+use std::alloc::Global;
+use std::test::Fail;
+
+/// The example definition.
+const TOYS: &str = r#"[]
+module BASIC
+  hooked-sort SortBool{} [hook{}("BOOL.Bool"), hasDomainValues{}()]
+  hooked-sort SortInt{} [hook{}("INT.Int"), hasDomainValues{}()]
+  symbol inj{From, To}(From) : To [sortInjection{}()]
+  hooked-symbol Lbladd{}(SortInt{}, SortInt{}) : SortInt{} [hook{}("INT.add"), function{}()]
+  hooked-symbol Lblsub{}(SortInt{}, SortInt{}) : SortInt{} [hook{}("INT.sub"), function{}()]
+  hooked-symbol Lblmul{}(SortInt{}, SortInt{}) : SortInt{} [hook{}("INT.mul"), function{}()]
+  hooked-symbol Lbleq{}(SortInt{}, SortInt{}) : SortBool{} [hook{}("INT.eq"), function{}()]
+  hooked-symbol Lblgt{}(SortInt{}, SortInt{}) : SortBool{} [hook{}("INT.gt"), function{}()]
+  hooked-symbol Lblge{}(SortInt{}, SortInt{}) : SortBool{} [hook{}("INT.ge"), function{}()]
+  hooked-symbol Lbllt{}(SortInt{}, SortInt{}) : SortBool{} [hook{}("INT.lt"), function{}()]
+  hooked-symbol Lblle{}(SortInt{}, SortInt{}) : SortBool{} [hook{}("INT.le"), function{}()]
+endmodule []
+module TOYS
+  import BASIC []
+  sort SortS{} []
+  sort SortP{} []
+  sort SortE{} []
+  symbol Lblpa{}() : SortP{} [constructor{}()]
+  symbol Lblpb{}() : SortP{} [constructor{}()]
+  symbol Lblpc{}() : SortP{} [constructor{}()]
+  symbol Lblnil{}() : SortE{} [constructor{}()]
+  symbol Lblcount{}(SortInt{}) : SortS{} [constructor{}()]
+  symbol Lbldone{}() : SortS{} [constructor{}()]
+  symbol Lblpick{}(SortP{}) : SortS{} [constructor{}()]
+  symbol Lblnum{}(SortE{}) : SortS{} [constructor{}()]
+  symbol Lblsq{}(SortInt{}) : SortS{} [constructor{}()]
+  symbol Lblup{}(SortInt{}) : SortS{} [constructor{}()]
+  symbol Lblodd{}(SortInt{}) : SortS{} [constructor{}()]
+  symbol Lbllone{}() : SortS{} [constructor{}()]
+  symbol Lblgoal{}() : SortS{} [constructor{}()]
+  symbol Lblloop{}() : SortS{} [constructor{}()]
+  symbol Lblvf{}(SortInt{}) : SortS{} [constructor{}()]
+  symbol Lblvg{}() : SortS{} [constructor{}()]
+  symbol Lblvh{}(SortInt{}) : SortS{} [constructor{}()]
+  symbol Lblother{}(SortInt{}) : SortInt{} [function{}()]
+  axiom{R} \exists{R}(Val:SortE{}, \equals{SortE{}, R}(Val:SortE{}, inj{SortInt{}, SortE{}}(From:SortInt{}))) [subsort{SortInt{}, SortE{}}()]
+  axiom{} \rewrites{SortS{}}(\and{SortS{}}(Lblcount{}(N:SortInt{}), \equals{SortBool{}, SortS{}}(Lblgt{}(N:SortInt{}, \dv{SortInt{}}("0")), \dv{SortBool{}}("true"))), Lblcount{}(Lblsub{}(N:SortInt{}, \dv{SortInt{}}("1")))) [label{}("TOYS.dec")]
+  axiom{} \rewrites{SortS{}}(\and{SortS{}}(Lblcount{}(N:SortInt{}), \equals{SortBool{}, SortS{}}(Lbleq{}(N:SortInt{}, \dv{SortInt{}}("0")), \dv{SortBool{}}("true"))), Lbldone{}()) [label{}("TOYS.stop")]
+  axiom{} \rewrites{SortS{}}(Lblpick{}(Lblpa{}()), Lbldone{}()) [label{}("TOYS.pick")]
+  axiom{} \rewrites{SortS{}}(Lblnum{}(inj{SortInt{}, SortE{}}(N:SortInt{})), Lbldone{}()) [label{}("TOYS.num")]
+  axiom{} \rewrites{SortS{}}(\and{SortS{}}(Lblsq{}(N:SortInt{}), \equals{SortBool{}, SortS{}}(Lbllt{}(Lblmul{}(N:SortInt{}, N:SortInt{}), \dv{SortInt{}}("0")), \dv{SortBool{}}("true"))), Lbldone{}()) [label{}("TOYS.sq")]
+  axiom{} \rewrites{SortS{}}(Lblup{}(N:SortInt{}), Lblup{}(Lbladd{}(N:SortInt{}, \dv{SortInt{}}("1")))) [label{}("TOYS.up")]
+  axiom{} \rewrites{SortS{}}(Lblodd{}(N:SortInt{}), Lblodd{}(Lblother{}(N:SortInt{}))) [label{}("TOYS.odd")]
+  axiom{} \rewrites{SortS{}}(Lblloop{}(), Lblloop{}()) [label{}("TOYS.spin")]
+  axiom{} \rewrites{SortS{}}(Lblvf{}(N:SortInt{}), Lblvg{}()) [label{}("TOYS.van")]
+  axiom{} \rewrites{SortS{}}(Lblvg{}(), Lblvh{}(Y:SortInt{})) [label{}("TOYS.back")]
+endmodule []
+"#;
+
+/// A rule of priority 40 and one for the rest, a rule that ensures a condition, and one whose left term has two constructors.
+const CHOICES: &str = r#"[]
+module CHOICES
+  hooked-sort SortBool{} [hook{}("BOOL.Bool")]
+  hooked-sort SortInt{} [hook{}("INT.Int")]
+  sort SortP{} []
+  sort SortS{} []
+  hooked-symbol Lblgt{}(SortInt{}, SortInt{}) : SortBool{} [hook{}("INT.gt")]
+  symbol Lblpa{}() : SortP{} [constructor{}()]
+  symbol Lblpb{}() : SortP{} [constructor{}()]
+  symbol Lblask{}() : SortS{} [constructor{}()]
+  symbol Lblgrade{}(SortInt{}) : SortS{} [constructor{}()]
+  symbol Lblhigh{}() : SortS{} [constructor{}()]
+  symbol Lbllow{}() : SortS{} [constructor{}()]
+  symbol Lblpair{}(SortP{}, SortP{}) : SortS{} [constructor{}()]
+  axiom{} \rewrites{SortS{}}(Lblgrade{}(N:SortInt{}), Lbllow{}()) [label{}("low"), owise{}()]
+  axiom{} \rewrites{SortS{}}(\and{SortS{}}(Lblgrade{}(N:SortInt{}), \equals{SortBool{}, SortS{}}(Lblgt{}(N:SortInt{}, \dv{SortInt{}}("5")), \dv{SortBool{}}("true"))), Lblhigh{}()) [label{}("high"), priority{}("40")]
+  axiom{} \rewrites{SortS{}}(Lblask{}(), \and{SortS{}}(Lblgrade{}(Y:SortInt{}), \equals{SortBool{}, SortS{}}(Lblgt{}(Y:SortInt{}, \dv{SortInt{}}("3")), \dv{SortBool{}}("true")))) [label{}("ask")]
+  axiom{} \rewrites{SortS{}}(Lblpair{}(Lblpa{}(), Lblpb{}()), Lblhigh{}()) [label{}("pair")]
+endmodule []
+"#;
+
+/// Two sorts above the same two sorts, no one of which has all that is in both; a rule's left term is a variable of the one.
+const LONE: &str = r#"[]
+module LONE
+  sort SortP{} []
+  sort SortQ{} []
+  sort SortD{} []
+  sort SortE{} []
+  axiom{R} \exists{R}(Val:SortP{}, \equals{SortP{}, R}(Val:SortP{}, inj{SortD{}, SortP{}}(From:SortD{}))) [subsort{SortD{}, SortP{}}()]
+  axiom{R} \exists{R}(Val:SortP{}, \equals{SortP{}, R}(Val:SortP{}, inj{SortE{}, SortP{}}(From:SortE{}))) [subsort{SortE{}, SortP{}}()]
+  axiom{R} \exists{R}(Val:SortQ{}, \equals{SortQ{}, R}(Val:SortQ{}, inj{SortD{}, SortQ{}}(From:SortD{}))) [subsort{SortD{}, SortQ{}}()]
+  axiom{R} \exists{R}(Val:SortQ{}, \equals{SortQ{}, R}(Val:SortQ{}, inj{SortE{}, SortQ{}}(From:SortE{}))) [subsort{SortE{}, SortQ{}}()]
+  symbol inj{From, To}(From) : To [sortInjection{}()]
+  symbol Lbld{}() : SortD{} [constructor{}()]
+  symbol Lble{}() : SortE{} [constructor{}()]
+  symbol Lblq{}() : SortQ{} [constructor{}()]
+  axiom{} \rewrites{SortQ{}}(Y:SortQ{}, Lblq{}()) [label{}("LONE.q")]
+endmodule []
+"#;
+
+/// A definition whose states are executed.
+#[derive(Clone, Copy)]
+pub(crate) enum Asked {
+    /// The example definition.
+    Toys,
+    /// The one with rules of two priorities.
+    Choices,
+    /// The one with a rule whose left term is a variable.
+    Lone,
+}
+
+/// What a text spells.
+fn spelled(alloc: Global, text: &str) -> Result<Definition, Fail> {
+    match read_definition(alloc, text.as_bytes()) {
+        Ok(definition) => Ok(definition),
+        Err(_) => Err(Fail::from("no definition")),
+    }
+}
+
+/// The table of a definition's text with this main module.
+fn loaded(alloc: Global, text: &str, main: &str) -> Result<Table, Fail> {
+    let definition = spelled(alloc, text)?;
+    match load(alloc, &definition, main) {
+        Ok(table) => Ok(table),
+        Err(_) => Err(Fail::from("no table")),
+    }
+}
+
+/// The table of a definition.
+pub(crate) fn table(alloc: Global, asked: Asked) -> Result<Table, Fail> {
+    match asked {
+        Asked::Toys => loaded(alloc, TOYS, "TOYS"),
+        Asked::Choices => loaded(alloc, CHOICES, "CHOICES"),
+        Asked::Lone => loaded(alloc, LONE, "LONE"),
+    }
+}
