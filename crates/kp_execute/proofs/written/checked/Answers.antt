@@ -1,4 +1,4 @@
-use Rattle.std.proofs.Common.{rules, ◌≡◌, inl, subst, not, false}
+use Rattle.std.proofs.Common.{rules, ◌≡◌, inl, subst, not, true, false}
 use Rattle.kp_kore.specs.View.{view}
 use Rattle.kp_kore.specs.Foreign.{none_within}
 use Rattle.kp_compile.specs.Spelled.{has_two_sorts}
