@@ -5,12 +5,11 @@ use Rattle.std.specs.Option.{option_map, IfSome}
 use Rattle.std.specs.Result.{IfOk}
 use Rattle.std.specs.declared.alloc.Global.{Global}
 use Rattle.serde_json.specs.Data.{Data}
-use Rattle.kp_kore.specs.Syntax.{KoreSort, KorePattern}
+use Rattle.kp_kore.specs.Syntax.{KorePattern}
 use Rattle.kp_kore.specs.Executions as theory
 use Rattle.kp_kore.specs.Signature.{KoreSignature}
 use Rattle.kp_kore.specs.Theory.{Theory}
 use Rattle.kp_json.specs.Faults.{Reading, read}
-use Rattle.kp_signature.specs.Verify.{VerifiesAs}
 use Rattle.kp_clauses.specs.Faults.{state_fault}
 use Rattle.kp_rpc.specs.Request.{RequestId, ExecuteOptions}
 use Rattle.kp_rpc.specs.Reply.{foreign_symbol, other_shape, not_verified, error_reply, result_reply, reply_bytes}
