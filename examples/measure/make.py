@@ -5,7 +5,8 @@
 
 KIND is one of: rules, sorts, modules, chain, arguments, deep-sort, deep-pattern, deep-and, deep-fold, wide-fold,
 deep-attribute, labels, subsorts, injections, sort-chain, beside, beside-request, counting-request, ring, ring-request,
-any-head, variables, variables-request, doubling, doubling-request, push, push-request, beside-claim. NUMBER is how many. The text goes to FILE, or to standard output.
+any-head, variables, variables-request, doubling, doubling-request, push, push-request, beside-claim, heads, open-requests,
+closed-requests. NUMBER is how many. The text goes to FILE, or to standard output.
 """
 import json
 import sys
@@ -261,6 +262,27 @@ def push_request(n):
         return application("Lblp", [tree(half), tree(size - 1 - half)])
 
     return execution(application("Lbla", [tree(n)]), 10000)
+
+
+def heads(n):
+    """n sorts with a constructor each, which another one takes, beside a rule that touches none of them."""
+    lines = ["  symbol Lblnext{}(SortInt{}) : SortS{} [constructor{}()]\n"]
+    lines.append('  axiom{} \\rewrites{SortS{}}(Lblnext{}(N:SortInt{}), Lblnext{}(Lblsub{}(N:SortInt{}, \\dv{SortInt{}}("1")))) [label{}("next")]\n')
+    for i in range(n):
+        lines.append(f"  sort SortR{i}{{}} []\n  symbol Lblr{i}{{}}(SortInt{{}}) : SortR{i}{{}} [constructor{{}}()]\n")
+        lines.append(f"  symbol Lblq{i}{{}}(SortR{i}{{}}) : SortS{{}} [constructor{{}}()]\n")
+    return "[]\n" + module(HEAD + "".join(lines))
+
+
+def open_requests(n):
+    """n requests of one step from a state with a variable, over `heads`."""
+    variable = {"tag": "EVar", "name": "X", "sort": {"tag": "SortApp", "name": "SortInt", "args": []}}
+    return (execution(application("Lblnext", [variable]), 1) + "\n") * n
+
+
+def closed_requests(n):
+    """The same from a state without one."""
+    return (execution(application("Lblnext", [literal("SortInt", 7)]), 1) + "\n") * n
 
 
 def application(name, arguments):

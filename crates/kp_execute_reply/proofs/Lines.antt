@@ -5,27 +5,22 @@ use Rattle.std.specs.Option.{option_map, IfSome}
 use Rattle.std.specs.Result.{IfOk}
 use Rattle.std.specs.declared.alloc.Global.{Global}
 use Rattle.serde_json.specs.Data.{Data}
-use Rattle.kp_kore.specs.Syntax.{KoreSort, KorePattern}
+use Rattle.kp_kore.specs.Syntax.{KorePattern}
 use Rattle.kp_kore.specs.Executions as theory
 use Rattle.kp_kore.specs.Signature.{KoreSignature}
 use Rattle.kp_kore.specs.Theory.{Theory}
 use Rattle.kp_json.specs.Faults.{Reading, read}
-use Rattle.kp_signature.specs.Verify.{VerifiesAs}
 use Rattle.kp_clauses.specs.Faults.{state_fault}
 use Rattle.kp_rpc.specs.Request.{RequestId, ExecuteOptions}
 use Rattle.kp_rpc.specs.Reply.{foreign_symbol, other_shape, not_verified, error_reply, result_reply, reply_bytes}
-use Rattle.kp_rpc.specs.View.{pattern_fault_view, state_fault_view}
+use Rattle.kp_rpc.specs.View.{state_fault_view}
 use Rattle.kp_rpc.specs.declared.fault.StateFault.{StateFault}
-use Rattle.kp_rpc.specs.declared.fault.StateFault.TheVariants as fault
 use Rattle.kp_replies.specs.Aborted.{aborted_tree}
 use Rattle.kp_replies.specs.Right.{asked_options}
 use Rattle.kp_replies.specs.Written.{executed_tree}
 use Rattle.kp_results.specs.Results.{ExecutedParts, StateParts, Undecided}
-use Rattle.kp_server.specs.Ends.{IsWrongPattern}
-use Rattle.kp_server.specs.Right.{NoneLeftOut}
 use Rattle.kp_server.specs.Setting.{Setting}
-use Rattle.kp_server.specs.declared.failure.Failure.TheVariants as failure
-use Rattle.kp_simplify_reply.specs.Answered.{IsReplyLine}
+use Rattle.kp_simplify_reply.specs.Answered.{IsFaultTold, fault_told, IsReplyLine}
 use Rattle.kp_simplify_reply.proofs.Lines.{right_line}
 use Rattle.kp_execute.specs.Answers.{RunAnswer, executed, left_open, IsRightAnswer, IsUnexecuted}
 use Rattle.kp_execute.specs.Wants.{LacksInjection, TellsNoInjection}
@@ -41,12 +36,9 @@ pub line_of_read : {E : Type 0} (r : Result (Vec ℕ Global) E) (s : Setting) (i
     IfOk r (λ line. IsReplyLine (IsExecutedAs s id options x) line.items)
 line_of_read r s id options x y same l = subst (λ z. IfOk r (λ line. IsReplyLine (IsExecutedAs s id options z) line.items)) (sym same) l
 
-pub fault_line : {E : Type 0} (r : Result (Vec ℕ Global) E) (s : Setting) (id : RequestId) (options : ExecuteOptions) (p : KorePattern) (f : StateFault) → IsWrongPattern s.theory.signature NoneLeftOut p (failure.Fault f) →
-    ((sort : KoreSort) → VerifiesAs s.theory.signature p sort → ⊥) → IfOk r (λ line. line.items ≡ reply_bytes (error_reply id (state_fault_view f))) → IfOk r (λ line. IsReplyLine (IsExecutedAs s id options (read p)) line.items)
-fault_line r s id options p (fault.Json f) w fails l = absurd w
-fault_line r s id options p (fault.Verify f) w fails l =
-    right_line r (IsExecutedAs s id options (read p)) (error_reply id (not_verified (pattern_fault_view f))) (faulty p (pattern_fault_view f) (record { tells = w; unverified = fails })) l
-fault_line r s id options p (fault.NoModule name) w fails l = absurd w
+-- the reply that tells a verify fault
+pub told_fault : (s : Setting) (id : RequestId) (options : ExecuteOptions) (p : KorePattern) (reply : Data) → IsFaultTold s.theory.signature id p reply → IsExecutedAs s id options (read p) reply
+told_fault s id options p reply (fault_told f h) = faulty p f h
 
 -- ---- ground states
 

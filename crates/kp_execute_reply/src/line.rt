@@ -1,18 +1,14 @@
 // The line of a reply to execute.
-ghost use Rattle.std.specs.Prelude.{◌≡◌, false, IfOk};
-ghost use Rattle.std.specs.Option.{IsSome};
+ghost use Rattle.std.specs.Prelude.{◌≡◌, IfOk};
 ghost use Rattle.kp_json.specs.Faults as faults;
-ghost use Rattle.kp_kore.specs.Syntax.{KorePattern};
 ghost use Rattle.kp_kore.specs.View.{view, sort_view};
 ghost use Rattle.kp_requests.specs.View.{reading_view};
-ghost use Rattle.kp_rpc.specs.Request.{ExecuteOptions};
 ghost use Rattle.kp_rpc.specs.View.{id_view, options_view};
 ghost use Rattle.kp_rule_sets.specs.RuleSets.{RunsAs};
-ghost use Rattle.kp_server.specs.Ends.{TellsFault};
 ghost use Rattle.kp_server.specs.Setting.{IsElsewhere, Setting};
-ghost use Rattle.kp_signature.specs.Faults.{fault_view};
 ghost use Rattle.kp_signature.specs.Verify.{VerifiesAs};
 ghost use Rattle.kp_simplify_reply.specs.Answered.{IsReplyLine};
+ghost use Rattle.kp_simplify_reply.specs.Prepared.{IsPrepared, signature_in};
 ghost use Rattle.kp_execute_reply.specs.Answered.{IsExecutedAs, IsUnderstoodAs};
 
 use crate::ground::ground_line;
@@ -21,27 +17,29 @@ use kp_kore::{Pattern, Sort};
 use kp_requests::Reading;
 use kp_rpc::{Id, Options, StateFault, fault_text};
 use kp_rule_sets::RuleSet;
-use kp_server::{Failure, verify_failure};
-use kp_signature::{VerifyError, verify};
+use kp_signature::verify;
+use kp_simplify_reply::{Prepared, unverified_line};
 use std::alloc::{AllocError, Global};
 
-/// The reply to a request of execute over these rules.
+/// The reply to a request of execute over these rules, and what is looked up of their signature.
 /// Source: the K Haskell backend's JSON-RPC documentation (execute).
 ///
 /// # Errors
 /// Where memory runs out.
 pub fn executed_line(
     alloc: Global,
+    prepared: &Prepared,
     rules: &RuleSet,
     id: &Id,
     state: Reading,
     options: &Options,
 ) -> Result<Vec<u8>, AllocError>
-    ensures { (s : Setting) → RunsAs s.theory rules.now → ¬ IsElsewhere s.main (options_view options.now).module_name →
+    requires { IsPrepared prepared.now }
+    ensures { (s : Setting) → RunsAs s.theory rules.now → signature_in prepared.now ≡ s.theory.signature → ¬ IsElsewhere s.main (options_view options.now).module_name →
         IfOk result (λ line. IsReplyLine (IsExecutedAs s (id_view id.now) (options_view options.now) (reading_view state)) line.items) }
 {
     match state {
-        Reading::Pattern(pattern) => pattern_line(alloc, rules, id, &pattern, options),
+        Reading::Pattern(pattern) => pattern_line(alloc, prepared, rules, id, &pattern, options),
         Reading::Fault(fault) => fault_text(alloc, id, &StateFault::Json(fault)),
     }
 }
@@ -49,58 +47,39 @@ pub fn executed_line(
 /// The same of a pattern that was read.
 fn pattern_line(
     alloc: Global,
+    prepared: &Prepared,
     rules: &RuleSet,
     id: &Id,
     pattern: &Pattern,
     options: &Options,
 ) -> Result<Vec<u8>, AllocError>
-    ensures { (s : Setting) → RunsAs s.theory rules.now → ¬ IsElsewhere s.main (options_view options.now).module_name →
+    requires { IsPrepared prepared.now }
+    ensures { (s : Setting) → RunsAs s.theory rules.now → signature_in prepared.now ≡ s.theory.signature → ¬ IsElsewhere s.main (options_view options.now).module_name →
         IfOk result (λ line. IsReplyLine (IsExecutedAs s (id_view id.now) (options_view options.now) (faults.read (view pattern.now))) line.items) }
 {
     match verify(alloc, &rules.signature, pattern) {
-        Ok(sort) => verified_line(alloc, rules, id, pattern, sort, options),
+        Ok(sort) => verified_line(alloc, prepared, rules, id, pattern, sort, options),
         Err(error) => unverified_line(alloc, id, error),
-    }
-}
-
-/// Whether verify ran out of memory.
-fn is_memory(error: &VerifyError) -> bool
-    ensures { result ≡ false → IsSome (fault_view error.now) }
-{
-    match error {
-        VerifyError::Memory => true,
-        _ => false,
-    }
-}
-
-/// The line that tells a verify fault.
-fn unverified_line(alloc: Global, id: &Id, error: VerifyError) -> Result<Vec<u8>, AllocError>
-    ensures { (s : Setting) (options : ExecuteOptions) (p : KorePattern) → TellsFault s.theory.signature p error → IfOk result (λ line. IsReplyLine (IsExecutedAs s (id_view id.now) options (faults.read p)) line.items) }
-{
-    if is_memory(&error) {
-        return Err(AllocError);
-    }
-    match verify_failure(alloc, error) {
-        Failure::Fault(fault) => fault_text(alloc, id, &fault),
-        Failure::Memory => Err(AllocError),
     }
 }
 
 /// The line that replies to a pattern that verifies: by values where they tell the run, else by symbolic steps.
 fn verified_line(
     alloc: Global,
+    prepared: &Prepared,
     rules: &RuleSet,
     id: &Id,
     pattern: &Pattern,
     sort: Sort,
     options: &Options,
 ) -> Result<Vec<u8>, AllocError>
-    ensures { (s : Setting) → RunsAs s.theory rules.now → ¬ IsElsewhere s.main (options_view options.now).module_name → VerifiesAs s.theory.signature (view pattern.now) (sort_view sort) →
+    requires { IsPrepared prepared.now }
+    ensures { (s : Setting) → RunsAs s.theory rules.now → signature_in prepared.now ≡ s.theory.signature → ¬ IsElsewhere s.main (options_view options.now).module_name → VerifiesAs s.theory.signature (view pattern.now) (sort_view sort) →
         IfOk result (λ line. IsReplyLine (IsUnderstoodAs s (id_view id.now) (options_view options.now) (view pattern.now)) line.items) }
 {
     let own = sort.copy(alloc)?;
     match ground_line(alloc, rules, id, pattern, own, options)? {
         Some(line) => Ok(line),
-        None => symbolic_line(alloc, rules, id, pattern, sort, options),
+        None => symbolic_line(alloc, prepared, rules, id, pattern, sort, options),
     }
 }

@@ -15,6 +15,7 @@ ghost use Rattle.kp_server.specs.Setting.{Setting};
 ghost use Rattle.kp_signature.specs.Verify.{VerifiesAs};
 ghost use Rattle.kp_symbolic.specs.Languages.{language_view};
 ghost use Rattle.kp_simplify_reply.specs.Answered.{IsReplyLine};
+ghost use Rattle.kp_simplify_reply.specs.Prepared.{IsPrepared, signature_in};
 ghost use Rattle.kp_execute.specs.Answers.{IsRightAnswer, IsUnexecuted, answer_view};
 ghost use Rattle.kp_execute.specs.Wants.{LacksInjection, TellsNoInjection};
 ghost use Rattle.kp_execute_reply.specs.Answered.{IsUnderstoodAs, reply_of};
@@ -28,6 +29,7 @@ use kp_results::Options as Asked;
 use kp_rpc::{Id, Options, PatternFault, StateFault, bound_of, fault_text};
 use kp_rule_sets::RuleSet;
 use kp_server::not_answered;
+use kp_simplify_reply::Prepared;
 use kp_symbolic::Language;
 use std::alloc::{AllocError, Global};
 
@@ -149,16 +151,26 @@ fn line_over(
 /// The line of the reply to execute of a verified pattern of this sort, by symbolic steps.
 pub fn symbolic_line(
     alloc: Global,
+    prepared: &Prepared,
     rules: &RuleSet,
     id: &Id,
     pattern: &Pattern,
     sort: Sort,
     options: &Options,
 ) -> Result<Vec<u8>, AllocError>
-    ensures { (s : Setting) → RunsAs s.theory rules.now → VerifiesAs s.theory.signature (view pattern.now) (sort_view sort) →
+    requires { IsPrepared prepared.now }
+    ensures { (s : Setting) → RunsAs s.theory rules.now → signature_in prepared.now ≡ s.theory.signature → VerifiesAs s.theory.signature (view pattern.now) (sort_view sort) →
         IfOk result (λ line. IsReplyLine (IsUnderstoodAs s (id_view id.now) (options_view options.now) (view pattern.now)) line.items) }
 {
-    let language = Language::new(alloc, &rules.signature)?;
-    let table = HeadTable::new(alloc, &rules.signature)?;
-    line_over(alloc, &language, &table, rules, id, pattern, sort, options)
+    let language = prepared.language()?;
+    line_over(
+        alloc,
+        &language,
+        &prepared.heads,
+        rules,
+        id,
+        pattern,
+        sort,
+        options,
+    )
 }

@@ -1,12 +1,14 @@
 -- The module that is asked, and what is served of it; calls that leave the book.
-use Rattle.std.proofs.Common.{◌≡◌, refl, sym, ap, subst, ℕ, List, [], ◌∷◌, Option, Some, None, Result, Ok, Err, Vec, ◌⊎◌, inl, inr, string_bytes}
+use Rattle.std.proofs.Common.{◌≡◌, ◌∙◌, refl, sym, ap, subst, ℕ, List, [], ◌∷◌, Option, Some, None, Result, Ok, Err, Vec, ◌⊎◌, inl, inr, string_bytes}
 use Rattle.std.specs.Option.{option_map, IsSome, IfSome}
 use Rattle.std.proofs.lemmas.Result.{IfOk-weaker}
 use Rattle.std.specs.Result.{IfOk, OnErr, OnOk}
 use Rattle.std.specs.declared.alloc.Global.{Global}
 use Rattle.std.specs.Prelude.{String}
 use Rattle.serde_json.specs.Data.{Data}
-use Rattle.kp_kore.specs.Syntax.{Text}
+use Rattle.kp_kore.specs.Syntax.{Text, KorePattern}
+use Rattle.kp_kore.specs.Signature.{KoreSignature}
+use Rattle.kp_json.specs.Faults.{Reading}
 use Rattle.kp_rule_sets.specs.RuleSets.{RunsAs}
 use Rattle.kp_rule_sets.specs.declared.rule_set.RuleSet.{RuleSet}
 use Rattle.kp_rpc.specs.Request.{RequestId}
@@ -21,10 +23,12 @@ use Rattle.kp_registry.specs.declared.book.Registry.{Registry}
 use Rattle.kp_registry.specs.declared.seen.Pass.{Pass}
 use Rattle.kp_conn.proofs.Conversing.{sees_same}
 use Rattle.kp_server.specs.Setting.{IsElsewhere, Setting}
+use Rattle.kp_simplify_reply.specs.Answered.{IsSimplifiedAs}
 use Rattle.kp_service.specs.Answered.{IsReplyIn, no_such_module, in_module}
 use Rattle.kp_service.specs.Answers.{AddsNothing, IsReplyTo}
 use Rattle.kp_service.specs.Batches.{FromEachBookSeen, IsEffect, adds_nothing, IsReplyLine, line_told, MayHaveDone, did_nothing}
 use Rattle.kp_service.specs.Meant.{IsServedAt, module_asked}
+use Rattle.kp_service.specs.Ready.{signature_over}
 use Rattle.kp_additions.specs.Served.{HasSeenAt}
 use Rattle.kp_service.specs.Told.{IsLineOf}
 
@@ -40,6 +44,7 @@ pub record Serves (o : Opening) (book : List Registration) (asked : Option Text)
   pub served : IsServedAt o book asked setting
   pub runs : RunsAs setting.theory rules
   pub here : ¬ IsElsewhere setting.main asked
+  pub over : o.signature ≡ setting.theory.signature
 
 not_elsewhere : (o : Opening) (asked : Option Text) → ¬ IsElsewhere (module_asked o asked) asked
 not_elsewhere o None e = e
@@ -51,6 +56,7 @@ serves o book asked rules m = record {
   served = record { axioms = m.0; bound = m.1; means = record { signature = refl; rules = m.2.made.are_rules }; main_is = refl; names_are = refl };
   runs = record { signature = m.2.signature; each = m.2.made.are_code };
   here = not_elsewhere o asked;
+  over = refl;
 }
 
 -- ---- lines
@@ -59,6 +65,10 @@ serves o book asked rules m = record {
 pub in_module_line : (o : Opening) (book : List Registration) (asked : Option Text) (id : RequestId) (RightOver : Setting → Data → Type 0) (s : Setting) → IsServedAt o book asked s →
     (line : List ℕ) → IsLineOf (RightOver s) line → IsLineOf (IsReplyIn o book asked id RightOver) line
 in_module_line o book asked id RightOver s served line l = (l.0, in_module s l.0 served l.1, l.2)
+
+-- the line that is right over an equal signature
+pub line_over : {E : Type 0} (r : Result (Vec ℕ Global) E) (id : RequestId) (state : Reading KorePattern) {g h : KoreSignature} → g ≡ h → IfOk r (λ line. IsLineOf (IsSimplifiedAs g id state) line.items) → IfOk r (λ line. IsLineOf (IsSimplifiedAs h id state) line.items)
+line_over r id state same l = subst (λ k. IfOk r (λ line. IsLineOf (IsSimplifiedAs k id state) line.items)) same l
 
 -- the line with code 3, where the name that is asked means nothing
 pub no_module_line : (o : Opening) (book : List Registration) (asked : Option (String Global)) (id : RequestId) (RightOver : Setting → Data → Type 0) → IsSome asked → MeansAt o book (module_asked o (option_map string_bytes asked)) None →
@@ -120,12 +130,12 @@ line_stays registry before after id asked line same h = stays registry before af
 -- the line over the module that is asked
 pub served_line : {E : Type 0} (r : Result (Vec ℕ Global) E) (registry : Registry) (pass : Pass) (asked : Option Text) (found : Option RuleSet) (rules : RuleSet) (id : RequestId) (RightOver : Setting → Data → Type 0) → found ≡ Some rules →
     ((o : Opening) (book : List Registration) → HasSeenAt registry pass o book → MeansAt o book (module_asked o asked) found) →
-    ((s : Setting) → RunsAs s.theory rules → ¬ IsElsewhere s.main asked → IfOk r (λ line. IsLineOf (RightOver s) line.items)) →
+    ((s : Setting) → RunsAs s.theory rules → ¬ IsElsewhere s.main asked → signature_over registry ≡ s.theory.signature → IfOk r (λ line. IsLineOf (RightOver s) line.items)) →
     IfOk r (λ line. (o : Opening) (book : List Registration) → HasSeenAt registry pass o book → IsLineOf (IsReplyIn o book asked id RightOver) line.items)
 served_line r registry pass asked found rules id RightOver is means right =
     for_all r (HasSeenAt registry pass) (λ o book line. IsLineOf (IsReplyIn o book asked id RightOver) line.items)
     (λ o book seen. let s = serves o book asked rules (subst (MeansAt o book (module_asked o asked)) is (means o book seen)) in
-    IfOk-weaker r _ _ (λ line l. in_module_line o book asked id RightOver s.setting s.served line.items l) (right s.setting s.runs s.here))
+    IfOk-weaker r _ _ (λ line l. in_module_line o book asked id RightOver s.setting s.served line.items l) (right s.setting s.runs s.here (seen.table.rules.signature ∙ s.over)))
 
 -- the line where no such module is there
 pub unserved_line : {E : Type 0} (r : Result (Vec ℕ Global) E) (registry : Registry) (pass : Pass) (asked : Option (String Global)) (found : Option RuleSet) (id : RequestId) (RightOver : Setting → Data → Type 0) → found ≡ None → IsSome asked →

@@ -2,4 +2,5 @@ pub mod Answered
 pub mod Answers
 pub mod Batches
 pub mod Meant
+pub mod Ready
 pub mod Told

@@ -4,27 +4,31 @@ ghost use Rattle.kp_requests.specs.View.{call_view, calls_view};
 ghost use Rattle.kp_registry.specs.Passes.{IsPass};
 ghost use Rattle.kp_service.specs.Answers.{IsFront};
 ghost use Rattle.kp_service.specs.Batches.{FromEachBookSeen, AreMembersText, IsNextTold, text_closed, text_with};
+ghost use Rattle.kp_service.specs.Ready.{IsReadyFor};
 
 use crate::member::answered;
 use kp_registry::{Pass, Registry};
 use kp_requests::Call;
+use kp_simplify_reply::Prepared;
 use std::alloc::{AllocError, Global};
 
 /// The text of the replies to a batch's calls in order, as one array; none where none of them has a reply.
 pub fn answered_batch(
     alloc: Global,
     registry: &Registry,
+    prepared: &Prepared,
     pass: &mut Pass,
     calls: Vec<Call>,
 ) -> Result<Option<Vec<u8>>, AllocError>
     requires pass { IsPass pass.old }
+    requires prepared { IsReadyFor registry.now prepared.now }
     ensures pass { IsPass pass.new }
     ensures told { IfOk result (λ array. FromEachBookSeen registry.now pass.old pass.new (λ o book. AreMembersText o book (calls_view calls.items) (option_map (λ text. text.items) array))) }
     ensures begun { OnErr result (FromEachBookSeen registry.now pass.old pass.new (λ o book. IsFront o book (calls_view calls.items))) }
 {
     let mut replies = Vec::new(alloc);
     for call in calls {
-        answer_next(alloc, registry, pass, call, &mut replies)?;
+        answer_next(alloc, registry, prepared, pass, call, &mut replies)?;
     }
     closed(replies)
 }
@@ -33,16 +37,18 @@ pub fn answered_batch(
 fn answer_next(
     alloc: Global,
     registry: &Registry,
+    prepared: &Prepared,
     pass: &mut Pass,
     call: Call,
     replies: &mut Vec<u8>,
 ) -> Result<(), AllocError>
     requires pass { IsPass pass.old }
+    requires prepared { IsReadyFor registry.now prepared.now }
     ensures pass { IsPass pass.new }
     ensures told { OnOk result (FromEachBookSeen registry.now pass.old pass.new (λ o book. IsNextTold o book (call_view call) replies.old.items replies.new.items)) }
     ensures begun { OnErr result (FromEachBookSeen registry.now pass.old pass.new (λ o book. IsFront o book (call_view call ∷ []))) }
 {
-    let told = answered(alloc, registry, pass, call)?;
+    let told = answered(alloc, registry, prepared, pass, call)?;
     match told {
         Some(reply) => add_reply(replies, &reply),
         None => Ok(()),

@@ -8,6 +8,5 @@ mod implied;
 pub mod laws;
 mod member;
 mod service;
-mod simplified;
 
 pub use service::Service;

@@ -11,17 +11,18 @@ ghost use Rattle.kp_execute_reply.specs.Answered.{IsExecutedAs};
 ghost use Rattle.kp_service.specs.Answers.{IsFront};
 ghost use Rattle.kp_service.specs.Batches.{FromEachBookSeen, call_of, IsEffect, IsMemberText, IsReplyLine, MayHaveDone};
 ghost use Rattle.kp_service.specs.Meant.{module_asked};
+ghost use Rattle.kp_service.specs.Ready.{IsReadyFor};
 ghost use Rattle.kp_additions.specs.Served.{AtEachBookSeen};
 ghost use Rattle.kp_service.specs.Told.{IsLineOf};
 
 use crate::added::{add_silently, added_line};
 use crate::implied::implied_line;
-use crate::simplified::simplified_over;
 use kp_execute_reply::executed_line;
 use kp_registry::{Pass, Registry};
 use kp_requests::{Asked, Call, Reading, Request};
 use kp_rpc::{Id, Options, StateFault, fault_text, refusal_text};
 use kp_rule_sets::RuleSet;
+use kp_simplify_reply::{Prepared, simplified_line};
 use std::alloc::{AllocError, Global};
 use std::sync::Arc;
 
@@ -29,17 +30,19 @@ use std::sync::Arc;
 pub fn answered(
     alloc: Global,
     registry: &Registry,
+    prepared: &Prepared,
     pass: &mut Pass,
     call: Call,
 ) -> Result<Option<Vec<u8>>, AllocError>
     requires pass { IsPass pass.old }
+    requires prepared { IsReadyFor registry.now prepared.now }
     ensures pass { IsPass pass.new }
     ensures told { IfOk result (λ reply. FromEachBookSeen registry.now pass.old pass.new (λ o book. IsMemberText o book (call_view call) (option_map (λ text. text.items) reply))) }
     ensures begun { OnErr result (FromEachBookSeen registry.now pass.old pass.new (λ o book. IsFront o book (call_view call ∷ []))) }
 {
     let Call { id, asked } = call;
     match id {
-        Some(id) => reply_text(alloc, registry, pass, &id, asked),
+        Some(id) => reply_text(alloc, registry, prepared, pass, &id, asked),
         None => no_text(alloc, registry, pass, asked),
     }
 }
@@ -48,16 +51,18 @@ pub fn answered(
 fn reply_text(
     alloc: Global,
     registry: &Registry,
+    prepared: &Prepared,
     pass: &mut Pass,
     id: &Id,
     asked: Asked,
 ) -> Result<Option<Vec<u8>>, AllocError>
     requires pass { IsPass pass.old }
+    requires prepared { IsReadyFor registry.now prepared.now }
     ensures pass { IsPass pass.new }
     ensures told { IfOk result (λ reply. FromEachBookSeen registry.now pass.old pass.new (λ o book. IsMemberText o book (call_of (Some (id_view id.now)) (asked_view asked)) (option_map (λ text. text.items) reply))) }
     ensures begun { OnErr result (FromEachBookSeen registry.now pass.old pass.new (λ o book. IsFront o book (call_of (Some (id_view id.now)) (asked_view asked) ∷ []))) }
 {
-    let line = reply_line(alloc, registry, pass, id, asked)?;
+    let line = reply_line(alloc, registry, prepared, pass, id, asked)?;
     Ok(Some(text_of(line)))
 }
 
@@ -130,17 +135,19 @@ fn request_effect(
 fn reply_line(
     alloc: Global,
     registry: &Registry,
+    prepared: &Prepared,
     pass: &mut Pass,
     id: &Id,
     asked: Asked,
 ) -> Result<Vec<u8>, AllocError>
     requires pass { IsPass pass.old }
+    requires prepared { IsReadyFor registry.now prepared.now }
     ensures pass { IsPass pass.new }
     ensures told { IfOk result (λ line. FromEachBookSeen registry.now pass.old pass.new (λ o book. IsReplyLine o book (id_view id.now) (asked_view asked) line.items)) }
     ensures begun { OnErr result (FromEachBookSeen registry.now pass.old pass.new (λ o book. MayHaveDone o book (asked_view asked))) }
 {
     match asked {
-        Asked::Request(request) => request_line(alloc, registry, pass, id, request),
+        Asked::Request(request) => request_line(alloc, registry, prepared, pass, id, request),
         Asked::Refused(refusal) => refusal_text(alloc, id, refusal),
     }
 }
@@ -149,18 +156,20 @@ fn reply_line(
 fn request_line(
     alloc: Global,
     registry: &Registry,
+    prepared: &Prepared,
     pass: &mut Pass,
     id: &Id,
     request: Request,
 ) -> Result<Vec<u8>, AllocError>
     requires pass { IsPass pass.old }
+    requires prepared { IsReadyFor registry.now prepared.now }
     ensures pass { IsPass pass.new }
     ensures told { IfOk result (λ line. FromEachBookSeen registry.now pass.old pass.new (λ o book. IsReplyLine o book (id_view id.now) (requests.asks (request_view request)) line.items)) }
     ensures begun { OnErr result (FromEachBookSeen registry.now pass.old pass.new (λ o book. MayHaveDone o book (requests.asks (request_view request)))) }
 {
     match request {
         Request::Execute { state, options } => {
-            execute_line(alloc, registry, pass, id, state, options)
+            execute_line(alloc, registry, prepared, pass, id, state, options)
         }
         Request::Implies {
             antecedent,
@@ -176,7 +185,7 @@ fn request_line(
             module_name,
         ),
         Request::Simplify { state, module_name } => {
-            simplify_line(alloc, registry, pass, id, state, module_name)
+            simplify_line(alloc, registry, prepared, pass, id, state, module_name)
         }
         Request::AddModule { text, name_as_id } => {
             added_line(alloc, registry, pass, id, text, name_as_id)
@@ -188,17 +197,19 @@ fn request_line(
 fn execute_line(
     alloc: Global,
     registry: &Registry,
+    prepared: &Prepared,
     pass: &mut Pass,
     id: &Id,
     state: Reading,
     options: Options,
 ) -> Result<Vec<u8>, AllocError>
     requires pass { IsPass pass.old }
+    requires prepared { IsReadyFor registry.now prepared.now }
     ensures pass { pass.new ≡ pass.old }
     ensures line { IfOk result (λ line. AtEachBookSeen registry.now pass.old (λ o book. IsLineOf (IsReplyIn o book (options_view options).module_name (id_view id.now) (λ s. IsExecutedAs s (id_view id.now) (options_view options) (reading_view state))) line.items)) }
 {
     match rules_at(alloc, registry, pass, &options.module_name)? {
-        Some(rules) => executed_line(alloc, &rules, id, state, &options),
+        Some(rules) => executed_line(alloc, prepared, &rules, id, state, &options),
         None => no_module_line(alloc, id, options.module_name),
     }
 }
@@ -227,17 +238,19 @@ fn implies_line(
 fn simplify_line(
     alloc: Global,
     registry: &Registry,
+    prepared: &Prepared,
     pass: &mut Pass,
     id: &Id,
     state: Reading,
     module_name: Option<String>,
 ) -> Result<Vec<u8>, AllocError>
     requires pass { IsPass pass.old }
+    requires prepared { IsReadyFor registry.now prepared.now }
     ensures pass { pass.new ≡ pass.old }
     ensures line { IfOk result (λ line. AtEachBookSeen registry.now pass.old (λ o book. IsLineOf (IsReplyIn o book (name_view module_name) (id_view id.now) (λ s. IsSimplifiedAs s.theory.signature (id_view id.now) (reading_view state))) line.items)) }
 {
     match rules_at(alloc, registry, pass, &module_name)? {
-        Some(rules) => simplified_over(alloc, &rules, id, state),
+        Some(_rules) => simplified_line(alloc, prepared, id, state),
         None => no_module_line(alloc, id, module_name),
     }
 }

@@ -2,6 +2,7 @@
 ghost use Rattle.kp_registry.specs.Passes.{IsPass};
 ghost use Rattle.kp_service.specs.Answers.{IsAnswer, IsBegun};
 ghost use Rattle.kp_additions.specs.Served.{HasSeenAt};
+ghost use Rattle.kp_service.specs.Ready.{IsReadyFor};
 
 use crate::batch::answered_batch;
 use crate::member::{answered, text_of};
@@ -10,13 +11,15 @@ use kp_modules::Table;
 use kp_registry::{Pass, Registry};
 use kp_requests::{Parsed, request_of};
 use kp_rpc::{Id, refusal_text};
+use kp_simplify_reply::Prepared;
 use std::alloc::{AllocError, Global};
 
 /// Answers frames over a book of modules: each call at the book that the pass has seen, which grows by the modules that
-/// calls add.
+/// calls add. What requests ask of the one signature of all modules is looked up once.
 #[derive(Drop)]
 pub struct Service {
     pub registry: Registry,
+    pub prepared: Prepared,
 }
 
 impl Service {
@@ -25,15 +28,17 @@ impl Service {
     ghost use Rattle.kp_modules.specs.Openings.{IsTableOf};
     ghost use Rattle.kp_registry.specs.Passes.{IsPass};
     ghost use Rattle.kp_additions.specs.Served.{HasSeenAt};
+    ghost use Rattle.kp_service.specs.Ready.{IsReadyFor};
 
     /// A service over a table's modules, with a pass that has seen no added ones.
     pub fn begin(alloc: Global, table: Table, seats: usize) -> Result<(Service, Pass), AllocError>
         requires seats { (1 ≤ seats) × (seats ≤ 64) }
-        ensures pass { IfOk result (λ out. IsPass out.1) }
+        ensures pass { IfOk result (λ out. IsPass out.1 × IsReadyFor out.0.registry out.0.prepared) }
         ensures seen { (o : Opening) → IsTableOf o table → IfOk result (λ out. HasSeenAt out.0.registry out.1 o []) }
     {
+        let prepared = Prepared::new(alloc, table.rule_set().signature.clone()?)?;
         let (registry, pass) = Registry::begin(alloc, table, seats)?;
-        Ok((Service { registry }, pass))
+        Ok((Service { registry, prepared }, pass))
     }
 }
 
@@ -42,7 +47,7 @@ impl Answerer for Service {
 
     ghost has_seen = { λ s pass o book. HasSeenAt s.registry pass o book };
 
-    ghost is_pass = { λ s pass. IsPass pass };
+    ghost is_pass = { λ s pass. IsPass pass × IsReadyFor s.registry s.prepared };
 
     ghost answers = { λ s o before frame reply after. IsAnswer o before frame reply after };
 
@@ -55,8 +60,10 @@ impl Answerer for Service {
         frame: &[u8],
     ) -> Result<Option<Vec<u8>>, AllocError> {
         match request_of(alloc, frame)? {
-            Parsed::Single(call) => answered(alloc, &self.registry, pass, call),
-            Parsed::Batch(calls) => answered_batch(alloc, &self.registry, pass, calls),
+            Parsed::Single(call) => answered(alloc, &self.registry, &self.prepared, pass, call),
+            Parsed::Batch(calls) => {
+                answered_batch(alloc, &self.registry, &self.prepared, pass, calls)
+            }
             Parsed::Refused(refusal) => {
                 let line = refusal_text(alloc, &Id::Null, refusal)?;
                 Ok(Some(text_of(line)))

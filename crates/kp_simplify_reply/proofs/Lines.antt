@@ -35,7 +35,7 @@ use Rattle.kp_simplify.specs.declared.answer.Simplified.{Simplified}
 use Rattle.kp_simplify.specs.declared.answer.Simplified.TheVariants as found
 use Rattle.kp_simplify.specs.declared.pattern.SimplifyError.{SimplifyError}
 use Rattle.kp_simplify.specs.declared.pattern.SimplifyError.TheVariants as error
-use Rattle.kp_simplify_reply.specs.Answered.{IsRightAnswer, pattern_of, IsUntold, no_state, no_injection, no_tag, IsUnderstoodAs, told, foreign, left_out, IsSimplifiedAs, faulty, IsReplyLine}
+use Rattle.kp_simplify_reply.specs.Answered.{IsRightAnswer, pattern_of, IsUntold, no_state, no_injection, no_tag, IsUnderstoodAs, told, foreign, left_out, IsSimplifiedAs, faulty, IsFaultTold, fault_told, IsReplyLine}
 use Rattle.kp_simplify_reply.proofs.Sorts.{sort_is}
 
 -- ---- lines
@@ -70,11 +70,15 @@ unverified g p e tells told_some s h = by (fault_view e) refl told_some
     by None is k = absurd (cc k)
 
 pub fault_line : {E : Type 0} (r : Result (Vec ℕ Global) E) (g : KoreSignature) (p : KorePattern) (id : RequestId) (f : StateFault) → IsWrongPattern g NoneLeftOut p (failure.Fault f) → ((s : KoreSort) → VerifiesAs g p s → ⊥) →
-    IfOk r (λ line. line.items ≡ reply_bytes (error_reply id (state_fault_view f))) → IfOk r (λ line. IsReplyLine (IsSimplifiedAs g id (read p)) line.items)
+    IfOk r (λ line. line.items ≡ reply_bytes (error_reply id (state_fault_view f))) → IfOk r (λ line. IsReplyLine (IsFaultTold g id p) line.items)
 fault_line r g p id (fault.Json f) w fails l = absurd w
 fault_line r g p id (fault.Verify f) w fails l =
-    right_line r (IsSimplifiedAs g id (read p)) (error_reply id (not_verified (pattern_fault_view f))) (faulty p (pattern_fault_view f) (record { tells = w; unverified = fails })) l
+    right_line r (IsFaultTold g id p) (error_reply id (not_verified (pattern_fault_view f))) (fault_told (pattern_fault_view f) (record { tells = w; unverified = fails })) l
 fault_line r g p id (fault.NoModule name) w fails l = absurd w
+
+-- it is a reply to simplify
+pub told_fault : (g : KoreSignature) (id : RequestId) (p : KorePattern) (reply : Data) → IsFaultTold g id p reply → IsSimplifiedAs g id (read p) reply
+told_fault g id p reply (fault_told f h) = faulty p f h
 
 -- ---- what was found
 

@@ -45,6 +45,10 @@ pub record IsFirstFault (g : KoreSignature) (p : KorePattern) (f : VerifyFault) 
   pub tells : IsPatternFault g NoneLeftOut p f
   pub unverified : (sort : KoreSort) → ¬ VerifiesAs g p sort
 
+-- a reply that tells such a fault
+pub data IsFaultTold (g : KoreSignature) (id : RequestId) (p : KorePattern) : Data → Type 0 where
+  fault_told : (f : VerifyFault) → IsFirstFault g p f → IsFaultTold g id p (error_reply id (not_verified f))
+
 -- why no answer is told of a verified pattern: it isn't one term and predicates; an inj would stand in the answer, and the
 -- signature has none; Kore JSON has no tag for a pattern in the answer
 pub data IsUntold (g : KoreSignature) (p : KorePattern) : Type 0 where

@@ -15,21 +15,22 @@ ghost use Rattle.kp_kore.specs.Implied as theory;
 ghost use Rattle.kp_server.specs.Ends.{TellsFault};
 ghost use Rattle.kp_signature.specs.Faults.{fault_view};
 ghost use Rattle.kp_signature.specs.Verify.{VerifiesAs};
-ghost use Rattle.kp_signature.specs.View.{signature_view};
 ghost use Rattle.kp_simplify.specs.Spelled.{parts_of_cause};
 ghost use Rattle.kp_simplify.specs.Told.{IsFound, IsUnsimplified, LacksInjection, TellsNoInjection};
 ghost use Rattle.kp_symbolic.specs.Endings.{answered, left_open};
 ghost use Rattle.kp_symbolic.specs.Shown as shown;
 ghost use Rattle.kp_symbolic.specs.Languages.{language_view};
-ghost use Rattle.kp_simplify_reply.specs.Answered.{IsReplyLine, IsRightAnswer, IsSimplifiedAs, IsUnderstoodAs, pattern_of};
+ghost use Rattle.kp_simplify_reply.specs.Answered.{IsFaultTold, IsReplyLine, IsRightAnswer, IsSimplifiedAs, IsUnderstoodAs, pattern_of};
+ghost use Rattle.kp_simplify_reply.specs.Prepared.{IsPrepared, signature_in};
 
+use crate::prepared::Prepared;
 use kp_heads::HeadTable;
 use kp_kore::{Pattern, Sort};
 use kp_replies::{Failure as ReplyFailure, failure_text, simplified_text};
 use kp_requests::Reading;
 use kp_rpc::{Id, PatternFault, StateFault, fault_text};
 use kp_server::{Failure, not_answered, verify_failure};
-use kp_signature::{Signature, VerifyError, verify};
+use kp_signature::{VerifyError, verify};
 use kp_simplify::{Simplified, SimplifyError, simplify};
 use kp_symbolic::Language;
 use std::alloc::{AllocError, Global};
@@ -41,14 +42,15 @@ use std::alloc::{AllocError, Global};
 /// Where memory runs out.
 pub fn simplified_line(
     alloc: Global,
-    signature: &Signature,
+    prepared: &Prepared,
     id: &Id,
     state: Reading,
 ) -> Result<Vec<u8>, AllocError>
-    ensures { IfOk result (λ line. IsReplyLine (IsSimplifiedAs (signature_view signature.now) (id_view id.now) (reading_view state)) line.items) }
+    requires { IsPrepared prepared.now }
+    ensures { IfOk result (λ line. IsReplyLine (IsSimplifiedAs (signature_in prepared.now) (id_view id.now) (reading_view state)) line.items) }
 {
     match state {
-        Reading::Pattern(pattern) => pattern_line(alloc, signature, id, &pattern),
+        Reading::Pattern(pattern) => pattern_line(alloc, prepared, id, &pattern),
         Reading::Fault(fault) => fault_text(alloc, id, &StateFault::Json(fault)),
     }
 }
@@ -56,14 +58,15 @@ pub fn simplified_line(
 /// The same of a pattern that was read.
 fn pattern_line(
     alloc: Global,
-    signature: &Signature,
+    prepared: &Prepared,
     id: &Id,
     pattern: &Pattern,
 ) -> Result<Vec<u8>, AllocError>
-    ensures { IfOk result (λ line. IsReplyLine (IsSimplifiedAs (signature_view signature.now) (id_view id.now) (faults.read (view pattern.now))) line.items) }
+    requires { IsPrepared prepared.now }
+    ensures { IfOk result (λ line. IsReplyLine (IsSimplifiedAs (signature_in prepared.now) (id_view id.now) (faults.read (view pattern.now))) line.items) }
 {
-    match verify(alloc, signature, pattern) {
-        Ok(sort) => verified_line(alloc, signature, id, pattern, &sort),
+    match verify(alloc, &prepared.signature, pattern) {
+        Ok(sort) => verified_line(alloc, prepared, id, pattern, &sort),
         Err(error) => unverified_line(alloc, id, error),
     }
 }
@@ -79,8 +82,11 @@ fn is_memory(error: &VerifyError) -> bool
 }
 
 /// The line that tells a verify fault.
-fn unverified_line(alloc: Global, id: &Id, error: VerifyError) -> Result<Vec<u8>, AllocError>
-    ensures { (g : KoreSignature) (p : KorePattern) → TellsFault g p error → IfOk result (λ line. IsReplyLine (IsSimplifiedAs g (id_view id.now) (faults.read p)) line.items) }
+///
+/// # Errors
+/// Where memory runs out, or ran out in verify.
+pub fn unverified_line(alloc: Global, id: &Id, error: VerifyError) -> Result<Vec<u8>, AllocError>
+    ensures { (g : KoreSignature) (p : KorePattern) → TellsFault g p error → IfOk result (λ line. IsReplyLine (IsFaultTold g (id_view id.now) p) line.items) }
 {
     if is_memory(&error) {
         return Err(AllocError);
@@ -94,16 +100,16 @@ fn unverified_line(alloc: Global, id: &Id, error: VerifyError) -> Result<Vec<u8>
 /// The line that replies to a pattern that verifies.
 fn verified_line(
     alloc: Global,
-    signature: &Signature,
+    prepared: &Prepared,
     id: &Id,
     pattern: &Pattern,
     sort: &Sort,
 ) -> Result<Vec<u8>, AllocError>
-    ensures { let g = signature_view signature.now in let p = view pattern.now in VerifiesAs g p (sort_view sort.now) → IfOk result (λ line. IsReplyLine (IsUnderstoodAs g (id_view id.now) p) line.items) }
+    requires { IsPrepared prepared.now }
+    ensures { let g = signature_in prepared.now in let p = view pattern.now in VerifiesAs g p (sort_view sort.now) → IfOk result (λ line. IsReplyLine (IsUnderstoodAs g (id_view id.now) p) line.items) }
 {
-    let language = Language::new(alloc, signature)?;
-    let table = HeadTable::new(alloc, signature)?;
-    understood_line(alloc, &language, &table, id, pattern, sort)
+    let language = prepared.language()?;
+    understood_line(alloc, &language, &prepared.heads, id, pattern, sort)
 }
 
 /// The same over the table of the signature's heads.

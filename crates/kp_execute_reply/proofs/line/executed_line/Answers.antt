@@ -11,11 +11,11 @@ use Rattle.kp_execute_reply.proofs.Lines.{line_of_read}
 use Rattle.kp_execute_reply.proofs.line.executed_line.Goals as goal
 
 pub returns-in-Pattern : goal.returns-in-Pattern
-returns-in-Pattern c = λ s runs here.
-    line_of_read c.pattern_line.result s (id_view c.args.id.now) (options_view c.args.options.now) (reading_view c.args.state) (read (view c.in-Pattern.pattern)) (ap reading_view c.in-Pattern.is) (c.pattern_line.ensures s runs here)
+returns-in-Pattern c = λ s runs over here.
+    line_of_read c.pattern_line.result s (id_view c.args.id.now) (options_view c.args.options.now) (reading_view c.args.state) (read (view c.in-Pattern.pattern)) (ap reading_view c.in-Pattern.is) (c.pattern_line.ensures s runs over here)
 
 pub returns-in-Fault : goal.returns-in-Fault
-returns-in-Fault c = λ s runs here.
+returns-in-Fault c = λ s runs over here.
     let id = id_view c.args.id.now in
     let options = options_view c.args.options.now in
     let f = fault_view c.in-Fault.fault in

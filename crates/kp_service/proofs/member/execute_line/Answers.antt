@@ -1,4 +1,4 @@
-use Rattle.std.proofs.Common.{ap, subst, sym}
+use Rattle.std.proofs.Common.{◌∙◌, ap, subst, sym}
 use Rattle.std.specs.Option.{option_map}
 use Rattle.kp_rule_sets.specs.RuleSets.{RunsAs}
 use Rattle.kp_rpc.specs.View.{id_view, options_view}
@@ -12,7 +12,7 @@ returns-in-Some-clause-line c =
     let id = id_view c.args.id.now in
     let options = options_view c.args.options in
     served_line c.executed_line.result c.args.registry.now c.args.pass.now options.module_name _ c.in-Some.rules.value id (λ s. IsExecutedAs s id options (reading_view c.args.state)) (ap (option_map (λ r. r.value)) c.in-Some.is) c.in_ok-rules.ensures.means
-    (λ s runs here. c.executed_line.ensures s (subst (RunsAs s.theory) (sym c.deref.ensures) runs) here)
+    (λ s runs here over. c.executed_line.ensures s (subst (RunsAs s.theory) (sym c.deref.ensures) runs) (c.requires.prepared.signature ∙ over) here)
 
 pub returns-in-None-clause-line : goal.returns-in-None-clause-line
 returns-in-None-clause-line c =

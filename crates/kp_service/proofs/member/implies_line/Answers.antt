@@ -12,7 +12,7 @@ returns-in-Some-clause-line c =
     let id = id_view c.args.id.now in
     let asked = name_view c.args.module_name in
     served_line c.implied_line.result c.args.registry.now c.args.pass.now asked _ c.in-Some.rules.value id (λ s. IsImpliedAs s id asked (reading_view c.args.antecedent) (reading_view c.args.consequent)) (ap (option_map (λ r. r.value)) c.in-Some.is) c.in_ok-rules.ensures.means
-    (λ s runs here. c.implied_line.ensures s asked (ap (λ r. signature_view r.signature.value) c.deref.ensures ∙ runs.signature) here)
+    (λ s runs here over. c.implied_line.ensures s asked (ap (λ r. signature_view r.signature.value) c.deref.ensures ∙ runs.signature) here)
 
 pub returns-in-None-clause-line : goal.returns-in-None-clause-line
 returns-in-None-clause-line c =
