@@ -46,75 +46,83 @@ const OF_R: &str = r#"module RULE
 endmodule []
 "#;
 
-/// What is said of a rule and a value, the rule, the value, and what is told of them.
-static ROWS: [(&str, &str, &str, &str); 8] = [
+/// A rule, a value, and what is told of them.
+type Told = (&'static str, &'static str, &'static str);
+
+/// What is said of a rule and a value, with both.
+static ROWS: [(&str, Told); 8] = [
     (
         "a variable of a sort that shares values of two sorts with another is foreign",
-        OF_P,
-        "dd{}()",
-        "foreign, may be: true",
+        (OF_P, "dd{}()", "foreign, may be: true"),
     ),
     (
         "it stands for values of its sort alone",
-        OF_P,
-        "nn{}()",
-        "foreign, may be: false",
+        (OF_P, "nn{}()", "foreign, may be: false"),
     ),
     (
         "one of a sort that shares those of one sort alone is read",
-        OF_R,
-        "dd{}()",
-        "priority 50, fires: true",
+        (OF_R, "dd{}()", "priority 50, fires: true"),
     ),
     (
         "it doesn't fire at a value of another sort",
-        OF_R,
-        "ee{}()",
-        "priority 50, fires: false",
+        (OF_R, "ee{}()", "priority 50, fires: false"),
     ),
     (
         "one of a sort below both is read",
-        r#"module RULE
+        (
+            r#"module RULE
   axiom{} \rewrites{E{}}(X:E{}, ee{}()) []
 endmodule []
 "#,
-        "ee{}()",
-        "priority 50, fires: true",
+            "ee{}()",
+            "priority 50, fires: true",
+        ),
     ),
     (
         "one of a sort that no pair names is read",
-        r#"module RULE
+        (
+            r#"module RULE
   axiom{} \rewrites{N{}}(X:N{}, nn{}()) []
 endmodule []
 "#,
-        "nn{}()",
-        "priority 50, fires: true",
+            "nn{}()",
+            "priority 50, fires: true",
+        ),
     ),
     (
         "one of a sort over one other is read",
-        r#"module RULE
+        (
+            r#"module RULE
   axiom{} \rewrites{B{}}(X:B{}, X:B{}) []
 endmodule []
 "#,
-        "aa{}()",
-        "priority 50, fires: true",
+            "aa{}()",
+            "priority 50, fires: true",
+        ),
     ),
     (
         "a variable under inj is asked of the sorts below alone",
-        r#"module RULE
+        (
+            r#"module RULE
   axiom{} \rewrites{P{}}(inj{D{}, P{}}(X:D{}), pp{}()) []
 endmodule []
 "#,
-        "dd{}()",
-        "priority 50, fires: true",
+            "dd{}()",
+            "priority 50, fires: true",
+        ),
     ),
 ];
 
+/// Whether it is told of the rule and the value.
+fn is_told(alloc: Global, signature: &Signature, row: Told) -> Result<bool, Fail> {
+    let told = told(alloc, signature, row.0, row.1)?;
+    Ok(told.as_str() == row.2)
+}
+
 /// What is said first and isn't told.
 fn failing_over(alloc: Global, signature: &Signature) -> Result<Option<&'static str>, Fail> {
-    for (said, rule, value, wanted) in &ROWS {
-        let told = told(alloc, signature, rule, value)?;
-        if told.as_str() != *wanted {
+    for (said, row) in &ROWS {
+        if !is_told(alloc, signature, *row)? {
             return Ok(Some(*said));
         }
     }
