@@ -1,10 +1,12 @@
 // Whether each variable whose head is asked for may have a head that is as all clauses ask.
-ghost use Rattle.std.specs.Prelude.{◌≡◌, ◌↔◌, IsTrue, map, string_bytes};
+ghost use Rattle.std.specs.Prelude.{◌≡◌, ◌↔◌, IsTrue, List, map, string_bytes};
 ghost use Rattle.std.specs.Option.{option_map};
 ghost use Rattle.std.specs.List.{AllByRecursion};
 ghost use Rattle.std.specs.Str.{bytes_eq};
 ghost use Rattle.kp_signature.specs.View.{signature_view};
+ghost use Rattle.kp_kore.specs.Signature.{KoreSignature};
 ghost use Rattle.kp_symbolic.specs.Heads.{is_constructor_head, passes_head};
+ghost use Rattle.kp_symbolic.specs.Plain as model;
 ghost use Rattle.kp_heads.specs.Made.{IsHeadTableOf};
 ghost use Rattle.kp_sort_heads.specs.Views.{head_view};
 ghost use Rattle.kp_symbolic.specs.View.{variable_view};
@@ -117,18 +119,78 @@ fn has_head(
     false
 }
 
-/// Whether some head may be the variable's, where the literal asks for one.
+/// Whether the literal asks for the variable's head.
+fn asks_for(form: Option<Form>, variable: &Variable) -> bool
+    ensures { (g : KoreSignature) (cs : List (List model.ReadLiteral)) → spec.IsStanding g cs (option_map form_view form.entry) → IsTrue result → spec.HasHead g cs (variable_view variable.now) }
+{
+    match form {
+        Some(
+            Form::Asks {
+                variable: asked,
+                ..
+            },
+        ) => asked.same(variable),
+        Some(
+            Form::Compares { .. } | Form::Truth { .. } | Form::Equates { .. } | Form::Gives { .. },
+        ) => false,
+        None => false,
+    }
+}
+
+/// Whether a literal of the clause asks for the variable's head.
+fn asks(clause: &[ReadLiteral], variable: &Variable) -> bool
+    ensures { (g : KoreSignature) (cs : List (List model.ReadLiteral)) → AllByRecursion (λ l. spec.IsStanding g cs l.form) (map read_view clause.now) → IsTrue result → spec.HasHead g cs (variable_view variable.now) }
+{
+    for literal in clause {
+        if asks_for(literal.form, variable) {
+            return true;
+        }
+    }
+    false
+}
+
+/// Whether a literal of these clauses asks for the variable's head.
+fn is_asked(clauses: &[Vec<ReadLiteral>], variable: &Variable) -> bool
+    ensures { (g : KoreSignature) (cs : List (List model.ReadLiteral)) → AllByRecursion (AllByRecursion (λ l. spec.IsStanding g cs l.form)) (clauses_view clauses.now) → IsTrue result → spec.HasHead g cs (variable_view variable.now) }
+{
+    for clause in clauses {
+        if asks(clause, variable) {
+            return true;
+        }
+    }
+    false
+}
+
+/// Whether some head may be the variable's, where that is so of those that the clauses before ask for: one of them has been gone
+/// through.
+fn may_have_head(
+    signature: &Signature,
+    table: &HeadTable,
+    variable: &Variable,
+    before: &[Vec<ReadLiteral>],
+    clauses: &[Vec<ReadLiteral>],
+) -> bool
+    requires { IsHeadTableOf (signature_view signature.now) table.now }
+    ensures { let g = signature_view signature.now in let cs = clauses_view clauses.now in AllByRecursion (AllByRecursion (λ l. spec.IsStanding g cs l.form)) (clauses_view before.now) → (IsTrue result ↔ spec.HasHead g cs (variable_view variable.now)) }
+{
+    is_asked(before, variable) || has_head(signature, table, variable, clauses)
+}
+
+/// Whether some head may be the variable's, where the literal asks for one, and that is so of those that the clauses before ask for.
 fn is_standing(
     signature: &Signature,
     table: &HeadTable,
     form: Option<Form>,
+    before: &[Vec<ReadLiteral>],
     clauses: &[Vec<ReadLiteral>],
 ) -> bool
     requires { IsHeadTableOf (signature_view signature.now) table.now }
-    ensures { IsTrue result ↔ spec.IsStanding (signature_view signature.now) (clauses_view clauses.now) (option_map form_view form.entry) }
+    ensures { let g = signature_view signature.now in let cs = clauses_view clauses.now in AllByRecursion (AllByRecursion (λ l. spec.IsStanding g cs l.form)) (clauses_view before.now) → (IsTrue result ↔ spec.IsStanding g cs (option_map form_view form.entry)) }
 {
     match form {
-        Some(Form::Asks { variable, .. }) => has_head(signature, table, variable, clauses),
+        Some(Form::Asks { variable, .. }) => {
+            may_have_head(signature, table, variable, before, clauses)
+        }
         Some(
             Form::Compares { .. } | Form::Truth { .. } | Form::Equates { .. } | Form::Gives { .. },
         ) => true,
@@ -136,18 +198,19 @@ fn is_standing(
     }
 }
 
-/// Whether some head may be that of each variable that the literals ask for.
+/// Whether some head may be that of each variable that the literals ask for, where that is so of the clauses before.
 fn are_standing(
     signature: &Signature,
     table: &HeadTable,
     clause: &[ReadLiteral],
+    before: &[Vec<ReadLiteral>],
     clauses: &[Vec<ReadLiteral>],
 ) -> bool
     requires { IsHeadTableOf (signature_view signature.now) table.now }
-    ensures { IsTrue result ↔ AllByRecursion (λ l. spec.IsStanding (signature_view signature.now) (clauses_view clauses.now) l.form) (map read_view clause.now) }
+    ensures { let g = signature_view signature.now in let cs = clauses_view clauses.now in AllByRecursion (AllByRecursion (λ l. spec.IsStanding g cs l.form)) (clauses_view before.now) → (IsTrue result ↔ AllByRecursion (λ l. spec.IsStanding g cs l.form) (map read_view clause.now)) }
 {
     for literal in clause {
-        if !is_standing(signature, table, literal.form, clauses) {
+        if !is_standing(signature, table, literal.form, before, clauses) {
             return false;
         }
     }
@@ -159,8 +222,9 @@ pub fn heads_stand(signature: &Signature, table: &HeadTable, clauses: &[Vec<Read
     requires { IsHeadTableOf (signature_view signature.now) table.now }
     ensures { IsTrue result ↔ spec.AreStanding (signature_view signature.now) (clauses_view clauses.now) }
 {
-    for clause in clauses {
-        if !are_standing(signature, table, clause, clauses) {
+    for i in 0..clauses.len() {
+        let before = &clauses[..i];
+        if !are_standing(signature, table, &clauses[i], before, clauses) {
             return false;
         }
     }

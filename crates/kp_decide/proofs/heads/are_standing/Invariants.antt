@@ -6,4 +6,6 @@ use Rattle.kp_decide.specs.Heads.{IsStanding}
 use Rattle.kp_decide.proofs.heads.are_standing.Given as goal
 
 abbrev pub invariant-loop-literal : goal.invariant-loop-literal
-invariant-loop-literal l = AllByRecursion (λ r. IsStanding (signature_view l.signature) (clauses_view l.clauses) r.form) (map read_view (take l.literal-index l.clause))
+invariant-loop-literal l =
+    AllByRecursion (AllByRecursion (λ r. IsStanding (signature_view l.signature) (clauses_view l.clauses) r.form)) (clauses_view l.before)
+    → AllByRecursion (λ r. IsStanding (signature_view l.signature) (clauses_view l.clauses) r.form) (map read_view (take l.literal-index l.clause))

@@ -15,14 +15,14 @@ returns-then-not-are_standing c =
     let Stand = AllByRecursion (λ r. IsStanding g (clauses_view c.args.clauses.now) r.form) in (
       (λ t. absurd (true_false (sym t))),
       (λ all.
-          let own = image_at Stand (λ d. map read_view d.items) c.args.clauses.now c.loop-clause.clause-index c.clause-item.result c.loop-clause-test.true c.clause-item.is all in
-          absurd (true_false (sym (c.are_standing.ensures.1 (subst (λ d. Stand (map read_view d)) (sym c.deref.ensures.value) own)) ∙ no))),
+          let own = image_at Stand (λ d. map read_view d.items) c.args.clauses.now c.loop-i.i c.index-clauses-i.result c.loop-i-test.true c.index-clauses-i.is all in
+          absurd (true_false (sym ((c.are_standing.ensures c.loop-i.invariant).1 (subst (λ d. Stand (map read_view d)) (sym c.deref.ensures.value) own)) ∙ no))),
     )
 
-pub loop-clause-preserved : goal.loop-clause-preserved
-loop-clause-preserved c =
+pub loop-i-preserved : goal.loop-i-preserved
+loop-i-preserved c =
     let g = signature_view c.args.signature.now in
     let met : c.are_standing.result ≡ true = search rules in
     let Stand = AllByRecursion (λ r. IsStanding g (clauses_view c.args.clauses.now) r.form) in
-    image_more Stand (λ d. map read_view d.items) c.args.clauses.now c.loop-clause.clause-index c.clause-item.result c.loop-clause-test.true c.clause-item.is c.loop-clause.invariant
-    (subst (λ d. Stand (map read_view d)) c.deref.ensures.value (c.are_standing.ensures.0 met))
+    image_more Stand (λ d. map read_view d.items) c.args.clauses.now c.loop-i.i c.index-clauses-i.result c.loop-i-test.true c.index-clauses-i.is c.loop-i.invariant
+    (subst (λ d. Stand (map read_view d)) c.deref.ensures.value ((c.are_standing.ensures c.loop-i.invariant).0 met))

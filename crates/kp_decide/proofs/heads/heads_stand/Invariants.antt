@@ -5,5 +5,5 @@ use Rattle.kp_deciding.specs.Readings.{clauses_view}
 use Rattle.kp_decide.specs.Heads.{IsStanding}
 use Rattle.kp_decide.proofs.heads.heads_stand.Given as goal
 
-abbrev pub invariant-loop-clause : goal.invariant-loop-clause
-invariant-loop-clause l = AllByRecursion (AllByRecursion (λ r. IsStanding (signature_view l.signature) (clauses_view l.clauses) r.form)) (clauses_view (take l.clause-index l.clauses))
+abbrev pub invariant-loop-i : goal.invariant-loop-i
+invariant-loop-i l = AllByRecursion (AllByRecursion (λ r. IsStanding (signature_view l.signature) (clauses_view l.clauses) r.form)) (clauses_view (take l.i l.clauses))
