@@ -22,7 +22,7 @@ part_kept g used body p kept new x rest put e =
 pub part_dropped : (g : KoreSignature) (used : List Text) (body : RuleBody) (p : StatePart) (kept : List Part) (x : Part) (rest : List NumberedPart) → IsExcluded g used body p (numbered kept ++ numbered_view x ∷ rest) →
     (HasSortedClauses g (part_view x).state → ¬ CanBeTrue g (part_view x).state.variables (part_view x).state.clauses) → IsExcluded g used body p (numbered kept ++ rest)
 part_dropped g used body p kept x rest e none =
-    let here = (all_second (IsFurther g used p) (numbered kept) (numbered_view x ∷ rest) e.each).0 in
+    let here = (all_second (IsFurther g used body p) (numbered kept) (numbered_view x ∷ rest) e.each).0 in
     dropped g used body p (numbered kept) (numbered_view x) rest (none_there g (part_view x) (none (sorted_clauses g (part_view x).state here.ready.sorted.state))) e
 
 pub none_left : {X : Type 0} (xs : List X) → length xs ≡ 0 → xs ≡ []

@@ -1,3 +1,4 @@
+pub mod ComesLemmas
 pub mod QuestionLemmas
 pub mod OpenedWith
 pub mod Negated

@@ -27,6 +27,7 @@ use Rattle.kp_unify.specs.Way.{IsNormalEquality, IsPlacedEquality, AreEquations,
 use Rattle.kp_firing.specs.Conditions.{IsVerifiedOver, condition_clauses, AreRight}
 use Rattle.kp_firing.specs.Ready.{parts_of}
 use Rattle.kp_firing.specs.Silent.{IsFiringOf}
+use Rattle.kp_firing.proofs.ComesLemmas.{clauses_of_read}
 use Rattle.kp_firing.proofs.OpenedWith.{Sound, Right, both_facts}
 use Rattle.kp_firing.proofs.Excluded.{condition_right, fires_by_clauses}
 use Rattle.kp_firing.proofs.RuleLemmas.{IsConditionOf, IsReadyRule}
@@ -101,4 +102,5 @@ met_fires g used r left p m next apart w side over ready =
       here = met.here;
       others = met.others;
       right = all_both (AllByRecursion (Right g m.part.state.variables)) m.equations (condition_clauses g m.bindings r.condition) (equations_right g left m met.equations) (condition_right g m.part.state.variables m.bindings r.condition met.normal verified);
+      of_rule = clauses_of_read g r left m side met.cases.is_met met.equations;
     }

@@ -1,5 +1,5 @@
 -- The parts where a rule doesn't fire, with the names that are in use.
-use Rattle.std.proofs.Common.{◌≡◌, sym, subst, true, None, List, [], ◌∷◌, ◌++◌}
+use Rattle.std.proofs.Common.{◌≡◌, refl, sym, subst, true, None, List, [], ◌∷◌, ◌++◌}
 use Rattle.std.specs.List.{AllByRecursion, Contains}
 use Rattle.std.proofs.lemmas.List.{map-append}
 use Rattle.kp_kore.specs.Syntax.{Text}
@@ -30,6 +30,7 @@ use Rattle.kp_turns.proofs.FiringLemmas.{untouched_part, never_fires}
 use Rattle.kp_turns.proofs.PartsWhere.{drops_parts}
 use Rattle.kp_unify.specs.Narrowed.{NumberedPart}
 use Rattle.kp_unify.specs.Way.{IsPartOn}
+use Rattle.kp_firing.specs.Comes.{narrowed, excluded, itself}
 use Rattle.kp_firing.specs.Conditions.{AreRight}
 use Rattle.kp_firing.specs.Opposites.{plain_state}
 use Rattle.kp_firing.specs.Ready.{IsReadyPart, narrowed_by, parts_of}
@@ -52,16 +53,7 @@ formed_with g s cs f h = record {
   literals = kept_are literals_same (AllByRecursion (Sound g)) [] 0 (s.clauses ++ cs) (all_both (AllByRecursion (Sound g)) s.clauses cs f.literals h);
 }
 
-pub right_on : (g : KoreSignature) (used : List Text) (p : StatePart) (q : NumberedPart) (cs : List (List Literal)) → IsPartOn g used p q → AreRight g q.part.state.variables cs → IsPartOn g used p (narrowed_by q cs)
-right_on g used p q cs o h = record {
-  grown = record { new = o.grown.new; variables = o.grown.variables; are_new = o.grown.are_new; each = o.grown.each };
-  sorted = sorted_with g q.part cs o.sorted (sorted_right g q.part.state.variables cs h);
-  formed = formed_with g q.part.state cs o.formed (formed_right g q.part.state.variables cs h);
-  begun = o.begun;
-  names = o.names;
-}
-
--- and a rule can be tried on it
+-- a rule can be tried on it
 pub right_ready : (g : KoreSignature) (used : List Text) (q : NumberedPart) (cs : List (List Literal)) → IsReadyPart g used q → AreRight g q.part.state.variables cs → IsReadyPart g used (narrowed_by q cs)
 right_ready g used q cs r h =
     let sorted = sorted_with g q.part cs r.sorted (sorted_right g q.part.state.variables cs h) in
@@ -79,9 +71,9 @@ right_ready g used q cs r h =
 pub ready_on : (g : KoreSignature) (used : List Text) (p : StatePart) (q : NumberedPart) → IsPartBelow g p q.part → IsPartOn g used p q → IsReadyPart g used q
 ready_on g used p q below on = record { told = told_below g p q.part below; sorted = on.sorted; safe = record { sorted = on.sorted.state; formed = on.formed }; begun = on.begun; names = on.names }
 
-all_further : (g : KoreSignature) (used : List Text) (p : StatePart) (qs : List NumberedPart) → AllByRecursion (IsPartBelow g p) (parts_of qs) → AllByRecursion (IsPartOn g used p) qs → AllByRecursion (IsFurther g used p) qs
-all_further g used p [] b o = tt
-all_further g used p (q ∷ qs) b o = (record { on = o.0; ready = ready_on g used p q b.0 o.0 }, all_further g used p qs b.1 o.1)
+all_further : (g : KoreSignature) (used : List Text) (body : RuleBody) (p : StatePart) (qs : List NumberedPart) → AllByRecursion (IsPartBelow g p) (parts_of qs) → AllByRecursion (IsPartOn g used p) qs → AllByRecursion (IsFurther g used body p) qs
+all_further g used body p [] b o = tt
+all_further g used body p (q ∷ qs) b o = (record { grown = o.0.grown; comes = narrowed p q.part itself o.0.narrowed; ready = ready_on g used p q b.0 o.0 }, all_further g used body p qs b.1 o.1)
 
 -- the part that is met
 pub firing_ready : (g : KoreSignature) (used : List Text) (body : RuleBody) (p : StatePart) (q : NumberedPart) (clauses : List (List Literal)) (apart : List NumberedPart) → IsFiringOf g used body p q clauses apart → IsReadyPart g used q
@@ -97,7 +89,14 @@ excluded_parts g used body p q clauses apart f room =
     let k = excluded_by_opposite g body p (record { part = q.part; clauses = clauses }) (parts_of apart) f.cases f.right room in
     record {
       silent = k.0;
-      each = all_further g used p (narrowed_by q others ∷ apart) k.0.divided.below (right_on g used p q others f.here (opposite_right g q.part.state clauses f.right room), f.others);
+      each = (
+        record {
+          grown = record { new = f.here.grown.new; variables = f.here.grown.variables; are_new = f.here.grown.are_new; each = f.here.grown.each };
+          comes = excluded q.part body clauses (narrowed p q.part itself f.here.narrowed) refl f.of_rule;
+          ready = right_ready g used q others (firing_ready g used body p q clauses apart f) (opposite_right g q.part.state clauses f.right room);
+        },
+        all_further g used body p apart k.0.divided.below.1 f.others,
+      );
       everywhere = k.1;
     }
 
@@ -116,19 +115,16 @@ pub dropped : (g : KoreSignature) (used : List Text) (body : RuleBody) (p : Stat
 dropped g used body p before q after none e = record {
   silent = subst (AreWhere g (λ c. ¬ Fires g body c) p) (sym (map-append (λ z. z.part) before after))
       (drops_parts g (λ c. ¬ Fires g body c) p q.part (parts_of before) (parts_of after) none (subst (AreWhere g (λ c. ¬ Fires g body c) p) (map-append (λ z. z.part) before (q ∷ after)) e.silent));
-  each = all_both (IsFurther g used p) before after (all_first (IsFurther g used p) before (q ∷ after) e.each) (all_second (IsFurther g used p) before (q ∷ after) e.each).1;
+  each = all_both (IsFurther g used body p) before after (all_first (IsFurther g used body p) before (q ∷ after) e.each) (all_second (IsFurther g used body p) before (q ∷ after) e.each).1;
   everywhere = λ h. e.everywhere (none_with g before q after none h);
 }
 
 -- ---- a part that stays whole
 
-itself_on : (g : KoreSignature) (used : List Text) (q : NumberedPart) → IsReadyPart g used q → IsPartOn g used q.part q
-itself_on g used q r = record { grown = grown_itself g used q.part; sorted = r.sorted; formed = r.safe.formed; begun = r.begun; names = r.names }
-
 pub untouched : (g : KoreSignature) (used : List Text) (body : RuleBody) (q : NumberedPart) → IsReadyPart g used q → FiresNowhere g body q.part → IsExcluded g used body q.part (q ∷ [])
 untouched g used body q r none = record {
   silent = untouched_part g body q.part r.told none;
-  each = (record { on = itself_on g used q r; ready = r }, tt);
+  each = (record { grown = grown_itself g used q.part; comes = itself; ready = r }, tt);
   everywhere = λ h w c sorts has. absurd (h.0 w c sorts has);
 }
 

@@ -1,5 +1,5 @@
 -- What is answered of the part that a foreign rule's left side meets says whether the rule might rewrite an instance.
-use Rattle.std.proofs.Common.{◌≡◌, refl, sym, subst, ℕ, List, [], ◌∷◌}
+use Rattle.std.proofs.Common.{◌≡◌, refl, sym, subst, ℕ, List, [], ◌∷◌, Some, inr}
 use Rattle.std.specs.List.{AllByRecursion}
 use Rattle.kp_kore.specs.Syntax.{Text}
 use Rattle.kp_kore.specs.Signature.{KoreSignature}
@@ -22,12 +22,16 @@ use Rattle.kp_cases.specs.Courses.{form_variables}
 use Rattle.kp_cases.proofs.PartLemmas.{clauses_restrict}
 use Rattle.kp_turns.specs.Firing.{AreWhere}
 use Rattle.kp_turns.proofs.AtHandLemmas.{sorts_of_hand}
+use Rattle.kp_unify.specs.Comes.{IsNarrowedFrom}
 use Rattle.kp_unify.specs.Narrowed.{NumberedPart}
 use Rattle.kp_unify.specs.Way.{IsPartOn, IsMeetable, IsMeeting, IsAllApart}
 use Rattle.kp_decide.specs.Read.{HasSortedClauses}
+use Rattle.kp_firing.specs.Comes.{ComesFrom, narrowed, fires, itself}
 use Rattle.kp_firing.specs.Ready.{IsReadyPart, HasInstance, parts_of}
+use Rattle.kp_firing.proofs.ComesLemmas.{clauses_of_foreign}
 use Rattle.kp_firing.proofs.ReadyLemmas.{equations_right}
 use Rattle.kp_firing.proofs.SilentLemmas.{right_ready, ready_on}
+use Rattle.kp_step.specs.Left.{IsOneOf}
 use Rattle.kp_step.specs.Places.{IsAt}
 use Rattle.kp_step.specs.Ready.{IsWholeReady}
 use Rattle.kp_step.specs.Rules.{IsForeignAt}
@@ -69,6 +73,14 @@ met_where t used s place k q m next apart w f met =
     (subst (λ p. AreWhere g (λ c. IsUnknownBy g (foreign_rule f.left) c) p (r ∷ [])) w.is
     (unknown_where g f.left (skeleton_view k) q.part r m (parts_of apart) f.stands (each_sorted g m.part met.here.sorted) (all_sorted g used q.part apart met.others) met.cases (clauses_restrict g m.part m.equations)))
 
+-- the part that is met comes of the whole state
+met_comes : (t : Theory) (used : List Text) (s : SymbolicState) (place : ℕ) (k : Skeleton) (q : NumberedPart) (m : MetPart) (next : ℕ) (apart : List NumberedPart) → IsWholeReady t.signature used s q → (f : IsForeignAt t place k) → IsMeeting t.signature used (skeleton_view k) q.part m next apart →
+    ComesFrom t.signature (IsOneOf (Some f.rule) []) (whole s) (with_clauses m.part m.equations)
+met_comes t used s place k q m next apart w f met =
+    let g = t.signature in
+    fires m.part (foreign_rule f.left) m.equations (narrowed (whole s) m.part itself (subst (λ p. IsNarrowedFrom g p m.part) w.is met.here.narrowed)) (f.rule, inr refl, f.body)
+    (clauses_of_foreign g f.left (skeleton_view k) m f.stands met.cases.is_met met.equations)
+
 instance_there : (g : KoreSignature) (p : StatePart) → HasInstance g (whole p.state) → HasInstance g p
 instance_there g p i = record { valuation = i.valuation; configuration = i.configuration; sorts = i.sorts; met = i.met }
 
@@ -83,7 +95,7 @@ tells_met t used s place k q m next apart answer.Nothing w f met none =
     (nothing_unknown t.signature (λ c. IsUnknownBy t.signature f.rule.body c) (whole s) r (met_where t used s place k q m next apart w f met) none)
 tells_met t used s place k q m next apart (answer.Open o) w f met shows =
     let r = with_clauses m.part m.equations in
-    (f.rule, f.at, shows.0, shows.1, open_foreign t s f.rule f.left r (clauses_view o.shown.items) shows.0 f.body (met_where t used s place k q m next apart w f met) shows.2)
+    (f.rule, f.at, shows.0, shows.1, open_foreign t s f.rule f.left r (clauses_view o.shown.items) shows.0 f.body (met_where t used s place k q m next apart w f met) (met_comes t used s place k q m next apart w f met) shows.2)
 
 -- where nothing is met
 pub tells_apart : (t : Theory) (used : List Text) (s : SymbolicState) (place : ℕ) (k : Skeleton) (q : NumberedPart) → IsWholeReady t.signature used s q → IsForeignAt t place k → IsAllApart t.signature (skeleton_view k) q.part → TellsForeign t s place answer.Nothing

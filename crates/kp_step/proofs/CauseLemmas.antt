@@ -6,6 +6,7 @@ use Rattle.kp_kore.specs.Syntax.{Text}
 use Rattle.kp_kore.specs.Rules.{Rewrite, rewrite, ForeignLeft, foreign_rule, RewriteRule}
 use Rattle.kp_kore.specs.Theory.{Theory}
 use Rattle.kp_kore.specs.Steps.{Fires, IsUnknownBy}
+use Rattle.kp_kore.proofs.TurnLemmas.{of_member}
 use Rattle.kp_symbolic.specs.States.{Literal, SymbolicState}
 use Rattle.kp_symbolic.specs.Verdicts.{Weighed}
 use Rattle.kp_cases.specs.Parts.{StatePart, whole, IsTold}
@@ -14,8 +15,9 @@ use Rattle.kp_turns.specs.Turns.{IsLeftTo}
 use Rattle.kp_turns.proofs.PartsWhere.{said_otherwise}
 use Rattle.kp_turns.proofs.TurnsFound.{left_to_none}
 use Rattle.kp_unify.specs.Narrowed.{NumberedPart}
+use Rattle.kp_firing.specs.Comes.{ComesFrom, itself}
 use Rattle.kp_firing.specs.Ready.{parts_of}
-use Rattle.kp_step.specs.Left.{AreLeft}
+use Rattle.kp_step.specs.Left.{IsOneOf, IsOfThese, AreLeft}
 use Rattle.kp_step.specs.Causes.{MayRewrite, IsAsked, IsShownOf, IsLeftOpen}
 
 part_among : (ps : List NumberedPart) (q : NumberedPart) → Contains ps q → Contains (parts_of ps) q.part
@@ -44,6 +46,7 @@ open_state t s shown over told shows = record {
   asked = left_to_none t.signature (whole s) told;
   part = whole s;
   among = Contains-push [] (whole s);
+  comes = itself;
   shows = shows;
 }
 
@@ -58,6 +61,7 @@ open_rule t used s m r read found parts q shown over body members l c shows = re
       (λ w d h k. ((λ f. (subst (λ b. MayRewrite t.signature b d) (sym body) (subst (λ b. Fires t.signature b d) body f.0), f.1)), (λ a. (subst (λ b. Fires t.signature b d) (sym body) (subst (λ b. MayRewrite t.signature b d) body a.0), a.1)))) l.left;
   part = q.part;
   among = part_among parts q c;
+  comes = of_member (IsOfThese t.signature (Some r) found (whole s)) parts q l.comes c;
   shows = shows;
 }
 
@@ -71,13 +75,14 @@ open_remainder t used s m found parts q shown over members l c shows = record {
   asked = l.left;
   part = q.part;
   among = part_among parts q c;
+  comes = of_member (IsOfThese t.signature None found (whole s)) parts q l.comes c;
   shows = shows;
 }
 
 -- of the part where a foreign rule might rewrite
 pub open_foreign : (t : Theory) (s : SymbolicState) (r : RewriteRule) (left : ForeignLeft) (p : StatePart) (shown : List (List Literal)) (over : Option Weighed) → r.body ≡ foreign_rule left →
-    AreWhere t.signature (λ c. IsUnknownBy t.signature r.body c) (whole s) (p ∷ []) → IsShownOf t.signature s p.state shown over → IsLeftOpen t s (Some r) shown over
-open_foreign t s r left p shown over body d shows = record {
+    AreWhere t.signature (λ c. IsUnknownBy t.signature r.body c) (whole s) (p ∷ []) → ComesFrom t.signature (IsOneOf (Some r) []) (whole s) p → IsShownOf t.signature s p.state shown over → IsLeftOpen t s (Some r) shown over
+open_foreign t s r left p shown over body d comes shows = record {
   turns = [];
   of_theory = tt;
   parts = p ∷ [];
@@ -85,5 +90,6 @@ open_foreign t s r left p shown over body d shows = record {
       (λ w e h k. ((λ u. (subst (λ b. MayRewrite t.signature b e) (sym body) (subst (λ b. IsUnknownBy t.signature b e) body u), tt)), (λ a. subst (λ b. IsUnknownBy t.signature b e) (sym body) (subst (λ b. MayRewrite t.signature b e) body a.0)))) d;
   part = p;
   among = Contains-push [] p;
+  comes = comes;
   shows = shows;
 }

@@ -1,5 +1,5 @@
 -- What the code finds of a rule that fires is what a step takes of it.
-use Rattle.std.proofs.Common.{◌≡◌, sym, ap, subst, ◌∙◌, ℕ, true, List, [], ◌∷◌, ◌++◌, map, Option, Some, None}
+use Rattle.std.proofs.Common.{◌≡◌, refl, sym, ap, subst, ◌∙◌, ℕ, true, List, [], ◌∷◌, ◌++◌, map, Option, Some, None}
 use Rattle.std.specs.List.{AllByRecursion}
 use Rattle.kp_kore.specs.Syntax.{Text}
 use Rattle.kp_kore.specs.Parts.{SortedName, free_variables}
@@ -22,9 +22,11 @@ use Rattle.kp_cases.specs.Courses.{IsBoundTo, form_variables}
 use Rattle.kp_cases.proofs.PartLemmas.{below_itself}
 use Rattle.kp_turns.specs.Firing.{AreFiringCases}
 use Rattle.kp_turns.proofs.AtHandLemmas.{named_member}
+use Rattle.kp_unify.specs.Comes.{IsNarrowedFrom}
 use Rattle.kp_unify.specs.Narrowed.{NumberedPart}
 use Rattle.kp_unify.specs.Views.{IsSetting}
 use Rattle.kp_unify.specs.declared.part.Setting.{Setting}
+use Rattle.kp_firing.specs.Comes.{ComesFrom, narrowed, fires, itself}
 use Rattle.kp_firing.specs.Ready.{IsReadyPart}
 use Rattle.kp_firing.specs.Firings.{FiresOn, IsFired}
 use Rattle.kp_firing.specs.declared.firing.Firing.{Firing}
@@ -34,7 +36,7 @@ use Rattle.kp_step.specs.Places.{IsAt, IsReadAs}
 use Rattle.kp_step.specs.Ready.{IsWholeReady}
 use Rattle.kp_step.specs.Left.{IsPartIn}
 use Rattle.kp_step.specs.Found.{IsMetIn}
-use Rattle.kp_step.specs.Tries.{IsFiringOf}
+use Rattle.kp_step.specs.Tries.{narrowed_of, IsFiringOf}
 use Rattle.kp_step.specs.Answers.{firing_model}
 use Rattle.kp_step.proofs.FoundLemmas.{one_at}
 use Rattle.kp_step.proofs.LeftLemmas.{itself_at_hand}
@@ -88,6 +90,12 @@ part_in t used s q m sides f w k =
       ready = k.ready;
     }
 
+-- the part where it fires comes of the whole state
+fires_from : (t : Theory) (used : List Text) (s : SymbolicState) (q : NumberedPart) (m : Rewrite) (sides : Sides) (f : Firing) → IsWholeReady t.signature used s q → FiresOn t.signature used m (skeleton_view sides.left) q.part f → ComesFrom t.signature (λ b. b ≡ rewrite m) (whole s) (narrowed_of (firing_model f)).part
+fires_from t used s q m sides f w k =
+    let r = (firing_model f).part.part in
+    fires r (rewrite m) ((firing_model f).equations ++ (firing_model f).condition) (narrowed (whole s) r itself (subst (λ p. IsNarrowedFrom t.signature p r) w.is k.met.here.narrowed)) refl k.firing.of_rule
+
 pub is_firing : (t : Theory) (used : List Text) (s : SymbolicState) (place : ℕ) (q : NumberedPart) (m : Rewrite) (sides : Sides) (f : Firing) → IsWholeReady t.signature used s q → IsReadAs t place m → AreSidesOf t.signature m sides → AreVerifiedSides t.signature m → FiresOn t.signature used m (skeleton_view sides.left) q.part f →
     AllByRecursion (λ b. is_named b.name (form_variables (skeleton_view sides.left)) ≡ true) (firing_model f).bindings → IsFiringOf t used s place (firing_model f)
 is_firing t used s place q m sides f w r s' v k named = record {
@@ -98,6 +106,7 @@ is_firing t used s place q m sides f w r s' v k named = record {
   cases = subst (λ p. AreFiringCases t.signature (rewrite m) p (Some (record { part = (firing_model f).part.part; clauses = (firing_model f).equations ++ (firing_model f).condition })) (firing_model f).apart) w.is k.firing.cases;
   is_met = is_met_in t used m sides q.part f s' v k named;
   part = part_in t used s q m sides f w k;
+  comes = fires_from t used s q m sides f w k;
   where_met = k.where_met;
   where_it_fires = k.where_it_fires;
 }

@@ -1,12 +1,12 @@
 -- The parts that rules leave, rule by rule and part by part.
-use Rattle.std.proofs.Common.{◌≡◌, sym, subst, List, [], ◌∷◌, ◌++◌, Option, Some, None}
+use Rattle.std.proofs.Common.{◌≡◌, sym, subst, List, [], ◌∷◌, ◌++◌, Option, Some, None, inl, inr}
 use Rattle.std.specs.List.{AllByRecursion, Contains}
 use Rattle.std.proofs.lemmas.List.{append_assoc, map-append}
-use Rattle.std.proofs.lemmas.List.Elements.{Contains-append_left}
+use Rattle.std.proofs.lemmas.List.Elements.{Contains-append_left, Contains-push}
 use Rattle.kp_kore.specs.Syntax.{Text}
 use Rattle.kp_kore.specs.Parts.{SortedName}
 use Rattle.kp_kore.specs.Signature.{KoreSignature}
-use Rattle.kp_kore.specs.Rules.{RewriteRule}
+use Rattle.kp_kore.specs.Rules.{RuleBody, RewriteRule}
 use Rattle.kp_kore.specs.Steps.{Fires}
 use Rattle.kp_kore.proofs.TurnLemmas.{each_member}
 use Rattle.kp_symbolic.specs.WellFormed.{AreAtHand}
@@ -21,8 +21,10 @@ use Rattle.kp_turns.proofs.PartsWhere.{sets_out, goes_on, drops_parts}
 use Rattle.kp_turns.proofs.TurnsFound.{left_to_none, left_to_rule, less_is_left, as_much_is_left}
 use Rattle.kp_unify.specs.Narrowed.{NumberedPart}
 use Rattle.kp_firing.specs.Ready.{IsReadyPart, HasInstance, parts_of}
+use Rattle.kp_firing.specs.Comes.{itself}
 use Rattle.kp_firing.specs.Silent.{IsFurther}
-use Rattle.kp_step.specs.Left.{IsPartIn, AreLeft, AreLeftSoFar, AreKept, none_left, is_kept, falls_away}
+use Rattle.kp_firing.proofs.ComesLemmas.{comes_by_more, comes_further}
+use Rattle.kp_step.specs.Left.{IsPartIn, IsOneOf, IsOfThese, AreLeft, AreLeftSoFar, AreKept, none_left, is_kept, falls_away}
 
 both_parts : (xs ys : List NumberedPart) → parts_of (xs ++ ys) ≡ parts_of xs ++ parts_of ys
 both_parts xs ys = map-append (λ q. q.part) xs ys
@@ -42,42 +44,65 @@ pub all_is_left : (g : KoreSignature) (used : List Text) (q : NumberedPart) → 
 all_is_left g used q ready = record {
   left = left_to_none g q.part ready.told;
   each = (record { below = below_itself g q.part ready.told; at_hand = itself_at_hand q.part.state.variables; grown = grown_itself g used q.part; ready = ready }, tt);
+  comes = (itself, tt);
 }
 
 -- where a rule fires is left to it
-pub firing_is_left : (g : KoreSignature) (used : List Text) (r : RewriteRule) (s m : StatePart) (q : NumberedPart) → AreWhere g (λ c. Fires g r.body c) s (q.part ∷ []) → IsPartIn g used s m q → AreLeft g used (Some r) [] s m (q ∷ [])
-firing_is_left g used r s m q fires at = record { left = left_to_rule g r s (q.part ∷ []) fires; each = (at, tt) }
+pub firing_is_left : (g : KoreSignature) (used : List Text) (r : RewriteRule) (s m : StatePart) (q : NumberedPart) → AreWhere g (λ c. Fires g r.body c) s (q.part ∷ []) → IsPartIn g used s m q → IsOfThese g (Some r) [] s q → AreLeft g used (Some r) [] s m (q ∷ [])
+firing_is_left g used r s m q fires at comes = record { left = left_to_rule g r s (q.part ∷ []) fires; each = (at, tt); comes = (comes, tt) }
 
 -- ---- while a rule takes
+
+-- by one rule more
+one_more : (o : Option RewriteRule) (turns : List RewriteRule) (q : RewriteRule) (b : RuleBody) → IsOneOf o turns b → IsOneOf o (turns ++ q ∷ []) b
+one_more o turns q b (r, inl c, e) = (r, inl (Contains-append_left turns (q ∷ []) r c), e)
+one_more o turns q b (r, inr c, e) = (r, inr c, e)
+
+all_by_more : (g : KoreSignature) (o : Option RewriteRule) (turns : List RewriteRule) (q : RewriteRule) (s : StatePart) (parts : List NumberedPart) → AllByRecursion (IsOfThese g o turns s) parts → AllByRecursion (IsOfThese g o (turns ++ q ∷ []) s) parts
+all_by_more g o turns q s [] h = tt
+all_by_more g o turns q s (p ∷ parts) h = (comes_by_more g (IsOneOf o turns) (IsOneOf o (turns ++ q ∷ [])) s p.part (one_more o turns q) h.0, all_by_more g o turns q s parts h.1)
+
+-- what the rule leaves of a part
+each_of_rule : (g : KoreSignature) (used : List Text) (o : Option RewriteRule) (turns : List RewriteRule) (q : RewriteRule) (s : StatePart) (r : NumberedPart) (more : List NumberedPart) → IsOfThese g o (turns ++ q ∷ []) s r → AllByRecursion (IsFurther g used q.body r.part) more → AllByRecursion (IsOfThese g o (turns ++ q ∷ []) s) more
+each_of_rule g used o turns q s r [] c f = tt
+each_of_rule g used o turns q s r (p ∷ more) c f = (
+  comes_further g (IsOneOf o (turns ++ q ∷ [])) s r.part p.part c
+      (comes_by_more g (λ b. b ≡ q.body) (IsOneOf o (turns ++ q ∷ [])) r.part p.part (λ b e. (q, inl (Contains-push turns q), sym e)) f.0.comes),
+  each_of_rule g used o turns q s r more c f.1,
+)
 
 pub rule_sets_out : (g : KoreSignature) (used : List Text) (o : Option RewriteRule) (turns : List RewriteRule) (q : RewriteRule) (s m : StatePart) (parts : List NumberedPart) → AreLeft g used o turns s m parts → AreLeftSoFar g used o turns q s m [] parts
 rule_sets_out g used o turns q s m parts l = record {
   left = sets_out g (IsLeftTo g o turns) (λ c. ¬ Fires g q.body c) s (parts_of parts) l.left;
   each_done = tt;
   each_waiting = l.each;
+  comes_done = tt;
+  comes_waiting = all_by_more g o turns q s parts l.comes;
 }
 
-each_further : (g : KoreSignature) (used : List Text) (s m : StatePart) (r : NumberedPart) (more : List NumberedPart) → IsPartIn g used s m r → AllByRecursion (IsPartBelow g r.part) (parts_of more) → AllByRecursion (IsFurther g used r.part) more → AllByRecursion (IsPartIn g used s m) more
-each_further g used s m r [] i b f = tt
-each_further g used s m r (q ∷ more) i b f = (
-  record { below = below_below g m r.part q.part i.below b.0; at_hand = hand_in_hand m.state.variables r.part.state.variables q.part.state.variables i.at_hand (grown_hand g used r.part q.part f.0.on.grown); grown = grown_further g used s r.part q.part i.grown f.0.on.grown; ready = f.0.ready },
-  each_further g used s m r more i b.1 f.1,
+each_further : (g : KoreSignature) (used : List Text) (body : RuleBody) (s m : StatePart) (r : NumberedPart) (more : List NumberedPart) → IsPartIn g used s m r → AllByRecursion (IsPartBelow g r.part) (parts_of more) → AllByRecursion (IsFurther g used body r.part) more → AllByRecursion (IsPartIn g used s m) more
+each_further g used body s m r [] i b f = tt
+each_further g used body s m r (q ∷ more) i b f = (
+  record { below = below_below g m r.part q.part i.below b.0; at_hand = hand_in_hand m.state.variables r.part.state.variables q.part.state.variables i.at_hand (grown_hand g used r.part q.part f.0.grown); grown = grown_further g used s r.part q.part i.grown f.0.grown; ready = f.0.ready },
+  each_further g used body s m r more i b.1 f.1,
 )
 
 pub rule_goes_on : (g : KoreSignature) (used : List Text) (o : Option RewriteRule) (turns : List RewriteRule) (q : RewriteRule) (s m : StatePart) (done waiting more : List NumberedPart) (r : NumberedPart) →
-    AreLeftSoFar g used o turns q s m done (r ∷ waiting) → AreWhere g (λ c. ¬ Fires g q.body c) r.part (parts_of more) → AllByRecursion (IsFurther g used r.part) more → AreLeftSoFar g used o turns q s m (done ++ more) waiting
+    AreLeftSoFar g used o turns q s m done (r ∷ waiting) → AreWhere g (λ c. ¬ Fires g q.body c) r.part (parts_of more) → AllByRecursion (IsFurther g used q.body r.part) more → AreLeftSoFar g used o turns q s m (done ++ more) waiting
 rule_goes_on g used o turns q s m done waiting more r l w f = record {
   left = subst (λ ps. AreDividedSoFar g (IsLeftTo g o turns) (λ c. ¬ Fires g q.body c) s ps (parts_of waiting)) (sym (both_parts done more))
       (goes_on g (IsLeftTo g o turns) (λ c. ¬ Fires g q.body c) s r.part (parts_of done) (parts_of waiting) (parts_of more) l.left w);
-  each_done = all_both (IsPartIn g used s m) done more l.each_done (each_further g used s m r more l.each_waiting.0 w.divided.below f);
+  each_done = all_both (IsPartIn g used s m) done more l.each_done (each_further g used q.body s m r more l.each_waiting.0 w.divided.below f);
   each_waiting = l.each_waiting.1;
+  comes_done = all_both (IsOfThese g o (turns ++ q ∷ []) s) done more l.comes_done (each_of_rule g used o turns q s r more l.comes_waiting.0 f);
+  comes_waiting = l.comes_waiting.1;
 }
 
 pub rule_arrives : (g : KoreSignature) (used : List Text) (o : Option RewriteRule) (turns : List RewriteRule) (q : RewriteRule) (s m : StatePart) (parts : List NumberedPart) → TakesFrom q o → AreLeftSoFar g used o turns q s m parts [] → AreLeft g used o (turns ++ q ∷ []) s m parts
-rule_arrives g used o turns q s m parts t l = record { left = less_is_left g o turns q s (parts_of parts) t l.left; each = l.each_done }
+rule_arrives g used o turns q s m parts t l = record { left = less_is_left g o turns q s (parts_of parts) t l.left; each = l.each_done; comes = l.comes_done }
 
 pub rule_passes : (g : KoreSignature) (used : List Text) (o : Option RewriteRule) (turns : List RewriteRule) (q : RewriteRule) (s m : StatePart) (parts : List NumberedPart) → (¬ TakesFrom q o) → AreLeft g used o turns s m parts → AreLeft g used o (turns ++ q ∷ []) s m parts
-rule_passes g used o turns q s m parts t l = record { left = as_much_is_left g o turns q s (parts_of parts) t l.left; each = l.each }
+rule_passes g used o turns q s m parts t l = record { left = as_much_is_left g o turns q s (parts_of parts) t l.left; each = l.each; comes = all_by_more g o turns q s parts l.comes }
 
 -- ---- parts without an instance
 
@@ -86,6 +111,7 @@ drops_one g used o turns s m before after q none l = record {
   left = subst (AreWhere g (IsLeftTo g o turns) s) (sym (both_parts before after))
       (drops_parts g (IsLeftTo g o turns) s q.part (parts_of before) (parts_of after) none (subst (AreWhere g (IsLeftTo g o turns) s) (both_parts before (q ∷ after)) l.left));
   each = all_both (IsPartIn g used s m) before after (all_first (IsPartIn g used s m) before (q ∷ after) l.each) (all_second (IsPartIn g used s m) before (q ∷ after) l.each).1;
+  comes = let These = IsOfThese g o turns s in all_both These before after (all_first These before (q ∷ after) l.comes) (all_second These before (q ∷ after) l.comes).1;
 }
 
 kept_behind : (g : KoreSignature) (used : List Text) (o : Option RewriteRule) (turns : List RewriteRule) (s m : StatePart) (before ps ks : List NumberedPart) → AreKept g ps ks → AreLeft g used o turns s m (before ++ ps) → AreLeft g used o turns s m (before ++ ks)

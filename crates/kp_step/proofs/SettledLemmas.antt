@@ -29,6 +29,7 @@ settled_part g used q t k w r =
     record {
       added = refl;
       variables = e;
+      solving = r;
       same = same;
       ready = record {
         told = λ v c h i. let at = subst (λ xs. GivesSorts g v xs) e h in k.told v c at ((same v c at).1 i);

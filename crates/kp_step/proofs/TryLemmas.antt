@@ -1,5 +1,5 @@
 -- A rule that is tried has a turn where the rules found before leave it a part with an instance.
-use Rattle.std.proofs.Common.{◌≡◌, refl, sym, subst, ℕ, List, [], ◌∷◌, ◌++◌, Some}
+use Rattle.std.proofs.Common.{◌≡◌, refl, sym, subst, ◌∙◌, ℕ, List, [], ◌∷◌, ◌++◌, Some, inr}
 use Rattle.std.specs.List.{AllByRecursion, AllZip, Contains}
 use Rattle.std.proofs.lemmas.List.Elements.{Contains-push, Contains-append_left, Contains-append_right}
 use Rattle.kp_kore.specs.Syntax.{Text}
@@ -19,7 +19,8 @@ use Rattle.kp_turns.proofs.FiringLemmas.{firing_part}
 use Rattle.kp_unify.specs.Narrowed.{NumberedPart}
 use Rattle.kp_step.specs.Places.{IsAt, IsReadAs, IsPriorityAt}
 use Rattle.kp_firing.specs.Ready.{narrowed_by}
-use Rattle.kp_step.specs.Left.{AreLeft}
+use Rattle.kp_firing.proofs.ComesLemmas.{comes_by_more}
+use Rattle.kp_step.specs.Left.{IsOneOf, AreLeft}
 use Rattle.kp_step.specs.Found.{PlacedTurn, IsRuleAt, IsMetIn, IsTurnAt, IsTurnAmong}
 use Rattle.kp_step.specs.Tries.{PlacedFiring, IsFiringOf, AreTurnParts}
 use Rattle.kp_step.proofs.LeftLemmas.{firing_is_left}
@@ -66,12 +67,14 @@ fires_there t used s place f i =
       grown = record { new = i.part.grown.new; variables = i.part.grown.variables; are_new = i.part.grown.are_new; each = i.part.grown.each };
       ready = i.where_it_fires;
     })
+    (comes_by_more t.signature (λ b. b ≡ rewrite i.read) (IsOneOf (Some i.rule) []) (whole s) r (λ b e. (i.rule, inr refl, i.body ∙ sym e)) i.comes)
 
 -- where it fires nowhere, nothing is left to it, whatever the rules found before take
 pub nothing_for_it : (g : KoreSignature) (used : List Text) (r : RewriteRule) (found : List RewriteRule) (s m : StatePart) → AreLeft g used (Some r) [] s m [] → AreLeft g used (Some r) found s m []
 nothing_for_it g used r found s m l = record {
   left = record { divided = divides_of_these g (FiresFirst g [] r) (FiresFirst g found r) s [] (λ c f. (f.0, tt)) l.left.divided; only = tt };
   each = tt;
+  comes = tt;
 }
 
 -- parts that are left to it are its turn

@@ -14,6 +14,8 @@ use Rattle.kp_symbolic.specs.Verdicts.{Weighed, IsOpen, IsTooHeavy}
 use Rattle.kp_cases.specs.Parts.{StatePart, whole, OfEachInstance}
 use Rattle.kp_turns.specs.Firing.{AreWhere}
 use Rattle.kp_turns.specs.Turns.{NoneGoesBefore, NoneOfThese}
+use Rattle.kp_firing.specs.Comes.{ComesFrom}
+use Rattle.kp_step.specs.Left.{IsOneOf}
 use Rattle.kp_step.specs.Places.{IsAt}
 
 -- ---- clauses that aren't decided
@@ -35,7 +37,8 @@ IsShownOf g s p shown None = IsOpen g p shown
     ⊎ ((h : Weighed) × (all : List (List Literal)) × IsTooHeavy g p all h × (¬ (rough_clauses g s ≡ [])) × (shown ≡ rough_clauses g s))
 IsShownOf g s p shown (Some h) = IsTooHeavy g p shown h × (rough_clauses g s ≡ [])
 
--- it isn't decided whether one of the parts where something is asked has an instance
+-- It isn't decided whether one of the parts where something is asked has an instance. That part comes of the state, of the rule
+-- and of those that take from it: nothing else stands in it.
 pub record IsLeftOpen (t : Theory) (s : SymbolicState) (rule : Option RewriteRule) (shown : List (List Literal)) (over : Option Weighed) : Type 0 where
   pub turns : List RewriteRule
   pub of_theory : AllByRecursion (Contains t.rules) turns
@@ -43,6 +46,7 @@ pub record IsLeftOpen (t : Theory) (s : SymbolicState) (rule : Option RewriteRul
   pub asked : AreWhere t.signature (IsAsked t.signature rule turns) (whole s) parts
   pub part : StatePart
   pub among : Contains parts part
+  pub comes : ComesFrom t.signature (IsOneOf rule turns) (whole s) part
   pub shows : IsShownOf t.signature s part.state shown over
 
 -- ---- foreign rules

@@ -11,6 +11,7 @@ use Rattle.kp_kore.specs.Rules.{RuleBody, RewriteRule}
 use Rattle.kp_kore.specs.Theory.{Theory}
 use Rattle.kp_symbolic.specs.Terms.{Replaced}
 use Rattle.kp_symbolic.specs.States.{SymbolicState, IsStateInstance}
+use Rattle.kp_symbolic.specs.Solving.{Solving}
 use Rattle.kp_symbolic.specs.WellFormed.{AreAtHand}
 use Rattle.kp_cases.specs.Parts.{StatePart, whole, IsGrown}
 use Rattle.kp_turns.specs.NextStates.{FollowsBy}
@@ -46,10 +47,11 @@ abbrev pub AreNextsOf : Theory → List Text → StatePart → List PlacedTurn �
 AreNextsOf t used s [] ns = ns ≡ []
 AreNextsOf t used s (k ∷ ks) ns = (xs : List PlacedNext) × (ys : List PlacedNext) × (ns ≡ xs ++ ys) × AllZip (IsNextAt t used s k) k.parts xs × AreNextsOf t used s ks ys
 
--- a part with another state of the same variables and instances, to go on with
+-- a part whose equations are solved, of the same variables and instances, to go on with
 pub record IsSolvedPart (g : KoreSignature) (used : List Text) (q r : NumberedPart) : Type 0 where
   pub added : r.part.added ≡ q.part.added
   pub variables : r.part.state.variables ≡ q.part.state.variables
+  pub solving : Solving g q.part.state r.part.state
   pub same : (w : Valuation) (c : Value) → GivesSorts g w q.part.state.variables → IsStateInstance g w q.part.state c ↔ IsStateInstance g w r.part.state c
   pub ready : IsReadyPart g used r
 

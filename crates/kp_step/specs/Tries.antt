@@ -13,6 +13,7 @@ use Rattle.kp_cases.specs.Parts.{StatePart, whole, with_clauses, OfEachInstance}
 use Rattle.kp_turns.specs.Firing.{AreFiringCases}
 use Rattle.kp_unify.specs.Narrowed.{NumberedPart}
 use Rattle.kp_step.specs.Places.{IsAt}
+use Rattle.kp_firing.specs.Comes.{ComesFrom}
 use Rattle.kp_firing.specs.Ready.{IsReadyPart, narrowed_by, HasInstance, parts_of}
 use Rattle.kp_step.specs.Left.{IsPartIn, AreLeft}
 use Rattle.kp_step.specs.Found.{IsMetIn}
@@ -39,6 +40,7 @@ pub record IsFiringOf (t : Theory) (used : List Text) (s : SymbolicState) (place
   pub cases : AreFiringCases t.signature (rewrite read) (whole s) (Some (record { part = f.part.part; clauses = f.equations ++ f.condition })) f.apart
   pub is_met : IsMetIn t read f.bindings f.part.part
   pub part : IsPartIn t.signature used (whole s) f.part.part f.part
+  pub comes : ComesFrom t.signature (λ b. b ≡ rewrite read) (whole s) (narrowed_of f).part
   pub where_met : IsReadyPart t.signature used (narrowed_by f.part f.equations)
   pub where_it_fires : IsReadyPart t.signature used (narrowed_by f.part (f.equations ++ f.condition))
 

@@ -21,6 +21,7 @@ use Rattle.kp_cases.proofs.OnRows.{all_bound}
 use Rattle.kp_cases.proofs.GrownLemmas.{grown_itself}
 use Rattle.kp_symbolic.specs.States.{Literal}
 use Rattle.kp_unify.specs.Clash.{IsNeverOf}
+use Rattle.kp_unify.specs.Comes.{itself}
 use Rattle.kp_unify.specs.Narrowed.{NumberedPart}
 use Rattle.kp_unify.specs.Views.{pair_view}
 use Rattle.kp_unify.specs.Way.{AreInUse, IsPlacedEquality, IsOnWay, Stage, IsAllApart, IsNextPair, IsGone, IsMeetable, IsMeeting}
@@ -35,7 +36,7 @@ begun g used left p next told sorted formed from names one = record {
   one = one;
   way = record {
     on = on_begins g left p told sorted;
-    here = record { grown = grown_itself g used p; sorted = sorted; formed = formed; begun = from; names = names };
+    here = record { grown = grown_itself g used p; sorted = sorted; formed = formed; begun = from; names = names; narrowed = itself };
     others = tt;
     asked = tt;
     formed = record { equalities = tt; bindings = tt; pairs = (formed.term, tt) };

@@ -29,6 +29,7 @@ use Rattle.kp_cases.specs.Rows.{HasMembers, AsksSort, IsMadeOf, AreTermsOf}
 use Rattle.kp_cases.proofs.GrownLemmas.{grown_further}
 use Rattle.kp_cases.proofs.SortedParts.{sorted_with, head_clauses_sorted, other_head_sorted, outside_sorted}
 use Rattle.kp_cases.proofs.OnNarrowed.{step_sort, step_constructor, step_heads}
+use Rattle.kp_unify.specs.Comes.{alone, built, TellsHead, tested, another, inside, outside, with_term, with_head}
 use Rattle.kp_unify.specs.Names.{IsNextName, AreNextVariables}
 use Rattle.kp_unify.specs.Narrowed.{NumberedPart, with_split}
 use Rattle.kp_unify.specs.Replaced.{pair_of}
@@ -77,14 +78,15 @@ all_later used before after (x ∷ xs) l h = (in_use_later used before after x.n
 -- ---- parts
 
 -- the part with further clauses that are sorted, their terms in normal form
-pub constrained_on : (g : KoreSignature) (used : List Text) (p q : StatePart) (next : ℕ) (clauses : List (List Literal)) → IsPartOn g used p (record { part = q; next = next }) → IsSortedPart g (with_clauses q clauses) → AreFormed g clauses →
+pub constrained_on : (g : KoreSignature) (used : List Text) (p q : StatePart) (next : ℕ) (x : SortedName) (clauses : List (List Literal)) → IsPartOn g used p (record { part = q; next = next }) → IsSortedPart g (with_clauses q clauses) → AreFormed g clauses → TellsHead g x clauses →
     IsPartOn g used p (record { part = with_clauses q clauses; next = next })
-constrained_on g used p q next clauses h s f = record {
+constrained_on g used p q next x clauses h s f tells = record {
   grown = record { new = h.grown.new; variables = h.grown.variables; are_new = h.grown.are_new; each = h.grown.each };
   sorted = s;
   formed = formed_with g q clauses h.formed f;
   begun = h.begun;
   names = h.names;
+  narrowed = with_head q x clauses h.narrowed tells;
 }
 
 split_parts : (q : NumberedPart) (others : List (List Literal)) (apart : List NumberedPart) → map (λ x. x.part) (with_split q others apart) ≡ courses.with_split q.part others (map (λ x. x.part) apart)
@@ -97,13 +99,13 @@ split_parts q others apart = by (are_never others) refl
     by true e = refl
     by false e = map-append (λ x. x.part) apart more
 
-split_others : (g : KoreSignature) (used : List Text) (p : StatePart) (q : NumberedPart) (others : List (List Literal)) (apart : List NumberedPart) → AllByRecursion (IsPartOn g used p) apart → IsPartOn g used p q → IsSortedPart g (with_clauses q.part others) → AreFormed g others →
+split_others : (g : KoreSignature) (used : List Text) (p : StatePart) (q : NumberedPart) (x : SortedName) (others : List (List Literal)) (apart : List NumberedPart) → AllByRecursion (IsPartOn g used p) apart → IsPartOn g used p q → IsSortedPart g (with_clauses q.part others) → AreFormed g others → TellsHead g x others →
     AllByRecursion (IsPartOn g used p) (with_split q others apart)
-split_others g used p q others apart a h s f = by (are_never others)
+split_others g used p q x others apart a h s f tells = by (are_never others)
   where
     by : (b : Bool) → AllByRecursion (IsPartOn g used p) (if b then apart else apart ++ record { part = with_clauses q.part others; next = q.next } ∷ [])
     by true = a
-    by false = all_both (IsPartOn g used p) apart (record { part = with_clauses q.part others; next = q.next } ∷ []) a (constrained_on g used p q.part q.next others h s f, tt)
+    by false = all_both (IsPartOn g used p) apart (record { part = with_clauses q.part others; next = q.next } ∷ []) a (constrained_on g used p q.part q.next x others h s f tells, tt)
 
 -- with a term in a variable's place, equalities are of the sorts that they were
 still_asked : (g : KoreSignature) (left : Form) (e : Equation) (es : List Equality) → AllByRecursion (λ (q : Equality). IsAskedSort g left q.sort) es →
@@ -146,8 +148,9 @@ sort_on_way g used left p k before after apart form x s m name o f i u h n at =
           formed = part_formed g e (y ∷ []) k.part refl o.here.formed;
           begun = omega (arith, begun, behind);
           names = all_both (λ z. IsInUse used after z.name) k.part.state.variables (y ∷ []) (all_later used before after k.part.state.variables behind o.here.names) (last_in_use used before after name n, tt);
+          narrowed = with_term k.part e (y ∷ []) o.here.narrowed (alone y);
         };
-        others = split_others g used p q others apart o.others o.here (sorted_with g k.part others o.here.sorted (head_clauses_sorted g k.part.state.variables false x (head_of_sort m) at)) (head_clauses_formed g false x (head_of_sort m) tt);
+        others = split_others g used p q x others apart o.others o.here (sorted_with g k.part others o.here.sorted (head_clauses_sorted g k.part.state.variables false x (head_of_sort m) at)) (head_clauses_formed g false x (head_of_sort m) tt) (tested false (head_of_sort m));
         asked = still_asked g left e k.equalities o.asked;
         formed = course_put g e r k (pair_of form (unknown x)) (unknown y) refl refl o.formed;
       },
@@ -167,8 +170,8 @@ heads_on_way g used left p k next apart form x s o f none at =
     let step = step_heads g left p k (map (λ z. z.part) apart) form x s o.on f none in (
       record {
         on = subst (λ ps. IsOnCourse g left p (with_pair (course_in r k) (record { form = form; term = unknown x })) ps) (sym (split_parts q others apart)) step.0;
-        here = constrained_on g used p k.part next (heads_inside g x s) o.here step.0.sorted.part (inside_formed g x s);
-        others = split_others g used p q others apart o.others o.here (sorted_with g k.part others o.here.sorted (outside_sorted g k.part.state.variables x s at)) (outside_formed g x s);
+        here = constrained_on g used p k.part next x (heads_inside g x s) o.here step.0.sorted.part (inside_formed g x s) (inside s);
+        others = split_others g used p q x others apart o.others o.here (sorted_with g k.part others o.here.sorted (outside_sorted g k.part.state.variables x s at)) (outside_formed g x s) (outside s);
         asked = o.asked;
         formed = course_moved g r k (pair_of form (unknown x)) o.formed;
       },
@@ -269,8 +272,9 @@ constructor_on_way g used left p k before after apart form x c fs new o h m head
           formed = part_formed g e new k.part normal o.here.formed;
           begun = omega (arith, begun, behind);
           names = all_both (λ z. IsInUse used after z.name) k.part.state.variables new (all_later used before after k.part.state.variables behind o.here.names) (all_in_use used before after ss new n);
+          narrowed = with_term k.part e new o.here.narrowed (built c new);
         };
-        others = split_others g used p q others apart o.others o.here (split_sorted g k.part x c new head sorts m o.here.sorted at) (other_head_formed g x c new m);
+        others = split_others g used p q x others apart o.others o.here (split_sorted g k.part x c new head sorts m o.here.sorted at) (other_head_formed g x c new m) (another c new);
         asked = still_asked g left e k.equalities o.asked;
         formed = course_put g e r k (pair_of form (unknown x)) (constructor_term g c new) normal normal o.formed;
       },

@@ -6,4 +6,5 @@ pub mod Narrowed
 pub mod Literals
 pub mod Replaced
 pub mod Clash
+pub mod Comes
 pub mod Way

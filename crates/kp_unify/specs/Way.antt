@@ -20,6 +20,7 @@ use Rattle.kp_cases.specs.Courses.{FormPair, Equality, Course, with_pair, with_b
 use Rattle.kp_cases.specs.Rows.{AsksSort}
 use Rattle.kp_symbolic_laws.specs.Runs.{HasOneSortEach}
 use Rattle.kp_symbolic_laws.specs.Safe.{IsNormal, PutNormal, IsFormedState, IsSoundQuote}
+use Rattle.kp_unify.specs.Comes.{IsNarrowedFrom}
 use Rattle.kp_unify.specs.Names.{IsNextName, AreNextVariables}
 use Rattle.kp_unify.specs.Narrowed.{NumberedPart, with_split}
 
@@ -33,13 +34,15 @@ IsInUse used next x = (list_any (bytes_eq x) used ≡ true) ⊎ ((j : ℕ) × j 
 abbrev pub AreInUse : List Text → NumberedPart → Type 0
 AreInUse used q = AllByRecursion (λ x. IsInUse used q.next x.name) q.part.state.variables
 
--- a part of p, well-sorted and its terms in normal form, with new variables of sorts with values, whose names are in use
+-- a part of p by narrowing, well-sorted and its terms in normal form, with new variables of sorts with values, whose names are in
+-- use
 pub record IsPartOn (g : KoreSignature) (used : List Text) (p : StatePart) (q : NumberedPart) : Type 0 where
   pub grown : IsGrown g used p q.part
   pub sorted : IsSortedPart g q.part
   pub formed : IsFormedState g (IsSoundQuote g) q.part.state
   pub begun : 1 ≤ q.next
   pub names : AreInUse used q
+  pub narrowed : IsNarrowedFrom g p q.part
 
 -- ---- on the way
 

@@ -1,0 +1,48 @@
+-- How a part of a state comes of the state and of rules, step by step: nothing else stands in it.
+-- Source: narrowing; the K framework (rules, priorities); K's Haskell backend, where what no rule takes is the remainder.
+use Rattle.std.specs.Prelude.{◌≡◌, ◌↔◌, List, [], ◌++◌}
+use Rattle.kp_kore.specs.Signature.{KoreSignature}
+use Rattle.kp_kore.specs.Value.{Value}
+use Rattle.kp_kore.specs.Instance.{Valuation}
+use Rattle.kp_kore.specs.Sorted.{IsSorted}
+use Rattle.kp_kore.specs.Rules.{RuleBody, rewrite, foreign_rule}
+use Rattle.kp_kore.specs.Foreign.{IsSkeletonInstance}
+use Rattle.kp_symbolic.specs.Terms.{Replaced}
+use Rattle.kp_symbolic.specs.States.{Literal}
+use Rattle.kp_symbolic.specs.Solving.{negated, Solving}
+use Rattle.kp_rules.specs.LeftSides.{IsLeftSide}
+use Rattle.kp_rules.specs.Skeletons.{Form, Admits}
+use Rattle.kp_cases.specs.Parts.{StatePart, with_clauses}
+use Rattle.kp_cases.specs.Cases.{IsMetBy, left_side}
+use Rattle.kp_cases.specs.Courses.{Equality, all_equality_clauses}
+use Rattle.kp_unify.specs.Comes.{IsNarrowedFrom}
+use Rattle.kp_firing.specs.Conditions.{condition_clauses}
+
+-- the form is the rule's left side, or what a foreign rule's may stand for
+abbrev pub IsFormOf : KoreSignature → RuleBody → Form → Type 0
+IsFormOf g (rewrite m) form = IsLeftSide g m form
+IsFormOf g (foreign_rule l) form = (u : Value) → IsSorted g u → ((v : Valuation) × Admits g v form u) ↔ IsSkeletonInstance g l u
+
+-- the clauses of a rule's condition; of a foreign rule none are asked
+abbrev pub asked_clauses : KoreSignature → RuleBody → List Replaced → List (List Literal)
+asked_clauses g (rewrite m) bindings = condition_clauses g bindings m.condition
+asked_clauses g (foreign_rule l) bindings = []
+
+-- The clauses by which a rule fires on a part that it meets: equalities of terms, and its condition with terms in the place of
+-- its variables.
+pub record AreClausesOf (g : KoreSignature) (body : RuleBody) (q : StatePart) (clauses : List (List Literal)) : Type 0 where
+  pub form : Form
+  pub is_form : IsFormOf g body form
+  pub equalities : List Equality
+  pub bindings : List Replaced
+  pub met : IsMetBy g (left_side g form) (record { part = q; equations = all_equality_clauses g equalities; bindings = bindings })
+  pub are : clauses ≡ all_equality_clauses g equalities ++ asked_clauses g body bindings
+
+-- variables are narrowed; one of these rules fires, or doesn't; equations are solved
+pub data ComesFrom (g : KoreSignature) (IsRule : RuleBody → Type 0) (p : StatePart) : StatePart → Type 0 where
+  narrowed : (r q : StatePart) → ComesFrom g IsRule p r → IsNarrowedFrom g r q → ComesFrom g IsRule p q
+  fires : (r : StatePart) (body : RuleBody) (clauses : List (List Literal)) → ComesFrom g IsRule p r → IsRule body → AreClausesOf g body r clauses → ComesFrom g IsRule p (with_clauses r clauses)
+  excluded : (r : StatePart) (body : RuleBody) (clauses : List (List Literal)) → ComesFrom g IsRule p r → IsRule body → AreClausesOf g body r clauses →
+      ComesFrom g IsRule p (with_clauses r (negated g r.state.sort clauses))
+  solved : (r q : StatePart) → ComesFrom g IsRule p r → Solving g r.state q.state → q.added ≡ r.added → ComesFrom g IsRule p q
+  itself : ComesFrom g IsRule p p
