@@ -306,7 +306,8 @@ class Judge(steps.Judge):
         shapes = {}
         for v in self.random.sample(points, len(points)):
             value = value_of(term, v)
-            shapes.setdefault((value[0], *[it if it[0] == "?" else it[0] for it in value[1:]]), []).append(v)
+            parts = [it[0] if isinstance(it, tuple) and it[0] != "?" else it for it in value[1:]]
+            shapes.setdefault((value[0], *parts), []).append(v)
         rounds = itertools.zip_longest(*self.random.sample(list(shapes.values()), len(shapes)))
         return list(itertools.islice((v for it in rounds for v in it if v), MOST_VALUATIONS))
 
