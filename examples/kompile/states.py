@@ -199,7 +199,8 @@ class Reader:
         """A program, statements, or what is a part of a statement."""
         if self.is_next("int"):
             return self.program()
-        is_statement = self.is_next("{", "if", "while") or "=" in self.tokens[self.at + 1 : self.at + 2]
+        begins = self.is_next("{", "if", "while") or self.peek().endswith((":Stmt", ":Block"))
+        is_statement = begins or "=" in self.tokens[self.at + 1 : self.at + 2]
         return self.statements() if is_statement else self.truth()
 
     # ---- whole numbers in cells and conditions
