@@ -1,5 +1,5 @@
 // Whether the clauses of a state can be true: the plain clauses first, then all clauses by plain literals.
-ghost use Rattle.std.specs.Prelude.{◌≡◌, ◌↔◌, IfOk, IsTrue, MatchOption, Some, None, ⊤};
+ghost use Rattle.std.specs.Prelude.{◌≡◌, ◌↔◌, IfOk, IsTrue, Some, None};
 ghost use Rattle.std.specs.List.{AllByRecursion, list_all};
 ghost use Rattle.kp_signature.specs.View.{signature_view};
 ghost use Rattle.kp_heads.specs.Heads.{HasValue};
@@ -36,33 +36,15 @@ fn has_value(signature: &Signature, table: &HeadTable, variable: &Variable) -> b
     table.has_value(signature, &variable.sort)
 }
 
-/// Whether the variable's sort has a value, where that of the one before has one.
-fn has_value_too(
-    signature: &Signature,
-    table: &HeadTable,
-    before: Option<&Variable>,
-    variable: &Variable,
-) -> bool
-    requires { IsHeadTableOf (signature_view signature.now) table.now }
-    ensures { let g = signature_view signature.now in MatchOption before.entry ⊤ (λ x. HasValue g (variable_view x.now).sort) → (IsTrue result ↔ HasValue g (variable_view variable.now).sort) }
-{
-    match before {
-        Some(other) => other.sort.equal(&variable.sort) || has_value(signature, table, variable),
-        None => has_value(signature, table, variable),
-    }
-}
-
-/// Whether each variable's sort has a value; of neighbours of one sort the first is asked.
+/// Whether each variable's sort has a value.
 fn have_values(signature: &Signature, table: &HeadTable, variables: &[Arc<Variable>]) -> bool
     requires { IsHeadTableOf (signature_view signature.now) table.now }
     ensures { IsTrue result ↔ AllByRecursion (λ x. HasValue (signature_view signature.now) x.sort) (variables_view variables.now) }
 {
-    let mut before: Option<&Variable> = None;
     for variable in variables {
-        if !has_value_too(signature, table, before, variable) {
+        if !has_value(signature, table, variable) {
             return false;
         }
-        before = Some(variable);
     }
     true
 }

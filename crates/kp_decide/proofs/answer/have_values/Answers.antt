@@ -7,23 +7,19 @@ use Rattle.kp_decide.proofs.Along.{image_more}
 use Rattle.kp_decide.proofs.HeadSearch.{true_false}
 use Rattle.kp_decide.proofs.answer.have_values.Goals as goal
 
-pub returns-then-not-has_value_too : goal.returns-then-not-has_value_too
-returns-then-not-has_value_too c =
+pub returns-then-not-has_value : goal.returns-then-not-has_value
+returns-then-not-has_value c =
     let g = signature_view c.args.signature.now in
-    let no : c.has_value_too.result ≡ false = search rules in (
+    let no : c.has_value.result ≡ false = search rules in (
       (λ t. absurd (true_false (sym t))),
       (λ all.
           let own = image_at (λ x. HasValue g x.sort) (λ x. variable_view x.value) c.args.variables.now c.loop-variable.variable-index c.variable-item.result c.loop-variable-test.true c.variable-item.is all in
-          absurd (true_false (sym ((c.has_value_too.ensures c.loop-variable.invariant.1).1 (subst (λ x. HasValue g (variable_view x).sort) (sym c.deref.ensures) own)) ∙ no))),
+          absurd (true_false (sym (c.has_value.ensures.1 (subst (λ x. HasValue g (variable_view x).sort) (sym c.deref.ensures) own)) ∙ no))),
     )
 
 pub loop-variable-preserved : goal.loop-variable-preserved
 loop-variable-preserved c =
     let g = signature_view c.args.signature.now in
-    let met : c.has_value_too.result ≡ true = search rules in
-    let own = (c.has_value_too.ensures c.loop-variable.invariant.1).0 met in
-    let item = subst (λ x. HasValue g (variable_view x).sort) c.deref.ensures own in (
-      image_more (λ x. HasValue g x.sort) (λ x. variable_view x.value) c.args.variables.now c.loop-variable.variable-index c.variable-item.result c.loop-variable-test.true c.variable-item.is c.loop-variable.invariant.0
-          item,
-      subst (λ x. HasValue g (variable_view x).sort) (sym c.deref-in-loop-variable.ensures) item,
-    )
+    let met : c.has_value.result ≡ true = search rules in
+    image_more (λ x. HasValue g x.sort) (λ x. variable_view x.value) c.args.variables.now c.loop-variable.variable-index c.variable-item.result c.loop-variable-test.true c.variable-item.is c.loop-variable.invariant
+    (subst (λ x. HasValue g (variable_view x).sort) c.deref.ensures (c.has_value.ensures.0 met))
