@@ -6,7 +6,7 @@
 KIND is one of: rules, sorts, modules, chain, arguments, deep-sort, deep-pattern, deep-and, deep-fold, wide-fold,
 deep-attribute, labels, subsorts, injections, sort-chain, beside, beside-request, counting-request, ring, ring-request,
 any-head, variables, variables-request, doubling, doubling-request, push, push-request, beside-claim, heads, open-requests,
-closed-requests. NUMBER is how many. The text goes to FILE, or to standard output.
+closed-requests, variable-request. NUMBER is how many. The text goes to FILE, or to standard output.
 """
 import json
 import sys
@@ -283,6 +283,11 @@ def open_requests(n):
 def closed_requests(n):
     """The same from a state without one."""
     return (execution(application("Lblnext", [literal("SortInt", 7)]), 1) + "\n") * n
+
+
+def variable_request(n):
+    """n steps from a state that is a variable alone, which over `rules` each rule narrows."""
+    return execution({"tag": "EVar", "name": "X", "sort": {"tag": "SortApp", "name": "SortS", "args": []}}, n)
 
 
 def application(name, arguments):
