@@ -21,10 +21,10 @@ use Rattle.kp_step.specs.Left.{IsPartIn}
 use Rattle.kp_step.specs.Outcomes.{IsCaseOf, IsRemainderOf, GoesOnFrom, RemainsOf, FiresAlone, AreCasesOf}
 use Rattle.kp_step.specs.declared.outcome.Next.{Next}
 use Rattle.kp_step.proofs.FoundLemmas.{turns_of, one_at}
-use Rattle.kp_step.proofs.TryLemmas.{found_rules}
+use Rattle.kp_step.proofs.TryLemmas.{rules_in_theory, found_rules}
 use Rattle.kp_step.proofs.AloneLemmas.{one_turn}
 use Rattle.kp_step.proofs.StepLemmas.{all_cases, rest_cases, step_cases, all_within_hand}
-use Rattle.kp_step.proofs.ToldLemmas.{IsCaseAt, GoesOnAt, all_told, rest_told, all_go_on}
+use Rattle.kp_step.proofs.ToldLemmas.{IsCaseAt, GoesOnAt, ComeOfTheory, rest_comes, all_told, rest_told, all_go_on}
 
 cases_of : (t : Theory) (ns : List Next) (ks : List StepCase) → AllZip (IsCaseAt t) (map next_view ns) ks → AllZip (IsCaseOf t) ns ks
 cases_of t [] [] z = tt
@@ -40,7 +40,7 @@ remainders_of (p ∷ ps) (k ∷ ks) z = (z.0, remainders_of ps ks z.1)
 
 go_on_from : (t : Theory) (used : List Text) (s : SymbolicState) (ns : List Next) → AllByRecursion (GoesOnAt t used (whole s)) (map next_view ns) → AllByRecursion (λ x. PassesNone t.signature x) (map next_told ns) → AllByRecursion (GoesOnFrom t used s) ns
 go_on_from t used s [] g l = tt
-go_on_from t used s (n ∷ ns) g l = (record { sorted = g.0.sorted; grown = g.0.grown; ready = g.0.ready; limits = l.0 }, go_on_from t used s ns g.1 l.1)
+go_on_from t used s (n ∷ ns) g l = (record { comes = g.0.comes; sorted = g.0.sorted; grown = g.0.grown; ready = g.0.ready; limits = l.0 }, go_on_from t used s ns g.1 l.1)
 
 pub turns_at : (t : Theory) (used : List Text) (s : SymbolicState) (all turns : List PlacedTurn) → AllByRecursion (IsTurnAmong t used (whole s) all) turns → AllByRecursion (IsTurnAt t used (whole s)) turns
 turns_at t used s all [] h = tt
@@ -60,9 +60,9 @@ fires_alone t used s turns found (n ∷ []) [] h z f o =
 fires_alone t used s turns found (n ∷ []) (p ∷ ps) h z f o = tt
 fires_alone t used s turns found (n ∷ m ∷ ns) ps h z f o = tt
 
-remains_of : (t : Theory) (used : List Text) (s : SymbolicState) (ps : List Part) → AllByRecursion (IsPartIn t.signature used (whole s) (whole s)) (numbered_views ps) → AllByRecursion (RemainsOf t used s) ps
-remains_of t used s [] i = tt
-remains_of t used s (p ∷ ps) i = (record { grown = i.0.grown; ready = i.0.ready }, remains_of t used s ps i.1)
+remains_of : (t : Theory) (used : List Text) (s : SymbolicState) (ps : List Part) → AllByRecursion (IsPartIn t.signature used (whole s) (whole s)) (numbered_views ps) → ComeOfTheory t (whole s) (numbered_views ps) → AllByRecursion (RemainsOf t used s) ps
+remains_of t used s [] i c = tt
+remains_of t used s (p ∷ ps) i c = (record { comes = c.0; grown = i.0.grown; ready = i.0.ready }, remains_of t used s ps i.1 c.1)
 
 -- the next states and the remainder are the cases of a step
 pub cases_are : (t : Theory) (used : List Text) (s : SymbolicState) (turns : List PlacedTurn) (ns : List Next) (ps : List Part) (f : AreAllFound t used (whole s) turns) → AreNextsOf t used (whole s) turns (map next_view ns) → HaveOwnIds t.rules → OfEachInstance t.signature (whole s) (λ w c. ¬ IsUnknown t c) →
@@ -76,7 +76,9 @@ cases_are t used s turns ns ps f z own known r limits some = record {
   are = step_cases t used s turns (map next_view ns) (numbered_views ps) f z own known r.left;
   hand = all_within_hand t used s turns (map next_view ns) (numbered_views ps) f z r.left.each r.instances;
   each = go_on_from t used s ns (all_go_on t used (whole s) turns turns (map next_view ns) f.each z) limits;
-  remains = remains_of t used s ps r.left.each;
+  remains =
+      let found = rules_of (turns_of t used (whole s) turns turns f.each) in
+      remains_of t used s ps r.left.each (rest_comes t found (whole s) (numbered_views ps) (rules_in_theory t turns found (found_rules t used (whole s) turns turns f.each)) r.left.comes);
   alone = fires_alone t used s turns (rules_of (turns_of t used (whole s) turns turns f.each)) ns ps (turns_at t used s turns turns f.each) z (found_rules t used (whole s) turns turns f.each) r.alone;
 }
 

@@ -1,18 +1,22 @@
 -- The next states that are told, one by one, are the cases of the step.
-use Rattle.std.proofs.Common.{◌≡◌, refl, sym, subst, List, [], ◌∷◌, ◌++◌, Some, None}
-use Rattle.std.specs.List.{AllByRecursion, AllZip}
+use Rattle.std.proofs.Common.{◌≡◌, refl, sym, subst, ℕ, List, [], ◌∷◌, ◌++◌, Option, Some, None, inl, inr}
+use Rattle.std.specs.List.{AllByRecursion, AllZip, Contains}
 use Rattle.std.proofs.lemmas.List.{append_assoc}
 use Rattle.kp_kore.specs.Syntax.{Text}
-use Rattle.kp_kore.specs.Rules.{RewriteRule}
+use Rattle.kp_kore.specs.Rules.{RuleBody, RewriteRule}
 use Rattle.kp_kore.specs.Theory.{Theory}
+use Rattle.kp_kore.proofs.TurnLemmas.{of_member}
 use Rattle.kp_cases.specs.Parts.{StatePart, whole, IsSortedPart, IsGrown}
 use Rattle.kp_turns.specs.NextStates.{StepCase}
 use Rattle.kp_unify.specs.Narrowed.{NumberedPart}
+use Rattle.kp_firing.specs.Comes.{ComesFrom}
+use Rattle.kp_firing.proofs.ComesLemmas.{comes_by_more}
 use Rattle.kp_step.specs.Places.{IsAt}
 use Rattle.kp_step.specs.Ready.{IsReadyState}
-use Rattle.kp_step.specs.Left.{IsPartIn}
+use Rattle.kp_step.specs.Left.{IsPartIn, IsOneOf, IsOfTheory, IsOfThese}
 use Rattle.kp_step.specs.Found.{PlacedTurn, IsTurnAmong}
 use Rattle.kp_step.specs.Follows.{PlacedNext, IsNextAt, AreNextsOf}
+use Rattle.kp_step.proofs.FoundLemmas.{at_contains}
 use Rattle.kp_step.proofs.StepLemmas.{all_cases, rest_cases, cases_by}
 
 -- the case of a next state: of the rule of its place
@@ -40,19 +44,45 @@ pub rest_told : (qs : List NumberedPart) → AllZip (λ q k. k ≡ record { rule
 rest_told [] = tt
 rest_told (q ∷ qs) = (refl, rest_told qs)
 
+-- ---- where a part comes from
+
+inside : {a b : RewriteRule} → Some a ≡ Some b → a ≡ b
+inside e = cc
+
+one_of_theory : (t : Theory) (o : Option RewriteRule) (turns : List RewriteRule) → ((r : RewriteRule) → o ≡ Some r → Contains t.rules r) → AllByRecursion (Contains t.rules) turns → (b : RuleBody) → IsOneOf o turns b → IsOfTheory t b
+one_of_theory t o turns f h b (r, inl c, e) = (r, of_member (Contains t.rules) turns r h c, e)
+one_of_theory t o turns f h b (r, inr c, e) = (r, f r c, e)
+
+-- parts that come of s and of the theory
+abbrev pub ComeOfTheory : Theory → StatePart → List NumberedPart → Type 0
+ComeOfTheory t s parts = AllByRecursion (λ q. ComesFrom t.signature (IsOfTheory t) s q.part) parts
+
+all_of_theory : (t : Theory) (o : Option RewriteRule) (turns : List RewriteRule) (s : StatePart) (parts : List NumberedPart) → ((r : RewriteRule) → o ≡ Some r → Contains t.rules r) → AllByRecursion (Contains t.rules) turns → AllByRecursion (IsOfThese t.signature o turns s) parts → ComeOfTheory t s parts
+all_of_theory t o turns s [] f h k = tt
+all_of_theory t o turns s (p ∷ parts) f h k = (comes_by_more t.signature (IsOneOf o turns) (IsOfTheory t) s p.part (one_of_theory t o turns f h) k.0, all_of_theory t o turns s parts f h k.1)
+
+-- those that rules leave to a rule
+pub turn_comes : (t : Theory) (r : RewriteRule) (place : ℕ) (turns : List RewriteRule) (s : StatePart) (parts : List NumberedPart) → IsAt t place r → AllByRecursion (Contains t.rules) turns → AllByRecursion (IsOfThese t.signature (Some r) turns s) parts → ComeOfTheory t s parts
+turn_comes t r place turns s parts at h k = all_of_theory t (Some r) turns s parts (λ q e. subst (Contains t.rules) (inside e) (at_contains t.rules place r at)) h k
+
+-- and to none
+pub rest_comes : (t : Theory) (turns : List RewriteRule) (s : StatePart) (parts : List NumberedPart) → AllByRecursion (Contains t.rules) turns → AllByRecursion (IsOfThese t.signature None turns s) parts → ComeOfTheory t s parts
+rest_comes t turns s parts h k = all_of_theory t None turns s parts (λ q e. absurd (cc)) h k
+
 -- what a step may go on from
 pub record GoesOnAt (t : Theory) (used : List Text) (s : StatePart) (n : PlacedNext) : Type 0 where
+  pub comes : ComesFrom t.signature (IsOfTheory t) s n.part
   pub sorted : IsSortedPart t.signature n.part
   pub grown : IsGrown t.signature used s (whole n.state)
   pub ready : IsReadyState t.signature used n.state n.next
 
-go_on_by : (t : Theory) (used : List Text) (s m : StatePart) (k : PlacedTurn) (r : RewriteRule) (ps : List NumberedPart) (ns : List PlacedNext) → IsAt t k.place r → AllZip (IsNextAt t used s k) ps ns → AllByRecursion (IsPartIn t.signature used s m) ps → AllByRecursion (GoesOnAt t used s) ns
-go_on_by t used s m k r [] [] at z i = tt
-go_on_by t used s m k r [] (n ∷ ns) at z i = absurd z
-go_on_by t used s m k r (p ∷ ps) [] at z i = absurd z
-go_on_by t used s m k r (p ∷ ps) (n ∷ ns) at z i = (
-  record { sorted = subst (λ q. IsSortedPart t.signature q) (sym z.0.part) i.0.ready.sorted; grown = (z.0.follows r at).grown; ready = (z.0.follows r at).ready },
-  go_on_by t used s m k r ps ns at z.1 i.1,
+go_on_by : (t : Theory) (used : List Text) (s m : StatePart) (k : PlacedTurn) (r : RewriteRule) (ps : List NumberedPart) (ns : List PlacedNext) → IsAt t k.place r → AllZip (IsNextAt t used s k) ps ns → AllByRecursion (IsPartIn t.signature used s m) ps → ComeOfTheory t s ps → AllByRecursion (GoesOnAt t used s) ns
+go_on_by t used s m k r [] [] at z i c = tt
+go_on_by t used s m k r [] (n ∷ ns) at z i c = absurd z
+go_on_by t used s m k r (p ∷ ps) [] at z i c = absurd z
+go_on_by t used s m k r (p ∷ ps) (n ∷ ns) at z i c = (
+  record { comes = subst (λ q. ComesFrom t.signature (IsOfTheory t) s q) (sym z.0.part) c.0; sorted = subst (λ q. IsSortedPart t.signature q) (sym z.0.part) i.0.ready.sorted; grown = (z.0.follows r at).grown; ready = (z.0.follows r at).ready },
+  go_on_by t used s m k r ps ns at z.1 i.1 c.1,
 )
 
 go_on_both : (t : Theory) (used : List Text) (s : StatePart) (xs ys : List PlacedNext) → AllByRecursion (GoesOnAt t used s) xs → AllByRecursion (GoesOnAt t used s) ys → AllByRecursion (GoesOnAt t used s) (xs ++ ys)
@@ -62,7 +92,7 @@ go_on_both t used s (x ∷ xs) ys a b = (a.0, go_on_both t used s xs ys a.1 b)
 pub all_go_on : (t : Theory) (used : List Text) (s : StatePart) (all turns : List PlacedTurn) (ns : List PlacedNext) (h : AllByRecursion (IsTurnAmong t used s all) turns) (z : AreNextsOf t used s turns ns) → AllByRecursion (GoesOnAt t used s) ns
 all_go_on t used s all [] ns h z = subst (λ xs. AllByRecursion (GoesOnAt t used s) xs) (sym z) tt
 all_go_on t used s all (k ∷ turns) ns h z = subst (λ xs. AllByRecursion (GoesOnAt t used s) xs) (sym z.2)
-    (go_on_both t used s z.0 z.1 (go_on_by t used s h.0.turn.met_part k h.0.turn.rule k.parts z.0 h.0.turn.at z.3 h.0.turn.left.each) (all_go_on t used s all turns z.1 h.1 z.4))
+    (go_on_both t used s z.0 z.1 (go_on_by t used s h.0.turn.met_part k h.0.turn.rule k.parts z.0 h.0.turn.at z.3 h.0.turn.left.each (turn_comes t h.0.turn.rule k.place h.0.turn.before s k.parts h.0.turn.at h.0.turn.of_theory h.0.turn.left.comes)) (all_go_on t used s all turns z.1 h.1 z.4))
 
 -- what follows in one turn more, behind what was found
 pub nexts_more : (t : Theory) (used : List Text) (s : StatePart) (all rest : List PlacedTurn) (k : PlacedTurn) (found xs : List PlacedNext) → ((ys : List PlacedNext) → AreNextsOf t used s (k ∷ rest) ys → AreNextsOf t used s all (found ++ ys)) →

@@ -5,6 +5,7 @@ use Rattle.std.specs.List.{AllByRecursion, Contains}
 use Rattle.kp_kore.specs.Syntax.{Text}
 use Rattle.kp_kore.specs.Signature.{KoreSignature}
 use Rattle.kp_kore.specs.Rules.{RuleBody, RewriteRule}
+use Rattle.kp_kore.specs.Theory.{Theory}
 use Rattle.kp_kore.specs.Steps.{Fires}
 use Rattle.kp_symbolic.specs.WellFormed.{AreAtHand}
 use Rattle.kp_cases.specs.Parts.{StatePart, OfEachInstance, IsPartBelow, IsGrown}
@@ -24,6 +25,10 @@ pub record IsPartIn (g : KoreSignature) (used : List Text) (s m : StatePart) (q 
 -- the rule to which something is left, or one of those that take
 abbrev pub IsOneOf : Option RewriteRule → List RewriteRule → RuleBody → Type 0
 IsOneOf o turns b = (r : RewriteRule) × (Contains turns r ⊎ (o ≡ Some r)) × (r.body ≡ b)
+
+-- a rule of the theory
+abbrev pub IsOfTheory : Theory → RuleBody → Type 0
+IsOfTheory t b = (r : RewriteRule) × Contains t.rules r × (r.body ≡ b)
 
 -- the part comes of s and of these rules
 abbrev pub IsOfThese : KoreSignature → Option RewriteRule → List RewriteRule → StatePart → NumberedPart → Type 0

@@ -16,7 +16,9 @@ use Rattle.kp_turns.specs.Firing.{HasNoInstance}
 use Rattle.kp_turns.specs.NextStates.{StepCase, AreStepCases, IsWithinHand}
 use Rattle.kp_unify.specs.Views.{part_view, numbered_view}
 use Rattle.kp_unify.specs.declared.part.Part.{Part}
+use Rattle.kp_firing.specs.Comes.{ComesFrom}
 use Rattle.kp_firing.specs.Ready.{IsReadyPart, HasInstance}
+use Rattle.kp_step.specs.Left.{IsOfTheory}
 use Rattle.kp_step.specs.Places.{IsAt}
 use Rattle.kp_step.specs.Ready.{IsReadyState}
 use Rattle.kp_step.specs.Causes.{IsLeftOpen, IsFirstMet}
@@ -38,16 +40,19 @@ pub record IsCaseOf (t : Theory) (n : Next) (k : StepCase) : Type 0 where
 abbrev pub IsRemainderOf : Part → StepCase → Type 0
 IsRemainderOf p k = k ≡ record { rule = None; part = part_view p; next = state_view p.state }
 
--- its part has the sorts of its places; new variables have new names, a step may go on from the state, and no limit is passed by
--- what is written
+-- its part comes of the state and of rules of the theory by form, and has the sorts of its places; new variables have new names, a
+-- step may go on from the state, and no limit is passed by what is written
 pub record GoesOnFrom (t : Theory) (used : List Text) (s : SymbolicState) (n : Next) : Type 0 where
+  pub comes : ComesFrom t.signature (IsOfTheory t) (whole s) (part_view n.part)
   pub sorted : IsSortedPart t.signature (part_view n.part)
   pub grown : IsGrown t.signature used (whole s) (whole (state_view n.state))
   pub ready : IsReadyState t.signature used (state_view n.state) n.next
   pub limits : PassesNone t.signature (with_more (state_view n.state) (clauses_view n.part.added.items))
 
--- a part that remains has new variables with new names, and a step may go on from it
+-- a part that remains comes of the state and of rules of the theory by form, and has new variables with new names; a step may go on
+-- from it
 pub record RemainsOf (t : Theory) (used : List Text) (s : SymbolicState) (p : Part) : Type 0 where
+  pub comes : ComesFrom t.signature (IsOfTheory t) (whole s) (part_view p)
   pub grown : IsGrown t.signature used (whole s) (part_view p)
   pub ready : IsReadyPart t.signature used (numbered_view p)
 
