@@ -1,5 +1,5 @@
 -- What comes of a part by some rules comes of it by more, and what comes of that comes of the part.
-use Rattle.std.proofs.Common.{◌≡◌, sym, ap, subst, ◌∙◌, [], ◌++◌}
+use Rattle.std.proofs.Common.{refl, sym, ◌++◌}
 use Rattle.std.proofs.lemmas.List.{append-nil}
 use Rattle.kp_kore.specs.Signature.{KoreSignature}
 use Rattle.kp_kore.specs.Rules.{RuleBody, Rewrite, rewrite, ForeignLeft, foreign_rule}
@@ -27,22 +27,8 @@ comes_further g P p _ _ c itself = c
 
 -- the clauses of what a read rule's left side meets, and of its condition
 pub clauses_of_read : (g : KoreSignature) (m : Rewrite) (form : Form) (k : MetPart) → IsLeftSide g m form → IsMetBy g (left_side g form) k → AreEquations g form k → AreClausesOf g (rewrite m) k.part (k.equations ++ condition_clauses g k.bindings m.condition)
-clauses_of_read g m form k side met es = record {
-  form = form;
-  is_form = side;
-  equalities = es.equalities;
-  bindings = k.bindings;
-  met = subst (λ cs. IsMetBy g (left_side g form) (record { part = k.part; equations = cs; bindings = k.bindings })) es.are met;
-  are = ap (λ cs. cs ++ condition_clauses g k.bindings m.condition) es.are;
-}
+clauses_of_read g m form k side met es = record { form = form; is_form = side; met = k; of_part = refl; is_met = met; equalities = es; are = refl }
 
 -- and of what a foreign rule's left side meets
 pub clauses_of_foreign : (g : KoreSignature) (l : ForeignLeft) (form : Form) (k : MetPart) → IsFormOf g (foreign_rule l) form → IsMetBy g (left_side g form) k → AreEquations g form k → AreClausesOf g (foreign_rule l) k.part k.equations
-clauses_of_foreign g l form k is met es = record {
-  form = form;
-  is_form = is;
-  equalities = es.equalities;
-  bindings = k.bindings;
-  met = subst (λ cs. IsMetBy g (left_side g form) (record { part = k.part; equations = cs; bindings = k.bindings })) es.are met;
-  are = sym (append-nil k.equations) ∙ ap (λ cs. cs ++ []) es.are;
-}
+clauses_of_foreign g l form k is met es = record { form = form; is_form = is; met = k; of_part = refl; is_met = met; equalities = es; are = sym (append-nil k.equations) }

@@ -13,9 +13,9 @@ use Rattle.kp_symbolic.specs.Solving.{negated, Solving}
 use Rattle.kp_rules.specs.LeftSides.{IsLeftSide}
 use Rattle.kp_rules.specs.Skeletons.{Form, Admits}
 use Rattle.kp_cases.specs.Parts.{StatePart, with_clauses}
-use Rattle.kp_cases.specs.Cases.{IsMetBy, left_side}
-use Rattle.kp_cases.specs.Courses.{Equality, all_equality_clauses}
+use Rattle.kp_cases.specs.Cases.{MetPart, IsMetBy, left_side}
 use Rattle.kp_unify.specs.Comes.{IsNarrowedFrom}
+use Rattle.kp_unify.specs.Way.{AreEquations}
 use Rattle.kp_firing.specs.Conditions.{condition_clauses}
 
 -- the form is the rule's left side, or what a foreign rule's may stand for
@@ -28,15 +28,16 @@ abbrev pub asked_clauses : KoreSignature → RuleBody → List Replaced → List
 asked_clauses g (rewrite m) bindings = condition_clauses g bindings m.condition
 asked_clauses g (foreign_rule l) bindings = []
 
--- The clauses by which a rule fires on a part that it meets: equalities of terms, and its condition with terms in the place of
--- its variables.
+-- The clauses by which a rule fires on a part that its left side meets: equalities of terms of the part, of sorts that the left
+-- side asks for, and the condition with terms in the place of the rule's variables.
 pub record AreClausesOf (g : KoreSignature) (body : RuleBody) (q : StatePart) (clauses : List (List Literal)) : Type 0 where
   pub form : Form
   pub is_form : IsFormOf g body form
-  pub equalities : List Equality
-  pub bindings : List Replaced
-  pub met : IsMetBy g (left_side g form) (record { part = q; equations = all_equality_clauses g equalities; bindings = bindings })
-  pub are : clauses ≡ all_equality_clauses g equalities ++ asked_clauses g body bindings
+  pub met : MetPart
+  pub of_part : met.part ≡ q
+  pub is_met : IsMetBy g (left_side g form) met
+  pub equalities : AreEquations g form met
+  pub are : clauses ≡ met.equations ++ asked_clauses g body met.bindings
 
 -- variables are narrowed; one of these rules fires, or doesn't; equations are solved
 pub data ComesFrom (g : KoreSignature) (IsRule : RuleBody → Type 0) (p : StatePart) : StatePart → Type 0 where
