@@ -1,9 +1,20 @@
-use Rattle.std.proofs.Common.{rules, ◌≡◌, ◌≤◌, sym, subst, ◌++◌, length}
+use Rattle.std.proofs.Common.{rules, ◌≡◌, ◌≤◌, sym, subst, [], ◌++◌, length}
 use Rattle.kp_unify.specs.Views.{signature_of, numbered_view}
 use Rattle.kp_firing.specs.Silent.{IsExcluded}
+use Rattle.kp_step.specs.Left.{AreLeftSoFar}
 use Rattle.kp_step.specs.Views.{numbered_views}
+use Rattle.kp_step.proofs.LeftLemmas.{rule_sets_out}
 use Rattle.kp_step.proofs.TakeLemmas.{takes_ready, takes_part, takes_end}
 use Rattle.kp_step.proofs.left.without.Goals as goal
+
+pub loop-part-init : goal.loop-part-init
+loop-part-init c used o turns q m s p setting body sides verified takes l =
+    let g = signature_of c.args.setting in
+    let waiting = numbered_views c.args.parts.now in
+    let none : c.new-found.result.items ≡ [] = c.new-found.ensures.items in (
+      subst (λ xs. AreLeftSoFar g used o turns q s p (numbered_views xs) waiting) (sym none) (rule_sets_out g used o turns q s p waiting l),
+      (λ h. tt),
+    )
 
 pub loop-part-preserved : goal.loop-part-preserved
 loop-part-preserved c used o turns q m s p setting body sides verified takes l =
