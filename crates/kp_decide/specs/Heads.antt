@@ -38,6 +38,12 @@ abbrev pub IsStanding : KoreSignature → List (List ReadLiteral) → Option For
 IsStanding g cs (Some (asks x test b)) = HasHead g cs x
 IsStanding g cs f = ⊤
 
--- and so for each literal of the clauses
+-- and so for each literal of a clause, of some clauses, of all
+abbrev pub AllStand : KoreSignature → List (List ReadLiteral) → List ReadLiteral → Type 0
+AllStand g cs c = AllByRecursion (λ l. IsStanding g cs l.form) c
+
+abbrev pub StandIn : KoreSignature → List (List ReadLiteral) → List (List ReadLiteral) → Type 0
+StandIn g cs some = AllByRecursion (AllStand g cs) some
+
 abbrev pub AreStanding : KoreSignature → List (List ReadLiteral) → Type 0
-AreStanding g cs = AllByRecursion (AllByRecursion (λ l. IsStanding g cs l.form)) cs
+AreStanding g cs = StandIn g cs cs

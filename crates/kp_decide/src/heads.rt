@@ -1,7 +1,6 @@
 // Whether each variable whose head is asked for may have a head that is as all clauses ask.
 ghost use Rattle.std.specs.Prelude.{◌≡◌, ◌↔◌, IsTrue, List, map, string_bytes};
 ghost use Rattle.std.specs.Option.{option_map};
-ghost use Rattle.std.specs.List.{AllByRecursion};
 ghost use Rattle.std.specs.Str.{bytes_eq};
 ghost use Rattle.kp_signature.specs.View.{signature_view};
 ghost use Rattle.kp_kore.specs.Signature.{KoreSignature};
@@ -139,7 +138,7 @@ fn asks_for(form: Option<Form>, variable: &Variable) -> bool
 
 /// Whether a literal of the clause asks for the variable's head.
 fn asks(clause: &[ReadLiteral], variable: &Variable) -> bool
-    ensures { (g : KoreSignature) (cs : List (List model.ReadLiteral)) → AllByRecursion (λ l. spec.IsStanding g cs l.form) (map read_view clause.now) → IsTrue result → spec.HasHead g cs (variable_view variable.now) }
+    ensures { (g : KoreSignature) (cs : List (List model.ReadLiteral)) → spec.AllStand g cs (map read_view clause.now) → IsTrue result → spec.HasHead g cs (variable_view variable.now) }
 {
     for literal in clause {
         if asks_for(literal.form, variable) {
@@ -151,7 +150,7 @@ fn asks(clause: &[ReadLiteral], variable: &Variable) -> bool
 
 /// Whether a literal of these clauses asks for the variable's head.
 fn is_asked(clauses: &[Vec<ReadLiteral>], variable: &Variable) -> bool
-    ensures { (g : KoreSignature) (cs : List (List model.ReadLiteral)) → AllByRecursion (AllByRecursion (λ l. spec.IsStanding g cs l.form)) (clauses_view clauses.now) → IsTrue result → spec.HasHead g cs (variable_view variable.now) }
+    ensures { (g : KoreSignature) (cs : List (List model.ReadLiteral)) → spec.StandIn g cs (clauses_view clauses.now) → IsTrue result → spec.HasHead g cs (variable_view variable.now) }
 {
     for clause in clauses {
         if asks(clause, variable) {
@@ -171,7 +170,7 @@ fn may_have_head(
     clauses: &[Vec<ReadLiteral>],
 ) -> bool
     requires { IsHeadTableOf (signature_view signature.now) table.now }
-    ensures { let g = signature_view signature.now in let cs = clauses_view clauses.now in AllByRecursion (AllByRecursion (λ l. spec.IsStanding g cs l.form)) (clauses_view before.now) → (IsTrue result ↔ spec.HasHead g cs (variable_view variable.now)) }
+    ensures { let g = signature_view signature.now in let cs = clauses_view clauses.now in spec.StandIn g cs (clauses_view before.now) → (IsTrue result ↔ spec.HasHead g cs (variable_view variable.now)) }
 {
     is_asked(before, variable) || has_head(signature, table, variable, clauses)
 }
@@ -185,7 +184,7 @@ fn is_standing(
     clauses: &[Vec<ReadLiteral>],
 ) -> bool
     requires { IsHeadTableOf (signature_view signature.now) table.now }
-    ensures { let g = signature_view signature.now in let cs = clauses_view clauses.now in AllByRecursion (AllByRecursion (λ l. spec.IsStanding g cs l.form)) (clauses_view before.now) → (IsTrue result ↔ spec.IsStanding g cs (option_map form_view form.entry)) }
+    ensures { let g = signature_view signature.now in let cs = clauses_view clauses.now in spec.StandIn g cs (clauses_view before.now) → (IsTrue result ↔ spec.IsStanding g cs (option_map form_view form.entry)) }
 {
     match form {
         Some(Form::Asks { variable, .. }) => {
@@ -207,7 +206,7 @@ fn are_standing(
     clauses: &[Vec<ReadLiteral>],
 ) -> bool
     requires { IsHeadTableOf (signature_view signature.now) table.now }
-    ensures { let g = signature_view signature.now in let cs = clauses_view clauses.now in AllByRecursion (AllByRecursion (λ l. spec.IsStanding g cs l.form)) (clauses_view before.now) → (IsTrue result ↔ AllByRecursion (λ l. spec.IsStanding g cs l.form) (map read_view clause.now)) }
+    ensures { let g = signature_view signature.now in let cs = clauses_view clauses.now in spec.StandIn g cs (clauses_view before.now) → (IsTrue result ↔ spec.AllStand g cs (map read_view clause.now)) }
 {
     for literal in clause {
         if !is_standing(signature, table, literal.form, before, clauses) {

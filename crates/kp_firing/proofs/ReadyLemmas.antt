@@ -1,5 +1,5 @@
 -- What a rule's variables stand for, and what the equations of its left side are, where the rule may be tried on a part.
-use Rattle.std.proofs.Common.{sym, subst, ℕ, true, List, [], ◌∷◌, ◌++◌}
+use Rattle.std.proofs.Common.{refl, sym, subst, ℕ, true, List, [], ◌∷◌, ◌++◌}
 use Rattle.std.specs.List.{AllByRecursion, Contains}
 use Rattle.kp_kore.specs.Syntax.{Text, KorePattern}
 use Rattle.kp_kore.specs.Parts.{SortedName, free_variables}
@@ -27,7 +27,6 @@ use Rattle.kp_unify.specs.Way.{IsNormalEquality, IsPlacedEquality, AreEquations,
 use Rattle.kp_firing.specs.Conditions.{IsVerifiedOver, condition_clauses, AreRight}
 use Rattle.kp_firing.specs.Ready.{parts_of}
 use Rattle.kp_firing.specs.Silent.{IsFiringOf}
-use Rattle.kp_firing.proofs.ComesLemmas.{clauses_of_read}
 use Rattle.kp_firing.proofs.OpenedWith.{Sound, Right, both_facts}
 use Rattle.kp_firing.proofs.Excluded.{condition_right, fires_by_clauses}
 use Rattle.kp_firing.proofs.RuleLemmas.{IsConditionOf, IsReadyRule}
@@ -102,5 +101,5 @@ met_fires g used r left p m next apart w side over ready =
       here = met.here;
       others = met.others;
       right = all_both (AllByRecursion (Right g m.part.state.variables)) m.equations (condition_clauses g m.bindings r.condition) (equations_right g left m met.equations) (condition_right g m.part.state.variables m.bindings r.condition met.normal verified);
-      of_rule = clauses_of_read g r left m side met.cases.is_met met.equations;
+      of_rule = record { form = left; is_form = side; met = m; of_part = refl; is_met = met.cases.is_met; equalities = met.equations; are = refl };
     }

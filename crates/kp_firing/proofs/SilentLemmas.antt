@@ -19,6 +19,7 @@ use Rattle.kp_symbolic_laws.specs.Runs.{HasOneSortEach, IsSortedLiteral, IsSorte
 use Rattle.kp_symbolic_laws.specs.Safe.{IsFormedState, IsSoundQuote}
 use Rattle.kp_solving.specs.Further.{constrained}
 use Rattle.kp_decide.specs.Read.{HasSortedClauses}
+use Rattle.kp_rules.specs.Skeletons.{Form}
 use Rattle.kp_cases.specs.Parts.{StatePart, IsPartBelow, with_clauses}
 use Rattle.kp_cases.proofs.Excluding.{restricted_alone}
 use Rattle.kp_cases.proofs.GrownLemmas.{grown_itself}
@@ -30,7 +31,7 @@ use Rattle.kp_turns.proofs.FiringLemmas.{untouched_part, never_fires}
 use Rattle.kp_turns.proofs.PartsWhere.{drops_parts}
 use Rattle.kp_unify.specs.Narrowed.{NumberedPart}
 use Rattle.kp_unify.specs.Way.{IsPartOn}
-use Rattle.kp_firing.specs.Comes.{narrowed, excluded, itself}
+use Rattle.kp_firing.specs.Comes.{IsFormOf, narrowed, excluded, itself}
 use Rattle.kp_firing.specs.Conditions.{AreRight}
 use Rattle.kp_firing.specs.Opposites.{plain_state}
 use Rattle.kp_firing.specs.Ready.{IsReadyPart, narrowed_by, parts_of}
@@ -68,16 +69,16 @@ right_ready g used q cs r h =
 -- ---- parts below another
 
 -- a part where a rule doesn't fire is one that a rule can be tried on
-pub ready_on : (g : KoreSignature) (used : List Text) (p : StatePart) (q : NumberedPart) → IsPartBelow g p q.part → IsPartOn g used p q → IsReadyPart g used q
-ready_on g used p q below on = record { told = told_below g p q.part below; sorted = on.sorted; safe = record { sorted = on.sorted.state; formed = on.formed }; begun = on.begun; names = on.names }
+pub ready_on : (g : KoreSignature) (used : List Text) (left : Form) (p : StatePart) (q : NumberedPart) → IsPartBelow g p q.part → IsPartOn g used left p q → IsReadyPart g used q
+ready_on g used left p q below on = record { told = told_below g p q.part below; sorted = on.sorted; safe = record { sorted = on.sorted.state; formed = on.formed }; begun = on.begun; names = on.names }
 
-all_further : (g : KoreSignature) (used : List Text) (body : RuleBody) (p : StatePart) (qs : List NumberedPart) → AllByRecursion (IsPartBelow g p) (parts_of qs) → AllByRecursion (IsPartOn g used p) qs → AllByRecursion (IsFurther g used body p) qs
-all_further g used body p [] b o = tt
-all_further g used body p (q ∷ qs) b o = (record { grown = o.0.grown; comes = narrowed p q.part itself o.0.narrowed; ready = ready_on g used p q b.0 o.0 }, all_further g used body p qs b.1 o.1)
+all_further : (g : KoreSignature) (used : List Text) (body : RuleBody) (form : Form) (p : StatePart) (qs : List NumberedPart) → IsFormOf g body form → AllByRecursion (IsPartBelow g p) (parts_of qs) → AllByRecursion (IsPartOn g used form p) qs → AllByRecursion (IsFurther g used body p) qs
+all_further g used body form p [] k b o = tt
+all_further g used body form p (q ∷ qs) k b o = (record { grown = o.0.grown; comes = narrowed p q.part body form itself refl k o.0.narrowed; ready = ready_on g used form p q b.0 o.0 }, all_further g used body form p qs k b.1 o.1)
 
 -- the part that is met
 pub firing_ready : (g : KoreSignature) (used : List Text) (body : RuleBody) (p : StatePart) (q : NumberedPart) (clauses : List (List Literal)) (apart : List NumberedPart) → IsFiringOf g used body p q clauses apart → IsReadyPart g used q
-firing_ready g used body p q clauses apart f = ready_on g used p q f.cases.divided.below.0 f.here
+firing_ready g used body p q clauses apart f = ready_on g used f.of_rule.form p q f.cases.divided.below.0 f.here
 
 -- ---- by the opposite of the clauses
 
@@ -92,10 +93,10 @@ excluded_parts g used body p q clauses apart f room =
       each = (
         record {
           grown = record { new = f.here.grown.new; variables = f.here.grown.variables; are_new = f.here.grown.are_new; each = f.here.grown.each };
-          comes = excluded q.part body clauses (narrowed p q.part itself f.here.narrowed) refl f.of_rule;
+          comes = excluded q.part body clauses (narrowed p q.part body f.of_rule.form itself refl f.of_rule.is_form f.here.narrowed) refl f.of_rule;
           ready = right_ready g used q others (firing_ready g used body p q clauses apart f) (opposite_right g q.part.state clauses f.right room);
         },
-        all_further g used body p apart k.0.divided.below.1 f.others,
+        all_further g used body f.of_rule.form p apart f.of_rule.is_form k.0.divided.below.1 f.others,
       );
       everywhere = k.1;
     }

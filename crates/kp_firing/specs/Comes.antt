@@ -28,8 +28,8 @@ abbrev pub asked_clauses : KoreSignature → RuleBody → List Replaced → List
 asked_clauses g (rewrite m) bindings = condition_clauses g bindings m.condition
 asked_clauses g (foreign_rule l) bindings = []
 
--- The clauses by which a rule fires on a part that its left side meets: equalities of terms of the part, of sorts that the left
--- side asks for, and the condition with terms in the place of the rule's variables.
+-- The clauses by which a rule fires on a part that its left side meets: equalities by which the left side matches the part's term, of
+-- sorts that it asks for, and the condition with terms in the place of the rule's variables.
 pub record AreClausesOf (g : KoreSignature) (body : RuleBody) (q : StatePart) (clauses : List (List Literal)) : Type 0 where
   pub form : Form
   pub is_form : IsFormOf g body form
@@ -39,9 +39,9 @@ pub record AreClausesOf (g : KoreSignature) (body : RuleBody) (q : StatePart) (c
   pub equalities : AreEquations g form met
   pub are : clauses ≡ met.equations ++ asked_clauses g body met.bindings
 
--- variables are narrowed; one of these rules fires, or doesn't; equations are solved
+-- variables are narrowed where one of these rules' left sides lies on the part; one of them fires, or doesn't; equations are solved
 pub data ComesFrom (g : KoreSignature) (IsRule : RuleBody → Type 0) (p : StatePart) : StatePart → Type 0 where
-  narrowed : (r q : StatePart) → ComesFrom g IsRule p r → IsNarrowedFrom g r q → ComesFrom g IsRule p q
+  narrowed : (r q : StatePart) (body : RuleBody) (form : Form) → ComesFrom g IsRule p r → IsRule body → IsFormOf g body form → IsNarrowedFrom g form r q → ComesFrom g IsRule p q
   fires : (r : StatePart) (body : RuleBody) (clauses : List (List Literal)) → ComesFrom g IsRule p r → IsRule body → AreClausesOf g body r clauses → ComesFrom g IsRule p (with_clauses r clauses)
   excluded : (r : StatePart) (body : RuleBody) (clauses : List (List Literal)) → ComesFrom g IsRule p r → IsRule body → AreClausesOf g body r clauses →
       ComesFrom g IsRule p (with_clauses r (negated g r.state.sort clauses))

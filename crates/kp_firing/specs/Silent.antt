@@ -15,14 +15,14 @@ use Rattle.kp_firing.specs.Comes.{AreClausesOf, ComesFrom}
 use Rattle.kp_firing.specs.Conditions.{AreRight}
 use Rattle.kp_firing.specs.Ready.{IsReadyPart, parts_of}
 
--- the rule fires on q where the clauses are true, those by which it does, and on none of those apart; each has new variables of
--- sorts with values, is well-sorted, and its names are in use
+-- the rule fires on q where the clauses are true, those by which it does, and on none of those apart; each is narrowed where its left
+-- side lies on it, has new variables of sorts with values, is well-sorted, and its names are in use
 pub record IsFiringOf (g : KoreSignature) (used : List Text) (body : RuleBody) (p : StatePart) (q : NumberedPart) (clauses : List (List Literal)) (apart : List NumberedPart) : Type 0 where
   pub cases : AreFiringCases g body p (Some (record { part = q.part; clauses = clauses })) (parts_of apart)
-  pub here : IsPartOn g used p q
-  pub others : AllByRecursion (IsPartOn g used p) apart
-  pub right : AreRight g q.part.state.variables clauses
   pub of_rule : AreClausesOf g body q.part clauses
+  pub here : IsPartOn g used of_rule.form p q
+  pub others : AllByRecursion (IsPartOn g used of_rule.form p) apart
+  pub right : AreRight g q.part.state.variables clauses
 
 -- a part that comes of p and of the rule, with new variables besides, that a rule can be tried on
 pub record IsFurther (g : KoreSignature) (used : List Text) (body : RuleBody) (p : StatePart) (q : NumberedPart) : Type 0 where

@@ -50,7 +50,7 @@ meetable g used left q r one = record { told = r.told; sorted = r.sorted; formed
 pub met_sorted : (g : KoreSignature) (used : List Text) (left : Form) (p : StatePart) (m : MetPart) (next : ℕ) (apart : List NumberedPart) → IsMeeting g used left p m next apart → HasSortedClauses g (with_clauses m.part m.equations).state
 met_sorted g used left p m next apart met =
     let q : NumberedPart = record { part = m.part; next = next } in
-    let r = right_ready g used q m.equations (ready_on g used p q met.cases.divided.below.0 met.here) (equations_right g left m met.equations) in
+    let r = right_ready g used q m.equations (ready_on g used left p q met.cases.divided.below.0 met.here) (equations_right g left m met.equations) in
     sorted_clauses g (with_clauses m.part m.equations).state r.safe.sorted
 
 -- each instance of a part has a sort
@@ -59,9 +59,9 @@ each_sorted g p k w c h i =
     let s = p.state in
     (s.sort, subst (λ u. HasSort g s.sort u) (sym i.term) (term_sorted g w s.sort s.term k.state.term (sorts_of_hand g w (term_variables s.term) s.variables k.state.term_at_hand h)))
 
-all_sorted : (g : KoreSignature) (used : List Text) (p : StatePart) (qs : List NumberedPart) → AllByRecursion (IsPartOn g used p) qs → AllByRecursion (λ q. OfEachInstance g q (λ w c. IsSorted g c)) (parts_of qs)
-all_sorted g used p [] h = tt
-all_sorted g used p (q ∷ qs) h = (each_sorted g q.part h.0.sorted, all_sorted g used p qs h.1)
+all_sorted : (g : KoreSignature) (used : List Text) (left : Form) (p : StatePart) (qs : List NumberedPart) → AllByRecursion (IsPartOn g used left p) qs → AllByRecursion (λ q. OfEachInstance g q (λ w c. IsSorted g c)) (parts_of qs)
+all_sorted g used left p [] h = tt
+all_sorted g used left p (q ∷ qs) h = (each_sorted g q.part h.0.sorted, all_sorted g used left p qs h.1)
 
 -- where it is met
 met_where : (t : Theory) (used : List Text) (s : SymbolicState) (place : ℕ) (k : Skeleton) (q : NumberedPart) (m : MetPart) (next : ℕ) (apart : List NumberedPart) → IsWholeReady t.signature used s q → (f : IsForeignAt t place k) → IsMeeting t.signature used (skeleton_view k) q.part m next apart →
@@ -71,14 +71,14 @@ met_where t used s place k q m next apart w f met =
     let r = with_clauses m.part m.equations in
     subst (λ b. AreWhere g (λ c. IsUnknownBy g b c) (whole s) (r ∷ [])) (sym f.body)
     (subst (λ p. AreWhere g (λ c. IsUnknownBy g (foreign_rule f.left) c) p (r ∷ [])) w.is
-    (unknown_where g f.left (skeleton_view k) q.part r m (parts_of apart) f.stands (each_sorted g m.part met.here.sorted) (all_sorted g used q.part apart met.others) met.cases (clauses_restrict g m.part m.equations)))
+    (unknown_where g f.left (skeleton_view k) q.part r m (parts_of apart) f.stands (each_sorted g m.part met.here.sorted) (all_sorted g used (skeleton_view k) q.part apart met.others) met.cases (clauses_restrict g m.part m.equations)))
 
 -- the part that is met comes of the whole state
 met_comes : (t : Theory) (used : List Text) (s : SymbolicState) (place : ℕ) (k : Skeleton) (q : NumberedPart) (m : MetPart) (next : ℕ) (apart : List NumberedPart) → IsWholeReady t.signature used s q → (f : IsForeignAt t place k) → IsMeeting t.signature used (skeleton_view k) q.part m next apart →
     ComesFrom t.signature (IsOneOf (Some f.rule) []) (whole s) (with_clauses m.part m.equations)
 met_comes t used s place k q m next apart w f met =
     let g = t.signature in
-    fires m.part (foreign_rule f.left) m.equations (narrowed (whole s) m.part itself (subst (λ p. IsNarrowedFrom g p m.part) w.is met.here.narrowed)) (f.rule, inr refl, f.body)
+    fires m.part (foreign_rule f.left) m.equations (narrowed (whole s) m.part (foreign_rule f.left) (skeleton_view k) itself (f.rule, inr refl, f.body) f.stands (subst (λ p. IsNarrowedFrom g (skeleton_view k) p m.part) w.is met.here.narrowed)) (f.rule, inr refl, f.body)
     (clauses_of_foreign g f.left (skeleton_view k) m f.stands met.cases.is_met met.equations)
 
 instance_there : (g : KoreSignature) (p : StatePart) → HasInstance g (whole p.state) → HasInstance g p

@@ -94,7 +94,7 @@ part_in t used s q m sides f w k =
 fires_from : (t : Theory) (used : List Text) (s : SymbolicState) (q : NumberedPart) (m : Rewrite) (sides : Sides) (f : Firing) → IsWholeReady t.signature used s q → FiresOn t.signature used m (skeleton_view sides.left) q.part f → ComesFrom t.signature (λ b. b ≡ rewrite m) (whole s) (narrowed_of (firing_model f)).part
 fires_from t used s q m sides f w k =
     let r = (firing_model f).part.part in
-    fires r (rewrite m) ((firing_model f).equations ++ (firing_model f).condition) (narrowed (whole s) r itself (subst (λ p. IsNarrowedFrom t.signature p r) w.is k.met.here.narrowed)) refl k.firing.of_rule
+    fires r (rewrite m) ((firing_model f).equations ++ (firing_model f).condition) (narrowed (whole s) r (rewrite m) k.firing.of_rule.form itself refl k.firing.of_rule.is_form (subst (λ p. IsNarrowedFrom t.signature k.firing.of_rule.form p r) w.is k.firing.here.narrowed)) refl k.firing.of_rule
 
 pub is_firing : (t : Theory) (used : List Text) (s : SymbolicState) (place : ℕ) (q : NumberedPart) (m : Rewrite) (sides : Sides) (f : Firing) → IsWholeReady t.signature used s q → IsReadAs t place m → AreSidesOf t.signature m sides → AreVerifiedSides t.signature m → FiresOn t.signature used m (skeleton_view sides.left) q.part f →
     AllByRecursion (λ b. is_named b.name (form_variables (skeleton_view sides.left)) ≡ true) (firing_model f).bindings → IsFiringOf t used s place (firing_model f)

@@ -21,11 +21,13 @@ use Rattle.kp_cases.proofs.OnRows.{all_bound}
 use Rattle.kp_cases.proofs.GrownLemmas.{grown_itself}
 use Rattle.kp_symbolic.specs.States.{Literal}
 use Rattle.kp_unify.specs.Clash.{IsNeverOf}
+use Rattle.kp_unify.specs.Matched.{Matches}
 use Rattle.kp_unify.specs.Comes.{itself}
 use Rattle.kp_unify.specs.Narrowed.{NumberedPart}
 use Rattle.kp_unify.specs.Views.{pair_view}
 use Rattle.kp_unify.specs.Way.{AreInUse, IsPlacedEquality, IsOnWay, Stage, IsAllApart, IsNextPair, IsGone, IsMeetable, IsMeeting}
 use Rattle.kp_unify.specs.declared.course.Pair.{Pair}
+use Rattle.kp_unify.proofs.LaidLemmas.{laid_begins}
 use Rattle.kp_unify.proofs.PairLemmas.{never_next}
 
 -- a left side begins
@@ -40,6 +42,7 @@ begun g used left p next told sorted formed from names one = record {
     others = tt;
     asked = tt;
     formed = record { equalities = tt; bindings = tt; pairs = (formed.term, tt) };
+    laid = laid_begins g left p;
   };
 }
 
@@ -51,7 +54,7 @@ ended_met g used left p stage o e w = record {
   others = o.way.others;
   bound = all_bound g left p stage.course (map (λ q. q.part) stage.apart) o.one o.way.on e;
   normal = o.way.formed.bindings;
-  equations = record { equalities = stage.course.equalities; are = refl; of_sort = o.way.on.sorted.equalities; asked = o.way.asked; normal = o.way.formed.equalities; placed = w };
+  equations = record { equalities = stage.course.equalities; are = refl; of_sort = o.way.on.sorted.equalities; asked = o.way.asked; normal = o.way.formed.equalities; placed = w; matches = subst (λ (ps : List FormPair). Matches g stage.course.bindings stage.course.equalities ps left stage.course.part.state.term) e o.way.laid.matches };
 }
 
 pub ended_never : (g : KoreSignature) (used : List Text) (left : Form) (p : StatePart) (stage : Stage) → IsGone g used left p stage → are_never (all_equality_clauses g stage.course.equalities) ≡ true → IsAllApart g left p

@@ -8,6 +8,7 @@ pub mod ReplacedLemmas
 pub mod AddedLemmas
 pub mod ClashLemmas
 pub mod FormedLemmas
+pub mod LaidLemmas
 pub mod WayLemmas
 pub mod PlaceLemmas
 pub mod PlacedLemmas

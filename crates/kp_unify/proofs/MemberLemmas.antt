@@ -28,7 +28,8 @@ use Rattle.kp_symbolic.specs.View.{terms_of}
 use Rattle.kp_unify.specs.Narrowed.{with_split}
 use Rattle.kp_unify.specs.Replaced.{pair_of, pairs_of}
 use Rattle.kp_unify.specs.Way.{Stage, IsOnWay, IsNarrowedToConstructor, IsAllApart, IsNextPair}
-use Rattle.kp_unify.proofs.FormedLemmas.{all_unknown_normal, all_known_normal, next_normal}
+use Rattle.kp_unify.proofs.FormedLemmas.{head_constructs, all_unknown_normal, all_known_normal, next_normal}
+use Rattle.kp_unify.proofs.LaidLemmas.{built_members, headed_are, known_are}
 use Rattle.kp_unify.proofs.WayLemmas.{constructor_on_way}
 use Rattle.kp_unify.proofs.PairLemmas.{never_next, members_gone}
 
@@ -66,7 +67,7 @@ narrowed_members g used left p old new form x c fs ts o h m head values n e =
     let at = (of_left g left p old.course (map (λ z. z.part) old.apart) q o.way.on).0.at_hand.0 in
     let step = constructor_on_way g used left p old.course old.next new.next old.apart form x c (forms_of fs) n.variables o.way h m head values n.named at in
     let is : paired (forms_of fs) (all_unknown n.variables) ≡ Some (pairs_of fs ts) = subst (λ zs. paired (forms_of fs) zs ≡ Some (pairs_of fs ts)) n.are (paired_is fs ts e) in
-    let gone = members_gone g used left p narrowed new.next (with_split (record { part = old.course.part; next = old.next }) (has_other_head g x c n.variables) old.apart) form (constructor_term g c n.variables) c (forms_of fs) (all_unknown n.variables) (pairs_of fs ts) step.0 h step.1 step.2 (all_unknown_normal g n.variables) is in
+    let gone = members_gone g used left p narrowed new.next (with_split (record { part = old.course.part; next = old.next }) (has_other_head g x c n.variables) old.apart) form (constructor_term g c n.variables) c (forms_of fs) (all_unknown n.variables) (pairs_of fs ts) step.0 h step.1 step.2 (all_unknown_normal g n.variables) (built_members g form c (forms_of fs) (all_unknown n.variables) m h) is in
     subst (λ k. IsOnWay g used left p (with_pairs k (pairs_of fs ts)) new.next new.apart) (sym n.course) (subst (λ ps. IsOnWay g used left p (with_pairs narrowed (pairs_of fs ts)) new.next ps) (sym n.split) gone)
   where
     narrowed : Course
@@ -99,7 +100,7 @@ pub headed_members : (g : KoreSignature) (used : List Text) (left : Form) (p : S
     meaning_of g c ≡ construction → length fs ≡ length ts → IsOnWay g used left p (with_pairs stage.course (pairs_of fs ts)) stage.next stage.apart
 headed_members g used left p stage form c fs ts o h m e =
     let k = (of_left g left p stage.course (map (λ z. z.part) stage.apart) (record { form = form; term = headed c (terms_of ts) }) o.way.on).0 in
-    members_gone g used left p stage.course stage.next stage.apart form (headed c (terms_of ts)) c (forms_of fs) (terms_of ts) (pairs_of fs ts) o.way h (of_headed g stage.course.part.state.variables c (terms_of ts) m) (terms_of_headed g stage.course.part.state.variables (places_of g c) (terms_of ts) k.sorted.2 k.at_hand) (next_normal g stage.course (pair_of form (headed c (terms_of ts))) o.way.formed).1 (paired_is fs ts e)
+    members_gone g used left p stage.course stage.next stage.apart form (headed c (terms_of ts)) c (forms_of fs) (terms_of ts) (pairs_of fs ts) o.way h (of_headed g stage.course.part.state.variables c (terms_of ts) m) (terms_of_headed g stage.course.part.state.variables (places_of g c) (terms_of ts) k.sorted.2 k.at_hand) (next_normal g stage.course (pair_of form (headed c (terms_of ts))) o.way.formed).1 (headed_are g form c (forms_of fs) (terms_of ts) m h (next_normal g stage.course (pair_of form (headed c (terms_of ts))) o.way.formed)) (paired_is fs ts e)
 
 pub headed_number : (g : KoreSignature) (used : List Text) (left : Form) (p : StatePart) (stage : Stage) (form : Form) (c : Text) (fs : List Form) (ts : List SymbolicTerm) → IsNextPair g used left p stage (record { form = form; term = headed c (terms_of ts) }) → HasMembers form c (forms_of fs) →
     meaning_of g c ≡ construction → ¬ (length fs ≡ length ts) → IsAllApart g left p
@@ -109,7 +110,7 @@ pub known_members : (g : KoreSignature) (used : List Text) (left : Form) (p : St
     terms_of ts ≡ all_known us → length fs ≡ length ts → IsOnWay g used left p (with_pairs stage.course (pairs_of fs ts)) stage.next stage.apart
 known_members g used left p stage form c fs us ts o h is e =
     let k = (of_left g left p stage.course (map (λ z. z.part) stage.apart) (record { form = form; term = known (constructed c us) }) o.way.on).0 in
-    members_gone g used left p stage.course stage.next stage.apart form (known (constructed c us)) c (forms_of fs) (all_known us) (pairs_of fs ts) o.way h (of_known g stage.course.part.state.variables c us) (terms_of_known g stage.course.part.state.variables k.sorted.0.1 us k.sorted.0.3 k.sorted.1) (all_known_normal g us) (subst (λ zs. paired (forms_of fs) zs ≡ Some (pairs_of fs ts)) is (paired_is fs ts e))
+    members_gone g used left p stage.course stage.next stage.apart form (known (constructed c us)) c (forms_of fs) (all_known us) (pairs_of fs ts) o.way h (of_known g stage.course.part.state.variables c us) (terms_of_known g stage.course.part.state.variables k.sorted.0.1 us k.sorted.0.3 k.sorted.1) (all_known_normal g us) (known_are g form c (forms_of fs) us (head_constructs g k.place c k.sorted.0.0) h) (subst (λ zs. paired (forms_of fs) zs ≡ Some (pairs_of fs ts)) is (paired_is fs ts e))
 
 pub known_number : (g : KoreSignature) (used : List Text) (left : Form) (p : StatePart) (stage : Stage) (form : Form) (c : Text) (fs : List Form) (us : Values) (ts : List SymbolicTerm) → IsNextPair g used left p stage (record { form = form; term = known (constructed c us) }) → HasMembers form c (forms_of fs) →
     terms_of ts ≡ all_known us → ¬ (length fs ≡ length ts) → IsAllApart g left p

@@ -21,7 +21,9 @@ use Rattle.kp_cases.proofs.OnRows.{on_anything, on_any, on_same_value, of_left, 
 use Rattle.kp_cases.proofs.RowLemmas.{nothing_never, other_value_never, any_asks_sort, variable_asks_sort, value_asks_sort}
 use Rattle.kp_unify.specs.Narrowed.{NumberedPart}
 use Rattle.kp_unify.specs.Replaced.{equality_of, pair_of}
+use Rattle.kp_unify.specs.Matched.{AreMembers, Matches, by_any, by_sort, by_value}
 use Rattle.kp_unify.specs.Way.{Stage, IsAskedSort, IsOnWay, IsGoing, IsPlaced, IsAllApart, IsNextPair, IsGone}
+use Rattle.kp_unify.proofs.LaidLemmas.{laid_alone, laid_bound, laid_again, laid_value, laid_members}
 use Rattle.kp_unify.proofs.FormedLemmas.{next_normal, without_pair, course_bound, course_equated, bound_normal, course_members}
 
 -- ---- a pair that is never admitted
@@ -35,13 +37,13 @@ next_nothing g used left p stage t o = never_next g used left p stage (record { 
 -- ---- any value
 
 pub next_anything : (g : KoreSignature) (used : List Text) (left : Form) (p : StatePart) (stage : Stage) (t : SymbolicTerm) → IsNextPair g used left p stage (record { form = anything; term = t }) → IsGone g used left p stage
-next_anything g used left p stage t o = record { told = o.told; one = o.one; way = record { on = on_anything g left p stage.course (map (λ z. z.part) stage.apart) t o.way.on; here = o.way.here; others = o.way.others; asked = o.way.asked; formed = without_pair g stage.course (pair_of anything t) o.way.formed } }
+next_anything g used left p stage t o = record { told = o.told; one = o.one; way = record { on = on_anything g left p stage.course (map (λ z. z.part) stage.apart) t o.way.on; here = o.way.here; others = o.way.others; asked = o.way.asked; formed = without_pair g stage.course (pair_of anything t) o.way.formed; laid = laid_alone g left stage.course (pair_of anything t) (λ ps. by_any t) o.way.laid } }
 
 pub any_going : (g : KoreSignature) (used : List Text) (left : Form) (p : StatePart) (stage : Stage) (s : KoreSort) (t : SymbolicTerm) → IsNextPair g used left p stage (record { form = any_of s; term = t }) → IsGoing g used left p (any_of s) s stage t
 any_going g used left p stage s t o = record { told = o.told; asks = any_asks_sort g s; way = o.way }
 
 pub any_gone : (g : KoreSignature) (used : List Text) (left : Form) (p : StatePart) (old new : Stage) (q : FormPair) (s : KoreSort) (t : SymbolicTerm) → IsNextPair g used left p old q → IsPlaced g used left p (any_of s) s new t → IsGone g used left p new
-any_gone g used left p old new q s t o h = record { told = o.told; one = o.one; way = record { on = on_any g left p new.course (map (λ z. z.part) new.apart) s t h.way.on h.of_sort; here = h.way.here; others = h.way.others; asked = h.way.asked; formed = without_pair g new.course (pair_of (any_of s) t) h.way.formed } }
+any_gone g used left p old new q s t o h = record { told = o.told; one = o.one; way = record { on = on_any g left p new.course (map (λ z. z.part) new.apart) s t h.way.on h.of_sort; here = h.way.here; others = h.way.others; asked = h.way.asked; formed = without_pair g new.course (pair_of (any_of s) t) h.way.formed; laid = laid_alone g left new.course (pair_of (any_of s) t) (λ ps. by_sort s t) h.way.laid } }
 
 -- ---- a variable of the rule
 
@@ -50,7 +52,7 @@ variable_going g used left p stage x s t o = record { told = o.told; asks = vari
 
 pub first_bound : (g : KoreSignature) (used : List Text) (left : Form) (p : StatePart) (stage : Stage) (x : Text) (s : KoreSort) (t : SymbolicTerm) → IsPlaced g used left p (one_of x s) s stage t → replacement_for stage.course.bindings x ≡ None →
     IsOnWay g used left p (with_binding stage.course (record { name = x; term = t })) stage.next stage.apart
-first_bound g used left p stage x s t h none = record { on = on_first g left p stage.course (map (λ z. z.part) stage.apart) x s t h.way.on h.of_sort none; here = h.way.here; others = h.way.others; asked = h.way.asked; formed = course_bound g stage.course (pair_of (one_of x s) t) x h.way.formed }
+first_bound g used left p stage x s t h none = record { on = on_first g left p stage.course (map (λ z. z.part) stage.apart) x s t h.way.on h.of_sort none; here = h.way.here; others = h.way.others; asked = h.way.asked; formed = course_bound g stage.course (pair_of (one_of x s) t) x h.way.formed; laid = laid_bound g left stage.course x s t none h.way.laid }
 
 pub bound_again : (g : KoreSignature) (used : List Text) (left : Form) (p : StatePart) (stage : Stage) (x : Text) (s : KoreSort) (t b : SymbolicTerm) → HasOneSortEach (form_variables left) → IsPlaced g used left p (one_of x s) s stage t → replacement_for stage.course.bindings x ≡ Some b →
     IsOnWay g used left p (with_equality stage.course (record { sort = s; left = b; right = t })) stage.next stage.apart
@@ -62,12 +64,13 @@ bound_again g used left p stage x s t b one h e =
       others = h.way.others;
       asked = all_both (λ z. IsAskedSort g left z.sort) stage.course.equalities (record { sort = s; left = b; right = t } ∷ []) h.way.asked (inl (x, stands.0), tt);
       formed = course_equated g stage.course (pair_of (one_of x s) t) (equality_of s b t) (bound_normal g stage.course.bindings x b h.way.formed.bindings e, next_normal g stage.course (pair_of (one_of x s) t) h.way.formed) h.way.formed;
+      laid = laid_again g left stage.course x s b t e h.way.laid;
     }
 
 -- ---- a literal
 
 pub same_gone : (g : KoreSignature) (used : List Text) (left : Form) (p : StatePart) (stage : Stage) (u z : Value) → IsNextPair g used left p stage (record { form = fixed u; term = known z }) → u ≡ z → IsGone g used left p stage
-same_gone g used left p stage u z o e = record { told = o.told; one = o.one; way = record { on = on_same_value g left p stage.course (map (λ y. y.part) stage.apart) u z o.way.on (sym e); here = o.way.here; others = o.way.others; asked = o.way.asked; formed = without_pair g stage.course (pair_of (fixed u) (known z)) o.way.formed } }
+same_gone g used left p stage u z o e = record { told = o.told; one = o.one; way = record { on = on_same_value g left p stage.course (map (λ y. y.part) stage.apart) u z o.way.on (sym e); here = o.way.here; others = o.way.others; asked = o.way.asked; formed = without_pair g stage.course (pair_of (fixed u) (known z)) o.way.formed; laid = laid_alone g left stage.course (pair_of (fixed u) (known z)) (λ ps. subst (λ (y : Value). Matches g stage.course.bindings stage.course.equalities ps (fixed u) (known y)) e (by_value u)) o.way.laid } }
 
 pub other_gone : (g : KoreSignature) (used : List Text) (left : Form) (p : StatePart) (stage : Stage) (u z : Value) → IsNextPair g used left p stage (record { form = fixed u; term = known z }) → ¬ (u ≡ z) → IsAllApart g left p
 other_gone g used left p stage u z o n = never_next g used left p stage (record { form = fixed u; term = known z }) o (other_value_never g stage.course.part u z (λ e. n (sym e)))
@@ -114,11 +117,12 @@ value_equated g used left p stage u s t h own i n = record {
   others = h.way.others;
   asked = all_both (λ z. IsAskedSort g left z.sort) stage.course.equalities (record { sort = s; left = t; right = known u } ∷ []) h.way.asked (inr (u, own), tt);
   formed = course_equated g stage.course (pair_of (fixed u) t) (equality_of s t (known u)) (next_normal g stage.course (pair_of (fixed u) t) h.way.formed, refl) h.way.formed;
+  laid = laid_value g left stage.course u s t h.way.laid;
 }
 
 -- ---- members
 
 pub members_gone : (g : KoreSignature) (used : List Text) (left : Form) (p : StatePart) (k : Course) (next : ℕ) (apart : List NumberedPart) (form : Form) (t : SymbolicTerm) (c : Text) (fs : Forms) (ts : SymbolicTerms) (ps : List FormPair) →
-    IsOnWay g used left p (with_pair k (record { form = form; term = t })) next apart → HasMembers form c fs → IsMadeOf g k.part.state.variables t c ts → AreTermsOf g k.part.state.variables ts → AreNormal g ts → paired fs ts ≡ Some ps →
+    IsOnWay g used left p (with_pair k (record { form = form; term = t })) next apart → HasMembers form c fs → IsMadeOf g k.part.state.variables t c ts → AreTermsOf g k.part.state.variables ts → AreNormal g ts → AreMembers g form t fs ts → paired fs ts ≡ Some ps →
     IsOnWay g used left p (with_pairs k ps) next apart
-members_gone g used left p k next apart form t c fs ts ps o h made terms normal e = record { on = on_members g left p k (map (λ z. z.part) apart) form t c fs ts ps o.on h made terms e; here = o.here; others = o.others; asked = o.asked; formed = course_members g k (pair_of form t) fs ts ps normal e o.formed }
+members_gone g used left p k next apart form t c fs ts ps o h made terms normal m e = record { on = on_members g left p k (map (λ z. z.part) apart) form t c fs ts ps o.on h made terms e; here = o.here; others = o.others; asked = o.asked; formed = course_members g k (pair_of form t) fs ts ps normal e o.formed; laid = laid_members g left k form t fs ts ps m e o.laid }

@@ -29,11 +29,13 @@ use Rattle.kp_cases.specs.Rows.{HasMembers, AsksSort, IsMadeOf, AreTermsOf}
 use Rattle.kp_cases.proofs.GrownLemmas.{grown_further}
 use Rattle.kp_cases.proofs.SortedParts.{sorted_with, head_clauses_sorted, other_head_sorted, outside_sorted}
 use Rattle.kp_cases.proofs.OnNarrowed.{step_sort, step_constructor, step_heads}
-use Rattle.kp_unify.specs.Comes.{alone, built, TellsHead, tested, another, inside, outside, with_term, with_head}
+use Rattle.kp_unify.specs.Matched.{LiesOn}
+use Rattle.kp_unify.specs.Comes.{of_sort, of_members, TellsHead, beyond, another, inside, outside, with_term, with_head}
 use Rattle.kp_unify.specs.Names.{IsNextName, AreNextVariables}
 use Rattle.kp_unify.specs.Narrowed.{NumberedPart, with_split}
 use Rattle.kp_unify.specs.Replaced.{pair_of}
 use Rattle.kp_unify.specs.Way.{IsInUse, IsPartOn, IsAskedSort, IsOnWay}
+use Rattle.kp_unify.proofs.LaidLemmas.{next_lies, laid_put, laid_moved}
 use Rattle.kp_unify.proofs.FormedLemmas.{AreFormed, formed_with, head_clauses_formed, other_head_formed, outside_formed, inside_formed, constructor_normal, part_formed, course_put, course_moved}
 
 -- ---- names
@@ -78,15 +80,15 @@ all_later used before after (x ∷ xs) l h = (in_use_later used before after x.n
 -- ---- parts
 
 -- the part with further clauses that are sorted, their terms in normal form
-pub constrained_on : (g : KoreSignature) (used : List Text) (p q : StatePart) (next : ℕ) (x : SortedName) (clauses : List (List Literal)) → IsPartOn g used p (record { part = q; next = next }) → IsSortedPart g (with_clauses q clauses) → AreFormed g clauses → TellsHead g x clauses →
-    IsPartOn g used p (record { part = with_clauses q clauses; next = next })
-constrained_on g used p q next x clauses h s f tells = record {
+pub constrained_on : (g : KoreSignature) (used : List Text) (left : Form) (p q : StatePart) (next : ℕ) (form : Form) (x : SortedName) (clauses : List (List Literal)) → IsPartOn g used left p (record { part = q; next = next }) → IsSortedPart g (with_clauses q clauses) → AreFormed g clauses →
+    LiesOn g left q.state.term form (unknown x) → TellsHead g form x clauses → IsPartOn g used left p (record { part = with_clauses q clauses; next = next })
+constrained_on g used left p q next form x clauses h s f lies tells = record {
   grown = record { new = h.grown.new; variables = h.grown.variables; are_new = h.grown.are_new; each = h.grown.each };
   sorted = s;
   formed = formed_with g q clauses h.formed f;
   begun = h.begun;
   names = h.names;
-  narrowed = with_head q x clauses h.narrowed tells;
+  narrowed = with_head q form x clauses h.narrowed lies tells;
 }
 
 split_parts : (q : NumberedPart) (others : List (List Literal)) (apart : List NumberedPart) → map (λ x. x.part) (with_split q others apart) ≡ courses.with_split q.part others (map (λ x. x.part) apart)
@@ -99,13 +101,13 @@ split_parts q others apart = by (are_never others) refl
     by true e = refl
     by false e = map-append (λ x. x.part) apart more
 
-split_others : (g : KoreSignature) (used : List Text) (p : StatePart) (q : NumberedPart) (x : SortedName) (others : List (List Literal)) (apart : List NumberedPart) → AllByRecursion (IsPartOn g used p) apart → IsPartOn g used p q → IsSortedPart g (with_clauses q.part others) → AreFormed g others → TellsHead g x others →
-    AllByRecursion (IsPartOn g used p) (with_split q others apart)
-split_others g used p q x others apart a h s f tells = by (are_never others)
+split_others : (g : KoreSignature) (used : List Text) (left : Form) (p : StatePart) (q : NumberedPart) (form : Form) (x : SortedName) (others : List (List Literal)) (apart : List NumberedPart) → AllByRecursion (IsPartOn g used left p) apart → IsPartOn g used left p q → IsSortedPart g (with_clauses q.part others) → AreFormed g others →
+    LiesOn g left q.part.state.term form (unknown x) → TellsHead g form x others → AllByRecursion (IsPartOn g used left p) (with_split q others apart)
+split_others g used left p q form x others apart a h s f lies tells = by (are_never others)
   where
-    by : (b : Bool) → AllByRecursion (IsPartOn g used p) (if b then apart else apart ++ record { part = with_clauses q.part others; next = q.next } ∷ [])
+    by : (b : Bool) → AllByRecursion (IsPartOn g used left p) (if b then apart else apart ++ record { part = with_clauses q.part others; next = q.next } ∷ [])
     by true = a
-    by false = all_both (IsPartOn g used p) apart (record { part = with_clauses q.part others; next = q.next } ∷ []) a (constrained_on g used p q.part q.next x others h s f tells, tt)
+    by false = all_both (IsPartOn g used left p) apart (record { part = with_clauses q.part others; next = q.next } ∷ []) a (constrained_on g used left p q.part q.next form x others h s f lies tells, tt)
 
 -- with a term in a variable's place, equalities are of the sorts that they were
 still_asked : (g : KoreSignature) (left : Form) (e : Equation) (es : List Equality) → AllByRecursion (λ (q : Equality). IsAskedSort g left q.sort) es →
@@ -135,6 +137,7 @@ sort_on_way g used left p k before after apart form x s m name o f i u h n at =
     let q : NumberedPart = record { part = k.part; next = before } in
     let others = head_clauses g false x (head_of_sort m) in
     let new : AreNew k.part.state.variables (y ∷ []) = (not_named used before after name k.part.state.variables n o.here.names, refl, tt) in
+    let lies = next_lies g left k (pair_of form (unknown x)) o.laid in
     let step = step_sort g left p k (map (λ z. z.part) apart) form x y s o.on f i new in
     let r = part_with_term g e (y ∷ []) k.part in
     let grown : IsGrown g used k.part r = record { new = y ∷ []; variables = refl; are_new = new; each = (new_one g used before after name m o.here.begun n u h, tt) } in
@@ -148,11 +151,12 @@ sort_on_way g used left p k before after apart form x s m name o f i u h n at =
           formed = part_formed g e (y ∷ []) k.part refl o.here.formed;
           begun = omega (arith, begun, behind);
           names = all_both (λ z. IsInUse used after z.name) k.part.state.variables (y ∷ []) (all_later used before after k.part.state.variables behind o.here.names) (last_in_use used before after name n, tt);
-          narrowed = with_term k.part e (y ∷ []) o.here.narrowed (alone y);
+          narrowed = with_term k.part form x (y ∷ []) (unknown y) o.here.narrowed lies (of_sort s y f i);
         };
-        others = split_others g used p q x others apart o.others o.here (sorted_with g k.part others o.here.sorted (head_clauses_sorted g k.part.state.variables false x (head_of_sort m) at)) (head_clauses_formed g false x (head_of_sort m) tt) (tested false (head_of_sort m));
+        others = split_others g used left p q form x others apart o.others o.here (sorted_with g k.part others o.here.sorted (head_clauses_sorted g k.part.state.variables false x (head_of_sort m) at)) (head_clauses_formed g false x (head_of_sort m) tt) lies (beyond s m f i);
         asked = still_asked g left e k.equalities o.asked;
         formed = course_put g e r k (pair_of form (unknown x)) (unknown y) refl refl o.formed;
+        laid = laid_put g left k e (y ∷ []) form o.laid;
       },
       step.1,
     )
@@ -167,13 +171,15 @@ heads_on_way g used left p k next apart form x s o f none at =
     let q : NumberedPart = record { part = k.part; next = next } in
     let others = heads_outside g x s in
     let r = with_clauses k.part (heads_inside g x s) in
+    let lies = next_lies g left k (pair_of form (unknown x)) o.laid in
     let step = step_heads g left p k (map (λ z. z.part) apart) form x s o.on f none in (
       record {
         on = subst (λ ps. IsOnCourse g left p (with_pair (course_in r k) (record { form = form; term = unknown x })) ps) (sym (split_parts q others apart)) step.0;
-        here = constrained_on g used p k.part next x (heads_inside g x s) o.here step.0.sorted.part (inside_formed g x s) (inside s);
-        others = split_others g used p q x others apart o.others o.here (sorted_with g k.part others o.here.sorted (outside_sorted g k.part.state.variables x s at)) (outside_formed g x s) (outside s);
+        here = constrained_on g used left p k.part next form x (heads_inside g x s) o.here step.0.sorted.part (inside_formed g x s) lies (inside s f);
+        others = split_others g used left p q form x others apart o.others o.here (sorted_with g k.part others o.here.sorted (outside_sorted g k.part.state.variables x s at)) (outside_formed g x s) lies (outside s f);
         asked = o.asked;
         formed = course_moved g r k (pair_of form (unknown x)) o.formed;
+        laid = laid_moved g left k (heads_inside g x s) (pair_of form (unknown x)) o.laid;
       },
       step.1,
     )
@@ -259,6 +265,7 @@ constructor_on_way g used left p k before after apart form x c fs new o h m head
     let others = has_other_head g x c new in
     let are_new : AreNew k.part.state.variables new = all_new used before after ss new k.part.state.variables n o.here.names in
     let sorts = their_sorts used before after (places_of g c) new n in
+    let lies = next_lies g left k (pair_of form (unknown x)) o.laid in
     let step = step_constructor g left p k (map (λ z. z.part) apart) form x c fs new o.on h m sorts are_new head in
     let r = part_with_term g e new k.part in
     let grown : IsGrown g used k.part r = record { new = new; variables = refl; are_new = are_new; each = all_ones g used before after ss new o.here.begun n values } in
@@ -272,11 +279,12 @@ constructor_on_way g used left p k before after apart form x c fs new o h m head
           formed = part_formed g e new k.part normal o.here.formed;
           begun = omega (arith, begun, behind);
           names = all_both (λ z. IsInUse used after z.name) k.part.state.variables new (all_later used before after k.part.state.variables behind o.here.names) (all_in_use used before after ss new n);
-          narrowed = with_term k.part e new o.here.narrowed (built c new);
+          narrowed = with_term k.part form x new (constructor_term g c new) o.here.narrowed lies (of_members c fs new h);
         };
-        others = split_others g used p q x others apart o.others o.here (split_sorted g k.part x c new head sorts m o.here.sorted at) (other_head_formed g x c new m) (another c new);
+        others = split_others g used left p q form x others apart o.others o.here (split_sorted g k.part x c new head sorts m o.here.sorted at) (other_head_formed g x c new m) lies (another c fs new h);
         asked = still_asked g left e k.equalities o.asked;
         formed = course_put g e r k (pair_of form (unknown x)) (constructor_term g c new) normal normal o.formed;
+        laid = laid_put g left k e new form o.laid;
       },
       step.1,
       step.2,

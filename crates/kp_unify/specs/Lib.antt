@@ -6,5 +6,6 @@ pub mod Narrowed
 pub mod Literals
 pub mod Replaced
 pub mod Clash
+pub mod Matched
 pub mod Comes
 pub mod Way

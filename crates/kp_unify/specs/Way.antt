@@ -21,6 +21,7 @@ use Rattle.kp_cases.specs.Rows.{AsksSort}
 use Rattle.kp_symbolic_laws.specs.Runs.{HasOneSortEach}
 use Rattle.kp_symbolic_laws.specs.Safe.{IsNormal, PutNormal, IsFormedState, IsSoundQuote}
 use Rattle.kp_unify.specs.Comes.{IsNarrowedFrom}
+use Rattle.kp_unify.specs.Matched.{Matches, IsLaid}
 use Rattle.kp_unify.specs.Names.{IsNextName, AreNextVariables}
 use Rattle.kp_unify.specs.Narrowed.{NumberedPart, with_split}
 
@@ -34,15 +35,15 @@ IsInUse used next x = (list_any (bytes_eq x) used ≡ true) ⊎ ((j : ℕ) × j 
 abbrev pub AreInUse : List Text → NumberedPart → Type 0
 AreInUse used q = AllByRecursion (λ x. IsInUse used q.next x.name) q.part.state.variables
 
--- a part of p by narrowing, well-sorted and its terms in normal form, with new variables of sorts with values, whose names are in
--- use
-pub record IsPartOn (g : KoreSignature) (used : List Text) (p : StatePart) (q : NumberedPart) : Type 0 where
+-- a part of p by narrowing where the left side lies on it, well-sorted and its terms in normal form, with new variables of sorts with
+-- values, whose names are in use
+pub record IsPartOn (g : KoreSignature) (used : List Text) (left : Form) (p : StatePart) (q : NumberedPart) : Type 0 where
   pub grown : IsGrown g used p q.part
   pub sorted : IsSortedPart g q.part
   pub formed : IsFormedState g (IsSoundQuote g) q.part.state
   pub begun : 1 ≤ q.next
   pub names : AreInUse used q
-  pub narrowed : IsNarrowedFrom g p q.part
+  pub narrowed : IsNarrowedFrom g left p q.part
 
 -- ---- on the way
 
@@ -66,10 +67,11 @@ pub record IsFormedCourse (g : KoreSignature) (k : Course) : Type 0 where
 
 pub record IsOnWay (g : KoreSignature) (used : List Text) (left : Form) (p : StatePart) (k : Course) (next : ℕ) (apart : List NumberedPart) : Type 0 where
   pub on : IsOnCourse g left p k (map (λ q. q.part) apart)
-  pub here : IsPartOn g used p (record { part = k.part; next = next })
-  pub others : AllByRecursion (IsPartOn g used p) apart
+  pub here : IsPartOn g used left p (record { part = k.part; next = next })
+  pub others : AllByRecursion (IsPartOn g used left p) apart
   pub asked : AllByRecursion (λ e. IsAskedSort g left e.sort) k.equalities
   pub formed : IsFormedCourse g k
+  pub laid : IsLaid g left k
 
 -- a course with the number of the next name, and the parts that were split off
 pub record Stage : Type 0 where
@@ -160,7 +162,8 @@ pub record IsMeetable (g : KoreSignature) (used : List Text) (left : Form) (q : 
 
 -- ---- the outcome
 
--- the equations are those of equalities of terms in normal form, of the sorts that the left side asks for
+-- the left side matches the part's term, with the bindings' terms in its variables' places, by equalities of terms in normal form, of
+-- the sorts that it asks for; the equations are their clauses
 pub record AreEquations (g : KoreSignature) (left : Form) (m : MetPart) : Type 0 where
   pub equalities : List Equality
   pub are : m.equations ≡ all_equality_clauses g equalities
@@ -168,13 +171,14 @@ pub record AreEquations (g : KoreSignature) (left : Form) (m : MetPart) : Type 0
   pub asked : AllByRecursion (λ e. IsAskedSort g left e.sort) equalities
   pub normal : AllByRecursion (IsNormalEquality g) equalities
   pub placed : AllByRecursion (IsPlacedEquality g) equalities
+  pub matches : Matches g m.bindings equalities [] left m.part.state.term
 
 -- the cases of p, each well-sorted and its terms in normal form, with new variables of sorts with values, whose names are in use;
 -- each variable of the left side stands for a term of its sort, in normal form
 pub record IsMeeting (g : KoreSignature) (used : List Text) (left : Form) (p : StatePart) (met : MetPart) (next : ℕ) (apart : List NumberedPart) : Type 0 where
   pub cases : AreCases g (left_side g left) p (Some met) (map (λ q. q.part) apart)
-  pub here : IsPartOn g used p (record { part = met.part; next = next })
-  pub others : AllByRecursion (IsPartOn g used p) apart
+  pub here : IsPartOn g used left p (record { part = met.part; next = next })
+  pub others : AllByRecursion (IsPartOn g used left p) apart
   pub bound : AllByRecursion (IsBoundTo g met.part met.bindings) (form_variables left)
   pub normal : PutNormal g met.bindings
   pub equations : AreEquations g left met
