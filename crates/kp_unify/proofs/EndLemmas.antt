@@ -21,7 +21,7 @@ use Rattle.kp_cases.proofs.OnRows.{all_bound}
 use Rattle.kp_cases.proofs.GrownLemmas.{grown_itself}
 use Rattle.kp_symbolic.specs.States.{Literal}
 use Rattle.kp_unify.specs.Clash.{IsNeverOf}
-use Rattle.kp_unify.specs.Matched.{Matches}
+use Rattle.kp_unify.specs.Matched.{IsLaid}
 use Rattle.kp_unify.specs.Comes.{itself}
 use Rattle.kp_unify.specs.Narrowed.{NumberedPart}
 use Rattle.kp_unify.specs.Views.{pair_view}
@@ -54,7 +54,7 @@ ended_met g used left p stage o e w = record {
   others = o.way.others;
   bound = all_bound g left p stage.course (map (λ q. q.part) stage.apart) o.one o.way.on e;
   normal = o.way.formed.bindings;
-  equations = record { equalities = stage.course.equalities; are = refl; of_sort = o.way.on.sorted.equalities; asked = o.way.asked; normal = o.way.formed.equalities; placed = w; matches = subst (λ (ps : List FormPair). Matches g stage.course.bindings stage.course.equalities ps left stage.course.part.state.term) e o.way.laid.matches };
+  equations = record { equalities = stage.course.equalities; are = refl; of_sort = o.way.on.sorted.equalities; asked = o.way.asked; normal = o.way.formed.equalities; placed = w; laid = subst (λ (ps : List FormPair). IsLaid g left (record { part = stage.course.part; equalities = stage.course.equalities; bindings = stage.course.bindings; pairs = ps })) e o.way.laid };
 }
 
 pub ended_never : (g : KoreSignature) (used : List Text) (left : Form) (p : StatePart) (stage : Stage) → IsGone g used left p stage → are_never (all_equality_clauses g stage.course.equalities) ≡ true → IsAllApart g left p

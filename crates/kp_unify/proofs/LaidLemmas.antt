@@ -12,6 +12,7 @@ use Rattle.kp_kore.specs.Parts.{SortedName}
 use Rattle.kp_kore.specs.Signature.{KoreSignature, construction, meaning_of}
 use Rattle.kp_kore.specs.Value.{Value, constructed, Values, no_values, next_value}
 use Rattle.kp_heads.proofs.Values.{in_map}
+use Rattle.kp_compile.specs.Spelled.{own_sort}
 use Rattle.kp_symbolic.specs.Terms.{SymbolicTerm, unknown, offset, known, headed, SymbolicTerms, no_terms, next_term, Replaced, replacement_for}
 use Rattle.kp_symbolic.specs.States.{Literal}
 use Rattle.kp_symbolic.specs.Folding.{value_known, values_known, with_first, made, made_construction, applied_term, term_for, replaced, all_replaced}
@@ -19,13 +20,13 @@ use Rattle.kp_symbolic.specs.Solving.{Equation, replacement}
 use Rattle.kp_symbolic_laws.specs.Safe.{AreNormal, IsNormal}
 use Rattle.kp_symbolic_laws.proofs.NormalTerms.{normal_folded}
 use Rattle.kp_symbolic.proofs.Distribution.{all_both, all_first, all_second}
-use Rattle.kp_rules.specs.Skeletons.{Form, anything, any_of, one_of, fixed, Forms, no_forms, next_form}
+use Rattle.kp_rules.specs.Skeletons.{Form, one_of, fixed, Forms, no_forms, next_form}
 use Rattle.kp_cases.specs.Parts.{StatePart, with_clauses}
 use Rattle.kp_cases.specs.Narrowings.{part_with_term}
 use Rattle.kp_cases.specs.Courses.{FormPair, Equality, Course, beginning, with_pair, with_binding, with_equality, with_pairs, paired, all_known, put_in, replaced_course, course_in}
 use Rattle.kp_cases.specs.Rows.{HasMembers}
-use Rattle.kp_unify.specs.Replaced.{equality_of, pair_of, binding_put, equality_put, pair_put}
-use Rattle.kp_unify.specs.Matched.{AreMembers, HaveOnePlace, first, later, LiesOn, itself, inside, Matches, to_come, by_any, by_sort, by_binding, by_equality, by_value, by_equal_value, by_members, AllMatch, no_members, next_members, IsLaid}
+use Rattle.kp_unify.specs.Replaced.{binding_put, equality_put, pair_put}
+use Rattle.kp_unify.specs.Matched.{AreMembers, HaveOnePlace, first, later, LiesOn, itself, inside, Matches, to_come, by_any, by_sort, by_binding, by_equality, by_value, by_equal_value, by_members, AllMatch, no_members, next_members, IsBindingAt, IsEqualityAt, of_variable, of_value, IsLaid}
 
 some_inside : {A : Type 0} {a b : A} → Some a ≡ Some b → a ≡ b
 some_inside e = cc
@@ -170,7 +171,7 @@ mutual
 -- ---- on a course
 
 pub laid_begins : (g : KoreSignature) (left : Form) (p : StatePart) → IsLaid g left (beginning left p)
-laid_begins g left p = record { matches = to_come left p.state.term (Contains-push [] (record { form = left; term = p.state.term })); lies = (itself left p.state.term, tt) }
+laid_begins g left p = record { matches = to_come left p.state.term (Contains-push [] (record { form = left; term = p.state.term })); pairs = (itself left p.state.term, tt); bindings = tt; equalities = tt }
 
 abbrev Found : StatePart → List Equality → List Replaced → List FormPair → Course
 Found p es bs ps = record { part = p; equalities = es; bindings = bs; pairs = ps }
@@ -178,14 +179,21 @@ Found p es bs ps = record { part = p; equalities = es; bindings = bs; pairs = ps
 -- the last pair is met by what is found, the others as before
 found : (g : KoreSignature) (left : Form) (k : Course) (q : FormPair) (es' : List Equality) (bs' : List Replaced) (ps : List FormPair) →
     ((x : Text) (t : SymbolicTerm) → replacement_for k.bindings x ≡ Some t → replacement_for bs' x ≡ Some t) → ((e : Equality) → Contains k.equalities e → Contains es' e) → Matches g bs' es' (k.pairs ++ ps) q.form q.term →
-    AllByRecursion (λ (z : FormPair). LiesOn g left k.part.state.term z.form z.term) ps → IsLaid g left (with_pair k q) → IsLaid g left (Found k.part es' bs' (k.pairs ++ ps))
-found g left k q es' bs' ps b e m lie h = record {
+    AllByRecursion (λ (z : FormPair). LiesOn g left k.part.state.term z.form z.term) ps → AllByRecursion (IsBindingAt g left k.part.state.term) bs' → AllByRecursion (IsEqualityAt g left k.part.state.term bs') es' →
+    IsLaid g left (with_pair k q) → IsLaid g left (Found k.part es' bs' (k.pairs ++ ps))
+found g left k q es' bs' ps b e m lie bound equal h = record {
   matches = matches_more g k.bindings bs' k.equalities es' (k.pairs ++ q ∷ []) (k.pairs ++ ps) (record { bindings = b; equalities = e; pairs = λ f t c. elim (Contains-push_cases k.pairs q (record { form = f; term = t }) c) [
     | inl i ↦ to_come f t (Contains-append_left k.pairs ps (record { form = f; term = t }) i)
     | inr i ↦ subst (λ (z : FormPair). Matches g bs' es' (k.pairs ++ ps) z.form z.term) i m
   ] }) left k.part.state.term h.matches;
-  lies = all_both (λ (z : FormPair). LiesOn g left k.part.state.term z.form z.term) k.pairs ps (all_first (λ (z : FormPair). LiesOn g left k.part.state.term z.form z.term) k.pairs (q ∷ []) h.lies) lie;
+  pairs = all_both (λ (z : FormPair). LiesOn g left k.part.state.term z.form z.term) k.pairs ps (all_first (λ (z : FormPair). LiesOn g left k.part.state.term z.form z.term) k.pairs (q ∷ []) h.pairs) lie;
+  bindings = bound;
+  equalities = equal;
 }
+
+-- the next pair lies in its place
+pub next_lies : (g : KoreSignature) (left : Form) (k : Course) (q : FormPair) → IsLaid g left (with_pair k q) → LiesOn g left k.part.state.term q.form q.term
+next_lies g left k q h = (all_second (λ (z : FormPair). LiesOn g left k.part.state.term z.form z.term) k.pairs (q ∷ []) h.pairs).0
 
 bound_more : (bs : List Replaced) (b : Replaced) (x : Text) (t : SymbolicTerm) → replacement_for bs x ≡ Some t → replacement_for (bs ++ b ∷ []) x ≡ Some t
 bound_more [] b x t h = absurd (none_is_some h)
@@ -206,6 +214,14 @@ bound_last (c ∷ bs) x t h = by (bytes_eq c.name x) h (bound_last bs x t)
     by true i more = absurd (none_is_some (sym i))
     by false i more = more i
 
+equal_at_more : (g : KoreSignature) (left : Form) (all : SymbolicTerm) (bs : List Replaced) (b : Replaced) (e : Equality) → IsEqualityAt g left all bs e → IsEqualityAt g left all (bs ++ b ∷ []) e
+equal_at_more g left all bs b _ (of_variable x s c t l i) = of_variable x s c t l (bound_more bs b x c i)
+equal_at_more g left all bs b _ (of_value u s t l i) = of_value u s t l i
+
+equal_more : (g : KoreSignature) (left : Form) (all : SymbolicTerm) (bs : List Replaced) (b : Replaced) (es : List Equality) → AllByRecursion (IsEqualityAt g left all bs) es → AllByRecursion (IsEqualityAt g left all (bs ++ b ∷ [])) es
+equal_more g left all bs b [] h = tt
+equal_more g left all bs b (e ∷ es) h = (equal_at_more g left all bs b e h.0, equal_more g left all bs b es h.1)
+
 no_more : (ps : List FormPair) → ps ++ [] ≡ ps
 no_more [] = refl
 no_more (p ∷ ps) = ap (λ (z : List FormPair). p ∷ z) (no_more ps)
@@ -215,23 +231,25 @@ without_more g left p es bs ps h = subst (λ (z : List FormPair). IsLaid g left 
 
 -- what any term matches, or the value itself
 pub laid_alone : (g : KoreSignature) (left : Form) (k : Course) (q : FormPair) → ((ps : List FormPair) → Matches g k.bindings k.equalities ps q.form q.term) → IsLaid g left (with_pair k q) → IsLaid g left k
-laid_alone g left k q m h = without_more g left k.part k.equalities k.bindings k.pairs (found g left k q k.equalities k.bindings [] (λ x t e. e) (λ e c. c) (m (k.pairs ++ [])) tt h)
+laid_alone g left k q m h = without_more g left k.part k.equalities k.bindings k.pairs (found g left k q k.equalities k.bindings [] (λ x t e. e) (λ e c. c) (m (k.pairs ++ [])) tt h.bindings h.equalities h)
 
 pub laid_bound : (g : KoreSignature) (left : Form) (k : Course) (x : Text) (s : KoreSort) (t : SymbolicTerm) → replacement_for k.bindings x ≡ None → IsLaid g left (with_pair k (record { form = one_of x s; term = t })) → IsLaid g left (with_binding k (record { name = x; term = t }))
 laid_bound g left k x s t none h =
     without_more g left k.part k.equalities (k.bindings ++ record { name = x; term = t } ∷ []) k.pairs
-    (found g left k (record { form = one_of x s; term = t }) k.equalities (k.bindings ++ record { name = x; term = t } ∷ []) [] (λ y u e. bound_more k.bindings (record { name = x; term = t }) y u e) (λ e c. c) (by_binding x s t (bound_last k.bindings x t none)) tt h)
+    (found g left k (record { form = one_of x s; term = t }) k.equalities (k.bindings ++ record { name = x; term = t } ∷ []) [] (λ y u e. bound_more k.bindings (record { name = x; term = t }) y u e) (λ e c. c) (by_binding x s t (bound_last k.bindings x t none)) tt
+    (all_both (IsBindingAt g left k.part.state.term) k.bindings (record { name = x; term = t } ∷ []) h.bindings ((s, next_lies g left k (record { form = one_of x s; term = t }) h), tt))
+    (equal_more g left k.part.state.term k.bindings (record { name = x; term = t }) k.equalities h.equalities) h)
 
-pub laid_equal : (g : KoreSignature) (left : Form) (k : Course) (q : FormPair) (e : Equality) → ((ps : List FormPair) → Matches g k.bindings (k.equalities ++ e ∷ []) ps q.form q.term) → IsLaid g left (with_pair k q) → IsLaid g left (with_equality k e)
-laid_equal g left k q e m h =
+pub laid_equal : (g : KoreSignature) (left : Form) (k : Course) (q : FormPair) (e : Equality) → IsEqualityAt g left k.part.state.term k.bindings e → ((ps : List FormPair) → Matches g k.bindings (k.equalities ++ e ∷ []) ps q.form q.term) → IsLaid g left (with_pair k q) → IsLaid g left (with_equality k e)
+laid_equal g left k q e at m h =
     without_more g left k.part (k.equalities ++ e ∷ []) k.bindings k.pairs
-    (found g left k q (k.equalities ++ e ∷ []) k.bindings [] (λ x t i. i) (λ d c. Contains-append_left k.equalities (e ∷ []) d c) (m (k.pairs ++ [])) tt h)
+    (found g left k q (k.equalities ++ e ∷ []) k.bindings [] (λ x t i. i) (λ d c. Contains-append_left k.equalities (e ∷ []) d c) (m (k.pairs ++ [])) tt h.bindings (all_both (IsEqualityAt g left k.part.state.term k.bindings) k.equalities (e ∷ []) h.equalities (at, tt)) h)
 
 pub laid_again : (g : KoreSignature) (left : Form) (k : Course) (x : Text) (s : KoreSort) (b t : SymbolicTerm) → replacement_for k.bindings x ≡ Some b → IsLaid g left (with_pair k (record { form = one_of x s; term = t })) → IsLaid g left (with_equality k (record { sort = s; left = b; right = t }))
-laid_again g left k x s b t e h = laid_equal g left k (record { form = one_of x s; term = t }) (record { sort = s; left = b; right = t }) (λ ps. by_equality x s b t e (Contains-push k.equalities (record { sort = s; left = b; right = t }))) h
+laid_again g left k x s b t e h = laid_equal g left k (record { form = one_of x s; term = t }) (record { sort = s; left = b; right = t }) (of_variable x s b t (next_lies g left k (record { form = one_of x s; term = t }) h) e) (λ ps. by_equality x s b t e (Contains-push k.equalities (record { sort = s; left = b; right = t }))) h
 
-pub laid_value : (g : KoreSignature) (left : Form) (k : Course) (u : Value) (s : KoreSort) (t : SymbolicTerm) → IsLaid g left (with_pair k (record { form = fixed u; term = t })) → IsLaid g left (with_equality k (record { sort = s; left = t; right = known u }))
-laid_value g left k u s t h = laid_equal g left k (record { form = fixed u; term = t }) (record { sort = s; left = t; right = known u }) (λ ps. by_equal_value u s t (Contains-push k.equalities (record { sort = s; left = t; right = known u }))) h
+pub laid_value : (g : KoreSignature) (left : Form) (k : Course) (u : Value) (s : KoreSort) (t : SymbolicTerm) → own_sort g u ≡ Some s → IsLaid g left (with_pair k (record { form = fixed u; term = t })) → IsLaid g left (with_equality k (record { sort = s; left = t; right = known u }))
+laid_value g left k u s t own h = laid_equal g left k (record { form = fixed u; term = t }) (record { sort = s; left = t; right = known u }) (of_value u s t (next_lies g left k (record { form = fixed u; term = t }) h) own) (λ ps. by_equal_value u s t (Contains-push k.equalities (record { sort = s; left = t; right = known u }))) h
 
 -- members match what the pairs of them match
 pairs_match : (g : KoreSignature) (bs : List Replaced) (es : List Equality) (all : List FormPair) (fs : Forms) (ts : SymbolicTerms) (ps : List FormPair) → paired fs ts ≡ Some ps → ((f : Form) (t : SymbolicTerm) → Contains ps (record { form = f; term = t }) → Contains all (record { form = f; term = t })) → AllMatch g bs es all fs ts
@@ -248,19 +266,27 @@ pairs_match g bs es all (next_form f fs) no_terms ps e k = absurd (none_is_some 
 
 pub laid_members : (g : KoreSignature) (left : Form) (k : Course) (form : Form) (t : SymbolicTerm) (fs : Forms) (ts : SymbolicTerms) (ps : List FormPair) → AreMembers g form t fs ts → paired fs ts ≡ Some ps → IsLaid g left (with_pair k (record { form = form; term = t })) → IsLaid g left (with_pairs k ps)
 laid_members g left k form t fs ts ps m e h =
-    let here = (all_second (λ (z : FormPair). LiesOn g left k.part.state.term z.form z.term) k.pairs (record { form = form; term = t } ∷ []) h.lies).0 in
+    let here = (all_second (λ (z : FormPair). LiesOn g left k.part.state.term z.form z.term) k.pairs (record { form = form; term = t } ∷ []) h.pairs).0 in
     found g left k (record { form = form; term = t }) k.equalities k.bindings ps (λ x u i. i) (λ d c. c)
     (by_members form t fs ts m (pairs_match g k.bindings k.equalities (k.pairs ++ ps) fs ts ps e (λ f u c. Contains-append_right k.pairs ps (record { form = f; term = u }) c)))
-    (all_further g left k.part.state.term fs ts ps e (λ f u p. lies_further g left k.part.state.term form t fs ts f u here m p)) h
+    (all_further g left k.part.state.term fs ts ps e (λ f u p. lies_further g left k.part.state.term form t fs ts f u here m p)) h.bindings h.equalities h
 
 -- ---- narrowed
 
--- the next pair lies in its place
-pub next_lies : (g : KoreSignature) (left : Form) (k : Course) (q : FormPair) → IsLaid g left (with_pair k q) → LiesOn g left k.part.state.term q.form q.term
-next_lies g left k q h = (all_second (λ (z : FormPair). LiesOn g left k.part.state.term z.form z.term) k.pairs (q ∷ []) h.lies).0
-
 put_variable : (g : KoreSignature) (e : Equation) → put_in g e (unknown e.variable) ≡ e.term
 put_variable g e = ap (λ (b : Bool). term_for e.variable (if b then Some e.term else None)) ((bytes_eq-Decides e.variable.name e.variable.name).1 refl)
+
+bindings_put : (g : KoreSignature) (by : List Replaced) (left : Form) (all : SymbolicTerm) (bs : List Replaced) → AllByRecursion (IsBindingAt g left all) bs → AllByRecursion (IsBindingAt g left (replaced g by all)) (map (binding_put g by) bs)
+bindings_put g by left all [] h = tt
+bindings_put g by left all (b ∷ bs) h = ((h.0.0, lies_put g by left all (one_of b.name h.0.0) b.term h.0.1), bindings_put g by left all bs h.1)
+
+equality_at_put : (g : KoreSignature) (by : List Replaced) (left : Form) (all : SymbolicTerm) (bs : List Replaced) (e : Equality) → IsEqualityAt g left all bs e → IsEqualityAt g left (replaced g by all) (map (binding_put g by) bs) (equality_put g by e)
+equality_at_put g by left all bs _ (of_variable x s b t l i) = of_variable x s (replaced g by b) (replaced g by t) (lies_put g by left all (one_of x s) t l) (put_for (replaced g by) bs x b i)
+equality_at_put g by left all bs _ (of_value u s t l i) = of_value u s (replaced g by t) (lies_put g by left all (fixed u) t l) i
+
+equalities_put : (g : KoreSignature) (by : List Replaced) (left : Form) (all : SymbolicTerm) (bs : List Replaced) (es : List Equality) → AllByRecursion (IsEqualityAt g left all bs) es → AllByRecursion (IsEqualityAt g left (replaced g by all) (map (binding_put g by) bs)) (map (equality_put g by) es)
+equalities_put g by left all bs [] h = tt
+equalities_put g by left all bs (e ∷ es) h = (equality_at_put g by left all bs e h.0, equalities_put g by left all bs es h.1)
 
 pub laid_put : (g : KoreSignature) (left : Form) (k : Course) (e : Equation) (new : List SortedName) (form : Form) → IsLaid g left (with_pair k (record { form = form; term = unknown e.variable })) →
     IsLaid g left (with_pair (replaced_course g e (part_with_term g e new k.part) k) (record { form = form; term = e.term }))
@@ -273,9 +299,11 @@ laid_put g left k e new form h =
     subst (λ (ps : List FormPair). IsLaid g left (Found r (map (equality_put g by) k.equalities) (map (binding_put g by) k.bindings) ps)) pairs
     (record {
       matches = matches_put g by k.bindings k.equalities (k.pairs ++ q ∷ []) left k.part.state.term h.matches;
-      lies = all_lie_put g by left k.part.state.term (k.pairs ++ q ∷ []) h.lies;
+      pairs = all_lie_put g by left k.part.state.term (k.pairs ++ q ∷ []) h.pairs;
+      bindings = bindings_put g by left k.part.state.term k.bindings h.bindings;
+      equalities = equalities_put g by left k.part.state.term k.bindings k.equalities h.equalities;
     })
 
 -- further clauses leave the term as it is
 pub laid_moved : (g : KoreSignature) (left : Form) (k : Course) (clauses : List (List Literal)) (q : FormPair) → IsLaid g left (with_pair k q) → IsLaid g left (with_pair (course_in (with_clauses k.part clauses) k) q)
-laid_moved g left k clauses q h = record { matches = h.matches; lies = h.lies }
+laid_moved g left k clauses q h = record { matches = h.matches; pairs = h.pairs; bindings = h.bindings; equalities = h.equalities }

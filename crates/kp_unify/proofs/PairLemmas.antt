@@ -117,7 +117,7 @@ value_equated g used left p stage u s t h own i n = record {
   others = h.way.others;
   asked = all_both (λ z. IsAskedSort g left z.sort) stage.course.equalities (record { sort = s; left = t; right = known u } ∷ []) h.way.asked (inr (u, own), tt);
   formed = course_equated g stage.course (pair_of (fixed u) t) (equality_of s t (known u)) (next_normal g stage.course (pair_of (fixed u) t) h.way.formed, refl) h.way.formed;
-  laid = laid_value g left stage.course u s t h.way.laid;
+  laid = laid_value g left stage.course u s t own h.way.laid;
 }
 
 -- ---- members

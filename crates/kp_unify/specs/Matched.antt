@@ -1,10 +1,11 @@
 -- A left side laid on a term, part on part, by their forms.
 -- Source: matching (terms in the place of a pattern's variables) and narrowing; this project.
-use Rattle.std.specs.Prelude.{◌≡◌, List, [], Some}
+use Rattle.std.specs.Prelude.{◌≡◌, List, Some}
 use Rattle.std.specs.List.{AllByRecursion, Contains}
 use Rattle.kp_kore.specs.Syntax.{Text, KoreSort}
 use Rattle.kp_kore.specs.Signature.{KoreSignature, construction, meaning_of}
 use Rattle.kp_kore.specs.Value.{Value}
+use Rattle.kp_compile.specs.Spelled.{own_sort}
 use Rattle.kp_symbolic.specs.Terms.{SymbolicTerm, known, SymbolicTerms, no_terms, next_term, Replaced, replacement_for}
 use Rattle.kp_symbolic.specs.Folding.{applied_term}
 use Rattle.kp_rules.specs.Skeletons.{Form, anything, any_of, one_of, fixed, Forms, no_forms, next_form}
@@ -54,7 +55,22 @@ mutual
     next_members : (form : Form) (forms : Forms) (t : SymbolicTerm) (ts : SymbolicTerms) → Matches g bindings equalities pairs form t → AllMatch g bindings equalities pairs forms ts →
         AllMatch g bindings equalities pairs (next_form form forms) (next_term t ts)
 
--- what was found on a course makes the left side the part's term, but for the pairs to come, each of which lies in its place
+-- ---- what is found
+
+-- the bound term lies under the variable
+abbrev pub IsBindingAt : KoreSignature → Form → SymbolicTerm → Replaced → Type 0
+IsBindingAt g left all b = (s : KoreSort) × LiesOn g left all (one_of b.name s) b.term
+
+-- the equality is of what a variable stands for and of a further term that lies under it; or of a term and of the value that lies on it
+pub data IsEqualityAt (g : KoreSignature) (left : Form) (all : SymbolicTerm) (bindings : List Replaced) : Equality → Type 0 where
+  of_variable : (x : Text) (s : KoreSort) (b t : SymbolicTerm) → LiesOn g left all (one_of x s) t → replacement_for bindings x ≡ Some b →
+      IsEqualityAt g left all bindings (record { sort = s; left = b; right = t })
+  of_value : (u : Value) (s : KoreSort) (t : SymbolicTerm) → LiesOn g left all (fixed u) t → own_sort g u ≡ Some s →
+      IsEqualityAt g left all bindings (record { sort = s; left = t; right = known u })
+
+-- what was found on a course makes the left side the part's term, but for the pairs to come; all of it has its place there
 pub record IsLaid (g : KoreSignature) (left : Form) (k : Course) : Type 0 where
   pub matches : Matches g k.bindings k.equalities k.pairs left k.part.state.term
-  pub lies : AllByRecursion (λ q. LiesOn g left k.part.state.term q.form q.term) k.pairs
+  pub pairs : AllByRecursion (λ q. LiesOn g left k.part.state.term q.form q.term) k.pairs
+  pub bindings : AllByRecursion (IsBindingAt g left k.part.state.term) k.bindings
+  pub equalities : AllByRecursion (IsEqualityAt g left k.part.state.term k.bindings) k.equalities

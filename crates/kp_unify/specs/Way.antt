@@ -21,7 +21,7 @@ use Rattle.kp_cases.specs.Rows.{AsksSort}
 use Rattle.kp_symbolic_laws.specs.Runs.{HasOneSortEach}
 use Rattle.kp_symbolic_laws.specs.Safe.{IsNormal, PutNormal, IsFormedState, IsSoundQuote}
 use Rattle.kp_unify.specs.Comes.{IsNarrowedFrom}
-use Rattle.kp_unify.specs.Matched.{Matches, IsLaid}
+use Rattle.kp_unify.specs.Matched.{IsLaid}
 use Rattle.kp_unify.specs.Names.{IsNextName, AreNextVariables}
 use Rattle.kp_unify.specs.Narrowed.{NumberedPart, with_split}
 
@@ -162,8 +162,8 @@ pub record IsMeetable (g : KoreSignature) (used : List Text) (left : Form) (q : 
 
 -- ---- the outcome
 
--- the left side matches the part's term, with the bindings' terms in its variables' places, by equalities of terms in normal form, of
--- the sorts that it asks for; the equations are their clauses
+-- the equations are the clauses of equalities by which the left side matches the part's term; these are of terms in normal form and of
+-- the sorts that it asks for
 pub record AreEquations (g : KoreSignature) (left : Form) (m : MetPart) : Type 0 where
   pub equalities : List Equality
   pub are : m.equations ≡ all_equality_clauses g equalities
@@ -171,7 +171,7 @@ pub record AreEquations (g : KoreSignature) (left : Form) (m : MetPart) : Type 0
   pub asked : AllByRecursion (λ e. IsAskedSort g left e.sort) equalities
   pub normal : AllByRecursion (IsNormalEquality g) equalities
   pub placed : AllByRecursion (IsPlacedEquality g) equalities
-  pub matches : Matches g m.bindings equalities [] left m.part.state.term
+  pub laid : IsLaid g left (record { part = m.part; equalities = equalities; bindings = m.bindings; pairs = [] })
 
 -- the cases of p, each well-sorted and its terms in normal form, with new variables of sorts with values, whose names are in use;
 -- each variable of the left side stands for a term of its sort, in normal form
