@@ -37,11 +37,11 @@ use Rattle.kp_symbolic_laws.proofs.Found.{at_place, at_place_still, found_in}
 
 -- what a step of solving goes by: the variables at hand, each name of one sort, with values of their sorts, and a right
 -- equation that is true
-record IsStep (g : KoreSignature) (v : Valuation) (hand : List SortedName) (e : Equation) : Type 0 where
-  one : HasOneSortEach hand
-  right : IsRightEquation g hand e
-  met : IsMet g v e
-  gives : GivesSorts g v hand
+pub record IsStep (g : KoreSignature) (v : Valuation) (hand : List SortedName) (e : Equation) : Type 0 where
+  pub one : HasOneSortEach hand
+  pub right : IsRightEquation g hand e
+  pub met : IsMet g v e
+  pub gives : GivesSorts g v hand
 
 abbrev Given : KoreSignature → Valuation → SortedName → Type 0
 Given g v x = HasSort g x.sort (v x.name)
@@ -56,7 +56,7 @@ each_given g v hand rs (x ∷ xs) h a = (at_hand_given g v hand (variables_for x
 
 -- ---- terms
 
-term_kept : (g : KoreSignature) (v : Valuation) (hand : List SortedName) (e : Equation) (s : KoreSort) (t : SymbolicTerm) → IsStep g v hand e → GoodTerm g hand s t → term_instance g v (replaced g (replacement e) t) ≡ term_instance g v t
+pub term_kept : (g : KoreSignature) (v : Valuation) (hand : List SortedName) (e : Equation) (s : KoreSort) (t : SymbolicTerm) → IsStep g v hand e → GoodTerm g hand s t → term_instance g v (replaced g (replacement e) t) ≡ term_instance g v t
 term_kept g v hand e s t k i = solved_term_is g v e.variable.name e.term t (sorted_written g s t i.0) (each_given g v hand (replacement e) (term_variables t) k.gives (all_given g hand e (term_variables t) k.one k.right i.1)) k.met
 
 same_kept : (g : KoreSignature) (v : Valuation) (hand : List SortedName) (e : Equation) (alone b : Bool) (s : KoreSort) (t u : SymbolicTerm) → IsStep g v hand e → GoodTerm g hand s t → GoodTerm g hand s u → Says g v b (opened_same g alone b s (replaced g (replacement e) t) (replaced g (replacement e) u)) (term_instance g v t ≡ term_instance g v u)
@@ -124,7 +124,7 @@ none_kept g v hand e alone (l ∷ c) k h =
     let j = none_kept g v hand e alone c k h.1 in
     ((λ a. ((λ t. a.0 (i.1 t)), j.0 a.1)), (λ a. ((λ t. a.0 (i.0 t)), j.1 a.1)))
 
-opened_kept : (g : KoreSignature) (v : Valuation) (hand : List SortedName) (e : Equation) (c : List Literal) → IsStep g v hand e → AllByRecursion (Good g hand) c → AreTrue g v (distributed (opened_clause g e c)) ↔ IsClauseTrue g v c
+pub opened_kept : (g : KoreSignature) (v : Valuation) (hand : List SortedName) (e : Equation) (c : List Literal) → IsStep g v hand e → AllByRecursion (Good g hand) c → AreTrue g v (distributed (opened_clause g e c)) ↔ IsClauseTrue g v c
 opened_kept g v hand e c k h =
     let i = none_kept g v hand e (is_single c) c k h in
     then_says (formula_says g v (opened_clause g e c)) ((λ n f. n (i.1 f)), (λ n f. n (i.0 f)))
