@@ -1,6 +1,6 @@
 -- The opposite of clauses: each of its literals has the sorts of its places and is in normal form, and it is true where not all of
 -- the clauses are.
-use Rattle.std.proofs.Common.{◌≡◌, refl, Bool, true, false, ◌&&◌, List, [], ◌∷◌, ◌↔◌, inl, inr}
+use Rattle.std.proofs.Common.{◌≡◌, refl, Bool, true, false, ◌&&◌, List, [], ◌∷◌, ◌↔◌}
 use Rattle.std.specs.Prelude.{if◌then◌else◌}
 use Rattle.std.specs.Bool.{beq}
 use Rattle.std.specs.List.{AllByRecursion, Contains, flat_map}
@@ -32,7 +32,6 @@ use Rattle.kp_symbolic_laws.proofs.WrittenForms.{clause_predicate}
 use Rattle.kp_symbolic_laws.proofs.WrittenStates.{clause_says}
 use Rattle.kp_symbolic_laws.proofs.WrittenVariables.{written_of_these}
 use Rattle.kp_kept.specs.Kept.{CanBeWrittenAt}
-use Rattle.kp_kept.proofs.BareWritten.{bare_clause_sound}
 use Rattle.kp_firing.proofs.OpenedWith.{Sound, Right}
 
 abbrev At : List SortedName → SortedName → Type 0
@@ -126,10 +125,7 @@ ready g hand [] i k m = tt
 ready g hand (l ∷ c) i k m = ((i.0.0, k.0, m.0), ready g hand c i.1 k.1 m.1)
 
 written_sound : (g : KoreSignature) (hand : List SortedName) (sort : KoreSort) (c : List Literal) → AllByRecursion (Good g hand) c → AllByRecursion (λ l. IsSoundAtom g l.atom) c → CanBeWrittenAt g sort c → IsSoundPredicate g (written_clause g sort c)
-written_sound g hand sort c i k m = elim m.1 [
-  | inl inj ↦ clause_sound g sort c inj (ready g hand c i k m.0)
-  | inr bare ↦ bare_clause_sound g sort c bare (ready g hand c i k m.0)
-]
+written_sound g hand sort c i k m = clause_sound g sort c m.1 (ready g hand c i k m.0)
 
 written_all : (g : KoreSignature) (hand : List SortedName) (sort : KoreSort) (cs : List (List Literal)) → AreGood g hand cs → AreSound g cs → AllByRecursion (CanBeWrittenAt g sort) cs → (are_predicates (written_clauses g sort cs) ≡ true) × AreSoundPredicates g (written_clauses g sort cs)
 written_all g hand sort [] i k m = (refl, tt)

@@ -1,17 +1,17 @@
 -- Along the whole of solving, each literal is one that is written right, where what stays one literal can be written.
-use Rattle.std.proofs.Common.{◌≡◌, true, sym, subst, inl, inr, List, [], ◌∷◌, Some, None}
+use Rattle.std.proofs.Common.{◌≡◌, true, sym, subst, List, [], ◌∷◌, Some, None}
 use Rattle.std.specs.List.{AllByRecursion}
-use Rattle.kp_kore.specs.Syntax.{KoreSort, KorePattern}
+use Rattle.kp_kore.specs.Syntax.{KorePattern}
 use Rattle.kp_kore.specs.Signature.{KoreSignature}
 use Rattle.kp_kore.specs.Instance.{Valuation, GivesSorts, is_predicate, conjoined_predicates}
 use Rattle.kp_kore.specs.Foreign.{none_within, has_foreign_head}
 use Rattle.kp_signature.specs.Places.{Place}
 use Rattle.kp_signature.specs.Verify.{first_fault}
 use Rattle.kp_symbolic.specs.States.{Atom, same, has_head, quoted, Literal, SymbolicState, HasInstancesOf}
-use Rattle.kp_symbolic.specs.Writing.{InjectsWhereItStands, written_clause}
+use Rattle.kp_symbolic.specs.Writing.{written_clause}
 use Rattle.kp_symbolic.specs.Solving.{Solvable, first_solvable, solved_at, Solving, finished, goes_on, IsReadAs}
 use Rattle.kp_symbolic.proofs.Facts.{Good}
-use Rattle.kp_symbolic_laws.specs.Runs.{ComesBy, begins, goes_by, OfKeptAt, OfEachKept, HasRoomClause, IsSoundPredicate, IsSoundAtom, IsSoundState, IsWrittenAtom, AreWrittenAtoms, IsWrittenOfThese, IsWrittenRight}
+use Rattle.kp_symbolic_laws.specs.Runs.{ComesBy, begins, goes_by, OfKeptAt, OfEachKept, HasRoomClause, IsSoundAtom, IsSoundState, IsWrittenAtom, AreWrittenAtoms, IsWrittenOfThese, IsWrittenRight}
 use Rattle.kp_symbolic_laws.specs.Safe.{Formed, IsFormed, IsSafe, IsSoundQuote}
 use Rattle.kp_symbolic_laws.proofs.FormedSteps.{step_formed, opened_formed}
 use Rattle.kp_symbolic_laws.proofs.Keeping.{whole_also}
@@ -24,13 +24,8 @@ use Rattle.kp_symbolic_laws.proofs.WrittenCourse.{here}
 use Rattle.kp_symbolic_laws.proofs.WrittenForms.{clause_predicate}
 use Rattle.kp_symbolic_laws.proofs.WrittenStates.{clause_says, written_predicates}
 use Rattle.kp_kept.specs.Kept.{CanBeWritten}
-use Rattle.kp_kept.proofs.BareWritten.{bare_clause_sound}
 
 -- ---- clauses
-
-sound_where_it_injects : (g : KoreSignature) (sort : KoreSort) (c : List Literal) → InjectsWhereItStands g (written_clause g sort c) → AllByRecursion (λ l. IsReady g l.atom) c → IsSoundPredicate g (written_clause g sort c)
-sound_where_it_injects g sort c (inl i) r = clause_sound g sort c i r
-sound_where_it_injects g sort c (inr n) r = bare_clause_sound g sort c n r
 
 sound_atom : (g : KoreSignature) (a : Atom) → IsFormed g (IsSoundQuote g) a → IsSoundAtom g a
 sound_atom g (same s t u) h = tt
@@ -67,7 +62,7 @@ of_these g s o k w = here g s o k.sorted (also g s o (AreWrittenAtoms g s) k (λ
 
 sound_here : (g : KoreSignature) (s : SymbolicState) (o : Solvable) → IsSafe g s → OfKeptAt g (CanBeWritten g) s o → OfKeptAt g (λ x c. IsSoundQuote g (written_clause g x.sort c)) s o
 sound_here g s o k w = also g s o (λ c. IsSoundQuote g (written_clause g s.sort c)) k
-    (λ c b m. (clause_predicate g s.sort c (written_predicates g c (written_atoms g c b.1 m.0)), sound_where_it_injects g s.sort c m.1 (ready g s c b m.0))) w
+    (λ c b m. (clause_predicate g s.sort c (written_predicates g c (written_atoms g c b.1 m.0)), clause_sound g s.sort c m.1 (ready g s c b m.0))) w
 
 right_here : (g : KoreSignature) (v : Valuation) (s : SymbolicState) (o : Solvable) → IsSafe g s → GivesSorts g v s.variables → OfKeptAt g (CanBeWritten g) s o → OfKeptAt g (IsWrittenRight g v) s o
 right_here g v s o k h w = also g s o (IsWrittenRight g v s) k (λ c b m. clause_says g v s c m.1 h b.0 (written_atoms g c b.1 m.0)) w

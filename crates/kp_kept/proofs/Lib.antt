@@ -1,3 +1,1 @@
-pub mod BareTerms
-pub mod BareWritten
 pub mod KeptCourse

@@ -1,3 +1,4 @@
+pub mod BareTerms
 pub mod Binders
 pub mod CounterCauses
 pub mod Course

@@ -1,5 +1,5 @@
 -- Along the whole of solving, each literal is one that is written right where there is room for new names.
-use Rattle.std.proofs.Common.{◌≡◌, true, subst, List, [], ◌∷◌, Some, None}
+use Rattle.std.proofs.Common.{inl, ◌≡◌, true, subst, List, [], ◌∷◌, Some, None}
 use Rattle.std.specs.List.{AllByRecursion}
 use Rattle.kp_kore.specs.Syntax.{KorePattern}
 use Rattle.kp_kore.specs.Signature.{KoreSignature, injection, meaning_of}
@@ -83,7 +83,7 @@ written_here g s o k w = whole_also g s.sort o.equation (HasRoomIn g s) (AreWrit
 
 sound_here : (g : KoreSignature) (s : SymbolicState) (o : Solvable) → meaning_of g injection_name ≡ injection → IsSafe g s → OfKeptAt g (HasRoomIn g) s o → OfKeptAt g (λ x c. IsSoundQuote g (written_clause g x.sort c)) s o
 sound_here g s o i k w = whole_also g s.sort o.equation (HasRoomIn g s) (λ c. IsSoundQuote g (written_clause g s.sort c)) (Both g s) 0 (Some o.place) s.clauses
-    (λ c h m. (clause_predicate g s.sort c (written_predicates g c (written_atoms g c h.1 m)), clause_sound g s.sort c i (ready g s c h.0 h.1 m)))
+    (λ c h m. (clause_predicate g s.sort c (written_predicates g c (written_atoms g c h.1 m)), clause_sound g s.sort c (inl i) (ready g s c h.0 h.1 m)))
     (zipped (AllByRecursion (Good g s.variables)) (AllByRecursion (Formed g (IsSoundQuote g))) s.clauses k.sorted.literals k.formed.literals) w
 
 step_safe : (g : KoreSignature) (s : SymbolicState) (o : Solvable) → meaning_of g injection_name ≡ injection → IsSafe g s → first_solvable g s ≡ Some o → OfKeptAt g (HasRoomIn g) s o → IsSafe g (solved_at g o s)

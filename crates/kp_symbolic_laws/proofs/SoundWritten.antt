@@ -1,10 +1,11 @@
--- The terms of what is written for a clause are well-sorted, also with such terms in the place of variables.
-use Rattle.std.proofs.Common.{◌≡◌, refl, sym, ◌∙◌, subst, arith, ◌+◌, ◌<◌, ◌^◌, Bool, true, false, not, List, [], ◌∷◌, ◌++◌, map, length, Option, Some}
+-- The terms of what is written for a clause are well-sorted, also with such terms in the place of variables, where the signature has
+-- inj or nothing wants it.
+use Rattle.std.proofs.Common.{◌≡◌, ◌⊎◌, inl, inr, refl, sym, ◌∙◌, subst, arith, ◌+◌, ◌<◌, ◌^◌, Bool, true, false, not, List, [], ◌∷◌, ◌++◌, map, length, Option, Some}
 use Rattle.std.specs.Prelude.{if◌then◌else◌, cond, unwrap_or, MatchBool, ⊤}
 use Rattle.std.specs.List.{AllByRecursion, list_any, flat_map}
 use Rattle.std.specs.Str.{bytes_eq}
 use Rattle.kp_kore.specs.Syntax.{Text, KoreSort, sort_variable, KoreSorts, no_sorts, next_sort, KorePattern, KorePatterns, variable, application, literal, negation, conjunction, disjunction, implication, equivalence, exists, forall, ceil, floor, equals, membership, no_patterns, next_pattern}
-use Rattle.kp_kore.specs.Parts.{SortedName, sort_list, is_term, free_variables, all_free_variables, without_name}
+use Rattle.kp_kore.specs.Parts.{SortedName, sort_list, is_term, free_variables, all_free_variables, without_name, subpatterns, all_subpatterns}
 use Rattle.kp_kore.specs.Signature.{KoreSignature, construction, meaning_of, itself}
 use Rattle.kp_kore.specs.Sorting.{result_sort}
 use Rattle.kp_kore.specs.Instance.{is_named, is_predicate, are_predicates, is_conjoined_pair}
@@ -23,6 +24,7 @@ use Rattle.kp_symbolic_laws.specs.Runs.{HasRoom, AllHaveRoom, HasRoomAtom, IsSou
 use Rattle.kp_symbolic_laws.proofs.Binders.{other_way, bound_apart, IsApart, apart_first, apart_second, neither}
 use Rattle.kp_symbolic_laws.proofs.HeadTests.{placed_variables}
 use Rattle.kp_symbolic_laws.proofs.NewNames.{least_is_new, new_apart, holds_first}
+use Rattle.kp_symbolic_laws.proofs.BareTerms.{Bare, bare_left, bare_right, bare_folded, bare_sound}
 use Rattle.kp_symbolic_laws.proofs.SoundTerms.{stripped, within_placed, written_sound}
 use Rattle.kp_symbolic_laws.proofs.WrittenUnder.{IsInj, term_kept, pair_kept, placed_term, matched, unmatched, three_tests, two_tests, two_of_three}
 use Rattle.kp_symbolic_laws.proofs.WrittenForms.{variables_are_terms}
@@ -33,22 +35,50 @@ Fits g rs x = IsWellSorted g x.sort (term_for x (replacement_for rs x.name))
 
 -- ---- terms
 
+-- the signature has inj, or none of these patterns stands at two sorts
+abbrev pub CanInject : KoreSignature → List KorePattern → Type 0
+CanInject g ps = IsInj g ⊎ Bare ps
+
+can_left : (g : KoreSignature) (ps qs : List KorePattern) → CanInject g (ps ++ qs) → CanInject g ps
+can_left g ps qs (inl i) = inl i
+can_left g ps qs (inr b) = inr (bare_left ps qs b)
+
+can_right : (g : KoreSignature) (ps qs : List KorePattern) → CanInject g (ps ++ qs) → CanInject g qs
+can_right g ps qs (inl i) = inl i
+can_right g ps qs (inr b) = inr (bare_right ps qs b)
+
+can_fold : (g : KoreSignature) (rs : List Replaced) (own s : KoreSort) (p : KorePattern) → CanInject g (subpatterns (placed own s p)) → folded g rs (placed own s p) ≡ folded g rs p
+can_fold g rs own s p (inl i) = stripped g rs own s p i
+can_fold g rs own s p (inr b) = bare_folded g rs own s p b
+
+can_sound : (g : KoreSignature) (a b : KoreSort) (t : SymbolicTerm) → CanInject g (subpatterns (written_term g a t)) → IsWellSorted g b t → IsSoundTerm g (written_term g a t)
+can_sound g a b t (inl i) w = written_sound g a b t i w
+can_sound g a b t (inr n) w = bare_sound g a b t n w
+
+abbrev SoundIfWritten : KoreSignature → KorePattern → Type 0
+SoundIfWritten g p = CanInject g (subpatterns p) → IsSoundTerm g p
+
 side_any : (g : KoreSignature) (rs : List Replaced) (R : KorePattern → Type 0) (p : KorePattern) → is_term p ≡ true → ((a : KoreSort) → R (written_term g a (folded g rs p))) → R (written_under g rs p)
 side_any g rs R (variable x s) t f = f s
 side_any g rs R (literal s x) t f = f s
 side_any g rs R (application h ss ps) t f = f (unwrap_or (result_sort g h ss) (sort_variable []))
 side_any g rs R _ t f = absurd (cc)
 
-side_sound : (g : KoreSignature) (rs : List Replaced) (p : KorePattern) → IsInj g → IsSoundTerm g p → AreWellPlaced g rs (free_variables p) → IsSoundTerm g (written_under g rs p)
-side_sound g rs p i o w = let d = o.sorted rs w in side_any g rs (IsSoundTerm g) p o.term (λ a. written_sound g a d.0 (folded g rs p) i d.1)
+side_sound : (g : KoreSignature) (rs : List Replaced) (p : KorePattern) → IsSoundTerm g p → AreWellPlaced g rs (free_variables p) → SoundIfWritten g (written_under g rs p)
+side_sound g rs p o w = let d = o.sorted rs w in side_any g rs (SoundIfWritten g) p o.term (λ a n. can_sound g a d.0 (folded g rs p) n d.1)
 
-sides_sound : (g : KoreSignature) (rs : List Replaced) (p q : KorePattern) → IsInj g → IsSoundTerm g p × IsSoundTerm g q → AllByRecursion (Fits g rs) (free_variables p ++ free_variables q) → IsSoundTerm g (written_under g rs p) × IsSoundTerm g (written_under g rs q)
-sides_sound g rs p q i o w = (side_sound g rs p i o.0 (all_first (Fits g rs) (free_variables p) (free_variables q) w), side_sound g rs q i o.1 (all_second (Fits g rs) (free_variables p) (free_variables q) w))
+sides_sound : (g : KoreSignature) (rs : List Replaced) (p q : KorePattern) → CanInject g (subpatterns (written_under g rs p) ++ subpatterns (written_under g rs q)) → IsSoundTerm g p × IsSoundTerm g q → AllByRecursion (Fits g rs) (free_variables p ++ free_variables q) → IsSoundTerm g (written_under g rs p) × IsSoundTerm g (written_under g rs q)
+sides_sound g rs p q i o w =
+    let here = subpatterns (written_under g rs p) in
+    let others = subpatterns (written_under g rs q) in
+    (side_sound g rs p o.0 (all_first (Fits g rs) (free_variables p) (free_variables q) w) (can_left g here others i), side_sound g rs q o.1 (all_second (Fits g rs) (free_variables p) (free_variables q) w) (can_right g here others i))
 
-pair_sound : (g : KoreSignature) (rs : List Replaced) (p : KorePattern) → IsInj g → IsSoundPair g p → is_conjoined_pair p ≡ true → AreWellPlaced g rs (free_variables p) → IsSoundPair g (written_under g rs p)
+pair_sound : (g : KoreSignature) (rs : List Replaced) (p : KorePattern) → CanInject g (subpatterns (written_under g rs p)) → IsSoundPair g p → is_conjoined_pair p ≡ true → AreWellPlaced g rs (free_variables p) → IsSoundPair g (written_under g rs p)
 pair_sound g rs (conjunction t (next_pattern p (next_pattern q no_patterns))) i o e w =
     let ps = next_pattern q no_patterns in
-    (side_sound g rs p i o.0 (all_first (Fits g rs) (free_variables p) (all_free_variables ps) w), side_sound g rs q i o.1 (all_first (Fits g rs) (free_variables q) [] (all_second (Fits g rs) (free_variables p) (all_free_variables ps) w)))
+    let here = subpatterns (written_under g rs p) in
+    let last = subpatterns (written_under g rs q) in
+    (side_sound g rs p o.0 (all_first (Fits g rs) (free_variables p) (all_free_variables ps) w) (can_left g here (last ++ []) i), side_sound g rs q o.1 (all_first (Fits g rs) (free_variables q) [] (all_second (Fits g rs) (free_variables p) (all_free_variables ps) w)) (can_left g last [] (can_right g here (last ++ []) i)))
 pair_sound g rs _ i o e w = absurd (cc)
 
 -- ---- under a binder of x, which is named y now
@@ -113,18 +143,22 @@ by_forms true false P Q e f h = absurd (cc)
 by_forms false true P Q e f h = absurd (cc)
 
 mutual
-  pub under_sound : (g : KoreSignature) (rs : List Replaced) (p : KorePattern) → IsInj g → is_predicate p ≡ true → IsSoundPredicate g p → AreWellPlaced g rs (free_variables p) → HasRoom rs p → IsSoundPredicate g (written_under g rs p)
+  pub under_sound : (g : KoreSignature) (rs : List Replaced) (p : KorePattern) → CanInject g (subpatterns (written_under g rs p)) → is_predicate p ≡ true → IsSoundPredicate g p → AreWellPlaced g rs (free_variables p) → HasRoom rs p → IsSoundPredicate g (written_under g rs p)
   under_sound g rs (negation s p) i b o w m = under_sound g rs p i b o w m
   under_sound g rs (conjunction s ps) i b o w m = all_under_sound g rs ps i b o w m
   under_sound g rs (disjunction s ps) i b o w m = all_under_sound g rs ps i b o w m
-  under_sound g rs (implication s p q) i b o w m = (
-    under_sound g rs p i (first_true (is_predicate p) (is_predicate q) b) o.0 (all_first (Fits g rs) (free_variables p) (free_variables q) w) m.0,
-    under_sound g rs q i (second_true (is_predicate p) (is_predicate q) b) o.1 (all_second (Fits g rs) (free_variables p) (free_variables q) w) m.1,
-  )
-  under_sound g rs (equivalence s p q) i b o w m = (
-    under_sound g rs p i (first_true (is_predicate p) (is_predicate q) b) o.0 (all_first (Fits g rs) (free_variables p) (free_variables q) w) m.0,
-    under_sound g rs q i (second_true (is_predicate p) (is_predicate q) b) o.1 (all_second (Fits g rs) (free_variables p) (free_variables q) w) m.1,
-  )
+  under_sound g rs (implication s p q) i b o w m =
+      let here = subpatterns (written_under g rs p) in
+      let others = subpatterns (written_under g rs q) in (
+        under_sound g rs p (can_left g here others i) (first_true (is_predicate p) (is_predicate q) b) o.0 (all_first (Fits g rs) (free_variables p) (free_variables q) w) m.0,
+        under_sound g rs q (can_right g here others i) (second_true (is_predicate p) (is_predicate q) b) o.1 (all_second (Fits g rs) (free_variables p) (free_variables q) w) m.1,
+      )
+  under_sound g rs (equivalence s p q) i b o w m =
+      let here = subpatterns (written_under g rs p) in
+      let others = subpatterns (written_under g rs q) in (
+        under_sound g rs p (can_left g here others i) (first_true (is_predicate p) (is_predicate q) b) o.0 (all_first (Fits g rs) (free_variables p) (free_variables q) w) m.0,
+        under_sound g rs q (can_right g here others i) (second_true (is_predicate p) (is_predicate q) b) o.1 (all_second (Fits g rs) (free_variables p) (free_variables q) w) m.1,
+      )
   under_sound g rs (exists s x t p) i b o w m =
       let y = bound_name rs x p in
       let a = bound_all g rs x y t (free_variables p) o.0 w (bound_apart rs x p m.0) in
@@ -139,7 +173,7 @@ mutual
       (λ f. pair_sound g rs p i (matched (is_conjoined_pair p) _ _ f k) f w)
       (λ f. under_sound g rs p i (three_tests (is_term p) (is_predicate p) (is_conjoined_pair p) b e f) (unmatched (is_conjoined_pair p) _ _ f k) w m))
   under_sound g rs (floor a s p) i b o w m = by_forms (is_term (written_under g rs p)) (is_term p) (IsSoundTerm g (written_under g rs p)) (IsSoundPredicate g (written_under g rs p)) (term_kept g rs p (two_of_three (is_term p) (is_predicate p) (is_conjoined_pair p) b))
-      (λ e. side_sound g rs p i (matched (is_term p) _ _ e o) w)
+      (λ e. side_sound g rs p (matched (is_term p) _ _ e o) w i)
       (λ e. under_sound g rs p i (two_tests (is_term p) (is_predicate p) b e) (unmatched (is_term p) _ _ e o) w m)
   under_sound g rs (equals a s p q) i b o w m = sides_sound g rs p q i o w
   under_sound g rs (membership a s p q) i b o w m = sides_sound g rs p q i o w
@@ -148,12 +182,14 @@ mutual
   under_sound g rs (application f ss ps) i b o w m = absurd (cc)
   under_sound g rs _ i b o w m = tt
 
-  all_under_sound : (g : KoreSignature) (rs : List Replaced) (ps : KorePatterns) → IsInj g → are_predicates ps ≡ true → AreSoundPredicates g ps → AreWellPlaced g rs (all_free_variables ps) → AllHaveRoom rs ps → AreSoundPredicates g (all_written_under g rs ps)
+  all_under_sound : (g : KoreSignature) (rs : List Replaced) (ps : KorePatterns) → CanInject g (all_subpatterns (all_written_under g rs ps)) → are_predicates ps ≡ true → AreSoundPredicates g ps → AreWellPlaced g rs (all_free_variables ps) → AllHaveRoom rs ps → AreSoundPredicates g (all_written_under g rs ps)
   all_under_sound g rs no_patterns i b o w m = tt
-  all_under_sound g rs (next_pattern p ps) i b o w m = (
-    under_sound g rs p i (first_true (is_predicate p) (are_predicates ps) b) o.0 (all_first (Fits g rs) (free_variables p) (all_free_variables ps) w) m.0,
-    all_under_sound g rs ps i (second_true (is_predicate p) (are_predicates ps) b) o.1 (all_second (Fits g rs) (free_variables p) (all_free_variables ps) w) m.1,
-  )
+  all_under_sound g rs (next_pattern p ps) i b o w m =
+      let here = subpatterns (written_under g rs p) in
+      let others = all_subpatterns (all_written_under g rs ps) in (
+        under_sound g rs p (can_left g here others i) (first_true (is_predicate p) (are_predicates ps) b) o.0 (all_first (Fits g rs) (free_variables p) (all_free_variables ps) w) m.0,
+        all_under_sound g rs ps (can_right g here others i) (second_true (is_predicate p) (are_predicates ps) b) o.1 (all_second (Fits g rs) (free_variables p) (all_free_variables ps) w) m.1,
+      )
 
 -- ---- tests of heads
 
@@ -200,7 +236,7 @@ variables_sorted g rs used (next_sort s ss) a = (a.0, variables_sorted g rs (lea
 variable_sound : (g : KoreSignature) (x : SortedName) → IsSoundTerm g (variable x.name x.sort)
 variable_sound g x = record { term = refl; sorted = λ rs a. (x.sort, a.0) }
 
-construction_sound : (g : KoreSignature) (own s : KoreSort) (c : Text) (used : List Text) → IsInj g → meaning_of g c ≡ construction → IsSoundTerm g (placed own s (application c no_sorts (variables_of (new_variables used (places_of g c)))))
+construction_sound : (g : KoreSignature) (own s : KoreSort) (c : Text) (used : List Text) → CanInject g (subpatterns (placed own s (application c no_sorts (variables_of (new_variables used (places_of g c)))))) → meaning_of g c ≡ construction → IsSoundTerm g (placed own s (application c no_sorts (variables_of (new_variables used (places_of g c)))))
 construction_sound g own s c used i m =
     let xs = new_variables used (places_of g c) in
     let p = application c no_sorts (variables_of xs) in
@@ -208,27 +244,31 @@ construction_sound g own s c used i m =
     let k = plain_symbol g c stands in
     record {
       term = placed_term own s p (variables_are_terms xs);
-      sorted = λ rs a. (k.declaration.result, subst (IsWellSorted g k.declaration.result) (sym (stripped g rs own s p i)) (applied_sorted g c (all_folded g rs (variables_of xs)) k stands (variables_sorted g rs used (places_of g c) (within_placed (Fits g rs) own s p a))));
+      sorted = λ rs a. (k.declaration.result, subst (IsWellSorted g k.declaration.result) (sym (can_fold g rs own s p i)) (applied_sorted g c (all_folded g rs (variables_of xs)) k stands (variables_sorted g rs used (places_of g c) (within_placed (Fits g rs) own s p a))));
     }
 
-placed_sound : (g : KoreSignature) (s a : KoreSort) (y : SortedName) → IsInj g → IsSoundTerm g (placed s a (variable y.name y.sort))
+placed_sound : (g : KoreSignature) (s a : KoreSort) (y : SortedName) → CanInject g (subpatterns (placed s a (variable y.name y.sort))) → IsSoundTerm g (placed s a (variable y.name y.sort))
 placed_sound g s a y i = record {
   term = placed_term s a (variable y.name y.sort) refl;
-  sorted = λ rs h. (y.sort, subst (IsWellSorted g y.sort) (sym (stripped g rs s a (variable y.name y.sort) i)) (within_placed (Fits g rs) s a (variable y.name y.sort) h).0);
+  sorted = λ rs h. (y.sort, subst (IsWellSorted g y.sort) (sym (can_fold g rs s a (variable y.name y.sort) i)) (within_placed (Fits g rs) s a (variable y.name y.sort) h).0);
 }
 
 few : 1 < 2 ^ 64
 few = omega arith
 
-test_sound : (g : KoreSignature) (sort : KoreSort) (x : SortedName) (c : Text) → IsInj g → meaning_of g c ≡ construction → 1 + length (sort_list (places_of g c)) < 2 ^ 64 → IsSoundPredicate g (written_test g sort x (one_head c))
+under_binders_still : (g : KoreSignature) (sort : KoreSort) (ys : List SortedName) (p : KorePattern) → CanInject g (subpatterns (under_exists sort ys p)) → CanInject g (subpatterns p)
+under_binders_still g sort [] p i = i
+under_binders_still g sort (y ∷ ys) p i = under_binders_still g sort ys p i
+
+test_sound : (g : KoreSignature) (sort : KoreSort) (x : SortedName) (c : Text) → CanInject g (subpatterns (written_test g sort x (one_head c))) → meaning_of g c ≡ construction → 1 + length (sort_list (places_of g c)) < 2 ^ 64 → IsSoundPredicate g (written_test g sort x (one_head c))
 test_sound g sort x c i m b =
     let xs = new_variables (x.name ∷ []) (places_of g c) in
     let own = unwrap_or (result_sort g c no_sorts) x.sort in
     exists_sound g sort xs (equals x.sort sort (variable x.name x.sort) (placed own x.sort (application c no_sorts (variables_of xs))))
     (both_named x own c xs xs (one_more x xs xs (new_apart (x.name ∷ []) (places_of g c) x.name b (holds_first x.name [])) (new_one_sort (x.name ∷ []) (places_of g c) b)))
-    (variable_sound g x, construction_sound g own x.sort c (x.name ∷ []) i m)
+    (variable_sound g x, construction_sound g own x.sort c (x.name ∷ []) (under_binders_still g sort xs (equals x.sort sort (variable x.name x.sort) (placed own x.sort (application c no_sorts (variables_of xs)))) i) m)
 
-sort_sound : (g : KoreSignature) (sort s : KoreSort) (x : SortedName) → IsInj g → IsSoundPredicate g (written_test g sort x (head_of_sort s))
+sort_sound : (g : KoreSignature) (sort s : KoreSort) (x : SortedName) → CanInject g (subpatterns (written_test g sort x (head_of_sort s))) → IsSoundPredicate g (written_test g sort x (head_of_sort s))
 sort_sound g sort s x i =
     let y = least_fresh (x.name ∷ []) in
     let n = neither (bytes_eq y x.name) false (least_is_new (x.name ∷ []) few) in (
@@ -242,26 +282,32 @@ sort_sound g sort s x i =
 abbrev pub IsReady : KoreSignature → Atom → Type 0
 IsReady g a = IsWellSortedAtom g a × IsSoundAtom g a × HasRoomAtom g a
 
-atom_sound : (g : KoreSignature) (sort : KoreSort) (a : Atom) → IsInj g → IsReady g a → IsSoundPredicate g (written_atom g sort a)
-atom_sound g sort (same s t u) i r = (written_sound g s s t i r.0.0, written_sound g s s u i r.0.1)
+sides : (g : KoreSignature) (s : KoreSort) (t u : SymbolicTerm) → CanInject g (subpatterns (written_term g s t) ++ subpatterns (written_term g s u)) → IsWellSorted g s t × IsWellSorted g s u → IsSoundTerm g (written_term g s t) × IsSoundTerm g (written_term g s u)
+sides g s t u i w =
+    let here = subpatterns (written_term g s t) in
+    let others = subpatterns (written_term g s u) in
+    (can_sound g s s t (can_left g here others i) w.0, can_sound g s s u (can_right g here others i) w.1)
+
+atom_sound : (g : KoreSignature) (sort : KoreSort) (a : Atom) → CanInject g (subpatterns (written_atom g sort a)) → IsReady g a → IsSoundPredicate g (written_atom g sort a)
+atom_sound g sort (same s t u) i r = sides g s t u i r.0
 atom_sound g sort (has_head x (one_head c)) i r = test_sound g sort x c i r.1 r.2
 atom_sound g sort (has_head x (head_of_sort s)) i r = sort_sound g sort s x i
 atom_sound g sort (quoted p rs) i r = under_sound g rs p i r.1.0 r.1.1 r.0 r.2
 
-signed_sound : (g : KoreSignature) (sort : KoreSort) (b : Bool) (p : KorePattern) → IsSoundPredicate g p → IsSoundPredicate g (written_signed sort b p)
-signed_sound g sort true p o = o
-signed_sound g sort false p o = o
+signed_sound : (g : KoreSignature) (sort : KoreSort) (b : Bool) (p : KorePattern) → CanInject g (subpatterns (written_signed sort b p)) → (CanInject g (subpatterns p) → IsSoundPredicate g p) → IsSoundPredicate g (written_signed sort b p)
+signed_sound g sort true p i f = f i
+signed_sound g sort false p i f = f i
 
 abbrev turned : KoreSignature → Bool → Atom → Literal
 turned g true (same s (unknown x) (unknown y)) = record { holds = true; atom = turned_if (is_second_solved g x y) s (unknown x) (unknown y) }
 turned g true (same s t (unknown y)) = record { holds = true; atom = turned_if (is_solved_by g y t) s t (unknown y) }
 turned g b a = record { holds = b; atom = a }
 
-by_name : (g : KoreSignature) (sort s : KoreSort) (t u : SymbolicTerm) (b : Bool) → IsInj g → IsWellSorted g s t × IsWellSorted g s u → IsSoundPredicate g (written_atom g sort (turned_if b s t u))
-by_name g sort s t u true i w = (written_sound g s s u i w.1, written_sound g s s t i w.0)
-by_name g sort s t u false i w = (written_sound g s s t i w.0, written_sound g s s u i w.1)
+by_name : (g : KoreSignature) (sort s : KoreSort) (t u : SymbolicTerm) (b : Bool) → CanInject g (subpatterns (written_atom g sort (turned_if b s t u))) → IsWellSorted g s t × IsWellSorted g s u → IsSoundPredicate g (written_atom g sort (turned_if b s t u))
+by_name g sort s t u true i w = sides g s u t i (w.1, w.0)
+by_name g sort s t u false i w = sides g s t u i w
 
-turned_sound : (g : KoreSignature) (sort : KoreSort) (b : Bool) (a : Atom) → IsInj g → IsReady g a → IsSoundPredicate g (written_literal g sort (turned g b a))
+turned_sound : (g : KoreSignature) (sort : KoreSort) (b : Bool) (a : Atom) → CanInject g (subpatterns (written_literal g sort (turned g b a))) → IsReady g a → IsSoundPredicate g (written_literal g sort (turned g b a))
 turned_sound g sort true (same s (unknown x) (unknown y)) i r = by_name g sort s (unknown x) (unknown y) (is_second_solved g x y) i r.0
 turned_sound g sort true (same s (offset x k) (unknown y)) i r = by_name g sort s (offset x k) (unknown y) (is_solved_by g y (offset x k)) i r.0
 turned_sound g sort true (same s (known w) (unknown y)) i r = by_name g sort s (known w) (unknown y) (is_solved_by g y (known w)) i r.0
@@ -280,13 +326,16 @@ turned_sound g sort true (same s (headed h us) (known u)) i r = by_name g sort s
 turned_sound g sort true (same s (headed h us) (headed f ts)) i r = by_name g sort s (headed h us) (headed f ts) false i r.0
 turned_sound g sort true (has_head x test) i r = atom_sound g sort (has_head x test) i r
 turned_sound g sort true (quoted p rs) i r = atom_sound g sort (quoted p rs) i r
-turned_sound g sort false a i r = signed_sound g sort false (written_atom g sort a) (atom_sound g sort a i r)
+turned_sound g sort false a i r = signed_sound g sort false (written_atom g sort a) i (λ n. atom_sound g sort a n r)
 
-literals_sound : (g : KoreSignature) (sort : KoreSort) (c : List Literal) → IsInj g → AllByRecursion (λ l. IsReady g l.atom) c → AreSoundPredicates g (written_literals g sort c)
+literals_sound : (g : KoreSignature) (sort : KoreSort) (c : List Literal) → CanInject g (all_subpatterns (written_literals g sort c)) → AllByRecursion (λ l. IsReady g l.atom) c → AreSoundPredicates g (written_literals g sort c)
 literals_sound g sort [] i r = tt
-literals_sound g sort (l ∷ c) i r = (signed_sound g sort l.holds (written_atom g sort l.atom) (atom_sound g sort l.atom i r.0), literals_sound g sort c i r.1)
+literals_sound g sort (l ∷ c) i r =
+    let here = subpatterns (written_literal g sort l) in
+    let others = all_subpatterns (written_literals g sort c) in
+    (signed_sound g sort l.holds (written_atom g sort l.atom) (can_left g here others i) (λ n. atom_sound g sort l.atom n r.0), literals_sound g sort c (can_right g here others i) r.1)
 
-pub clause_sound : (g : KoreSignature) (sort : KoreSort) (c : List Literal) → IsInj g → AllByRecursion (λ l. IsReady g l.atom) c → IsSoundPredicate g (written_clause g sort c)
+pub clause_sound : (g : KoreSignature) (sort : KoreSort) (c : List Literal) → CanInject g (subpatterns (written_clause g sort c)) → AllByRecursion (λ l. IsReady g l.atom) c → IsSoundPredicate g (written_clause g sort c)
 clause_sound g sort [] i r = tt
 clause_sound g sort (l ∷ []) i r = turned_sound g sort l.holds l.atom i r.0
 clause_sound g sort (l ∷ m ∷ c) i r = literals_sound g sort (l ∷ m ∷ c) i r
