@@ -182,10 +182,14 @@ found : (g : KoreSignature) (left : Form) (k : Course) (q : FormPair) (es' : Lis
     AllByRecursion (λ (z : FormPair). LiesOn g left k.part.state.term z.form z.term) ps → AllByRecursion (IsBindingAt g left k.part.state.term) bs' → AllByRecursion (IsEqualityAt g left k.part.state.term bs') es' →
     IsLaid g left (with_pair k q) → IsLaid g left (Found k.part es' bs' (k.pairs ++ ps))
 found g left k q es' bs' ps b e m lie bound equal h = record {
-  matches = matches_more g k.bindings bs' k.equalities es' (k.pairs ++ q ∷ []) (k.pairs ++ ps) (record { bindings = b; equalities = e; pairs = λ f t c. elim (Contains-push_cases k.pairs q (record { form = f; term = t }) c) [
-    | inl i ↦ to_come f t (Contains-append_left k.pairs ps (record { form = f; term = t }) i)
-    | inr i ↦ subst (λ (z : FormPair). Matches g bs' es' (k.pairs ++ ps) z.form z.term) i m
-  ] }) left k.part.state.term h.matches;
+  matches = matches_more g k.bindings bs' k.equalities es' (k.pairs ++ q ∷ []) (k.pairs ++ ps) (record {
+    bindings = b;
+    equalities = e;
+    pairs = λ f t c. elim (Contains-push_cases k.pairs q (record { form = f; term = t }) c) [
+      | inl i ↦ to_come f t (Contains-append_left k.pairs ps (record { form = f; term = t }) i)
+      | inr i ↦ subst (λ (z : FormPair). Matches g bs' es' (k.pairs ++ ps) z.form z.term) i m
+    ];
+  }) left k.part.state.term h.matches;
   pairs = all_both (λ (z : FormPair). LiesOn g left k.part.state.term z.form z.term) k.pairs ps (all_first (λ (z : FormPair). LiesOn g left k.part.state.term z.form z.term) k.pairs (q ∷ []) h.pairs) lie;
   bindings = bound;
   equalities = equal;
@@ -295,7 +299,7 @@ laid_put g left k e new form h =
     let by = replacement e in
     let r = part_with_term g e new k.part in
     let pairs : map (pair_put g by) (k.pairs ++ q ∷ []) ≡ map (pair_put g by) k.pairs ++ record { form = form; term = e.term } ∷ [] =
-        map-append (pair_put g by) k.pairs (q ∷ []) ∙ ap (λ (t : SymbolicTerm). map (pair_put g by) k.pairs ++ record { form = form; term = t } ∷ []) (put_variable g e) in
+    map-append (pair_put g by) k.pairs (q ∷ []) ∙ ap (λ (t : SymbolicTerm). map (pair_put g by) k.pairs ++ record { form = form; term = t } ∷ []) (put_variable g e) in
     subst (λ (ps : List FormPair). IsLaid g left (Found r (map (equality_put g by) k.equalities) (map (binding_put g by) k.bindings) ps)) pairs
     (record {
       matches = matches_put g by k.bindings k.equalities (k.pairs ++ q ∷ []) left k.part.state.term h.matches;
