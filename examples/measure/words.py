@@ -28,12 +28,7 @@ STANDING = {
     "crates/kp_requests/src/frame.rt: 4_194_304 (bytes of a frame) is FRAME_LIMIT here, too",
     "crates/kp_rpc/src/frame.rt: 4_194_304 (bytes of a frame) is FRAME_LIMIT here, too",
     "crates/kp_simplify/src/depth.rt: 48 (levels of a term) is MOST_DEPTH here, too",
-    "crates/kp_execute_reply/src/symbolic.rt: `asked` is a name that nobody could guess",
     "crates/kp_graph/src/tree.rt: `held` is a name that nobody could guess",
-    "crates/kp_readings/src/own.rt: `asked` is a name that nobody could guess",
-    "crates/kp_rules/src/may_be.rt: `may_be` is a name that nobody could guess",
-    "crates/kp_step/src/foreign.rt: `asked` is a name that nobody could guess",
-    "crates/kp_successors/src/put_in.rt: `put_in` is a name that nobody could guess",
 }
 found, clauses = set(), []
 

@@ -45,7 +45,7 @@ fn copied(alloc: Global, texts: &[String]) -> Result<Vec<String>, AllocError>
 }
 
 /// What a run is asked for.
-fn asked(alloc: Global, options: &Options) -> Result<Asked, AllocError>
+fn asked_of(alloc: Global, options: &Options) -> Result<Asked, AllocError>
     ensures { IfOk result (λ o. results.options_view o ≡ asked_options (options_view options.now)) }
 {
     let cut_points = copied(alloc, &options.cut_points)?;
@@ -144,7 +144,7 @@ fn line_over(
     ensures { (s : Setting) → RunsAs s.theory rules.now → language_view language.now ≡ s.theory.signature → VerifiesAs s.theory.signature (view pattern.now) (sort_view sort) →
         IfOk result (λ line. IsReplyLine (IsUnderstoodAs s (id_view id.now) (options_view options.now) (view pattern.now)) line.items) }
 {
-    let asked = asked(alloc, options)?;
+    let asked = asked_of(alloc, options)?;
     asked_line(alloc, language, table, rules, id, pattern, sort, &asked)
 }
 

@@ -21,7 +21,7 @@ use kp_symbolic::{Atom, Clause, HeadTest, Literal, State, Term, Variable};
 use std::alloc::{AllocError, Global};
 
 /// The test of a head, borrowed.
-fn asked(test: &HeadTest) -> Asked<'_>
+fn borrowed_test(test: &HeadTest) -> Asked<'_>
     ensures { asked_view result ≡ test_view test.now }
 {
     match test {
@@ -101,7 +101,7 @@ fn head_form(literal: &Literal) -> Option<Form<'_>>
     match &literal.atom {
         Atom::Head { variable, test } => Some(Form::Asks {
             variable,
-            test: asked(test),
+            test: borrowed_test(test),
             passes: literal.holds,
         }),
         Atom::Same { left, right, .. } => {

@@ -70,7 +70,7 @@ fn body_text(
             Ok(format!(in alloc; "priority {priority}, fires: {fires}")?)
         }
         RuleBody::Foreign(skeleton) => {
-            let may_be = skeleton.may_be(alloc, signature, value)?;
+            let may_be = skeleton.admits(alloc, signature, value)?;
             Ok(format!(in alloc; "foreign, may be: {may_be}")?)
         }
     }
@@ -137,18 +137,18 @@ fn a_rule_has_its_label(rt: HostRuntime) -> Result<(), Fail> {
 const LEFT: &str = r#"pair{}(\dv{Int{}}("7"), \dv{Int{}}("seven"))"#;
 
 /// Whether the skeleton of the left side may be a value.
-fn skeleton_may_be(alloc: Global, signature: &Signature, value: &Value) -> Result<bool, Fail> {
+fn skeleton.admits(alloc: Global, signature: &Signature, value: &Value) -> Result<bool, Fail> {
     let index = SortIndex::new(alloc, signature)?;
     let sort = sort(alloc, "E")?;
     let left = pattern(alloc, LEFT)?;
     let skeleton = skeleton_of_left(alloc, signature, &index, &sort, &left)?;
-    Ok(skeleton.may_be(alloc, signature, value)?)
+    Ok(skeleton.admits(alloc, signature, value)?)
 }
 
 /// The same of a text's value.
 fn may_be(alloc: Global, signature: &Signature, text: &str) -> Result<bool, Fail> {
     let value = value(alloc, signature, text)?;
-    skeleton_may_be(alloc, signature, &value)
+    skeleton.admits(alloc, signature, &value)
 }
 
 /// What is said of a term's text.

@@ -2,9 +2,9 @@
 // a foreign rule may rewrite.
 #![tactic(auto)]
 
+mod admits;
 pub mod fires;
 mod form;
-mod may_be;
 pub mod right_side;
 pub mod rule;
 pub mod shape;

@@ -67,7 +67,7 @@ fn might_rewrite(
 {
     match body {
         RuleBody::Rewrite(_) => Ok(false),
-        RuleBody::Foreign(skeleton) => skeleton.may_be(alloc, signature, value),
+        RuleBody::Foreign(skeleton) => skeleton.admits(alloc, signature, value),
     }
 }
 

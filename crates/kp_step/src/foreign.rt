@@ -78,7 +78,7 @@ fn meets(
 }
 
 /// Whether the rule at this place is foreign and may rewrite an instance.
-fn asked(
+fn answer_at(
     alloc: Global,
     setting: Setting<'_>,
     rules: &RuleSet,
@@ -139,7 +139,7 @@ pub fn foreign(
     let mut opened = Vec::new(alloc);
     for place in rules.in_turn() {
         let place = *place;
-        match asked(alloc, setting, rules, whole, place)? {
+        match answer_at(alloc, setting, rules, whole, place)? {
             Answer::Instance => return Ok(Some(StepOutcome::Foreign { rule: place })),
             Answer::Nothing => {}
             Answer::Open { told } => opened.push(OpenAt { told, place })?,

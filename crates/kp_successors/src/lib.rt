@@ -6,10 +6,10 @@ mod chosen;
 pub mod error;
 pub mod laws;
 mod least;
+mod left_replacements;
 mod member;
 mod narrow;
 mod next;
-mod put_in;
 mod step;
 mod value;
 

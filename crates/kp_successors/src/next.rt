@@ -25,8 +25,8 @@ ghost use Rattle.kp_kore.specs.View.{sort_view};
 
 use crate::chosen::chosen;
 use crate::error::GroundError;
+use crate::left_replacements::left_replacements;
 use crate::narrow::narrow;
-use crate::put_in::put_in;
 use kp_compile::spelled;
 use kp_ground::{Binding, Value};
 use kp_kore::{Pattern, Sort};
@@ -67,7 +67,7 @@ fn choosing(
     ensures refused { IfErr result (IsCausedBy (signature_view signature.now) ((v : Valuation) → Solves v bindings.now → all_narrow v side.now.parts.items ≡ false)) }
 {
     narrow(alloc, side, bindings)?;
-    let replacements = put_in(alloc, signature, side, bindings)?;
+    let replacements = left_replacements(alloc, signature, side, bindings)?;
     Ok(chosen(alloc, sort, side, &replacements)?)
 }
 

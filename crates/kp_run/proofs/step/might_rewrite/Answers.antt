@@ -7,4 +7,4 @@ use Rattle.kp_run.proofs.step.might_rewrite.Goals as goal
 
 pub returns-in-Foreign : goal.returns-in-Foreign
 returns-in-Foreign c = λ s.
-    subst (λ body. IfOk c.may_be.result (λ b. IsTrue b ↔ MightRewrite (signature_view c.args.signature.now) (value_view c.args.value.now) body)) (sym c.in-Foreign.is) (c.may_be.ensures s)
+    subst (λ body. IfOk c.admits.result (λ b. IsTrue b ↔ MightRewrite (signature_view c.args.signature.now) (value_view c.args.value.now) body)) (sym c.in-Foreign.is) (c.admits.ensures s)

@@ -12,7 +12,7 @@ returns-in-Instance c t used s k =
     let places = c.in_turn-place-items.result.now in
     let i = c.loop-place.place-index in
     let place : ℕ = get_or places i 0 in
-    let told : TellsForeign t s place answer.Instance = subst (TellsForeign t s place) c.in-Instance.is (c.in_ok-asked.ensures t used s k) in
+    let told : TellsForeign t s place answer.Instance = subst (TellsForeign t s place) c.in-Instance.is (c.in_ok-answer_at.ensures t used s k) in
     asks_met t s c.args.rules.now places i place c.loop-place.opened.items k.steps.runs c.in_turn-place-items.ensures c.loop-place-test.true (get_or_default places i 0 place c.loop-place-test.true) told (c.loop-place.invariant t used s k)
 
 pub loop-place-preserved : goal.loop-place-preserved
@@ -24,11 +24,11 @@ loop-place-preserved c t used s k =
     elim c.match-branch-2.branch [
       | in-Nothing w ↦
           subst (λ o. Asking t s places (i + 1) o.items) (sym w.opened-is)
-          (asks_none t s places i place c.loop-place.opened.items c.loop-place-test.true there (subst (TellsForeign t s place) w.in-Nothing.is (c.in_ok-asked.ensures t used s k)) (c.loop-place.invariant t used s k))
+          (asks_none t s places i place c.loop-place.opened.items c.loop-place-test.true there (subst (TellsForeign t s place) w.in-Nothing.is (c.in_ok-answer_at.ensures t used s k)) (c.loop-place.invariant t used s k))
       | in-Open+in_ok-push-in-Open w ↦
           subst (λ o. Asking t s places (i + 1) o.items) (sym w.opened-is)
           (asks_open t s places i place c.loop-place.opened.items w.push.new.self.items (record { told = w.in-Open.told; place = place }) w.in-Open.told c.loop-place-test.true there w.in_ok-push-in-Open.ensures.items refl refl
-          (subst (TellsForeign t s place) w.in-Open.is (c.in_ok-asked.ensures t used s k)) (c.loop-place.invariant t used s k))
+          (subst (TellsForeign t s place) w.in-Open.is (c.in_ok-answer_at.ensures t used s k)) (c.loop-place.invariant t used s k))
     ]
 
 pub returns : goal.returns

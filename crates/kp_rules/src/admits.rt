@@ -22,7 +22,7 @@ use std::sync::Arc;
 
 impl Skeleton {
     /// Whether the value is an instance.
-    pub fn may_be(
+    pub fn admits(
         &self,
         alloc: Global,
         signature: &Signature,

@@ -23,7 +23,7 @@ use kp_substitution::Replacement;
 use std::alloc::{AllocError, Global};
 
 /// The spelled values of the left term's variables but those that are new.
-pub fn put_in(
+pub fn left_replacements(
     alloc: Global,
     signature: &Signature,
     side: &RightSide,

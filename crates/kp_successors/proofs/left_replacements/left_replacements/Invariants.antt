@@ -5,7 +5,7 @@ use Rattle.kp_substitution.specs.Seen.{replacements_view}
 use Rattle.kp_kore.specs.View.{sorted_variable_view}
 use Rattle.kp_successors.specs.Nexts.{left_of, new_of}
 use Rattle.kp_successors.proofs.Spelling.{IsSpelled, names_of}
-use Rattle.kp_successors.proofs.put_in.put_in.Given as goal
+use Rattle.kp_successors.proofs.left_replacements.left_replacements.Given as goal
 
 abbrev pub invariant-loop-variable : goal.invariant-loop-variable
 invariant-loop-variable l =

@@ -6,7 +6,7 @@ use Rattle.kp_ground.specs.Matches.{Matches}
 use Rattle.kp_ground.specs.View.{value_view}
 use Rattle.kp_rules.specs.Skeletons.{skeleton_view, Shows, IsSolvable, IsAdmitted}
 use Rattle.kp_rules.proofs.Showing.{decides_admitted}
-use Rattle.kp_rules.proofs.skeleton.Skeleton.may_be.Goals as goal
+use Rattle.kp_rules.proofs.skeleton.Skeleton.admits.Goals as goal
 
 pub returns : goal.returns
 returns c = λ s.

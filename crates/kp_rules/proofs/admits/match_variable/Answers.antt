@@ -3,7 +3,7 @@ use Rattle.std.specs.Prelude.{All, ◌≢◌}
 use Rattle.kp_ground.specs.Solves.{Solves}
 use Rattle.kp_ground.specs.View.{value_view}
 use Rattle.kp_rules.proofs.Showing.{kept_matches, fresh_solvable}
-use Rattle.kp_rules.proofs.may_be.match_variable.Goals as goal
+use Rattle.kp_rules.proofs.admits.match_variable.Goals as goal
 
 pub returns-in-Some-clause-same : goal.returns-in-Some-clause-same
 returns-in-Some-clause-same c =

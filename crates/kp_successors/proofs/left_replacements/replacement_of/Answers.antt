@@ -9,7 +9,7 @@ use Rattle.kp_ground.proofs.SlotLemmas.{slot_within}
 use Rattle.kp_compile.specs.Names.{names_seen}
 use Rattle.kp_compile.specs.Spelled.{IsSpellingOf}
 use Rattle.kp_successors.proofs.Refused.{from_spelling}
-use Rattle.kp_successors.proofs.put_in.replacement_of.Goals as goal
+use Rattle.kp_successors.proofs.left_replacements.replacement_of.Goals as goal
 
 pub bound_at-value-requires : goal.bound_at-value-requires
 bound_at-value-requires c =

@@ -5,7 +5,7 @@ use Rattle.kp_signature.specs.View.{signature_view}
 use Rattle.kp_kore.specs.Value.{head_of}
 use Rattle.kp_ground.specs.View.{value_view}
 use Rattle.kp_rules.proofs.Showing.{matches_with}
-use Rattle.kp_rules.proofs.may_be.match_one.Goals as goal
+use Rattle.kp_rules.proofs.admits.match_one.Goals as goal
 
 pub returns-in_ok-match_variable-clause-same : goal.returns-in_ok-match_variable-clause-same
 returns-in_ok-match_variable-clause-same c =

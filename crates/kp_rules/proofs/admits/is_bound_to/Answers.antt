@@ -1,6 +1,6 @@
 use Rattle.std.proofs.Common.{◌≡◌, ◌∙◌, sym}
 use Rattle.kp_ground.specs.View.{value_view}
-use Rattle.kp_rules.proofs.may_be.is_bound_to.Goals as goal
+use Rattle.kp_rules.proofs.admits.is_bound_to.Goals as goal
 
 pub returns-in-Some : goal.returns-in-Some
 returns-in-Some c = λ v s.

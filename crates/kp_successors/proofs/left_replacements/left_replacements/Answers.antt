@@ -7,8 +7,8 @@ use Rattle.kp_compile.specs.Names.{names_seen}
 use Rattle.kp_substitution.specs.Seen.{replacement_view, replacements_view}
 use Rattle.kp_successors.specs.Nexts.{left_of, new_of}
 use Rattle.kp_successors.proofs.Spelling.{IsSpelled, names_of, all_named, left_named, put_added, put_passed, replaced_names, spell_all, spelled_added}
-use Rattle.kp_successors.proofs.put_in.put_in.Goals.{then-not-is_named+in_ok-replacement+in_ok-add, else-not-is_named}
-use Rattle.kp_successors.proofs.put_in.put_in.Goals as goal
+use Rattle.kp_successors.proofs.left_replacements.left_replacements.Goals.{then-not-is_named+in_ok-replacement+in_ok-add, else-not-is_named}
+use Rattle.kp_successors.proofs.left_replacements.left_replacements.Goals as goal
 
 pub loop-variable-preserved : goal.loop-variable-preserved
 loop-variable-preserved c =

@@ -3,7 +3,7 @@ use Rattle.std.specs.Option.{option_map}
 use Rattle.kp_unify.specs.Views.{numbered_view}
 use Rattle.kp_step.specs.Rules.{TellsSkeleton}
 use Rattle.kp_step.specs.Ready.{IsWholeReady}
-use Rattle.kp_step.proofs.foreign.asked.Goals as goal
+use Rattle.kp_step.proofs.foreign.answer_at.Goals as goal
 
 pub returns-in-Some : goal.returns-in-Some
 returns-in-Some c t used s k =
