@@ -8,3 +8,4 @@ pub mod Replaced
 pub mod Clash
 pub mod Comes
 pub mod Way
+pub mod Promises

@@ -1,6 +1,5 @@
 // Clauses on the head of a variable, for a sort that shares some of its heads where no sort has exactly these.
-ghost use Rattle.std.specs.Prelude.{◌≡◌, ◌&&◌, ◌∷◌, [], ◌++◌, false, true, IfOk, OnOk, map, string_bytes};
-ghost use Rattle.std.specs.List.{filter};
+ghost use Rattle.std.specs.Prelude.{◌≡◌, ◌&&◌, ◌∷◌, [], ◌++◌, false, IfOk, OnOk, map, string_bytes};
 ghost use Rattle.std.specs.Option.{option_map};
 ghost use Rattle.kp_kore.specs.Signature.{is_head as model_head};
 ghost use Rattle.kp_kore.specs.Syntax.{sort_of, no_sorts};
@@ -12,6 +11,7 @@ ghost use Rattle.kp_sort_heads.specs.Views.{head_view};
 ghost use Rattle.kp_symbolic.specs.View.{variable_view, test_view, literal_view, clause_view, clauses_view};
 ghost use Rattle.kp_cases.specs.Narrowings as model;
 ghost use Rattle.kp_unify.specs.Heads.{clause_without};
+ghost use Rattle.kp_unify.specs.Promises.{shared_literals};
 
 use crate::literals::{head_literal, sort_test};
 use kp_distribution::joined::{kept_once, make_clause};
@@ -118,7 +118,7 @@ fn add_shared(
     sort: &Sort,
     test: &HeadTest,
 ) -> Result<(), AllocError>
-    ensures { let g = signature_view signature.now in let x = variable_view variable.now.value in OnOk result (map literal_view found.new.items ≡ map literal_view found.old.items ++ map (model.tested g true x) (filter (passes_head g (test_view test.now)) (model.shared_heads g x (sort_view sort.now)))) }
+    ensures { let more = shared_literals (signature_view signature.now) (variable_view variable.now.value) (sort_view sort.now) (test_view test.now) in OnOk result (map literal_view found.new.items ≡ map literal_view found.old.items ++ more) }
 {
     let mut left = heads(signature, &variable.sort);
     while let Some(head) = left.next() {

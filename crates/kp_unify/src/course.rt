@@ -199,8 +199,7 @@ impl<'a> Course<'a> {
     ghost use Rattle.std.specs.Prelude.{◌≡◌, OnOk};
     ghost use Rattle.kp_symbolic.specs.Languages.{language_view};
     ghost use Rattle.kp_readings.specs.Equations.{equation_view};
-    ghost use Rattle.kp_cases.specs.Courses as model;
-    ghost use Rattle.kp_unify.specs.Views.{part_view, course_view};
+    ghost use Rattle.kp_unify.specs.Promises.{IsReplacedBy};
 
     /// A term in the variable's place in all that was found and is to come.
     pub fn replace(
@@ -209,7 +208,7 @@ impl<'a> Course<'a> {
         language: &Language,
         equation: &Equation<'_>,
     ) -> Result<(), CompileError>
-        ensures course { let e = equation_view equation.now in OnOk result (course_view self.new ≡ model.replaced_course (language_view language.now) e (part_view self.old.part) (course_view self.old)) }
+        ensures course { OnOk result (IsReplacedBy (language_view language.now) (equation_view equation.now) self.old self.new) }
         ensures apart { OnOk result (self.new.apart ≡ self.old.apart) }
         ensures next { OnOk result (self.new.part.next ≡ self.old.part.next) }
     {
