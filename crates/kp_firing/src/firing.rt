@@ -55,7 +55,7 @@ fn condition_of(
     sides: &Sides,
     bindings: &[Replaced],
 ) -> Result<Vec<Clause>, CompileError>
-    ensures { let g = language_view language.now in IfOk result (λ cs. clauses_view cs.items ≡ condition_clauses g (map replaced_view bindings.now) (map view sides.now.condition.items)) }
+    ensures { IfOk result (λ cs. clauses_view cs.items ≡ condition_clauses (language_view language.now) (map replaced_view bindings.now) (map view sides.now.condition.items)) }
 {
     let condition = lent(alloc, &sides.condition)?;
     clauses_of_all(alloc, language, bindings, &condition)

@@ -123,7 +123,7 @@ fn replaced_bindings(
     by: &[Replaced],
     bindings: &[Replaced],
 ) -> Result<Vec<Replaced>, CompileError>
-    ensures { let by' = map replaced_view by.now in IfOk result (λ bs. map replaced_view bs.items ≡ map (binding_put (language_view language.now) by') (map replaced_view bindings.now)) }
+    ensures { IfOk result (λ bs. map replaced_view bs.items ≡ map (binding_put (language_view language.now) (map replaced_view by.now)) (map replaced_view bindings.now)) }
 {
     let mut found = Vec::new(alloc);
     for binding in bindings {
@@ -155,7 +155,7 @@ fn replaced_equalities(
     by: &[Replaced],
     equalities: &[Equality],
 ) -> Result<Vec<Equality>, CompileError>
-    ensures { let by' = map replaced_view by.now in IfOk result (λ es. map equality_view es.items ≡ map (equality_put (language_view language.now) by') (map equality_view equalities.now)) }
+    ensures { IfOk result (λ es. map equality_view es.items ≡ map (equality_put (language_view language.now) (map replaced_view by.now)) (map equality_view equalities.now)) }
 {
     let mut found = Vec::new(alloc);
     for equality in equalities {
@@ -186,7 +186,7 @@ fn replaced_pairs<'a>(
     by: &[Replaced],
     pairs: &[Pair<'a>],
 ) -> Result<Vec<Pair<'a>>, CompileError>
-    ensures { let by' = map replaced_view by.now in IfOk result (λ qs. map pair_view qs.items ≡ map (pair_put (language_view language.now) by') (map pair_view pairs.now)) }
+    ensures { IfOk result (λ qs. map pair_view qs.items ≡ map (pair_put (language_view language.now) (map replaced_view by.now)) (map pair_view pairs.now)) }
 {
     let mut found = Vec::new(alloc);
     for pair in pairs {

@@ -106,7 +106,7 @@ fn without_head(
     variable: &Arc<Variable>,
     symbol: &Arc<String>,
 ) -> Result<Vec<Clause>, AllocError>
-    ensures { let x = variable_view variable.now.value in IfOk result (λ cs. clauses_view cs.items ≡ model.head_clauses (signature_view signature.now) false x (one_head (string_bytes symbol.now.value))) }
+    ensures { IfOk result (λ cs. clauses_view cs.items ≡ model.head_clauses (signature_view signature.now) false (variable_view variable.now.value) (one_head (string_bytes symbol.now.value))) }
 {
     let test = constructor_test(symbol)?;
     head_clauses(alloc, signature, false, variable, &test)
@@ -119,7 +119,7 @@ fn without_sort(
     variable: &Arc<Variable>,
     sort: &Sort,
 ) -> Result<Vec<Clause>, AllocError>
-    ensures { let x = variable_view variable.now.value in IfOk result (λ cs. clauses_view cs.items ≡ model.head_clauses (signature_view signature.now) false x (head_of_sort (sort_view sort.now))) }
+    ensures { IfOk result (λ cs. clauses_view cs.items ≡ model.head_clauses (signature_view signature.now) false (variable_view variable.now.value) (head_of_sort (sort_view sort.now))) }
 {
     let test = sort_test(alloc, sort)?;
     head_clauses(alloc, signature, false, variable, &test)

@@ -188,7 +188,7 @@ impl<'a> Course<'a> {
         name: &Arc<String>,
         term: &Term,
     ) -> Result<(), AllocError>
-        ensures { (s : KoreSort) → let x = string_bytes name.now.value in OnOk result (stage_view self.new ≡ bound_stage (stage_view self.old) x s (term_view term.now) None) }
+        ensures { (s : KoreSort) → OnOk result (stage_view self.new ≡ bound_stage (stage_view self.old) (string_bytes name.now.value) s (term_view term.now) None) }
     {
         let name = name.clone()?;
         let term = term.share(alloc)?;
