@@ -5,3 +5,4 @@ pub mod Ready
 pub mod Comes
 pub mod Silent
 pub mod Firings
+pub mod Promises

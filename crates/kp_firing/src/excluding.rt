@@ -1,21 +1,9 @@
 // The parts of a part where a rule doesn't fire.
-ghost use Rattle.std.specs.Prelude.{◌≡◌, List, [], ◌∷◌, ◌++◌, IfOk, OnOk, IsTrue, true};
-ghost use Rattle.std.specs.List.{AllByRecursion};
-ghost use Rattle.kp_kore.specs.Syntax.{Text};
-ghost use Rattle.kp_heads.specs.Made.{IsHeadTableOf};
-ghost use Rattle.kp_kore.specs.Rules.{Rewrite, RuleBody, rewrite};
-ghost use Rattle.kp_symbolic.specs.Clauses.{is_too_large, denied};
-ghost use Rattle.kp_symbolic.specs.Solving.{negated};
-ghost use Rattle.kp_kept.specs.Kept.{CanBeWrittenAt};
-ghost use Rattle.kp_rules.specs.Sides.{AreSidesOf};
-ghost use Rattle.kp_rules.specs.VerifiedSides.{AreVerifiedSides};
-ghost use Rattle.kp_cases.specs.Parts.{StatePart};
-ghost use Rattle.kp_turns.specs.Firing.{FiresNowhere};
-ghost use Rattle.kp_unify.specs.Narrowed.{NumberedPart};
-ghost use Rattle.kp_unify.specs.Views.{signature_of, numbered_view, IsSetting};
-ghost use Rattle.kp_firing.specs.Firings.{numbered, clauses_of_firing, IsFiring};
-ghost use Rattle.kp_firing.specs.Silent.{IsExcluded};
-ghost use Rattle.kp_firing.specs.Ready.{IsReadyPart, narrowed_by};
+ghost use Rattle.std.specs.Prelude.{◌≡◌, [], ◌∷◌, IfOk, OnOk};
+ghost use Rattle.kp_unify.specs.Views.{signature_of, numbered_view, HasItsTable};
+ghost use Rattle.kp_firing.specs.Firings.{numbered, clauses_of_firing};
+ghost use Rattle.kp_firing.specs.Promises.{TellsNowhere, AddsExcluded, KeepsExcluded, opposite_of_firing, ExcludesFiring, ExcludesFiringOn, ExcludesRule};
+ghost use Rattle.kp_firing.specs.Laws.{CanBeDenied};
 
 use crate::firing::{Firing, all_clauses, fire};
 use crate::negate::negate;
@@ -38,8 +26,8 @@ fn alone(alloc: Global, part: &Part) -> Result<Vec<Part>, CompileError>
 /// Whether it is known that the rule doesn't fire on the part that it meets, by the part's clauses all of whose literals are
 /// decided: others don't help here, since a clause that is shown needn't be true with them.
 fn never_fires(alloc: Global, setting: &Setting<'_>, firing: &Firing) -> Result<bool, AllocError>
-    requires heads { IsHeadTableOf (signature_of setting.now) setting.now.table.now }
-    ensures { (used : List Text) (body : RuleBody) (p : StatePart) → let g = signature_of setting.now in IsFiring g used body p firing.now → IfOk result (λ b. IsTrue b → FiresNowhere g body p) }
+    requires heads { HasItsTable setting.now }
+    ensures { TellsNowhere (signature_of setting.now) firing.now result }
 {
     let signature = setting.language.signature;
     let plain = plain_part(alloc, signature, &firing.part.state)?;
@@ -55,8 +43,8 @@ fn add_kept(
     setting: &Setting<'_>,
     part: Part,
 ) -> Result<(), CompileError>
-    requires heads { IsHeadTableOf (signature_of setting.now) setting.now.table.now }
-    ensures { (used : List Text) (body : RuleBody) (p : StatePart) (rest : List NumberedPart) → let g = signature_of setting.now in IsExcluded g used body p (numbered kept.old.items ++ numbered_view part ∷ rest) → OnOk result (IsExcluded g used body p (numbered kept.new.items ++ rest)) }
+    requires heads { HasItsTable setting.now }
+    ensures { AddsExcluded (signature_of setting.now) kept.old part result kept.new }
 {
     if is_empty(
         alloc,
@@ -76,8 +64,8 @@ fn kept_parts(
     setting: &Setting<'_>,
     parts: Vec<Part>,
 ) -> Result<Vec<Part>, CompileError>
-    requires heads { IsHeadTableOf (signature_of setting.now) setting.now.table.now }
-    ensures { (used : List Text) (body : RuleBody) (p : StatePart) → let g = signature_of setting.now in IsExcluded g used body p (numbered parts.items) → IfOk result (λ ps. IsExcluded g used body p (numbered ps.items)) }
+    requires heads { HasItsTable setting.now }
+    ensures { KeepsExcluded (signature_of setting.now) parts result }
 {
     let mut kept = Vec::new(alloc);
     for part in parts {
@@ -92,8 +80,8 @@ fn opposite_part(
     setting: &Setting<'_>,
     firing: &Firing,
 ) -> Result<Part, CompileError>
-    ensures view { let g = signature_of setting.now in let q = numbered_view firing.now.part in IfOk result (λ p. numbered_view p ≡ narrowed_by q (negated g q.part.state.sort (clauses_of_firing firing.now))) }
-    ensures right { let g = signature_of setting.now in let cs = clauses_of_firing firing.now in OnOk result (is_too_large 0 (denied g cs) ≡ true → AllByRecursion (CanBeWrittenAt g (numbered_view firing.now.part).part.state.sort) cs) }
+    ensures view { IfOk result (λ p. numbered_view p ≡ opposite_of_firing (signature_of setting.now) firing.now) }
+    ensures right { OnOk result (CanBeDenied (signature_of setting.now) (state_view firing.now.part.state).sort (clauses_of_firing firing.now)) }
 {
     let clauses = all_clauses(alloc, firing)?;
     let sort = &firing.part.state.sort;
@@ -103,7 +91,7 @@ fn opposite_part(
 
 /// The part that is met where not all of the clauses are true, and the parts that aren't met.
 fn without(alloc: Global, setting: &Setting<'_>, firing: Firing) -> Result<Vec<Part>, CompileError>
-    ensures { (used : List Text) (body : RuleBody) (p : StatePart) → let g = signature_of setting.now in IsFiring g used body p firing → IfOk result (λ ps. IsExcluded g used body p (numbered ps.items)) }
+    ensures { ExcludesFiring (signature_of setting.now) firing result }
 {
     let met = opposite_part(alloc, setting, &firing)?;
     let Firing { mut apart, .. } = firing;
@@ -120,8 +108,8 @@ fn exclude_firing(
     part: &Part,
     firing: Firing,
 ) -> Result<Vec<Part>, CompileError>
-    requires heads { IsHeadTableOf (signature_of setting.now) setting.now.table.now }
-    ensures { (used : List Text) (body : RuleBody) → let g = signature_of setting.now in let q = numbered_view part.now in IsReadyPart g used q → IsFiring g used body q.part firing → IfOk result (λ ps. IsExcluded g used body q.part (numbered ps.items)) }
+    requires heads { HasItsTable setting.now }
+    ensures { ExcludesFiringOn (signature_of setting.now) part.now firing result }
 {
     if never_fires(alloc, setting, &firing)? {
         return alone(alloc, part);
@@ -138,8 +126,8 @@ pub fn exclude(
     part: &Part,
     sides: &Sides,
 ) -> Result<Vec<Part>, CompileError>
-    requires heads { IsHeadTableOf (signature_of setting.now) setting.now.table.now }
-    ensures { (used : List Text) (m : Rewrite) → let g = signature_of setting.now in let q = numbered_view part.now in IsSetting used setting.now → AreSidesOf g m sides.now → AreVerifiedSides g m → IsReadyPart g used q → IfOk result (λ ps. IsExcluded g used (rewrite m) q.part (numbered ps.items)) }
+    requires heads { HasItsTable setting.now }
+    ensures { ExcludesRule setting.now part.now sides.now result }
 {
     match fire(alloc, setting, part, sides)? {
         Some(found) => exclude_firing(alloc, setting, part, found),

@@ -1,19 +1,13 @@
 // A rule against a part of a state.
-ghost use Rattle.std.specs.Prelude.{◌≡◌, List, ◌++◌, map, IfOk};
-ghost use Rattle.kp_kore.specs.Syntax.{Text};
+ghost use Rattle.std.specs.Prelude.{◌≡◌, map, IfOk};
 ghost use Rattle.kp_kore.specs.View.{view};
-ghost use Rattle.kp_heads.specs.Made.{IsHeadTableOf};
-ghost use Rattle.kp_kore.specs.Rules.{Rewrite};
 ghost use Rattle.kp_compile.specs.Parts.{seen};
 ghost use Rattle.kp_symbolic.specs.Languages.{language_view};
 ghost use Rattle.kp_symbolic.specs.View.{clauses_view, replaced_view};
-ghost use Rattle.kp_rules.specs.Sides.{AreSidesOf};
-ghost use Rattle.kp_rules.specs.VerifiedSides.{AreVerifiedSides};
-ghost use Rattle.kp_rules.specs.Skeletons.{skeleton_view};
-ghost use Rattle.kp_unify.specs.Views.{signature_of, numbered_view, IsSetting};
 ghost use Rattle.kp_firing.specs.Conditions.{condition_clauses};
-ghost use Rattle.kp_firing.specs.Firings.{clauses_of_firing, IsFired};
-ghost use Rattle.kp_firing.specs.Ready.{IsReadyPart};
+ghost use Rattle.kp_firing.specs.Firings.{clauses_of_firing};
+ghost use Rattle.kp_firing.specs.Promises.{FiresOnPart};
+ghost use Rattle.kp_unify.specs.Views.{HasItsTable};
 
 use crate::placed::are_placed;
 use kp_clauses::clauses_of_all;
@@ -61,7 +55,7 @@ fn condition_of(
     sides: &Sides,
     bindings: &[Replaced],
 ) -> Result<Vec<Clause>, CompileError>
-    ensures { let g = language_view language.now in IfOk result (λ cs. clauses_view cs.items ≡ condition_clauses g (map replaced_view bindings.now) (map view sides.now.condition.items)) }
+    ensures { IfOk result (λ cs. clauses_view cs.items ≡ condition_clauses (language_view language.now) (map replaced_view bindings.now) (map view sides.now.condition.items)) }
 {
     let condition = lent(alloc, &sides.condition)?;
     clauses_of_all(alloc, language, bindings, &condition)
@@ -99,8 +93,8 @@ pub fn fire(
     part: &Part,
     sides: &Sides,
 ) -> Result<Option<Firing>, CompileError>
-    requires heads { IsHeadTableOf (signature_of setting.now) setting.now.table.now }
-    ensures { (used : List Text) (m : Rewrite) → let g = signature_of setting.now in let q = numbered_view part.now in IsSetting used setting.now → AreSidesOf g m sides.now → AreVerifiedSides g m → IsReadyPart g used q → IfOk result (IsFired g used m (skeleton_view sides.now.left) q.part) }
+    requires heads { HasItsTable setting.now }
+    ensures { FiresOnPart setting.now part.now sides.now result }
 {
     match meet(alloc, setting, part, &sides.left)? {
         Some(meeting) => {

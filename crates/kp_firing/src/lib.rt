@@ -1,6 +1,6 @@
 // Where a rule fires on a part of a symbolic state, and the parts where it doesn't: its left side against the part, the clauses of
 // its condition, and their opposite. The definitions stand in specs/, to be read in the order Conditions, Opposites, Laws, Ready,
-// Silent, Firings.
+// Silent, Firings, Promises.
 #![tactic(auto)]
 
 pub mod excluding;

@@ -1,9 +1,9 @@
 // The opposite of clauses.
-ghost use Rattle.std.specs.Prelude.{◌≡◌, true, false, IfOk, OnOk, map};
+ghost use Rattle.std.specs.Prelude.{◌≡◌, false, IfOk, OnOk, map};
 ghost use Rattle.std.specs.List.{AllByRecursion};
 ghost use Rattle.kp_kore.specs.View.{patterns_view, sort_view};
 ghost use Rattle.kp_signature.specs.View.{signature_view};
-ghost use Rattle.kp_symbolic.specs.Clauses.{denied, denied_clauses, is_too_large, opened_atom, opened_literal, opened_literals};
+ghost use Rattle.kp_symbolic.specs.Clauses.{denied, denied_clauses, opened_atom, opened_literal, opened_literals};
 ghost use Rattle.kp_symbolic.specs.Formulas.{all_of as all_together};
 ghost use Rattle.kp_symbolic.specs.Solving.{negated};
 ghost use Rattle.kp_symbolic.specs.Writing.{written_clauses};
@@ -14,6 +14,7 @@ ghost use Rattle.kp_opening.specs.View.{formula_view};
 ghost use Rattle.kp_distribution.specs.Distribution.{distribution_of, distributions_of};
 ghost use Rattle.kp_distribution.specs.View.{distributed_view};
 ghost use Rattle.kp_firing.specs.Opposites.{opposite_of_literal, denying_written};
+ghost use Rattle.kp_firing.specs.Laws.{CanBeDenied};
 
 use kp_compile::CompileError;
 use kp_distribution::distributed::{all_of, one_of};
@@ -190,7 +191,7 @@ pub fn negate(
     clauses: &[Clause],
 ) -> Result<Vec<Clause>, CompileError>
     ensures negated { IfOk result (λ cs. clauses_view cs.items ≡ negated (language_view language.now) (sort_view sort.now) (clauses_view clauses.now)) }
-    ensures right { let g = language_view language.now in let cs = clauses_view clauses.now in OnOk result (is_too_large 0 (denied g cs) ≡ true → AllByRecursion (CanBeWrittenAt g (sort_view sort.now)) cs) }
+    ensures right { OnOk result (CanBeDenied (language_view language.now) (sort_view sort.now) (clauses_view clauses.now)) }
 {
     let opened = deny(alloc, language.signature, clauses)?;
     if is_room(&opened) {

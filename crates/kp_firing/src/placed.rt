@@ -1,13 +1,11 @@
 // Whether a left side's variables stand for terms of their sorts by their form.
-ghost use Rattle.std.specs.Prelude.{[], ◌∷◌, IsTrue, map};
-ghost use Rattle.std.specs.List.{AllByRecursion};
+ghost use Rattle.std.specs.Prelude.{map};
 ghost use Rattle.kp_kore.specs.View.{sort_view};
 ghost use Rattle.kp_signature.specs.View.{signature_view};
-ghost use Rattle.kp_symbolic.specs.WellFormed.{AreWellPlaced};
 ghost use Rattle.kp_symbolic.specs.View.{replaced_view};
 ghost use Rattle.kp_rules.specs.Skeletons.{skeleton_view, forms_of};
-ghost use Rattle.kp_cases.specs.Parts.{StatePart};
-ghost use Rattle.kp_cases.specs.Courses.{IsBoundTo, form_variables, all_form_variables};
+ghost use Rattle.kp_cases.specs.Courses.{form_variables, all_form_variables};
+ghost use Rattle.kp_firing.specs.Promises.{IsPlacedIf, ArePlacedIf};
 
 use kp_kore::Sort;
 use kp_rules::skeleton::Skeleton;
@@ -18,7 +16,7 @@ use kp_unify::heads::has_sort;
 
 /// Whether the variable of this name stands for a term that has the sort by its form.
 fn is_placed(signature: &Signature, bindings: &[Replaced], name: &str, sort: &Sort) -> bool
-    ensures { (p : StatePart) → let g = signature_view signature.now in let bs = map replaced_view bindings.now in IsTrue result → IsBoundTo g p bs (record { name = name.now; sort = sort_view sort.now }) → AreWellPlaced g bs (record { name = name.now; sort = sort_view sort.now } ∷ []) }
+    ensures { IsPlacedIf result (signature_view signature.now) (map replaced_view bindings.now) (record { name = name.now; sort = sort_view sort.now }) }
 {
     match replacement_of(bindings, name) {
         Some(term) => has_sort(signature, term, sort),
@@ -29,7 +27,7 @@ fn is_placed(signature: &Signature, bindings: &[Replaced], name: &str, sort: &So
 /// Whether each variable of the left side does.
 #[cycle(placing)]
 pub fn are_placed(left: &Skeleton, signature: &Signature, bindings: &[Replaced]) -> bool
-    ensures { (p : StatePart) → let g = signature_view signature.now in let bs = map replaced_view bindings.now in let xs = form_variables (skeleton_view left.now) in IsTrue result → AllByRecursion (IsBoundTo g p bs) xs → AreWellPlaced g bs xs }
+    ensures { ArePlacedIf result (signature_view signature.now) (map replaced_view bindings.now) (form_variables (skeleton_view left.now)) }
 {
     match left {
         Skeleton::Variable { name, sort } => is_placed(signature, bindings, name, sort),
@@ -42,7 +40,7 @@ pub fn are_placed(left: &Skeleton, signature: &Signature, bindings: &[Replaced])
 /// The same of its members.
 #[cycle(placing)]
 fn all_placed(members: &[Skeleton], signature: &Signature, bindings: &[Replaced]) -> bool
-    ensures { (p : StatePart) → let g = signature_view signature.now in let bs = map replaced_view bindings.now in let xs = all_form_variables (forms_of (map skeleton_view members.now)) in IsTrue result → AllByRecursion (IsBoundTo g p bs) xs → AreWellPlaced g bs xs }
+    ensures { ArePlacedIf result (signature_view signature.now) (map replaced_view bindings.now) (all_form_variables (forms_of (map skeleton_view members.now))) }
 {
     for member in members {
         if !are_placed(member, signature, bindings) {

@@ -13,3 +13,4 @@ pub mod Tries
 pub mod Answers
 pub mod Rights
 pub mod Chosen
+pub mod Promises

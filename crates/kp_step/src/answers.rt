@@ -1,15 +1,12 @@
 // Whether parts have instances, and what is shown where that isn't decided.
-ghost use Rattle.std.specs.Prelude.{IfOk, List};
-ghost use Rattle.std.specs.List.{AllByRecursion};
-ghost use Rattle.kp_kore.specs.Syntax.{Text};
-ghost use Rattle.kp_heads.specs.Made.{IsHeadTableOf};
+ghost use Rattle.std.specs.Prelude.{IfOk};
 ghost use Rattle.kp_symbolic.specs.States.{SymbolicState};
 ghost use Rattle.kp_symbolic.specs.View.{state_view};
 ghost use Rattle.kp_decide.specs.Read.{HasSortedClauses};
-ghost use Rattle.kp_unify.specs.Views.{signature_of};
-ghost use Rattle.kp_firing.specs.Ready.{IsReadyPart};
+ghost use Rattle.kp_unify.specs.Views.{signature_of, HasItsTable};
 ghost use Rattle.kp_step.specs.Views.{numbered_views};
-ghost use Rattle.kp_step.specs.Answers.{IsRightOpen, ShowsOf, IsRightAnswerOf, AreDecided};
+ghost use Rattle.kp_step.specs.Answers.{IsRightOpen, ShowsOf, IsRightAnswerOf};
+ghost use Rattle.kp_step.specs.Promises.{DecidesParts};
 
 use kp_decide::{Verdict, decide};
 use kp_readings::clauses::read_clauses;
@@ -49,7 +46,7 @@ fn shown_of(
     state: &State,
     told: Open,
 ) -> Result<Open, AllocError>
-    ensures { let g = signature_of setting.entry in let s = state_view state.now in IfOk result (λ o. (p : SymbolicState) → IsRightOpen g p told → ShowsOf g s p o) }
+    ensures { let g = signature_of setting.entry in IfOk result (λ o. (p : SymbolicState) → IsRightOpen g p told → ShowsOf g (state_view state.now) p o) }
 {
     if told.over.is_none() {
         return Ok(told);
@@ -71,8 +68,8 @@ pub fn answer_of(
     state: &State,
     part: &State,
 ) -> Result<Answer, AllocError>
-    requires { IsHeadTableOf (signature_of setting) setting.table.now }
-    ensures { let g = signature_of setting.entry in let s = state_view state.now in let p = state_view part.now in IfOk result (λ a. HasSortedClauses g p → IsRightAnswerOf g s p a) }
+    requires { HasItsTable setting }
+    ensures { let g = signature_of setting.entry in let p = state_view part.now in IfOk result (λ a. HasSortedClauses g p → IsRightAnswerOf g (state_view state.now) p a) }
 {
     match decide(alloc, setting.language.signature, setting.table, part)? {
         Verdict::SomeValuation => Ok(Answer::Instance),
@@ -91,8 +88,8 @@ pub fn decided_parts(
     state: &State,
     parts: Vec<Part>,
 ) -> Result<Decided, AllocError>
-    requires { IsHeadTableOf (signature_of setting) setting.table.now }
-    ensures { let g = signature_of setting.entry in let s = state_view state.now in IfOk result (λ d. (used : List Text) → AllByRecursion (IsReadyPart g used) (numbered_views parts.items) → AreDecided g s (numbered_views parts.items) d) }
+    requires { HasItsTable setting }
+    ensures { IfOk result (DecidesParts (signature_of setting.entry) (state_view state.now) (numbered_views parts.items)) }
 {
     let mut found = Vec::new(alloc);
     for part in parts {

@@ -1,20 +1,13 @@
 // Foreign rules that may rewrite an instance of a state.
-ghost use Rattle.std.specs.Prelude.{◌≡◌, ℕ, IfOk, List, [], MatchOption};
+ghost use Rattle.std.specs.Prelude.{◌≡◌, IfOk, List, [], MatchOption};
 ghost use Rattle.std.specs.List.{AllByRecursion, Contains};
 ghost use Rattle.kp_kore.specs.Syntax.{Text};
-ghost use Rattle.kp_heads.specs.Made.{IsHeadTableOf};
 ghost use Rattle.kp_kore.specs.Theory.{Theory};
 ghost use Rattle.kp_symbolic.specs.States.{SymbolicState};
-ghost use Rattle.kp_symbolic.specs.View.{clauses_view};
-ghost use Rattle.kp_rules.specs.Skeletons.{Form};
-ghost use Rattle.kp_cases.specs.Parts.{with_clauses};
-ghost use Rattle.kp_unify.specs.Narrowed.{NumberedPart};
-ghost use Rattle.kp_unify.specs.Way.{IsMeeting};
-ghost use Rattle.kp_unify.specs.Views.{signature_of, IsSetting, part_view, numbered_view, met_view};
-ghost use Rattle.kp_step.specs.Rules.{IsStepFrom, IsForeignAt};
-ghost use Rattle.kp_step.specs.Ready.{IsWholeReady};
-ghost use Rattle.kp_step.specs.Answers.{IsRightAnswerOf, TellsForeign, TellsKnown, IsOpenAt};
+ghost use Rattle.kp_unify.specs.Views.{signature_of, HasItsTable};
+ghost use Rattle.kp_step.specs.Answers.{TellsForeign, TellsKnown, IsOpenAt};
 ghost use Rattle.kp_step.specs.Outcomes.{IsRightStep};
+ghost use Rattle.kp_step.specs.Promises.{TellsMet, TellsTwoSorts, TellsSkeletonMeets, OfEachStep};
 
 use crate::answers::{Answer, Open, answer_of};
 use crate::outcome::StepOutcome;
@@ -35,9 +28,8 @@ fn met_answer(
     whole: &Part,
     met: &MetPart,
 ) -> Result<Answer, CompileError>
-    requires { IsHeadTableOf (signature_of setting) setting.table.now }
-    ensures { (used : List Text) (s : SymbolicState) (left : Form) (apart : List NumberedPart) → let g = signature_of setting.entry in IsWholeReady g used s (numbered_view whole.now) → IsMeeting g used left (part_view whole.now) (met_view met.now) met.now.part.next apart →
-        IfOk result (IsRightAnswerOf g s (with_clauses (part_view met.now.part) (clauses_view met.now.equations.items)).state) }
+    requires { HasItsTable setting }
+    ensures { TellsMet (signature_of setting.entry) whole.now met.now result }
 {
     let part = constrained(alloc, &met.part, &met.equations)?;
     Ok(answer_of(alloc, setting, &whole.state, &part.state)?)
@@ -46,9 +38,8 @@ fn met_answer(
 /// Whether a left side with one name at two sorts stands for an instance. It stands for nothing, where two such sorts share no
 /// value; refused where each two share one.
 fn at_two_sorts(setting: Setting<'_>, skeleton: &Skeleton) -> Result<Answer, CompileError>
-    requires { IsHeadTableOf (signature_of setting) setting.table.now }
-    ensures { (t : Theory) (used : List Text) (s : SymbolicState) (place : ℕ) (q : NumberedPart) → let g = signature_of setting.entry in g ≡ t.signature → IsWholeReady g used s q → IsForeignAt t place skeleton.now →
-        IfOk result (TellsForeign t s place) }
+    requires { HasItsTable setting }
+    ensures { TellsTwoSorts (signature_of setting.entry) skeleton.now result }
 {
     if has_shared_sorts(setting.table, setting.language.signature, skeleton) {
         return Err(CompileError::Shape);
@@ -64,9 +55,8 @@ fn meets(
     whole: &Part,
     skeleton: &Skeleton,
 ) -> Result<Answer, CompileError>
-    requires { IsHeadTableOf (signature_of setting) setting.table.now }
-    ensures { (t : Theory) (used : List Text) (s : SymbolicState) (place : ℕ) → let g = signature_of setting.entry in g ≡ t.signature → IsSetting used setting.entry → IsWholeReady g used s (numbered_view whole.now) → IsForeignAt t place skeleton.now →
-        IfOk result (TellsForeign t s place) }
+    requires { HasItsTable setting }
+    ensures { TellsSkeletonMeets setting.entry whole.now skeleton.now result }
 {
     if !has_one_sort_each(skeleton) {
         return at_two_sorts(setting, skeleton);
@@ -85,9 +75,8 @@ fn answer_at(
     whole: &Part,
     place: usize,
 ) -> Result<Answer, CompileError>
-    requires { IsHeadTableOf (signature_of setting) setting.table.now }
-    ensures { (t : Theory) (used : List Text) (s : SymbolicState) → IsStepFrom t used s setting.entry rules.now (numbered_view whole.now) →
-        IfOk result (TellsForeign t s place) }
+    requires { HasItsTable setting }
+    ensures { OfEachStep setting.entry rules.now whole.now (λ t used s. IfOk result (TellsForeign t s place)) }
 {
     match foreign_at(rules, place) {
         Some(skeleton) => meets(alloc, setting, whole, skeleton),
@@ -132,9 +121,8 @@ pub fn foreign(
     rules: &RuleSet,
     whole: &Part,
 ) -> Result<Option<StepOutcome>, CompileError>
-    requires { IsHeadTableOf (signature_of setting) setting.table.now }
-    ensures { (t : Theory) (used : List Text) (s : SymbolicState) → IsStepFrom t used s setting.entry rules.now (numbered_view whole.now) →
-        IfOk result (TellsKnown t used s) }
+    requires { HasItsTable setting }
+    ensures { OfEachStep setting.entry rules.now whole.now (λ t used s. IfOk result (TellsKnown t used s)) }
 {
     let mut opened = Vec::new(alloc);
     for place in rules.in_turn() {

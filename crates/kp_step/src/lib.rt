@@ -1,5 +1,5 @@
 // One symbolic step: the next states of a state by the rules that have their turn on its instances, and the parts of it where
-// no rule fires.
+// no rule fires. What the calls promise stands by name in specs/Promises.
 #![tactic(auto)]
 
 pub mod answers;

@@ -1,16 +1,14 @@
 // What leaves the bounds of what is computed.
-ghost use Rattle.std.specs.Prelude.{◌≡◌, IfOk, MatchOption, ◌++◌, map};
-ghost use Rattle.std.specs.List.{AllByRecursion};
+ghost use Rattle.std.specs.Prelude.{◌≡◌, IfOk, ◌++◌, map};
 ghost use Rattle.std.specs.Option.{option_map};
-ghost use Rattle.kp_kore.specs.Steps.{AnyByRecursion};
 ghost use Rattle.kp_symbolic.specs.View.{clauses_view, state_view};
 ghost use Rattle.kp_simplify.specs.Answers.{first_deep, state_sides};
 ghost use Rattle.kp_unify.specs.Views.{signature_of};
 ghost use Rattle.kp_wide.specs.Calls.{call_view};
 ghost use Rattle.kp_wide.specs.Wide as wide;
 ghost use Rattle.kp_step.specs.Limits as model;
-ghost use Rattle.kp_step.specs.Limits.{Passes, PassesNone};
 ghost use Rattle.kp_step.specs.Views.{limit_view, next_told, part_told};
+ghost use Rattle.kp_step.specs.Promises.{TellsLimit, TellsLimitAmong};
 
 use crate::outcome::{Limit, Next};
 use kp_simplify::depth::deep_in;
@@ -48,7 +46,7 @@ pub fn wide_in(setting: Setting<'_>, state: &State) -> Result<Option<Limit>, All
 
 /// The levels of the first term of a state that is too deep.
 fn deep(alloc: Global, setting: Setting<'_>, state: &State) -> Result<Option<Limit>, AllocError>
-    ensures { let g = signature_of setting.entry in IfOk result (λ o. option_map limit_view o ≡ option_map model.depth (first_deep g (state_sides (state_view state.now)))) }
+    ensures { IfOk result (λ o. option_map limit_view o ≡ option_map model.depth (first_deep (signature_of setting.entry) (state_sides (state_view state.now)))) }
 {
     match deep_in(alloc, setting.language, state)? {
         Some(levels) => Ok(Some(Limit::Depth { levels })),
@@ -62,7 +60,7 @@ pub fn limit_of(
     setting: Setting<'_>,
     state: &State,
 ) -> Result<Option<Limit>, AllocError>
-    ensures { let g = signature_of setting.entry in let s = state_view state.now in IfOk result (λ o. MatchOption o (PassesNone g s) (λ l. Passes g s (limit_view l))) }
+    ensures { IfOk result (TellsLimit (signature_of setting.entry) (state_view state.now)) }
 {
     match wide_in(setting, state)? {
         Some(limit) => Ok(Some(limit)),
@@ -92,7 +90,7 @@ fn limit_with(
     state: &State,
     added: &[Clause],
 ) -> Result<Option<Limit>, AllocError>
-    ensures { let g = signature_of setting.entry in let s = model.with_more (state_view state.now) (clauses_view added.now) in IfOk result (λ o. MatchOption o (PassesNone g s) (λ l. Passes g s (limit_view l))) }
+    ensures { IfOk result (TellsLimit (signature_of setting.entry) (model.with_more (state_view state.now) (clauses_view added.now))) }
 {
     limit_of(alloc, setting, &with_more(alloc, state, added)?)
 }
@@ -103,7 +101,7 @@ fn next_limit(
     setting: Setting<'_>,
     nexts: &[Next],
 ) -> Result<Option<Limit>, AllocError>
-    ensures { let g = signature_of setting.entry in IfOk result (λ o. MatchOption o (AllByRecursion (λ x. PassesNone g x) (map next_told nexts.now)) (λ l. AnyByRecursion (λ x. Passes g x (limit_view l)) (map next_told nexts.now))) }
+    ensures { IfOk result (TellsLimitAmong (signature_of setting.entry) (map next_told nexts.now)) }
 {
     for next in nexts {
         if let Some(limit) = limit_with(alloc, setting, &next.state, &next.part.added)? {
@@ -119,7 +117,7 @@ fn remainder_limit(
     setting: Setting<'_>,
     remainder: &[Part],
 ) -> Result<Option<Limit>, AllocError>
-    ensures { let g = signature_of setting.entry in IfOk result (λ o. MatchOption o (AllByRecursion (λ x. PassesNone g x) (map part_told remainder.now)) (λ l. AnyByRecursion (λ x. Passes g x (limit_view l)) (map part_told remainder.now))) }
+    ensures { IfOk result (TellsLimitAmong (signature_of setting.entry) (map part_told remainder.now)) }
 {
     for part in remainder {
         if let Some(limit) = limit_with(alloc, setting, &part.state, &part.added)? {
@@ -136,7 +134,7 @@ pub fn first_limit(
     nexts: &[Next],
     remainder: &[Part],
 ) -> Result<Option<Limit>, AllocError>
-    ensures { let g = signature_of setting.entry in let all = map next_told nexts.now ++ map part_told remainder.now in IfOk result (λ o. MatchOption o (AllByRecursion (λ x. PassesNone g x) all) (λ l. AnyByRecursion (λ x. Passes g x (limit_view l)) all)) }
+    ensures { IfOk result (TellsLimitAmong (signature_of setting.entry) (map next_told nexts.now ++ map part_told remainder.now)) }
 {
     match next_limit(alloc, setting, nexts)? {
         Some(limit) => Ok(Some(limit)),

@@ -1,16 +1,8 @@
 // The next states of rules that have their turn, and the parts that remain, their equations solved.
-ghost use Rattle.std.specs.Prelude.{◌≡◌, IfOk, List, map};
-ghost use Rattle.std.specs.List.{AllByRecursion, AllZip};
+ghost use Rattle.std.specs.Prelude.{IfOk, List};
 ghost use Rattle.kp_kore.specs.Syntax.{Text};
-ghost use Rattle.kp_heads.specs.Made.{IsHeadTableOf};
-ghost use Rattle.kp_kore.specs.Theory.{Theory};
-ghost use Rattle.kp_cases.specs.Parts.{StatePart};
-ghost use Rattle.kp_unify.specs.Views.{signature_of, IsSetting, numbered_view};
-ghost use Rattle.kp_step.specs.Rules.{Steps, IsReadAt};
-ghost use Rattle.kp_firing.specs.Ready.{IsReadyPart};
-ghost use Rattle.kp_step.specs.Found.{IsTurnAt};
-ghost use Rattle.kp_step.specs.Follows.{IsNextAt, AreNextsOf, IsSolvedPart};
-ghost use Rattle.kp_step.specs.Views.{numbered_views, turn_view, next_view};
+ghost use Rattle.kp_unify.specs.Views.{signature_of, HasItsTable};
+ghost use Rattle.kp_step.specs.Promises.{FollowsInTurn, FollowsAtTurn, FollowsInTurns, SettlesPart, SettlesParts};
 
 use crate::outcome::Next;
 use crate::right::next_of;
@@ -30,9 +22,8 @@ fn turn_nexts(
     turn: &Turn,
     rewrite: &Rewrite,
 ) -> Result<Vec<Next>, CompileError>
-    requires { IsHeadTableOf (signature_of setting) setting.table.now }
-    ensures { (t : Theory) (used : List Text) (s : StatePart) → signature_of setting.entry ≡ t.signature → IsSetting used setting.entry → IsTurnAt t used s (turn_view turn.now) → IsReadAt t turn.now.place rewrite.now →
-        IfOk result (λ ns. AllZip (IsNextAt t used s (turn_view turn.now)) (numbered_views turn.now.parts.items) (map next_view ns.items)) }
+    requires { HasItsTable setting }
+    ensures { FollowsInTurn setting.entry turn.now rewrite.now result }
 {
     let mut nexts = Vec::new(alloc);
     for part in &turn.parts {
@@ -48,9 +39,8 @@ fn nexts_at(
     rules: &RuleSet,
     turn: &Turn,
 ) -> Result<Vec<Next>, CompileError>
-    requires { IsHeadTableOf (signature_of setting) setting.table.now }
-    ensures { (t : Theory) (used : List Text) (s : StatePart) → Steps t setting.entry rules.now → IsSetting used setting.entry → IsTurnAt t used s (turn_view turn.now) →
-        IfOk result (λ ns. AllZip (IsNextAt t used s (turn_view turn.now)) (numbered_views turn.now.parts.items) (map next_view ns.items)) }
+    requires { HasItsTable setting }
+    ensures { FollowsAtTurn setting.entry rules.now turn.now result }
 {
     match read_at(rules, turn.place) {
         Some(rewrite) => turn_nexts(alloc, setting, turn, rewrite),
@@ -65,9 +55,8 @@ pub fn nexts_of(
     rules: &RuleSet,
     turns: &[Turn],
 ) -> Result<Vec<Next>, CompileError>
-    requires { IsHeadTableOf (signature_of setting) setting.table.now }
-    ensures { (t : Theory) (used : List Text) (s : StatePart) → Steps t setting.entry rules.now → IsSetting used setting.entry → AllByRecursion (IsTurnAt t used s) (map turn_view turns.now) →
-        IfOk result (λ ns. AreNextsOf t used s (map turn_view turns.now) (map next_view ns.items)) }
+    requires { HasItsTable setting }
+    ensures { FollowsInTurns setting.entry rules.now turns.now result }
 {
     let mut nexts = Vec::new(alloc);
     for turn in turns {
@@ -79,7 +68,7 @@ pub fn nexts_of(
 
 /// The part with its equations solved.
 fn settled(alloc: Global, setting: Setting<'_>, part: Part) -> Result<Part, CompileError>
-    ensures { (used : List Text) → let g = signature_of setting.entry in IfOk result (λ p. IsReadyPart g used (numbered_view part) → IsSolvedPart g used (numbered_view part) (numbered_view p)) }
+    ensures { (used : List Text) → IfOk result (SettlesPart (signature_of setting.entry) used part) }
 {
     let Part { state, added, next } = part;
     Ok(Part {
@@ -95,7 +84,7 @@ pub fn all_settled(
     setting: Setting<'_>,
     parts: Vec<Part>,
 ) -> Result<Vec<Part>, CompileError>
-    ensures { (used : List Text) → let g = signature_of setting.entry in IfOk result (λ ps. AllByRecursion (IsReadyPart g used) (numbered_views parts.items) → AllZip (IsSolvedPart g used) (numbered_views parts.items) (numbered_views ps.items)) }
+    ensures { (used : List Text) → IfOk result (SettlesParts (signature_of setting.entry) used parts) }
 {
     let mut found = Vec::new(alloc);
     for part in parts {

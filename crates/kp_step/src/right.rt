@@ -1,23 +1,13 @@
 // What follows from a part where a rule has its turn.
-ghost use Rattle.std.specs.Prelude.{◌≡◌, ◌↔◌, ◌∷◌, [], IfOk, IsTrue, List, map};
+ghost use Rattle.std.specs.Prelude.{◌≡◌, ◌↔◌, ◌∷◌, [], IfOk, IsTrue, map};
 ghost use Rattle.std.specs.List.{AllByRecursion};
-ghost use Rattle.kp_kore.specs.Syntax.{Text};
 ghost use Rattle.kp_kore.specs.View.{view, sort_view, sorted_variable_view};
 ghost use Rattle.kp_heads.specs.Heads.{HasValue};
-ghost use Rattle.kp_heads.specs.Made.{IsHeadTableOf};
-ghost use Rattle.kp_kore.specs.Rules as meant;
-ghost use Rattle.kp_kore.specs.Steps.{Fires};
-ghost use Rattle.kp_kore.specs.Theory.{Theory};
 ghost use Rattle.kp_symbolic.specs.View.{replaced_view, variables_view, state_view};
 ghost use Rattle.kp_solving.specs.Further as further;
-ghost use Rattle.kp_cases.specs.Parts.{StatePart, OfEachInstance};
-ghost use Rattle.kp_firing.specs.Conditions.{condition_clauses};
-ghost use Rattle.kp_unify.specs.Views.{signature_of, IsSetting, part_view, numbered_view};
-ghost use Rattle.kp_step.specs.Left.{IsPartIn};
-ghost use Rattle.kp_step.specs.Found.{IsMetIn};
-ghost use Rattle.kp_step.specs.Follows.{IsNextOf};
+ghost use Rattle.kp_unify.specs.Views.{signature_of, part_view, HasItsTable};
 ghost use Rattle.kp_step.specs.Rights.{written_at, moved_state};
-ghost use Rattle.kp_step.specs.Rules.{IsReadBy};
+ghost use Rattle.kp_step.specs.Promises.{following_state, FollowsFrom, FollowsWhereValued, NextFollowsFrom};
 
 use crate::chosen::{Chosen, all_bindings, choose};
 use crate::outcome::Next;
@@ -37,7 +27,7 @@ use std::sync::Arc;
 
 /// Whether each of the sorts has a value.
 fn have_values(setting: Setting<'_>, own: &[SortedVariable]) -> bool
-    requires { IsHeadTableOf (signature_of setting) setting.table.now }
+    requires { HasItsTable setting }
     ensures { IsTrue result ↔ AllByRecursion (λ x. HasValue (signature_of setting.entry) x.sort) (map sorted_variable_view own.now) }
 {
     let signature = setting.language.signature;
@@ -82,7 +72,7 @@ fn moved(
     bindings: &[Replaced],
     new: &[Arc<Variable>],
 ) -> Result<State, CompileError>
-    ensures { let g = signature_of setting.entry in IfOk result (λ s. state_view s ≡ moved_state g (part_view part.now) (map replaced_view bindings.now) (variables_view new.now) (sort_view sort.value) (view right.now)) }
+    ensures { IfOk result (λ s. state_view s ≡ moved_state (signature_of setting.entry) (part_view part.now) (map replaced_view bindings.now) (variables_view new.now) (sort_view sort.value) (view right.now)) }
 {
     let term = term_under(right, alloc, setting.language, bindings)?;
     let mut variables = share_variables(alloc, &part.state.variables)?;
@@ -106,7 +96,7 @@ fn make_following(
     bindings: &[Replaced],
     new: &[Arc<Variable>],
 ) -> Result<State, CompileError>
-    ensures { let g = signature_of setting.entry in let bs = map replaced_view bindings.now in IfOk result (λ s. state_view s ≡ further.constrained (moved_state g (part_view part.now) bs (variables_view new.now) (sort_view sort.value) (view sides.now.right)) (condition_clauses g bs (map view sides.now.ensured.items))) }
+    ensures { IfOk result (λ s. state_view s ≡ following_state (signature_of setting.entry) (part_view part.now) sides.now (map replaced_view bindings.now) (variables_view new.now) (sort_view sort.value)) }
 {
     let state = moved(alloc, setting, part, &sides.right, sort, bindings, new)?;
     let ensured = lent(alloc, &sides.ensured)?;
@@ -129,9 +119,8 @@ fn follow(
     rewrite: &Rewrite,
     bindings: &[Replaced],
 ) -> Result<Following, CompileError>
-    requires { IsHeadTableOf (signature_of setting) setting.table.now }
-    ensures { (t : Theory) (used : List Text) (m : meant.Rewrite) (s p : StatePart) → let g = signature_of setting.entry in g ≡ t.signature → IsSetting used setting.entry → IsReadBy g m rewrite.now → IsMetIn t m (map replaced_view bindings.now) p → IsPartIn g used s p (numbered_view part.now) → OfEachInstance g (part_view part.now) (λ w c. Fires g (meant.rewrite m) c) →
-        IfOk result (λ f. AllByRecursion (λ x. HasValue g x.sort) m.new_variables → IsNextOf g used s (meant.rewrite m) (part_view part.now) (state_view f.state) f.next) }
+    requires { HasItsTable setting }
+    ensures { FollowsWhereValued setting.entry part.now rewrite.now bindings.now result }
 {
     let sides = &rewrite.sides;
     let own = sides.new_variables.as_slice();
@@ -158,9 +147,8 @@ pub fn following_of(
     rewrite: &Rewrite,
     bindings: &[Replaced],
 ) -> Result<Following, CompileError>
-    requires { IsHeadTableOf (signature_of setting) setting.table.now }
-    ensures { (t : Theory) (used : List Text) (m : meant.Rewrite) (s p : StatePart) → let g = signature_of setting.entry in g ≡ t.signature → IsSetting used setting.entry → IsReadBy g m rewrite.now → IsMetIn t m (map replaced_view bindings.now) p → IsPartIn g used s p (numbered_view part.now) → OfEachInstance g (part_view part.now) (λ w c. Fires g (meant.rewrite m) c) →
-        IfOk result (λ f. IsNextOf g used s (meant.rewrite m) (part_view part.now) (state_view f.state) f.next) }
+    requires { HasItsTable setting }
+    ensures { FollowsFrom setting.entry part.now rewrite.now bindings.now result }
 {
     if have_values(setting, &rewrite.sides.new_variables) {
         return follow(alloc, setting, part, rewrite, bindings);
@@ -180,11 +168,10 @@ pub fn next_of(
     rewrite: &Rewrite,
     bindings: &[Replaced],
 ) -> Result<Next, CompileError>
-    requires { IsHeadTableOf (signature_of setting) setting.table.now }
+    requires { HasItsTable setting }
     ensures place { IfOk result (λ n. n.rule ≡ place) }
     ensures part { IfOk result (λ n. part_view n.part ≡ part_view part.now) }
-    ensures follows { (t : Theory) (used : List Text) (m : meant.Rewrite) (s p : StatePart) → let g = signature_of setting.entry in g ≡ t.signature → IsSetting used setting.entry → IsReadBy g m rewrite.now → IsMetIn t m (map replaced_view bindings.now) p → IsPartIn g used s p (numbered_view part.now) → OfEachInstance g (part_view part.now) (λ w c. Fires g (meant.rewrite m) c) →
-        IfOk result (λ n. IsNextOf g used s (meant.rewrite m) (part_view part.now) (state_view n.state) n.next) }
+    ensures follows { NextFollowsFrom setting.entry part.now rewrite.now bindings.now result }
 {
     let Following { state, next } = following_of(alloc, setting, part, rewrite, bindings)?;
     Ok(Next {

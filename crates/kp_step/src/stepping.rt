@@ -1,23 +1,7 @@
 // One symbolic step.
-ghost use Rattle.std.specs.Prelude.{◌≡◌, IfOk, List, map};
-ghost use Rattle.std.specs.List.{AllZip};
-ghost use Rattle.kp_kore.specs.Syntax.{Text};
-ghost use Rattle.kp_heads.specs.Made.{IsHeadTableOf};
-ghost use Rattle.kp_kore.specs.Rules.{RewriteRule};
-ghost use Rattle.kp_kore.specs.Steps.{IsUnknown};
-ghost use Rattle.kp_kore.specs.Theory.{Theory};
-ghost use Rattle.kp_symbolic.specs.States.{SymbolicState};
 ghost use Rattle.kp_symbolic.specs.View.{state_view};
-ghost use Rattle.kp_cases.specs.Parts.{whole as whole_of, OfEachInstance, IsTold};
-ghost use Rattle.kp_unify.specs.Views.{signature_of, IsSetting, numbered_view};
-ghost use Rattle.kp_step.specs.Rules.{Steps, IsStepFrom};
-ghost use Rattle.kp_firing.specs.Ready.{HasInstance};
-ghost use Rattle.kp_step.specs.Ready.{IsReadyState};
-ghost use Rattle.kp_step.specs.Found.{IsRuleAt, AreAllFound};
-ghost use Rattle.kp_step.specs.Views.{numbered_views, turn_view};
-ghost use Rattle.kp_step.specs.Answers.{ShowsOf, TellsRemainder};
-ghost use Rattle.kp_step.specs.Tries.{AreRemaining};
-ghost use Rattle.kp_step.specs.Outcomes.{IsRightStep};
+ghost use Rattle.kp_step.specs.Promises.{StepsFrom, StepsFromInstance, StepsFromOpen, StepsByRules, StepsBySearch, StepsByTurns, StepsByCases, LeavesRemainder};
+ghost use Rattle.kp_unify.specs.Views.{HasItsTable};
 
 use crate::answers::{Answer, Decided, Open, answer_of, decided_parts};
 use crate::foreign::foreign;
@@ -41,9 +25,8 @@ fn cases(
     turns: &[Turn],
     remainder: Vec<Part>,
 ) -> Result<StepOutcome, CompileError>
-    requires { IsHeadTableOf (signature_of setting) setting.table.now }
-    ensures { (t : Theory) (used : List Text) (s : SymbolicState) (found : List RewriteRule) → Steps t setting.entry rules.now → IsSetting used setting.entry → HasInstance t.signature (whole_of s) → OfEachInstance t.signature (whole_of s) (λ w c. ¬ IsUnknown t c) → AreAllFound t used (whole_of s) (map turn_view turns.now) → AllZip (IsRuleAt t) (map turn_view turns.now) found → AreRemaining t used s found (numbered_views remainder.items) →
-        IfOk result (IsRightStep t used s) }
+    requires { HasItsTable setting }
+    ensures { StepsByCases setting.entry rules.now turns.now remainder result }
 {
     let nexts = nexts_of(alloc, setting, rules, turns)?;
     let remainder = all_settled(alloc, setting, remainder)?;
@@ -61,8 +44,8 @@ fn remainder_of(
     part: &Part,
     turns: &[Turn],
 ) -> Result<Decided, CompileError>
-    requires { IsHeadTableOf (signature_of setting) setting.table.now }
-    ensures { (t : Theory) (used : List Text) (s : SymbolicState) (found : List RewriteRule) → IsStepFrom t used s setting.entry rules.now (numbered_view part.now) → HasInstance t.signature (whole_of s) → AllZip (IsRuleAt t) (map turn_view turns.now) found → IfOk result (TellsRemainder t used s found) }
+    requires { HasItsTable setting }
+    ensures { LeavesRemainder setting.entry rules.now part.now turns.now result }
 {
     let mut parts = Vec::new(alloc);
     parts.push(part.share(alloc)?)?;
@@ -78,8 +61,8 @@ fn by_turns(
     part: &Part,
     turns: &[Turn],
 ) -> Result<StepOutcome, CompileError>
-    requires { IsHeadTableOf (signature_of setting) setting.table.now }
-    ensures { (t : Theory) (used : List Text) (s : SymbolicState) → IsStepFrom t used s setting.entry rules.now (numbered_view part.now) → HasInstance t.signature (whole_of s) → OfEachInstance t.signature (whole_of s) (λ w c. ¬ IsUnknown t c) → AreAllFound t used (whole_of s) (map turn_view turns.now) → IfOk result (IsRightStep t used s) }
+    requires { HasItsTable setting }
+    ensures { StepsByTurns setting.entry rules.now part.now turns.now result }
 {
     match remainder_of(alloc, setting, rules, part, turns)? {
         Decided::Parts { parts } => cases(alloc, setting, rules, turns, parts),
@@ -94,8 +77,8 @@ fn by_search(
     rules: &RuleSet,
     part: &Part,
 ) -> Result<StepOutcome, CompileError>
-    requires { IsHeadTableOf (signature_of setting) setting.table.now }
-    ensures { (t : Theory) (used : List Text) (s : SymbolicState) → IsStepFrom t used s setting.entry rules.now (numbered_view part.now) → HasInstance t.signature (whole_of s) → OfEachInstance t.signature (whole_of s) (λ w c. ¬ IsUnknown t c) → IfOk result (IsRightStep t used s) }
+    requires { HasItsTable setting }
+    ensures { StepsBySearch setting.entry rules.now part.now result }
 {
     match find_turns(alloc, setting, rules, part)? {
         Searched::Found { turns } => by_turns(alloc, setting, rules, part, &turns),
@@ -110,8 +93,8 @@ fn by_rules(
     rules: &RuleSet,
     part: &Part,
 ) -> Result<StepOutcome, CompileError>
-    requires { IsHeadTableOf (signature_of setting) setting.table.now }
-    ensures { (t : Theory) (used : List Text) (s : SymbolicState) → IsStepFrom t used s setting.entry rules.now (numbered_view part.now) → HasInstance t.signature (whole_of s) → IfOk result (IsRightStep t used s) }
+    requires { HasItsTable setting }
+    ensures { StepsByRules setting.entry rules.now part.now result }
 {
     match foreign(alloc, setting, rules, part)? {
         Some(outcome) => Ok(outcome),
@@ -127,8 +110,8 @@ fn from_state(
     state: &State,
     next: u64,
 ) -> Result<StepOutcome, CompileError>
-    requires { IsHeadTableOf (signature_of setting) setting.table.now }
-    ensures { (t : Theory) (used : List Text) → let s = state_view state.now in Steps t setting.entry rules.now → IsSetting used setting.entry → IsReadyState t.signature used s next → HasInstance t.signature (whole_of s) → IfOk result (IsRightStep t used s) }
+    requires { HasItsTable setting }
+    ensures { StepsFromInstance setting.entry rules.now (state_view state.now) next result }
 {
     match limit_of(alloc, setting, state)? {
         Some(limit) => Ok(StepOutcome::Limited { limit }),
@@ -138,7 +121,7 @@ fn from_state(
 
 /// The step of a state whose clauses aren't decided: a number beyond 128 bits goes before them.
 fn from_open(setting: Setting<'_>, state: &State, told: Open) -> Result<StepOutcome, AllocError>
-    ensures { (t : Theory) (used : List Text) → let s = state_view state.now in signature_of setting.entry ≡ t.signature → IsTold t.signature (whole_of s) → ShowsOf t.signature s s told → IfOk result (IsRightStep t used s) }
+    ensures { StepsFromOpen setting.entry (state_view state.now) told result }
 {
     match wide_in(setting, state)? {
         Some(limit) => Ok(StepOutcome::Limited { limit }),
@@ -156,8 +139,8 @@ pub fn step(
     state: &State,
     next: u64,
 ) -> Result<StepOutcome, CompileError>
-    requires { IsHeadTableOf (signature_of setting) setting.table.now }
-    ensures { (t : Theory) (used : List Text) → let s = state_view state.now in Steps t setting.entry rules.now → IsSetting used setting.entry → IsReadyState t.signature used s next → IfOk result (IsRightStep t used s) }
+    requires { HasItsTable setting }
+    ensures { StepsFrom setting.entry rules.now (state_view state.now) next result }
 {
     match answer_of(alloc, setting, state, state)? {
         Answer::Nothing => Ok(StepOutcome::Empty),

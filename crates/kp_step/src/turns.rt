@@ -1,25 +1,9 @@
 // The rules that have their turn on some instance of a state, and where.
-ghost use Rattle.std.specs.Prelude.{◌≡◌, ◌∷◌, [], ℕ, IfOk, IsTrue, List, Some, map, MatchOption, ⊤};
-ghost use Rattle.std.specs.List.{AllZip};
-ghost use Rattle.kp_kore.specs.Syntax.{Text};
-ghost use Rattle.kp_heads.specs.Made.{IsHeadTableOf};
-ghost use Rattle.kp_kore.specs.Rules.{Rewrite, RewriteRule};
-ghost use Rattle.kp_kore.specs.Theory.{Theory};
-ghost use Rattle.kp_symbolic.specs.States.{SymbolicState};
-ghost use Rattle.kp_symbolic.specs.View.{replaced_view, state_view};
-ghost use Rattle.kp_rules.specs.Sides.{AreSidesOf};
-ghost use Rattle.kp_rules.specs.VerifiedSides.{AreVerifiedSides};
-ghost use Rattle.kp_cases.specs.Parts.{StatePart};
-ghost use Rattle.kp_unify.specs.Views.{signature_of, IsSetting, part_view, numbered_view};
-ghost use Rattle.kp_step.specs.Rules.{Steps, IsStepFrom};
-ghost use Rattle.kp_step.specs.Places.{IsReadAs, IsPriorityAt};
-ghost use Rattle.kp_step.specs.Found.{PlacedTurn, IsRuleAt, IsMetIn};
-ghost use Rattle.kp_step.specs.Ready.{IsWholeReady};
-ghost use Rattle.kp_step.specs.Left.{AreLeft};
-ghost use Rattle.kp_step.specs.Views.{numbered_views, turn_view, limit_view};
-ghost use Rattle.kp_step.specs.Limits.{IsPassed};
-ghost use Rattle.kp_step.specs.Tries.{PlacedFiring, narrowed_of, IsFiringOf, CanMeet, AreTurnParts};
-ghost use Rattle.kp_step.specs.Answers.{TellsParts, TellsTurn, TellsTurns, firing_model};
+ghost use Rattle.std.specs.Prelude.{◌≡◌, IfOk};
+ghost use Rattle.kp_unify.specs.Views.{numbered_view, HasItsTable};
+ghost use Rattle.kp_step.specs.Tries.{narrowed_of};
+ghost use Rattle.kp_step.specs.Answers.{TellsTurns, firing_model};
+ghost use Rattle.kp_step.specs.Promises.{LeavesTo, TellsMayMeet, TellsWideCondition, TellsTurnParts, MakesTurn, TriesRule, TriesSides, TriesFiring, OfEachStep};
 
 use crate::answers::{Answer, Decided, answer_of, decided_parts};
 use crate::left::left_after;
@@ -67,8 +51,8 @@ fn may_meet(
     whole: &Part,
     firing: &Firing,
 ) -> Result<bool, AllocError>
-    requires { IsHeadTableOf (signature_of setting) setting.table.now }
-    ensures { (t : Theory) (used : List Text) (s : SymbolicState) (place : ℕ) → signature_of setting.entry ≡ t.signature → IsSetting used setting.entry → IsWholeReady t.signature used s (numbered_view whole.now) → IsFiringOf t used s place (firing_model firing.now) → IfOk result (λ b. IsTrue b → CanMeet t (firing_model firing.now)) }
+    requires { HasItsTable setting }
+    ensures { TellsMayMeet setting.entry whole.now firing.now result }
 {
     let met = constrain(alloc, &firing.part.state, &firing.equations)?;
     match answer_of(alloc, setting, &whole.state, &met)? {
@@ -93,8 +77,8 @@ fn wide_condition(
     firing: &Firing,
     narrowed: &State,
 ) -> Result<Option<Limit>, AllocError>
-    requires { IsHeadTableOf (signature_of setting) setting.table.now }
-    ensures { (t : Theory) (used : List Text) (s : SymbolicState) (place : ℕ) → signature_of setting.entry ≡ t.signature → IsSetting used setting.entry → IsWholeReady t.signature used s (numbered_view whole.now) → IsFiringOf t used s place (firing_model firing.now) → state_view narrowed.now ≡ (narrowed_of (firing_model firing.now)).part.state → IfOk result (λ o. MatchOption o ⊤ (λ l. IsPassed t s (limit_view l))) }
+    requires { HasItsTable setting }
+    ensures { TellsWideCondition setting.entry whole.now firing.now narrowed.now result }
 {
     match wide_in(setting, narrowed)? {
         Some(limit) => {
@@ -116,9 +100,8 @@ fn left_to(
     priority: u32,
     part: Part,
 ) -> Result<Vec<Part>, CompileError>
-    requires { IsHeadTableOf (signature_of setting) setting.table.now }
-    ensures { (t : Theory) (used : List Text) (r : RewriteRule) (found : List RewriteRule) (s p : StatePart) → let g = signature_of setting.entry in Steps t setting.entry rules.now → IsSetting used setting.entry → r.priority ≡ priority → AllZip (IsRuleAt t) (map turn_view turns.now) found → AreLeft g used (Some r) [] s p (numbered_view part ∷ []) →
-        IfOk result (λ left. AreLeft g used (Some r) found s p (numbered_views left.items)) }
+    requires { HasItsTable setting }
+    ensures { LeavesTo setting.entry rules.now turns.now priority part result }
 {
     let mut parts = Vec::new(alloc);
     parts.push(part)?;
@@ -135,8 +118,8 @@ fn turn_parts(
     priority: u32,
     part: Part,
 ) -> Result<Decided, CompileError>
-    requires { IsHeadTableOf (signature_of setting) setting.table.now }
-    ensures { (t : Theory) (used : List Text) (s : SymbolicState) (place : ℕ) (found : List RewriteRule) → IsStepFrom t used s setting.entry rules.now (numbered_view whole.now) → IsPriorityAt t place priority → AllZip (IsRuleAt t) (map turn_view turns.now) found → (f : PlacedFiring) → IsFiringOf t used s place f → numbered_view part ≡ narrowed_of f → IfOk result (TellsParts t used s place found f.part.part) }
+    requires { HasItsTable setting }
+    ensures { TellsTurnParts setting.entry rules.now turns.now whole.now priority part result }
 {
     if let Answer::Nothing = answer_of(alloc, setting, &whole.state, &part.state)? {
         let parts = Vec::new(alloc);
@@ -148,8 +131,7 @@ fn turn_parts(
 
 /// A rule's turn, if it has one.
 fn turn_of(place: usize, priority: u32, parts: Vec<Part>, bindings: Vec<Replaced>) -> Tried
-    ensures { (t : Theory) (used : List Text) (s : SymbolicState) (earlier : List PlacedTurn) (found : List RewriteRule) (m : Rewrite) (p : StatePart) → AllZip (IsRuleAt t) earlier found → IsReadAs t place m → IsPriorityAt t place priority → IsMetIn t m (map replaced_view bindings.items) p → AreTurnParts t used s place found p (numbered_views parts.items) →
-        TellsTurn t used s earlier place result }
+    ensures { MakesTurn place priority parts bindings result }
 {
     if parts.is_empty() {
         return Tried::NoTurn;
@@ -173,8 +155,8 @@ fn try_firing(
     place: usize,
     firing: Firing,
 ) -> Result<Tried, CompileError>
-    requires { IsHeadTableOf (signature_of setting) setting.table.now }
-    ensures { (t : Theory) (used : List Text) (s : SymbolicState) (found : List RewriteRule) → IsStepFrom t used s setting.entry rules.now (numbered_view whole.now) → AllZip (IsRuleAt t) (map turn_view turns.now) found → IsFiringOf t used s place (firing_model firing) → IfOk result (TellsTurn t used s (map turn_view turns.now) place) }
+    requires { HasItsTable setting }
+    ensures { TriesFiring setting.entry rules.now turns.now whole.now place firing result }
 {
     let narrowed = narrowed_part(alloc, &firing)?;
     if let Some(limit) = wide_condition(alloc, setting, whole, &firing, &narrowed.state)? {
@@ -203,8 +185,8 @@ fn try_sides(
     place: usize,
     sides: &Sides,
 ) -> Result<Tried, CompileError>
-    requires { IsHeadTableOf (signature_of setting) setting.table.now }
-    ensures { (t : Theory) (used : List Text) (s : SymbolicState) (found : List RewriteRule) (m : Rewrite) → IsStepFrom t used s setting.entry rules.now (numbered_view whole.now) → AllZip (IsRuleAt t) (map turn_view turns.now) found → IsReadAs t place m → AreSidesOf t.signature m sides.now → AreVerifiedSides t.signature m → IfOk result (TellsTurn t used s (map turn_view turns.now) place) }
+    requires { HasItsTable setting }
+    ensures { TriesSides setting.entry rules.now turns.now whole.now place sides.now result }
 {
     match fire(alloc, &setting, whole, sides)? {
         Some(firing) => {
@@ -226,8 +208,8 @@ fn try_rule(
     whole: &Part,
     place: usize,
 ) -> Result<Tried, CompileError>
-    requires { IsHeadTableOf (signature_of setting) setting.table.now }
-    ensures { (t : Theory) (used : List Text) (s : SymbolicState) (found : List RewriteRule) → IsStepFrom t used s setting.entry rules.now (numbered_view whole.now) → AllZip (IsRuleAt t) (map turn_view turns.now) found → IfOk result (TellsTurn t used s (map turn_view turns.now) place) }
+    requires { HasItsTable setting }
+    ensures { TriesRule setting.entry rules.now turns.now whole.now place result }
 {
     match read_at(rules, place) {
         Some(rewrite) => try_sides(alloc, setting, rules, turns, whole, place, &rewrite.sides),
@@ -242,8 +224,8 @@ pub fn find_turns(
     rules: &RuleSet,
     whole: &Part,
 ) -> Result<Searched, CompileError>
-    requires { IsHeadTableOf (signature_of setting) setting.table.now }
-    ensures { (t : Theory) (used : List Text) (s : SymbolicState) → IsStepFrom t used s setting.entry rules.now (numbered_view whole.now) → IfOk result (TellsTurns t used s) }
+    requires { HasItsTable setting }
+    ensures { OfEachStep setting.entry rules.now whole.now (λ t used s. IfOk result (TellsTurns t used s)) }
 {
     let mut turns = Vec::new(alloc);
     for place in rules.in_turn() {

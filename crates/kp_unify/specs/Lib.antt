@@ -9,3 +9,4 @@ pub mod Clash
 pub mod Matched
 pub mod Comes
 pub mod Way
+pub mod Promises

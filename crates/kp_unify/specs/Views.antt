@@ -46,10 +46,14 @@ course_view k = record {
 abbrev pub stage_view : Course → Stage
 stage_view k = record { course = course_view k; next = k.part.next; apart = map numbered_view k.apart.items }
 
--- the signature, the names that were met, and the table of heads
 abbrev pub signature_of : Setting → KoreSignature
 signature_of s = language_view s.language.now
 
+-- the table is that of the signature's heads
+abbrev pub HasItsTable : Setting → Type 0
+HasItsTable s = IsHeadTableOf (signature_of s) s.table.now
+
+-- and these are the names that were met
 pub record IsSetting (used : List Text) (s : Setting) : Type 0 where
   pub lists : Lists used s.met.now
-  pub heads : IsHeadTableOf (signature_of s) s.table.now
+  pub heads : HasItsTable s

@@ -1,6 +1,5 @@
 // Clauses on the head of a variable, for a sort that shares some of its heads where no sort has exactly these.
-ghost use Rattle.std.specs.Prelude.{◌≡◌, ◌&&◌, ◌∷◌, [], ◌++◌, false, true, IfOk, OnOk, map, string_bytes};
-ghost use Rattle.std.specs.List.{filter};
+ghost use Rattle.std.specs.Prelude.{◌≡◌, ◌&&◌, ◌∷◌, [], ◌++◌, false, IfOk, OnOk, map, string_bytes};
 ghost use Rattle.std.specs.Option.{option_map};
 ghost use Rattle.kp_kore.specs.Signature.{is_head as model_head};
 ghost use Rattle.kp_kore.specs.Syntax.{sort_of, no_sorts};
@@ -12,6 +11,7 @@ ghost use Rattle.kp_sort_heads.specs.Views.{head_view};
 ghost use Rattle.kp_symbolic.specs.View.{variable_view, test_view, literal_view, clause_view, clauses_view};
 ghost use Rattle.kp_cases.specs.Narrowings as model;
 ghost use Rattle.kp_unify.specs.Heads.{clause_without};
+ghost use Rattle.kp_unify.specs.Promises.{shared_literals};
 
 use crate::literals::{head_literal, sort_test};
 use kp_distribution::joined::{kept_once, make_clause};
@@ -103,7 +103,7 @@ fn tested(
     variable: &Arc<Variable>,
     head: &Head,
 ) -> Result<Literal, AllocError>
-    ensures { let x = variable_view variable.now.value in IfOk result (λ l. literal_view l ≡ model.tested (signature_view signature.now) holds x (head_view head.now)) }
+    ensures { IfOk result (λ l. literal_view l ≡ model.tested (signature_view signature.now) holds (variable_view variable.now.value) (head_view head.now)) }
 {
     let test = test_of(alloc, signature, head)?;
     head_literal(holds, variable, &test)
@@ -118,7 +118,7 @@ fn add_shared(
     sort: &Sort,
     test: &HeadTest,
 ) -> Result<(), AllocError>
-    ensures { let g = signature_view signature.now in let x = variable_view variable.now.value in OnOk result (map literal_view found.new.items ≡ map literal_view found.old.items ++ map (model.tested g true x) (filter (passes_head g (test_view test.now)) (model.shared_heads g x (sort_view sort.now)))) }
+    ensures { OnOk result (map literal_view found.new.items ≡ map literal_view found.old.items ++ shared_literals (signature_view signature.now) (variable_view variable.now.value) (sort_view sort.now) (test_view test.now)) }
 {
     let mut left = heads(signature, &variable.sort);
     while let Some(head) = left.next() {
@@ -137,7 +137,7 @@ fn hasnt(
     sort: &Sort,
     head: &Head,
 ) -> Result<Clause, AllocError>
-    ensures { let g = signature_view signature.now in IfOk result (λ c. clause_view c ≡ clause_without g (variable_view variable.now.value) (sort_view sort.now) (head_view head.now)) }
+    ensures { IfOk result (λ c. clause_view c ≡ clause_without (signature_view signature.now) (variable_view variable.now.value) (sort_view sort.now) (head_view head.now)) }
 {
     let test = test_of(alloc, signature, head)?;
     let mut literals = Vec::new(alloc);
@@ -155,7 +155,7 @@ pub fn inside(
     variable: &Arc<Variable>,
     sort: &Sort,
 ) -> Result<Vec<Clause>, AllocError>
-    ensures { let x = variable_view variable.now.value in IfOk result (λ cs. clauses_view cs.items ≡ model.heads_inside (signature_view signature.now) x (sort_view sort.now)) }
+    ensures { IfOk result (λ cs. clauses_view cs.items ≡ model.heads_inside (signature_view signature.now) (variable_view variable.now.value) (sort_view sort.now)) }
 {
     let mut found = Vec::new(alloc);
     let mut left = heads(signature, &variable.sort);
@@ -174,7 +174,7 @@ fn fails(
     variable: &Arc<Variable>,
     head: &Head,
 ) -> Result<Clause, AllocError>
-    ensures { let g = signature_view signature.now in IfOk result (λ c. clause_view c ≡ model.tested g false (variable_view variable.now.value) (head_view head.now) ∷ []) }
+    ensures { IfOk result (λ c. clause_view c ≡ model.tested (signature_view signature.now) false (variable_view variable.now.value) (head_view head.now) ∷ []) }
 {
     let literal = tested(alloc, signature, false, variable, head)?;
     make_clause(alloc, literal)
@@ -187,7 +187,7 @@ pub fn outside(
     variable: &Arc<Variable>,
     sort: &Sort,
 ) -> Result<Vec<Clause>, AllocError>
-    ensures { let x = variable_view variable.now.value in IfOk result (λ cs. clauses_view cs.items ≡ model.heads_outside (signature_view signature.now) x (sort_view sort.now)) }
+    ensures { IfOk result (λ cs. clauses_view cs.items ≡ model.heads_outside (signature_view signature.now) (variable_view variable.now.value) (sort_view sort.now)) }
 {
     let mut found = Vec::new(alloc);
     let mut left = heads(signature, &variable.sort);

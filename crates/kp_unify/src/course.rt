@@ -123,7 +123,7 @@ fn replaced_bindings(
     by: &[Replaced],
     bindings: &[Replaced],
 ) -> Result<Vec<Replaced>, CompileError>
-    ensures { let by' = map replaced_view by.now in IfOk result (λ bs. map replaced_view bs.items ≡ map (binding_put (language_view language.now) by') (map replaced_view bindings.now)) }
+    ensures { IfOk result (λ bs. map replaced_view bs.items ≡ map (binding_put (language_view language.now) (map replaced_view by.now)) (map replaced_view bindings.now)) }
 {
     let mut found = Vec::new(alloc);
     for binding in bindings {
@@ -155,7 +155,7 @@ fn replaced_equalities(
     by: &[Replaced],
     equalities: &[Equality],
 ) -> Result<Vec<Equality>, CompileError>
-    ensures { let by' = map replaced_view by.now in IfOk result (λ es. map equality_view es.items ≡ map (equality_put (language_view language.now) by') (map equality_view equalities.now)) }
+    ensures { IfOk result (λ es. map equality_view es.items ≡ map (equality_put (language_view language.now) (map replaced_view by.now)) (map equality_view equalities.now)) }
 {
     let mut found = Vec::new(alloc);
     for equality in equalities {
@@ -186,7 +186,7 @@ fn replaced_pairs<'a>(
     by: &[Replaced],
     pairs: &[Pair<'a>],
 ) -> Result<Vec<Pair<'a>>, CompileError>
-    ensures { let by' = map replaced_view by.now in IfOk result (λ qs. map pair_view qs.items ≡ map (pair_put (language_view language.now) by') (map pair_view pairs.now)) }
+    ensures { IfOk result (λ qs. map pair_view qs.items ≡ map (pair_put (language_view language.now) (map replaced_view by.now)) (map pair_view pairs.now)) }
 {
     let mut found = Vec::new(alloc);
     for pair in pairs {
@@ -199,8 +199,7 @@ impl<'a> Course<'a> {
     ghost use Rattle.std.specs.Prelude.{◌≡◌, OnOk};
     ghost use Rattle.kp_symbolic.specs.Languages.{language_view};
     ghost use Rattle.kp_readings.specs.Equations.{equation_view};
-    ghost use Rattle.kp_cases.specs.Courses as model;
-    ghost use Rattle.kp_unify.specs.Views.{part_view, course_view};
+    ghost use Rattle.kp_unify.specs.Promises.{IsReplacedBy};
 
     /// A term in the variable's place in all that was found and is to come.
     pub fn replace(
@@ -209,7 +208,7 @@ impl<'a> Course<'a> {
         language: &Language,
         equation: &Equation<'_>,
     ) -> Result<(), CompileError>
-        ensures course { let e = equation_view equation.now in OnOk result (course_view self.new ≡ model.replaced_course (language_view language.now) e (part_view self.old.part) (course_view self.old)) }
+        ensures course { OnOk result (IsReplacedBy (language_view language.now) (equation_view equation.now) self.old self.new) }
         ensures apart { OnOk result (self.new.apart ≡ self.old.apart) }
         ensures next { OnOk result (self.new.part.next ≡ self.old.part.next) }
     {

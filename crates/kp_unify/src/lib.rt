@@ -1,5 +1,6 @@
 // The cases of a symbolic state under a rule's left side: its variables are narrowed by constructors and by sorts, what is
-// repeated becomes equations that stay apart, and each narrowing splits off the part without it.
+// repeated becomes equations that stay apart, and each narrowing splits off the part without it. What the calls promise stands by
+// name in specs/Promises.
 #![tactic(auto)]
 
 pub mod asked;

@@ -41,7 +41,7 @@ fn equality(
     left: &Term,
     right: &Term,
 ) -> Result<Literal, AllocError>
-    ensures { let atom' = states.same (sort_view sort.now) (term_view left.now) (term_view right.now) in IfOk result (λ l. literal_view l ≡ record { holds = holds; atom = atom' }) }
+    ensures { IfOk result (λ l. literal_view l ≡ record { holds = holds; atom = states.same (sort_view sort.now) (term_view left.now) (term_view right.now) }) }
 {
     let atom = Atom::Same {
         sort: Arc::new(alloc, sort.copy(alloc)?)?,
@@ -67,7 +67,7 @@ pub fn variable_is(
     variable: &Arc<Variable>,
     term: &Term,
 ) -> Result<Vec<Clause>, AllocError>
-    ensures { let x = variable_view variable.now.value in let atom' = states.same x.sort (unknown x) (term_view term.now) in IfOk result (λ cs. clauses_view cs.items ≡ (record { holds = holds; atom = atom' } ∷ []) ∷ []) }
+    ensures { let x = variable_view variable.now.value in IfOk result (λ cs. clauses_view cs.items ≡ (record { holds = holds; atom = states.same x.sort (unknown x) (term_view term.now) } ∷ []) ∷ []) }
 {
     let left = make_unknown(variable)?;
     let literal = equality(alloc, holds, &variable.sort, &left, term)?;
@@ -97,7 +97,7 @@ pub fn equal_clauses(
     left: &Term,
     right: &Term,
 ) -> Result<Vec<Clause>, AllocError>
-    ensures { let e = equality_of (sort_view sort.now) (term_view left.now) (term_view right.now) in IfOk result (λ cs. clauses_view cs.items ≡ equality_clauses (signature_view signature.now) e) }
+    ensures { IfOk result (λ cs. clauses_view cs.items ≡ equality_clauses (signature_view signature.now) (equality_of (sort_view sort.now) (term_view left.now) (term_view right.now))) }
 {
     let formula = open_same(alloc, signature, true, true, sort, left, right)?;
     let opened = distribute(&formula, alloc)?;
@@ -114,7 +114,7 @@ pub fn head_literal(
     variable: &Arc<Variable>,
     test: &HeadTest,
 ) -> Result<Literal, AllocError>
-    ensures { let atom' = states.has_head (variable_view variable.now.value) (test_view test.now) in IfOk result (λ l. literal_view l ≡ record { holds = holds; atom = atom' }) }
+    ensures { IfOk result (λ l. literal_view l ≡ record { holds = holds; atom = states.has_head (variable_view variable.now.value) (test_view test.now) }) }
 {
     let atom = Atom::Head {
         variable: variable.clone()?,
@@ -131,7 +131,7 @@ pub fn head_clauses(
     variable: &Arc<Variable>,
     test: &HeadTest,
 ) -> Result<Vec<Clause>, AllocError>
-    ensures { let x = variable_view variable.now.value in IfOk result (λ cs. clauses_view cs.items ≡ narrowings.head_clauses (signature_view signature.now) holds x (test_view test.now)) }
+    ensures { IfOk result (λ cs. clauses_view cs.items ≡ narrowings.head_clauses (signature_view signature.now) holds (variable_view variable.now.value) (test_view test.now)) }
 {
     let term = make_unknown(variable)?;
     let kept = head_literal(holds, variable, test)?;

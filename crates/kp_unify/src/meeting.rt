@@ -1,17 +1,12 @@
 // The cases of a part, and of a whole state, under a left side.
-ghost use Rattle.std.specs.Prelude.{◌≡◌, [], List, MatchOption, MatchBool, IfOk, IsTrue, map};
-ghost use Rattle.std.specs.List.{AllByRecursion};
-ghost use Rattle.kp_kore.specs.Syntax.{Text};
+ghost use Rattle.std.specs.Prelude.{◌≡◌, IfOk, map};
 ghost use Rattle.kp_signature.specs.View.{signature_view};
-ghost use Rattle.kp_heads.specs.Made.{IsHeadTableOf};
-ghost use Rattle.kp_rules.specs.Skeletons as forms;
 ghost use Rattle.kp_rules.specs.Skeletons.{skeleton_view};
 ghost use Rattle.kp_symbolic.specs.View.{clauses_view, state_view};
 ghost use Rattle.kp_cases.specs.Parts as parts;
-ghost use Rattle.kp_cases.specs.Parts.{StatePart};
-ghost use Rattle.kp_cases.specs.Courses.{all_equality_clauses, IsSortedEquality};
-ghost use Rattle.kp_unify.specs.Views.{signature_of, part_view, numbered_view, met_view, equality_view, stage_view, IsSetting};
-ghost use Rattle.kp_unify.specs.Way.{IsPlacedEquality, IsGone, IsMeetable, IsAllApart, IsMeeting};
+ghost use Rattle.kp_cases.specs.Courses.{all_equality_clauses};
+ghost use Rattle.kp_unify.specs.Views.{signature_of, numbered_view, met_view, equality_view, stage_view, HasItsTable};
+ghost use Rattle.kp_unify.specs.Promises.{RunsToItsEnd, IsPlacedIf, ArePlacedIf, met_at_end, MeetsAtEnd, MeetsPart};
 
 use crate::clash::clashes;
 use crate::course::{Course, Equality, begin};
@@ -32,8 +27,8 @@ fn run<'a>(
     setting: &Setting<'_>,
     course: &mut Course<'a>,
 ) -> Result<bool, CompileError>
-    requires heads { IsHeadTableOf (signature_of setting.now) setting.now.table.now }
-    ensures { (used : List Text) (left : forms.Form) (p : StatePart) → let g = signature_of setting.now in IsSetting used setting.now → IsGone g used left p (stage_view course.old) → IfOk result (λ b. MatchBool b (IsGone g used left p (stage_view course.new) × ((stage_view course.new).course.pairs ≡ [])) (IsAllApart g left p)) }
+    requires heads { HasItsTable setting.now }
+    ensures { RunsToItsEnd setting.now course.old result course.new }
 {
     for _step in 0..u64::MAX {
         match course.pairs.pop() {
@@ -73,7 +68,7 @@ fn equations(
 
 /// Whether both sides, which have the equality's sort for each instance of a part, have it by their form.
 fn is_placed(signature: &Signature, equality: &Equality) -> bool
-    ensures { (p : StatePart) → let g = signature_view signature.now in let e = equality_view equality.now in IsTrue result → IsSortedEquality g p e → IsPlacedEquality g e }
+    ensures { IsPlacedIf result (signature_view signature.now) (equality_view equality.now) }
 {
     has_sort(signature, &equality.left, &equality.sort)
         && has_sort(signature, &equality.right, &equality.sort)
@@ -81,7 +76,7 @@ fn is_placed(signature: &Signature, equality: &Equality) -> bool
 
 /// The same of each equality.
 fn are_placed(signature: &Signature, equalities: &[Equality]) -> bool
-    ensures { (p : StatePart) → let g = signature_view signature.now in let es = map equality_view equalities.now in IsTrue result → AllByRecursion (IsSortedEquality g p) es → AllByRecursion (IsPlacedEquality g) es }
+    ensures { ArePlacedIf result (signature_view signature.now) (map equality_view equalities.now) }
 {
     for equality in equalities {
         if !is_placed(signature, equality) {
@@ -93,7 +88,7 @@ fn are_placed(signature: &Signature, equalities: &[Equality]) -> bool
 
 /// What was met, where no pair is left.
 fn make_meeting(course: Course<'_>, equations: Vec<Clause>) -> Meeting
-    ensures met { met_view result.met ≡ record { part = part_view course.entry.part; equations = clauses_view equations.items; bindings = (stage_view course.entry).course.bindings } }
+    ensures met { met_view result.met ≡ met_at_end course.entry equations.items }
     ensures next { result.met.part.next ≡ course.entry.part.next }
     ensures apart { map numbered_view result.apart.items ≡ (stage_view course.entry).apart }
 {
@@ -118,7 +113,7 @@ fn met(
     setting: &Setting<'_>,
     course: Course<'_>,
 ) -> Result<Option<Meeting>, CompileError>
-    ensures { (used : List Text) (left : forms.Form) (p : StatePart) → let g = signature_of setting.now in IsGone g used left p (stage_view course.entry) → (stage_view course.entry).course.pairs ≡ [] → IfOk result (λ o. MatchOption o (IsAllApart g left p) (λ m. IsMeeting g used left p (met_view m.met) m.met.part.next (map numbered_view m.apart.items))) }
+    ensures { MeetsAtEnd (signature_of setting.now) course.entry result }
 {
     let equations = equations(alloc, setting, &course.equalities)?;
     if are_never(&equations) {
@@ -140,8 +135,8 @@ pub fn meet(
     part: &Part,
     left: &Skeleton,
 ) -> Result<Option<Meeting>, CompileError>
-    requires heads { IsHeadTableOf (signature_of setting.now) setting.now.table.now }
-    ensures { (used : List Text) → let g = signature_of setting.now in let l = skeleton_view left.now in let p = part_view part.now in IsSetting used setting.now → IsMeetable g used l (numbered_view part.now) → IfOk result (λ o. MatchOption o (IsAllApart g l p) (λ m. IsMeeting g used l p (met_view m.met) m.met.part.next (map numbered_view m.apart.items))) }
+    requires heads { HasItsTable setting.now }
+    ensures { MeetsPart setting.now (numbered_view part.now) (skeleton_view left.now) result }
 {
     if clashes(&part.state.term, Form::Skeleton { skeleton: left }) {
         return Ok(None);
@@ -161,8 +156,8 @@ pub fn cases(
     left: &Skeleton,
     next: u64,
 ) -> Result<Option<Meeting>, CompileError>
-    requires heads { IsHeadTableOf (signature_of setting.now) setting.now.table.now }
-    ensures { (used : List Text) → let g = signature_of setting.now in let l = skeleton_view left.now in let p = parts.whole (state_view state.now) in IsSetting used setting.now → IsMeetable g used l (record { part = p; next = next }) → IfOk result (λ o. MatchOption o (IsAllApart g l p) (λ m. IsMeeting g used l p (met_view m.met) m.met.part.next (map numbered_view m.apart.items))) }
+    requires heads { HasItsTable setting.now }
+    ensures { MeetsPart setting.now (record { part = parts.whole (state_view state.now); next = next }) (skeleton_view left.now) result }
 {
     let part = whole(alloc, state, next)?;
     meet(alloc, setting, &part, left)

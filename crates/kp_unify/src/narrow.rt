@@ -1,19 +1,19 @@
 // One narrowing of a variable: the course goes on in the part with it, and the part without it is split off.
-ghost use Rattle.std.specs.Prelude.{◌≡◌, false, List, IfOk, length, map, string_bytes};
+ghost use Rattle.std.specs.Prelude.{◌≡◌, false, IfOk, map, string_bytes};
 ghost use Rattle.kp_kore.specs.Signature.{construction, meaning_of as named};
-ghost use Rattle.kp_kore.specs.Parts.{SortedName};
 ghost use Rattle.kp_kore.specs.View.{sort_view};
 ghost use Rattle.kp_kore.specs.Value.{constructed, no_values};
 ghost use Rattle.kp_signature.specs.View.{signature_view};
 ghost use Rattle.kp_symbolic.specs.States.{one_head, head_of_sort};
 ghost use Rattle.kp_symbolic.specs.Terms.{unknown, known};
 ghost use Rattle.kp_symbolic.specs.Languages.{language_view};
-ghost use Rattle.kp_symbolic.specs.View.{variable_view, variables_view, term_view, terms_of, clauses_view};
+ghost use Rattle.kp_symbolic.specs.View.{variable_view, term_view, clauses_view};
 ghost use Rattle.kp_readings.specs.Equations.{equation_view};
 ghost use Rattle.kp_cases.specs.Parts.{with_clauses};
 ghost use Rattle.kp_cases.specs.Narrowings as model;
 ghost use Rattle.kp_unify.specs.Narrowed.{equation_of, another};
 ghost use Rattle.kp_unify.specs.Views.{part_view};
+ghost use Rattle.kp_unify.specs.Promises.{IsPartWith, TellsOtherHead, BuildsOfNew};
 
 use crate::asked::{inside, outside};
 use crate::course::Course;
@@ -67,7 +67,7 @@ fn refined(
     term: &Term,
     new: &New,
 ) -> Result<Part, CompileError>
-    ensures view { let e = equation_of (variable_view variable.now.value) (term_view term.now) in IfOk result (λ p. part_view p ≡ model.part_with_term (language_view language.now) e (variables_view new.now.variables.items) (part_view part.now)) }
+    ensures view { IfOk result (IsPartWith (language_view language.now) part.now (variable_view variable.now.value) (term_view term.now) new.now) }
     ensures next { IfOk result (λ p. p.next ≡ new.now.next) }
 {
     let is = variable_is(alloc, true, variable, term)?;
@@ -106,7 +106,7 @@ fn without_head(
     variable: &Arc<Variable>,
     symbol: &Arc<String>,
 ) -> Result<Vec<Clause>, AllocError>
-    ensures { let x = variable_view variable.now.value in IfOk result (λ cs. clauses_view cs.items ≡ model.head_clauses (signature_view signature.now) false x (one_head (string_bytes symbol.now.value))) }
+    ensures { IfOk result (λ cs. clauses_view cs.items ≡ model.head_clauses (signature_view signature.now) false (variable_view variable.now.value) (one_head (string_bytes symbol.now.value))) }
 {
     let test = constructor_test(symbol)?;
     head_clauses(alloc, signature, false, variable, &test)
@@ -119,7 +119,7 @@ fn without_sort(
     variable: &Arc<Variable>,
     sort: &Sort,
 ) -> Result<Vec<Clause>, AllocError>
-    ensures { let x = variable_view variable.now.value in IfOk result (λ cs. clauses_view cs.items ≡ model.head_clauses (signature_view signature.now) false x (head_of_sort (sort_view sort.now))) }
+    ensures { IfOk result (λ cs. clauses_view cs.items ≡ model.head_clauses (signature_view signature.now) false (variable_view variable.now.value) (head_of_sort (sort_view sort.now))) }
 {
     let test = sort_test(alloc, sort)?;
     head_clauses(alloc, signature, false, variable, &test)
@@ -146,7 +146,7 @@ fn other_head(
     symbol: &Arc<String>,
     arguments: usize,
 ) -> Result<Vec<Clause>, AllocError>
-    ensures { let c = string_bytes symbol.now.value in (new : List SortedName) → length new ≡ arguments → named (language_view language.now) c ≡ construction → IfOk result (λ cs. clauses_view cs.items ≡ model.has_other_head (language_view language.now) (variable_view variable.now.value) c new) }
+    ensures { TellsOtherHead (language_view language.now) (variable_view variable.now.value) (string_bytes symbol.now.value) arguments result }
 {
     let clauses = without_head(alloc, language.signature, variable, symbol)?;
     if arguments > 0 {
@@ -165,31 +165,27 @@ fn constructor_of(
     symbol: &Arc<String>,
     terms: &[Term],
 ) -> Result<Term, AllocError>
-    ensures { (xs : List SortedName) → terms_of (map term_view terms.now) ≡ model.all_unknown xs → IfOk result (λ t. term_view t ≡ model.constructor_term (language_view language.now) (string_bytes symbol.now.value) xs) }
+    ensures { BuildsOfNew (language_view language.now) (string_bytes symbol.now.value) terms.now result }
 {
     let arguments = Arc::new(alloc, Term::share_all(alloc, terms)?)?;
     apply(alloc, language, symbol.clone()?, arguments)
 }
 
 impl<'a> Course<'a> {
-    ghost use Rattle.std.specs.Prelude.{◌≡◌, List, IfOk, OnOk, map, string_bytes};
+    ghost use Rattle.std.specs.Prelude.{◌≡◌, OnOk, string_bytes};
     ghost use Rattle.kp_kore.specs.Signature.{construction, meaning_of as named};
-    ghost use Rattle.kp_kore.specs.Syntax.{Text};
     ghost use Rattle.kp_kore.specs.View.{sort_view};
-    ghost use Rattle.kp_names.specs.Met.{Lists};
     ghost use Rattle.kp_symbolic.specs.Languages.{language_view};
-    ghost use Rattle.kp_symbolic.specs.View.{variable_view, variables_view, term_view, terms_of, clauses_view};
-    ghost use Rattle.kp_cases.specs.Courses.{replaced_course};
-    ghost use Rattle.kp_cases.specs.Narrowings.{part_with_term};
-    ghost use Rattle.kp_unify.specs.Narrowed.{equation_of, with_split};
-    ghost use Rattle.kp_unify.specs.Way.{IsNarrowedToSort, IsNarrowedToConstructor, IsAsked};
-    ghost use Rattle.kp_unify.specs.Views.{part_view, numbered_view, course_view, stage_view};
+    ghost use Rattle.kp_symbolic.specs.View.{variable_view, term_view, clauses_view};
+    ghost use Rattle.kp_unify.specs.Way.{IsAsked};
+    ghost use Rattle.kp_unify.specs.Views.{course_view, stage_view, signature_of};
+    ghost use Rattle.kp_unify.specs.Promises.{IsCourseWith, IsSplitBy, NarrowsToSort, NarrowsToConstructor};
 
     /// Splits off the part in which these clauses are true; none, where they never are.
     fn split_off(&mut self, alloc: Global, clauses: &[Clause]) -> Result<(), AllocError>
         ensures course { OnOk result (course_view self.new ≡ course_view self.old) }
         ensures next { OnOk result (self.new.part.next ≡ self.old.part.next) }
-        ensures apart { OnOk result (map numbered_view self.new.apart.items ≡ with_split (numbered_view self.old.part) (clauses_view clauses.now) (map numbered_view self.old.apart.items)) }
+        ensures apart { OnOk result (IsSplitBy self.old (clauses_view clauses.now) self.new) }
     {
         if are_never(clauses) {
             return Ok(());
@@ -208,7 +204,7 @@ impl<'a> Course<'a> {
         term: &Term,
         new: &New,
     ) -> Result<(), CompileError>
-        ensures course { let e = equation_of (variable_view variable.now.value) (term_view term.now) in let g = language_view language.now in OnOk result (course_view self.new ≡ replaced_course g e (part_with_term g e (variables_view new.now.variables.items) (part_view self.old.part)) (course_view self.old)) }
+        ensures course { OnOk result (IsCourseWith (language_view language.now) self.old (variable_view variable.now.value) (term_view term.now) new.now self.new) }
         ensures next { OnOk result (self.new.part.next ≡ new.now.next) }
         ensures apart { OnOk result (self.new.apart ≡ self.old.apart) }
     {
@@ -225,7 +221,7 @@ impl<'a> Course<'a> {
         variable: &Arc<Variable>,
         sort: &Sort,
     ) -> Result<Term, CompileError>
-        ensures { (used : List Text) → let g = language_view setting.now.language.now in Lists used setting.now.met.now → IfOk result (λ t. IsNarrowedToSort g used (variable_view variable.now.value) (sort_view sort.now) (stage_view self.old) (stage_view self.new) (term_view t)) }
+        ensures { NarrowsToSort setting.now self.old (variable_view variable.now.value) (sort_view sort.now) result self.new }
     {
         let others = without_sort(alloc, setting.language.signature, variable, sort)?;
         self.split_off(alloc, &others)?;
@@ -245,7 +241,7 @@ impl<'a> Course<'a> {
         symbol: &Arc<String>,
     ) -> Result<Vec<Term>, CompileError>
         requires { named (language_view setting.now.language.now) (string_bytes symbol.now.value) ≡ construction }
-        ensures { (used : List Text) → let g = language_view setting.now.language.now in Lists used setting.now.met.now → IfOk result (λ ts. IsNarrowedToConstructor g used (variable_view variable.now.value) (string_bytes symbol.now.value) (stage_view self.old) (stage_view self.new) (terms_of (map term_view ts.items))) }
+        ensures { NarrowsToConstructor setting.now self.old (variable_view variable.now.value) (string_bytes symbol.now.value) result self.new }
     {
         let language = setting.language;
         let sorts = places_of(language.signature, symbol);
@@ -266,7 +262,7 @@ impl<'a> Course<'a> {
         variable: &Arc<Variable>,
         sort: &Sort,
     ) -> Result<(), CompileError>
-        ensures { let g = language_view setting.now.language.now in OnOk result (IsAsked g (variable_view variable.now.value) (sort_view sort.now) (stage_view self.old) (stage_view self.new)) }
+        ensures { OnOk result (IsAsked (signature_of setting.now) (variable_view variable.now.value) (sort_view sort.now) (stage_view self.old) (stage_view self.new)) }
     {
         let signature = setting.language.signature;
         let others = outside(alloc, signature, variable, sort)?;

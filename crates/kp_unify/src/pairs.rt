@@ -2,19 +2,16 @@
 ghost use Rattle.std.specs.Prelude.{◌≡◌, ◌↔◌, ◌&&◌, IsTrue, IfOk, MatchOption, map};
 ghost use Rattle.std.specs.Option.{option_map};
 ghost use Rattle.std.specs.Str.{bytes_eq};
-ghost use Rattle.kp_ground.specs.View.{value_view, values_of};
-ghost use Rattle.kp_kore.specs.Signature.{meaning_of as named, constructor_of, IsHeadOf};
+ghost use Rattle.kp_ground.specs.View.{value_view};
+ghost use Rattle.kp_kore.specs.Signature.{meaning_of as named};
 ghost use Rattle.kp_kore.specs.View.{sort_view};
-ghost use Rattle.kp_kore.specs.Value.{constructed, head_of};
 ghost use Rattle.kp_signature.specs.View.{signature_view};
 ghost use Rattle.kp_symbolic.specs.Heads.{is_construction};
-ghost use Rattle.kp_heads.specs.Heads.{IsLive};
-ghost use Rattle.kp_heads.specs.Made.{IsHeadTableOf};
 ghost use Rattle.kp_symbolic.specs.Terms.{known, replacement_for};
-ghost use Rattle.kp_symbolic.specs.View.{term_view, terms_of, replaced_view};
-ghost use Rattle.kp_cases.specs.Courses.{all_known};
+ghost use Rattle.kp_symbolic.specs.View.{term_view, replaced_view};
 ghost use Rattle.kp_unify.specs.Replaced.{equality_of};
-ghost use Rattle.kp_unify.specs.Views.{equality_view, signature_of};
+ghost use Rattle.kp_unify.specs.Views.{equality_view, signature_of, HasItsTable};
+ghost use Rattle.kp_unify.specs.Promises.{built_of, HasOtherHead, HasValueBuiltBy};
 
 use crate::course::{Course, Equality, Pair, add_members};
 use crate::forms::{Ask, Members, ask_of};
@@ -62,7 +59,7 @@ fn arguments_named<'a>(
     arguments: &'a [Value],
     symbol: &str,
 ) -> Option<&'a [Value]>
-    ensures { let u = constructed constructor.now (values_of (map value_view arguments.now)) in MatchOption result (¬ (head_of u ≡ constructor_of symbol.now)) (λ us. u ≡ constructed symbol.now (values_of (map value_view us.now))) }
+    ensures { let u = built_of constructor.now arguments.now in MatchOption result (HasOtherHead u symbol.now) (λ us. u ≡ built_of symbol.now us.now) }
 {
     if are_same(constructor, symbol) {
         return Some(arguments);
@@ -72,7 +69,7 @@ fn arguments_named<'a>(
 
 /// The arguments of a value, where it is built by the constructor of this name.
 fn arguments_if<'a>(value: &'a Value, symbol: &str) -> Option<&'a [Value]>
-    ensures { MatchOption result (¬ (head_of (value_view value.now) ≡ constructor_of symbol.now)) (λ us. value_view value.now ≡ constructed symbol.now (values_of (map value_view us.now))) }
+    ensures { let u = value_view value.now in MatchOption result (HasOtherHead u symbol.now) (λ us. u ≡ built_of symbol.now us.now) }
 {
     match value {
         Value::Constructed {
@@ -93,23 +90,20 @@ fn is_same(signature: &Signature, symbol: &str, head: &str) -> bool
 }
 
 impl<'a> Course<'a> {
-    ghost use Rattle.std.specs.Prelude.{◌≡◌, List, Some, None, MatchBool, IfOk, OnOk, length, map, string_bytes};
-    ghost use Rattle.kp_kore.specs.Signature.{KoreSignature};
-    ghost use Rattle.kp_kore.specs.Syntax.{Text, KoreSort};
+    ghost use Rattle.std.specs.Prelude.{◌≡◌, Some, None, IfOk, OnOk, string_bytes};
+    ghost use Rattle.kp_kore.specs.Syntax.{KoreSort};
     ghost use Rattle.kp_kore.specs.View.{sort_view};
     ghost use Rattle.kp_ground.specs.View.{value_view};
     ghost use Rattle.kp_compile.specs.Spelled as spelled;
-    ghost use Rattle.kp_heads.specs.Made.{IsHeadTableOf};
-    ghost use Rattle.kp_rules.specs.Skeletons.{Form, any_of, one_of, fixed, forms_of};
-    ghost use Rattle.kp_symbolic.specs.Terms.{unknown, known, replacement_for};
+    ghost use Rattle.kp_rules.specs.Skeletons.{any_of, one_of, fixed};
+    ghost use Rattle.kp_symbolic.specs.Terms.{unknown, known};
     ghost use Rattle.kp_symbolic.specs.View.{variable_view, term_view};
-    ghost use Rattle.kp_cases.specs.Parts.{StatePart};
-    ghost use Rattle.kp_cases.specs.Rows.{HasMembers};
     ghost use Rattle.kp_unify.specs.Forms.{members_view};
     ghost use Rattle.kp_unify.specs.Literals.{IsLiteral};
-    ghost use Rattle.kp_unify.specs.Replaced.{equality_of, pair_of, pairs_of};
-    ghost use Rattle.kp_unify.specs.Views.{signature_of, pair_view, stage_view, IsSetting};
-    ghost use Rattle.kp_unify.specs.Way.{IsNextPair, GoesOnIf, bound_stage, equal_stage, members_stage};
+    ghost use Rattle.kp_unify.specs.Replaced.{equality_of, pair_of};
+    ghost use Rattle.kp_unify.specs.Views.{signature_of, pair_view, stage_view, HasItsTable};
+    ghost use Rattle.kp_unify.specs.Way.{bound_stage, equal_stage};
+    ghost use Rattle.kp_unify.specs.Promises.{MeetsPair, MeetsConstructor, MeetsValue, AddsMembers, IsBoundOn};
 
     /// One pair: whether the part may be met on.
     pub fn meet_pair(
@@ -118,8 +112,8 @@ impl<'a> Course<'a> {
         setting: &Setting<'_>,
         pair: &Pair<'a>,
     ) -> Result<bool, CompileError>
-        requires heads { IsHeadTableOf (signature_of setting.now) setting.now.table.now }
-        ensures { (used : List Text) (left : Form) (p : StatePart) → let g = signature_of setting.now in IsSetting used setting.now → IsNextPair g used left p (stage_view self.old) (pair_view pair.now) → IfOk result (λ b. GoesOnIf b g used left p (stage_view self.new)) }
+        requires heads { HasItsTable setting.now }
+        ensures { MeetsPair setting.now self.old (pair_view pair.now) result self.new }
     {
         match ask_of(pair.form) {
             Ask::Anything => Ok(true),
@@ -143,8 +137,8 @@ impl<'a> Course<'a> {
         sort: &Sort,
         term: &Term,
     ) -> Result<bool, CompileError>
-        requires heads { IsHeadTableOf (signature_of setting.now) setting.now.table.now }
-        ensures { (used : List Text) (left : Form) (p : StatePart) → let g = signature_of setting.now in IsSetting used setting.now → IsNextPair g used left p (stage_view self.old) (pair_of (any_of (sort_view sort.now)) (term_view term.now)) → IfOk result (λ b. GoesOnIf b g used left p (stage_view self.new)) }
+        requires heads { HasItsTable setting.now }
+        ensures { MeetsPair setting.now self.old (pair_of (any_of (sort_view sort.now)) (term_view term.now)) result self.new }
     {
         let placed = self.placed(alloc, setting, term, sort)?;
         Ok(placed.is_some())
@@ -159,8 +153,8 @@ impl<'a> Course<'a> {
         sort: &Sort,
         term: &Term,
     ) -> Result<bool, CompileError>
-        requires heads { IsHeadTableOf (signature_of setting.now) setting.now.table.now }
-        ensures { (used : List Text) (left : Form) (p : StatePart) → let g = signature_of setting.now in IsSetting used setting.now → IsNextPair g used left p (stage_view self.old) (pair_of (one_of (string_bytes name.now.value) (sort_view sort.now)) (term_view term.now)) → IfOk result (λ b. GoesOnIf b g used left p (stage_view self.new)) }
+        requires heads { HasItsTable setting.now }
+        ensures { MeetsPair setting.now self.old (pair_of (one_of (string_bytes name.now.value) (sort_view sort.now)) (term_view term.now)) result self.new }
     {
         match self.placed(alloc, setting, term, sort)? {
             Some(term) => {
@@ -179,7 +173,7 @@ impl<'a> Course<'a> {
         sort: &Sort,
         term: &Term,
     ) -> Result<(), AllocError>
-        ensures { let x = string_bytes name.now.value in OnOk result (stage_view self.new ≡ bound_stage (stage_view self.old) x (sort_view sort.now) (term_view term.now) (replacement_for (stage_view self.old).course.bindings x)) }
+        ensures { OnOk result (IsBoundOn self.old (string_bytes name.now.value) (sort_view sort.now) (term_view term.now) self.new) }
     {
         match shared_replacement(alloc, &self.bindings, name)? {
             Some(bound) => self.equate(alloc, sort, &bound, term),
@@ -194,7 +188,7 @@ impl<'a> Course<'a> {
         name: &Arc<String>,
         term: &Term,
     ) -> Result<(), AllocError>
-        ensures { (s : KoreSort) → let x = string_bytes name.now.value in OnOk result (stage_view self.new ≡ bound_stage (stage_view self.old) x s (term_view term.now) None) }
+        ensures { (s : KoreSort) → OnOk result (stage_view self.new ≡ bound_stage (stage_view self.old) (string_bytes name.now.value) s (term_view term.now) None) }
     {
         let name = name.clone()?;
         let term = term.share(alloc)?;
@@ -225,9 +219,9 @@ impl<'a> Course<'a> {
         value: &Value,
         term: &Term,
     ) -> Result<bool, CompileError>
-        requires heads { IsHeadTableOf (signature_of setting.now) setting.now.table.now }
+        requires heads { HasItsTable setting.now }
         requires literal { IsLiteral (value_view value.now) }
-        ensures { (used : List Text) (left : Form) (p : StatePart) → let g = signature_of setting.now in IsSetting used setting.now → IsNextPair g used left p (stage_view self.old) (pair_of (fixed (value_view value.now)) (term_view term.now)) → IfOk result (λ b. GoesOnIf b g used left p (stage_view self.new)) }
+        ensures { MeetsPair setting.now self.old (pair_of (fixed (value_view value.now)) (term_view term.now)) result self.new }
     {
         if let Term::Known { value: known } = term {
             return Ok(value.equal(known));
@@ -247,10 +241,10 @@ impl<'a> Course<'a> {
         own: &Sort,
         term: &Term,
     ) -> Result<bool, CompileError>
-        requires heads { IsHeadTableOf (signature_of setting.now) setting.now.table.now }
+        requires heads { HasItsTable setting.now }
         requires literal { IsLiteral (value_view value.now) }
         requires own { spelled.own_sort (signature_of setting.now) (value_view value.now) ≡ Some (sort_view own.now) }
-        ensures { (used : List Text) (left : Form) (p : StatePart) → let g = signature_of setting.now in IsSetting used setting.now → IsNextPair g used left p (stage_view self.old) (pair_of (fixed (value_view value.now)) (term_view term.now)) → IfOk result (λ b. GoesOnIf b g used left p (stage_view self.new)) }
+        ensures { MeetsPair setting.now self.old (pair_of (fixed (value_view value.now)) (term_view term.now)) result self.new }
     {
         if !is_own_literal(setting.language.signature, value, own) {
             return Ok(false);
@@ -274,8 +268,8 @@ impl<'a> Course<'a> {
         members: Members<'a>,
         term: &Term,
     ) -> Result<bool, CompileError>
-        requires heads { IsHeadTableOf (signature_of setting.now) setting.now.table.now }
-        ensures { (used : List Text) (left : Form) (p : StatePart) (form : Form) → let g = signature_of setting.now in HasMembers form (string_bytes symbol.now.value) (forms_of (members_view members.entry)) → IsSetting used setting.now → IsNextPair g used left p (stage_view self.old) (pair_of form (term_view term.now)) → IfOk result (λ b. GoesOnIf b g used left p (stage_view self.new)) }
+        requires heads { HasItsTable setting.now }
+        ensures { MeetsConstructor setting.now self.old (string_bytes symbol.now.value) (members_view members.entry) (term_view term.now) result self.new }
     {
         match term {
             Term::Unknown { variable } => {
@@ -303,7 +297,7 @@ impl<'a> Course<'a> {
         members: Members<'a>,
         value: &Value,
     ) -> Result<bool, AllocError>
-        ensures { (g : KoreSignature) (used : List Text) (left : Form) (p : StatePart) (form : Form) → HasMembers form symbol.now (forms_of (members_view members.entry)) → IsNextPair g used left p (stage_view self.old) (pair_of form (known (value_view value.now))) → IfOk result (λ b. GoesOnIf b g used left p (stage_view self.new)) }
+        ensures { MeetsValue self.old symbol.now (members_view members.entry) (known (value_view value.now)) result self.new }
     {
         match arguments_if(value, symbol) {
             Some(arguments) => {
@@ -321,7 +315,7 @@ impl<'a> Course<'a> {
         members: Members<'a>,
         terms: &[Term],
     ) -> Result<bool, AllocError>
-        ensures { IfOk result (λ b. MatchBool b ((length (members_view members.entry) ≡ length terms.now) × (stage_view self.new ≡ members_stage (stage_view self.old) (pairs_of (members_view members.entry) (map term_view terms.now)))) (¬ (length (members_view members.entry) ≡ length terms.now))) }
+        ensures { IfOk result (λ b. AddsMembers b self.old (members_view members.entry) terms.now self.new) }
     {
         if members.count() != terms.len() {
             return Ok(false);
@@ -339,8 +333,8 @@ impl<'a> Course<'a> {
         members: Members<'a>,
         variable: &Arc<Variable>,
     ) -> Result<bool, CompileError>
-        requires heads { IsHeadTableOf (signature_of setting.now) setting.now.table.now }
-        ensures { (used : List Text) (left : Form) (p : StatePart) (form : Form) → let g = signature_of setting.now in HasMembers form (string_bytes symbol.now.value) (forms_of (members_view members.entry)) → IsSetting used setting.now → IsNextPair g used left p (stage_view self.old) (pair_of form (unknown (variable_view variable.now.value))) → IfOk result (λ b. GoesOnIf b g used left p (stage_view self.new)) }
+        requires heads { HasItsTable setting.now }
+        ensures { MeetsConstructor setting.now self.old (string_bytes symbol.now.value) (members_view members.entry) (unknown (variable_view variable.now.value)) result self.new }
     {
         if !may_have(setting, symbol, &variable.sort) {
             return Ok(false);
@@ -382,7 +376,7 @@ fn make_equality(
 
 /// Whether some value of the sort has the constructor for its head, where the table is the signature's.
 fn may_have(setting: &Setting<'_>, symbol: &str, sort: &Sort) -> bool
-    ensures { IsHeadTableOf (signature_of setting.now) setting.now.table.now → IsTrue result ↔ (IsHeadOf (signature_of setting.now) (sort_view sort.now) (constructor_of symbol.now) × IsLive (signature_of setting.now) (constructor_of symbol.now)) }
+    ensures { HasItsTable setting.now → IsTrue result ↔ HasValueBuiltBy (signature_of setting.now) (sort_view sort.now) symbol.now }
 {
     let signature = setting.language.signature;
     makes(signature, symbol, sort) && setting.table.is_live(signature, symbol)

@@ -26,17 +26,13 @@ pub fn variable_of(term: &Term) -> Option<&Arc<Variable>>
 }
 
 impl<'a> Course<'a> {
-    ghost use Rattle.std.specs.Prelude.{◌≡◌, List, MatchOption, IfOk};
-    ghost use Rattle.kp_kore.specs.Syntax.{Text, KoreSort};
+    ghost use Rattle.kp_kore.specs.Syntax.{KoreSort};
     ghost use Rattle.kp_kore.specs.View.{sort_view};
-    ghost use Rattle.kp_heads.specs.Made.{IsHeadTableOf};
-    ghost use Rattle.kp_rules.specs.Skeletons.{Form};
     ghost use Rattle.kp_symbolic.specs.Terms.{unknown};
     ghost use Rattle.kp_symbolic.specs.View.{variable_view, term_view};
-    ghost use Rattle.kp_cases.specs.Parts.{StatePart};
     ghost use Rattle.kp_cases.specs.Courses.{IsMeet};
-    ghost use Rattle.kp_unify.specs.Views.{signature_of, stage_view, IsSetting};
-    ghost use Rattle.kp_unify.specs.Way.{IsGoing, IsPlaced, IsAllApart};
+    ghost use Rattle.kp_unify.specs.Views.{signature_of, HasItsTable};
+    ghost use Rattle.kp_unify.specs.Promises.{PlacesTerm};
 
     /// The term where it has the sort, narrowed to it where that is asked; none where no value of it has.
     pub fn placed(
@@ -46,8 +42,8 @@ impl<'a> Course<'a> {
         term: &Term,
         sort: &Sort,
     ) -> Result<Option<Term>, CompileError>
-        requires heads { IsHeadTableOf (signature_of setting.now) setting.now.table.now }
-        ensures { (used : List Text) (left : Form) (p : StatePart) (form : Form) → let g = signature_of setting.now in let s = sort_view sort.now in IsSetting used setting.now → IsGoing g used left p form s (stage_view self.old) (term_view term.now) → IfOk result (λ o. MatchOption o (IsAllApart g left p) (λ t. IsPlaced g used left p form s (stage_view self.new) (term_view t))) }
+        requires heads { HasItsTable setting.now }
+        ensures { PlacesTerm setting.now self.old (term_view term.now) (sort_view sort.now) result self.new }
     {
         if has_sort(setting.language.signature, term, sort) {
             return Ok(Some(term.share(alloc)?));
@@ -66,8 +62,8 @@ impl<'a> Course<'a> {
         variable: &Arc<Variable>,
         sort: &Sort,
     ) -> Result<Option<Term>, CompileError>
-        requires heads { IsHeadTableOf (signature_of setting.now) setting.now.table.now }
-        ensures { (used : List Text) (left : Form) (p : StatePart) (form : Form) → let g = signature_of setting.now in let s = sort_view sort.now in IsSetting used setting.now → IsGoing g used left p form s (stage_view self.old) (unknown (variable_view variable.now.value)) → IfOk result (λ o. MatchOption o (IsAllApart g left p) (λ t. IsPlaced g used left p form s (stage_view self.new) (term_view t))) }
+        requires heads { HasItsTable setting.now }
+        ensures { PlacesTerm setting.now self.old (unknown (variable_view variable.now.value)) (sort_view sort.now) result self.new }
     {
         match meet_of(setting.language.signature, &variable.sort, sort) {
             Some(meet) => self.narrowed_to(alloc, setting, variable, sort, meet),
@@ -85,7 +81,7 @@ impl<'a> Course<'a> {
         meet: &Sort,
     ) -> Result<Option<Term>, CompileError>
         requires { IsMeet (signature_of setting.now) (variable_view variable.now.value).sort (sort_view sort.now) (sort_view meet.now) }
-        ensures { (used : List Text) (left : Form) (p : StatePart) (form : Form) → let g = signature_of setting.now in let s = sort_view sort.now in IsSetting used setting.now → IsGoing g used left p form s (stage_view self.old) (unknown (variable_view variable.now.value)) → IfOk result (λ o. MatchOption o (IsAllApart g left p) (λ t. IsPlaced g used left p form s (stage_view self.new) (term_view t))) }
+        ensures { PlacesTerm setting.now self.old (unknown (variable_view variable.now.value)) (sort_view sort.now) result self.new }
     {
         if !setting.table.has_value(setting.language.signature, meet) {
             return Ok(None);
@@ -101,9 +97,9 @@ impl<'a> Course<'a> {
         variable: &Arc<Variable>,
         sort: &Sort,
     ) -> Result<Option<Term>, CompileError>
-        requires heads { IsHeadTableOf (signature_of setting.now) setting.now.table.now }
+        requires heads { HasItsTable setting.now }
         requires apart { (m : KoreSort) → ¬ IsMeet (signature_of setting.now) (variable_view variable.now.value).sort (sort_view sort.now) m }
-        ensures { (used : List Text) (left : Form) (p : StatePart) (form : Form) → let g = signature_of setting.now in let s = sort_view sort.now in IsSetting used setting.now → IsGoing g used left p form s (stage_view self.old) (unknown (variable_view variable.now.value)) → IfOk result (λ o. MatchOption o (IsAllApart g left p) (λ t. IsPlaced g used left p form s (stage_view self.new) (term_view t))) }
+        ensures { PlacesTerm setting.now self.old (unknown (variable_view variable.now.value)) (sort_view sort.now) result self.new }
     {
         let signature = setting.language.signature;
         if !share_values(setting.table, signature, &variable.sort, sort) {

@@ -62,7 +62,7 @@ fn put_opened(
     clause: &Clause,
 ) -> Result<Vec<Clause>, CompileError>
     requires { map replaced_view by.now ≡ solving.replacement (equation_view equation.now) }
-    ensures { let e = equation_view equation.now in IfOk result (λ cs. clauses_view cs.items ≡ model.put_opened (language_view language.now) e (clause_view clause.now)) }
+    ensures { IfOk result (λ cs. clauses_view cs.items ≡ model.put_opened (language_view language.now) (equation_view equation.now) (clause_view clause.now)) }
 {
     let opened = open_clause(alloc, language, by, clause)?;
     if is_room(&opened) {
@@ -97,7 +97,7 @@ fn put_in_clauses(
     clauses: &[Clause],
 ) -> Result<Vec<Clause>, CompileError>
     requires { map replaced_view by.now ≡ solving.replacement (equation_view equation.now) }
-    ensures { let e = equation_view equation.now in IfOk result (λ cs. clauses_view cs.items ≡ flat_map (put_clause (language_view language.now) e) (clauses_view clauses.now)) }
+    ensures { IfOk result (λ cs. clauses_view cs.items ≡ flat_map (put_clause (language_view language.now) (equation_view equation.now)) (clauses_view clauses.now)) }
 {
     let mut found = Vec::new(alloc);
     for clause in clauses {
@@ -142,7 +142,7 @@ pub fn put_term(
     is: &[Clause],
     new: &[Arc<Variable>],
 ) -> Result<State, CompileError>
-    ensures { let g = language_view language.now in let e = equation_view equation.now in IfOk result (λ s. state_view s ≡ model.state_with_term g e (clauses_view is.now) (variables_view new.now) (state_view state.now)) }
+    ensures { IfOk result (λ s. state_view s ≡ model.state_with_term (language_view language.now) (equation_view equation.now) (clauses_view is.now) (variables_view new.now) (state_view state.now)) }
 {
     let by = replacement(alloc, equation)?;
     let clauses = put_in_clauses(alloc, language, equation, &by, &state.clauses)?;

@@ -1,0 +1,298 @@
+-- What the calls promise that make a step, by name.
+-- Source: this project.
+use Rattle.std.specs.Prelude.{◌≡◌, ◌∷◌, ◌++◌, [], ℕ, ⊤, Bool, IsTrue, List, Vec, Option, Some, None, Result, IfOk, MatchOption, map}
+use Rattle.std.specs.List.{AllByRecursion, AllZip}
+use Rattle.std.specs.declared.alloc.Global.{Global}
+use Rattle.kp_kore.specs.Syntax.{Text, KoreSort}
+use Rattle.kp_kore.specs.Parts.{SortedName}
+use Rattle.kp_kore.specs.Signature.{KoreSignature}
+use Rattle.kp_kore.specs.Rules.{Rewrite, rewrite, RewriteRule}
+use Rattle.kp_kore.specs.Steps.{Fires, IsUnknown, AnyByRecursion}
+use Rattle.kp_kore.specs.Theory.{Theory}
+use Rattle.kp_kore.specs.View.{view}
+use Rattle.kp_heads.specs.Heads.{HasValue}
+use Rattle.kp_symbolic.specs.States.{SymbolicState}
+use Rattle.kp_symbolic.specs.Terms as terms
+use Rattle.kp_symbolic.specs.View.{clauses_view, replaced_view, state_view}
+use Rattle.kp_symbolic.specs.declared.atom.Replaced.{Replaced}
+use Rattle.kp_symbolic.specs.declared.state.State.{State}
+use Rattle.kp_solving.specs.Further.{constrained}
+use Rattle.kp_rules.specs.Sides.{AreSidesOf}
+use Rattle.kp_rules.specs.VerifiedSides.{AreVerifiedSides}
+use Rattle.kp_rules.specs.Skeletons.{Form}
+use Rattle.kp_rules.specs.declared.rule.Rewrite as code
+use Rattle.kp_rules.specs.declared.sides.Sides.{Sides}
+use Rattle.kp_rules.specs.declared.skeleton.Skeleton.{Skeleton}
+use Rattle.kp_rule_sets.specs.declared.rule_set.RuleSet.{RuleSet}
+use Rattle.kp_cases.specs.Parts.{StatePart, whole, with_clauses, OfEachInstance, IsTold}
+use Rattle.kp_turns.specs.Turns.{TakesFrom}
+use Rattle.kp_unify.specs.Narrowed.{NumberedPart}
+use Rattle.kp_unify.specs.Views.{signature_of, part_view, numbered_view, met_view, IsSetting}
+use Rattle.kp_unify.specs.Way.{IsMeeting}
+use Rattle.kp_unify.specs.declared.part.Part.{Part}
+use Rattle.kp_unify.specs.declared.part.MetPart.{MetPart}
+use Rattle.kp_unify.specs.declared.part.Setting.{Setting}
+use Rattle.kp_firing.specs.Conditions.{condition_clauses}
+use Rattle.kp_firing.specs.Ready.{IsReadyPart, HasInstance}
+use Rattle.kp_firing.specs.declared.firing.Firing.{Firing}
+use Rattle.kp_step.specs.Rules.{Steps, IsReadBy, IsReadAt, IsForeignAt, IsStepFrom}
+use Rattle.kp_step.specs.Places.{IsReadAs, IsPriorityAt}
+use Rattle.kp_step.specs.Ready.{IsReadyState, IsWholeReady}
+use Rattle.kp_step.specs.Limits.{Passes, PassesNone, IsPassed}
+use Rattle.kp_step.specs.Left.{IsPartIn, AreLeft, IsNumberOf, OneTakesAll}
+use Rattle.kp_step.specs.Found.{PlacedTurn, IsRuleAt, IsMetIn, IsTurnAt, AreAllFound}
+use Rattle.kp_step.specs.Tries.{PlacedFiring, narrowed_of, IsFiringOf, CanMeet, AreTurnParts, AreRemaining}
+use Rattle.kp_step.specs.Follows.{IsNextOf, IsNextAt, AreNextsOf, IsSolvedPart}
+use Rattle.kp_step.specs.Rights.{moved_state}
+use Rattle.kp_step.specs.Answers.{IsRightAnswerOf, ShowsOf, AreDecided, AreWithout, TellsForeign, TellsTurn, TellsParts, TellsRemainder, firing_model}
+use Rattle.kp_step.specs.Views.{numbered_views, turn_view, next_view, limit_view}
+use Rattle.kp_step.specs.Outcomes.{IsRightStep}
+use Rattle.kp_step.specs.declared.answers.Answer.{Answer}
+use Rattle.kp_step.specs.declared.answers.Decided.{Decided}
+use Rattle.kp_step.specs.declared.answers.Open.{Open}
+use Rattle.kp_step.specs.declared.outcome.Limit.{Limit}
+use Rattle.kp_step.specs.declared.outcome.Next.{Next}
+use Rattle.kp_step.specs.declared.outcome.StepOutcome.{StepOutcome}
+use Rattle.kp_step.specs.declared.right.Following.{Following}
+use Rattle.kp_step.specs.declared.turns.Turn.{Turn}
+use Rattle.kp_step.specs.declared.turns.Tried.{Tried}
+
+-- ---- limits and instances
+
+-- the limit that the state passes, or it passes none
+abbrev pub TellsLimit : KoreSignature → SymbolicState → Option Limit → Type 0
+TellsLimit g s o = MatchOption o (PassesNone g s) (λ l. Passes g s (limit_view l))
+
+-- a limit that one of the states passes, or none of them passes one
+abbrev pub TellsLimitAmong : KoreSignature → List SymbolicState → Option Limit → Type 0
+TellsLimitAmong g ss o = MatchOption o (AllByRecursion (λ x. PassesNone g x) ss) (λ l. AnyByRecursion (λ x. Passes g x (limit_view l)) ss)
+
+-- those of the parts that have an instance, or what is shown of one, where a rule can be tried on each
+abbrev pub DecidesParts : KoreSignature → SymbolicState → List NumberedPart → Decided → Type 0
+DecidesParts g s parts d = (used : List Text) → AllByRecursion (IsReadyPart g used) parts → AreDecided g s parts d
+
+-- ---- foreign rules
+
+-- of each step from the whole of a state, whatever the theory that the rule set is
+abbrev pub OfEachStep : Setting → RuleSet → Part → (Theory → List Text → SymbolicState → Type 0) → Type 0
+OfEachStep setting rules p Told = (t : Theory) (used : List Text) (s : SymbolicState) → IsStepFrom t used s setting rules (numbered_view p) → Told t used s
+
+-- of a part that a left side meets: whether it has an instance, where the equations are true
+abbrev pub TellsMet : {E : Type 0} → KoreSignature → Part → MetPart → Result Answer E → Type 0
+TellsMet g p met result =
+    (used : List Text) (s : SymbolicState) (left : Form) (apart : List NumberedPart) →
+    IsWholeReady g used s (numbered_view p) → IsMeeting g used left (part_view p) (met_view met) met.part.next apart →
+    IfOk result (IsRightAnswerOf g s (with_clauses (part_view met.part) (clauses_view met.equations.items)).state)
+
+-- of the foreign rule that this skeleton stands for: whether it might rewrite an instance
+abbrev pub TellsTwoSorts : {E : Type 0} → KoreSignature → Skeleton → Result Answer E → Type 0
+TellsTwoSorts g k result =
+    (t : Theory) (used : List Text) (s : SymbolicState) (place : ℕ) (q : NumberedPart) →
+    g ≡ t.signature → IsWholeReady g used s q → IsForeignAt t place k → IfOk result (TellsForeign t s place)
+
+-- the same of the whole of a state
+abbrev pub TellsSkeletonMeets : {E : Type 0} → Setting → Part → Skeleton → Result Answer E → Type 0
+TellsSkeletonMeets setting p k result =
+    (t : Theory) (used : List Text) (s : SymbolicState) (place : ℕ) → let g = signature_of setting in
+    g ≡ t.signature → IsSetting used setting → IsWholeReady g used s (numbered_view p) → IsForeignAt t place k →
+    IfOk result (TellsForeign t s place)
+
+-- ---- what rules leave
+
+-- what one more rule, which takes from them, leaves of the parts
+abbrev pub LeavesWithout : {E : Type 0} → Setting → List Part → Sides → Result (Vec Part Global) E → Type 0
+LeavesWithout setting parts sides result =
+    (used : List Text) (o : Option RewriteRule) (turns : List RewriteRule) (q : RewriteRule) (m : Rewrite) (s p : StatePart) → let g = signature_of setting in
+    IsSetting used setting → q.body ≡ rewrite m → AreSidesOf g m sides → AreVerifiedSides g m → TakesFrom q o → AreLeft g used o turns s p (numbered_views parts) →
+    IfOk result (λ left. AreWithout g used o turns q s p (numbered_views parts) (numbered_views left.items))
+
+-- the same of the rule of a turn
+abbrev pub LeavesBy : {E : Type 0} → Setting → RuleSet → Turn → Option ℕ → Vec Part Global → Result (Vec Part Global) E → Type 0
+LeavesBy setting rules turn priority parts result =
+    (t : Theory) (used : List Text) (o : Option RewriteRule) (found : List RewriteRule) (q : RewriteRule) (s p : StatePart) → let g = signature_of setting in
+    Steps t setting rules → IsSetting used setting → IsNumberOf priority o → IsRuleAt t (turn_view turn) q → AreLeft g used o found s p (numbered_views parts.items) →
+    IfOk result (λ left. AreLeft g used o (found ++ q ∷ []) s p (numbered_views left.items))
+
+-- it fires on all of them, where it alone takes from them and leaves nothing
+abbrev pub TakesAllBy : {E : Type 0} → Setting → RuleSet → Turn → Option ℕ → Vec Part Global → Result (Vec Part Global) E → Type 0
+TakesAllBy setting rules turn priority parts result =
+    (t : Theory) (used : List Text) (found : List RewriteRule) (q : RewriteRule) (s p : StatePart) → let g = signature_of setting in
+    Steps t setting rules → IsSetting used setting → priority ≡ None → IsRuleAt t (turn_view turn) q → AreLeft g used None found s p (numbered_views parts.items) →
+    IfOk result (λ left. OneTakesAll g (q ∷ []) (numbered_views parts.items) (numbered_views left.items))
+
+-- what the rules of all turns leave of the parts
+abbrev pub LeavesAfter : {E : Type 0} → Setting → RuleSet → List Turn → Option ℕ → Vec Part Global → Result (Vec Part Global) E → Type 0
+LeavesAfter setting rules turns priority parts result =
+    (t : Theory) (used : List Text) (o : Option RewriteRule) (found : List RewriteRule) (s p : StatePart) → let g = signature_of setting in
+    Steps t setting rules → IsSetting used setting → IsNumberOf priority o → AllZip (IsRuleAt t) (map turn_view turns) found → AreLeft g used o [] s p (numbered_views parts.items) →
+    IfOk result (λ left. AreLeft g used o found s p (numbered_views left.items))
+
+-- the rule of the only turn fires on all of them, where it leaves nothing
+abbrev pub TakesAllAfter : {E : Type 0} → Setting → RuleSet → List Turn → Option ℕ → Vec Part Global → Result (Vec Part Global) E → Type 0
+TakesAllAfter setting rules turns priority parts result =
+    (t : Theory) (used : List Text) (found : List RewriteRule) (s p : StatePart) → let g = signature_of setting in
+    Steps t setting rules → IsSetting used setting → priority ≡ None → AllZip (IsRuleAt t) (map turn_view turns) found → AreLeft g used None [] s p (numbered_views parts.items) →
+    IfOk result (λ left. OneTakesAll g found (numbered_views parts.items) (numbered_views left.items))
+
+-- what they leave of the part to the rule of this number
+abbrev pub LeavesTo : {E : Type 0} → Setting → RuleSet → List Turn → ℕ → Part → Result (Vec Part Global) E → Type 0
+LeavesTo setting rules turns priority part result =
+    (t : Theory) (used : List Text) (r : RewriteRule) (found : List RewriteRule) (s p : StatePart) → let g = signature_of setting in
+    Steps t setting rules → IsSetting used setting → r.priority ≡ priority → AllZip (IsRuleAt t) (map turn_view turns) found → AreLeft g used (Some r) [] s p (numbered_view part ∷ []) →
+    IfOk result (λ left. AreLeft g used (Some r) found s p (numbered_views left.items))
+
+-- ---- turns
+
+-- of the rule of each place that fires so on the whole of a state
+abbrev pub WhereFiringIs : Setting → Part → Firing → (Theory → SymbolicState → Type 0) → Type 0
+WhereFiringIs setting p f Told =
+    (t : Theory) (used : List Text) (s : SymbolicState) (place : ℕ) →
+    signature_of setting ≡ t.signature → IsSetting used setting → IsWholeReady t.signature used s (numbered_view p) → IsFiringOf t used s place (firing_model f) → Told t s
+
+-- where it is told, it isn't known that the left side stands for no instance
+abbrev pub TellsMayMeet : {E : Type 0} → Setting → Part → Firing → Result Bool E → Type 0
+TellsMayMeet setting p f result = WhereFiringIs setting p f (λ t s. IfOk result (λ b. IsTrue b → CanMeet t (firing_model f)))
+
+-- a limit that is told is passed, where the narrowed state is that on which the rule fires
+abbrev pub TellsWideCondition : {E : Type 0} → Setting → Part → Firing → State → Result (Option Limit) E → Type 0
+TellsWideCondition setting p f narrowed result =
+    WhereFiringIs setting p f (λ t s. state_view narrowed ≡ (narrowed_of (firing_model f)).part.state → IfOk result (λ o. MatchOption o ⊤ (λ l. IsPassed t s (limit_view l))))
+
+-- the parts of a rule's turn, of the part where it fires
+abbrev pub TellsTurnParts : {E : Type 0} → Setting → RuleSet → List Turn → Part → ℕ → Part → Result Decided E → Type 0
+TellsTurnParts setting rules turns p priority part result =
+    (t : Theory) (used : List Text) (s : SymbolicState) (place : ℕ) (found : List RewriteRule) →
+    IsStepFrom t used s setting rules (numbered_view p) → IsPriorityAt t place priority → AllZip (IsRuleAt t) (map turn_view turns) found →
+    (f : PlacedFiring) → IsFiringOf t used s place f → numbered_view part ≡ narrowed_of f → IfOk result (TellsParts t used s place found f.part.part)
+
+-- the turn of the rule that is read at the place, if these parts are some
+abbrev pub MakesTurn : ℕ → ℕ → Vec Part Global → Vec Replaced Global → Tried → Type 0
+MakesTurn place priority parts bindings made =
+    (t : Theory) (used : List Text) (s : SymbolicState) (earlier : List PlacedTurn) (found : List RewriteRule) (m : Rewrite) (p : StatePart) →
+    AllZip (IsRuleAt t) earlier found → IsReadAs t place m → IsPriorityAt t place priority → IsMetIn t m (map replaced_view bindings.items) p →
+    AreTurnParts t used s place found p (numbered_views parts.items) → TellsTurn t used s earlier place made
+
+-- what is found of the rule of the place, behind these turns
+abbrev pub TriesRule : {E : Type 0} → Setting → RuleSet → List Turn → Part → ℕ → Result Tried E → Type 0
+TriesRule setting rules turns p place result =
+    (t : Theory) (used : List Text) (s : SymbolicState) (found : List RewriteRule) →
+    IsStepFrom t used s setting rules (numbered_view p) → AllZip (IsRuleAt t) (map turn_view turns) found →
+    IfOk result (TellsTurn t used s (map turn_view turns) place)
+
+-- the same of a rule that is read
+abbrev pub TriesSides : {E : Type 0} → Setting → RuleSet → List Turn → Part → ℕ → Sides → Result Tried E → Type 0
+TriesSides setting rules turns p place sides result =
+    (t : Theory) (used : List Text) (s : SymbolicState) (found : List RewriteRule) (m : Rewrite) →
+    IsStepFrom t used s setting rules (numbered_view p) → AllZip (IsRuleAt t) (map turn_view turns) found →
+    IsReadAs t place m → AreSidesOf t.signature m sides → AreVerifiedSides t.signature m → IfOk result (TellsTurn t used s (map turn_view turns) place)
+
+-- the same of a rule that fires so
+abbrev pub TriesFiring : {E : Type 0} → Setting → RuleSet → List Turn → Part → ℕ → Firing → Result Tried E → Type 0
+TriesFiring setting rules turns p place f result =
+    (t : Theory) (used : List Text) (s : SymbolicState) (found : List RewriteRule) →
+    IsStepFrom t used s setting rules (numbered_view p) → AllZip (IsRuleAt t) (map turn_view turns) found → IsFiringOf t used s place (firing_model f) →
+    IfOk result (TellsTurn t used s (map turn_view turns) place)
+
+-- ---- what follows
+
+-- the state that follows from a part, before its equations are solved
+abbrev pub following_state : KoreSignature → StatePart → Sides → List terms.Replaced → List SortedName → KoreSort → SymbolicState
+following_state g p sides bindings new s = constrained (moved_state g p bindings new s (view sides.right)) (condition_clauses g bindings (map view sides.ensured.items))
+
+-- of each part in which a rule that is read so fires on each instance, what its variables stand for being these
+abbrev pub WhereItFires : Setting → Part → code.Rewrite → List Replaced → (KoreSignature → List Text → Rewrite → StatePart → Type 0) → Type 0
+WhereItFires setting part rule bindings Told =
+    (t : Theory) (used : List Text) (m : Rewrite) (s p : StatePart) → let g = signature_of setting in
+    g ≡ t.signature → IsSetting used setting → IsReadBy g m rule → IsMetIn t m (map replaced_view bindings) p → IsPartIn g used s p (numbered_view part) →
+    OfEachInstance g (part_view part) (λ w c. Fires g (rewrite m) c) → Told g used m s
+
+-- the state that follows from the part
+abbrev pub FollowsFrom : {E : Type 0} → Setting → Part → code.Rewrite → List Replaced → Result Following E → Type 0
+FollowsFrom setting part rule bindings result =
+    WhereItFires setting part rule bindings (λ g used m s. IfOk result (λ f. IsNextOf g used s (rewrite m) (part_view part) (state_view f.state) f.next))
+
+-- the same where the sorts of the rule's new variables have values
+abbrev pub FollowsWhereValued : {E : Type 0} → Setting → Part → code.Rewrite → List Replaced → Result Following E → Type 0
+FollowsWhereValued setting part rule bindings result =
+    WhereItFires setting part rule bindings (λ g used m s. IfOk result (λ f. AllByRecursion (λ x. HasValue g x.sort) m.new_variables → IsNextOf g used s (rewrite m) (part_view part) (state_view f.state) f.next))
+
+-- the same of a next state with its part
+abbrev pub NextFollowsFrom : {E : Type 0} → Setting → Part → code.Rewrite → List Replaced → Result Next E → Type 0
+NextFollowsFrom setting part rule bindings result =
+    WhereItFires setting part rule bindings (λ g used m s. IfOk result (λ n. IsNextOf g used s (rewrite m) (part_view part) (state_view n.state) n.next))
+
+-- the next states of the turn's parts
+abbrev pub AreNextsAt : Theory → List Text → StatePart → Turn → Vec Next Global → Type 0
+AreNextsAt t used s k ns = AllZip (IsNextAt t used s (turn_view k)) (numbered_views k.parts.items) (map next_view ns.items)
+
+-- by the rule that is read at the turn's place
+abbrev pub FollowsInTurn : {E : Type 0} → Setting → Turn → code.Rewrite → Result (Vec Next Global) E → Type 0
+FollowsInTurn setting turn rule result =
+    (t : Theory) (used : List Text) (s : StatePart) → signature_of setting ≡ t.signature → IsSetting used setting →
+    IsTurnAt t used s (turn_view turn) → IsReadAt t turn.place rule → IfOk result (AreNextsAt t used s turn)
+
+-- by the rule of the turn's place
+abbrev pub FollowsAtTurn : {E : Type 0} → Setting → RuleSet → Turn → Result (Vec Next Global) E → Type 0
+FollowsAtTurn setting rules turn result =
+    (t : Theory) (used : List Text) (s : StatePart) → Steps t setting rules → IsSetting used setting → IsTurnAt t used s (turn_view turn) → IfOk result (AreNextsAt t used s turn)
+
+-- the next states of all turns, one after the other
+abbrev pub FollowsInTurns : {E : Type 0} → Setting → RuleSet → List Turn → Result (Vec Next Global) E → Type 0
+FollowsInTurns setting rules turns result =
+    (t : Theory) (used : List Text) (s : StatePart) → Steps t setting rules → IsSetting used setting → AllByRecursion (IsTurnAt t used s) (map turn_view turns) →
+    IfOk result (λ ns. AreNextsOf t used s (map turn_view turns) (map next_view ns.items))
+
+-- the part with its equations solved, where a rule can be tried on it
+abbrev pub SettlesPart : KoreSignature → List Text → Part → Part → Type 0
+SettlesPart g used old new = IsReadyPart g used (numbered_view old) → IsSolvedPart g used (numbered_view old) (numbered_view new)
+
+-- the same of each
+abbrev pub SettlesParts : KoreSignature → List Text → Vec Part Global → Vec Part Global → Type 0
+SettlesParts g used old new = AllByRecursion (IsReadyPart g used) (numbered_views old.items) → AllZip (IsSolvedPart g used) (numbered_views old.items) (numbered_views new.items)
+
+-- ---- a step
+
+-- a step from a state is right, whatever the theory that the rule set is
+abbrev pub StepsFrom : {E : Type 0} → Setting → RuleSet → SymbolicState → ℕ → Result StepOutcome E → Type 0
+StepsFrom setting rules s next result =
+    (t : Theory) (used : List Text) → Steps t setting rules → IsSetting used setting → IsReadyState t.signature used s next → IfOk result (IsRightStep t used s)
+
+-- the same of a state that has an instance
+abbrev pub StepsFromInstance : {E : Type 0} → Setting → RuleSet → SymbolicState → ℕ → Result StepOutcome E → Type 0
+StepsFromInstance setting rules s next result =
+    (t : Theory) (used : List Text) → Steps t setting rules → IsSetting used setting → IsReadyState t.signature used s next → HasInstance t.signature (whole s) →
+    IfOk result (IsRightStep t used s)
+
+-- of one whose clauses aren't decided
+abbrev pub StepsFromOpen : {E : Type 0} → Setting → SymbolicState → Open → Result StepOutcome E → Type 0
+StepsFromOpen setting s told result =
+    (t : Theory) (used : List Text) → signature_of setting ≡ t.signature → IsTold t.signature (whole s) → ShowsOf t.signature s s told → IfOk result (IsRightStep t used s)
+
+-- from the whole of a state that has an instance
+abbrev pub StepsByRules : {E : Type 0} → Setting → RuleSet → Part → Result StepOutcome E → Type 0
+StepsByRules setting rules p result = OfEachStep setting rules p (λ t used s. HasInstance t.signature (whole s) → IfOk result (IsRightStep t used s))
+
+-- where no foreign rule might rewrite an instance
+abbrev pub StepsBySearch : {E : Type 0} → Setting → RuleSet → Part → Result StepOutcome E → Type 0
+StepsBySearch setting rules p result =
+    OfEachStep setting rules p (λ t used s. HasInstance t.signature (whole s) → OfEachInstance t.signature (whole s) (λ w c. ¬ IsUnknown t c) → IfOk result (IsRightStep t used s))
+
+-- and these are the turns of all rules
+abbrev pub StepsByTurns : {E : Type 0} → Setting → RuleSet → Part → List Turn → Result StepOutcome E → Type 0
+StepsByTurns setting rules p turns result =
+    OfEachStep setting rules p (λ t used s. HasInstance t.signature (whole s) → OfEachInstance t.signature (whole s) (λ w c. ¬ IsUnknown t c) →
+    AreAllFound t used (whole s) (map turn_view turns) → IfOk result (IsRightStep t used s))
+
+-- and these the parts that remain
+abbrev pub StepsByCases : {E : Type 0} → Setting → RuleSet → List Turn → Vec Part Global → Result StepOutcome E → Type 0
+StepsByCases setting rules turns remainder result =
+    (t : Theory) (used : List Text) (s : SymbolicState) (found : List RewriteRule) →
+    Steps t setting rules → IsSetting used setting → HasInstance t.signature (whole s) → OfEachInstance t.signature (whole s) (λ w c. ¬ IsUnknown t c) →
+    AreAllFound t used (whole s) (map turn_view turns) → AllZip (IsRuleAt t) (map turn_view turns) found →
+    AreRemaining t used s found (numbered_views remainder.items) → IfOk result (IsRightStep t used s)
+
+-- the parts that the rules of these turns leave
+abbrev pub LeavesRemainder : {E : Type 0} → Setting → RuleSet → Part → List Turn → Result Decided E → Type 0
+LeavesRemainder setting rules p turns result =
+    (t : Theory) (used : List Text) (s : SymbolicState) (found : List RewriteRule) → IsStepFrom t used s setting rules (numbered_view p) →
+    HasInstance t.signature (whole s) → AllZip (IsRuleAt t) (map turn_view turns) found → IfOk result (TellsRemainder t used s found)
