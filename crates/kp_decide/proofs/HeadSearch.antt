@@ -1,113 +1,32 @@
 -- The heads of a sort, gone through for one that may be a variable's.
-use Rattle.std.proofs.Common.{◌≡◌, refl, sym, ap, subst, ◌∙◌, Bool, true, false, not, ◌&&◌, cond, List, [], ◌∷◌, ◌++◌}
-use Rattle.std.specs.List.{AllByRecursion, Contains, list_all, filter}
-use Rattle.std.specs.Str.{bytes_eq}
-use Rattle.std.proofs.lemmas.List.{append_assoc}
-use Rattle.std.proofs.lemmas.List.Elements.{Contains-append_left, Contains-append_right, Contains-push}
-use Rattle.std.proofs.lemmas.Slice.Eq.{bytes_eq-Decides}
-use Rattle.kp_kore.specs.Syntax.{KoreSort}
-use Rattle.kp_kore.specs.Attributes.{sorts_equal}
+use Rattle.std.proofs.Common.{◌≡◌, sym, ◌∙◌, true, false, List, [], ◌∷◌}
 use Rattle.kp_kore.specs.Parts.{SortedName}
-use Rattle.kp_kore.specs.Signature.{KoreSignature, Head, integers, booleans, tokens, constructor_of, is_head, possible_heads, heads_of, IsHeadOf}
-use Rattle.kp_kore.proofs.ListLemmas.{all_append, all_right}
-use Rattle.kp_signature.proofs.Same.{sorts_equal-Decides}
-use Rattle.kp_signature.proofs.HeadLemmas.{is_head-Decides, passed_by_heads}
+use Rattle.kp_kore.specs.Signature.{KoreSignature, Head, heads_of}
+use Rattle.kp_signature.proofs.HeadLemmas.{is_head-Decides}
 use Rattle.kp_heads.specs.Heads.{IsLive}
 use Rattle.kp_sort_heads.specs.Live.{Passed}
+use Rattle.kp_sort_heads.proofs.SearchLemmas.{HasPassed, none_passed, one_passed, next_is_head, all_passed}
 use Rattle.kp_symbolic.specs.Plain.{ReadLiteral}
 use Rattle.kp_decide.specs.Heads.{agrees_with_all, MayBe, HasHead}
 
 pub true_false : true ≡ false → ⊥
 true_false e = cc
 
--- ---- heads are told apart
+-- none of those before may be the variable's
+abbrev pub IsSearched : KoreSignature → SortedName → List (List ReadLiteral) → List Head → Type 0
+IsSearched g x cs left = HasPassed g x.sort (MayBe g x cs) left
 
-abbrev heads_same : Head → Head → Bool
-heads_same integers integers = true
-heads_same booleans booleans = true
-heads_same (tokens s) (tokens t) = sorts_equal s t
-heads_same (constructor_of c) (constructor_of d) = bytes_eq c d
-heads_same h k = false
-
-same_are : (h k : Head) → heads_same h k ≡ true → h ≡ k
-same_are integers integers e = refl
-same_are booleans booleans e = refl
-same_are (tokens s) (tokens t) e = ap tokens ((sorts_equal-Decides s t).0 e)
-same_are (constructor_of c) (constructor_of d) e = ap constructor_of ((bytes_eq-Decides c d).0 e)
-same_are integers booleans e = absurd (cc)
-same_are integers (tokens t) e = absurd (cc)
-same_are integers (constructor_of d) e = absurd (cc)
-same_are booleans integers e = absurd (cc)
-same_are booleans (tokens t) e = absurd (cc)
-same_are booleans (constructor_of d) e = absurd (cc)
-same_are (tokens s) integers e = absurd (cc)
-same_are (tokens s) booleans e = absurd (cc)
-same_are (tokens s) (constructor_of d) e = absurd (cc)
-same_are (constructor_of c) integers e = absurd (cc)
-same_are (constructor_of c) booleans e = absurd (cc)
-same_are (constructor_of c) (tokens t) e = absurd (cc)
-
-same_itself : (h : Head) → heads_same h h ≡ true
-same_itself integers = refl
-same_itself booleans = refl
-same_itself (tokens s) = (sorts_equal-Decides s s).1 refl
-same_itself (constructor_of c) = (bytes_eq-Decides c c).1 refl
-
-both_and : (a b : Bool) → a ≡ true → b ≡ true → (a && b) ≡ true
-both_and true b e f = f
-both_and false b e f = absurd (cc)
-
-all_differ : (P : Head → Type 0) (h : Head) (xs : List Head) → AllByRecursion (λ k. ¬ P k) xs → P h → list_all (λ k. not (heads_same k h)) xs ≡ true
-all_differ P h [] none p = refl
-all_differ P h (x ∷ xs) none p = both_and (not (heads_same x h)) (list_all (λ k. not (heads_same k h)) xs) (by (heads_same x h) refl) (all_differ P h xs none.1 p)
-  where
-    by : (b : Bool) → heads_same x h ≡ b → not b ≡ true
-    by false e = refl
-    by true e = absurd (none.0 (subst P (sym (same_are x h e)) p))
-
--- what holds of none of the heads of a sort holds of no head that its values may have
-none_other : (g : KoreSignature) (s : KoreSort) (P : Head → Type 0) (h : Head) → AllByRecursion (λ k. ¬ P k) (heads_of g s) → IsHeadOf g s h → P h → ⊥
-none_other g s P h none is p =
-    let differs : not (heads_same h h) ≡ true = passed_by_heads g s h (λ k. not (heads_same k h)) (all_differ P h (heads_of g s) none p) is in
-    true_false (sym differs ∙ ap not (same_itself h))
-
--- ---- going through
-
-pub record IsSearched (g : KoreSignature) (x : SortedName) (cs : List (List ReadLiteral)) (left : List Head) : Type 0 where
-  pub passed : List Head
-  pub is : heads_of g x.sort ≡ passed ++ left
-  pub none : AllByRecursion (λ k. ¬ MayBe g x cs k) passed
+live_of : (g : KoreSignature) (x : SortedName) (cs : List (List ReadLiteral)) (k : Head) → MayBe g x cs k → IsLive g k
+live_of g x cs k m = m.live
 
 pub searched_none : (g : KoreSignature) (x : SortedName) (cs : List (List ReadLiteral)) (left : List Head) → left ≡ heads_of g x.sort → IsSearched g x cs left
-searched_none g x cs left e = record { passed = []; is = sym e; none = tt }
-
-each_of : (P : Head → Type 0) (xs : List Head) → ((k : Head) → Contains xs k → P k) → AllByRecursion P xs
-each_of P [] f = tt
-each_of P (x ∷ xs) f = (f x (Contains-append_left (x ∷ []) xs x (Contains-push [] x)), each_of P xs (λ k at. f k (Contains-append_right (x ∷ []) xs k at)))
+searched_none g x cs left e = none_passed g x.sort (MayBe g x cs) left e
 
 pub searched_more : (g : KoreSignature) (x : SortedName) (cs : List (List ReadLiteral)) (before after : List Head) (h : Head) → IsSearched g x cs before → Passed g before (h ∷ after) → agrees_with_all g h x.name cs ≡ false → IsSearched g x cs after
-searched_more g x cs before after h s p e = record {
-  passed = s.passed ++ (p.passed ++ h ∷ []);
-  is = s.is ∙ ap (λ hs. s.passed ++ hs) (p.is ∙ sym (append_assoc p.passed (h ∷ []) after)) ∙ sym (append_assoc s.passed (p.passed ++ h ∷ []) after);
-  none = all_append (λ k. ¬ MayBe g x cs k) s.passed (p.passed ++ h ∷ []) s.none
-      (all_append (λ k. ¬ MayBe g x cs k) p.passed (h ∷ []) (each_of (λ k. ¬ MayBe g x cs k) p.passed (λ k at m. p.none k at m.live)) ((λ m. true_false (sym m.agrees ∙ e)), tt));
-}
-
-all_heads : (keep : Head → Bool) (xs : List Head) → AllByRecursion (λ k. keep k ≡ true) (filter keep xs)
-all_heads keep [] = tt
-all_heads keep (x ∷ xs) = by (keep x) refl (all_heads keep xs)
-  where
-    by : (b : Bool) → keep x ≡ b → AllByRecursion (λ k. keep k ≡ true) (filter keep xs) → AllByRecursion (λ k. keep k ≡ true) (cond b (x ∷ filter keep xs) (filter keep xs))
-    by true e h = (e, h)
-    by false e h = h
+searched_more g x cs before after h s p e = one_passed g x.sort (MayBe g x cs) before after h (live_of g x cs) s p (λ m. true_false (sym m.agrees ∙ e))
 
 pub found : (g : KoreSignature) (x : SortedName) (cs : List (List ReadLiteral)) (before after : List Head) (h : Head) → IsSearched g x cs before → Passed g before (h ∷ after) → IsLive g h → agrees_with_all g h x.name cs ≡ true → HasHead g cs x
-found g x cs before after h s p live e =
-    let Kept = λ (k : Head). is_head g x.sort k ≡ true in
-    let all : AllByRecursion Kept (s.passed ++ (p.passed ++ h ∷ after)) = subst (AllByRecursion Kept) (s.is ∙ ap (λ hs. s.passed ++ hs) p.is) (all_heads (is_head g x.sort) (possible_heads g x.sort)) in
-    (h, record { head = (all_right Kept p.passed (h ∷ after) (all_right Kept s.passed (p.passed ++ h ∷ after) all)).0; live = live; agrees = e })
+found g x cs before after h s p live e = (h, record { head = next_is_head g x.sort (MayBe g x cs) before after h s p; live = live; agrees = e })
 
 pub found_none : (g : KoreSignature) (x : SortedName) (cs : List (List ReadLiteral)) (before : List Head) → IsSearched g x cs before → Passed g before [] → HasHead g cs x → ⊥
-found_none g x cs before s p h =
-    let none : AllByRecursion (λ k. ¬ MayBe g x cs k) (s.passed ++ (p.passed ++ [])) = all_append (λ k. ¬ MayBe g x cs k) s.passed (p.passed ++ []) s.none (all_append (λ k. ¬ MayBe g x cs k) p.passed [] (each_of (λ k. ¬ MayBe g x cs k) p.passed (λ k at m. p.none k at m.live)) tt) in
-    none_other g x.sort (MayBe g x cs) h.0 (subst (AllByRecursion (λ k. ¬ MayBe g x cs k)) (sym (s.is ∙ ap (λ hs. s.passed ++ hs) p.is)) none) ((is_head-Decides g x.sort h.0).0 h.1.head) h.1
+found_none g x cs before s p h = all_passed g x.sort (MayBe g x cs) before h.0 (live_of g x cs) s p ((is_head-Decides g x.sort h.0).0 h.1.head) h.1
