@@ -14,9 +14,10 @@ ghost use Rattle.kp_claim_sentences.specs.Claims.{has_chosen_in_term};
 use crate::names::note_all;
 use indexmap::IndexMap;
 use kp_claims::outline::Sides;
+use kp_forms::conjuncts;
 use kp_kore::{Pattern, SortedVariable};
 use kp_names::names::Names;
-use kp_rules::shape::{Binder, conjuncts, only, terms_among, under_binders};
+use kp_rules::shape::{Binder, only, terms_among, under_binders};
 use std::alloc::{AllocError, Global};
 
 /// Whether the right side's own variables stand in its term, where it has one term.

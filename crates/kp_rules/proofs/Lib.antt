@@ -1,6 +1,5 @@
 pub mod Fired
 pub mod Firing
-pub mod Forms
 pub mod HeadSorts
 pub mod ShapeSides
 pub mod Showing

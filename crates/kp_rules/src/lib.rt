@@ -4,7 +4,6 @@
 
 mod admits;
 pub mod fires;
-mod form;
 pub mod right_side;
 pub mod rule;
 pub mod shape;

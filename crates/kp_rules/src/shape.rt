@@ -4,13 +4,13 @@ ghost use Rattle.std.specs.List.{filter, list_all};
 ghost use Rattle.std.specs.Option.{option_map};
 ghost use Rattle.kp_kore.specs.Syntax.{KoreSort, KorePattern, rewriting};
 ghost use Rattle.kp_kore.specs.Parts.{is_term as term_test};
-ghost use Rattle.kp_kore.specs.View.{view, patterns_view};
-ghost use Rattle.kp_kore.specs.Instance.{is_named as named_among, conjuncts as conjuncts_of, all_conjuncts, is_predicate as predicate_test};
+ghost use Rattle.kp_kore.specs.View.{view};
+ghost use Rattle.kp_kore.specs.Instance.{is_named as named_among, is_predicate as predicate_test};
 ghost use Rattle.kp_kore.specs.Rules.{only_one, top_binders, under_binders as what_is_bound, have_distinct_names, rewrite_of, constrained_term, joined as joined_sides};
 ghost use Rattle.kp_rules.specs.Shapes.{seen, variables_seen, side_of, side_view, rewrite_seen};
 
-use crate::form::is_predicate;
 use kp_compile::is_term;
+use kp_forms::{conjuncts, is_predicate};
 use kp_kore::{Name, Pattern, Sort};
 use std::alloc::{AllocError, Global};
 
@@ -41,40 +41,6 @@ pub struct Bound<'a> {
 pub struct Shape<'a> {
     pub left: Side<'a>,
     pub right: Side<'a>,
-}
-
-/// Adds what a pattern is the conjunction of.
-#[cycle(conjuncts)]
-fn add_conjuncts<'a>(pattern: &'a Pattern, found: &mut Vec<&'a Pattern>) -> Result<(), AllocError>
-    ensures { OnOk result (seen found.new.items ≡ seen found.old.items ++ conjuncts_of (view pattern.now)) }
-{
-    match pattern {
-        Pattern::And { patterns, .. } => add_all_conjuncts(patterns, found),
-        _ => Ok(found.push(pattern)?),
-    }
-}
-
-/// Adds what each pattern is the conjunction of.
-#[cycle(conjuncts)]
-fn add_all_conjuncts<'a>(
-    patterns: &'a [Pattern],
-    found: &mut Vec<&'a Pattern>,
-) -> Result<(), AllocError>
-    ensures { OnOk result (seen found.new.items ≡ seen found.old.items ++ all_conjuncts (patterns_view patterns.now)) }
-{
-    for pattern in patterns {
-        add_conjuncts(pattern, found)?;
-    }
-    Ok(())
-}
-
-/// The members of a conjunction, in any nesting.
-pub fn conjuncts<'a>(alloc: Global, pattern: &'a Pattern) -> Result<Vec<&'a Pattern>, AllocError>
-    ensures { IfOk result (λ ps. seen ps.items ≡ conjuncts_of (view pattern.now)) }
-{
-    let mut found = Vec::new(alloc);
-    add_conjuncts(pattern, &mut found)?;
-    Ok(found)
 }
 
 /// The terms among the patterns.
