@@ -56,13 +56,13 @@ AreExcluded g used body p parts = IsExcluded g used body p (numbered parts.items
 abbrev pub TellsNowhere : {E : Type 0} → KoreSignature → Firing → Result Bool E → Type 0
 TellsNowhere g f result = (used : List Text) (body : RuleBody) (p : StatePart) → IsFiring g used body p f → IfOk result (λ b. IsTrue b → FiresNowhere g body p)
 
--- with the rest of the parts where a rule doesn't fire, this one is added, unless it has no instance
+-- with the rest, they are the parts where a rule doesn't fire, when this one is behind them or falls away
 abbrev pub AddsExcluded : {A E : Type 0} → KoreSignature → Vec Part Global → Part → Result A E → Vec Part Global → Type 0
 AddsExcluded g old part result new =
     (used : List Text) (body : RuleBody) (p : StatePart) (rest : List NumberedPart) → IsExcluded g used body p (numbered old.items ++ numbered_view part ∷ rest) →
     OnOk result (IsExcluded g used body p (numbered new.items ++ rest))
 
--- some of the parts where a rule doesn't fire do for all
+-- the parts that are kept of those where a rule doesn't fire are such parts, too
 abbrev pub KeepsExcluded : {E : Type 0} → KoreSignature → Vec Part Global → Result (Vec Part Global) E → Type 0
 KeepsExcluded g parts result = (used : List Text) (body : RuleBody) (p : StatePart) → AreExcluded g used body p parts → IfOk result (AreExcluded g used body p)
 
@@ -74,7 +74,7 @@ opposite_of_firing g f = let q = numbered_view f.part in narrowed_by q (negated 
 abbrev pub ExcludesFiring : {E : Type 0} → KoreSignature → Firing → Result (Vec Part Global) E → Type 0
 ExcludesFiring g f result = (used : List Text) (body : RuleBody) (p : StatePart) → IsFiring g used body p f → IfOk result (AreExcluded g used body p)
 
--- the same on this part, where a rule can be tried on it
+-- the parts where the rule that fires so on this part doesn't fire, where a rule can be tried on it
 abbrev pub ExcludesFiringOn : {E : Type 0} → KoreSignature → Part → Firing → Result (Vec Part Global) E → Type 0
 ExcludesFiringOn g part f result =
     (used : List Text) (body : RuleBody) → let q = numbered_view part in IsReadyPart g used q → IsFiring g used body q.part f → IfOk result (AreExcluded g used body q.part)

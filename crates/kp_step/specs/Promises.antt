@@ -84,13 +84,13 @@ TellsMet g p met result =
     IsWholeReady g used s (numbered_view p) → IsMeeting g used left (part_view p) (met_view met) met.part.next apart →
     IfOk result (IsRightAnswerOf g s (with_clauses (part_view met.part) (clauses_view met.equations.items)).state)
 
--- of the foreign rule that this skeleton stands for: whether it might rewrite an instance
+-- whether the foreign rule of each place whose left side this skeleton is might rewrite an instance
 abbrev pub TellsTwoSorts : {E : Type 0} → KoreSignature → Skeleton → Result Answer E → Type 0
 TellsTwoSorts g k result =
     (t : Theory) (used : List Text) (s : SymbolicState) (place : ℕ) (q : NumberedPart) →
     g ≡ t.signature → IsWholeReady g used s q → IsForeignAt t place k → IfOk result (TellsForeign t s place)
 
--- the same of the whole of a state
+-- the same where the skeleton is met with the whole of a state
 abbrev pub TellsSkeletonMeets : {E : Type 0} → Setting → Part → Skeleton → Result Answer E → Type 0
 TellsSkeletonMeets setting p k result =
     (t : Theory) (used : List Text) (s : SymbolicState) (place : ℕ) → let g = signature_of setting in
@@ -106,7 +106,7 @@ LeavesWithout setting parts sides result =
     IsSetting used setting → q.body ≡ rewrite m → AreSidesOf g m sides → AreVerifiedSides g m → TakesFrom q o → AreLeft g used o turns s p (numbered_views parts) →
     IfOk result (λ left. AreWithout g used o turns q s p (numbered_views parts) (numbered_views left.items))
 
--- the same of the rule of a turn
+-- what the rule of one more turn leaves of the parts
 abbrev pub LeavesBy : {E : Type 0} → Setting → RuleSet → Turn → Option ℕ → Vec Part Global → Result (Vec Part Global) E → Type 0
 LeavesBy setting rules turn priority parts result =
     (t : Theory) (used : List Text) (o : Option RewriteRule) (found : List RewriteRule) (q : RewriteRule) (s p : StatePart) → let g = signature_of setting in
@@ -179,14 +179,14 @@ TriesRule setting rules turns p place result =
     IsStepFrom t used s setting rules (numbered_view p) → AllZip (IsRuleAt t) (map turn_view turns) found →
     IfOk result (TellsTurn t used s (map turn_view turns) place)
 
--- the same of a rule that is read
+-- the same where the place's rule is read, with these sides
 abbrev pub TriesSides : {E : Type 0} → Setting → RuleSet → List Turn → Part → ℕ → Sides → Result Tried E → Type 0
 TriesSides setting rules turns p place sides result =
     (t : Theory) (used : List Text) (s : SymbolicState) (found : List RewriteRule) (m : Rewrite) →
     IsStepFrom t used s setting rules (numbered_view p) → AllZip (IsRuleAt t) (map turn_view turns) found →
     IsReadAs t place m → AreSidesOf t.signature m sides → AreVerifiedSides t.signature m → IfOk result (TellsTurn t used s (map turn_view turns) place)
 
--- the same of a rule that fires so
+-- the same where the place's rule fires so
 abbrev pub TriesFiring : {E : Type 0} → Setting → RuleSet → List Turn → Part → ℕ → Firing → Result Tried E → Type 0
 TriesFiring setting rules turns p place f result =
     (t : Theory) (used : List Text) (s : SymbolicState) (found : List RewriteRule) →
@@ -225,13 +225,13 @@ NextFollowsFrom setting part rule bindings result =
 abbrev pub AreNextsAt : Theory → List Text → StatePart → Turn → Vec Next Global → Type 0
 AreNextsAt t used s k ns = AllZip (IsNextAt t used s (turn_view k)) (numbered_views k.parts.items) (map next_view ns.items)
 
--- by the rule that is read at the turn's place
+-- these follow by the rule that is read at the turn's place
 abbrev pub FollowsInTurn : {E : Type 0} → Setting → Turn → code.Rewrite → Result (Vec Next Global) E → Type 0
 FollowsInTurn setting turn rule result =
     (t : Theory) (used : List Text) (s : StatePart) → signature_of setting ≡ t.signature → IsSetting used setting →
     IsTurnAt t used s (turn_view turn) → IsReadAt t turn.place rule → IfOk result (AreNextsAt t used s turn)
 
--- by the rule of the turn's place
+-- these follow by the rule of the turn's place
 abbrev pub FollowsAtTurn : {E : Type 0} → Setting → RuleSet → Turn → Result (Vec Next Global) E → Type 0
 FollowsAtTurn setting rules turn result =
     (t : Theory) (used : List Text) (s : StatePart) → Steps t setting rules → IsSetting used setting → IsTurnAt t used s (turn_view turn) → IfOk result (AreNextsAt t used s turn)
@@ -257,33 +257,33 @@ abbrev pub StepsFrom : {E : Type 0} → Setting → RuleSet → SymbolicState �
 StepsFrom setting rules s next result =
     (t : Theory) (used : List Text) → Steps t setting rules → IsSetting used setting → IsReadyState t.signature used s next → IfOk result (IsRightStep t used s)
 
--- the same of a state that has an instance
+-- the same, where the state has an instance
 abbrev pub StepsFromInstance : {E : Type 0} → Setting → RuleSet → SymbolicState → ℕ → Result StepOutcome E → Type 0
 StepsFromInstance setting rules s next result =
     (t : Theory) (used : List Text) → Steps t setting rules → IsSetting used setting → IsReadyState t.signature used s next → HasInstance t.signature (whole s) →
     IfOk result (IsRightStep t used s)
 
--- of one whose clauses aren't decided
+-- the same, where the state's clauses aren't decided and these are shown
 abbrev pub StepsFromOpen : {E : Type 0} → Setting → SymbolicState → Open → Result StepOutcome E → Type 0
 StepsFromOpen setting s told result =
     (t : Theory) (used : List Text) → signature_of setting ≡ t.signature → IsTold t.signature (whole s) → ShowsOf t.signature s s told → IfOk result (IsRightStep t used s)
 
--- from the whole of a state that has an instance
+-- each step from the whole of a state is right, where that has an instance
 abbrev pub StepsByRules : {E : Type 0} → Setting → RuleSet → Part → Result StepOutcome E → Type 0
 StepsByRules setting rules p result = OfEachStep setting rules p (λ t used s. HasInstance t.signature (whole s) → IfOk result (IsRightStep t used s))
 
--- where no foreign rule might rewrite an instance
+-- the same, where no foreign rule might rewrite an instance
 abbrev pub StepsBySearch : {E : Type 0} → Setting → RuleSet → Part → Result StepOutcome E → Type 0
 StepsBySearch setting rules p result =
     OfEachStep setting rules p (λ t used s. HasInstance t.signature (whole s) → OfEachInstance t.signature (whole s) (λ w c. ¬ IsUnknown t c) → IfOk result (IsRightStep t used s))
 
--- and these are the turns of all rules
+-- the same, where these are the turns of all rules
 abbrev pub StepsByTurns : {E : Type 0} → Setting → RuleSet → Part → List Turn → Result StepOutcome E → Type 0
 StepsByTurns setting rules p turns result =
     OfEachStep setting rules p (λ t used s. HasInstance t.signature (whole s) → OfEachInstance t.signature (whole s) (λ w c. ¬ IsUnknown t c) →
     AreAllFound t used (whole s) (map turn_view turns) → IfOk result (IsRightStep t used s))
 
--- and these the parts that remain
+-- the same, where these are the parts that remain
 abbrev pub StepsByCases : {E : Type 0} → Setting → RuleSet → List Turn → Vec Part Global → Result StepOutcome E → Type 0
 StepsByCases setting rules turns remainder result =
     (t : Theory) (used : List Text) (s : SymbolicState) (found : List RewriteRule) →

@@ -84,13 +84,13 @@ TellsOtherHead g x c arguments result =
 abbrev pub BuildsOfNew : {E : Type 0} → KoreSignature → Text → List Term → Result Term E → Type 0
 BuildsOfNew g c terms result = (xs : List SortedName) → terms_of (map term_view terms) ≡ all_unknown xs → IfOk result (λ t. term_view t ≡ constructor_term g c xs)
 
--- the variable is a new one of the sort
+-- behind the call, the variable is a new one of the sort
 abbrev pub NarrowsToSort : {E : Type 0} → Setting → Course → SortedName → KoreSort → Result Term E → Course → Type 0
 NarrowsToSort setting old x s result new =
     (used : List Text) → let g = signature_of setting in Lists used setting.met.now →
     IfOk result (λ t. IsNarrowedToSort g used x s (stage_view old) (stage_view new) (term_view t))
 
--- the variable is the constructor of new ones
+-- behind the call, the variable is the constructor of new ones
 abbrev pub NarrowsToConstructor : {E : Type 0} → Setting → Course → SortedName → Text → Result (Vec Term Global) E → Course → Type 0
 NarrowsToConstructor setting old x c result new =
     (used : List Text) → let g = signature_of setting in Lists used setting.met.now →
@@ -106,22 +106,22 @@ PlacesTerm setting old t s result new =
     IsSetting used setting → IsGoing g used left p form s (stage_view old) t →
     IfOk result (λ o. MatchOption o (IsAllApart g left p) (λ u. IsPlaced g used left p form s (stage_view new) (term_view u)))
 
--- where the pair is the next, the course goes on behind it, or the left side stands for no instance
+-- where the pair is the next that this left side has to meet, the course goes on behind it, or the left side stands for no instance
 abbrev pub GoesOnBehind : {E : Type 0} → KoreSignature → List Text → Form → StatePart → Course → FormPair → Result Bool E → Course → Type 0
 GoesOnBehind g used left p old q result new = IsNextPair g used left p (stage_view old) q → IfOk result (λ b. GoesOnIf b g used left p (stage_view new))
 
--- so it does, whatever the left side and the part
+-- the pair is met, whatever the left side and the part
 abbrev pub MeetsPair : {E : Type 0} → Setting → Course → FormPair → Result Bool E → Course → Type 0
 MeetsPair setting old q result new =
     (used : List Text) (left : Form) (p : StatePart) → IsSetting used setting → GoesOnBehind (signature_of setting) used left p old q result new
 
--- so it does behind the pair of a constructor with these members and the term
+-- each pair of the term and a form of this constructor with these members is met
 abbrev pub MeetsConstructor : {E : Type 0} → Setting → Course → Text → List Form → SymbolicTerm → Result Bool E → Course → Type 0
 MeetsConstructor setting old c members t result new =
     (used : List Text) (left : Form) (p : StatePart) (form : Form) → HasMembers form c (forms_of members) → IsSetting used setting →
     GoesOnBehind (signature_of setting) used left p old (pair_of form t) result new
 
--- and so it does where the term is a value, by whatever signature
+-- the same where the term is a value, whatever the signature
 abbrev pub MeetsValue : {E : Type 0} → Course → Text → List Form → SymbolicTerm → Result Bool E → Course → Type 0
 MeetsValue old c members t result new =
     (g : KoreSignature) (used : List Text) (left : Form) (p : StatePart) (form : Form) → HasMembers form c (forms_of members) →
@@ -161,13 +161,13 @@ abbrev pub TellsMeeting : KoreSignature → List Text → Form → StatePart →
 TellsMeeting g used left p o =
     MatchOption o (IsAllApart g left p) (λ m. IsMeeting g used left p (met_view m.met) m.met.part.next (map numbered_view m.apart.items))
 
--- at the end of a course
+-- what a course tells of its part, where no pair is left
 abbrev pub MeetsAtEnd : {E : Type 0} → KoreSignature → Course → Result (Option Meeting) E → Type 0
 MeetsAtEnd g k result =
     (used : List Text) (left : Form) (p : StatePart) → IsGone g used left p (stage_view k) → (stage_view k).course.pairs ≡ [] →
     IfOk result (TellsMeeting g used left p)
 
--- of a part that can be met
+-- what the left side makes of a part that it can be tried on
 abbrev pub MeetsPart : {E : Type 0} → Setting → NumberedPart → Form → Result (Option Meeting) E → Type 0
 MeetsPart setting q left result =
     (used : List Text) → let g = signature_of setting in IsSetting used setting → IsMeetable g used left q → IfOk result (TellsMeeting g used left q.part)
