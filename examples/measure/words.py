@@ -22,7 +22,6 @@ FIXED = {"LoadFault", "TreeFault", "ProveFault", "TermFault", "OutsideFault"}
 LIMITS = {"48": "levels of a term", "256": "nesting of a text", "10_000": "steps, nodes", "4_194_304": "bytes of a frame"}
 VAGUE = {"asked", "held", "right", "within", "put_in", "parts_read", "may_be"}
 STANDING = {
-    "crates/kp_graph/src/nodes.rt: 10_000 (steps, nodes) is MOST_NODES here, too",
     "crates/kp_program/src/command.rt: 10_000 (steps, nodes) is MOST_DEPTH here, too",
     "crates/kp_rpc/src/params.rt: 10_000 (steps, nodes) is MOST_DEPTH here, too",
     "crates/kp_requests/src/frame.rt: 4_194_304 (bytes of a frame) is FRAME_LIMIT here, too",

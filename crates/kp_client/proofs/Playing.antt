@@ -5,14 +5,14 @@ use Rattle.kp_kore.specs.View.{view}
 use Rattle.kp_kore.specs.declared.pattern.Pattern.{Pattern}
 use Rattle.kp_kore.specs.Claims.{ReachabilityClaim}
 use Rattle.kp_graph.specs.Tree as graph
-use Rattle.kp_graph.specs.Tree.{ProofNode, HeldBy, node_at, first_nodes, with_arc, with_hold, with_edge}
+use Rattle.kp_graph.specs.Tree.{ProofNode, HeldBy, most_nodes, node_at, first_nodes, with_arc, with_hold, with_edge}
 use Rattle.kp_graph.proofs.Opened.{split}
 use Rattle.kp_graph.specs.TreeView.{tree_view}
 use Rattle.kp_graph.specs.declared.tree.Tree.{Tree}
 use Rattle.kp_graph.specs.declared.node.NodeId.{NodeId}
 use Rattle.kp_client.specs.Links.{Exchange, LinkState, Makes}
 use Rattle.kp_client.specs.Rounds as rounds
-use Rattle.kp_client.specs.Rounds.{ProofOutcome, passed, failed_at, pending_at, refused_with, RoundEnd, goes_on, ends, Stepping, Round, Rounds, none_yet, one_more, Proves, in_round, after_rounds, all_covered, some_held, least_open, most_rounds, most_nodes, step_question, Tells}
+use Rattle.kp_client.specs.Rounds.{ProofOutcome, passed, failed_at, pending_at, refused_with, RoundEnd, goes_on, ends, Stepping, Round, Rounds, none_yet, one_more, Proves, in_round, after_rounds, all_covered, some_held, least_open, most_rounds, step_question, Tells}
 use Rattle.kp_client.specs.Answers.{IsCoverAnswer, IsStepAnswer, PlaysSteps, PlaysRound, Played, IsProved, IsEnding, none_held, first_held}
 use Rattle.kp_client.specs.declared.cover.CoverAnswer.TheVariants as cover
 use Rattle.kp_client.specs.declared.steps.StepAnswer.TheVariants as steps

@@ -6,7 +6,7 @@ use Rattle.kp_kore.specs.Syntax.{KorePattern}
 use Rattle.kp_kore.specs.Claims.{ReachabilityClaim}
 use Rattle.kp_kore.specs.Implied.{not_valid, valid}
 use Rattle.kp_graph.specs.Tree as graph
-use Rattle.kp_graph.specs.Tree.{ProofNode, HeldBy, node_at, open_nodes, first_nodes, with_arc, with_hold, with_edge}
+use Rattle.kp_graph.specs.Tree.{ProofNode, HeldBy, most_nodes, node_at, open_nodes, first_nodes, with_arc, with_hold, with_edge}
 use Rattle.serde_json.specs.Data.{unsigned}
 use Rattle.kp_rpc.specs.Request.{RequestId, id_number}
 use Rattle.kp_rpc.specs.Questions.{Question, to_execute, to_imply, question_tree}
@@ -81,9 +81,6 @@ pub data ProofOutcome : Type 0 where
 pub data RoundEnd : Type 0 where
   goes_on : List ProofNode → RoundEnd
   ends : List ProofNode → ProofOutcome → RoundEnd
-
-abbrev pub most_nodes : ℕ
-most_nodes = 10000
 
 -- What the next steps from the node's state make of the tree: an edge to a new node, unless there are as many nodes as
 -- there may be; or the node is stuck, and the proof fails; or it is held by a reply that goes no step and isn't stuck.

@@ -2,10 +2,10 @@ ghost use Rattle.std.specs.Prelude.{◌≡◌, ◌<◌, ◌≤◌, IfOk, OnErr, 
 ghost use Rattle.kp_io.specs.Outside.{Rose};
 ghost use Rattle.kp_kore.specs.ClaimView.{claim_view};
 ghost use Rattle.kp_kore.specs.View.{view};
-ghost use Rattle.kp_graph.specs.Tree.{cover, stuck, nodes, reply, with_arc, with_hold, with_edge};
+ghost use Rattle.kp_graph.specs.Tree.{most_nodes, cover, stuck, nodes, reply, with_arc, with_hold, with_edge};
 ghost use Rattle.kp_graph.specs.TreeView.{tree_view};
 ghost use Rattle.kp_client.specs.Answers.{BeginsRound, BeginsSteps, PlaysRound, PlaysSteps};
-ghost use Rattle.kp_client.specs.Rounds.{least_open, most_nodes, goes_on, ends, failed_at, pending_at};
+ghost use Rattle.kp_client.specs.Rounds.{least_open, goes_on, ends, failed_at, pending_at};
 ghost use Rattle.kp_client.specs.View.{round_end};
 ghost use Rattle.kp_client.specs.declared.outcome.ProveFault.TheVariants.{LinkFault};
 
@@ -13,12 +13,9 @@ use crate::cover::{CoverAnswer, ask_cover};
 use crate::link::Link;
 use crate::outcome::{Outcome, ProveFault};
 use crate::steps::{StepAnswer, ask_steps};
-use kp_graph::{NodeId, Tree, Why};
+use kp_graph::{MOST_NODES, NodeId, Tree, Why};
 use kp_kore::{Claim, Pattern};
 use std::alloc::Global;
-
-/// A tree has at most so many nodes.
-const MOST_NODES: usize = 10_000;
 
 /// An edge to a new node, unless there are as many as there may be: then the node is held.
 fn grow(

@@ -119,9 +119,13 @@ fault_of (Some x) = if is_open x then None else Some NotOpen
 abbrev pub arc_fault : List ProofNode → ℕ → Option TreeFault
 arc_fault tree n = fault_of (node_at tree n)
 
+-- a tree has at most so many nodes
+abbrev pub most_nodes : ℕ
+most_nodes = 10000
+
 -- K1, K2, K3: why node n gets no arc to so many new nodes; a tree has at most 10,000 nodes
 abbrev pub children_fault : List ProofNode → ℕ → ℕ → Option TreeFault
-children_fault tree n count = option_or (arc_fault tree n) (if nat_le (length tree + count) 10000 then None else Some TooManyNodes)
+children_fault tree n count = option_or (arc_fault tree n) (if nat_le (length tree + count) most_nodes then None else Some TooManyNodes)
 
 abbrev pub edge_fault : List ProofNode → ℕ → Option TreeFault
 edge_fault tree n = children_fault tree n 1

@@ -11,5 +11,6 @@ mod steps;
 pub mod tree;
 
 pub use node::{Child, NodeId, TreeArc, TreeFault, Why};
+pub use nodes::MOST_NODES;
 pub use status::Status;
 pub use tree::Tree;

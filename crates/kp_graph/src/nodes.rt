@@ -12,7 +12,7 @@ use kp_kore::Pattern;
 use std::alloc::{AllocError, Global};
 
 /// A tree has at most so many nodes.
-const MOST_NODES: usize = 10_000;
+pub const MOST_NODES: usize = 10_000;
 
 /// The place of an open node, or K1, K2.
 pub fn open_place(nodes: &[Node], node: NodeId) -> Result<usize, TreeFault>
