@@ -14,7 +14,9 @@ use Rattle.kp_kore.specs.Claims.{Holds}
 use Rattle.kp_claims.specs.Claims.{LabelledClaim, counted, IsClaimOfSentence, if_label, is_label, is_label_character}
 use Rattle.kp_report.specs.Report.{ReportLine, IsLine, is_one_line, HasLine, first_line, later_line}
 use Rattle.kp_report.proofs.OneLine.{AreToldInOneLine, IsOfOne, a_line_is_of_a_claim, passed_alone}
-use Rattle.kp_server.specs.Setting.{Setting}
+use Rattle.kp_kore.specs.Theory.{Theory}
+use Rattle.kp_book.specs.Books.{Opening}
+use Rattle.kp_modules.specs.Openings.{opening_of}
 use Rattle.kp_program.specs.Does.{DoesWords}
 use Rattle.kp_program.specs.Headline.{HasClaimThatHolds, PassedHolds}
 use Rattle.kp_program.specs.Proofs.{IsLineFor, Proved}
@@ -68,40 +70,40 @@ spelled_line : (line bytes : List ℕ) → HasLine line bytes → is_one_line li
 spelled_line line _ (first_line after one) = one
 spelled_line line _ (later_line before after one has) = spelled_line line after has
 
-labels_of : (s : Setting) (depth : ℕ) (sentences : List KoreSentence) (claims : List LabelledClaim) (lines : List ReportLine) →
-    AllZip IsClaimOfSentence sentences claims → AllZip (IsLineFor s depth) claims lines → AllByRecursion (λ l. is_one_line l.label ≡ true) lines
-labels_of s depth sentences claims [] spelled told = tt
-labels_of s depth [] (c ∷ cs) (l ∷ ls) spelled told = absurd spelled
-labels_of s depth [] [] (l ∷ ls) spelled told = absurd told
-labels_of s depth (x ∷ xs) [] (l ∷ ls) spelled told = absurd spelled
-labels_of s depth (x ∷ xs) (c ∷ cs) (l ∷ ls) spelled told =
-    (subst (λ t. is_one_line t ≡ true) (sym told.0.label) (claim_label x c spelled.0), labels_of s depth xs cs ls spelled.1 told.1)
+labels_of : (o : Opening) (t : Theory) (depth : ℕ) (sentences : List KoreSentence) (claims : List LabelledClaim) (lines : List ReportLine) →
+    AllZip IsClaimOfSentence sentences claims → AllZip (IsLineFor o t depth) claims lines → AllByRecursion (λ l. is_one_line l.label ≡ true) lines
+labels_of o t depth sentences claims [] spelled told = tt
+labels_of o t depth [] (c ∷ cs) (l ∷ ls) spelled told = absurd spelled
+labels_of o t depth [] [] (l ∷ ls) spelled told = absurd told
+labels_of o t depth (x ∷ xs) [] (l ∷ ls) spelled told = absurd spelled
+labels_of o t depth (x ∷ xs) (c ∷ cs) (l ∷ ls) spelled told =
+    (subst (λ u. is_one_line u ≡ true) (sym told.0.label) (claim_label x c spelled.0), labels_of o t depth xs cs ls spelled.1 told.1)
 
 -- a claim of these sentences with this label, that holds
-record Found (s : Setting) (sentences : List KoreSentence) (label : Text) : Type 0 where
+record Found (t : Theory) (sentences : List KoreSentence) (label : Text) : Type 0 where
   claim : LabelledClaim
   is_spelled : AnyByRecursion (λ x. IsClaimOfSentence x claim) sentences
   labelled : claim.label ≡ label
-  holds : Holds s.theory claim.claim
+  holds : Holds t claim.claim
 
-found_here : (s : Setting) (depth : ℕ) (x : KoreSentence) (xs : List KoreSentence) (c : LabelledClaim) (l : ReportLine) (label : Text) →
-    IsClaimOfSentence x c → IsLineFor s depth c l → is_one_line (codes "passed " ++ label) ≡ true → is_one_line l.label ≡ true → IsLine l.label l.outcome ((codes "passed " ++ label) ++ 10 ∷ []) → Found s (x ∷ xs) label
-found_here s depth x xs c l label spelled told line own is =
+found_here : (o : Opening) (t : Theory) (depth : ℕ) (x : KoreSentence) (xs : List KoreSentence) (c : LabelledClaim) (l : ReportLine) (label : Text) →
+    IsClaimOfSentence x c → IsLineFor o t depth c l → is_one_line (codes "passed " ++ label) ≡ true → is_one_line l.label ≡ true → IsLine l.label l.outcome ((codes "passed " ++ label) ++ 10 ∷ []) → Found t (x ∷ xs) label
+found_here o t depth x xs c l label spelled told line own is =
     let alone = passed_alone label l.label l.outcome own line is in
     record { claim = c; is_spelled = inl spelled; labelled = sym told.label ∙ alone.1; holds = told.outcome.holds alone.0 }
 
-one_more : (s : Setting) (x : KoreSentence) (xs : List KoreSentence) (label : Text) → Found s xs label → Found s (x ∷ xs) label
-one_more s x xs label f = record { claim = f.claim; is_spelled = inr f.is_spelled; labelled = f.labelled; holds = f.holds }
+one_more : (t : Theory) (x : KoreSentence) (xs : List KoreSentence) (label : Text) → Found t xs label → Found t (x ∷ xs) label
+one_more t x xs label f = record { claim = f.claim; is_spelled = inr f.is_spelled; labelled = f.labelled; holds = f.holds }
 
-found : (s : Setting) (depth : ℕ) (sentences : List KoreSentence) (claims : List LabelledClaim) (lines : List ReportLine) (label : Text) →
-    AllZip IsClaimOfSentence sentences claims → AllZip (IsLineFor s depth) claims lines → is_one_line (codes "passed " ++ label) ≡ true →
-    IsOfOne lines (codes "passed " ++ label) → Found s sentences label
-found s depth sentences claims [] label spelled told one has = absurd has
-found s depth [] (c ∷ cs) (l ∷ ls) label spelled told one has = absurd spelled
-found s depth [] [] (l ∷ ls) label spelled told one has = absurd told
-found s depth (x ∷ xs) [] (l ∷ ls) label spelled told one has = absurd spelled
-found s depth (x ∷ xs) (c ∷ cs) (l ∷ ls) label spelled told one (inl here) = found_here s depth x xs c l label spelled.0 told.0 one here.0 here.1
-found s depth (x ∷ xs) (c ∷ cs) (l ∷ ls) label spelled told one (inr later) = one_more s x xs label (found s depth xs cs ls label spelled.1 told.1 one later)
+found : (o : Opening) (t : Theory) (depth : ℕ) (sentences : List KoreSentence) (claims : List LabelledClaim) (lines : List ReportLine) (label : Text) →
+    AllZip IsClaimOfSentence sentences claims → AllZip (IsLineFor o t depth) claims lines → is_one_line (codes "passed " ++ label) ≡ true →
+    IsOfOne lines (codes "passed " ++ label) → Found t sentences label
+found o t depth sentences claims [] label spelled told one has = absurd has
+found o t depth [] (c ∷ cs) (l ∷ ls) label spelled told one has = absurd spelled
+found o t depth [] [] (l ∷ ls) label spelled told one has = absurd told
+found o t depth (x ∷ xs) [] (l ∷ ls) label spelled told one has = absurd spelled
+found o t depth (x ∷ xs) (c ∷ cs) (l ∷ ls) label spelled told one (inl here) = found_here o t depth x xs c l label spelled.0 told.0 one here.0 here.1
+found o t depth (x ∷ xs) (c ∷ cs) (l ∷ ls) label spelled told one (inr later) = one_more t x xs label (found o t depth xs cs ls label spelled.1 told.1 one later)
 
 -- ---- what was written
 
@@ -121,10 +123,10 @@ proved_holds : (names : Option Names) (before after : Option (List ℕ)) (c : Pr
     Proved names (Appends before after) c status → before ≡ Some old → after ≡ Some (old ++ gained) → HasLine (codes "passed " ++ label) gained → HasClaimThatHolds names c label
 proved_holds names before after c status old gained label one p b a has =
     let lines = p.reported.lines in
-    let labels = labels_of p.loaded.setting c.depth (counted p.modules) p.claims lines p.are_claims p.reported.one_each in
+    let labels = labels_of (opening_of p.loaded.definition c.main) p.loaded.setting.theory c.depth (counted p.modules) p.claims lines p.are_claims p.reported.one_each in
     let is = gained_is before after old gained p.reported.report b a p.reported.gains in
     let of_one = a_line_is_of_a_claim one lines p.reported.report gained (codes "passed " ++ label) p.reported.report_is labels has is in
-    let f = found p.loaded.setting c.depth (counted p.modules) p.claims lines label p.are_claims p.reported.one_each (spelled_line (codes "passed " ++ label) gained has) of_one in
+    let f = found (opening_of p.loaded.definition c.main) p.loaded.setting.theory c.depth (counted p.modules) p.claims lines label p.are_claims p.reported.one_each (spelled_line (codes "passed " ++ label) gained has) of_one in
     record {
       loaded = p.loaded;
       file = p.file;

@@ -1,76 +1,135 @@
--- The line with which a server of a setting replies to a frame makes a right exchange for the setting's theory.
-use Rattle.std.proofs.Common.{◌≡◌, ◌<◌, ◌≤◌, ◌^◌, ◌++◌, ℕ, Bool, true, false, List, [], ◌∷◌, Option, Some, None, refl, sym, ap, subst, ◌∙◌, inl, inr, arith}
-use Rattle.serde_json.specs.Data.{Data, object, Members}
+-- The line with which the service replies to a frame makes a right exchange for the theory of the main module.
+use Rattle.std.proofs.Common.{◌≡◌, ◌<◌, ◌≤◌, ◌^◌, ◌++◌, ℕ, Bool, true, false, List, [], ◌∷◌, Option, Some, None, IfSome, option_map, refl, sym, ap, subst, ◌∙◌, arith}
+use Rattle.std.specs.Prelude.{ℤ, codes}
+use Rattle.serde_json.specs.Data.{Data, object, Members, no_members, put}
+use Rattle.serde_json.specs.Written.{compact_text}
 use Rattle.kp_kore.specs.Syntax.{Text, KoreSort, KorePattern, top, bottom}
 use Rattle.kp_kore.specs.Parts.{is_term}
-use Rattle.kp_kore.specs.Executions as theory
-use Rattle.kp_kore.specs.Executions.{Executed, IsRightExecuted}
-use Rattle.kp_kore.specs.Implied.{Implied, not_valid, valid, IsCondition, witnessed, vacuous, IsRightImplied}
+use Rattle.kp_kore.specs.Implied.{Implied, Simplified, not_valid, valid, IsCondition, witnessed, vacuous, IsRightImplied}
 use Rattle.kp_kore.specs.Rules.{top_binders}
 use Rattle.kp_kore.specs.Theory.{Theory}
+use Rattle.kp_json.specs.Faults.{Reading, read}
+use Rattle.kp_json.specs.Written.{wrapped_pattern}
 use Rattle.kp_compile.specs.Spelled.{no_term}
-use Rattle.kp_compile.proofs.SpelledForms.{spelling_term}
 use Rattle.kp_rpc.specs.Frame.{IsFrame}
 use Rattle.kp_rpc.specs.Questions.{IsReadBack}
-use Rattle.kp_rpc.specs.Request.{IsReadId}
-use Rattle.kp_rpc.specs.Reply.{RequestError, error_reply, result_reply, reply_bytes}
-use Rattle.kp_rpc.specs.Request.{RequestId, IsRequest, ExecuteRequest, bound_of, most_steps}
-use Rattle.kp_rpc.proofs.IdsRead.{id_read, refused_read}
-use Rattle.kp_rpc.proofs.TermsBack.{term_back, top_back, bottom_back}
-use Rattle.kp_results.specs.Results as parts
-use Rattle.kp_results.specs.Results.{StateParts, NextParts, Ending, ExecutedParts, IsPatternOf, IsReasonOf, IsResultOf}
-use Rattle.kp_replies.specs.Read.{execute, implies, executed, implied, failed}
-use Rattle.kp_replies.specs.Replies.{IsReplyOf, IsBare, IsImpliedReadBack}
-use Rattle.kp_replies.specs.Right.{asked_options}
-use Rattle.kp_replies.specs.Written.{executed_tree, implied_tree}
-use Rattle.kp_replies.proofs.Alone.{run_line_alone, run_line_no_implication, implication_line_alone, implication_line_no_run}
-use Rattle.kp_replies.proofs.ErrorLines.{error_line}
+use Rattle.kp_rpc.specs.Request.{RequestId, id_null, IsReadId, ExecuteOptions, ExecuteRequest, bound_of, most_steps}
+use Rattle.kp_rpc.specs.Reply.{RequestError, foreign_symbol, other_shape, no_module, no_pattern, not_verified, error_reply, error_tree, result_reply, reply_bytes}
+use Rattle.kp_rpc.proofs.ReadBack.{Back, IsBack, reply_back, wrapped_back}
+use Rattle.kp_rpc.proofs.TermsBack.{top_back, bottom_back}
+use Rattle.kp_results.specs.Results.{ExecutedParts, StateParts, Undecided}
+use Rattle.kp_replies.specs.Aborted.{aborted_tree}
+use Rattle.kp_replies.specs.Failures.{Failure, undecided, failure_data, failure_error, failed_reply, failure_reply}
+use Rattle.kp_replies.specs.Read.{execute, implies, executed, implied, failed, read_reply}
+use Rattle.kp_replies.specs.Replies.{IsReplyOf, IsImpliedReadBack}
+use Rattle.kp_replies.specs.Right.{asked_options, IsMainAsked}
+use Rattle.kp_replies.specs.Written.{executed_tree, simplified_tree, added_tree}
+use Rattle.kp_replies.proofs.Alone.{implication_line_alone, implication_line_no_run}
+use Rattle.kp_replies.proofs.Texts.{line_read}
+use Rattle.kp_requests.specs.Requests as requests
+use Rattle.kp_requests.specs.Requests.{Asked, asks, refused, Call, Frame, single}
+use Rattle.kp_requests.specs.Read.{read_frame}
+use Rattle.kp_requests.specs.Frames.{IsJson, Asks, no_json, json}
+use Rattle.kp_book.specs.Books.{Opening, Registration}
 use Rattle.kp_client.specs.Links.{Exchange, ToldTheory, IsRightRun, IsRightExchange}
+use Rattle.kp_conn.specs.Conversations.{line_of}
+use Rattle.kp_execute.specs.Answers as runs
+use Rattle.kp_execute.specs.Laws.{MeansRight}
+use Rattle.kp_execute_reply.specs.Answered as execution
+use Rattle.kp_execute_reply.specs.Answered.{IsExecutedAs, IsUnderstoodAs}
+use Rattle.kp_symbolic.specs.Endings as endings
+use Rattle.kp_symbolic.specs.Endings.{Result, answered}
+use Rattle.kp_simplify.specs.Spelled.{parts_of_cause}
+use Rattle.kp_simplify_reply.specs.Answered as simplification
+use Rattle.kp_simplify_reply.specs.Answered.{IsSimplifiedAs}
 use Rattle.kp_server.proofs.Implied.{binds_nothing}
-use Rattle.kp_server.specs.Right.{IsLine, IsRefusal, IsFaulted, IsAnswered, IsImpliesFaulted, IsImpliesAnswered}
-use Rattle.kp_program.specs.Proofs.{told_theory, IsRepliedBy}
 use Rattle.kp_server.specs.Setting.{Setting}
 use Rattle.kp_server.specs.Untold.{IsImpliesUntold, no_consequent}
+use Rattle.kp_service.specs.Answered as implication
+use Rattle.kp_service.specs.Answered.{IsImpliedAs, IsReplyIn, no_such_module, in_module}
+use Rattle.kp_service.specs.Answers.{Adds, IsReplyTo, IsMember, told, added, silent, added_silently, IsAnswer, refusal, alone, together, items_of, batch_reply}
+use Rattle.kp_service.specs.Meant.{IsServedAt}
+use Rattle.kp_program.specs.Lists.{lists_two}
+use Rattle.kp_program.specs.Proofs.{IsMainTheory, told_theory, IsFullText, IsHandedOn, handed_on, held_back, no_reply, IsRepliedBy}
+use Rattle.kp_program.proofs.AnySort.{right_run}
+use Rattle.kp_program.proofs.PlainTexts.{error_tells, array_tells}
+use Rattle.kp_program.proofs.RequestsRead.{IsAsked, frame_asked, asked_id, run_request, implication_request}
+use Rattle.kp_program.proofs.AbortedBack.{aborted_back, aborted_no_implication}
+use Rattle.kp_program.proofs.ResultTrees.{reason_stands}
+use Rattle.kp_program.proofs.ResultsBack.{run_back, run_no_implication}
+use Rattle.kp_program.proofs.Theories.{served_main}
 
--- ---- errors
+from_some : {A : Type 0} (x y : A) → Some x ≡ Some y → x ≡ y
+from_some x y e = cc e
 
--- the line of an error tells no result
-error_tells_no_run : (id : RequestId) (e : RequestError) (line : List ℕ) (x : ExecutedParts) → IsReadId id → line ≡ reply_bytes (error_reply id e) → IsReplyOf execute line (executed x) → ⊥
-error_tells_no_run id e line x lawful is h =
-    let told = error_line execute id e (executed x) lawful (subst (λ (l : List ℕ). IsReplyOf execute l (executed x)) is h) in
-    let same : executed x ≡ failed told.0 = told.2 in
-    absurd (cc same)
+mapped : {A B : Type 0} (f : A → B) (x : Option A) (b : B) → option_map f x ≡ Some b → (a : A) × (x ≡ Some a) × (f a ≡ b)
+mapped f None b e = absurd (cc e)
+mapped f (Some a) b e = (a, refl, cc e)
 
-error_tells_no_implication : (id : RequestId) (e : RequestError) (line : List ℕ) (x : Implied) → IsReadId id → line ≡ reply_bytes (error_reply id e) → IsReplyOf implies line (implied x) → ⊥
-error_tells_no_implication id e line x lawful is h =
-    let told = error_line implies id e (implied x) lawful (subst (λ (l : List ℕ). IsReplyOf implies l (implied x)) is h) in
-    let same : implied x ≡ failed told.0 = told.2 in
-    absurd (cc same)
+-- ---- lines that tell no result
 
--- so it makes a right exchange for every theory
-with_error : (t : ToldTheory) (frame line : List ℕ) (id : RequestId) (e : RequestError) → IsReadId id → line ≡ reply_bytes (error_reply id e) → IsRightExchange t (record { frame = frame; reply = line })
-with_error t frame line id e lawful is = record {
-  executes = λ x h. absurd (error_tells_no_run id e line x lawful is h);
-  implies_so = λ x h. absurd (error_tells_no_implication id e line x lawful is h);
+-- of a line that tells no result of either method
+record TellsNothing (line : List ℕ) : Type 0 where
+  no_run : (x : ExecutedParts) → IsReplyOf execute line (executed x) → ⊥
+  no_implication : (x : Implied) → IsReplyOf implies line (implied x) → ⊥
+
+-- such a line makes a right exchange for every theory
+with_nothing : (t : ToldTheory) (frame line : List ℕ) → TellsNothing line → IsRightExchange t (record { frame = frame; reply = line })
+with_nothing t frame line n = record {
+  executes = λ x h. absurd (n.no_run x h);
+  implies_so = λ x h. absurd (n.no_implication x h);
 }
 
-at_reply : (line : List ℕ) (reply made : Data) → line ≡ reply_bytes reply → reply ≡ made → line ≡ reply_bytes made
-at_reply line reply made is same = is ∙ ap reply_bytes same
+empty_line : (text : List ℕ) → [] ≡ text ++ 10 ∷ [] → ⊥
+empty_line [] e = absurd (cc e)
+empty_line (b ∷ bs) e = absurd (cc e)
 
--- the id of a request that a frame holds
-id_of_request : (frame : List ℕ) (d : Data) (o : Members) (id : RequestId) (method : Text) → IsFrame frame d → d ≡ object o → IsRequest o id method → IsReadId id
-id_of_request frame d o id method is same request = id_read frame o id (subst (λ (e : Data). IsFrame frame e) same is) request.has_id
+nothing_told : TellsNothing []
+nothing_told = record {
+  no_run = λ x h. empty_line h.0 h.1;
+  no_implication = λ x h. empty_line h.0 h.1;
+}
 
-refused : (t : ToldTheory) (frame line : List ℕ) (reply : Data) → IsRefusal frame reply → line ≡ reply_bytes reply → IsRightExchange t (record { frame = frame; reply = line })
-refused t frame line reply r is = with_error t frame line r.id r.error (refused_read frame r.id r.error r.because) (at_reply line reply (error_reply r.id r.error) is r.reply_is)
+no_run_failed : (x : ExecutedParts) (code : ℤ) → executed x ≡ failed code → ⊥
+no_run_failed x code e = cc e
 
-faulted : (s : Setting) (t : ToldTheory) (frame line : List ℕ) (d reply : Data) → IsFrame frame d → IsFaulted s d reply → line ≡ reply_bytes reply → IsRightExchange t (record { frame = frame; reply = line })
-faulted s t frame line d reply is_frame r is =
-    with_error t frame line r.id r.error (id_of_request frame d r.is_execute.members r.id _ is_frame r.is_execute.tree r.is_execute.is_request) (at_reply line reply (error_reply r.id r.error) is r.reply_is)
+no_implication_failed : (x : Implied) (code : ℤ) → implied x ≡ failed code → ⊥
+no_implication_failed x code e = cc e
 
-implies_faulted : (s : Setting) (t : ToldTheory) (frame line : List ℕ) (d reply : Data) → IsFrame frame d → IsImpliesFaulted s d reply → line ≡ reply_bytes reply → IsRightExchange t (record { frame = frame; reply = line })
-implies_faulted s t frame line d reply is_frame r is =
-    with_error t frame line r.id r.error (id_of_request frame d r.is_implies.members r.id _ is_frame r.is_implies.tree r.is_implies.is_request) (at_reply line reply (error_reply r.id r.error) is r.reply_is)
+fault_told : (id : RequestId) (error : Data) → TellsNothing (reply_bytes (failed_reply id error))
+fault_told id error = record {
+  no_run = λ x h. let c = error_tells execute id error (executed x) h in no_run_failed x c.0 c.1;
+  no_implication = λ x h. let c = error_tells implies id error (implied x) h in no_implication_failed x c.0 c.1;
+}
+
+error_told : (id : RequestId) (e : RequestError) → TellsNothing (reply_bytes (error_reply id e))
+error_told id e = fault_told id (error_tree e)
+
+failure_told : (id : RequestId) (f : Failure) (d : Data) → failure_reply id f ≡ Some d → TellsNothing (reply_bytes d)
+failure_told id f d made =
+    let m = mapped (λ x. failed_reply id (failure_error f x)) (failure_data f) d made in
+    subst (λ (x : Data). TellsNothing (reply_bytes x)) m.2 (fault_told id (failure_error f m.0))
+
+-- a line of a result of which neither is read
+other_result : (id : RequestId) (tree : Data) → IsReadId id → Back tree → read_reply execute (result_reply id tree) ≡ None → read_reply implies (result_reply id tree) ≡ None → TellsNothing (reply_bytes (result_reply id tree))
+other_result id tree lawful back no_run no_implication = record {
+  no_run = λ x h. let both : None ≡ Some (executed x) = sym no_run ∙ line_read execute (result_reply id tree) (executed x) (reply_back id tree lawful back) h in cc both;
+  no_implication = λ x h. let both : None ≡ Some (implied x) = sym no_implication ∙ line_read implies (result_reply id tree) (implied x) (reply_back id tree lawful back) h in cc both;
+}
+
+state_back : (d : Data) → Back d → Back (object (put (codes "state") d no_members))
+state_back d h = record { numbers = (h.numbers, tt); is = rw h.is refl }
+
+simplified_told : (id : RequestId) (p : KorePattern) (tree : Data) → IsReadId id → simplified_tree p ≡ Some tree → TellsNothing (reply_bytes (result_reply id tree))
+simplified_told id p tree lawful made = by (wrapped_pattern p) (wrapped_back p) made
+  where
+    by : (x : Option Data) → IsBack x → option_map object (option_map (λ d. put (codes "state") d no_members) x) ≡ Some tree → TellsNothing (reply_bytes (result_reply id tree))
+    by None h e = absurd (cc e)
+    by (Some d) h e =
+        subst (λ (y : Data). TellsNothing (reply_bytes (result_reply id y))) (from_some _ tree e) (other_result id (object (put (codes "state") d no_members)) lawful (state_back d h) refl refl)
+
+added_told : (id : RequestId) (name : Text) → IsReadId id → TellsNothing (reply_bytes (result_reply id (added_tree name)))
+added_told id name lawful = other_result id (added_tree name) lawful (record { numbers = (tt, tt); is = refl }) refl refl
 
 -- ---- runs
 
@@ -82,77 +141,90 @@ bounded (Some n) name cut_points terminals = omega arith
 fits : (depth bound : ℕ) → depth ≤ bound → bound ≤ most_steps → depth < 2 ^ 64
 fits depth bound h k = omega arith
 
--- without a predicate a state has one pattern
-one_pattern : (term : KorePattern) (predicate : Option KorePattern) (p q : KorePattern) → predicate ≡ None
-    → IsPatternOf (record { term = term; predicate = predicate }) p → IsPatternOf (record { term = term; predicate = predicate }) q → p ≡ q
-one_pattern term None p q none h k = h ∙ sym k
-one_pattern term (Some r) p q none h k = absurd (cc none)
+short_run : (t : Theory) (options : ExecuteOptions) (p : KorePattern) (x : ExecutedParts) → MeansRight t (asked_options options) p x → x.depth < 2 ^ 64
+short_run t options p x m =
+    let within : m.result.depth ≤ bound_of options = m.right.within_bound in
+    fits x.depth (bound_of options) (subst (λ (n : ℕ). n ≤ bound_of options) m.is.depth within) (bounded options.max_depth options.module_name options.cut_points options.terminals)
 
--- without next states an ending has one reason
-one_reason : (e : Ending) (nexts : List NextParts) (r r' : theory.Reason) → nexts ≡ [] → IsReasonOf e nexts r → IsReasonOf e nexts r' → r ≡ r'
-one_reason parts.vacuous nexts r r' none h k = h.1 ∙ sym k.1
-one_reason parts.depth_bound nexts r r' none h k = h.1 ∙ sym k.1
-one_reason parts.stuck nexts r r' none h k = h.1 ∙ sym k.1
-one_reason parts.branching [] r r' none ([], all, h) ([], also, k) = h ∙ sym k
-one_reason parts.branching [] r r' none ([], all, h) (m ∷ ms, also, k) = absurd also
-one_reason parts.branching [] r r' none (m ∷ ms, all, h) k = absurd all
-one_reason parts.branching (n ∷ ns) r r' none h k = absurd (cc none)
-one_reason (parts.cut_point id) [] r r' none h k = absurd h.1
-one_reason (parts.cut_point id) (n ∷ ns) r r' none h k = absurd (cc none)
-one_reason (parts.terminal id) nexts r r' none h k = h.1 ∙ sym k.1
-one_reason (parts.aborted cause) nexts r r' none h k = h.1 ∙ sym k.1
+same_run : (x y : ExecutedParts) → executed y ≡ executed x → y ≡ x
+same_run x y e = cc e
 
-abbrev meaning : ℕ → theory.Reason → KorePattern → Executed
-meaning d r p = record { depth = d; reason = r; state = p }
+-- of a reply, where there is one
+abbrev ReadsLists : Option (List ℕ) → Type 0
+ReadsLists reply = IfSome reply IsFullText
 
-same_meaning : (d e : ℕ) (r w : theory.Reason) (p q : KorePattern) → d ≡ e → r ≡ w → p ≡ q → meaning d r p ≡ meaning e w q
-same_meaning d e r w p q a b c = ap (λ (n : ℕ). meaning n r p) a ∙ (ap (λ (k : theory.Reason). meaning e k p) b ∙ ap (meaning e w) c)
+-- what was asked, and what is served at this book
+record Setup (o : Opening) (t : Theory) (frame : List ℕ) (book : List Registration) (s : Setting) (name : Option Text) : Type 0 where
+  main : IsMainTheory o t
+  tree : Data
+  is_frame : IsFrame frame tree
+  served : IsServedAt o book name s
 
-one_meaning : (x : ExecutedParts) (m k : Executed) → IsBare x → IsResultOf x m → IsResultOf x k → m ≡ k
-one_meaning x m k bare h l =
-    same_meaning m.depth k.depth m.reason k.reason m.state k.state (h.depth ∙ sym l.depth) (one_reason x.ending x.nexts m.reason k.reason bare.nexts h.reason l.reason)
-    (one_pattern x.state.term x.state.predicate m.state k.state bare.predicate h.state l.state)
+theory_is : (o : Opening) (t : Theory) (frame : List ℕ) (book : List Registration) (s : Setting) (name : Option Text) → Setup o t frame book s name → IsMainAsked o.main name → s.theory ≡ t
+theory_is o t frame book s name u asked = served_main o t book name s u.main asked u.served
 
-right_run : (t : Theory) (request : ExecuteRequest) (x : ExecutedParts) (meant : Executed) → IsBare x → IsResultOf x meant
-    → IsRightExecuted t (asked_options request.options) request.state meant → IsRightRun t request x
-right_run t request x meant bare means right other also =
-    subst (λ (k : Executed). IsRightExecuted t (asked_options request.options) request.state k) (one_meaning x meant other bare means also) right
-
--- the line of such a run tells that run alone, and no result of implies
-run_told : (id : RequestId) (x y : ExecutedParts) (tree : Data) (line : List ℕ) → IsReadId id → x.depth < 2 ^ 64 → IsBare x → IsReadBack x.state.term
-    → executed_tree x ≡ Some tree → line ≡ reply_bytes (result_reply id tree) → IsReplyOf execute line (executed y) → y ≡ x
-run_told id x y tree line lawful short bare back written is h =
-    let same : executed y ≡ executed x = run_line_alone id x tree (executed y) lawful short bare back written (subst (λ (l : List ℕ). IsReplyOf execute l (executed y)) is h) in
-    cc same
-
-run_tells_no_implication : (id : RequestId) (x : ExecutedParts) (y : Implied) (tree : Data) (line : List ℕ) → IsReadId id → x.depth < 2 ^ 64 → IsBare x
-    → executed_tree x ≡ Some tree → line ≡ reply_bytes (result_reply id tree) → IsReplyOf implies line (implied y) → ⊥
-run_tells_no_implication id x y tree line lawful short bare written is h =
-    run_line_no_implication id x tree (implied y) lawful short bare written (subst (λ (l : List ℕ). IsReplyOf implies l (implied y)) is h)
-
-answered : (s : Setting) (frame line : List ℕ) (d reply : Data) → IsFrame frame d → IsAnswered s d reply → line ≡ reply_bytes reply → IsRightExchange (told_theory s) (record { frame = frame; reply = line })
-answered s frame line d reply is_frame r is =
-    let options = r.request.options in
-    let x = r.right.result in
-    let id = r.request.id in
-    let tree = r.right.tree in
-    let lawful = id_of_request frame d r.members id _ is_frame r.tree r.is_request.is_request in
-    let within : r.right.meant.depth ≤ bound_of options = r.right.right.within_bound in
-    let short = fits x.depth (bound_of options) (subst (λ (n : ℕ). n ≤ bound_of options) r.right.means.depth within) (bounded options.max_depth options.module_name options.cut_points options.terminals) in
-    let term : is_term x.state.term ≡ true = ap is_term r.normal.spelled ∙ spelling_term s.theory.signature r.normal.later.sort r.normal.later.value in
-    let back = term_back x.state.term term in
-    let made = at_reply line reply (result_reply id tree) is r.right.reply_is in
-    let right = right_run s.theory r.request x r.right.meant r.bare r.right.means r.right.right in
+-- a right result, as it is written
+run_told : (o : Opening) (t : Theory) (frame : List ℕ) (book : List Registration) (s : Setting) (id : RequestId) (options : ExecuteOptions) (p : KorePattern) (x : ExecutedParts) (tree d : Data) →
+    (u : Setup o t frame book s options.module_name) → IsAsked u.tree id (requests.execute (read p) options) → MeansRight s.theory (asked_options options) p x → executed_tree x ≡ Some tree → d ≡ result_reply id tree →
+    ReadsLists (Some (compact_text d)) → IsRightExchange (told_theory o t) (record { frame = frame; reply = reply_bytes d })
+run_told o t frame book s id options p x tree d u a means written is lists =
+    let q : ExecuteRequest = record { id = id; state = p; options = options } in
+    let lawful = asked_id frame u.tree id _ u.is_frame a in
+    let short = short_run s.theory options p x means in
+    let stands = reason_stands x.ending x.nexts means.result.reason means.is.reason in
+    let two = subst (λ (y : Data). (e : Data) → IsFrame (compact_text y) e → lists_two e ≡ true) is lists in
+    let asked = run_request u.tree id p options a in
+    let right : IsRightRun s.theory q x = right_run s.theory q x means in
     record {
       executes = λ y h. record {
-        members = r.members;
-        request = r.request;
-        is_frame = subst (λ (e : Data). IsFrame frame e) r.tree is_frame;
-        is_request = r.is_request;
-        right = λ asked. subst (λ (z : ExecutedParts). IsRightRun s.theory r.request z) (sym (run_told id x y tree line lawful short r.bare back r.right.written made h)) right;
+        members = asked.0;
+        request = q;
+        is_frame = subst (λ (e : Data). IsFrame frame e) asked.1 u.is_frame;
+        is_request = asked.2;
+        right = λ main.
+            let same : y ≡ x = same_run x y (run_back id x tree (executed y) lawful short stands written two (subst (λ (e : Data). IsReplyOf execute (reply_bytes e) (executed y)) is h)) in
+            subst (λ (v : Theory). IsRightRun v q y) (theory_is o t frame book s options.module_name u main) (subst (λ (z : ExecutedParts). IsRightRun s.theory q z) (sym same) right);
       };
-      implies_so = λ y h. absurd (run_tells_no_implication id x y tree line lawful short r.bare r.right.written made h);
+      implies_so = λ y h. absurd (run_no_implication id x tree (implied y) lawful short written (subst (λ (e : Data). IsReplyOf implies (reply_bytes e) (implied y)) is h));
     }
+
+left_open : (id : RequestId) (depth : ℕ) (state : StateParts) (u : Undecided) (d : Data) → IsReadId id → depth < 2 ^ 64 → execution.reply_of id (runs.left_open depth state u) ≡ Some d → TellsNothing (reply_bytes d)
+left_open id depth state u d lawful short made =
+    let m = mapped (result_reply id) (aborted_tree depth state u) d made in
+    subst (λ (y : Data). TellsNothing (reply_bytes y)) m.2 (record {
+      no_run = λ x h. aborted_back id depth state u m.0 (executed x) lawful short m.1 h;
+      no_implication = λ x h. aborted_no_implication id depth state u m.0 (implied x) lawful short m.1 h;
+    })
+
+below_bound : (depth : ℕ) (options : ExecuteOptions) → depth < bound_of options → depth < 2 ^ 64
+below_bound depth options below =
+    fits depth (bound_of options) (omega (arith, below)) (bounded options.max_depth options.module_name options.cut_points options.terminals)
+
+answer_told : (o : Opening) (t : Theory) (frame : List ℕ) (book : List Registration) (s : Setting) (id : RequestId) (options : ExecuteOptions) (p : KorePattern) (r : runs.RunAnswer) (d : Data) →
+    (u : Setup o t frame book s options.module_name) → IsAsked u.tree id (requests.execute (read p) options) → runs.IsRightAnswer s.theory (asked_options options) p r → execution.reply_of id r ≡ Some d →
+    ReadsLists (Some (compact_text d)) → IsRightExchange (told_theory o t) (record { frame = frame; reply = reply_bytes d })
+answer_told o t frame book s id options p (runs.executed x) d u a right made lists =
+    let m = mapped (result_reply id) (executed_tree x) d made in
+    run_told o t frame book s id options p x m.0 d u a right.means m.1 (sym m.2) lists
+answer_told o t frame book s id options p (runs.left_open depth state cause) d u a right made lists =
+    with_nothing (told_theory o t) frame (reply_bytes d) (left_open id depth state cause d (asked_id frame u.tree id _ u.is_frame a) (below_bound depth options right.below) made)
+
+understood : (o : Opening) (t : Theory) (frame : List ℕ) (book : List Registration) (s : Setting) (id : RequestId) (options : ExecuteOptions) (p : KorePattern) (d : Data) →
+    (u : Setup o t frame book s options.module_name) → IsAsked u.tree id (requests.execute (read p) options) → IsUnderstoodAs s id options p d →
+    ReadsLists (Some (compact_text d)) → IsRightExchange (told_theory o t) (record { frame = frame; reply = reply_bytes d })
+understood o t frame book s id options p _ u a (execution.by_values d x) lists =
+    let r = x.right in
+    run_told o t frame book s id options p r.result r.tree d u a (record { result = r.meant; is = r.means; right = r.right }) r.written r.reply_is lists
+understood o t frame book s id options p _ u a (execution.told r d clear right made) lists = answer_told o t frame book s id options p r d u a right made lists
+understood o t frame book s id options p _ u a (execution.foreign name found) lists = with_nothing (told_theory o t) frame _ (error_told id (not_verified (foreign_symbol name)))
+understood o t frame book s id options p _ u a (execution.left_out untold) lists = with_nothing (told_theory o t) frame _ (error_told id (not_verified other_shape))
+
+run_replied : (o : Opening) (t : Theory) (frame : List ℕ) (book : List Registration) (s : Setting) (id : RequestId) (options : ExecuteOptions) (state : Reading KorePattern) (d : Data) →
+    (u : Setup o t frame book s options.module_name) → IsAsked u.tree id (requests.execute state options) → IsExecutedAs s id options state d →
+    ReadsLists (Some (compact_text d)) → IsRightExchange (told_theory o t) (record { frame = frame; reply = reply_bytes d })
+run_replied o t frame book s id options _ _ u a (execution.unread f) lists = with_nothing (told_theory o t) frame _ (error_told id (no_pattern f))
+run_replied o t frame book s id options _ _ u a (execution.faulty p f first) lists = with_nothing (told_theory o t) frame _ (error_told id (not_verified f))
+run_replied o t frame book s id options _ _ u a (execution.understood p sort d verifies x) lists = understood o t frame book s id options p d u a x lists
 
 -- ---- implications
 
@@ -162,7 +234,7 @@ is_true false h = absurd (h refl)
 
 -- the consequent is a term, so it binds nothing
 binds_none : (s : Setting) (name : Option Text) (a c : KorePattern) (sort other : KoreSort) → ¬ IsImpliesUntold s name a c sort other → top_binders c ≡ []
-binds_none s name a c sort other told = (binds_nothing c (is_true (is_term c) (λ h. told (no_consequent (no_term h))))).variables
+binds_none s name a c sort other given = (binds_nothing c (is_true (is_term c) (λ h. given (no_consequent (no_term h))))).variables
 
 read_back_at : (p q : KorePattern) → p ≡ q → IsReadBack q → IsReadBack p
 read_back_at p q same h = subst IsReadBack (sym same) h
@@ -177,54 +249,141 @@ result_read_back : (s : Setting) (a c : KorePattern) (x : Implied) → top_binde
 result_read_back s a c not_valid none right = tt
 result_read_back s a c (valid p q) none right = condition_read_back s a c p q none right.1
 
--- the line of an implication tells it alone, and no result of execute
-implication_told : (id : RequestId) (x y : Implied) (tree : Data) (line : List ℕ) → IsReadId id → IsImpliedReadBack x
-    → implied_tree x ≡ Some tree → line ≡ reply_bytes (result_reply id tree) → IsReplyOf implies line (implied y) → y ≡ x
-implication_told id x y tree line lawful back written is h =
-    let same : implied y ≡ implied x = implication_line_alone id x tree (implied y) lawful back written (subst (λ (l : List ℕ). IsReplyOf implies l (implied y)) is h) in
-    cc same
+same_implication : (x y : Implied) → implied y ≡ implied x → y ≡ x
+same_implication x y e = cc e
 
-implication_tells_no_run : (id : RequestId) (x : Implied) (y : ExecutedParts) (tree : Data) (line : List ℕ) → IsReadId id
-    → implied_tree x ≡ Some tree → line ≡ reply_bytes (result_reply id tree) → IsReplyOf execute line (executed y) → ⊥
-implication_tells_no_run id x y tree line lawful written is h =
-    implication_line_no_run id x tree (executed y) lawful written (subst (λ (l : List ℕ). IsReplyOf execute l (executed y)) is h)
-
-implies_answered : (s : Setting) (frame line : List ℕ) (d reply : Data) → IsFrame frame d → IsImpliesAnswered s d reply → line ≡ reply_bytes reply → IsRightExchange (told_theory s) (record { frame = frame; reply = line })
-implies_answered s frame line d reply is_frame r is =
-    let a = r.request.antecedent in
-    let c = r.request.consequent in
+implication_told : (o : Opening) (t : Theory) (frame : List ℕ) (book : List Registration) (s : Setting) (id : RequestId) (name : Option Text) (p q : KorePattern) (d : Data) →
+    (u : Setup o t frame book s name) → IsAsked u.tree id (requests.implies (read p) (read q) name) → implication.IsImplied s (record { id = id; antecedent = p; consequent = q; module_name = name }) d →
+    IsRightExchange (told_theory o t) (record { frame = frame; reply = reply_bytes d })
+implication_told o t frame book s id name p q d u a r =
     let x = r.right.result in
-    let lawful = id_of_request frame d r.members r.request.id _ is_frame r.tree r.is_request.is_request in
-    let back = result_read_back s a c x (binds_none s r.request.module_name a c r.is_told.sort r.is_told.other r.is_told.told) r.right.right in
-    let made = at_reply line reply (result_reply r.request.id r.right.tree) is r.right.reply_is in
+    let is = r.right.reply_is in
+    let lawful = asked_id frame u.tree id _ u.is_frame a in
+    let back = result_read_back s p q x (binds_none s name p q r.is_told.sort r.is_told.other r.is_told.told) r.right.right in
+    let asked = implication_request u.tree id p q name a in
     record {
-      executes = λ y h. absurd (implication_tells_no_run r.request.id x y r.right.tree line lawful r.right.written made h);
+      executes = λ y h. absurd (implication_line_no_run id x r.right.tree (executed y) lawful r.right.written (subst (λ (e : Data). IsReplyOf execute (reply_bytes e) (executed y)) is h));
       implies_so = λ y h. record {
-        members = r.members;
-        request = r.request;
-        is_frame = subst (λ (e : Data). IsFrame frame e) r.tree is_frame;
-        is_request = r.is_request;
-        right = λ asked. subst (λ (z : Implied). IsRightImplied s.theory.signature a c z) (sym (implication_told r.request.id x y r.right.tree line lawful back r.right.written made h)) r.right.right;
+        members = asked.0;
+        request = record { id = id; antecedent = p; consequent = q; module_name = name };
+        is_frame = subst (λ (e : Data). IsFrame frame e) asked.1 u.is_frame;
+        is_request = asked.2;
+        right = λ main.
+            let same : y ≡ x = same_implication x y (implication_line_alone id x r.right.tree (implied y) lawful back r.right.written (subst (λ (e : Data). IsReplyOf implies (reply_bytes e) (implied y)) is h)) in
+            subst (λ (v : Theory). IsRightImplied v.signature p q y) (theory_is o t frame book s name u main) (subst (λ (z : Implied). IsRightImplied s.theory.signature p q z) (sym same) r.right.right);
       };
     }
 
+implication_replied : (o : Opening) (t : Theory) (frame : List ℕ) (book : List Registration) (s : Setting) (id : RequestId) (name : Option Text) (left right : Reading KorePattern) (d : Data) →
+    (u : Setup o t frame book s name) → IsAsked u.tree id (requests.implies left right name) → IsImpliedAs s id name left right d → IsRightExchange (told_theory o t) (record { frame = frame; reply = reply_bytes d })
+implication_replied o t frame book s id name _ _ _ u a (implication.bad_sides left right e wrong) = with_nothing (told_theory o t) frame _ (error_told id e)
+implication_replied o t frame book s id name _ _ _ u a (implication.implied p q d r) = implication_told o t frame book s id name p q d u a r
+
+-- ---- simplify
+
+simplify_understood : (s : Setting) (id : RequestId) (p : KorePattern) (d : Data) → IsReadId id → simplification.IsUnderstoodAs s.theory.signature id p d → TellsNothing (reply_bytes d)
+simplify_understood s id p _ lawful (simplification.told r d right made) = by r made
+  where
+    by : (x : Result Simplified) → simplification.reply_of id x ≡ Some d → TellsNothing (reply_bytes d)
+    by (answered q) e =
+        let m = mapped (λ tree. result_reply id tree) (simplified_tree (simplification.pattern_of q)) d e in
+        subst (λ (y : Data). TellsNothing (reply_bytes y)) m.2 (simplified_told id (simplification.pattern_of q) m.0 lawful m.1)
+    by (endings.left_open cause) e = failure_told id (undecided (parts_of_cause cause)) d e
+simplify_understood s id p _ lawful (simplification.foreign name found) = error_told id (not_verified (foreign_symbol name))
+simplify_understood s id p _ lawful (simplification.left_out untold) = error_told id (not_verified other_shape)
+
+simplify_replied : (s : Setting) (id : RequestId) (state : Reading KorePattern) (d : Data) → IsReadId id → IsSimplifiedAs s.theory.signature id state d → TellsNothing (reply_bytes d)
+simplify_replied s id _ _ lawful (simplification.unread f) = error_told id (no_pattern f)
+simplify_replied s id _ _ lawful (simplification.faulty p f first) = error_told id (not_verified f)
+simplify_replied s id _ _ lawful (simplification.understood p sort d verifies x) = simplify_understood s id p d lawful x
+
+-- ---- calls
+
+-- a call of a frame
+record IsCallOf (frame : List ℕ) (call : Call) : Type 0 where
+  tree : Data
+  is_json : IsJson frame tree
+  reads : read_frame tree ≡ single call
+
+call_of : (frame : List ℕ) (f : Frame) (call : Call) → Asks frame f → f ≡ single call → IsCallOf frame call
+call_of frame _ call (no_json none) e = absurd (cc e)
+call_of frame _ call (json d is) e = record { tree = d; is_json = is; reads = e }
+
+-- what a call asks
+abbrev asked_by : (frame : List ℕ) (call : Call) → IsCallOf frame call → RequestId → requests.Request → Type 0
+asked_by frame call c id r = IsAsked c.tree id r × IsFrame frame c.tree
+
+object_frame : (frame : List ℕ) (d : Data) (o : Members) → IsJson frame d → d ≡ object o → IsFrame frame d
+object_frame frame d o is same =
+    subst (λ (e : Data). IsFrame frame e) (sym same) (record { fits = is.fits; utf8 = is.utf8; reads = is.reads ∙ ap Some same; brackets = tt })
+
+call_asks : (frame : List ℕ) (call : Call) (id : RequestId) (r : requests.Request) (c : IsCallOf frame call) → call.id ≡ Some id → call.asked ≡ asks r → asked_by frame call c id r
+call_asks frame call id r c named asked =
+    let a = frame_asked c.tree call id r c.reads named asked in
+    (a, object_frame frame c.tree a.members c.is_json a.tree)
+
+in_reply : (o : Opening) (t : Theory) (frame : List ℕ) (book : List Registration) (name : Option Text) (id : RequestId) (RightOver : Setting → Data → Type 0) (d : Data) →
+    ((s : Setting) → IsServedAt o book name s → RightOver s d → IsRightExchange (told_theory o t) (record { frame = frame; reply = reply_bytes d })) →
+    IsReplyIn o book name id RightOver d → IsRightExchange (told_theory o t) (record { frame = frame; reply = reply_bytes d })
+in_reply o t frame book name id RightOver _ right (no_such_module missing unbound) = with_nothing (told_theory o t) frame _ (error_told id (no_module missing))
+in_reply o t frame book name id RightOver _ right (in_module s d served over) = right s served over
+
+replied : (o : Opening) (t : Theory) (frame : List ℕ) (book : List Registration) (call : Call) (id : RequestId) (asked : Asked) (d : Data) → IsMainTheory o t → IsCallOf frame call → call.id ≡ Some id → call.asked ≡ asked →
+    IsReplyTo o book id asked d → ReadsLists (Some (compact_text d)) → IsRightExchange (told_theory o t) (record { frame = frame; reply = reply_bytes d })
+replied o t frame book call id (refused e) d main c named is right lists =
+    with_nothing (told_theory o t) frame (reply_bytes d) (subst (λ (y : Data). TellsNothing (reply_bytes y)) (sym right) (error_told id e))
+replied o t frame book call id (asks (requests.execute state options)) d main c named is right lists =
+    let a = call_asks frame call id (requests.execute state options) c named is in
+    in_reply o t frame book options.module_name id (λ s. IsExecutedAs s id options state) d
+    (λ s served over. run_replied o t frame book s id options state d (record { main = main; tree = c.tree; is_frame = a.1; served = served }) a.0 over lists) right
+replied o t frame book call id (asks (requests.implies left right name)) d main c named is over lists =
+    let a = call_asks frame call id (requests.implies left right name) c named is in
+    in_reply o t frame book name id (λ s. IsImpliedAs s id name left right) d
+    (λ s served reply. implication_replied o t frame book s id name left right d (record { main = main; tree = c.tree; is_frame = a.1; served = served }) a.0 reply) over
+replied o t frame book call id (asks (requests.simplify state name)) d main c named is right lists =
+    let a = call_asks frame call id (requests.simplify state name) c named is in
+    in_reply o t frame book name id (λ s. IsSimplifiedAs s.theory.signature id state) d
+    (λ s served over. with_nothing (told_theory o t) frame (reply_bytes d) (simplify_replied s id state d (asked_id frame c.tree id _ a.1 a.0) over)) right
+replied o t frame book call id (asks (requests.add_module text name_as_id)) d main c named is right lists =
+    with_nothing (told_theory o t) frame (reply_bytes d) (failure_told id right.0 d right.2)
+
+adds_by : (o : Opening) (book : List Registration) (asked : Asked) (r : Registration) → Adds o book asked r → (text : Text) × (named : Bool) × (asked ≡ asks (requests.add_module text named))
+adds_by o book (refused e) r h = absurd h
+adds_by o book (asks (requests.execute state options)) r h = absurd h
+adds_by o book (asks (requests.implies left right name)) r h = absurd h
+adds_by o book (asks (requests.simplify state name)) r h = absurd h
+adds_by o book (asks (requests.add_module text named)) r h = (text, named, refl)
+
+member_right : (o : Opening) (t : Theory) (frame : List ℕ) (book after : List Registration) (call : Call) (reply : Option Data) → IsMainTheory o t → IsCallOf frame call → IsMember o book call reply after →
+    ReadsLists (option_map compact_text reply) → IsRightExchange (told_theory o t) (record { frame = frame; reply = line_of (option_map compact_text reply) })
+member_right o t frame book _ call _ main c (told id d named right) lists = replied o t frame book call id call.asked d main c named refl right lists
+member_right o t frame book _ call _ main c (added id r named adds) lists =
+    let what = adds_by o book call.asked r adds in
+    let a = call_asks frame call id (requests.add_module what.0 what.1) c named what.2 in
+    with_nothing (told_theory o t) frame _ (added_told id r.id (asked_id frame c.tree id _ a.1 a.0))
+member_right o t frame book _ call _ main c (silent none nothing) lists = with_nothing (told_theory o t) frame [] nothing_told
+member_right o t frame book _ call _ main c (added_silently r none adds) lists = with_nothing (told_theory o t) frame [] nothing_told
+
 -- ---- any reply
 
-pub reply_is_right : (s : Setting) (frame line : List ℕ) → IsLine s frame line → IsRightExchange (told_theory s) (record { frame = frame; reply = line })
-reply_is_right s frame line (reply, inl r, is) = refused (told_theory s) frame line reply r is
-reply_is_right s frame line (reply, inr (d, is_frame, inl (inl r)), is) = faulted s (told_theory s) frame line d reply is_frame r is
-reply_is_right s frame line (reply, inr (d, is_frame, inl (inr r)), is) = answered s frame line d reply is_frame r is
-reply_is_right s frame line (reply, inr (d, is_frame, inr (inl r)), is) = implies_faulted s (told_theory s) frame line d reply is_frame r is
-reply_is_right s frame line (reply, inr (d, is_frame, inr (inr r)), is) = implies_answered s frame line d reply is_frame r is
-
-empty_line : (text : List ℕ) → [] ≡ text ++ 10 ∷ [] → ⊥
-empty_line [] e = absurd (cc e)
-empty_line (b ∷ bs) e = absurd (cc e)
-
--- nothing tells no result
-pub replied_is_right : (s : Setting) (e : Exchange) → IsRepliedBy s e → IsRightExchange (told_theory s) e
-replied_is_right s e (inl (white, nothing)) = record {
-  executes = λ x h. absurd (empty_line h.0 (sym nothing ∙ h.1));
-  implies_so = λ x h. absurd (empty_line h.0 (sym nothing ∙ h.1));
+batch_told : (replies : List Data) → TellsNothing (line_of (option_map compact_text (batch_reply replies)))
+batch_told [] = nothing_told
+batch_told (d ∷ ds) = record {
+  no_run = λ x h. array_tells execute (items_of (d ∷ ds)) (executed x) h;
+  no_implication = λ x h. array_tells implies (items_of (d ∷ ds)) (implied x) h;
 }
-replied_is_right s e (inr replied) = reply_is_right s e.frame e.reply replied
+
+answer_right : (o : Opening) (t : Theory) (frame : List ℕ) (before after : List Registration) (reply : Option (List ℕ)) → IsMainTheory o t → IsAnswer o before frame reply after → ReadsLists reply →
+    IsRightExchange (told_theory o t) (record { frame = frame; reply = line_of reply })
+answer_right o t frame before _ _ main (refusal e whole) lists = with_nothing (told_theory o t) frame _ (error_told id_null e)
+answer_right o t frame before _ _ main (alone call reply after is member) lists = member_right o t frame before after call reply main (call_of frame (single call) call is refl) member lists
+answer_right o t frame before _ _ main (together calls replies after is members) lists = with_nothing (told_theory o t) frame _ (batch_told replies)
+
+handed_right : (o : Opening) (t : Theory) (frame : List ℕ) (before after : List Registration) (reply : Option (List ℕ)) (line : List ℕ) → IsMainTheory o t → IsAnswer o before frame reply after → IsHandedOn reply line →
+    IsRightExchange (told_theory o t) (record { frame = frame; reply = line })
+handed_right o t frame before after _ _ main answer (handed_on text full) = answer_right o t frame before after (Some text) main answer full
+handed_right o t frame before after _ _ main answer (held_back text d frame_read short) = with_nothing (told_theory o t) frame [] nothing_told
+handed_right o t frame before after _ _ main answer no_reply = with_nothing (told_theory o t) frame [] nothing_told
+
+pub replied_is_right : (o : Opening) (t : Theory) (e : Exchange) → IsMainTheory o t → IsRepliedBy o e → IsRightExchange (told_theory o t) e
+replied_is_right o t e main r = handed_right o t e.frame r.before r.after r.reply e.reply main r.answer r.line

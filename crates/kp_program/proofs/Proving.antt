@@ -16,15 +16,18 @@ use Rattle.kp_client.specs.Rounds.{ProofOutcome, passed, failed_at}
 use Rattle.kp_client.specs.Sound.{IsStuckAt}
 use Rattle.kp_io.specs.Outside.{Names}
 use Rattle.kp_program.specs.ClaimFiles.{AreClaimsAt, IsProvableClaim}
+use Rattle.kp_kore.specs.Theory.{Theory}
+use Rattle.kp_book.specs.Books.{Opening}
+use Rattle.kp_modules.specs.Openings.{IsTableOf, opening_of}
 use Rattle.kp_modules.specs.declared.table.Table.{Table}
-use Rattle.kp_server.specs.Setting.{IsSettingOf, Setting}
 use Rattle.kp_program.specs.Loaded.{IsLoaded}
-use Rattle.kp_program.specs.LocalTold.{state_over}
+use Rattle.kp_program.specs.LocalTold.{IsTheoryOver, state_over}
 use Rattle.kp_program.specs.Proofs.{told_theory, IsRepliedBy, AreReported, IsLineFor, IsOutcome, Proved, proof_status}
 use Rattle.kp_program.specs.Words.{ProveWords}
 use Rattle.kp_program.specs.declared.trouble.Trouble.{Trouble}
 use Rattle.kp_program.proofs.LocalExchanges.{replied_is_right}
 use Rattle.kp_program.proofs.ProvableClaims.{provable_claims}
+use Rattle.kp_program.proofs.Theories.{main_theory}
 
 -- ---- one claim
 
@@ -32,15 +35,19 @@ all_into : {A : Type 0} (P Q : A → Type 0) → ((x : A) → P x → Q x) → (
 all_into P Q into [] all = tt
 all_into P Q into (x ∷ xs) all = (into x all.0, all_into P Q into xs all.1)
 
--- what each exchange over a table meets makes it right
-pub serves_setting : (s : Setting) (table : Table) → IsSettingOf s table → Serves (state_over table) (told_theory s)
-serves_setting s table is e meets = replied_is_right s e (meets s is)
+-- the table of a loaded definition is that of its opening, whose main module has its theory
+pub theory_over : (names : Option Names) (name main : List ℕ) (l : IsLoaded names name main) (table : Table) → IsTableOf (opening_of l.definition main) table → IsTheoryOver table (opening_of l.definition main) l.setting.theory
+theory_over names name main l table opens = record { opens = opens; main = main_theory l.definition main l.setting table l.is_setting opens }
 
-pub outcome_is : (s : Setting) (table : Table) (depth : ℕ) (claim : ReachabilityClaim) (after : LinkState) (tree : List ProofNode) (o : ProofOutcome) → IsSettingOf s table →
-    IsProved (state_over table) after claim depth tree o → TreeSays s.theory [] [] claim tree → (o ≡ passed → Holds s.theory claim) → ((n : ℕ) → o ≡ failed_at n → IsStuckAt s.theory claim tree n) → IsOutcome s depth claim o
-outcome_is s table depth claim after tree o is p says holds stuck = record {
+-- what each exchange over a table meets makes it right
+pub serves_theory : (o : Opening) (t : Theory) (table : Table) → IsTheoryOver table o t → Serves (state_over table) (told_theory o t)
+serves_theory o t table is e meets = replied_is_right o t e is.main (meets o is.opens)
+
+pub outcome_is : (o : Opening) (t : Theory) (table : Table) (depth : ℕ) (claim : ReachabilityClaim) (after : LinkState) (tree : List ProofNode) (end : ProofOutcome) → IsTheoryOver table o t →
+    IsProved (state_over table) after claim depth tree end → TreeSays t [] [] claim tree → (end ≡ passed → Holds t claim) → ((n : ℕ) → end ≡ failed_at n → IsStuckAt t claim tree n) → IsOutcome o t depth claim end
+outcome_is o t table depth claim after tree end is p says holds stuck = record {
   exchanges = p.exchanges;
-  replied = all_into (state_over table).meets (IsRepliedBy s) (λ e meets. meets s is) p.exchanges p.makes.met;
+  replied = all_into (state_over table).meets (IsRepliedBy o) (λ e meets. meets o is.opens) p.exchanges p.makes.met;
   tree = tree;
   proves = p.proves;
   says = says;
@@ -94,9 +101,9 @@ map_length f (x ∷ xs) = ap suc (map_length f xs)
 
 -- ---- the report
 
-pub reported_as : (s : Setting) (depth : ℕ) (claims : List LabelledClaim) (Gains : List ℕ → Type 0) (status : ℕ) (lines : List ReportLine) (report : List ℕ) →
-    AllZip (IsLineFor s depth) claims lines → IsReport lines report → status ≡ proof_status lines → Gains report → AreReported s depth claims Gains status
-reported_as s depth claims Gains status lines report each is told gains = record {
+pub reported_as : (o : Opening) (t : Theory) (depth : ℕ) (claims : List LabelledClaim) (Gains : List ℕ → Type 0) (status : ℕ) (lines : List ReportLine) (report : List ℕ) →
+    AllZip (IsLineFor o t depth) claims lines → IsReport lines report → status ≡ proof_status lines → Gains report → AreReported o t depth claims Gains status
+reported_as o t depth claims Gains status lines report each is told gains = record {
   lines = lines;
   one_each = each;
   report = report;
@@ -106,7 +113,7 @@ reported_as s depth claims Gains status lines report each is told gains = record
 }
 
 pub proved_as : (names : Option Names) (Gains : List ℕ → Type 0) (c : ProveWords) (status : ℕ) (l : IsLoaded names c.definition c.main) (items : List ClaimItem) → AreClaimsAt names c.claims l.setting.theory.signature items →
-    AreReported l.setting c.depth (map item_view items) Gains status → Proved names Gains c status
+    AreReported (opening_of l.definition c.main) l.setting.theory c.depth (map item_view items) Gains status → Proved names Gains c status
 proved_as names Gains c status l items at reported = record {
   loaded = l;
   file = at.file;
@@ -124,26 +131,26 @@ provable_at : (names : Option Names) (name : List ℕ) (g : KoreSignature) (item
 provable_at names name g items at = provable_claims g [] (counted at.claims_in.modules) (items_view items) at.claims_in.faultless at.claims_in.are
 
 -- what is reported of the claims, as they are read, is reported of the file
-reported_on : (s : Setting) (depth : ℕ) (items read : List ClaimItem) (Gains : List ℕ → Type 0) (status : ℕ) → read ≡ items → AreReported s depth (items_view read) Gains status → AreReported s depth (items_view items) Gains status
-reported_on s depth items read Gains status same reported = subst (λ (l : List ClaimItem). AreReported s depth (items_view l) Gains status) same reported
+reported_on : (o : Opening) (t : Theory) (depth : ℕ) (items read : List ClaimItem) (Gains : List ℕ → Type 0) (status : ℕ) → read ≡ items → AreReported o t depth (items_view read) Gains status → AreReported o t depth (items_view items) Gains status
+reported_on o t depth items read Gains status same reported = subst (λ (l : List ClaimItem). AreReported o t depth (items_view l) Gains status) same reported
 
 pub proved_ok : (names : Option Names) (Gains : List ℕ → Type 0) (c : ProveWords) (l : IsLoaded names c.definition c.main) (items read : List ClaimItem) (r : Result ℕ Trouble) → read ≡ items → AreClaimsAt names c.claims l.setting.theory.signature items →
-    (AllByRecursion IsProvableClaim (items_view read) → IfOk r (AreReported l.setting c.depth (items_view read) Gains)) → IfOk r (Proved names Gains c)
+    (AllByRecursion IsProvableClaim (items_view read) → IfOk r (AreReported (opening_of l.definition c.main) l.setting.theory c.depth (items_view read) Gains)) → IfOk r (Proved names Gains c)
 proved_ok names Gains c l items read (Ok status) same at reported =
     let provable = subst (λ (x : List ClaimItem). AllByRecursion IsProvableClaim (items_view x)) (sym same) (provable_at names c.claims l.setting.theory.signature items at) in
-    proved_as names Gains c status l items at (reported_on l.setting c.depth items read Gains status same (reported provable))
+    proved_as names Gains c status l items at (reported_on (opening_of l.definition c.main) l.setting.theory c.depth items read Gains status same (reported provable))
 proved_ok names Gains c l items read (Err t) same at reported = tt
 
 pub proved_front : (names : Option Names) (Same : Type 0) (Gains : List ℕ → Type 0) (c : ProveWords) (l : IsLoaded names c.definition c.main) (items read : List ClaimItem) (r : Result ℕ Trouble) → read ≡ items → AreClaimsAt names c.claims l.setting.theory.signature items →
-    (AllByRecursion IsProvableClaim (items_view read) → OnErr r (Same ⊎ ((status : ℕ) × AreReported l.setting c.depth (items_view read) Gains status))) → OnErr r (Same ⊎ ((status : ℕ) × Proved names Gains c status))
+    (AllByRecursion IsProvableClaim (items_view read) → OnErr r (Same ⊎ ((status : ℕ) × AreReported (opening_of l.definition c.main) l.setting.theory c.depth (items_view read) Gains status))) → OnErr r (Same ⊎ ((status : ℕ) × Proved names Gains c status))
 proved_front names Same Gains c l items read (Ok status) same at reported = tt
 proved_front names Same Gains c l items read (Err t) same at reported =
     let provable = subst (λ (x : List ClaimItem). AllByRecursion IsProvableClaim (items_view x)) (sym same) (provable_at names c.claims l.setting.theory.signature items at) in
     either (reported provable)
   where
-    either : Same ⊎ ((status : ℕ) × AreReported l.setting c.depth (items_view read) Gains status) → Same ⊎ ((status : ℕ) × Proved names Gains c status)
+    either : Same ⊎ ((status : ℕ) × AreReported (opening_of l.definition c.main) l.setting.theory c.depth (items_view read) Gains status) → Same ⊎ ((status : ℕ) × Proved names Gains c status)
     either (inl x) = inl x
-    either (inr (status, x)) = inr (status, proved_as names Gains c status l items at (reported_on l.setting c.depth items read Gains status same x))
+    either (inr (status, x)) = inr (status, proved_as names Gains c status l items at (reported_on (opening_of l.definition c.main) l.setting.theory c.depth items read Gains status same x))
 
 -- the status is one of a proof's
 status_low : (b c : Bool) (n : ℕ) → n ≡ cond b 0 (cond c 1 2) → n ≤ 2

@@ -11,3 +11,4 @@ pub mod Statuses
 pub mod Troubles
 pub mod Words
 pub mod Headline
+pub mod Lists

@@ -1,11 +1,46 @@
--- What a link in the same process tells.
+-- What a link in the same process tells, and what its service and its pass are.
 -- Source: this project.
-use Rattle.std.specs.Prelude.{None}
+use Rattle.std.specs.Prelude.{ℕ, List, Option, None}
+use Rattle.kp_kore.specs.Theory.{Theory}
+use Rattle.kp_book.specs.Books.{Opening, Registration}
+use Rattle.kp_modules.specs.Openings.{IsTableOf}
 use Rattle.kp_modules.specs.declared.table.Table.{Table}
+use Rattle.kp_registry.specs.Legal.{IsLegal}
+use Rattle.kp_registry.specs.Passes.{IsPass}
+use Rattle.kp_registry.specs.declared.seen.Pass.{Pass}
+use Rattle.kp_additions.specs.Served.{HasSeenAt}
 use Rattle.kp_client.specs.Links.{LinkState}
-use Rattle.kp_server.specs.Setting.{IsSettingOf, Setting}
-use Rattle.kp_program.specs.Proofs.{IsRepliedBy}
+use Rattle.kp_service.specs.Answers.{IsAnswer}
+use Rattle.kp_service.specs.Ready.{IsReadyFor}
+use Rattle.kp_service.specs.declared.service.Service.{Service}
+use Rattle.kp_program.specs.Proofs.{IsMainTheory, IsRepliedBy}
 
--- each exchange is that of a server of each setting that the table is of; neither the exchanges nor the replies to come are told, and none fails
+-- the table is that of the opening, whose main module has this theory
+pub record IsTheoryOver (table : Table) (o : Opening) (t : Theory) : Type 0 where
+  pub opens : IsTableOf o table
+  pub main : IsMainTheory o t
+
+-- the table that a service answers over
+abbrev pub table_of : Service → Table
+table_of service = service.registry.table
+
+-- what was looked up is that of the service's signature
+abbrev pub IsReadyService : Service → Type 0
+IsReadyService service = IsReadyFor service.registry service.prepared
+
+-- the pass is one of the service, and has seen some book of each opening of its table
+pub record IsPassOver (service : Service) (pass : Pass) : Type 0 where
+  pub is_pass : IsPass pass
+  pub ready : IsReadyService service
+  pub seen : (o : Opening) → IsTableOf o (table_of service) → (book : List Registration) × HasSeenAt service.registry pass o book
+
+-- the service over this opening answers a frame with this text, or not at all, at some book that was seen
+pub record IsAnsweredBy (o : Opening) (frame : List ℕ) (reply : Option (List ℕ)) : Type 0 where
+  pub before : List Registration
+  pub legal : IsLegal o before
+  pub after : List Registration
+  pub answer : IsAnswer o before frame reply after
+
+-- each exchange is that of the service over each opening that the table is of; neither the exchanges nor the replies to come are told, and none fails
 abbrev pub state_over : Table → LinkState
-state_over table = record { meets = λ e. (s : Setting) → IsSettingOf s table → IsRepliedBy s e; exchanges = None; replies = None; faults = 0 }
+state_over table = record { meets = λ e. (o : Opening) → IsTableOf o table → IsRepliedBy o e; exchanges = None; replies = None; faults = 0 }

@@ -1,13 +1,17 @@
 -- What the proofs of a claims' file come to: a line for each claim, and the status. A claim that is told as passed holds
 -- over the theory that the definition means for its main module.
 -- Source: All-Path Reachability Logic (a claim holds); pyk's APRProof (how a proof goes); the lines are this project's.
-use Rattle.std.specs.Prelude.{◌≡◌, ◌⊎◌, ◌≤◌, ℕ, Bool, true, false, List, [], length, Option, Some, IfSome, if◌then◌else◌}
+use Rattle.std.specs.Prelude.{◌≡◌, ◌≤◌, ℕ, Bool, true, false, List, [], ◌∷◌, ◌++◌, length, Option, Some, None, IfSome, if◌then◌else◌}
 use Rattle.std.specs.List.{AllByRecursion, AllZip, list_all, list_any}
 use Rattle.serde_json.specs.Data.{Data}
 use Rattle.kp_kore.specs.Syntax.{Text, KoreModule}
+use Rattle.kp_kore.specs.Theory.{Theory, IsTheoryOfAxioms, NumberedAxiom}
 use Rattle.kp_io.specs.Outside.{Names, load_limit}
-use Rattle.kp_rpc.specs.Frame.{IsWhite}
-use Rattle.kp_rpc.specs.Reply.{reply_bytes}
+use Rattle.kp_rpc.specs.Frame.{IsFrame}
+use Rattle.kp_book.specs.Books.{Opening, Registration, rules_in}
+use Rattle.kp_modules.specs.Openings.{opening_of}
+use Rattle.kp_registry.specs.Legal.{IsLegal}
+use Rattle.kp_service.specs.Answers.{IsAnswer}
 use Rattle.kp_kore.specs.Claims.{ReachabilityClaim, Holds}
 use Rattle.kp_graph.specs.Tree.{ProofNode}
 use Rattle.kp_graph.specs.Says.{TreeSays}
@@ -19,35 +23,60 @@ use Rattle.kp_report.specs.Report.{ReportLine, IsReport}
 use Rattle.kp_client.specs.Rounds.{Proves, ProofOutcome, passed, failed_at, pending_at, refused_with}
 use Rattle.kp_client.specs.Sound.{IsStuckAt}
 use Rattle.kp_program.specs.Loaded.{IsLoaded}
-use Rattle.kp_server.specs.Right.{IsReply}
-use Rattle.kp_server.specs.Setting.{Setting}
+use Rattle.kp_program.specs.Lists.{lists_two}
 use Rattle.kp_program.specs.Words.{ProveWords, SpellsProve}
 
--- a setting's theory and the name of its main module
-abbrev pub told_theory : Setting → ToldTheory
-told_theory s = record { theory = s.theory; main = s.main }
+-- ---- the server
 
--- a frame, and the line with which the server of a setting replies to it; nothing to white space alone
-abbrev pub IsRepliedBy : Setting → Exchange → Type 0
-IsRepliedBy s e = (IsWhite e.frame × (e.reply ≡ [])) ⊎ ((reply : Data) × IsReply s e.frame reply × (e.reply ≡ reply_bytes reply))
+-- the theory of the main module over what is bound from the start
+pub record IsMainTheory (o : Opening) (t : Theory) : Type 0 where
+  pub axioms : List NumberedAxiom
+  pub bound : rules_in o.modules o.main ≡ Some axioms
+  pub means : IsTheoryOfAxioms o.signature axioms t
 
--- How the proof of a claim, by edges of at most so many steps, ended: each of its exchanges has the server's right reply,
+-- a theory, and the name of the main module
+abbrev pub told_theory : Opening → Theory → ToldTheory
+told_theory o t = record { theory = t; main = o.main }
+
+-- each list of patterns that is read of the text has two or more
+abbrev pub IsFullText : List ℕ → Type 0
+IsFullText text = (d : Data) → IsFrame text d → lists_two d ≡ true
+
+-- the line that is handed on of an answer: its text with a line feed; nothing where there is none, and where a list of
+-- patterns in it has fewer than two, which is read as another pattern than it is written for
+pub data IsHandedOn : Option (List ℕ) → List ℕ → Type 0 where
+  handed_on : (text : List ℕ) → IsFullText text → IsHandedOn (Some text) (text ++ 10 ∷ [])
+  held_back : (text : List ℕ) (d : Data) → IsFrame text d → lists_two d ≡ false → IsHandedOn (Some text) []
+  no_reply : IsHandedOn None []
+
+-- a frame, and the line that is handed on of what the service over this opening answers at some book that was seen
+pub record IsRepliedBy (o : Opening) (e : Exchange) : Type 0 where
+  pub before : List Registration
+  pub legal : IsLegal o before
+  pub reply : Option (List ℕ)
+  pub after : List Registration
+  pub answer : IsAnswer o before e.frame reply after
+  pub line : IsHandedOn reply e.reply
+
+-- ---- proofs
+
+-- How the proof of a claim, by edges of at most so many steps, ended: each of its exchanges has the service's right reply,
 -- the tree and the outcome are what the rounds make of them; the tree's arcs say what they say of the theory; where it
 -- passed, the claim holds; where it failed at a node, each instance of the node's state is final, and some instance is
 -- none of the right side.
-pub record IsOutcome (s : Setting) (depth : ℕ) (claim : ReachabilityClaim) (outcome : ProofOutcome) : Type 0 where
+pub record IsOutcome (o : Opening) (t : Theory) (depth : ℕ) (claim : ReachabilityClaim) (outcome : ProofOutcome) : Type 0 where
   pub exchanges : List Exchange
-  pub replied : AllByRecursion (IsRepliedBy s) exchanges
+  pub replied : AllByRecursion (IsRepliedBy o) exchanges
   pub tree : List ProofNode
   pub proves : Proves claim depth exchanges tree outcome
-  pub says : TreeSays s.theory [] [] claim tree
-  pub holds : outcome ≡ passed → Holds s.theory claim
-  pub stuck : (n : ℕ) → outcome ≡ failed_at n → IsStuckAt s.theory claim tree n
+  pub says : TreeSays t [] [] claim tree
+  pub holds : outcome ≡ passed → Holds t claim
+  pub stuck : (n : ℕ) → outcome ≡ failed_at n → IsStuckAt t claim tree n
 
 -- the line tells the label of the claim, and how its proof ended
-pub record IsLineFor (s : Setting) (depth : ℕ) (claim : LabelledClaim) (line : ReportLine) : Type 0 where
+pub record IsLineFor (o : Opening) (t : Theory) (depth : ℕ) (claim : LabelledClaim) (line : ReportLine) : Type 0 where
   pub label : line.label ≡ claim.label
-  pub outcome : IsOutcome s depth claim.claim line.outcome
+  pub outcome : IsOutcome o t depth claim.claim line.outcome
 
 -- ---- the status
 
@@ -73,9 +102,9 @@ proof_status lines =
 -- ---- the report
 
 -- the claims, in order, were proved, by edges of at most so many steps, with this status and a report of which this holds
-pub record AreReported (s : Setting) (depth : ℕ) (claims : List LabelledClaim) (Gains : List ℕ → Type 0) (status : ℕ) : Type 0 where
+pub record AreReported (o : Opening) (t : Theory) (depth : ℕ) (claims : List LabelledClaim) (Gains : List ℕ → Type 0) (status : ℕ) : Type 0 where
   pub lines : List ReportLine
-  pub one_each : AllZip (IsLineFor s depth) claims lines
+  pub one_each : AllZip (IsLineFor o t depth) claims lines
   pub report : List ℕ
   pub report_is : IsReport lines report
   pub gains : Gains report
@@ -93,7 +122,7 @@ pub record Proved (names : Option Names) (Gains : List ℕ → Type 0) (c : Prov
   pub faultless : AreFaultless loaded.setting.theory.signature [] (counted modules)
   pub claims : List LabelledClaim
   pub are_claims : AllZip IsClaimOfSentence (counted modules) claims
-  pub reported : AreReported loaded.setting c.depth claims Gains status
+  pub reported : AreReported (opening_of loaded.definition c.main) loaded.setting.theory c.depth claims Gains status
 
 -- the same for the command that the words spell
 abbrev pub ProvedWords : Option Names → (List ℕ → Type 0) → List Text → ℕ → Type 0

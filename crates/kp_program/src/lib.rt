@@ -6,6 +6,7 @@
 mod claims;
 mod command;
 mod definition;
+mod lists;
 mod local;
 mod output;
 mod program;

@@ -1,47 +1,119 @@
-// A link to the program's server in the same process.
-ghost use Rattle.std.specs.Prelude.{◌≡◌, IfOk};
-ghost use Rattle.kp_server.specs.Setting.{IsSettingOf, Setting};
-ghost use Rattle.kp_program.specs.LocalTold.{state_over};
-ghost use Rattle.kp_program.specs.Proofs.{IsRepliedBy};
+// A link to the program's service in the same process.
+ghost use Rattle.std.specs.Prelude.{◌≡◌, false, true, Some, IfOk, option_map};
+ghost use Rattle.serde_json.specs.Data.{Data};
+ghost use Rattle.kp_book.specs.Books.{Opening};
+ghost use Rattle.kp_modules.specs.Openings.{IsTableOf};
+ghost use Rattle.kp_rpc.specs.Frame.{IsFrame};
+ghost use Rattle.kp_program.specs.Lists.{lists_two as has_full_lists};
+ghost use Rattle.kp_program.specs.LocalTold.{IsAnsweredBy, IsPassOver, IsReadyService, state_over, table_of};
+ghost use Rattle.kp_program.specs.Proofs.{IsFullText, IsHandedOn, IsRepliedBy};
 
+use crate::lists::lists_two;
 use kp_client::{Link, LinkError};
-use kp_modules::Table;
-use kp_server::answer;
+use kp_conn::Answerer;
+use kp_registry::Pass;
+use kp_rpc::{FrameError, frame_of};
+use kp_service::Service;
 use std::alloc::{AllocError, Global};
+use std::marker::Model;
 
-/// A link to a server in the same process: it answers each frame as the program's server does. It never fails.
-#[derive(Clone, Copy)]
+/// A link to a service in the same process, with a pass of its own. It never fails. It is seen as the service's table.
+#[derive(Drop)]
 pub struct LocalLink<'a> {
-    table: &'a Table,
+    service: &'a Service,
+    pass: Pass,
+}
+
+impl<'a> Model for LocalLink<'a> {
+    ghost use Rattle.kp_modules.specs.contracts.table.Table.{the_row};
+    ghost use Rattle.kp_modules.specs.declared.table.Table.{Table};
+    ghost use Rattle.kp_program.specs.LocalTold.{IsPassOver, table_of};
+
+    ghost Value = { Table };
+
+    ghost coded = { the_row.coded };
+
+    ghost view = { λ l. table_of l.service.now };
+
+    ghost invariant = { λ l. IsPassOver l.service.now l.pass };
 }
 
 impl<'a> LocalLink<'a> {
-    /// A link to the server over a table.
-    pub fn new(table: &'a Table) -> LocalLink<'a>
-        ensures { result.table.now ≡ table.now }
+    /// A link to a service, whose pass has seen no added modules.
+    pub fn new(alloc: Global, service: &'a Service) -> Result<LocalLink<'a>, AllocError>
+        requires ready { IsReadyService service.now }
+        ensures { IfOk result (λ l. l ≡ table_of service.now) }
     {
-        LocalLink { table }
+        let pass = Pass::empty(alloc)?;
+        Ok(LocalLink { service, pass })
     }
 }
 
-/// The line that replies to a frame: an empty one to white space alone, which asks for no reply.
-fn line_to(alloc: Global, table: &Table, frame: &[u8]) -> Result<Vec<u8>, AllocError>
-    ensures { (s : Setting) → IsSettingOf s table.now → IfOk result (λ line. IsRepliedBy s (record { frame = frame.now; reply = line.items })) }
+/// Whether each list of patterns that is read of a text has two or more.
+fn is_full(alloc: Global, text: &[u8]) -> Result<bool, AllocError>
+    ensures full { IfOk result (λ full. full ≡ true → IsFullText text.now) }
+    ensures short { IfOk result (λ full. full ≡ false → (d : Data) × IsFrame text.now d × (has_full_lists d ≡ false)) }
 {
-    match answer(alloc, table, frame)? {
-        Some(line) => Ok(line),
+    match frame_of(alloc, text) {
+        Ok(tree) => Ok(lists_two(&tree)),
+        Err(FrameError::NoFrame) => Ok(true),
+        Err(FrameError::Memory) => Err(AllocError),
+    }
+}
+
+/// A text as a line; an empty one where a list of patterns in it has fewer than two, which is read as another pattern
+/// than it is written for.
+fn line_with(alloc: Global, text: Vec<u8>) -> Result<Vec<u8>, AllocError>
+    ensures { IfOk result (λ line. IsHandedOn (Some text.items) line.items) }
+{
+    let full = is_full(alloc, &text)?;
+    if !full {
+        return Ok(Vec::new(alloc));
+    }
+    let mut line = text;
+    line.push(b'\n')?;
+    Ok(line)
+}
+
+/// The text with which a service answers a frame.
+fn text_to(
+    alloc: Global,
+    service: &Service,
+    pass: &mut Pass,
+    frame: &[u8],
+) -> Result<Option<Vec<u8>>, AllocError>
+    requires pass { IsPassOver service.now pass.old }
+    ensures pass { IsPassOver service.now pass.new }
+    ensures answered { (o : Opening) → IsTableOf o (table_of service.now) → IfOk result (λ reply. IsAnsweredBy o frame.now (option_map (λ text. text.items) reply)) }
+{
+    service.answer(alloc, pass, frame)
+}
+
+/// The line that replies to a frame: an empty one where nothing is handed on.
+fn line_to(
+    alloc: Global,
+    service: &Service,
+    pass: &mut Pass,
+    frame: &[u8],
+) -> Result<Vec<u8>, AllocError>
+    requires pass { IsPassOver service.now pass.old }
+    ensures pass { IsPassOver service.now pass.new }
+    ensures replied { (o : Opening) → IsTableOf o (table_of service.now) → IfOk result (λ line. IsRepliedBy o (record { frame = frame.now; reply = line.items })) }
+{
+    match text_to(alloc, service, pass, frame)? {
+        Some(text) => line_with(alloc, text),
         None => Ok(Vec::new(alloc)),
     }
 }
 
 impl<'a> Link for LocalLink<'a> {
-    ghost told = { λ l. state_over l.table.now };
+    ghost told = { λ l. state_over l };
 
     fn faults(&self) -> u64 {
         0
     }
 
     fn ask(&mut self, alloc: Global, frame: &[u8]) -> Result<Vec<u8>, LinkError> {
-        Ok(line_to(alloc, self.table, frame)?)
+        Ok(line_to(alloc, self.service, &mut self.pass, frame)?)
     }
 }

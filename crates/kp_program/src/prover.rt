@@ -2,6 +2,9 @@
 ghost use Rattle.std.specs.Prelude.{◌≡◌, ◌<◌, ◌≤◌, ◌⊎◌, ℕ, IfErr, IfOk, List, OnErr, Some, length, map, slice_get};
 ghost use Rattle.std.specs.List.{AllByRecursion, AllZip, list_all, list_any};
 ghost use Rattle.std.specs.Io.KnownBytes.{Appends};
+ghost use Rattle.kp_kore.specs.Theory.{Theory};
+ghost use Rattle.kp_book.specs.Books.{Opening};
+ghost use Rattle.kp_modules.specs.Openings.{IsTableOf, opening_of};
 ghost use Rattle.kp_io.specs.Outside.{Rose};
 ghost use Rattle.kp_claims.specs.Claims.{LabelledClaim};
 ghost use Rattle.kp_claims.specs.Items.{items_view};
@@ -10,8 +13,9 @@ ghost use Rattle.kp_client.specs.View.{outcome_view};
 ghost use Rattle.kp_report.specs.View.{line_view};
 ghost use Rattle.kp_program.specs.ClaimFiles.{IsProvableClaim};
 ghost use Rattle.kp_program.specs.Commands.{prove_view};
-ghost use Rattle.kp_server.specs.Setting.{IsSettingOf, Setting};
+ghost use Rattle.kp_server.specs.Setting.{IsSettingOf};
 ghost use Rattle.kp_program.specs.Loaded.{IsLoaded};
+ghost use Rattle.kp_program.specs.LocalTold.{IsReadyService, IsTheoryOver, table_of};
 ghost use Rattle.kp_program.specs.Proofs.{AreReported, IsLineFor, Proved, has_failed, has_passed, proof_status};
 ghost use Rattle.kp_program.specs.Served.{GainsFront};
 ghost use Rattle.kp_program.specs.Statuses.{IsCause, exit_status as trouble_status};
@@ -29,6 +33,7 @@ use kp_client::{Outcome, ProveOptions, prove};
 use kp_io::{Shelf, Sink};
 use kp_modules::Table;
 use kp_report::{Line, report_text};
+use kp_service::Service;
 use std::alloc::{AllocError, Global};
 
 /// Proves the claims of a file over a definition's main module, and writes their report. The status: 0 where each
@@ -48,7 +53,7 @@ pub fn prove_file<H: Shelf, O: Sink>(
     ensures out_count { O.fault_count out.old ≤ O.fault_count out.new }
 {
     match load_table(alloc, shelf, command.definition, command.module_name) {
-        Ok(table) => prove_over(alloc, command, &table, shelf, out),
+        Ok(table) => prove_over(alloc, command, table, shelf, out),
         Err(trouble) => Err(trouble),
     }
 }
@@ -57,19 +62,19 @@ pub fn prove_file<H: Shelf, O: Sink>(
 fn prove_over<H: Shelf, O: Sink>(
     alloc: Global,
     command: &Prove,
-    table: &Table,
+    table: Table,
     shelf: &mut H,
     out: &mut O,
 ) -> Result<u8, Trouble>
-    ensures proved { (l : IsLoaded (H.names shelf.old) command.now.definition.now command.now.module_name.now) → let command' = prove_view command.now in IsSettingOf l.setting table.now → IfOk result (Proved (H.names shelf.old) (Appends (O.held out.old) (O.held out.new)) command') }
-    ensures cause { (words : List (List ℕ)) (l : IsLoaded (H.names shelf.old) command.now.definition.now command.now.module_name.now) → let command' = prove_view command.now in IsSettingOf l.setting table.now → SpellsProve words command' → IfErr result (λ trouble. IsCause (H.names shelf.old) words (Rose (H.fault_count shelf.old) (H.fault_count shelf.new) ⊎ Rose (O.fault_count out.old) (O.fault_count out.new)) (ending_of trouble)) }
+    ensures proved { (l : IsLoaded (H.names shelf.old) command.now.definition.now command.now.module_name.now) → let command' = prove_view command.now in IsSettingOf l.setting table → IsTableOf (opening_of l.definition command.now.module_name.now) table → IfOk result (Proved (H.names shelf.old) (Appends (O.held out.old) (O.held out.new)) command') }
+    ensures cause { (words : List (List ℕ)) (l : IsLoaded (H.names shelf.old) command.now.definition.now command.now.module_name.now) → let command' = prove_view command.now in IsSettingOf l.setting table → IsTableOf (opening_of l.definition command.now.module_name.now) table → SpellsProve words command' → IfErr result (λ trouble. IsCause (H.names shelf.old) words (Rose (H.fault_count shelf.old) (H.fault_count shelf.new) ⊎ Rose (O.fault_count out.old) (O.fault_count out.new)) (ending_of trouble)) }
     ensures untouched { IfErr result (λ trouble. trouble_status (ending_of trouble) ≤ 5 → O.held out.new ≡ O.held out.old) }
-    ensures front { (l : IsLoaded (H.names shelf.old) command.now.definition.now command.now.module_name.now) → let command' = prove_view command.now in IsSettingOf l.setting table.now → OnErr result ((O.held out.new ≡ O.held out.old) ⊎ ((status : ℕ) × Proved (H.names shelf.old) (GainsFront (O.held out.old) (O.held out.new)) command' status)) }
+    ensures front { (l : IsLoaded (H.names shelf.old) command.now.definition.now command.now.module_name.now) → let command' = prove_view command.now in IsSettingOf l.setting table → IsTableOf (opening_of l.definition command.now.module_name.now) table → OnErr result ((O.held out.new ≡ O.held out.old) ⊎ ((status : ℕ) × Proved (H.names shelf.old) (GainsFront (O.held out.old) (O.held out.new)) command' status)) }
     ensures files_kept { H.names shelf.new ≡ H.names shelf.old }
     ensures shelf_count { H.fault_count shelf.old ≤ H.fault_count shelf.new }
     ensures out_count { O.fault_count out.old ≤ O.fault_count out.new }
 {
-    match load_claims(alloc, shelf, command.claims, table) {
+    match load_claims(alloc, shelf, command.claims, &table) {
         Ok(claims) => report_claims(alloc, table, &claims, command.max_depth, out),
         Err(trouble) => Err(trouble),
     }
@@ -78,17 +83,17 @@ fn prove_over<H: Shelf, O: Sink>(
 /// Proves claims, and writes their report.
 fn report_claims<O: Sink>(
     alloc: Global,
-    table: &Table,
+    table: Table,
     claims: &[ClaimItem],
     max_depth: u64,
     out: &mut O,
 ) -> Result<u8, Trouble>
-    ensures reported { (s : Setting) → let claims' = items_view claims.now in IsSettingOf s table.now → AllByRecursion IsProvableClaim claims' → IfOk result (AreReported s max_depth claims' (Appends (O.held out.old) (O.held out.new))) }
+    ensures reported { (o : Opening) (t : Theory) → let claims' = items_view claims.now in IsTheoryOver table o t → AllByRecursion IsProvableClaim claims' → IfOk result (AreReported o t max_depth claims' (Appends (O.held out.old) (O.held out.new))) }
     ensures late { IfErr result (IsLate (Rose (O.fault_count out.old) (O.fault_count out.new))) }
-    ensures front { (s : Setting) → let claims' = items_view claims.now in IsSettingOf s table.now → AllByRecursion IsProvableClaim claims' → OnErr result ((O.held out.new ≡ O.held out.old) ⊎ ((status : ℕ) × AreReported s max_depth claims' (GainsFront (O.held out.old) (O.held out.new)) status)) }
+    ensures front { (o : Opening) (t : Theory) → let claims' = items_view claims.now in IsTheoryOver table o t → AllByRecursion IsProvableClaim claims' → OnErr result ((O.held out.new ≡ O.held out.old) ⊎ ((status : ℕ) × AreReported o t max_depth claims' (GainsFront (O.held out.old) (O.held out.new)) status)) }
     ensures count { O.fault_count out.old ≤ O.fault_count out.new }
 {
-    let lines = prove_all(alloc, table, claims, max_depth)?;
+    let lines = lines_over(alloc, table, claims, max_depth)?;
     let report = report_text(alloc, &lines)?;
     let status = status_of(&lines);
     match put_line(out, &report) {
@@ -97,18 +102,32 @@ fn report_claims<O: Sink>(
     }
 }
 
-/// The lines of claims, in order.
-fn prove_all(
+/// The lines of claims, in order, over the service of a table.
+fn lines_over(
     alloc: Global,
-    table: &Table,
+    table: Table,
     claims: &[ClaimItem],
     max_depth: u64,
 ) -> Result<Vec<Line>, AllocError>
-    ensures { (s : Setting) → let claims' = items_view claims.now in IsSettingOf s table.now → AllByRecursion IsProvableClaim claims' → IfOk result (λ lines. AllZip (IsLineFor s max_depth) claims' (map line_view lines.items)) }
+    ensures { (o : Opening) (t : Theory) → let claims' = items_view claims.now in IsTheoryOver table o t → AllByRecursion IsProvableClaim claims' → IfOk result (λ lines. AllZip (IsLineFor o t max_depth) claims' (map line_view lines.items)) }
+{
+    let (service, _pass) = Service::begin(alloc, table, 1)?;
+    prove_all(alloc, &service, claims, max_depth)
+}
+
+/// The lines of claims, in order.
+fn prove_all(
+    alloc: Global,
+    service: &Service,
+    claims: &[ClaimItem],
+    max_depth: u64,
+) -> Result<Vec<Line>, AllocError>
+    requires ready { IsReadyService service.now }
+    ensures { (o : Opening) (t : Theory) → let claims' = items_view claims.now in IsTheoryOver (table_of service.now) o t → AllByRecursion IsProvableClaim claims' → IfOk result (λ lines. AllZip (IsLineFor o t max_depth) claims' (map line_view lines.items)) }
 {
     let mut lines = Vec::new(alloc);
     for place in 0..claims.len() {
-        lines.push(prove_at(alloc, table, claims, place, max_depth)?)?;
+        lines.push(prove_at(alloc, service, claims, place, max_depth)?)?;
     }
     Ok(lines)
 }
@@ -117,17 +136,18 @@ fn prove_all(
 /// of memory.
 fn prove_at(
     alloc: Global,
-    table: &Table,
+    service: &Service,
     claims: &[ClaimItem],
     place: usize,
     max_depth: u64,
 ) -> Result<Line, AllocError>
-    requires { place < length claims.now }
-    ensures { (s : Setting) (c : LabelledClaim) → let claims' = items_view claims.now in IsSettingOf s table.now → slice_get claims' place ≡ Some c → IsProvableClaim c → IfOk result (λ line. IsLineFor s max_depth c (line_view line)) }
+    requires ready { IsReadyService service.now }
+    requires place { place < length claims.now }
+    ensures { (o : Opening) (t : Theory) (c : LabelledClaim) → let claims' = items_view claims.now in IsTheoryOver (table_of service.now) o t → slice_get claims' place ≡ Some c → IsProvableClaim c → IfOk result (λ line. IsLineFor o t max_depth c (line_view line)) }
 {
     let label = claims[place].label.clone()?;
     let options = ProveOptions { max_depth };
-    let mut link = LocalLink::new(table);
+    let mut link = LocalLink::new(alloc, service)?;
     match prove(alloc, &mut link, claims, place, &options) {
         Ok((outcome, _tree)) => Ok(Line {
             label,

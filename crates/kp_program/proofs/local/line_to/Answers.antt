@@ -1,8 +1,17 @@
-use Rattle.std.proofs.Common.{subst, inr}
-use Rattle.std.specs.Prelude.{Vec, Option, IfSome, ℕ}
+use Rattle.std.proofs.Common.{rules, subst}
+use Rattle.std.specs.Prelude.{Vec, Option, ℕ}
+use Rattle.std.specs.Option.{option_map}
 use Rattle.std.specs.declared.alloc.Global.{Global}
-use Rattle.kp_server.specs.Right.{IsLine}
+use Rattle.kp_program.specs.LocalTold.{IsAnsweredBy}
+use Rattle.kp_program.proofs.Answering.{replied_not, replied_with}
 use Rattle.kp_program.proofs.local.line_to.Goals as goal
 
-pub returns-in-Some : goal.returns-in-Some
-returns-in-Some c = λ s is. inr (subst (λ (o : Option (Vec ℕ Global)). IfSome o (λ l. IsLine s c.args.frame.now l.items)) c.in-Some.is (c.in_ok-line.ensures.line s is))
+pub returns-in-Some-clause-replied : goal.returns-in-Some-clause-replied
+returns-in-Some-clause-replied c = λ o is.
+    replied_with o c.args.frame.now c.in-Some.text.items c.line_with.result
+    (subst (λ (r : Option (Vec ℕ Global)). IsAnsweredBy o c.args.frame.now (option_map (λ text. text.items) r)) c.in-Some.is (c.in_ok-text.ensures.answered o is))
+    c.line_with.ensures
+
+pub returns-in-None-clause-replied : goal.returns-in-None-clause-replied
+returns-in-None-clause-replied c = λ o is.
+    replied_not o c.args.frame.now c.new.result.items (search rules) (subst (λ (r : Option (Vec ℕ Global)). IsAnsweredBy o c.args.frame.now (option_map (λ text. text.items) r)) c.in-None.is (c.in_ok-text.ensures.answered o is))

@@ -3,23 +3,23 @@ use Rattle.kp_claims.specs.Claims.{LabelledClaim}
 use Rattle.kp_graph.specs.TreeView.{tree_view}
 use Rattle.kp_client.specs.View.{outcome_view}
 use Rattle.kp_modules.specs.declared.table.Table.{Table}
-use Rattle.kp_server.specs.Setting.{IsSettingOf}
+use Rattle.kp_program.specs.LocalTold.{IsTheoryOver}
 use Rattle.kp_program.specs.Proofs.{told_theory}
-use Rattle.kp_program.proofs.Proving.{item_at, outcome_is, serves_setting}
+use Rattle.kp_program.proofs.Proving.{item_at, outcome_is, serves_theory}
 use Rattle.kp_program.proofs.prover.prove_at.Goals as goal
 
 pub returns-in-Ok : goal.returns-in-Ok
-returns-in-Ok c = λ s x is at provable.
-    let table = c.new-link.result.table.now in
-    let here : IsSettingOf s table = subst (λ (t : Table). IsSettingOf s t) (sym c.new-link.ensures) is in
-    let serves = serves_setting s table here in
-    let t = told_theory s in
+returns-in-Ok c = λ o t x is at provable.
+    let table = c.in_ok-link.link in
+    let here : IsTheoryOver table o t = subst (λ (a : Table). IsTheoryOver a o t) (sym c.in_ok-link.ensures) is in
+    let serves = serves_theory o t table here in
+    let told = told_theory o t in
     let copied : string_bytes c.in_ok-label.label ≡ string_bytes c.index-claims-place.result.label = search rules in
     record {
-      label = copied ∙ ap (λ (i : LabelledClaim). i.label) (item_at c.args.claims.now c.args.place c.index-claims-place.result x c.index-claims-place.is c.requires at);
-      outcome = outcome_is s table c.args.max_depth x.claim _ (tree_view c.in-Ok._tree) (outcome_view c.in-Ok.outcome) here
+      label = copied ∙ ap (λ (i : LabelledClaim). i.label) (item_at c.args.claims.now c.args.place c.index-claims-place.result x c.index-claims-place.is c.requires.place at);
+      outcome = outcome_is o t table c.args.max_depth x.claim _ (tree_view c.in-Ok._tree) (outcome_view c.in-Ok.outcome) here
           (c.in-Ok.ensures.proved x at)
-          (c.in-Ok.ensures.says x t at serves provable.ground.right provable.read_back)
-          (c.in-Ok.ensures.holds x t at serves provable.ground provable.read_back)
-          (λ n. c.in-Ok.ensures.stuck x t n at serves provable.read_back);
+          (c.in-Ok.ensures.says x told at serves provable.ground.right provable.read_back)
+          (c.in-Ok.ensures.holds x told at serves provable.ground provable.read_back)
+          (λ n. c.in-Ok.ensures.stuck x told n at serves provable.read_back);
     }
