@@ -1,19 +1,16 @@
 -- How the state of a reply is written: as the state that the rules lead to, in its normal spelling at the sort that they
 -- leave it at.
 -- Source: this project's normal form and its sorts of states.
-use Rattle.std.specs.Prelude.{◌≡◌, ◌≢◌, ◌<◌, ◌⊎◌, ℕ, false, ⊤}
+use Rattle.std.specs.Prelude.{◌≡◌, ◌≢◌, ◌<◌, ◌⊎◌, ℕ, ⊤}
 use Rattle.kp_kore.specs.Syntax.{KoreSort, KorePattern}
-use Rattle.kp_kore.specs.Signature.{injection, meaning_of}
 use Rattle.kp_kore.specs.Value.{Value}
 use Rattle.kp_kore.specs.Instance.{Valuation, instance}
-use Rattle.kp_kore.specs.Foreign.{none_within}
 use Rattle.kp_kore.specs.Causes.{foreign}
-use Rattle.kp_kore.specs.Steps.{IsFinal}
 use Rattle.kp_kore.specs.Theory.{Theory}
 use Rattle.kp_run.specs.Causes.{Written, IsStateIn}
 use Rattle.kp_run.specs.Runs.{IsFirstUnknown}
 use Rattle.kp_results.specs.Results.{Ending, aborted}
-use Rattle.kp_compile.specs.Spelled.{spelling, has_two_sorts, injection_name}
+use Rattle.kp_compile.specs.Spelled.{spelling}
 
 -- so many steps on from what the pattern of this sort means
 pub record IsLater (t : Theory) (p : KorePattern) (sort : KoreSort) (steps : ℕ) (later : Written) : Type 0 where
@@ -31,16 +28,3 @@ pub record IsNormal (t : Theory) (p : KorePattern) (sort : KoreSort) (steps : �
 abbrev pub TellsFirst : Theory → Ending → Value → Type 0
 TellsFirst t (aborted (foreign id)) c = IsFirstUnknown t c id
 TellsFirst t _ c = ⊤
-
--- a run of at most so many steps ends so many steps on: at its bound, or below it in a final configuration
-abbrev pub EndsAt : Theory → ℕ → ℕ → Value → Type 0
-EndsAt t bound steps c = (steps ≡ bound) ⊎ ((steps < bound) × IsFinal t c)
-
--- the state that the run ends in has no spelling: an inj stands in it, and no symbol is inj
-pub record HasNoSpelling (t : Theory) (p : KorePattern) (sort : KoreSort) (bound : ℕ) : Type 0 where
-  pub steps : ℕ
-  pub later : Written
-  pub is_later : IsLater t p sort steps later
-  pub ends : EndsAt t bound steps later.value
-  pub injects : none_within has_two_sorts (spelling t.signature later.sort later.value) ≡ false
-  pub none : meaning_of t.signature injection_name ≢ injection

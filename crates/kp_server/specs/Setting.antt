@@ -1,7 +1,7 @@
 -- What is served: what a definition means for its main module, and the modules that a request may name.
 -- Source: K's modules and their imports (the theory of a main module); the K Haskell backend's JSON-RPC documentation
 -- (the module of a request).
-use Rattle.std.specs.Prelude.{◌≡◌, ◌≢◌, true, List, Option, Some, None, ⊤}
+use Rattle.std.specs.Prelude.{◌≡◌, ◌≢◌, List, Option, Some, None}
 use Rattle.kp_kore.specs.Syntax.{Text, KoreDefinition}
 use Rattle.kp_kore.specs.Theory.{Theory, IsTheoryOf, modules_reached}
 use Rattle.kp_imports.specs.Names.{names_of}
@@ -22,11 +22,6 @@ pub record IsSetting (d : KoreDefinition) (main : Text) (s : Setting) : Type 0 w
   pub names_are : s.names ≡ names_of (modules_reached d main)
 
 -- ---- modules that a request names
-
--- it names none, or one that is reached
-abbrev pub IsModuleReached : List Text → Option Text → Type 0
-IsModuleReached names None = ⊤
-IsModuleReached names (Some n) = has n names ≡ true
 
 -- it names another module than main
 abbrev pub IsElsewhere : Text → Option Text → Type 0

@@ -7,7 +7,6 @@ use Rattle.kp_kore.specs.Instance.{Valuation, instance}
 use Rattle.kp_compile.specs.Spelled.{IsOtherShape}
 use Rattle.kp_run.specs.Causes.{StopsUntold}
 use Rattle.kp_rpc.specs.Request.{ExecuteOptions, bound_of}
-use Rattle.kp_server.specs.Normal.{HasNoSpelling}
 use Rattle.kp_server.specs.Setting.{IsElsewhere, Setting}
 
 -- ---- execute
@@ -19,10 +18,6 @@ pub data IsUntold (s : Setting) (options : ExecuteOptions) (p : KorePattern) (so
   stops_at_rules : ¬ (options.cut_points ++ options.terminals ≡ []) → IsUntold s options p sort
   no_state : IsOtherShape s.theory.signature p → IsUntold s options p sort
   no_run : (c : Value) → ((v : Valuation) → instance s.theory.signature v p ≡ c) → StopsUntold s.theory (record { value = c; sort = sort }) (bound_of options) → IsUntold s options p sort
-
--- or the state that its run ends in has no spelling
-abbrev pub IsLeftOut : Setting → ExecuteOptions → KorePattern → KoreSort → Type 0
-IsLeftOut s options p sort = IsUntold s options p sort ⊎ HasNoSpelling s.theory p sort (bound_of options)
 
 -- ---- implies
 

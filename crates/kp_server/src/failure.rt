@@ -1,15 +1,15 @@
-ghost use Rattle.std.specs.Prelude.{◌≡◌, IfOk, IfSome, string_bytes};
+ghost use Rattle.std.specs.Prelude.{◌≡◌, IfOk, IfSome};
 ghost use Rattle.kp_kore.specs.Signature.{KoreSignature};
 ghost use Rattle.kp_kore.specs.Syntax.{KorePattern};
 ghost use Rattle.kp_rpc.specs.View.{pattern_fault_view};
-ghost use Rattle.kp_server.specs.Ends.{IsWrongPattern, TellsFault, TellsName};
+ghost use Rattle.kp_server.specs.Ends.{IsWrongPattern, TellsFault};
 ghost use Rattle.kp_server.specs.Right.{IsPatternFault, NoneLeftOut};
 
 use kp_rpc::{PatternFault, StateFault};
 use kp_signature::{VerifyError, sort_text};
 use std::alloc::{AllocError, Global};
 
-/// Why a request has no result.
+/// Why a pattern has no place in a request.
 #[derive(Drop)]
 pub enum Failure {
     Memory,
@@ -24,16 +24,6 @@ impl From<AllocError> for Failure {
 
     fn from(_error: AllocError) -> Self {
         Failure::Memory
-    }
-}
-
-/// Code 3.
-pub fn no_module(name: &String) -> Failure
-    ensures { TellsName (string_bytes name.now) result }
-{
-    match name.clone() {
-        Ok(name) => Failure::Fault(StateFault::NoModule { name }),
-        Err(_) => Failure::Memory,
     }
 }
 

@@ -1,18 +1,14 @@
-// The server: the reply to the bytes of one request, over the table of a definition's main module. specs/Setting.antt says
-// what is served, specs/Right.antt which reply is right, specs/Normal.antt how a state is written. Today it answers of
-// ground terms: src/untold.rt and specs/Untold.antt have what stands outside of these, and is told as T2.
+// What replies over a rule set have in common: the fault that `verify` tells of a pattern as a reply tells it; two ground
+// states compared; the results of ground runs. specs/Setting.antt says what is served, specs/Right.antt and specs/Sides.antt which
+// results and faults are right, specs/Normal.antt how a state is written.
 #![tactic(auto)]
 
-mod answer_execute;
-mod answer_implies;
-mod answering;
-mod asked;
 mod failure;
-mod untold;
+mod results;
+mod rules;
+mod sides;
 
-pub use answer_execute::result_of;
-pub use answer_implies::implied_at;
-pub use answering::answer;
-pub use asked::rules_of;
-pub use failure::{Failure, no_module, verify_failure};
-pub use untold::{compared_sides, ground_state, not_answered, side_state};
+pub use failure::{Failure, verify_failure};
+pub use results::{implied_at, result_of};
+pub use rules::rules_of;
+pub use sides::{compared_sides, not_answered, side_state};

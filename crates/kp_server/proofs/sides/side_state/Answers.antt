@@ -3,7 +3,7 @@ use Rattle.kp_kore.specs.View.{view}
 use Rattle.kp_signature.specs.View.{signature_view}
 use Rattle.kp_compile.specs.Spelled.{first_foreign}
 use Rattle.kp_compile.specs.States.{IsTold}
-use Rattle.kp_server.proofs.untold.side_state.Goals as goal
+use Rattle.kp_server.proofs.sides.side_state.Goals as goal
 
 pub returns-in-Err-OtherShape-clause-found : goal.returns-in-Err-OtherShape-clause-found
 returns-in-Err-OtherShape-clause-found c = λ verifies.

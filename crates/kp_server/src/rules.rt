@@ -1,0 +1,13 @@
+// The rules of a table.
+ghost use Rattle.kp_rule_sets.specs.RuleSets.{RunsAs};
+ghost use Rattle.kp_server.specs.Setting.{IsSettingOf, Setting};
+
+use kp_modules::Table;
+use kp_rule_sets::RuleSet;
+
+/// The rules of a table.
+pub fn rules_of(table: &Table) -> &RuleSet
+    ensures { (s : Setting) → IsSettingOf s table.now → RunsAs s.theory result.now }
+{
+    table.rule_set()
+}
