@@ -1,7 +1,4 @@
-use crate::running::{spelled, told};
-use kp_io::{Files, Shelf, SureBytes, SureDrain};
-use kp_program::run;
-use std::alloc::Global;
+use crate::running::is_told;
 use std::test::Fail;
 
 /// Rules that count down and stop, one that chooses a number, one that goes round, and a foreign one.
@@ -62,36 +59,14 @@ module TOYS
 endmodule []
 "#;
 
+/// A claim that meets it.
 const ODD: &str = r#"module TOYS-SPEC
   claim{} \implies{SortS{}}(Lblodd{}(\dv{SortInt{}}("1")), weakAlwaysFinally{SortS{}}(Lblodd{}(\dv{SortInt{}}("2")))) [label{}("T.odd")]
 endmodule []
 "#;
 
-/// A shelf with the files `d.kore` and `c.kore`.
-fn shelf(alloc: Global, definition: &str, claims: &str) -> Result<Files, Fail> {
-    let mut files = Files::new(alloc, Vec::new(alloc));
-    files.store("d.kore", definition.as_bytes())?;
-    files.store("c.kore", claims.as_bytes())?;
-    Ok(files)
-}
-
-/// What the program tells with these words over a shelf; its input is left alone.
-fn ran(alloc: Global, words: &[String], files: &mut Files) -> Result<Vec<u8>, Fail> {
-    let mut input = SureBytes::new(b"left alone".to_vec(alloc)?);
-    let mut out = SureDrain::new(alloc);
-    let mut err = SureDrain::new(alloc);
-    let status = run(alloc, words, files, &mut input, &mut out, &mut err);
-    Ok(told(alloc, status, out.bytes(), err.bytes())?)
-}
-
+/// The words before the name of the file of claims.
 const PROVE: [&str; 6] = ["kprove", "prove", "d.kore", "--module", "TOYS", "--claims"];
-
-/// What is told of claims in the file `c.kore` over the module TOYS of the file `d.kore`, with more words.
-fn proved(alloc: Global, definition: &str, claims: &str, more: &[&str]) -> Result<Vec<u8>, Fail> {
-    let mut files = shelf(alloc, definition, claims)?;
-    let words = spelled(alloc, &PROVE, more)?;
-    ran(alloc, &words, &mut files)
-}
 
 /// A definition, claims, more words, and what is told.
 static ROWS: [(&str, &str, &[&str], &str); 15] = [
@@ -192,18 +167,18 @@ static ROWS: [(&str, &str, &[&str], &str); 15] = [
     ),
 ];
 
-/// What is told of the first claims of which something else is told.
-fn failing(alloc: Global) -> Result<Option<&'static str>, Fail> {
-    for (definition, claims, more, wanted) in &ROWS {
-        if proved(alloc, definition, claims, more)?.as_slice() != wanted.as_bytes() {
-            return Ok(Some(*wanted));
-        }
-    }
-    Ok(None)
-}
-
 #[test]
 fn claims_are_told(rt: HostRuntime) -> Result<(), Fail> {
-    assert_eq!(rt; failing(rt.alloc())?, None);
+    for (definition, claims, more, wanted) in &ROWS {
+        if !is_told(
+            rt.alloc(),
+            (&PROVE, more),
+            (definition.as_bytes(), *claims),
+            "left alone",
+            wanted,
+        ) {
+            return Err(Fail::new(*wanted));
+        }
+    }
     Ok(())
 }

@@ -1,7 +1,8 @@
-// Tests of the program's `run` over shelves and streams in memory, by values from outside. They stand apart from the
-// program, since a crate with tests is proved twice.
+// Tests of the program's `run` over files and streams in memory, by values from outside: texts in, texts out. They stand
+// apart from the program, since a crate with tests is proved twice.
 #![tactic(auto)]
 
+// the program: command lines, files, claims, requests and faults of the outside
 #[cfg(test)]
 mod claims;
 #[cfg(test)]
@@ -10,3 +11,45 @@ mod endings;
 mod requests;
 #[cfg(test)]
 mod running;
+
+// connections over a definition
+#[cfg(test)]
+mod connections;
+#[cfg(test)]
+mod definitions;
+#[cfg(test)]
+mod replies;
+#[cfg(test)]
+mod simplified;
+
+// modules that are added, and those of a definition
+#[cfg(test)]
+mod additions;
+#[cfg(test)]
+mod extensions;
+#[cfg(test)]
+mod ids;
+#[cfg(test)]
+mod names;
+#[cfg(test)]
+mod own_walks;
+
+// requests of `execute`
+#[cfg(test)]
+mod alone;
+#[cfg(test)]
+mod cases;
+#[cfg(test)]
+mod chosen;
+#[cfg(test)]
+mod ground;
+#[cfg(test)]
+mod limits;
+#[cfg(test)]
+mod lone;
+#[cfg(test)]
+mod refused;
+#[cfg(test)]
+mod stopping;
+#[cfg(test)]
+mod undecided;

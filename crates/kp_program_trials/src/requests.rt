@@ -1,125 +1,35 @@
-use crate::running::{joined, spelled, told};
-use kp_io::{Files, Shelf, SureBytes, SureDrain};
-use kp_program::run;
+use crate::definitions;
+use crate::replies::is_replied;
+use crate::running::{is_told, joined};
 use std::alloc::{AllocError, Global};
 use std::test::Fail;
 
-/// Rules that count down and choose by priority, in a module that two others import, with a foreign symbol beside them; a
-/// foreign rule beside one whose condition doubles its number.
-const COUNTING: &str = r#"[]
-module BASE
-  hooked-sort SortBool{} [hook{}("BOOL.Bool")]
-  hooked-sort SortInt{} [hook{}("INT.Int")]
-  hooked-symbol Lbladd{}(SortInt{}, SortInt{}) : SortInt{} [hook{}("INT.add")]
-  hooked-symbol Lblsub{}(SortInt{}, SortInt{}) : SortInt{} [hook{}("INT.sub")]
-  hooked-symbol Lblgt{}(SortInt{}, SortInt{}) : SortBool{} [hook{}("INT.gt")]
-  sort SortS{} []
-  symbol Lblcount{}(SortInt{}) : SortS{} [constructor{}()]
-  symbol Lblother{}(SortInt{}) : SortInt{} []
-  symbol Lblodd{}(SortInt{}) : SortS{} [constructor{}()]
-  symbol Lblpick{}(SortInt{}) : SortS{} [constructor{}()]
-  symbol Lblpicked{}(SortInt{}) : SortS{} [constructor{}()]
-  symbol Lbldone{}() : SortS{} [constructor{}()]
-  symbol Lblgoal{}() : SortS{} [constructor{}()]
-  axiom{} \rewrites{SortS{}}(\and{SortS{}}(Lblcount{}(N:SortInt{}), \equals{SortBool{}, SortS{}}(Lblgt{}(N:SortInt{}, \dv{SortInt{}}("0")), \dv{SortBool{}}("true"))), Lblcount{}(Lblsub{}(N:SortInt{}, \dv{SortInt{}}("1")))) [label{}("dec")]
-  axiom{} \rewrites{SortS{}}(Lblodd{}(N:SortInt{}), Lblodd{}(Lblother{}(N:SortInt{}))) [label{}("odd")]
-  axiom{} \rewrites{SortS{}}(\and{SortS{}}(Lblodd{}(N:SortInt{}), \equals{SortBool{}, SortS{}}(Lblgt{}(Lbladd{}(N:SortInt{}, N:SortInt{}), \dv{SortInt{}}("0")), \dv{SortBool{}}("true"))), Lblpicked{}(N:SortInt{})) [label{}("double")]
-endmodule []
-module LEFT
-  import BASE []
-  axiom{} \rewrites{SortS{}}(Lblpick{}(N:SortInt{}), Lblpicked{}(\dv{SortInt{}}("3"))) [owise{}()]
-  axiom{} \rewrites{SortS{}}(\and{SortS{}}(Lblpick{}(N:SortInt{}), \equals{SortBool{}, SortS{}}(Lblgt{}(N:SortInt{}, \dv{SortInt{}}("2")), \dv{SortBool{}}("true"))), Lblpicked{}(\dv{SortInt{}}("2"))) []
-endmodule []
-module RIGHT
-  import BASE []
-  axiom{} \rewrites{SortS{}}(\and{SortS{}}(Lblpick{}(N:SortInt{}), \equals{SortBool{}, SortS{}}(Lblgt{}(N:SortInt{}, \dv{SortInt{}}("5")), \dv{SortBool{}}("true"))), Lblpicked{}(\dv{SortInt{}}("1"))) [priority{}("10")]
-endmodule []
-module COUNTING
-  import LEFT []
-  import RIGHT []
-endmodule []
-"#;
+/// The request to run a term, up to the term.
+const RUN: &str =
+    r#"{"jsonrpc":"2.0","id":1,"method":"execute","params":{"state":{"format":"KORE","version":1,"term":"#;
 
-/// A shelf with a file `d.kore`.
-fn shelf(alloc: Global, definition: &str) -> Result<Files, Fail> {
-    let mut files = Files::new(alloc, Vec::new(alloc));
-    files.store("d.kore", definition.as_bytes())?;
-    Ok(files)
-}
+/// The request whether one term implies another, up to the one, and from there to the other.
+const IMPLIES: (&str, &str) = (
+    r#"{"jsonrpc":"2.0","id":1,"method":"implies","params":{"antecedent":{"format":"KORE","version":1,"term":"#,
+    r#"},"consequent":{"format":"KORE","version":1,"term":"#,
+);
 
-/// What the program tells with these words, over a shelf, on an input.
-fn ran(alloc: Global, words: &[String], files: &mut Files, input: &str) -> Result<Vec<u8>, Fail> {
-    let mut source = SureBytes::new(input.as_bytes().to_vec(alloc)?);
-    let mut out = SureDrain::new(alloc);
-    let mut err = SureDrain::new(alloc);
-    let status = run(alloc, words, files, &mut source, &mut out, &mut err);
-    Ok(told(alloc, status, out.bytes(), err.bytes())?)
-}
+/// A symbol applied to a whole number, up to the number, from there to the symbol, and behind it.
+const APPLIED: (&str, &str, &str) = (
+    r#"{"args":[{"sort":{"args":[],"name":"SortInt","tag":"SortApp"},"tag":"DV","value":""#,
+    r#""}],"name":""#,
+    r#"","sorts":[],"tag":"App"}"#,
+);
 
-const SERVE: [&str; 5] = ["kprove", "stdio", "d.kore", "--module", "COUNTING"];
+/// The reply of a run, up to how it ended, from there to the term, and behind it.
+const RESULT: (&str, &str, &str) = (
+    r#"{"id":1,"jsonrpc":"2.0","result":{"#,
+    r#","state":{"term":{"format":"KORE","term":"#,
+    r#","version":1}}}}"#,
+);
 
-/// What the program tells that serves an input over the module COUNTING.
-fn served(alloc: Global, input: &str) -> Result<Vec<u8>, Fail> {
-    let mut files = shelf(alloc, COUNTING)?;
-    let words = spelled(alloc, &SERVE, &[])?;
-    ran(alloc, &words, &mut files, input)
-}
-
-/// A symbol applied to a whole number, as a Kore JSON term.
-fn applied(alloc: Global, symbol: &str, number: &str) -> Result<String, AllocError> {
-    joined(
-        alloc,
-        &[
-            r#"{"args":[{"sort":{"args":[],"name":"SortInt","tag":"SortApp"},"tag":"DV","value":""#,
-            number,
-            r#""}],"name":""#,
-            symbol,
-            r#"","sorts":[],"tag":"App"}"#,
-        ],
-    )
-}
-
-/// The request to run a term, with more members of its params.
-fn request(alloc: Global, term: &str, members: &str) -> Result<String, AllocError> {
-    joined(
-        alloc,
-        &[
-            r#"{"jsonrpc":"2.0","id":1,"method":"execute","params":{"state":{"format":"KORE","version":1,"term":"#,
-            term,
-            "}",
-            members,
-            "}}",
-        ],
-    )
-}
-
-/// The reply of a run that ended so.
-fn result(alloc: Global, told: &str, term: &str) -> Result<String, AllocError> {
-    joined(
-        alloc,
-        &[
-            r#"{"id":1,"jsonrpc":"2.0","result":{"#,
-            told,
-            r#","state":{"term":{"format":"KORE","term":"#,
-            term,
-            ",\"version\":1}}}}\n",
-        ],
-    )
-}
-
-/// The reply with an error.
-fn error(alloc: Global, told: &str) -> Result<String, AllocError> {
-    joined(
-        alloc,
-        &["{\"error\":{", told, "},\"id\":1,\"jsonrpc\":\"2.0\"}\n"],
-    )
-}
-
-/// The reply of a run that ended so, at a symbol applied to a number.
-fn result_at(alloc: Global, told: &str, symbol: &str, number: &str) -> Result<String, AllocError> {
-    let term = applied(alloc, symbol, number)?;
-    result(alloc, told, &term)
-}
+/// The reply with an error, up to the error and behind it.
+const ERROR: (&str, &str) = (r#"{"error":{"#, r#"},"id":1,"jsonrpc":"2.0"}"#);
 
 const WIDEST: &str = "170141183460469231731687303715884105727";
 
@@ -138,6 +48,7 @@ const TWO: &str =
 
 const THREE: &str =
     r#"{"args":[{"sort":{"args":[],"name":"SortInt","tag":"SortApp"},"tag":"DV","value":"3"}],"name":"Lblcount","sorts":[],"tag":"App"}"#;
+
 /// The count of one and one.
 const COMPUTED: &str =
     r#"{"args":[{"args":[{"sort":{"args":[],"name":"SortInt","tag":"SortApp"},"tag":"DV","value":"1"},{"sort":{"args":[],"name":"SortInt","tag":"SortApp"},"tag":"DV","value":"1"}],"name":"Lbladd","sorts":[],"tag":"App"}],"name":"Lblcount","sorts":[],"tag":"App"}"#;
@@ -150,11 +61,9 @@ const NO_TAG: &str = r#"{"tag":"Nope"}"#;
 const OPEN: &str = r#"{"name":"X","sort":{"args":[],"name":"SortS","tag":"SortApp"},"tag":"EVar"}"#;
 
 const VALID: &str =
-    r#"{"id":1,"jsonrpc":"2.0","result":{"condition":{"predicate":{"format":"KORE","term":{"sort":{"args":[],"name":"SortS","tag":"SortApp"},"tag":"Top"},"version":1},"substitution":{"format":"KORE","term":{"sort":{"args":[],"name":"SortS","tag":"SortApp"},"tag":"Top"},"version":1}},"valid":true}}
-"#;
+    r#"{"id":1,"jsonrpc":"2.0","result":{"condition":{"predicate":{"format":"KORE","term":{"sort":{"args":[],"name":"SortS","tag":"SortApp"},"tag":"Top"},"version":1},"substitution":{"format":"KORE","term":{"sort":{"args":[],"name":"SortS","tag":"SortApp"},"tag":"Top"},"version":1}},"valid":true}}"#;
 
-const NOT_VALID: &str = r#"{"id":1,"jsonrpc":"2.0","result":{"valid":false}}
-"#;
+const NOT_VALID: &str = r#"{"id":1,"jsonrpc":"2.0","result":{"valid":false}}"#;
 
 /// The count of one.
 const COUNTED: &str =
@@ -176,40 +85,7 @@ const NO_MODULE: &str = r#""code":3,"data":{"name":"NOPE"},"message":"Could not 
 const PARAMS: &str = r#""code":-32602,"message":"Invalid params""#;
 
 const PARSE: &str =
-    "{\"error\":{\"code\":-32700,\"message\":\"Parse error\"},\"id\":null,\"jsonrpc\":\"2.0\"}\n";
-
-/// So many `[` and as many `]`.
-fn nested(alloc: Global, depth: usize) -> Result<String, AllocError> {
-    let mut text = String::new(alloc);
-    for _ in 0..depth {
-        text.push_str("[")?;
-    }
-    for _ in 0..depth {
-        text.push_str("]")?;
-    }
-    Ok(text)
-}
-
-/// The request whether one term implies another, with more members of its params.
-fn question(
-    alloc: Global,
-    antecedent: &str,
-    consequent: &str,
-    members: &str,
-) -> Result<String, AllocError> {
-    joined(
-        alloc,
-        &[
-            r#"{"jsonrpc":"2.0","id":1,"method":"implies","params":{"antecedent":{"format":"KORE","version":1,"term":"#,
-            antecedent,
-            r#"},"consequent":{"format":"KORE","version":1,"term":"#,
-            consequent,
-            "}",
-            members,
-            "}}",
-        ],
-    )
-}
+    r#"{"error":{"code":-32700,"message":"Parse error"},"id":null,"jsonrpc":"2.0"}"#;
 
 /// What is asked.
 #[derive(Clone, Copy)]
@@ -224,26 +100,24 @@ enum Asked {
     Input(&'static str),
 }
 
-/// The request to run a symbol applied to a number, with more members of its params.
-fn request_of(
-    alloc: Global,
-    symbol: &str,
-    number: &str,
-    members: &str,
-) -> Result<String, AllocError> {
-    let term = applied(alloc, symbol, number)?;
-    request(alloc, &term, members)
-}
-
 /// The input that asks.
 fn input_of(alloc: Global, asked: Asked) -> Result<String, AllocError> {
+    let (front, between, behind) = APPLIED;
     match asked {
-        Asked::Run(symbol, number, members) => request_of(alloc, symbol, number, members),
-        Asked::Term(term, members) => request(alloc, term, members),
-        Asked::Implies(antecedent, consequent, members) => {
-            question(alloc, antecedent, consequent, members)
-        }
-        Asked::Input(input) => String::from_str(alloc, input),
+        Asked::Run(symbol, number, members) => joined(
+            alloc,
+            &[
+                RUN, front, number, between, symbol, behind, "}", members, "}}",
+            ],
+        ),
+        Asked::Term(term, members) => joined(alloc, &[RUN, term, "}", members, "}}"]),
+        Asked::Implies(antecedent, consequent, members) => joined(
+            alloc,
+            &[
+                IMPLIES.0, antecedent, IMPLIES.1, consequent, "}", members, "}}",
+            ],
+        ),
+        Asked::Input(input) => joined(alloc, &[input]),
     }
 }
 
@@ -258,20 +132,26 @@ enum Reply {
     Text(&'static str),
 }
 
-/// The text of a reply.
-fn text_of(alloc: Global, reply: Reply) -> Result<String, AllocError> {
+/// The line of a reply.
+fn line_of(alloc: Global, reply: Reply) -> Result<String, AllocError> {
+    let (front, between, behind) = APPLIED;
     match reply {
-        Reply::Result(told, symbol, number) => result_at(alloc, told, symbol, number),
-        Reply::Error(told) => error(alloc, told),
-        Reply::Text(text) => String::from_str(alloc, text),
+        Reply::Result(told, symbol, number) => joined(
+            alloc,
+            &[
+                RESULT.0, told, RESULT.1, front, number, between, symbol, behind, RESULT.2,
+            ],
+        ),
+        Reply::Error(told) => joined(alloc, &[ERROR.0, told, ERROR.1]),
+        Reply::Text(text) => joined(alloc, &[text]),
     }
 }
 
 /// Whether what is asked is answered so.
-fn is_told(alloc: Global, asked: Asked, reply: Reply) -> Result<bool, Fail> {
+fn is_answered(alloc: Global, asked: Asked, reply: Reply) -> Result<bool, AllocError> {
     let input = input_of(alloc, asked)?;
-    let reply = text_of(alloc, reply)?;
-    Ok(served(alloc, &input)?.as_slice() == reply.as_bytes())
+    let line = line_of(alloc, reply)?;
+    Ok(is_replied(alloc, definitions::Asked::Counting, &input, &line))
 }
 
 /// What is asked, and what is replied.
@@ -360,13 +240,13 @@ static ROWS: [(Asked, Reply); 40] = [
     (
         Asked::Input(r#"{"jsonrpc":"2.0","id":1,"method":"get-model","params":{}}"#),
         Reply::Text(
-            "{\"error\":{\"code\":-32601,\"message\":\"Method not found\"},\"id\":1,\"jsonrpc\":\"2.0\"}\n",
+            r#"{"error":{"code":-32601,"message":"Method not found"},"id":1,"jsonrpc":"2.0"}"#,
         ),
     ),
     (
         Asked::Input("[]"),
         Reply::Text(
-            "{\"error\":{\"code\":-32600,\"message\":\"Invalid Request\"},\"id\":null,\"jsonrpc\":\"2.0\"}\n",
+            r#"{"error":{"code":-32600,"message":"Invalid Request"},"id":null,"jsonrpc":"2.0"}"#,
         ),
     ),
     (
@@ -407,34 +287,22 @@ static ROWS: [(Asked, Reply); 40] = [
     ),
 ];
 
-/// How many rows stand before the first of which something else is told, if there is one.
-fn failing(alloc: Global) -> Result<Option<usize>, Fail> {
+/// How many rows stand before the first of which something else is told.
+fn holding(alloc: Global) -> usize {
     let mut place: usize = 0;
     for (asked, reply) in &ROWS {
-        if !is_told(alloc, *asked, *reply)? {
-            return Ok(Some(place));
+        match is_answered(alloc, *asked, *reply) {
+            Ok(true) => place = place.saturating_add(1),
+            _ => return place,
         }
-        place = place.saturating_add(1);
     }
-    Ok(None)
+    place
 }
 
 #[test]
-fn requests_have_their_replies(rt: HostRuntime) -> Result<(), Fail> {
-    assert_eq!(rt; failing(rt.alloc())?, None);
-    Ok(())
-}
-
-/// Whether arrays beyond the limit are no request.
-fn is_too_deep(alloc: Global) -> Result<bool, Fail> {
-    let deep = nested(alloc, 128)?;
-    Ok(served(alloc, &deep)?.as_slice() == PARSE.as_bytes())
-}
-
-#[test]
-fn arrays_beyond_the_limit_are_no_request(rt: HostRuntime) -> Result<(), Fail> {
-    assert!(rt; is_too_deep(rt.alloc())?);
-    Ok(())
+fn requests_have_their_replies(rt: HostRuntime) {
+    let place = holding(rt.alloc());
+    assert!(rt; place == 40, "row {place}");
 }
 
 /// A command and its file, what the file `d.kore` has, and what is told.
@@ -496,25 +364,13 @@ static ENDINGS: [(&str, &str, &str, &str); 10] = [
     ("prove", "d.kore", "[]", "status 3: kprove: usage\n"),
 ];
 
-/// What a command of a file and the module M tells, over a definition.
-fn ending(alloc: Global, command: &str, name: &str, definition: &str) -> Result<Vec<u8>, Fail> {
-    let mut files = shelf(alloc, definition)?;
-    let words = spelled(alloc, &["kprove", command, name], &["--module", "M"])?;
-    ran(alloc, &words, &mut files, "")
-}
-
-/// The first line that isn't told.
-fn line_failing(alloc: Global) -> Result<Option<&'static str>, Fail> {
-    for (command, name, definition, line) in &ENDINGS {
-        if ending(alloc, command, name, definition)?.as_slice() != line.as_bytes() {
-            return Ok(Some(*line));
-        }
-    }
-    Ok(None)
-}
-
 #[test]
 fn other_endings_are_told(rt: HostRuntime) -> Result<(), Fail> {
-    assert_eq!(rt; line_failing(rt.alloc())?, None);
+    for (command, name, definition, line) in &ENDINGS {
+        let words: (&[&str], &[&str]) = (&["kprove", *command, *name], &["--module", "M"]);
+        if !is_told(rt.alloc(), words, (definition.as_bytes(), ""), "", line) {
+            return Err(Fail::new(*line));
+        }
+    }
     Ok(())
 }

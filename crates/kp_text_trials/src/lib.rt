@@ -1,9 +1,12 @@
 // Tests of the public calls with ample memory, by values from outside: of text that is read and printed, patterns,
-// difference constraints and frames. They stand here together, since a crate with tests is proved twice.
+// difference constraints, frames, and connections with an answerer that says each frame again. They stand here together,
+// since a crate with tests is proved twice.
 #![tactic(auto)]
 
 #[cfg(test)]
 mod differences;
+#[cfg(test)]
+mod echo;
 #[cfg(test)]
 mod frames;
 #[cfg(test)]
@@ -12,3 +15,5 @@ mod patterns;
 mod printing;
 #[cfg(test)]
 mod readers;
+#[cfg(test)]
+mod serving;

@@ -1,5 +1,5 @@
 use crate::definitions::Asked;
-use crate::replies::{Row, failing};
+use crate::replies::{Row, are_replied};
 use std::test::Fail;
 
 /// A rule whose left term is a variable alone.
@@ -11,6 +11,5 @@ static ROWS: [Row; 1] = [(
 
 #[test]
 fn a_variable_alone_wants_a_meet_of_sorts(rt: HostRuntime) -> Result<(), Fail> {
-    assert_eq!(rt; failing(rt.alloc(), Asked::Lone, &ROWS)?, None);
-    Ok(())
+    are_replied(rt.alloc(), Asked::Lone, &ROWS)
 }

@@ -1,5 +1,5 @@
 use crate::definitions::Asked;
-use crate::replies::{Row, failing};
+use crate::replies::{Row, are_replied};
 use std::test::Fail;
 
 /// Rules to stop before and behind.
@@ -48,6 +48,5 @@ static ROWS: [Row; 8] = [
 
 #[test]
 fn runs_stop_before_and_behind_rules(rt: HostRuntime) -> Result<(), Fail> {
-    assert_eq!(rt; failing(rt.alloc(), Asked::Toys, &ROWS)?, None);
-    Ok(())
+    are_replied(rt.alloc(), Asked::Toys, &ROWS)
 }

@@ -1,8 +1,4 @@
-use kp_kore::Definition;
-use kp_modules::{Table, load};
-use kp_text::read_definition;
-use std::alloc::Global;
-use std::test::Fail;
+// The definitions over which inputs are served.
 
 /// The example definition.
 const TOYS: &str = r#"[]
@@ -97,7 +93,121 @@ module LONE
 endmodule []
 "#;
 
-/// A definition whose states are executed.
+/// Whole numbers with their calls, two sorts with constructors, and a foreign symbol.
+const NUMBERS: &str = r#"[]
+module TOYS
+  hooked-sort SortBool{} [hook{}("BOOL.Bool")]
+  hooked-sort SortInt{} [hook{}("INT.Int")]
+  sort SortS{} []
+  sort SortP{} []
+  hooked-symbol Lbladd{}(SortInt{}, SortInt{}) : SortInt{} [hook{}("INT.add")]
+  hooked-symbol Lblsub{}(SortInt{}, SortInt{}) : SortInt{} [hook{}("INT.sub")]
+  hooked-symbol Lblmul{}(SortInt{}, SortInt{}) : SortInt{} [hook{}("INT.mul")]
+  hooked-symbol Lblgt{}(SortInt{}, SortInt{}) : SortBool{} [hook{}("INT.gt")]
+  hooked-symbol Lbllt{}(SortInt{}, SortInt{}) : SortBool{} [hook{}("INT.lt")]
+  hooked-symbol Lblle{}(SortInt{}, SortInt{}) : SortBool{} [hook{}("INT.le")]
+  symbol inj{From, To}(From) : To [sortInjection{}()]
+  symbol Lblother{}(SortInt{}) : SortInt{} []
+  symbol Lblpa{}() : SortP{} [constructor{}()]
+  symbol Lblpb{}() : SortP{} [constructor{}()]
+  symbol Lblcount{}(SortInt{}) : SortS{} [constructor{}()]
+  symbol Lblpick{}(SortP{}) : SortS{} [constructor{}()]
+  symbol Lbldone{}() : SortS{} [constructor{}()]
+endmodule []
+"#;
+
+/// Rules that count down and choose by priority, in a module that two others import, with a foreign symbol beside them; a
+/// foreign rule beside one whose condition doubles its number.
+const COUNTING: &str = r#"[]
+module BASE
+  hooked-sort SortBool{} [hook{}("BOOL.Bool")]
+  hooked-sort SortInt{} [hook{}("INT.Int")]
+  hooked-symbol Lbladd{}(SortInt{}, SortInt{}) : SortInt{} [hook{}("INT.add")]
+  hooked-symbol Lblsub{}(SortInt{}, SortInt{}) : SortInt{} [hook{}("INT.sub")]
+  hooked-symbol Lblgt{}(SortInt{}, SortInt{}) : SortBool{} [hook{}("INT.gt")]
+  sort SortS{} []
+  symbol Lblcount{}(SortInt{}) : SortS{} [constructor{}()]
+  symbol Lblother{}(SortInt{}) : SortInt{} []
+  symbol Lblodd{}(SortInt{}) : SortS{} [constructor{}()]
+  symbol Lblpick{}(SortInt{}) : SortS{} [constructor{}()]
+  symbol Lblpicked{}(SortInt{}) : SortS{} [constructor{}()]
+  symbol Lbldone{}() : SortS{} [constructor{}()]
+  symbol Lblgoal{}() : SortS{} [constructor{}()]
+  axiom{} \rewrites{SortS{}}(\and{SortS{}}(Lblcount{}(N:SortInt{}), \equals{SortBool{}, SortS{}}(Lblgt{}(N:SortInt{}, \dv{SortInt{}}("0")), \dv{SortBool{}}("true"))), Lblcount{}(Lblsub{}(N:SortInt{}, \dv{SortInt{}}("1")))) [label{}("dec")]
+  axiom{} \rewrites{SortS{}}(Lblodd{}(N:SortInt{}), Lblodd{}(Lblother{}(N:SortInt{}))) [label{}("odd")]
+  axiom{} \rewrites{SortS{}}(\and{SortS{}}(Lblodd{}(N:SortInt{}), \equals{SortBool{}, SortS{}}(Lblgt{}(Lbladd{}(N:SortInt{}, N:SortInt{}), \dv{SortInt{}}("0")), \dv{SortBool{}}("true"))), Lblpicked{}(N:SortInt{})) [label{}("double")]
+endmodule []
+module LEFT
+  import BASE []
+  axiom{} \rewrites{SortS{}}(Lblpick{}(N:SortInt{}), Lblpicked{}(\dv{SortInt{}}("3"))) [owise{}()]
+  axiom{} \rewrites{SortS{}}(\and{SortS{}}(Lblpick{}(N:SortInt{}), \equals{SortBool{}, SortS{}}(Lblgt{}(N:SortInt{}, \dv{SortInt{}}("2")), \dv{SortBool{}}("true"))), Lblpicked{}(\dv{SortInt{}}("2"))) []
+endmodule []
+module RIGHT
+  import BASE []
+  axiom{} \rewrites{SortS{}}(\and{SortS{}}(Lblpick{}(N:SortInt{}), \equals{SortBool{}, SortS{}}(Lblgt{}(N:SortInt{}, \dv{SortInt{}}("5")), \dv{SortBool{}}("true"))), Lblpicked{}(\dv{SortInt{}}("1"))) [priority{}("10")]
+endmodule []
+module COUNTING
+  import LEFT []
+  import RIGHT []
+endmodule []
+"#;
+
+/// One sort, two constructors and a rule with a label.
+const SMALL: &str = r#"[]
+module TOYS
+  sort SortS{} []
+  symbol LblOne{}() : SortS{} [constructor{}()]
+  symbol LblTwo{}() : SortS{} [constructor{}()]
+  axiom{} \rewrites{SortS{}}(LblOne{}(), LblTwo{}()) [label{}("TOYS.go")]
+endmodule []
+"#;
+
+/// Five constructors, and a rule with a label from the first to the second.
+const FAN: &str = r#"[]
+module TOYS
+  sort SortS{} []
+  symbol LblOne{}() : SortS{} [constructor{}()]
+  symbol LblTwo{}() : SortS{} [constructor{}()]
+  symbol LblA{}() : SortS{} [constructor{}()]
+  symbol LblB{}() : SortS{} [constructor{}()]
+  symbol LblC{}() : SortS{} [constructor{}()]
+  axiom{} \rewrites{SortS{}}(LblOne{}(), LblTwo{}()) [label{}("TOYS.go")]
+endmodule []
+"#;
+
+/// Main reaches A before B, and X reaches B before A; a label stands in A and in main. Main doesn't reach Y.
+const CROSSED: &str = r#"[]
+module SORTS
+  sort SortS{} []
+  symbol LblOne{}() : SortS{} [constructor{}()]
+  symbol LblA{}() : SortS{} [constructor{}()]
+  symbol LblB{}() : SortS{} [constructor{}()]
+  symbol LblX{}() : SortS{} [constructor{}()]
+  symbol LblMain{}() : SortS{} [constructor{}()]
+endmodule []
+module A
+  import SORTS []
+  axiom{} \rewrites{SortS{}}(LblOne{}(), LblA{}()) [label{}("go")]
+endmodule []
+module B
+  import SORTS []
+  axiom{} \rewrites{SortS{}}(LblOne{}(), LblB{}()) []
+endmodule []
+module X
+  import B []
+  import A []
+  axiom{} \rewrites{SortS{}}(LblOne{}(), LblX{}()) []
+endmodule []
+module MAIN
+  import A []
+  import X []
+  axiom{} \rewrites{SortS{}}(LblOne{}(), LblMain{}()) [label{}("go")]
+endmodule []
+module Y
+endmodule []
+"#;
+
+/// A definition over which inputs are served.
 #[derive(Clone, Copy)]
 pub(crate) enum Asked {
     /// The example definition.
@@ -106,30 +216,28 @@ pub(crate) enum Asked {
     Choices,
     /// The one with a rule whose left term is a variable.
     Lone,
+    /// The one with calls on whole numbers.
+    Numbers,
+    /// The one whose main module imports the rules that count down and choose.
+    Counting,
+    /// The one with two constructors.
+    Small,
+    /// The one with five constructors.
+    Fan,
+    /// The one whose modules are reached in two orders.
+    Crossed,
 }
 
-/// What a text spells.
-fn spelled(alloc: Global, text: &str) -> Result<Definition, Fail> {
-    match read_definition(alloc, text.as_bytes()) {
-        Ok(definition) => Ok(definition),
-        Err(_) => Err(Fail::from("no definition")),
-    }
-}
-
-/// The table of a definition's text with this main module.
-fn loaded(alloc: Global, text: &str, main: &str) -> Result<Table, Fail> {
-    let definition = spelled(alloc, text)?;
-    match load(alloc, &definition, main) {
-        Ok(table) => Ok(table),
-        Err(_) => Err(Fail::from("no table")),
-    }
-}
-
-/// The table of a definition.
-pub(crate) fn table(alloc: Global, asked: Asked) -> Result<Table, Fail> {
+/// The name of a definition's main module, and its text.
+pub(crate) fn definition_of(asked: Asked) -> (&'static str, &'static str) {
     match asked {
-        Asked::Toys => loaded(alloc, TOYS, "TOYS"),
-        Asked::Choices => loaded(alloc, CHOICES, "CHOICES"),
-        Asked::Lone => loaded(alloc, LONE, "LONE"),
+        Asked::Toys => ("TOYS", TOYS),
+        Asked::Choices => ("CHOICES", CHOICES),
+        Asked::Lone => ("LONE", LONE),
+        Asked::Numbers => ("TOYS", NUMBERS),
+        Asked::Counting => ("COUNTING", COUNTING),
+        Asked::Small => ("TOYS", SMALL),
+        Asked::Fan => ("TOYS", FAN),
+        Asked::Crossed => ("MAIN", CROSSED),
     }
 }

@@ -1,5 +1,5 @@
 use crate::definitions::Asked;
-use crate::replies::{Row, failing};
+use crate::replies::{Row, are_replied};
 use std::test::Fail;
 
 /// States that are refused.
@@ -28,6 +28,5 @@ static ROWS: [Row; 4] = [
 
 #[test]
 fn states_are_refused(rt: HostRuntime) -> Result<(), Fail> {
-    assert_eq!(rt; failing(rt.alloc(), Asked::Toys, &ROWS)?, None);
-    Ok(())
+    are_replied(rt.alloc(), Asked::Toys, &ROWS)
 }
