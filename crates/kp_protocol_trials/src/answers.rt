@@ -1,7 +1,10 @@
+use crate::table::bytes;
 use kp_frames::Cutter;
+use kp_json::JsonFault;
 use kp_requests::{Asked, Call, Parsed, Reading, Request, request_of};
 use kp_rpc::{Id, Refusal, StateFault, fault_text, refusal_text};
-use std::alloc::{AllocError, Global};
+use std::alloc::Global;
+use std::process::Abort;
 
 /// The most bytes of a frame.
 const LIMIT: usize = 4_194_304;
@@ -13,153 +16,129 @@ const READ: &str = "read\n";
 pub const FIRST: &str =
     r#"{"jsonrpc":"2.0","id":1,"method":"execute","params":{"state":{"format":"KORE","version":1,"term":{"tag":"App","name":"Lblcount","sorts":[],"args":[{"tag":"DV","sort":{"tag":"SortApp","name":"SortInt","args":[]},"value":"2"}]}}}}"#;
 
-/// What stands for the reply to a request that was read.
-fn read_line(alloc: Global) -> Result<Vec<u8>, AllocError> {
-    Ok(Vec::from_slice(alloc, READ.as_bytes())?)
+/// The reply that tells the fault of a tree.
+pub fn fault_line(rt: &impl Abort, alloc: Global, id: &Id, fault: JsonFault) -> Vec<u8> {
+    fault_text(alloc, id, &StateFault::Json(fault)).expect(rt, "memory")
 }
 
 /// The reply to a request of one state.
-fn of_state(alloc: Global, id: &Id, state: Reading) -> Result<Vec<u8>, AllocError> {
+fn of_state(rt: &impl Abort, alloc: Global, id: &Id, state: Reading) -> Vec<u8> {
     match state {
-        Reading::Pattern(_) => read_line(alloc),
-        Reading::Fault(fault) => fault_text(alloc, id, &StateFault::Json(fault)),
+        Reading::Pattern(_) => bytes(rt, alloc, READ),
+        Reading::Fault(fault) => fault_line(rt, alloc, id, fault),
     }
 }
 
 /// The reply to a request.
-fn of_request(alloc: Global, id: &Id, request: Request) -> Result<Vec<u8>, AllocError> {
+fn of_request(rt: &impl Abort, alloc: Global, id: &Id, request: Request) -> Vec<u8> {
     match request {
-        Request::Execute { state, options: _ } => of_state(alloc, id, state),
+        Request::Execute { state, options: _ } => of_state(rt, alloc, id, state),
         Request::Implies {
             antecedent,
             consequent: _,
             module_name: _,
-        } => of_state(alloc, id, antecedent),
+        } => of_state(rt, alloc, id, antecedent),
         Request::Simplify {
             state,
             module_name: _,
-        } => of_state(alloc, id, state),
+        } => of_state(rt, alloc, id, state),
         Request::AddModule {
             text: _,
             name_as_id: _,
-        } => read_line(alloc),
+        } => bytes(rt, alloc, READ),
     }
+}
+
+/// The reply of a refusal.
+fn refused(rt: &impl Abort, alloc: Global, id: &Id, refusal: Refusal) -> Vec<u8> {
+    refusal_text(alloc, id, refusal).expect(rt, "memory")
 }
 
 /// The reply to what is asked.
-fn of_asked(alloc: Global, id: &Id, asked: Asked) -> Result<Vec<u8>, AllocError> {
+fn of_asked(rt: &impl Abort, alloc: Global, id: &Id, asked: Asked) -> Vec<u8> {
     match asked {
-        Asked::Request(request) => of_request(alloc, id, request),
-        Asked::Refused(refusal) => refusal_text(alloc, id, refusal),
+        Asked::Request(request) => of_request(rt, alloc, id, request),
+        Asked::Refused(refusal) => refused(rt, alloc, id, refusal),
     }
 }
 
-/// The reply to a call, none for a notification.
-fn of_call(alloc: Global, call: Call) -> Result<Option<Vec<u8>>, AllocError> {
+/// Adds a line to the replies.
+fn add(rt: &impl Abort, out: &mut Vec<u8>, line: &[u8]) {
+    out.extend_from_slice(line).expect(rt, "memory");
+}
+
+/// Adds the reply to a call, none for a notification.
+fn add_call(rt: &impl Abort, alloc: Global, call: Call, out: &mut Vec<u8>) {
     let Call { id, asked } = call;
     match id {
-        Some(id) => Ok(Some(of_asked(alloc, &id, asked)?)),
-        None => Ok(None),
-    }
-}
-
-/// Adds the reply to a call.
-fn add_call(alloc: Global, call: Call, out: &mut Vec<u8>) -> Result<(), AllocError> {
-    match of_call(alloc, call)? {
-        Some(line) => out.extend_from_slice(&line)?,
+        Some(id) => add(rt, out, &of_asked(rt, alloc, &id, asked)),
         None => {}
     }
-    Ok(())
 }
 
 /// Adds the replies to the calls of a batch, between lines of brackets.
-fn add_batch(alloc: Global, calls: Vec<Call>, out: &mut Vec<u8>) -> Result<(), AllocError> {
-    out.extend_from_slice(b"[\n")?;
+fn add_batch(rt: &impl Abort, alloc: Global, calls: Vec<Call>, out: &mut Vec<u8>) {
+    add(rt, out, b"[\n");
     for call in calls {
-        add_call(alloc, call, out)?;
+        add_call(rt, alloc, call, out);
     }
-    Ok(out.extend_from_slice(b"]\n")?)
+    add(rt, out, b"]\n");
 }
 
 /// Adds the reply to a frame.
-pub fn add_frame(alloc: Global, frame: &[u8], out: &mut Vec<u8>) -> Result<(), AllocError> {
-    match request_of(alloc, frame)? {
-        Parsed::Single(call) => add_call(alloc, call, out),
-        Parsed::Batch(calls) => add_batch(alloc, calls, out),
-        Parsed::Refused(refusal) => {
-            let line = refusal_text(alloc, &Id::Null, refusal)?;
-            Ok(out.extend_from_slice(&line)?)
-        }
+fn add_frame(rt: &impl Abort, alloc: Global, frame: &[u8], out: &mut Vec<u8>) {
+    match request_of(alloc, frame).expect(rt, "memory") {
+        Parsed::Single(call) => add_call(rt, alloc, call, out),
+        Parsed::Batch(calls) => add_batch(rt, alloc, calls, out),
+        Parsed::Refused(refusal) => add(rt, out, &refused(rt, alloc, &Id::Null, refusal)),
     }
 }
 
 /// Feeds a piece, and adds the replies to the frames that it ends.
-fn feed(
-    alloc: Global,
-    cutter: &mut Cutter,
-    piece: &[u8],
-    out: &mut Vec<u8>,
-) -> Result<(), AllocError> {
-    for frame in cutter.feed(alloc, piece)? {
-        add_frame(alloc, &frame, out)?;
+fn feed(rt: &impl Abort, alloc: Global, cutter: &mut Cutter, piece: &[u8], out: &mut Vec<u8>) {
+    for frame in cutter.feed(alloc, piece).expect(rt, "memory") {
+        add_frame(rt, alloc, &frame, out);
     }
-    Ok(())
 }
 
-/// Adds the reply to what is left at the end of a stream.
-fn finish(alloc: Global, cutter: Cutter, out: &mut Vec<u8>) -> Result<(), AllocError> {
-    let rest = cutter.finish();
-    if rest.is_empty() {
-        return Ok(());
-    }
-    let line = refusal_text(alloc, &Id::Null, Refusal::ParseError)?;
-    Ok(out.extend_from_slice(&line)?)
-}
-
-/// The replies to a stream that comes in two pieces.
-pub fn in_two(alloc: Global, first: &[u8], second: &[u8]) -> Result<Vec<u8>, AllocError> {
+/// The replies to a stream that comes in two pieces; what is left at its end is no frame.
+pub fn in_two(rt: &impl Abort, alloc: Global, first: &[u8], second: &[u8]) -> Vec<u8> {
     let mut out = Vec::new(alloc);
     let mut cutter = Cutter::new(alloc, LIMIT);
-    feed(alloc, &mut cutter, first, &mut out)?;
-    feed(alloc, &mut cutter, second, &mut out)?;
-    finish(alloc, cutter, &mut out)?;
-    Ok(out)
-}
-
-/// Whether a stream has these replies, however it is cut in two.
-fn are_replies(alloc: Global, stream: &[u8], replies: &[u8]) -> Result<bool, AllocError> {
-    for at in 0..=stream.len() {
-        let out = in_two(alloc, &stream[..at], &stream[at..])?;
-        if out.as_slice() != replies {
-            return Ok(false);
-        }
+    feed(rt, alloc, &mut cutter, first, &mut out);
+    feed(rt, alloc, &mut cutter, second, &mut out);
+    if !cutter.finish().is_empty() {
+        add(
+            rt,
+            &mut out,
+            &refused(rt, alloc, &Id::Null, Refusal::ParseError),
+        );
     }
-    Ok(true)
+    out
 }
 
-/// A text and another behind it.
-fn joined(alloc: Global, first: &[u8], second: &str) -> Result<Vec<u8>, AllocError> {
-    let mut text = Vec::from_slice(alloc, first)?;
-    text.extend_from_slice(second.as_bytes())?;
-    Ok(text)
+/// Some bytes and a text behind them.
+fn joined(rt: &impl Abort, alloc: Global, first: &[u8], second: &str) -> Vec<u8> {
+    let mut both = Vec::from_slice(alloc, first).expect(rt, "memory");
+    add(rt, &mut both, second.as_bytes());
+    both
 }
 
 /// Whether a frame has this reply, and the first example's request behind it is read, cut after each byte.
-pub fn is_row(alloc: Global, frame: &[u8], reply: &str) -> Result<bool, AllocError> {
-    let stream = joined(alloc, frame, FIRST)?;
-    let replies = joined(alloc, reply.as_bytes(), READ)?;
-    are_replies(alloc, &stream, &replies)
-}
-
-/// The first frame of which this doesn't hold.
-pub fn failing<'a>(
-    alloc: Global,
-    rows: &'a [(&'a str, &'a str)],
-) -> Result<Option<&'a str>, AllocError> {
-    for (frame, reply) in rows {
-        if !is_row(alloc, frame.as_bytes(), reply)? {
-            return Ok(Some(*frame));
+pub fn is_row(rt: &impl Abort, alloc: Global, frame: &[u8], reply: &str) -> bool {
+    let stream = joined(rt, alloc, frame, FIRST);
+    let replies = joined(rt, alloc, reply.as_bytes(), READ);
+    for at in 0..=stream.len() {
+        if in_two(rt, alloc, &stream[..at], &stream[at..]) != replies {
+            return false;
         }
     }
-    Ok(None)
+    true
+}
+
+/// Ends the test at the first frame of which this doesn't hold, and prints it.
+pub fn each_is_answered(rt: &impl Abort, alloc: Global, rows: &[(&str, &str)]) {
+    for (frame, reply) in rows {
+        assert!(rt; is_row(rt, alloc, frame.as_bytes(), reply), "{frame}");
+    }
 }

@@ -1,4 +1,4 @@
-use crate::answers::failing;
+use crate::answers::each_is_answered;
 
 /// Batches, and their replies between lines of brackets.
 const BATCHES: [(&str, &str); 6] = [
@@ -31,7 +31,8 @@ const BATCHES: [(&str, &str); 6] = [
     ),
 ];
 
+/// Each call of a batch is answered on its own.
 #[test]
 fn batches_are_answered_call_by_call(rt: HostRuntime) {
-    assert_eq!(rt; failing(rt.alloc(), &BATCHES), Ok(None));
+    each_is_answered(&rt, rt.alloc(), &BATCHES);
 }

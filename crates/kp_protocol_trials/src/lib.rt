@@ -19,6 +19,8 @@ mod replies;
 #[cfg(test)]
 mod results;
 #[cfg(test)]
+mod table;
+#[cfg(test)]
 mod trees;
 #[cfg(test)]
 mod written;

@@ -1,13 +1,17 @@
-use crate::answers::{FIRST, failing, in_two, is_row};
-use std::alloc::{AllocError, Global};
-use std::test::Fail;
+use crate::answers::{FIRST, each_is_answered, in_two, is_row};
+use crate::table::is_told;
+use std::alloc::Global;
+use std::process::Abort;
 
+/// The reply to what is no JSON.
 const PARSE: &str =
     "{\"error\":{\"code\":-32700,\"message\":\"Parse error\"},\"id\":null,\"jsonrpc\":\"2.0\"}\n";
 
+/// The reply to JSON that is no request.
 const INVALID: &str =
     "{\"error\":{\"code\":-32600,\"message\":\"Invalid Request\"},\"id\":null,\"jsonrpc\":\"2.0\"}\n";
 
+/// The reply to a request with other params.
 const PARAMS: &str =
     "{\"error\":{\"code\":-32602,\"message\":\"Invalid params\"},\"id\":\"a\",\"jsonrpc\":\"2.0\"}\n";
 
@@ -44,10 +48,11 @@ const NO_REQUESTS: [(&str, &str); 16] = [
     (r#"{"jsonrpc":"2.0","id":{},"method":"x"}"#, INVALID),
 ];
 
+/// What is no request is told, bytes that are no text among them.
 #[test]
 fn what_is_no_request_is_told(rt: HostRuntime) {
-    assert_eq!(rt; failing(rt.alloc(), &NO_REQUESTS), Ok(None));
-    assert_eq!(rt; is_row(rt.alloc(), &[255, 10], PARSE), Ok(true));
+    each_is_answered(&rt, rt.alloc(), &NO_REQUESTS);
+    assert!(rt; is_row(&rt, rt.alloc(), &[255, 10], PARSE));
 }
 
 /// Requests that can't be served, and notifications, and their replies.
@@ -101,50 +106,47 @@ const REQUESTS: [(&str, &str); 13] = [
     ),
 ];
 
+/// Why a request can't be served is told, and a notification is let go.
 #[test]
 fn what_cannot_be_served_is_told(rt: HostRuntime) {
-    assert_eq!(rt; failing(rt.alloc(), &REQUESTS), Ok(None));
+    each_is_answered(&rt, rt.alloc(), &REQUESTS);
 }
 
-/// A text, so many copies of another behind it, and a third.
-fn around(
-    alloc: Global,
-    before: &str,
-    text: &str,
-    count: usize,
-    behind: &str,
-) -> Result<String, AllocError> {
-    let mut all = String::from_str(alloc, before)?;
-    for _ in 0..count {
-        all.push_str(text)?;
-    }
-    all.push_str(behind)?;
-    Ok(all)
+/// So many copies of a text.
+fn copies(rt: &impl Abort, alloc: Global, text: &str, count: usize) -> String {
+    text.repeat(alloc, count).expect(rt, "memory")
 }
 
 /// A request with 100 `Not` over one `Top`.
-fn deep_request(alloc: Global) -> Result<String, AllocError> {
-    let open = around(
-        alloc,
-        r#"{"jsonrpc":"2.0","id":1,"method":"execute","params":{"state":{"format":"KORE","version":1,"term":"#,
-        r#"{"tag":"Not","sort":{"tag":"SortApp","name":"SortS","args":[]},"arg":"#,
-        100,
-        r#"{"tag":"Top","sort":{"tag":"SortApp","name":"SortS","args":[]}}"#,
-    )?;
-    around(alloc, &open, "}", 103, "")
+fn deep_request(rt: &impl Abort, alloc: Global) -> String {
+    let before = copies(rt, alloc, NOT, 100);
+    let behind = copies(rt, alloc, "}", 103);
+    format!(in alloc; "{HEAD}{before}{TOP}{behind}").expect(rt, "memory")
 }
+
+/// What stands before the term of a request.
+const HEAD: &str =
+    r#"{"jsonrpc":"2.0","id":1,"method":"execute","params":{"state":{"format":"KORE","version":1,"term":"#;
+
+/// What stands before the pattern that is negated.
+const NOT: &str = r#"{"tag":"Not","sort":{"tag":"SortApp","name":"SortS","args":[]},"arg":"#;
+
+/// `\top`, as a tree.
+const TOP: &str = r#"{"tag":"Top","sort":{"tag":"SortApp","name":"SortS","args":[]}}"#;
 
 /// So many arrays, one within another.
-fn arrays(alloc: Global, count: usize) -> Result<String, AllocError> {
-    let open = around(alloc, "", "[", count, "")?;
-    around(alloc, &open, "]", count, "")
+fn arrays(rt: &impl Abort, alloc: Global, count: usize) -> String {
+    let before = copies(rt, alloc, "[", count);
+    let behind = copies(rt, alloc, "]", count);
+    format!(in alloc; "{before}{behind}").expect(rt, "memory")
 }
 
+/// A pattern is at most 100 levels deep, a frame at most 127.
 #[test]
-fn deep_frames_are_told(rt: HostRuntime) -> Result<(), Fail> {
-    let pattern = deep_request(rt.alloc())?;
-    let batch = arrays(rt.alloc(), 127)?;
-    let beyond = arrays(rt.alloc(), 128)?;
+fn deep_frames_are_told(rt: HostRuntime) {
+    let pattern = deep_request(&rt, rt.alloc());
+    let batch = arrays(&rt, rt.alloc(), 127);
+    let beyond = arrays(&rt, rt.alloc(), 128);
     let rows = [
         (
             pattern.as_str(),
@@ -156,27 +158,31 @@ fn deep_frames_are_told(rt: HostRuntime) -> Result<(), Fail> {
         ),
         (beyond.as_str(), PARSE),
     ];
-    assert_eq!(rt; failing(rt.alloc(), &rows), Ok(None));
-    Ok(())
+    each_is_answered(&rt, rt.alloc(), &rows);
 }
 
+/// A bracket, so many spaces and a text.
+fn spaced(rt: &impl Abort, alloc: Global, count: usize, behind: &str) -> String {
+    let spaces = copies(rt, alloc, " ", count);
+    format!(in alloc; "{{{spaces}{behind}").expect(rt, "memory")
+}
+
+/// What stands behind the bracket of a request.
+const REST: &str = r#""jsonrpc":"2.0","id":1,"method":"x"}"#;
+
+/// A request of 4,194,304 bytes is read, and what has no end by then is a parse error.
 #[test]
-fn the_largest_request_is_read(rt: HostRuntime) -> Result<(), Fail> {
-    let behind = r#""jsonrpc":"2.0","id":1,"method":"x"}"#;
-    let spaces = 4_194_304 - r#"{"jsonrpc":"2.0","id":1,"method":"x"}"#.len();
-    let frame = around(rt.alloc(), "{", " ", spaces, behind)?;
-    let out = in_two(rt.alloc(), frame.as_bytes(), FIRST.as_bytes())?;
-    assert_eq!(rt;
-        out.as_slice(),
-        b"{\"error\":{\"code\":-32601,\"message\":\"Method not found\"},\"id\":1,\"jsonrpc\":\"2.0\"}\nread\n".as_slice()
+fn the_longest_frames_are_told(rt: HostRuntime) {
+    let alloc = rt.alloc();
+    let largest = spaced(&rt, alloc, 4_194_303 - REST.len(), REST);
+    let told = in_two(&rt, alloc, largest.as_bytes(), FIRST.as_bytes());
+    is_told(
+        &rt,
+        alloc,
+        &told,
+        "{\"error\":{\"code\":-32601,\"message\":\"Method not found\"},\"id\":1,\"jsonrpc\":\"2.0\"}\nread\n",
     );
-    Ok(())
-}
-
-#[test]
-fn what_never_ends_is_a_parse_error(rt: HostRuntime) -> Result<(), Fail> {
-    let stream = around(rt.alloc(), "{", " ", 4_194_303, "")?;
-    let out = in_two(rt.alloc(), stream.as_bytes(), b" }")?;
-    assert_eq!(rt; out.as_slice(), PARSE.as_bytes());
-    Ok(())
+    let endless = spaced(&rt, alloc, 4_194_303, "");
+    let told = in_two(&rt, alloc, endless.as_bytes(), b" }");
+    is_told(&rt, alloc, &told, PARSE);
 }

@@ -1,74 +1,54 @@
+use crate::table::{Subject, each_is_told, text};
 use kp_graph::{Child, NodeId, Status, Tree, TreeArc, TreeFault, Why};
 use kp_kore::{Claim, Pattern, Sort};
-use std::alloc::{AllocError, Global};
-use std::test::Fail;
+use std::alloc::Global;
+use std::process::Abort;
 
 /// A state, told from others by its text.
-fn state(alloc: Global, text: &str) -> Result<Pattern, AllocError> {
-    let name = String::from_str(alloc, "S")?;
-    let text = String::from_str(alloc, text)?;
-    Ok(Pattern::Literal {
-        sort: Sort::Variable { name },
-        text,
-    })
+fn state(rt: &impl Abort, alloc: Global, name: &str) -> Pattern {
+    Pattern::Literal {
+        sort: Sort::Variable {
+            name: text(rt, alloc, "S"),
+        },
+        text: text(rt, alloc, name),
+    }
 }
 
 /// So many states.
-fn states(alloc: Global, count: usize) -> Result<Vec<Pattern>, TreeFault> {
+fn states(rt: &impl Abort, alloc: Global, count: usize) -> Vec<Pattern> {
     let mut states = Vec::new(alloc);
     for _ in 0..count {
-        add_state(alloc, &mut states)?;
+        states.push(state(rt, alloc, "part")).expect(rt, "memory");
     }
-    Ok(states)
-}
-
-/// Adds a state.
-fn add_state(alloc: Global, states: &mut Vec<Pattern>) -> Result<(), TreeFault> {
-    match states.push(state(alloc, "part")?) {
-        Ok(()) => Ok(()),
-        Err(_) => Err(TreeFault::Memory),
-    }
+    states
 }
 
 /// The id of a claim.
 const CLAIM: &str = "m0123456789abcdef0123456789abcdef0123456789abcdef0123456789abcdef#12";
 
 /// A child by the rule of this id.
-fn child(alloc: Global, rule: Option<&str>) -> Result<Child, AllocError> {
-    let rule = match rule {
-        Some(id) => Some(String::from_str(alloc, id)?),
-        None => None,
-    };
-    let state = state(alloc, "child")?;
-    Ok(Child { state, rule })
-}
-
-/// Adds a child by the rule of this id.
-fn add_child(
-    alloc: Global,
-    rule: Option<&str>,
-    children: &mut Vec<Child>,
-) -> Result<(), TreeFault> {
-    match children.push(child(alloc, rule)?) {
-        Ok(()) => Ok(()),
-        Err(_) => Err(TreeFault::Memory),
+fn child(rt: &impl Abort, alloc: Global, rule: Option<String>) -> Child {
+    Child {
+        state: state(rt, alloc, "child"),
+        rule,
     }
 }
 
 /// Three children: by a rule, by a claim, and by neither.
-fn children(alloc: Global) -> Result<Vec<Child>, TreeFault> {
-    let mut children = Vec::new(alloc);
-    add_child(alloc, Some("TOYS#1"), &mut children)?;
-    add_child(alloc, Some(CLAIM), &mut children)?;
-    add_child(alloc, None, &mut children)?;
-    Ok(children)
+fn children(rt: &impl Abort, alloc: Global) -> Vec<Child> {
+    let by_rule = child(rt, alloc, Some(text(rt, alloc, "TOYS#1")));
+    let by_claim = child(rt, alloc, Some(text(rt, alloc, CLAIM)));
+    let by_neither = child(rt, alloc, None);
+    vec![in alloc; by_rule, by_claim, by_neither].expect(rt, "memory")
 }
 
 /// The tree of a claim from `first`.
-fn tree(alloc: Global) -> Result<Tree, AllocError> {
-    let left = state(alloc, "first")?;
-    let right = state(alloc, "last")?;
-    Tree::new(alloc, &Claim { left, right })
+fn tree(rt: &impl Abort, alloc: Global) -> Tree {
+    let claim = Claim {
+        left: state(rt, alloc, "first"),
+        right: state(rt, alloc, "last"),
+    };
+    Tree::new(alloc, &claim).expect(rt, "memory")
 }
 
 /// The node of a number.
@@ -97,9 +77,9 @@ enum Step {
 }
 
 /// Adds edges of one step from each node up to the last.
-fn edges(alloc: Global, tree: &mut Tree, last: usize) -> Result<(), TreeFault> {
+fn edges(rt: &impl Abort, alloc: Global, tree: &mut Tree, last: usize) -> Result<(), TreeFault> {
     for number in 1..=last {
-        tree.edge(node(number), 1, state(alloc, "next")?, false)?;
+        tree.edge(node(number), 1, state(rt, alloc, "next"), false)?;
     }
     Ok(())
 }
@@ -113,33 +93,26 @@ fn covers(tree: &mut Tree, first: usize, last: usize) -> Result<(), TreeFault> {
 }
 
 /// Changes the tree by a call.
-fn take(alloc: Global, tree: &mut Tree, step: Step) -> Result<(), TreeFault> {
+fn take(rt: &impl Abort, alloc: Global, tree: &mut Tree, step: Step) -> Result<(), TreeFault> {
     match step {
-        Step::Edge(at, depth, text, terminal) => {
-            tree.edge(node(at), depth, state(alloc, text)?, terminal)
+        Step::Edge(at, depth, name, terminal) => {
+            tree.edge(node(at), depth, state(rt, alloc, name), terminal)
         }
-        Step::Split(at, count) => tree.split(alloc, node(at), states(alloc, count)?),
-        Step::Branch(at) => tree.branch(alloc, node(at), children(alloc)?),
+        Step::Split(at, count) => tree.split(alloc, node(at), states(rt, alloc, count)),
+        Step::Branch(at) => tree.branch(alloc, node(at), children(rt, alloc)),
         Step::Cover(at) => tree.cover(node(at)),
         Step::Vacuous(at) => tree.vacuous(node(at)),
         Step::Stuck(at) => tree.stuck(node(at)),
         Step::Terminal(at) => tree.terminal(node(at)),
         Step::Hold(at) => tree.hold(node(at), Why::Rounds),
-        Step::EdgesUpTo(last) => edges(alloc, tree, last),
+        Step::EdgesUpTo(last) => edges(rt, alloc, tree, last),
         Step::Covers(first, last) => covers(tree, first, last),
     }
 }
 
-/// The tree after the first calls, and each refusal in the text.
-fn grown(alloc: Global, steps: &[Step], count: usize, text: &mut String) -> Result<Tree, Fail> {
-    let mut tree = tree(alloc)?;
-    for step in &steps[..count.min(steps.len())] {
-        match take(alloc, &mut tree, *step) {
-            Ok(()) => {}
-            Err(fault) => text.push_str(fault_name(fault))?,
-        }
-    }
-    Ok(tree)
+/// Adds to a text.
+fn add(rt: &impl Abort, text: &mut String, more: &str) {
+    text.push_str(more).expect(rt, "memory");
 }
 
 /// What is told of a refusal.
@@ -152,6 +125,18 @@ fn fault_name(fault: TreeFault) -> &'static str {
     }
 }
 
+/// The tree after the first calls, and each refusal in the text.
+fn grown(rt: &impl Abort, alloc: Global, steps: &[Step], count: usize, text: &mut String) -> Tree {
+    let mut tree = tree(rt, alloc);
+    for step in &steps[..count.min(steps.len())] {
+        match take(rt, alloc, &mut tree, *step) {
+            Ok(()) => {}
+            Err(fault) => add(rt, text, fault_name(fault)),
+        }
+    }
+    tree
+}
+
 /// The number of a node, 0 for none.
 fn number_of(node: Option<NodeId>) -> usize {
     match node {
@@ -161,26 +146,30 @@ fn number_of(node: Option<NodeId>) -> usize {
 }
 
 /// The numbers of the open nodes.
-fn open_numbers(alloc: Global, tree: &Tree) -> Result<String, Fail> {
+fn open_numbers(rt: &impl Abort, alloc: Global, tree: &Tree) -> String {
     let mut text = String::new(alloc);
-    for node in tree.pending(alloc)? {
+    for node in tree.pending(alloc).expect(rt, "memory") {
         let number = node.number;
-        text.push_str(&format!(in alloc; " {number}")?)?;
+        add(
+            rt,
+            &mut text,
+            &format!(in alloc; " {number}").expect(rt, "memory"),
+        );
     }
-    Ok(text)
+    text
 }
 
 /// How the tree stands: its status, how many nodes it has, which are open, and the first of these.
-fn standing(alloc: Global, tree: &Tree) -> Result<String, Fail> {
-    let open = open_numbers(alloc, tree)?;
+fn standing(rt: &impl Abort, alloc: Global, tree: &Tree) -> String {
+    let open = open_numbers(rt, alloc, tree);
     let status = tree.status();
     let count = tree.len();
     let first = number_of(tree.first_open());
-    Ok(format!(in alloc; "{status:?}: {count} nodes, open{open}, first {first}")?)
+    format!(in alloc; "{status:?}: {count} nodes, open{open}, first {first}").expect(rt, "memory")
 }
 
 /// What the node's state was found to do.
-fn arc_text(alloc: Global, arc: Option<&TreeArc>) -> Result<String, Fail> {
+fn arc_text(rt: &impl Abort, alloc: Global, arc: Option<&TreeArc>) -> String {
     match arc {
         Some(
             TreeArc::Edge {
@@ -190,42 +179,38 @@ fn arc_text(alloc: Global, arc: Option<&TreeArc>) -> Result<String, Fail> {
             },
         ) => {
             let number = to.number;
-            Ok(format!(in alloc; "edge of {depth} to {number}, terminal {terminal}")?)
+            format!(in alloc; "edge of {depth} to {number}, terminal {terminal}").expect(
+                rt, "memory",
+            )
         }
-        Some(TreeArc::Cover) => Ok(String::from_str(alloc, "cover")?),
-        Some(_) => Ok(String::from_str(alloc, "another arc")?),
-        None => Ok(String::from_str(alloc, "no arc")?),
+        Some(TreeArc::Cover) => text(rt, alloc, "cover"),
+        Some(_) => text(rt, alloc, "another arc"),
+        None => text(rt, alloc, "no arc"),
     }
 }
 
-/// What is told of a node.
-fn node_text(alloc: Global, tree: &Tree, node: NodeId) -> Result<String, Fail> {
-    if !tree.has(node) {
-        return Ok(String::from_str(alloc, "no node")?);
+/// The text of a state.
+fn name_of(state: &Pattern) -> &str {
+    match state {
+        Pattern::Literal { sort: _, text } => text.as_str(),
+        _ => "another state",
     }
-    let arc = arc_text(alloc, tree.arc(node))?;
+}
+
+/// What is told of a node: its state, where it stands and what is known of it.
+fn node_text(rt: &impl Abort, alloc: Global, tree: &Tree, node: NodeId) -> String {
+    if !tree.has(node) {
+        return text(rt, alloc, "no node");
+    }
+    let state = name_of(tree.state(node));
     let parent = number_of(tree.parent(node));
     let progress = tree.progress(node);
     let flagged = tree.flagged(node);
     let held = tree.held(node).is_some();
-    Ok(format!(in alloc;
-        "parent {parent}, progress {progress}, flagged {flagged}, held {held}, {arc}"
-    )?)
-}
-
-/// Whether the node has the state of this text.
-fn state_text(
-    alloc: Global,
-    tree: &Tree,
-    node: NodeId,
-    text: &str,
-) -> Result<&'static str, AllocError> {
-    let state = state(alloc, text)?;
-    if tree.has(node) && tree.state(node).equal(&state) {
-        Ok("its state")
-    } else {
-        Ok("another state")
-    }
+    let arc = arc_text(rt, alloc, tree.arc(node));
+    format!(in alloc;
+        "{state}: parent {parent}, progress {progress}, flagged {flagged}, held {held}, {arc}"
+    ).expect(rt, "memory")
 }
 
 /// Whether a node has progress: `+` if so, `-` if not.
@@ -238,12 +223,12 @@ fn progress_mark(tree: &Tree, node: NodeId) -> &'static str {
 }
 
 /// Which nodes have progress.
-fn progress(alloc: Global, tree: &Tree) -> Result<String, Fail> {
+fn progress(rt: &impl Abort, alloc: Global, tree: &Tree) -> String {
     let mut text = String::new(alloc);
     for number in 1..=tree.len() {
-        text.push_str(progress_mark(tree, node(number)))?;
+        add(rt, &mut text, progress_mark(tree, node(number)));
     }
-    Ok(text)
+    text
 }
 
 /// What is looked at in a tree.
@@ -255,35 +240,37 @@ enum View {
     Length,
     /// What is told of a node.
     Node(usize),
-    /// Whether a node has the state of this text.
-    State(usize, &'static str),
     /// Which nodes have progress.
     Progress,
 }
 
 /// What is told of a tree.
-fn view_text(alloc: Global, tree: &Tree, view: View) -> Result<String, Fail> {
+fn view_text(rt: &impl Abort, alloc: Global, tree: &Tree, view: View) -> String {
     match view {
-        View::Standing => standing(alloc, tree),
+        View::Standing => standing(rt, alloc, tree),
         View::Length => {
             let status = tree.status();
             let count = tree.len();
-            Ok(format!(in alloc; "{status:?}: {count} nodes")?)
+            format!(in alloc; "{status:?}: {count} nodes").expect(rt, "memory")
         }
-        View::Node(number) => node_text(alloc, tree, node(number)),
-        View::State(number, text) => {
-            Ok(String::from_str(alloc, state_text(alloc, tree, node(number), text)?)?)
-        }
-        View::Progress => progress(alloc, tree),
+        View::Node(number) => node_text(rt, alloc, tree, node(number)),
+        View::Progress => progress(rt, alloc, tree),
     }
 }
 
-/// The refusals of the first calls, and what is told of the tree after them.
-fn told(alloc: Global, steps: &[Step], count: usize, view: View) -> Result<String, Fail> {
-    let mut text = String::new(alloc);
-    let tree = grown(alloc, steps, count, &mut text)?;
-    text.push_str(&view_text(alloc, &tree, view)?)?;
-    Ok(text)
+/// Calls, how many of them are made, and what is looked at then.
+#[derive(Clone, Copy)]
+struct Look(&'static [Step], usize, View);
+
+impl Subject for Look {
+    /// The refusals of the calls, and what is told of the tree after them.
+    fn told(&self, rt: &impl Abort, alloc: Global) -> Vec<u8> {
+        let Look(steps, count, view) = *self;
+        let mut text = String::new(alloc);
+        let tree = grown(rt, alloc, steps, count, &mut text);
+        add(rt, &mut text, &view_text(rt, alloc, &tree, view));
+        text.into_bytes()
+    }
 }
 
 /// Three edges from node 1, the second terminal, and a cover.
@@ -345,137 +332,114 @@ const SIX: [Step; 7] = [
 ];
 
 /// Calls and how many of them are made, what is looked at, and what is told.
-const ROWS: [(&[Step], usize, View, &str); 21] = [
+const ROWS: [(Look, &str); 21] = [
     // three edges and a cover pass
     (
-        &CHAIN,
-        3,
-        View::Standing,
+        Look(&CHAIN, 3, View::Standing),
         "Pending: 4 nodes, open 4, first 4",
     ),
-    (&CHAIN, 4, View::Standing, "Passed: 4 nodes, open, first 0"),
-    (&CHAIN, 4, View::State(3, "third"), "its state"),
     (
-        &CHAIN,
-        4,
-        View::Node(1),
-        "parent 0, progress false, flagged false, held false, edge of 3 to 2, terminal false",
+        Look(&CHAIN, 4, View::Standing),
+        "Passed: 4 nodes, open, first 0",
     ),
     (
-        &CHAIN,
-        4,
-        View::Node(4),
-        "parent 3, progress true, flagged false, held false, cover",
+        Look(&CHAIN, 4, View::Node(3)),
+        "third: parent 2, progress true, flagged true, held false, edge of 2 to 4, terminal false",
+    ),
+    (
+        Look(&CHAIN, 4, View::Node(1)),
+        "first: parent 0, progress false, flagged false, held false, edge of 3 to 2, terminal false",
+    ),
+    (
+        Look(&CHAIN, 4, View::Node(4)),
+        "fourth: parent 3, progress true, flagged false, held false, cover",
     ),
     // refusals leave the tree
     (
-        &REFUSED,
-        6,
-        View::Standing,
+        Look(&REFUSED, 6, View::Standing),
         "no such node, no such node, not open, not open, Pending: 2 nodes, open, first 0",
     ),
     (
-        &REFUSED,
-        6,
-        View::Node(2),
-        "no such node, no such node, not open, not open, parent 1, progress true, flagged false, held true, no arc",
+        Look(&REFUSED, 6, View::Node(2)),
+        "no such node, no such node, not open, not open, second: parent 1, progress true, flagged false, held true, no arc",
     ),
     // a tree has ten thousand nodes
     (
-        &LONG_CHAIN,
-        3,
-        View::Standing,
+        Look(&LONG_CHAIN, 3, View::Standing),
         "too many nodes, not open, Pending: 10000 nodes, open 10000, first 10000",
     ),
     (
-        &LONG_CHAIN,
-        4,
-        View::Standing,
+        Look(&LONG_CHAIN, 4, View::Standing),
         "too many nodes, not open, Failed: 10000 nodes, open, first 0",
     ),
     (
-        &WIDE_SPLIT,
-        2,
-        View::Length,
+        Look(&WIDE_SPLIT, 2, View::Length),
         "too many nodes, Pending: 10000 nodes",
     ),
     (
-        &WIDE_SPLIT,
-        3,
-        View::Length,
+        Look(&WIDE_SPLIT, 3, View::Length),
         "too many nodes, Failed: 10000 nodes",
     ),
     // splits and branches keep progress
-    (&BRANCHES, 1, View::Progress, "---"),
-    (&BRANCHES, 2, View::Progress, "---+--"),
-    (&BRANCHES, 3, View::Progress, "---+--+"),
+    (Look(&BRANCHES, 1, View::Progress), "---"),
+    (Look(&BRANCHES, 2, View::Progress), "---+--"),
+    (Look(&BRANCHES, 3, View::Progress), "---+--+"),
     (
-        &BRANCHES,
-        6,
-        View::Standing,
+        Look(&BRANCHES, 6, View::Standing),
         "Pending: 7 nodes, open 6, first 6",
     ),
     (
-        &BRANCHES,
-        7,
-        View::Standing,
+        Look(&BRANCHES, 7, View::Standing),
         "Passed: 7 nodes, open, first 0",
     ),
     // a split into none is pending
     (
-        &NO_PART,
-        1,
-        View::Standing,
+        Look(&NO_PART, 1, View::Standing),
         "Pending: 1 nodes, open, first 0",
     ),
     // open nodes are told in rising order
     (
-        &SIX,
-        4,
-        View::Standing,
+        Look(&SIX, 4, View::Standing),
         "Pending: 7 nodes, open 2 5 7, first 2",
     ),
     (
-        &SIX,
-        5,
-        View::Standing,
+        Look(&SIX, 5, View::Standing),
         "Pending: 7 nodes, open 2 7, first 2",
     ),
     (
-        &SIX,
-        6,
-        View::Standing,
+        Look(&SIX, 6, View::Standing),
         "Pending: 8 nodes, open 2 8, first 2",
     ),
-    (&SIX, 7, View::Standing, "Pending: 8 nodes, open 8, first 8"),
+    (
+        Look(&SIX, 7, View::Standing),
+        "Pending: 8 nodes, open 8, first 8",
+    ),
 ];
 
+/// Proof trees as they are told after calls, refused ones among them.
 #[test]
-fn trees_are_told(rt: HostRuntime) -> Result<(), Fail> {
-    for (steps, count, view, wanted) in ROWS {
-        assert_eq!(rt; told(rt.alloc(), steps, count, view)?.as_str(), wanted);
-    }
-    Ok(())
+fn trees_are_told(rt: HostRuntime) {
+    each_is_told(&rt, rt.alloc(), &ROWS);
 }
 
 /// A split into 9,999, of which the first and the last stay open.
 const CLOSED_BETWEEN: [Step; 2] = [Step::Split(1, 9_999), Step::Covers(3, 9_999)];
 
 /// Whether the tree tells so many times that two nodes are open.
-fn tells_two(alloc: Global, tree: &Tree, times: usize) -> Result<bool, AllocError> {
+fn tells_two(rt: &impl Abort, alloc: Global, tree: &Tree, times: usize) -> bool {
     for _ in 0..times {
-        let count = tree.pending(alloc)?.len();
+        let count = tree.pending(alloc).expect(rt, "memory").len();
         if count != 2 || tree.status() != Status::Pending {
-            return Ok(false);
+            return false;
         }
     }
-    Ok(true)
+    true
 }
 
+/// A large tree tells its open nodes without a look at those that are closed.
 #[test]
-fn ten_thousand_nodes_are_asked_ten_thousand_times(rt: HostRuntime) -> Result<(), Fail> {
+fn ten_thousand_nodes_are_asked_ten_thousand_times(rt: HostRuntime) {
     let alloc = rt.alloc();
-    let tree = grown(alloc, &CLOSED_BETWEEN, 2, &mut String::new(alloc))?;
-    assert!(rt; tells_two(alloc, &tree, 10_000)?);
-    Ok(())
+    let tree = grown(&rt, alloc, &CLOSED_BETWEEN, 2, &mut String::new(alloc));
+    assert!(rt; tells_two(&rt, alloc, &tree, 10_000));
 }

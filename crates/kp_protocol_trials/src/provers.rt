@@ -1,110 +1,45 @@
+use crate::table::{Subject, bytes, each_is_told, is_told, text};
 use kp_claims::ClaimItem;
-use kp_client::{Link, Outcome, ProveFault, ProveOptions, ScriptLink, prove, prove_claim};
+use kp_client::{Outcome, ProveOptions, ScriptLink, prove, prove_claim};
 use kp_graph::{NodeId, Tree, Why};
-use kp_kore::{Claim, Pattern, Sort};
-use kp_replies::{executed_text, implied_text};
+use kp_kore::{Claim, Pattern};
 use kp_report::{Line, report_text};
-use kp_results::{Executed, Implied, Reason, State};
-use kp_rpc::Id;
-use std::alloc::{AllocError, Global};
-use std::test::Fail;
+use std::alloc::Global;
+use std::process::Abort;
 
 /// A state: a symbol without arguments.
-fn state(alloc: Global, name: &str) -> Result<Pattern, AllocError> {
-    Ok(Pattern::Application {
-        symbol: String::from_str(alloc, name)?,
+fn state(rt: &impl Abort, alloc: Global, name: &str) -> Pattern {
+    Pattern::Application {
+        symbol: text(rt, alloc, name),
         sorts: Vec::new(alloc),
         arguments: Vec::new(alloc),
-    })
+    }
 }
 
 /// The claim that a state reaches another.
-fn claim(alloc: Global, left: &str, right: &str) -> Result<Claim, AllocError> {
-    let left = state(alloc, left)?;
-    let right = state(alloc, right)?;
-    Ok(Claim { left, right })
-}
-
-/// `\top` of some sort.
-fn top(alloc: Global) -> Result<Pattern, AllocError> {
-    let name = String::from_str(alloc, "S")?;
-    Ok(Pattern::Top {
-        sort: Sort::Variable { name },
-    })
-}
-
-/// The line of an implication.
-fn implied(alloc: Global, implied: &Implied) -> Result<Vec<u8>, Fail> {
-    Ok(implied_text(alloc, &Id::Unsigned(1), implied)?.ok_or("no tree")?)
-}
-
-/// The line that a state is covered.
-fn covered(alloc: Global) -> Result<Vec<u8>, Fail> {
-    let predicate = top(alloc)?;
-    let substitution = top(alloc)?;
-    let valid = Implied::Valid {
-        predicate,
-        substitution,
-    };
-    implied(alloc, &valid)
-}
-
-/// The line of a run's end.
-fn executed(alloc: Global, executed: &Executed) -> Result<Vec<u8>, Fail> {
-    Ok(executed_text(alloc, &Id::Unsigned(2), executed)?.ok_or("no tree")?)
-}
-
-/// The line that a run of so many steps ended in a state.
-fn ran(alloc: Global, depth: u64, name: &str, reason: Reason) -> Result<Vec<u8>, Fail> {
-    let ended = Executed {
-        depth,
-        state: State {
-            term: state(alloc, name)?,
-            predicate: None,
-        },
-        reason,
-        next_states: Vec::new(alloc),
-    };
-    executed(alloc, &ended)
-}
-
-/// What a server replies, runs by their depth and the state that they end in.
-#[derive(Clone, Copy)]
-enum Reply {
-    Covered,
-    Uncovered,
-    Bounded(u64, &'static str),
-    Stuck(u64, &'static str),
-    Vacuous(u64, &'static str),
-}
-
-/// The line of a reply.
-fn line(alloc: Global, reply: Reply) -> Result<Vec<u8>, Fail> {
-    match reply {
-        Reply::Covered => covered(alloc),
-        Reply::Uncovered => implied(alloc, &Implied::NotValid),
-        Reply::Bounded(depth, name) => ran(alloc, depth, name, Reason::DepthBound),
-        Reply::Stuck(depth, name) => ran(alloc, depth, name, Reason::Stuck),
-        Reply::Vacuous(depth, name) => ran(alloc, depth, name, Reason::Vacuous),
+fn claim(rt: &impl Abort, alloc: Global, left: &str, right: &str) -> Claim {
+    Claim {
+        left: state(rt, alloc, left),
+        right: state(rt, alloc, right),
     }
 }
 
-/// A link to a server that gives these replies.
-fn link(alloc: Global, replies: &[Reply]) -> Result<ScriptLink, Fail> {
+/// A link to a server that gives these lines.
+fn link(rt: &impl Abort, alloc: Global, lines: &[&str]) -> ScriptLink {
     let mut script = Vec::new(alloc);
-    for reply in replies {
-        script.push(line(alloc, *reply)?)?;
+    for line in lines {
+        script.push(bytes(rt, alloc, line)).expect(rt, "memory");
     }
-    Ok(ScriptLink::new(alloc, script))
+    ScriptLink::new(alloc, script)
 }
 
 /// How a proof ended.
-fn outcome_text(alloc: Global, outcome: &Outcome) -> Result<String, AllocError> {
+fn outcome_text(rt: &impl Abort, alloc: Global, outcome: &Outcome) -> String {
     match outcome {
-        Outcome::Passed => String::from_str(alloc, "passed"),
-        Outcome::Failed { node: _ } => String::from_str(alloc, "failed"),
-        Outcome::Pending { node: _, why: _ } => String::from_str(alloc, "pending"),
-        Outcome::Refused { code } => format!(in alloc; "refused {code}"),
+        Outcome::Passed => text(rt, alloc, "passed"),
+        Outcome::Failed { node: _ } => text(rt, alloc, "failed"),
+        Outcome::Pending { node: _, why: _ } => text(rt, alloc, "pending"),
+        Outcome::Refused { code } => format!(in alloc; "refused {code}").expect(rt, "memory"),
     }
 }
 
@@ -131,21 +66,20 @@ fn last_state(tree: &Tree) -> &str {
 }
 
 /// How a proof ended, and its tree.
-fn ended(alloc: Global, outcome: &Outcome, tree: &Tree) -> Result<String, AllocError> {
-    let outcome = outcome_text(alloc, outcome)?;
+fn ended(rt: &impl Abort, alloc: Global, outcome: &Outcome, tree: &Tree) -> String {
+    let outcome = outcome_text(rt, alloc, outcome);
     let count = tree.len();
     let status = tree.status();
     let last = last_state(tree);
-    format!(in alloc; "{outcome}: {count} nodes, {status:?}, last {last}")
+    format!(in alloc; "{outcome}: {count} nodes, {status:?}, last {last}").expect(rt, "memory")
 }
 
-/// How the proof over a link from `start` to `done` ends.
-fn proved(alloc: Global, link: &mut ScriptLink, max_depth: u64) -> Result<String, AllocError> {
-    let claim = claim(alloc, "start", "done")?;
+/// How the proof over a link from `start` to `done` ends, or why it was broken off.
+fn proved(rt: &impl Abort, alloc: Global, link: &mut ScriptLink, max_depth: u64) -> String {
+    let claim = claim(rt, alloc, "start", "done");
     match prove_claim(alloc, link, &claim, &ProveOptions { max_depth }) {
-        Ok((outcome, tree)) => ended(alloc, &outcome, &tree),
-        Err(ProveFault::LinkFault) => String::from_str(alloc, "link fault"),
-        Err(ProveFault::Memory) => Err(AllocError),
+        Ok((outcome, tree)) => ended(rt, alloc, &outcome, &tree),
+        Err(fault) => format!(in alloc; "{fault:?}").expect(rt, "memory"),
     }
 }
 
@@ -157,126 +91,139 @@ fn asked(link: &ScriptLink, place: usize) -> &[u8] {
     }
 }
 
-/// How the proof from `start` to `done` over these replies ends, how often was asked and the link failed, and what was
-/// asked at a place.
-fn played(alloc: Global, replies: &[Reply], max_depth: u64, place: usize) -> Result<Vec<u8>, Fail> {
-    let mut link = link(alloc, replies)?;
-    let proved = proved(alloc, &mut link, max_depth)?;
-    let count = link.spoken.len();
-    let faults = link.faults();
-    let text = format!(in alloc; "{proved}; {count} asked, {faults} failed\n")?;
-    let mut told = Vec::from_slice(alloc, text.as_bytes())?;
-    told.extend_from_slice(asked(&link, place))?;
-    Ok(told)
+/// A proof in edges of at most so many steps over a link that gives these lines, and the place of a question.
+#[derive(Clone, Copy)]
+struct Proof(&'static [&'static str], u64, usize);
+
+impl Subject for Proof {
+    /// How the proof from `start` to `done` ends, how often was asked and the link failed, and what was asked at the place.
+    fn told(&self, rt: &impl Abort, alloc: Global) -> Vec<u8> {
+        let Proof(lines, max_depth, place) = *self;
+        let mut link = link(rt, alloc, lines);
+        let proved = proved(rt, alloc, &mut link, max_depth);
+        let count = link.spoken.len();
+        let faults = link.faults;
+        let mut told = format!(in alloc; "{proved}; {count} asked, {faults} failed\n")
+            .expect(rt, "memory")
+            .into_bytes();
+        told.extend_from_slice(asked(&link, place))
+            .expect(rt, "memory");
+        told
+    }
 }
 
-/// Two edges and a cover.
-const PASSING: [Reply; 5] = [
-    Reply::Uncovered,
-    Reply::Bounded(2, "middle"),
-    Reply::Uncovered,
-    Reply::Stuck(1, "done"),
-    Reply::Covered,
-];
+/// The reply that a state is covered.
+pub const COVERED: &str =
+    r#"{"id":1,"jsonrpc":"2.0","result":{"condition":{"predicate":{"format":"KORE","term":{"sort":{"name":"S","tag":"SortVar"},"tag":"Top"},"version":1},"substitution":{"format":"KORE","term":{"sort":{"name":"S","tag":"SortVar"},"tag":"Top"},"version":1}},"valid":true}}
+"#;
 
-/// Replies, the most steps of an edge, the place of a question, and what is told.
-const PROOFS: [(&[Reply], u64, usize, &str); 4] = [
+/// The reply that a state isn't covered.
+pub const UNCOVERED: &str = r#"{"id":1,"jsonrpc":"2.0","result":{"valid":false}}
+"#;
+
+/// The reply that a run ended at its bound.
+const BOUNDED: &str =
+    r#"{"id":2,"jsonrpc":"2.0","result":{"depth":2,"reason":"depth-bound","state":{"term":{"format":"KORE","term":{"args":[],"name":"middle","sorts":[],"tag":"App"},"version":1}}}}
+"#;
+
+/// The reply that a run got stuck.
+const STUCK: &str =
+    r#"{"id":2,"jsonrpc":"2.0","result":{"depth":1,"reason":"stuck","state":{"term":{"format":"KORE","term":{"args":[],"name":"done","sorts":[],"tag":"App"},"version":1}}}}
+"#;
+
+/// The reply that a run ended in a state without instances.
+const VACUOUS: &str =
+    r#"{"id":2,"jsonrpc":"2.0","result":{"depth":3,"reason":"vacuous","state":{"term":{"format":"KORE","term":{"args":[],"name":"middle","sorts":[],"tag":"App"},"version":1}}}}
+"#;
+
+/// Two edges and a cover.
+const PASSING: [&str; 5] = [UNCOVERED, BOUNDED, UNCOVERED, STUCK, COVERED];
+
+/// Proofs, and what is told of them.
+const PROOFS: [(Proof, &str); 4] = [
     (
-        &PASSING,
-        2,
-        0,
+        Proof(&PASSING, 2, 0),
         "passed: 3 nodes, Passed, last done; 5 asked, 0 failed\n{\"id\":1,\"jsonrpc\":\"2.0\",\"method\":\"implies\",\"params\":{\"antecedent\":{\"format\":\"KORE\",\"term\":{\"args\":[],\"name\":\"start\",\"sorts\":[],\"tag\":\"App\"},\"version\":1},\"consequent\":{\"format\":\"KORE\",\"term\":{\"args\":[],\"name\":\"done\",\"sorts\":[],\"tag\":\"App\"},\"version\":1}}}",
     ),
     (
-        &PASSING,
-        2,
-        3,
+        Proof(&PASSING, 2, 3),
         "passed: 3 nodes, Passed, last done; 5 asked, 0 failed\n{\"id\":4,\"jsonrpc\":\"2.0\",\"method\":\"execute\",\"params\":{\"max-depth\":2,\"state\":{\"format\":\"KORE\",\"term\":{\"args\":[],\"name\":\"middle\",\"sorts\":[],\"tag\":\"App\"},\"version\":1}}}",
     ),
     // a reason that the prover can't use ends the proof
     (
-        &[Reply::Uncovered, Reply::Vacuous(3, "middle")],
-        1,
-        9,
+        Proof(&[UNCOVERED, VACUOUS], 1, 9),
         "refused -32700: 1 nodes, Pending, last start; 2 asked, 0 failed\nnothing",
     ),
     // a link that fails breaks the proof off
     (
-        &[Reply::Uncovered],
-        1,
-        9,
-        "link fault; 1 asked, 1 failed\nnothing",
+        Proof(&[UNCOVERED], 1, 9),
+        "LinkFault; 1 asked, 1 failed\nnothing",
     ),
 ];
 
+/// Proofs end as the replies tell, by the questions that are asked.
 #[test]
-fn proofs_end_as_they_are_told(rt: HostRuntime) -> Result<(), Fail> {
-    for (replies, max_depth, place, wanted) in PROOFS {
-        let told = played(rt.alloc(), replies, max_depth, place)?;
-        assert_eq!(rt; told.as_slice(), wanted.as_bytes(), "{wanted}");
-    }
-    Ok(())
+fn proofs_end_as_they_are_told(rt: HostRuntime) {
+    each_is_told(&rt, rt.alloc(), &PROOFS);
 }
 
 /// A claim of a list, from a state to itself.
-fn item(alloc: Global, name: &str) -> Result<ClaimItem, AllocError> {
-    let label = String::from_str(alloc, name)?;
-    let pattern = state(alloc, name)?;
-    let claim = claim(alloc, name, name)?;
-    Ok(ClaimItem {
-        label,
-        pattern,
-        claim,
+fn item(rt: &impl Abort, alloc: Global, name: &str) -> ClaimItem {
+    ClaimItem {
+        label: text(rt, alloc, name),
+        pattern: state(rt, alloc, name),
+        claim: claim(rt, alloc, name, name),
         circular: false,
         depends: Vec::new(alloc),
-    })
-}
-
-/// How the proof over a link of the second of two claims ends.
-fn second_proved(alloc: Global, link: &mut ScriptLink) -> Result<String, AllocError> {
-    let first = item(alloc, "first")?;
-    let second = item(alloc, "second")?;
-    match prove(alloc, link, &[first, second], 1, &ProveOptions::default()) {
-        Ok((outcome, tree)) => ended(alloc, &outcome, &tree),
-        Err(_) => Err(AllocError),
     }
 }
 
+/// How the proof of the second of two claims ends, whose left side is covered.
+fn second_proved(rt: &impl Abort, alloc: Global) -> String {
+    let claims = [item(rt, alloc, "first"), item(rt, alloc, "second")];
+    let mut link = link(rt, alloc, &[COVERED]);
+    match prove(alloc, &mut link, &claims, 1, &ProveOptions::default()) {
+        Ok((outcome, tree)) => ended(rt, alloc, &outcome, &tree),
+        Err(fault) => format!(in alloc; "{fault:?}").expect(rt, "memory"),
+    }
+}
+
+/// Of a list the claim at a place is proved.
 #[test]
-fn the_claim_at_a_place_is_proved(rt: HostRuntime) -> Result<(), Fail> {
-    let mut link = link(rt.alloc(), &[Reply::Covered])?;
-    assert_eq!(rt;
-        second_proved(rt.alloc(), &mut link)?.as_str(),
-        "passed: 1 nodes, Passed, last second"
+fn the_claim_at_a_place_is_proved(rt: HostRuntime) {
+    is_told(
+        &rt,
+        rt.alloc(),
+        second_proved(&rt, rt.alloc()).as_bytes(),
+        "passed: 1 nodes, Passed, last second",
     );
-    Ok(())
 }
 
 /// A report of a claim that passed and one that is pending.
-fn report(alloc: Global) -> Result<Vec<u8>, AllocError> {
-    let first = String::from_str(alloc, "A")?;
-    let second = String::from_str(alloc, "B")?;
+fn report(rt: &impl Abort, alloc: Global) -> Vec<u8> {
     let lines = [
         Line {
-            label: first,
+            label: text(rt, alloc, "A"),
             result: Outcome::Passed,
         },
         Line {
-            label: second,
+            label: text(rt, alloc, "B"),
             result: Outcome::Pending {
                 node: NodeId { number: 12 },
                 why: Why::Nodes,
             },
         },
     ];
-    report_text(alloc, &lines)
+    report_text(alloc, &lines).expect(rt, "memory")
 }
 
+/// A report has the line of each claim, in order.
 #[test]
-fn the_lines_of_a_report_in_order(rt: HostRuntime) -> Result<(), Fail> {
-    assert_eq!(rt;
-        report(rt.alloc())?.as_slice(),
-        b"passed A\npending B node 12 nodes\n".as_slice()
+fn the_lines_of_a_report_in_order(rt: HostRuntime) {
+    is_told(
+        &rt,
+        rt.alloc(),
+        &report(&rt, rt.alloc()),
+        "passed A\npending B node 12 nodes\n",
     );
-    Ok(())
 }

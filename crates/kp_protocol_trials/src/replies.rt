@@ -1,78 +1,123 @@
+use crate::provers::{COVERED, UNCOVERED};
+use crate::table::{Subject, bytes, each_is_told, text, written};
 use kp_kore::{Pattern, Sort};
-use kp_replies::executed_text;
-use kp_results::{Executed, Reason, State};
+use kp_replies::{executed_text, implied_text};
+use kp_results::{Executed, Implied, Reason, State};
 use kp_rpc::{
     Execute, Id, Parsed, PatternFault, StateFault, fault_text, refusal_text, request_of, state_of,
 };
-use std::alloc::{AllocError, Global};
-use std::test::Fail;
+use std::alloc::Global;
+use std::process::Abort;
 
 /// What is told of a request of execute: its depth and whether it has a state.
-fn execute_text(alloc: Global, execute: &Execute) -> Result<Vec<u8>, Fail> {
+fn execute_text(rt: &impl Abort, alloc: Global, execute: &Execute) -> Vec<u8> {
     let has_state = state_of(&execute.request).is_some();
     let depth = execute.options.max_depth.unwrap_or(0);
-    let text = format!(in alloc; "depth {depth}, state {has_state}")?;
-    Ok(Vec::from_slice(alloc, text.as_bytes())?)
+    format!(in alloc; "depth {depth}, state {has_state}")
+        .expect(rt, "memory")
+        .into_bytes()
 }
 
-/// The reply to the bytes of a frame that is refused, or what is told of a request.
-fn told(alloc: Global, bytes: &[u8]) -> Result<Vec<u8>, Fail> {
-    match request_of(alloc, bytes)? {
-        Parsed::Refused(id, refusal) => Ok(refusal_text(alloc, &id, refusal)?),
-        Parsed::Execute(execute) => execute_text(alloc, &execute),
-        Parsed::Implies(_) => Ok(Vec::from_slice(alloc, b"implies")?),
+/// A frame.
+#[derive(Clone, Copy)]
+struct Frame(&'static str);
+
+impl Subject for Frame {
+    /// The reply to a frame that is refused, or what is told of a request.
+    fn told(&self, rt: &impl Abort, alloc: Global) -> Vec<u8> {
+        match request_of(alloc, self.0.as_bytes()).expect(rt, "memory") {
+            Parsed::Refused(id, refusal) => refusal_text(alloc, &id, refusal).expect(rt, "memory"),
+            Parsed::Execute(execute) => execute_text(rt, alloc, &execute),
+            Parsed::Implies(_) => bytes(rt, alloc, "implies"),
+        }
     }
 }
 
 /// Frames, and their replies or what is told of them.
-const FRAMES: [(&[u8], &[u8]); 5] = [
+const FRAMES: [(Frame, &str); 5] = [
     (
-        br#"{"jsonrpc":"2.0","method":"exec"#,
-        b"{\"error\":{\"code\":-32700,\"message\":\"Parse error\"},\"id\":null,\"jsonrpc\":\"2.0\"}\n",
+        Frame(r#"{"jsonrpc":"2.0","method":"exec"#),
+        "{\"error\":{\"code\":-32700,\"message\":\"Parse error\"},\"id\":null,\"jsonrpc\":\"2.0\"}\n",
     ),
     (
-        b"[]",
-        b"{\"error\":{\"code\":-32600,\"message\":\"Invalid Request\"},\"id\":null,\"jsonrpc\":\"2.0\"}\n",
+        Frame("[]"),
+        "{\"error\":{\"code\":-32600,\"message\":\"Invalid Request\"},\"id\":null,\"jsonrpc\":\"2.0\"}\n",
     ),
     (
-        br#"{"jsonrpc":"2.0","id":7,"method":"frobnicate"}"#,
-        b"{\"error\":{\"code\":-32601,\"message\":\"Method not found\"},\"id\":7,\"jsonrpc\":\"2.0\"}\n",
+        Frame(r#"{"jsonrpc":"2.0","id":7,"method":"frobnicate"}"#),
+        "{\"error\":{\"code\":-32601,\"message\":\"Method not found\"},\"id\":7,\"jsonrpc\":\"2.0\"}\n",
     ),
     (
-        br#"{"jsonrpc":"2.0","id":"a","method":"execute","params":{"state":{},"max-depth":-1}}"#,
-        b"{\"error\":{\"code\":-32602,\"message\":\"Invalid params\"},\"id\":\"a\",\"jsonrpc\":\"2.0\"}\n",
+        Frame(
+            r#"{"jsonrpc":"2.0","id":"a","method":"execute","params":{"state":{},"max-depth":-1}}"#,
+        ),
+        "{\"error\":{\"code\":-32602,\"message\":\"Invalid params\"},\"id\":\"a\",\"jsonrpc\":\"2.0\"}\n",
     ),
     (
-        br#" {"jsonrpc":"2.0","id":1,"method":"execute","params":{"state":{},"max-depth":5}} "#,
-        b"depth 5, state true",
+        Frame(
+            r#" {"jsonrpc":"2.0","id":1,"method":"execute","params":{"state":{},"max-depth":5}} "#,
+        ),
+        "depth 5, state true",
     ),
 ];
 
+/// Frames of execute and implies are refused or accepted.
 #[test]
-fn frames_are_refused_or_accepted(rt: HostRuntime) -> Result<(), Fail> {
-    for (frame, reply) in FRAMES {
-        assert_eq!(rt; told(rt.alloc(), frame)?.as_slice(), reply);
+fn frames_are_refused_or_accepted(rt: HostRuntime) {
+    each_is_told(&rt, rt.alloc(), &FRAMES);
+}
+
+/// The fault that there is no module of a name.
+fn no_module(rt: &impl Abort, alloc: Global) -> StateFault {
+    StateFault::NoModule {
+        name: text(rt, alloc, "NOPE"),
     }
-    Ok(())
 }
 
-/// The reply that there is no module of a name.
-fn no_module(alloc: Global) -> Result<Vec<u8>, AllocError> {
-    let id = Id::Text(String::from_str(alloc, "a")?);
-    let name = String::from_str(alloc, "NOPE")?;
-    fault_text(alloc, &id, &StateFault::NoModule { name })
+/// The fault that a pattern has another sort.
+fn other_sort(rt: &impl Abort, alloc: Global) -> StateFault {
+    StateFault::Verify(PatternFault::SortsDiffer {
+        expected: text(rt, alloc, "SortInt{}"),
+        found: text(rt, alloc, "SortBool{}"),
+    })
 }
 
-/// The reply that a pattern has another sort.
-fn other_sort(alloc: Global) -> Result<Vec<u8>, AllocError> {
-    let expected = String::from_str(alloc, "SortInt{}")?;
-    let found = String::from_str(alloc, "SortBool{}")?;
-    let fault = StateFault::Verify(PatternFault::SortsDiffer { expected, found });
-    fault_text(alloc, &Id::Unsigned(7), &fault)
+/// The reply of a fault.
+fn fault_line(rt: &impl Abort, alloc: Global, id: Id, fault: StateFault) -> Vec<u8> {
+    fault_text(alloc, &id, &fault).expect(rt, "memory")
+}
+
+/// The line of an implication.
+fn implied(rt: &impl Abort, alloc: Global, implied: Implied) -> Vec<u8> {
+    written(rt, implied_text(alloc, &Id::Unsigned(1), &implied))
+}
+
+/// `\top` of some sort.
+fn top(rt: &impl Abort, alloc: Global) -> Pattern {
+    Pattern::Top {
+        sort: Sort::Variable {
+            name: text(rt, alloc, "S"),
+        },
+    }
+}
+
+/// An implication that holds of all values.
+fn valid(rt: &impl Abort, alloc: Global) -> Implied {
+    Implied::Valid {
+        predicate: top(rt, alloc),
+        substitution: top(rt, alloc),
+    }
 }
 
 /// The line with the result of a run that ended in this term.
-fn ran(alloc: Global, id: Id, depth: u64, reason: Reason, term: Pattern) -> Result<Vec<u8>, Fail> {
+fn ran(
+    rt: &impl Abort,
+    alloc: Global,
+    id: Id,
+    depth: u64,
+    reason: Reason,
+    term: Pattern,
+) -> Vec<u8> {
     let executed = Executed {
         depth,
         state: State {
@@ -82,27 +127,26 @@ fn ran(alloc: Global, id: Id, depth: u64, reason: Reason, term: Pattern) -> Resu
         reason,
         next_states: Vec::new(alloc),
     };
-    Ok(executed_text(alloc, &id, &executed)?.ok_or("no tree")?)
+    written(rt, executed_text(alloc, &id, &executed))
 }
 
-/// The line of a run that got stuck at `Lbldone`.
-fn stuck(alloc: Global) -> Result<Vec<u8>, Fail> {
-    let done = Pattern::Application {
-        symbol: String::from_str(alloc, "Lbldone")?,
+/// The state `Lbldone`.
+fn done(rt: &impl Abort, alloc: Global) -> Pattern {
+    Pattern::Application {
+        symbol: text(rt, alloc, "Lbldone"),
         sorts: Vec::new(alloc),
         arguments: Vec::new(alloc),
-    };
-    ran(alloc, Id::Unsigned(1), 3, Reason::Stuck, done)
+    }
 }
 
-/// The line of a run that ended at its bound in a variable.
-fn bounded(alloc: Global) -> Result<Vec<u8>, Fail> {
-    let name = String::from_str(alloc, "X")?;
-    let sort = Sort::Variable {
-        name: String::from_str(alloc, "S")?,
-    };
-    let open = Pattern::Variable { name, sort };
-    ran(alloc, Id::Signed(-1), 10_000, Reason::DepthBound, open)
+/// A variable.
+fn open_state(rt: &impl Abort, alloc: Global) -> Pattern {
+    Pattern::Variable {
+        name: text(rt, alloc, "X"),
+        sort: Sort::Variable {
+            name: text(rt, alloc, "S"),
+        },
+    }
 }
 
 /// A line that is written.
@@ -110,22 +154,48 @@ fn bounded(alloc: Global) -> Result<Vec<u8>, Fail> {
 enum Line {
     NoModule,
     OtherSort,
+    NotValid,
+    Valid,
+    /// Of a run that got stuck at `Lbldone`.
     Stuck,
+    /// Of a run that ended at its bound in a variable.
     Bounded,
 }
 
-/// The bytes of a line.
-fn bytes_of(alloc: Global, line: Line) -> Result<Vec<u8>, Fail> {
-    match line {
-        Line::NoModule => Ok(no_module(alloc)?),
-        Line::OtherSort => Ok(other_sort(alloc)?),
-        Line::Stuck => stuck(alloc),
-        Line::Bounded => bounded(alloc),
+impl Subject for Line {
+    fn told(&self, rt: &impl Abort, alloc: Global) -> Vec<u8> {
+        match *self {
+            Line::NoModule => fault_line(
+                rt,
+                alloc,
+                Id::Text(text(rt, alloc, "a")),
+                no_module(rt, alloc),
+            ),
+            Line::OtherSort => fault_line(rt, alloc, Id::Unsigned(7), other_sort(rt, alloc)),
+            Line::NotValid => implied(rt, alloc, Implied::NotValid),
+            Line::Valid => implied(rt, alloc, valid(rt, alloc)),
+            Line::Stuck => ran(
+                rt,
+                alloc,
+                Id::Unsigned(1),
+                3,
+                Reason::Stuck,
+                done(rt, alloc),
+            ),
+            Line::Bounded => ran(
+                rt,
+                alloc,
+                Id::Signed(-1),
+                10_000,
+                Reason::DepthBound,
+                open_state(rt, alloc),
+            ),
+        }
     }
 }
 
 /// Faults and results, and their lines.
-const LINES: [(Line, &str); 4] = [
+const LINES: [(Line, &str); 6] = [
     (
         Line::NoModule,
         "{\"error\":{\"code\":3,\"data\":{\"name\":\"NOPE\"},\"message\":\"Could not find module\"},\"id\":\"a\",\"jsonrpc\":\"2.0\"}\n",
@@ -134,6 +204,8 @@ const LINES: [(Line, &str); 4] = [
         Line::OtherSort,
         "{\"error\":{\"code\":2,\"data\":{\"expected\":\"SortInt{}\",\"found\":\"SortBool{}\",\"kind\":\"V4\"},\"message\":\"Could not verify pattern\"},\"id\":7,\"jsonrpc\":\"2.0\"}\n",
     ),
+    (Line::NotValid, UNCOVERED),
+    (Line::Valid, COVERED),
     (
         Line::Stuck,
         "{\"id\":1,\"jsonrpc\":\"2.0\",\"result\":{\"depth\":3,\"reason\":\"stuck\",\"state\":{\"term\":{\"format\":\"KORE\",\"term\":{\"args\":[],\"name\":\"Lbldone\",\"sorts\":[],\"tag\":\"App\"},\"version\":1}}}}\n",
@@ -144,14 +216,8 @@ const LINES: [(Line, &str); 4] = [
     ),
 ];
 
+/// Faults and results are written byte by byte.
 #[test]
-fn faults_and_results_by_their_bytes(rt: HostRuntime) -> Result<(), Fail> {
-    for (which, wanted) in LINES {
-        assert_eq!(rt;
-            bytes_of(rt.alloc(), which)?.as_slice(),
-            wanted.as_bytes(),
-            "{wanted}"
-        );
-    }
-    Ok(())
+fn faults_and_results_by_their_bytes(rt: HostRuntime) {
+    each_is_told(&rt, rt.alloc(), &LINES);
 }

@@ -1,40 +1,78 @@
+use crate::table::{Subject, bytes, each_is_told, text, written};
 use kp_json::pattern_of;
 use kp_kore::Pattern;
 use kp_replies::{
     AdditionFault, Failure, Method, ServerReply, SidesFault, added_text, executed_text,
     failure_text, is_rule_id, reply_of, simplified_text,
 };
-use kp_results::{Executed, Limit, NextState, Undecided, Weight};
+use kp_results::{Executed, Limit, Undecided, Weight};
 use kp_rpc::Id;
 use serde_json::Value;
 use std::alloc::Global;
-use std::test::Fail;
-
-/// The line of a result.
-fn written(alloc: Global, executed: &Executed) -> Result<Vec<u8>, Fail> {
-    Ok(executed_text(alloc, &Id::Unsigned(1), executed)?.ok_or("no tree")?)
-}
+use std::process::Abort;
 
 /// A result of execute is written again, a module's id and a code are told, of another reply its kind.
-fn reply_text(alloc: Global, reply: &ServerReply) -> Result<Vec<u8>, Fail> {
+fn reply_text(rt: &impl Abort, alloc: Global, reply: &ServerReply) -> Vec<u8> {
     match reply {
-        ServerReply::Executed(executed) => written(alloc, executed),
-        ServerReply::Implied(_) => Ok(Vec::from_slice(alloc, b"implied")?),
-        ServerReply::Simplified(_) => Ok(Vec::from_slice(alloc, b"simplified")?),
-        ServerReply::Added(id) => Ok(Vec::from_slice(alloc, id.as_bytes())?),
-        ServerReply::Failed { code } => {
-            let text = format!(in alloc; "failed {code}")?;
-            Ok(Vec::from_slice(alloc, text.as_bytes())?)
+        ServerReply::Executed(executed) => {
+            written(rt, executed_text(alloc, &Id::Unsigned(1), executed))
         }
+        ServerReply::Implied(_) => bytes(rt, alloc, "implied"),
+        ServerReply::Simplified(_) => bytes(rt, alloc, "simplified"),
+        ServerReply::Added(id) => bytes(rt, alloc, id),
+        ServerReply::Failed { code } => format!(in alloc; "failed {code}")
+            .expect(rt, "memory")
+            .into_bytes(),
     }
 }
 
 /// What a line tells who asked for this method.
-fn told(alloc: Global, method: Method, line: &str) -> Result<Vec<u8>, Fail> {
-    let reply = reply_of(alloc, method, line.as_bytes())?;
-    match &reply {
-        Some(reply) => reply_text(alloc, reply),
-        None => Ok(Vec::from_slice(alloc, b"none")?),
+fn line_told(rt: &impl Abort, alloc: Global, method: Method, line: &str) -> Vec<u8> {
+    match reply_of(alloc, method, line.as_bytes()).expect(rt, "memory") {
+        Some(reply) => reply_text(rt, alloc, &reply),
+        None => bytes(rt, alloc, "none"),
+    }
+}
+
+/// The depth of a result, and the rules that lead to its next states.
+fn rules(rt: &impl Abort, alloc: Global, executed: &Executed) -> Vec<u8> {
+    let depth = executed.depth;
+    let mut text = format!(in alloc; "{depth}:").expect(rt, "memory");
+    for next in &executed.next_states {
+        text.push_str(" ").expect(rt, "memory");
+        text.push_str(next.rule.as_deref().unwrap_or("none"))
+            .expect(rt, "memory");
+    }
+    text.into_bytes()
+}
+
+/// The depth and the rules that a reply to execute tells.
+fn rules_told(rt: &impl Abort, alloc: Global, line: &str) -> Vec<u8> {
+    match reply_of(alloc, Method::Execute, line.as_bytes()).expect(rt, "memory") {
+        Some(ServerReply::Executed(executed)) => rules(rt, alloc, &executed),
+        Some(_) | None => bytes(rt, alloc, "another reply"),
+    }
+}
+
+/// What a client hears.
+#[derive(Clone, Copy)]
+enum Heard {
+    /// A line in reply to a method.
+    Line(Method, &'static str),
+    /// The rules of a line in reply to execute.
+    Rules(&'static str),
+    /// What may be the id of a rule.
+    Name(&'static str),
+}
+
+impl Subject for Heard {
+    fn told(&self, rt: &impl Abort, alloc: Global) -> Vec<u8> {
+        match *self {
+            Heard::Line(method, line) => line_told(rt, alloc, method, line),
+            Heard::Rules(line) => rules_told(rt, alloc, line),
+            Heard::Name(name) if is_rule_id(name) => bytes(rt, alloc, "a rule"),
+            Heard::Name(_) => bytes(rt, alloc, "no rule"),
+        }
     }
 }
 
@@ -48,138 +86,156 @@ const TWO_LINES: &str =
     r#"{"id":1,"jsonrpc":"2.0","result":{"depth":0,"foreign-rule":"a\nb","reason":"aborted","state":{"term":{"format":"KORE","term":{"args":[],"name":"Lbldone","sorts":[],"tag":"App"},"version":1}}}}
 "#;
 
-/// What is asked for, a line, and what it tells.
-const TOLD: [(Method, &str, &str); 10] = [
-    (Method::Execute, BRANCHING, BRANCHING),
-    (Method::Execute, CUT_POINT, CUT_POINT),
-    (Method::Execute, TERMINAL, TERMINAL),
-    (Method::Execute, VACUOUS, VACUOUS),
-    (Method::Execute, ABORTED, ABORTED),
-    (Method::Execute, NO_NEXT_STATE, "none"),
-    (Method::Execute, TWO_LINES, "none"),
-    (Method::AddModule, ADDED, MODULE),
-    (Method::Simplify, SIMPLIFIED, "simplified"),
-    (Method::Implies, UNKNOWN, "failed 5"),
+/// What is heard, and what it tells.
+const TOLD: [(Heard, &str); 16] = [
+    (Heard::Line(Method::Execute, BRANCHING), BRANCHING),
+    (Heard::Line(Method::Execute, CUT_POINT), CUT_POINT),
+    (Heard::Line(Method::Execute, TERMINAL), TERMINAL),
+    (Heard::Line(Method::Execute, VACUOUS), VACUOUS),
+    (Heard::Line(Method::Execute, ABORTED), ABORTED),
+    (Heard::Line(Method::Execute, NO_NEXT_STATE), "none"),
+    (Heard::Line(Method::Execute, TWO_LINES), "none"),
+    (Heard::Line(Method::AddModule, ADDED), MODULE),
+    (Heard::Line(Method::Simplify, SIMPLIFIED), "simplified"),
+    (Heard::Line(Method::Implies, UNKNOWN), "failed 5"),
+    // a module's id has one form
+    (Heard::Line(Method::AddModule, ANOTHER_ID), "none"),
+    // the depth, and the rule of each next state
+    (Heard::Rules(BRANCHING), "0: TOYS.dec TOYS.stop none"),
+    // a rule's id is one word
+    (Heard::Name("TOYS.stop"), "a rule"),
+    (Heard::Name(""), "no rule"),
+    (Heard::Name("two words"), "no rule"),
+    (Heard::Name("passed T.down\nfailed"), "no rule"),
 ];
 
+/// What a client hears is told by the method that it asked for.
 #[test]
-fn replies_are_told(rt: HostRuntime) -> Result<(), Fail> {
-    for (method, line, wanted) in TOLD {
-        assert_eq!(rt;
-            told(rt.alloc(), method, line)?.as_slice(),
-            wanted.as_bytes()
-        );
-    }
-    Ok(())
+fn replies_are_told(rt: HostRuntime) {
+    each_is_told(&rt, rt.alloc(), &TOLD);
 }
 
-/// The id of the rule that leads to a state.
-fn rule_name(next: &NextState) -> &str {
-    match &next.rule {
-        Some(id) => id.as_str(),
-        None => "none",
-    }
-}
-
-/// The depth of a result, and the rules that lead to its next states.
-fn rules(alloc: Global, executed: &Executed) -> Result<String, Fail> {
-    let depth = executed.depth;
-    let mut text = format!(in alloc; "{depth}:")?;
-    for next in &executed.next_states {
-        text.push_str(" ")?;
-        text.push_str(rule_name(next))?;
-    }
-    Ok(text)
-}
-
-/// The depth and the rules that a reply to execute tells.
-fn rules_told(alloc: Global, line: &str) -> Result<String, Fail> {
-    let reply = reply_of(alloc, Method::Execute, line.as_bytes())?;
-    match &reply {
-        Some(ServerReply::Executed(executed)) => rules(alloc, executed),
-        Some(_) | None => Ok(String::from_str(alloc, "another reply")?),
-    }
-}
-
-#[test]
-fn three_next_states_are_told(rt: HostRuntime) -> Result<(), Fail> {
-    assert_eq!(rt;
-        rules_told(rt.alloc(), BRANCHING)?.as_str(),
-        "0: TOYS.dec TOYS.stop none"
-    );
-    Ok(())
-}
-
-#[test]
-fn a_rule_is_one_word(rt: HostRuntime) -> Result<(), Fail> {
-    assert!(rt; is_rule_id("TOYS.stop"));
-    assert!(rt; !is_rule_id(""));
-    assert!(rt; !is_rule_id("two words"));
-    assert!(rt; !is_rule_id("passed T.down\nfailed"));
-    Ok(())
-}
-
-/// The pattern of a tree of Kore JSON.
-fn pattern(alloc: Global, tree: &str) -> Result<Pattern, Fail> {
-    let value = Value::from_slice(alloc, tree.as_bytes())?;
+/// The predicate X * X < 0.
+fn predicate(rt: &impl Abort, alloc: Global) -> Pattern {
+    let value = Value::from_str(alloc, PREDICATE).expect(rt, "no JSON");
     match pattern_of(alloc, &value) {
-        Ok(pattern) => Ok(pattern),
-        Err(_) => Err(Fail::from("no pattern")),
+        Ok(pattern) => pattern,
+        Err(_) => panic!(rt; "no pattern"),
     }
 }
 
-/// The line of a failure.
-fn failure_line(alloc: Global, failure: &Failure) -> Result<Vec<u8>, Fail> {
-    Ok(failure_text(alloc, &Id::Unsigned(1), failure)?.ok_or("no tree")?)
+/// What wasn't decided of this predicate.
+fn unknown(rt: &impl Abort, alloc: Global, limit: Option<Limit>) -> Failure {
+    Failure::Undecided(Undecided::Predicate {
+        predicate: predicate(rt, alloc),
+        limit,
+    })
 }
 
-/// The line that a predicate wasn't decided, maybe since its bits are more than these.
-fn unknown(alloc: Global, bits: Option<u64>) -> Result<Vec<u8>, Fail> {
-    let predicate = pattern(alloc, PREDICATE)?;
-    let limit = match bits {
-        Some(number) => Some(Limit::Weighed {
-            weight: Weight::Bits,
-            number,
+/// The limit that a sum is wider than 128 bits.
+fn wide_sum(rt: &impl Abort, alloc: Global) -> Limit {
+    Limit::Number {
+        first: text(rt, alloc, "170141183460469231731687303715884105727"),
+        second: text(rt, alloc, "1"),
+        symbol: text(rt, alloc, "Lbladd"),
+    }
+}
+
+/// Why a request fails.
+#[derive(Clone, Copy)]
+enum Cause {
+    /// The predicate's bits are too many.
+    Weighed,
+    /// The predicate isn't decided.
+    Unknown,
+    /// A sum is too wide.
+    WideSum,
+    /// A variable stands in no term.
+    InNoTerm,
+    /// A sentence is of another kind.
+    OtherSentence,
+    /// A name is bound already.
+    BoundName,
+}
+
+/// The failure of a cause.
+fn failure(rt: &impl Abort, alloc: Global, cause: Cause) -> Failure {
+    match cause {
+        Cause::Weighed => unknown(
+            rt,
+            alloc,
+            Some(Limit::Weighed {
+                weight: Weight::Bits,
+                number: 130,
+            }),
+        ),
+        Cause::Unknown => unknown(rt, alloc, None),
+        Cause::WideSum => Failure::Undecided(Undecided::Limit {
+            limit: wide_sum(rt, alloc),
         }),
-        None => None,
-    };
-    failure_line(
-        alloc,
-        &Failure::Undecided(Undecided::Predicate { predicate, limit }),
-    )
+        Cause::InNoTerm => Failure::BadSides(SidesFault::NotInATerm {
+            name: text(rt, alloc, "Y"),
+        }),
+        Cause::OtherSentence => Failure::BadModule(AdditionFault::BadSentence { number: 2 }),
+        Cause::BoundName => Failure::Duplicate {
+            entry: 1,
+            name: text(rt, alloc, "EXTRA"),
+        },
+    }
 }
 
-/// The line that a sum is wider than 128 bits.
-fn wide_sum(alloc: Global) -> Result<Vec<u8>, Fail> {
-    let first = String::from_str(alloc, "170141183460469231731687303715884105727")?;
-    let second = String::from_str(alloc, "1")?;
-    let symbol = String::from_str(alloc, "Lbladd")?;
-    let limit = Limit::Number {
-        first,
-        second,
-        symbol,
-    };
-    failure_line(alloc, &Failure::Undecided(Undecided::Limit { limit }))
+/// A line that is written.
+#[derive(Clone, Copy)]
+enum Line {
+    Failed(Cause),
+    /// A module was added, of this id.
+    Added(&'static str),
+    /// The predicate, as it is simplified.
+    Simplified,
 }
 
-/// The line that a variable stands in no term.
-fn in_no_term(alloc: Global) -> Result<Vec<u8>, Fail> {
-    let name = String::from_str(alloc, "Y")?;
-    failure_line(alloc, &Failure::BadSides(SidesFault::NotInATerm { name }))
+impl Subject for Line {
+    fn told(&self, rt: &impl Abort, alloc: Global) -> Vec<u8> {
+        let id = Id::Unsigned(1);
+        match *self {
+            Line::Failed(cause) => {
+                written(rt, failure_text(alloc, &id, &failure(rt, alloc, cause)))
+            }
+            Line::Added(module) => added_text(alloc, &id, module).expect(rt, "memory"),
+            Line::Simplified => written(rt, simplified_text(alloc, &id, &predicate(rt, alloc))),
+        }
+    }
 }
 
-/// The line that a sentence is of another kind.
-fn other_sentence(alloc: Global) -> Result<Vec<u8>, Fail> {
-    failure_line(
-        alloc,
-        &Failure::BadModule(AdditionFault::BadSentence { number: 2 }),
-    )
-}
+/// Failures and results, and their lines.
+const LINES: [(Line, &str); 9] = [
+    (Line::Failed(Cause::Weighed), UNKNOWN),
+    (Line::Failed(Cause::Unknown), UNKNOWN_ALONE),
+    (
+        Line::Failed(Cause::WideSum),
+        "{\"error\":{\"code\":5,\"data\":{\"limit\":{\"first\":\"170141183460469231731687303715884105727\",\"name\":\"number\",\"second\":\"1\",\"symbol\":\"Lbladd\"}},\"message\":\"Undecided\"},\"id\":1,\"jsonrpc\":\"2.0\"}\n",
+    ),
+    (
+        Line::Failed(Cause::InNoTerm),
+        "{\"error\":{\"code\":4,\"data\":{\"kind\":\"I1\",\"name\":\"Y\"},\"message\":\"Implication check error\"},\"id\":1,\"jsonrpc\":\"2.0\"}\n",
+    ),
+    (
+        Line::Failed(Cause::OtherSentence),
+        "{\"error\":{\"code\":8,\"data\":{\"kind\":\"M7\",\"sentence\":2},\"message\":\"Invalid module\"},\"id\":1,\"jsonrpc\":\"2.0\"}\n",
+    ),
+    (
+        Line::Failed(Cause::BoundName),
+        "{\"error\":{\"code\":9,\"data\":{\"entry\":1,\"name\":\"EXTRA\"},\"message\":\"Duplicate module\"},\"id\":1,\"jsonrpc\":\"2.0\"}\n",
+    ),
+    (Line::Added(MODULE), ADDED),
+    (Line::Added("mba78"), ANOTHER_ID),
+    (Line::Simplified, SIMPLIFIED),
+];
 
-/// The line that a name is bound already.
-fn bound_name(alloc: Global) -> Result<Vec<u8>, Fail> {
-    let name = String::from_str(alloc, "EXTRA")?;
-    failure_line(alloc, &Failure::Duplicate { entry: 1, name })
+/// Failures and results are written byte by byte.
+#[test]
+fn failures_and_results_are_written(rt: HostRuntime) {
+    each_is_told(&rt, rt.alloc(), &LINES);
 }
 
 /// The id of a module that was added.
@@ -190,87 +246,9 @@ const ADDED: &str =
     r#"{"id":1,"jsonrpc":"2.0","result":{"module":"mba7816bf8f01cfea414140de5dae2223b00361a396177a9cb410ff61f20015ad"}}
 "#;
 
-/// Whether what is written of an id that has another form isn't read.
-fn another_id_is_not_read(alloc: Global) -> Result<bool, Fail> {
-    let line = added_text(alloc, &Id::Unsigned(1), "mba78")?;
-    let reply = reply_of(alloc, Method::AddModule, &line)?;
-    Ok(reply.is_none())
-}
-
-#[test]
-fn an_added_module_has_an_id(rt: HostRuntime) -> Result<(), Fail> {
-    assert!(rt; another_id_is_not_read(rt.alloc())?);
-    Ok(())
-}
-
-/// The line of a state that is simplified.
-fn simplified(alloc: Global) -> Result<Vec<u8>, Fail> {
-    let state = pattern(alloc, PREDICATE)?;
-    Ok(simplified_text(alloc, &Id::Unsigned(1), &state)?.ok_or("no tree")?)
-}
-
-/// A line that is written.
-#[derive(Clone, Copy)]
-enum Line {
-    Weighed,
-    Unknown,
-    WideSum,
-    InNoTerm,
-    OtherSentence,
-    BoundName,
-    Added,
-    Simplified,
-}
-
-/// The bytes of a line.
-fn bytes_of(alloc: Global, line: Line) -> Result<Vec<u8>, Fail> {
-    match line {
-        Line::Weighed => unknown(alloc, Some(130)),
-        Line::Unknown => unknown(alloc, None),
-        Line::WideSum => wide_sum(alloc),
-        Line::InNoTerm => in_no_term(alloc),
-        Line::OtherSentence => other_sentence(alloc),
-        Line::BoundName => bound_name(alloc),
-        Line::Added => Ok(added_text(alloc, &Id::Unsigned(1), MODULE)?),
-        Line::Simplified => simplified(alloc),
-    }
-}
-
-/// Failures and results, and their lines.
-const LINES: [(Line, &str); 8] = [
-    (Line::Weighed, UNKNOWN),
-    (Line::Unknown, UNKNOWN_ALONE),
-    (
-        Line::WideSum,
-        "{\"error\":{\"code\":5,\"data\":{\"limit\":{\"first\":\"170141183460469231731687303715884105727\",\"name\":\"number\",\"second\":\"1\",\"symbol\":\"Lbladd\"}},\"message\":\"Undecided\"},\"id\":1,\"jsonrpc\":\"2.0\"}\n",
-    ),
-    (
-        Line::InNoTerm,
-        "{\"error\":{\"code\":4,\"data\":{\"kind\":\"I1\",\"name\":\"Y\"},\"message\":\"Implication check error\"},\"id\":1,\"jsonrpc\":\"2.0\"}\n",
-    ),
-    (
-        Line::OtherSentence,
-        "{\"error\":{\"code\":8,\"data\":{\"kind\":\"M7\",\"sentence\":2},\"message\":\"Invalid module\"},\"id\":1,\"jsonrpc\":\"2.0\"}\n",
-    ),
-    (
-        Line::BoundName,
-        "{\"error\":{\"code\":9,\"data\":{\"entry\":1,\"name\":\"EXTRA\"},\"message\":\"Duplicate module\"},\"id\":1,\"jsonrpc\":\"2.0\"}\n",
-    ),
-    (Line::Added, ADDED),
-    (Line::Simplified, SIMPLIFIED),
-];
-
-#[test]
-fn failures_and_results_are_written(rt: HostRuntime) -> Result<(), Fail> {
-    for (which, wanted) in LINES {
-        assert_eq!(rt;
-            bytes_of(rt.alloc(), which)?.as_slice(),
-            wanted.as_bytes(),
-            "{wanted}"
-        );
-    }
-    Ok(())
-}
+/// The reply that a module was added whose id has another form.
+const ANOTHER_ID: &str = r#"{"id":1,"jsonrpc":"2.0","result":{"module":"mba78"}}
+"#;
 
 /// `count(X)` has three cases: `TOYS.dec` where X > 0, `TOYS.stop` where X = 0, and neither.
 const BRANCHING: &str =

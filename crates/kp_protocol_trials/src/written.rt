@@ -1,10 +1,11 @@
+use crate::table::{Subject, each_is_told, text, written};
 use kp_kore::{Pattern, Sort};
 use kp_requests::{
     Asked, Call, Parsed, Reading, Request, add_module_text, request_of, simplify_text,
 };
 use kp_rpc::{Id, Options, Question, question_text};
-use std::alloc::{AllocError, Global};
-use std::test::Fail;
+use std::alloc::Global;
+use std::process::Abort;
 
 /// Whether a state was read.
 fn kind_of(state: &Reading) -> &'static str {
@@ -15,86 +16,67 @@ fn kind_of(state: &Reading) -> &'static str {
 }
 
 /// What a request asks.
-fn request_text(alloc: Global, request: &Request) -> Result<String, AllocError> {
+fn request_text(rt: &impl Abort, alloc: Global, request: &Request) -> String {
     match request {
         Request::Execute { state, options } => {
             let kind = kind_of(state);
             let depth = options.max_depth.unwrap_or(0);
             let count = options.cut_points.len();
-            format!(in alloc; "execute {kind}, depth {depth}, cut points {count}")
+            format!(in alloc; "execute {kind}, depth {depth}, cut points {count}").expect(
+                rt, "memory",
+            )
         }
         Request::Implies {
             antecedent: _,
             consequent: _,
             module_name: _,
-        } => String::from_str(alloc, "implies"),
+        } => text(rt, alloc, "implies"),
         Request::Simplify { state, module_name } => {
             let kind = kind_of(state);
             let is_named = module_name.is_some();
-            format!(in alloc; "simplify {kind}, named module {is_named}")
+            format!(in alloc; "simplify {kind}, named module {is_named}").expect(rt, "memory")
         }
         Request::AddModule { text, name_as_id } => {
-            format!(in alloc; "add-module {text}, own name {name_as_id}")
+            format!(in alloc; "add-module {text}, own name {name_as_id}").expect(rt, "memory")
         }
-    }
-}
-
-/// What a call asks.
-fn call_text(alloc: Global, call: &Call) -> Result<String, AllocError> {
-    match &call.asked {
-        Asked::Request(request) => request_text(alloc, request),
-        Asked::Refused(_) => String::from_str(alloc, "refused"),
     }
 }
 
 /// What is read of one request.
-fn parsed_text(alloc: Global, parsed: &Parsed) -> Result<String, AllocError> {
+fn parsed_text(rt: &impl Abort, alloc: Global, parsed: &Parsed) -> String {
     match parsed {
-        Parsed::Single(call) => call_text(alloc, call),
-        Parsed::Batch(_) => String::from_str(alloc, "batch"),
-        Parsed::Refused(_) => String::from_str(alloc, "no frame"),
+        Parsed::Single(
+            Call {
+                id: _,
+                asked: Asked::Request(request),
+            },
+        ) => request_text(rt, alloc, request),
+        Parsed::Single(_) | Parsed::Batch(_) | Parsed::Refused(_) => text(rt, alloc, "refused"),
     }
 }
 
-/// What the bytes of one request ask.
-fn asked(alloc: Global, bytes: &[u8]) -> Result<String, AllocError> {
-    let parsed = request_of(alloc, bytes)?;
-    parsed_text(alloc, &parsed)
-}
-
 /// `\top` of some sort.
-fn top(alloc: Global) -> Result<Pattern, AllocError> {
-    let name = String::from_str(alloc, "SortS")?;
-    Ok(Pattern::Top {
+fn top(rt: &impl Abort, alloc: Global) -> Pattern {
+    Pattern::Top {
         sort: Sort::App {
-            name,
+            name: text(rt, alloc, "SortS"),
             arguments: Vec::new(alloc),
         },
-    })
+    }
 }
 
-/// A request to simplify `\top`.
-fn simplify(alloc: Global) -> Result<Vec<u8>, Fail> {
-    let state = top(alloc)?;
-    Ok(simplify_text(alloc, &Id::Unsigned(7), &state, &None)?.ok_or("no tree")?)
-}
-
-/// A question of execute with a bound and a cut point.
-fn execute(alloc: Global) -> Result<Vec<u8>, Fail> {
-    let rule = String::from_str(alloc, "A.b")?;
-    let cut_points = vec![in alloc; rule]?;
-    let state = top(alloc)?;
-    let question = Question::Execute {
+/// A question of execute from `\top` with a bound and a cut point.
+fn question(rt: &impl Abort, alloc: Global) -> Question {
+    Question::Execute {
         id: Id::Unsigned(1),
-        state,
+        state: top(rt, alloc),
         options: Options {
             max_depth: Some(12_000),
             module_name: None,
-            cut_points,
+            cut_points: vec![in alloc; text(rt, alloc, "A.b")].expect(rt, "memory"),
             terminals: Vec::new(alloc),
         },
-    };
-    Ok(question_text(alloc, &question)?.ok_or("no tree")?)
+    }
 }
 
 /// What a client asks.
@@ -107,45 +89,59 @@ enum Wanted {
 }
 
 /// The bytes of what a client asks.
-fn bytes_of(alloc: Global, wanted: Wanted) -> Result<Vec<u8>, Fail> {
+fn bytes_of(rt: &impl Abort, alloc: Global, wanted: Wanted) -> Vec<u8> {
     match wanted {
-        Wanted::Simplify => simplify(alloc),
-        Wanted::AddModule => Ok(add_module_text(alloc, &Id::Null, "module M endmodule []", true)?),
-        Wanted::AddNothing => Ok(add_module_text(alloc, &Id::Signed(-1), "", false)?),
-        Wanted::Execute => execute(alloc),
+        Wanted::Simplify => written(
+            rt,
+            simplify_text(alloc, &Id::Unsigned(7), &top(rt, alloc), &None),
+        ),
+        Wanted::AddModule => add_module_text(
+            alloc,
+            &Id::Null,
+            "module M endmodule []",
+            true,
+        ).expect(rt, "memory"),
+        Wanted::AddNothing => add_module_text(alloc, &Id::Signed(-1), "", false).expect(
+            rt, "memory",
+        ),
+        Wanted::Execute => written(rt, question_text(alloc, &question(rt, alloc))),
     }
 }
 
-/// What a client asks, its bytes, and what is read of them. The own name is bound only where it is asked.
-const ROWS: [(Wanted, &str, &str); 4] = [
+impl Subject for Wanted {
+    /// The bytes, and in a line of their own what is read of them.
+    fn told(&self, rt: &impl Abort, alloc: Global) -> Vec<u8> {
+        let mut told = bytes_of(rt, alloc, *self);
+        let parsed = request_of(alloc, &told).expect(rt, "memory");
+        let read = parsed_text(rt, alloc, &parsed);
+        told.extend_from_slice(b"\n").expect(rt, "memory");
+        told.extend_from_slice(read.as_bytes()).expect(rt, "memory");
+        told
+    }
+}
+
+/// What a client asks, its bytes, and behind them what is read of them. The own name is bound only where it is asked.
+const ROWS: [(Wanted, &str); 4] = [
     (
         Wanted::Simplify,
-        "{\"id\":7,\"jsonrpc\":\"2.0\",\"method\":\"simplify\",\"params\":{\"state\":{\"format\":\"KORE\",\"term\":{\"sort\":{\"args\":[],\"name\":\"SortS\",\"tag\":\"SortApp\"},\"tag\":\"Top\"},\"version\":1}}}",
-        "simplify pattern, named module false",
+        "{\"id\":7,\"jsonrpc\":\"2.0\",\"method\":\"simplify\",\"params\":{\"state\":{\"format\":\"KORE\",\"term\":{\"sort\":{\"args\":[],\"name\":\"SortS\",\"tag\":\"SortApp\"},\"tag\":\"Top\"},\"version\":1}}}\nsimplify pattern, named module false",
     ),
     (
         Wanted::AddModule,
-        "{\"id\":null,\"jsonrpc\":\"2.0\",\"method\":\"add-module\",\"params\":{\"module\":\"module M endmodule []\",\"name-as-id\":true}}",
-        "add-module module M endmodule [], own name true",
+        "{\"id\":null,\"jsonrpc\":\"2.0\",\"method\":\"add-module\",\"params\":{\"module\":\"module M endmodule []\",\"name-as-id\":true}}\nadd-module module M endmodule [], own name true",
     ),
     (
         Wanted::AddNothing,
-        "{\"id\":-1,\"jsonrpc\":\"2.0\",\"method\":\"add-module\",\"params\":{\"module\":\"\"}}",
-        "add-module , own name false",
+        "{\"id\":-1,\"jsonrpc\":\"2.0\",\"method\":\"add-module\",\"params\":{\"module\":\"\"}}\nadd-module , own name false",
     ),
     (
         Wanted::Execute,
-        "{\"id\":1,\"jsonrpc\":\"2.0\",\"method\":\"execute\",\"params\":{\"cut-point-rules\":[\"A.b\"],\"max-depth\":12000,\"state\":{\"format\":\"KORE\",\"term\":{\"sort\":{\"args\":[],\"name\":\"SortS\",\"tag\":\"SortApp\"},\"tag\":\"Top\"},\"version\":1}}}",
-        "execute pattern, depth 12000, cut points 1",
+        "{\"id\":1,\"jsonrpc\":\"2.0\",\"method\":\"execute\",\"params\":{\"cut-point-rules\":[\"A.b\"],\"max-depth\":12000,\"state\":{\"format\":\"KORE\",\"term\":{\"sort\":{\"args\":[],\"name\":\"SortS\",\"tag\":\"SortApp\"},\"tag\":\"Top\"},\"version\":1}}}\nexecute pattern, depth 12000, cut points 1",
     ),
 ];
 
+/// What a client asks is written byte by byte, and read back.
 #[test]
-fn what_a_client_asks_is_read_back(rt: HostRuntime) -> Result<(), Fail> {
-    for (wanted, text, told) in ROWS {
-        let bytes = bytes_of(rt.alloc(), wanted)?;
-        assert!(rt; bytes.as_slice() == text.as_bytes(), "{told}");
-        assert_eq!(rt; asked(rt.alloc(), &bytes)?.as_str(), told);
-    }
-    Ok(())
+fn what_a_client_asks_is_read_back(rt: HostRuntime) {
+    each_is_told(&rt, rt.alloc(), &ROWS);
 }
