@@ -1,5 +1,6 @@
 // The parts of a part where a rule doesn't fire.
 ghost use Rattle.std.specs.Prelude.{◌≡◌, [], ◌∷◌, IfOk, OnOk};
+ghost use Rattle.kp_symbolic.specs.View.{state_view};
 ghost use Rattle.kp_unify.specs.Views.{signature_of, numbered_view, HasItsTable};
 ghost use Rattle.kp_firing.specs.Firings.{numbered, clauses_of_firing};
 ghost use Rattle.kp_firing.specs.Promises.{TellsNowhere, AddsExcluded, KeepsExcluded, opposite_of_firing, ExcludesFiring, ExcludesFiringOn, ExcludesRule};
