@@ -1,231 +1,149 @@
+use crate::forms::add_clauses;
+use crate::module::SMALL;
+use crate::rows::{Asked, Table, first_failed};
 use kp_clauses::clauses_of;
 use kp_kore::Pattern;
-use kp_signature::Signature;
-use kp_symbolic::{Atom, Clause, Language, Literal};
-use kp_text::{read_module, read_pattern};
-use std::alloc::Global;
+use kp_replacing::open_clause;
+use kp_symbolic::{Clause, Language, Replaced};
+use std::alloc::{AllocError, Global};
 use std::test::Fail;
 
-/// Numbers, truth values with their functions, three constructors of S and a foreign symbol.
-const SMALL: &str = r#"module SMALL
-  hooked-sort Int{} [hook{}("INT.Int")]
-  hooked-sort Bool{} [hook{}("BOOL.Bool")]
-  sort S{} []
-  symbol f{}(Int{}) : S{} [constructor{}()]
-  symbol g{}(S{}) : S{} [constructor{}()]
-  symbol pair{}(Int{}, S{}) : S{} [constructor{}()]
-  symbol h{}(S{}) : S{} []
-  hooked-symbol and{}(Bool{}, Bool{}) : Bool{} [hook{}("BOOL.and")]
-endmodule []
-"#;
-
-/// The signature of the module.
-pub fn signature(alloc: Global) -> Result<Signature, Fail> {
-    let module = read_module(alloc, SMALL.as_bytes()).map_err(|_| "no module")?;
-    Ok(Signature::new(alloc, &[&module])?)
-}
-
-/// The mark of a literal's kind: none for an equality.
-fn kind(literal: &Literal) -> &'static str {
-    match literal.atom {
-        Atom::Same { .. } => "",
-        Atom::Head { .. } => "h",
-        Atom::Quoted { .. } => "q",
+/// Adds the form of the clauses of a predicate.
+pub(crate) fn clauses_told(
+    alloc: Global,
+    language: &Language,
+    pattern: &Pattern,
+    told: &mut String,
+) -> Result<(), AllocError> {
+    match clauses_of(alloc, language, &[], pattern) {
+        Ok(clauses) => add_clauses(&clauses, told),
+        Err(_) => told.push_str("no clauses"),
     }
 }
 
-/// Adds a clause's form: its literals by their signs and kinds, in square brackets.
-fn add_form(clause: &Clause, form: &mut String) -> Result<(), Fail> {
-    form.push_str("[")?;
-    for literal in &*clause.literals {
-        form.push_str(if literal.holds { "+" } else { "-" })?;
-        form.push_str(kind(literal))?;
+/// Adds the form of the clauses that the clauses of a predicate are opened to with terms in the place of variables.
+pub(crate) fn again_told(
+    alloc: Global,
+    language: &Language,
+    replaced: &[Replaced],
+    pattern: &Pattern,
+    told: &mut String,
+) -> Result<(), AllocError> {
+    let Ok(clauses) = clauses_of(alloc, language, &[], pattern) else {
+        return told.push_str("no clauses");
+    };
+    for clause in &clauses {
+        clause_told(alloc, language, replaced, clause, told)?;
     }
-    form.push_str("]")?;
     Ok(())
 }
 
-/// Whether the clauses have this form.
-pub fn have_form(alloc: Global, clauses: &[Clause], wanted: &str) -> Result<bool, Fail> {
-    let mut form = String::new(alloc);
-    for clause in clauses {
-        add_form(clause, &mut form)?;
+/// The same of a clause.
+fn clause_told(
+    alloc: Global,
+    language: &Language,
+    replaced: &[Replaced],
+    clause: &Clause,
+    told: &mut String,
+) -> Result<(), AllocError> {
+    match open_clause(alloc, language, replaced, clause) {
+        Ok(opened) => add_clauses(&opened.clauses, told),
+        Err(_) => told.push_str("not opened"),
     }
-    Ok(form.as_str() == wanted)
 }
 
-/// The clauses of a predicate, over a signature.
-fn read_over(alloc: Global, signature: &Signature, pattern: &Pattern) -> Result<Vec<Clause>, Fail> {
-    let language = Language::new(alloc, signature)?;
-    Ok(clauses_of(alloc, &language, &[], pattern).map_err(|_| "no clauses")?)
-}
+/// Connectives are opened with their sign.
+const CONNECTIVES: &str = r##"\top{S{}}() ->
+\not{S{}}(\top{S{}}()) -> []
+\not{S{}}(\bottom{S{}}()) ->
+\and{S{}}(\equals{Int{},S{}}(X:Int{}, Y:Int{}), \not{S{}}(\equals{Int{},S{}}(X:Int{}, Z:Int{}))) -> [+][-]
+\not{S{}}(\and{S{}}(\equals{Int{},S{}}(X:Int{}, Y:Int{}), \not{S{}}(\equals{Int{},S{}}(X:Int{}, Z:Int{})))) -> [-+]
+\or{S{}}(\equals{Int{},S{}}(X:Int{}, Y:Int{}), \bottom{S{}}()) -> [+]
+\implies{S{}}(\equals{Int{},S{}}(X:Int{}, Y:Int{}), \in{Int{},S{}}(X:Int{}, Z:Int{})) -> [-+]
+\not{S{}}(\implies{S{}}(\equals{Int{},S{}}(X:Int{}, Y:Int{}), \in{Int{},S{}}(X:Int{}, Z:Int{}))) -> [+][-]
+\iff{S{}}(\equals{Int{},S{}}(X:Int{}, Y:Int{}), \equals{Int{},S{}}(X:Int{}, Z:Int{})) -> [-+][+-]
+\not{S{}}(\iff{S{}}(\equals{Int{},S{}}(X:Int{}, Y:Int{}), \equals{Int{},S{}}(X:Int{}, Z:Int{}))) -> [--][++]"##;
 
-/// Whether the predicate is read as clauses of this form.
-fn is_read_as(alloc: Global, pattern: &Pattern, wanted: &str) -> Result<bool, Fail> {
-    let signature = signature(alloc)?;
-    let clauses = read_over(alloc, &signature, pattern)?;
-    have_form(alloc, &clauses, wanted)
-}
+/// What is defined is opened.
+const DEFINED: &str = r##"\ceil{S{},S{}}(f{}(X:Int{})) ->
+\not{S{}}(\ceil{S{},S{}}(f{}(X:Int{}))) -> []
+\ceil{S{},S{}}(\and{S{}}(f{}(X:Int{}), f{}(Y:Int{}))) -> [+]
+\ceil{S{},S{}}(\and{S{}}(f{}(X:Int{}), g{}(Z:S{}))) -> []
+\ceil{S{},S{}}(\not{S{}}(\equals{Int{},S{}}(X:Int{}, Y:Int{}))) -> [-]
+\not{S{}}(\floor{S{},S{}}(Z:S{})) -> [-q]
+\floor{S{},S{}}(\equals{Int{},S{}}(X:Int{}, Y:Int{})) -> [+]"##;
 
-/// The same of a text.
-fn reads_as(alloc: Global, text: &str, wanted: &str) -> Result<bool, Fail> {
-    let pattern = read_pattern(alloc, text.as_bytes()).map_err(|_| "no pattern")?;
-    is_read_as(alloc, &pattern, wanted)
-}
+/// Questions for heads are opened.
+const HEADS: &str = r##"\exists{S{}}(X:Int{}, \equals{S{},S{}}(Z:S{}, f{}(X:Int{}))) -> [+h]
+\not{S{}}(\exists{S{}}(X:Int{}, \exists{S{}}(Y:S{}, \equals{S{},S{}}(Z:S{}, pair{}(X:Int{}, Y:S{}))))) -> [-h]
+\exists{S{}}(X:Int{}, \exists{S{}}(Y:S{}, \equals{S{},S{}}(Y:S{}, pair{}(X:Int{}, Y:S{})))) -> [+q]
+\exists{S{}}(X:Int{}, \exists{S{}}(Y:S{}, \equals{S{},S{}}(Z:S{}, f{}(X:Int{})))) -> [+q]
+\exists{S{}}(X:Int{}, \equals{S{},S{}}(g{}(Z:S{}), f{}(X:Int{}))) -> [+q]
+\not{S{}}(\exists{S{}}(X:Int{}, \equals{Int{},S{}}(Y:Int{}, X:Int{}))) -> [-q]"##;
+
+/// A clause and a literal stand once.
+const ONCE: &str =
+    r##"\and{S{}}(\equals{Int{},S{}}(X:Int{}, Y:Int{}), \equals{Int{},S{}}(X:Int{}, Y:Int{})) -> [+]
+\or{S{}}(\equals{Int{},S{}}(X:Int{}, Y:Int{}), \equals{Int{},S{}}(X:Int{}, Y:Int{})) -> [+]
+\equals{Bool{},S{}}(\dv{Bool{}}("true"), and{}(B:Bool{}, C:Bool{})) -> [+][+]"##;
+
+/// Clauses that are opened again with a term in the place of `Z`.
+const AGAIN: &str = r##"# an equality
+\equals{S{},S{}}(Z:S{}, f{}(X:Int{})) where Z = f{}(\dv{Int{}}("1")) -> [+]
+\equals{S{},S{}}(Z:S{}, f{}(X:Int{})) where Z = f{}(X:Int{}) ->
+\equals{S{},S{}}(Z:S{}, f{}(X:Int{})) where Z = g{}(W:S{}) -> []
+# one of two
+\or{S{}}(\equals{S{},S{}}(Z:S{}, f{}(X:Int{})), \equals{Int{},S{}}(X:Int{}, Y:Int{})) where Z = pair{}(X:Int{}, W:S{}) -> [+]
+\or{S{}}(\equals{S{},S{}}(Z:S{}, f{}(X:Int{})), \equals{Int{},S{}}(X:Int{}, Y:Int{})) where Z = f{}(W:Int{}) -> [++]
+# a question for a head
+\exists{S{}}(X:Int{}, \equals{S{},S{}}(Z:S{}, f{}(X:Int{}))) where Z = f{}(Y:Int{}) ->
+\exists{S{}}(X:Int{}, \equals{S{},S{}}(Z:S{}, f{}(X:Int{}))) where Z = g{}(W:S{}) -> []
+\exists{S{}}(X:Int{}, \equals{S{},S{}}(Z:S{}, f{}(X:Int{}))) where Z = W:S{} -> [+h]
+# what isn't opened
+\floor{S{},S{}}(Z:S{}) where Z = g{}(W:S{}) -> [+q]"##;
+
+/// The tables of clauses.
+const TABLES: [Table<'static>; 5] = [
+    (Asked::Clauses, CONNECTIVES),
+    (Asked::Clauses, DEFINED),
+    (Asked::Clauses, HEADS),
+    (Asked::Clauses, ONCE),
+    (Asked::Again, AGAIN),
+];
 
 #[test]
-fn connectives_are_opened_with_their_sign(rt: HostRuntime) -> Result<(), Fail> {
-    let rows = [
-        (r"\top{S{}}()", ""),
-        (r"\not{S{}}(\top{S{}}())", "[]"),
-        (r"\not{S{}}(\bottom{S{}}())", ""),
-        (
-            r"\and{S{}}(\equals{Int{},S{}}(X:Int{}, Y:Int{}), \not{S{}}(\equals{Int{},S{}}(X:Int{}, Z:Int{})))",
-            "[+][-]",
-        ),
-        (
-            r"\not{S{}}(\and{S{}}(\equals{Int{},S{}}(X:Int{}, Y:Int{}), \not{S{}}(\equals{Int{},S{}}(X:Int{}, Z:Int{}))))",
-            "[-+]",
-        ),
-        (
-            r"\or{S{}}(\equals{Int{},S{}}(X:Int{}, Y:Int{}), \bottom{S{}}())",
-            "[+]",
-        ),
-        (
-            r"\implies{S{}}(\equals{Int{},S{}}(X:Int{}, Y:Int{}), \in{Int{},S{}}(X:Int{}, Z:Int{}))",
-            "[-+]",
-        ),
-        (
-            r"\not{S{}}(\implies{S{}}(\equals{Int{},S{}}(X:Int{}, Y:Int{}), \in{Int{},S{}}(X:Int{}, Z:Int{})))",
-            "[+][-]",
-        ),
-        (
-            r"\iff{S{}}(\equals{Int{},S{}}(X:Int{}, Y:Int{}), \equals{Int{},S{}}(X:Int{}, Z:Int{}))",
-            "[-+][+-]",
-        ),
-        (
-            r"\not{S{}}(\iff{S{}}(\equals{Int{},S{}}(X:Int{}, Y:Int{}), \equals{Int{},S{}}(X:Int{}, Z:Int{})))",
-            "[--][++]",
-        ),
-    ];
-    for (text, wanted) in rows {
-        assert!(rt; reads_as(rt.alloc(), text, wanted)?);
-    }
-    Ok(())
+fn predicates_are_read_as_clauses(rt: HostRuntime) {
+    assert_eq!(rt; first_failed(rt.alloc(), SMALL, &TABLES), None);
 }
 
-#[test]
-fn what_is_defined_is_opened(rt: HostRuntime) -> Result<(), Fail> {
-    let rows = [
-        (r"\ceil{S{},S{}}(f{}(X:Int{}))", ""),
-        (r"\not{S{}}(\ceil{S{},S{}}(f{}(X:Int{})))", "[]"),
-        (
-            r"\ceil{S{},S{}}(\and{S{}}(f{}(X:Int{}), f{}(Y:Int{})))",
-            "[+]",
-        ),
-        (r"\ceil{S{},S{}}(\and{S{}}(f{}(X:Int{}), g{}(Z:S{})))", "[]"),
-        (
-            r"\ceil{S{},S{}}(\not{S{}}(\equals{Int{},S{}}(X:Int{}, Y:Int{})))",
-            "[-]",
-        ),
-        (r"\not{S{}}(\floor{S{},S{}}(Z:S{}))", "[-q]"),
-        (
-            r"\floor{S{},S{}}(\equals{Int{},S{}}(X:Int{}, Y:Int{}))",
-            "[+]",
-        ),
-    ];
-    for (text, wanted) in rows {
-        assert!(rt; reads_as(rt.alloc(), text, wanted)?);
-    }
-    Ok(())
-}
-
-#[test]
-fn questions_for_heads_are_opened(rt: HostRuntime) -> Result<(), Fail> {
-    let rows = [
-        (
-            r"\exists{S{}}(X:Int{}, \equals{S{},S{}}(Z:S{}, f{}(X:Int{})))",
-            "[+h]",
-        ),
-        (
-            r"\not{S{}}(\exists{S{}}(X:Int{}, \exists{S{}}(Y:S{}, \equals{S{},S{}}(Z:S{}, pair{}(X:Int{}, Y:S{})))))",
-            "[-h]",
-        ),
-        (
-            r"\exists{S{}}(X:Int{}, \exists{S{}}(Y:S{}, \equals{S{},S{}}(Y:S{}, pair{}(X:Int{}, Y:S{}))))",
-            "[+q]",
-        ),
-        (
-            r"\exists{S{}}(X:Int{}, \exists{S{}}(Y:S{}, \equals{S{},S{}}(Z:S{}, f{}(X:Int{}))))",
-            "[+q]",
-        ),
-        (
-            r"\exists{S{}}(X:Int{}, \equals{S{},S{}}(g{}(Z:S{}), f{}(X:Int{})))",
-            "[+q]",
-        ),
-        (
-            r"\not{S{}}(\exists{S{}}(X:Int{}, \equals{Int{},S{}}(Y:Int{}, X:Int{})))",
-            "[-q]",
-        ),
-    ];
-    for (text, wanted) in rows {
-        assert!(rt; reads_as(rt.alloc(), text, wanted)?);
-    }
-    Ok(())
-}
-
-#[test]
-fn a_clause_and_a_literal_stand_once(rt: HostRuntime) -> Result<(), Fail> {
-    let rows = [
-        (
-            r"\and{S{}}(\equals{Int{},S{}}(X:Int{}, Y:Int{}), \equals{Int{},S{}}(X:Int{}, Y:Int{}))",
-            "[+]",
-        ),
-        (
-            r"\or{S{}}(\equals{Int{},S{}}(X:Int{}, Y:Int{}), \equals{Int{},S{}}(X:Int{}, Y:Int{}))",
-            "[+]",
-        ),
-        (
-            r#"\equals{Bool{},S{}}(\dv{Bool{}}("true"), and{}(B:Bool{}, C:Bool{}))"#,
-            "[+][+]",
-        ),
-    ];
-    for (text, wanted) in rows {
-        assert!(rt; reads_as(rt.alloc(), text, wanted)?);
-    }
-    Ok(())
-}
-
-/// So many nested `\iff`s of a predicate with another.
-fn nested(alloc: Global, levels: usize, left: &str, last: &str) -> Result<String, Fail> {
-    let mut text = String::new(alloc);
+/// Adds a row of so many nested `\iff`s of a predicate with an equality.
+fn add_nest(table: &mut String, levels: usize, left: &str, told: &str) -> Result<(), AllocError> {
     for _ in 0..levels {
-        text.push_str(r"\iff{S{}}(")?;
-        text.push_str(left)?;
-        text.push_str(", ")?;
+        table.push_str(r"\iff{S{}}(")?;
+        table.push_str(left)?;
+        table.push_str(", ")?;
     }
-    text.push_str(last)?;
+    table.push_str(r"\equals{Int{},S{}}(X:Int{}, Y:Int{})")?;
     for _ in 0..levels {
-        text.push_str(")")?;
+        table.push_str(")")?;
     }
-    Ok(text)
-}
-
-/// Whether the nest is read as clauses of this form.
-fn nest_reads_as(alloc: Global, levels: usize, left: &str, wanted: &str) -> Result<bool, Fail> {
-    let text = nested(alloc, levels, left, r"\equals{Int{},S{}}(X:Int{}, Y:Int{})")?;
-    reads_as(alloc, &text, wanted)
+    table.push_str(told)
 }
 
 #[test]
 fn nested_equivalences_are_counted_as_they_are_made(rt: HostRuntime) -> Result<(), Fail> {
-    let rows = [
-        (40, r"\top{S{}}()", "[+]"),
-        (41, r"\bottom{S{}}()", "[-]"),
-        (40, r"\equals{Int{},S{}}(X:Int{}, Z:Int{})", "[+q]"),
-    ];
-    for (levels, left, wanted) in rows {
-        assert!(rt; nest_reads_as(rt.alloc(), levels, left, wanted)?);
-    }
+    let mut table = String::new(rt.alloc());
+    add_nest(&mut table, 40, r"\top{S{}}()", " -> [+]\n")?;
+    add_nest(&mut table, 41, r"\bottom{S{}}()", " -> [-]\n")?;
+    add_nest(
+        &mut table,
+        40,
+        r"\equals{Int{},S{}}(X:Int{}, Z:Int{})",
+        " -> [+q]\n",
+    )?;
+    assert_eq!(rt;
+        first_failed(rt.alloc(), SMALL, &[(Asked::Clauses, table.as_str())]),
+        None
+    );
     Ok(())
 }

@@ -1,16 +1,15 @@
+use crate::opened_states::open;
 use kp_decide::{Verdict, decide};
 use kp_heads::HeadTable;
-use kp_kore::Sort;
-use kp_signature::Signature;
-use kp_symbolic::{Atom, Clause, Language, Literal, State, Term, Variable, term_under};
-use kp_text::{read_module, read_pattern};
-use kp_weights::Weight;
-use std::alloc::Global;
+use kp_kore::Pattern;
+use kp_symbolic::{Atom, Clause, Language, Literal, State, term_under};
+use kp_text::read_pattern;
+use kp_weights::{Weighed, Weight};
+use std::alloc::{AllocError, Global};
 use std::sync::Arc;
-use std::test::Fail;
 
 /// Numbers, truth values, tokens of T and of U, both below K, constructors of S, and E without values.
-const SMALL: &str = r#"module SMALL
+pub(crate) const SMALL: &str = r#"module SMALL
   hooked-sort I{} [hook{}("INT.Int")]
   hooked-sort B{} [hook{}("BOOL.Bool")]
   sort T{} [hasDomainValues{}()]
@@ -40,219 +39,193 @@ const SMALL: &str = r#"module SMALL
 endmodule []
 "#;
 
-/// A literal: its sign, the sort of its equality, and the two sides.
-type Row = (bool, &'static str, &'static str, &'static str);
+/// The literals, each behind its letter. Those from A to P are over X and Y from 0 to 2, and P.
+const LITERALS: &str = r##"a \equals{B{},S{}}(lt{}(X:I{}, Y:I{}), \dv{B{}}("true"))
+b \equals{B{},S{}}(lt{}(Y:I{}, X:I{}), \dv{B{}}("true"))
+c \equals{I{},S{}}(X:I{}, Y:I{})
+d \not{S{}}(\equals{I{},S{}}(X:I{}, Y:I{}))
+e \equals{B{},S{}}(gt{}(X:I{}, \dv{I{}}("3")), \dv{B{}}("true"))
+f \equals{B{},S{}}(lt{}(X:I{}, \dv{I{}}("5")), \dv{B{}}("true"))
+g \not{S{}}(\equals{I{},S{}}(X:I{}, \dv{I{}}("4")))
+h \equals{B{},S{}}(P:B{}, \dv{B{}}("true"))
+i \not{S{}}(\equals{B{},S{}}(P:B{}, \dv{B{}}("true")))
+j \equals{B{},S{}}(eq{}(mul{}(X:I{}, X:I{}), \dv{I{}}("5")), \dv{B{}}("true"))
+k \equals{K{},S{}}(X:T{}, Y:U{})
+l \not{S{}}(\equals{K{},S{}}(X:T{}, Y:U{}))
+m \equals{T{},S{}}(X:T{}, \dv{T{}}("a"))
+n \equals{T{},S{}}(X:T{}, \dv{T{}}("b"))
+o \equals{T{},S{}}(Y:T{}, X:T{})
+p \not{S{}}(\equals{T{},S{}}(Y:T{}, \dv{T{}}("a")))
+q \not{S{}}(\equals{S{},S{}}(M:S{}, c{}()))
+r \not{S{}}(\equals{S{},S{}}(M:S{}, d{}()))
+s \equals{S{},S{}}(M:S{}, f{}(X:I{}))
+t \equals{S{},S{}}(N:S{}, f{}(X:I{}))
+u \equals{B{},S{}}(le{}(X:I{}, \dv{I{}}("85070591730234615865843651857942052864")), \dv{B{}}("true"))
+v \equals{B{},S{}}(ge{}(X:I{}, \dv{I{}}("0")), \dv{B{}}("true"))
+w \equals{B{},S{}}(le{}(X:I{}, \dv{I{}}("2")), \dv{B{}}("true"))
+x \equals{B{},S{}}(ge{}(Y:I{}, \dv{I{}}("0")), \dv{B{}}("true"))
+y \equals{B{},S{}}(le{}(Y:I{}, \dv{I{}}("2")), \dv{B{}}("true"))
+z \not{S{}}(\equals{B{},S{}}(P:B{}, \dv{B{}}("false")))
+A \equals{B{},S{}}(lt{}(X:I{}, Y:I{}), \dv{B{}}("true"))
+B \not{S{}}(\equals{B{},S{}}(lt{}(X:I{}, Y:I{}), \dv{B{}}("true")))
+C \equals{B{},S{}}(le{}(Y:I{}, X:I{}), \dv{B{}}("false"))
+D \equals{B{},S{}}(gt{}(X:I{}, \dv{I{}}("1")), \dv{B{}}("true"))
+E \not{S{}}(\equals{B{},S{}}(gt{}(X:I{}, \dv{I{}}("1")), \dv{B{}}("true")))
+F \equals{B{},S{}}(gt{}(Y:I{}, \dv{I{}}("0")), \dv{B{}}("true"))
+G \equals{B{},S{}}(ge{}(Y:I{}, \dv{I{}}("2")), \dv{B{}}("true"))
+H \equals{I{},S{}}(X:I{}, Y:I{})
+I \not{S{}}(\equals{I{},S{}}(X:I{}, Y:I{}))
+J \equals{I{},S{}}(X:I{}, \dv{I{}}("1"))
+K \not{S{}}(\equals{I{},S{}}(X:I{}, \dv{I{}}("1")))
+L \equals{I{},S{}}(add{}(X:I{}, \dv{I{}}("1")), Y:I{})
+M \not{S{}}(\equals{B{},S{}}(ne{}(Y:I{}, \dv{I{}}("0")), \dv{B{}}("true")))
+N \equals{B{},S{}}(le{}(add{}(Y:I{}, \dv{I{}}("1")), X:I{}), \dv{B{}}("true"))
+O \equals{B{},S{}}(P:B{}, \dv{B{}}("true"))
+P \not{S{}}(\equals{B{},S{}}(P:B{}, \dv{B{}}("true")))"##;
 
-/// The pattern of `true`.
-const YES: &str = r#"\dv{B{}}("true")"#;
-
-/// The pattern of `false`.
-const NO: &str = r#"\dv{B{}}("false")"#;
-
-/// The literals of the letters a to z.
-const LITERALS: [Row; 26] = [
-    (true, "B", "lt{}(X:I{}, Y:I{})", YES),
-    (true, "B", "lt{}(Y:I{}, X:I{})", YES),
-    (true, "I", "X:I{}", "Y:I{}"),
-    (false, "I", "X:I{}", "Y:I{}"),
-    (true, "B", r#"gt{}(X:I{}, \dv{I{}}("3"))"#, YES),
-    (true, "B", r#"lt{}(X:I{}, \dv{I{}}("5"))"#, YES),
-    (false, "I", "X:I{}", r#"\dv{I{}}("4")"#),
-    (true, "B", "P:B{}", YES),
-    (false, "B", "P:B{}", YES),
-    (
-        true,
-        "B",
-        r#"eq{}(mul{}(X:I{}, X:I{}), \dv{I{}}("5"))"#,
-        YES,
-    ),
-    (true, "K", "X:T{}", "Y:U{}"),
-    (false, "K", "X:T{}", "Y:U{}"),
-    (true, "T", "X:T{}", r#"\dv{T{}}("a")"#),
-    (true, "T", "X:T{}", r#"\dv{T{}}("b")"#),
-    (true, "T", "Y:T{}", "X:T{}"),
-    (false, "T", "Y:T{}", r#"\dv{T{}}("a")"#),
-    (false, "S", "M:S{}", "c{}()"),
-    (false, "S", "M:S{}", "d{}()"),
-    (true, "S", "M:S{}", "f{}(X:I{})"),
-    (true, "S", "N:S{}", "f{}(X:I{})"),
-    (
-        true,
-        "B",
-        r#"le{}(X:I{}, \dv{I{}}("85070591730234615865843651857942052864"))"#,
-        YES,
-    ),
-    (true, "B", r#"ge{}(X:I{}, \dv{I{}}("0"))"#, YES),
-    (true, "B", r#"le{}(X:I{}, \dv{I{}}("2"))"#, YES),
-    (true, "B", r#"ge{}(Y:I{}, \dv{I{}}("0"))"#, YES),
-    (true, "B", r#"le{}(Y:I{}, \dv{I{}}("2"))"#, YES),
-    (false, "B", "P:B{}", NO),
-];
-
-/// Literals over X and Y from 0 to 2, and P, of the letters A to P.
-const SMALL_LITERALS: [Row; 16] = [
-    (true, "B", "lt{}(X:I{}, Y:I{})", YES),
-    (false, "B", "lt{}(X:I{}, Y:I{})", YES),
-    (true, "B", "le{}(Y:I{}, X:I{})", NO),
-    (true, "B", r#"gt{}(X:I{}, \dv{I{}}("1"))"#, YES),
-    (false, "B", r#"gt{}(X:I{}, \dv{I{}}("1"))"#, YES),
-    (true, "B", r#"gt{}(Y:I{}, \dv{I{}}("0"))"#, YES),
-    (true, "B", r#"ge{}(Y:I{}, \dv{I{}}("2"))"#, YES),
-    (true, "I", "X:I{}", "Y:I{}"),
-    (false, "I", "X:I{}", "Y:I{}"),
-    (true, "I", "X:I{}", r#"\dv{I{}}("1")"#),
-    (false, "I", "X:I{}", r#"\dv{I{}}("1")"#),
-    (true, "I", r#"add{}(X:I{}, \dv{I{}}("1"))"#, "Y:I{}"),
-    (false, "B", r#"ne{}(Y:I{}, \dv{I{}}("0"))"#, YES),
-    (
-        true,
-        "B",
-        r#"le{}(add{}(Y:I{}, \dv{I{}}("1")), X:I{})"#,
-        YES,
-    ),
-    (true, "B", "P:B{}", YES),
-    (false, "B", "P:B{}", YES),
-];
-
-/// The literal of a letter.
-fn row_of(letter: u8) -> Row {
-    if letter >= 97 {
-        LITERALS[(letter as usize + 7) % 26]
-    } else {
-        SMALL_LITERALS[(letter as usize + 15) % 16]
+/// The literal of a letter, as it is written.
+fn predicate_of(letter: u8) -> &'static str {
+    for row in LITERALS.lines() {
+        if let Some((name, predicate)) = row.split_once(" ") {
+            if name.bytes().next() == Some(letter) {
+                return predicate;
+            }
+        }
     }
+    ""
 }
 
-/// The signature of the module.
-fn signature(alloc: Global) -> Result<Signature, Fail> {
-    let module = read_module(alloc, SMALL.as_bytes()).map_err(|_| "no module")?;
-    Ok(Signature::new(alloc, &[&module])?)
+/// Adds the literal of an equality.
+fn add_equality(
+    alloc: Global,
+    language: &Language,
+    holds: bool,
+    equality: &Pattern,
+    literals: &mut Vec<Literal>,
+) -> Result<(), AllocError> {
+    let Pattern::Equals {
+        argument_sort,
+        left,
+        right,
+        ..
+    } = equality
+    else {
+        return Err(AllocError);
+    };
+    let Ok(left) = term_under(left, alloc, language, &[]) else {
+        return Err(AllocError);
+    };
+    let Ok(right) = term_under(right, alloc, language, &[]) else {
+        return Err(AllocError);
+    };
+    let sort = Arc::new(alloc, argument_sort.copy(alloc)?)?;
+    let atom = Atom::Same { sort, left, right };
+    literals.push(Literal { holds, atom })?;
+    Ok(())
 }
 
-/// The term of a text.
-fn folded(alloc: Global, language: &Language, text: &str) -> Result<Term, Fail> {
-    let pattern = read_pattern(alloc, text.as_bytes()).map_err(|_| "no pattern")?;
-    Ok(term_under(&pattern, alloc, language, &[]).map_err(|_| "no term")?)
+/// Adds the literal of a letter.
+fn add_letter(
+    alloc: Global,
+    language: &Language,
+    letter: u8,
+    literals: &mut Vec<Literal>,
+) -> Result<(), AllocError> {
+    let Ok(predicate) = read_pattern(alloc, predicate_of(letter).as_bytes()) else {
+        return Err(AllocError);
+    };
+    if let Pattern::Not { pattern, .. } = &predicate {
+        return add_equality(alloc, language, false, pattern, literals);
+    }
+    add_equality(alloc, language, true, &predicate, literals)
 }
 
-/// A sort without arguments.
-fn sort(alloc: Global, name: &str) -> Result<Sort, Fail> {
-    Ok(Sort::App {
-        name: String::from_str(alloc, name)?,
-        arguments: Vec::new(alloc),
-    })
-}
-
-/// A literal of a row.
-fn literal(alloc: Global, language: &Language, row: Row) -> Result<Literal, Fail> {
-    let (holds, place, left, right) = row;
-    let left = folded(alloc, language, left)?;
-    let right = folded(alloc, language, right)?;
-    let sort = Arc::new(alloc, sort(alloc, place)?)?;
-    Ok(Literal {
-        holds,
-        atom: Atom::Same { sort, left, right },
-    })
-}
-
-/// A clause of letters; `-` is no literal.
-fn clause(alloc: Global, language: &Language, letters: &str) -> Result<Clause, Fail> {
+/// Adds a clause of letters; `-` is no literal.
+fn add_clause(
+    alloc: Global,
+    language: &Language,
+    letters: &str,
+    clauses: &mut Vec<Clause>,
+) -> Result<(), AllocError> {
     let mut literals = Vec::new(alloc);
     for letter in letters.bytes() {
         if letter != 45 {
-            literals.push(literal(alloc, language, row_of(letter))?)?;
+            add_letter(alloc, language, letter, &mut literals)?;
         }
     }
-    Ok(Clause {
-        literals: Arc::new(alloc, literals)?,
-    })
+    let literals = Arc::new(alloc, literals)?;
+    clauses.push(Clause { literals })?;
+    Ok(())
 }
 
-/// The clauses of `"ab;c"`: one of a and b, and one of c. No letters are no clauses.
-fn clauses(alloc: Global, language: &Language, text: &str) -> Result<Vec<Clause>, Fail> {
-    let mut clauses = Vec::new(alloc);
+/// Adds the clauses of `"ab;c"`: one of a and b, and one of c. No letters are no clauses.
+fn add_clauses(
+    alloc: Global,
+    language: &Language,
+    text: &str,
+    clauses: &mut Vec<Clause>,
+) -> Result<(), AllocError> {
     if text.is_empty() {
-        return Ok(clauses);
+        return Ok(());
     }
     for letters in text.split(';') {
-        clauses.push(clause(alloc, language, letters)?)?;
+        add_clause(alloc, language, letters, clauses)?;
     }
-    Ok(clauses)
+    Ok(())
 }
 
-/// A variable of a sort.
-fn variable(alloc: Global, name: &str, place: &str) -> Result<Arc<Variable>, Fail> {
-    let name = String::from_str(alloc, name)?;
-    let sort = sort(alloc, place)?;
-    Ok(Arc::new(alloc, Variable { name, sort })?)
-}
-
-/// A state over the variable N of S, with clauses of letters and one variable at hand.
-fn state(alloc: Global, language: &Language, text: &str, hand: &str) -> Result<State, Fail> {
-    let clauses = clauses(alloc, language, text)?;
-    let mut variables = Vec::new(alloc);
-    variables.push(variable(alloc, "H", hand)?)?;
-    Ok(State {
-        term: folded(alloc, language, "g{}(N:S{})")?,
-        sort: Arc::new(alloc, sort(alloc, "S")?)?,
-        clauses,
-        variables,
-    })
-}
-
-/// The answer in a word: a weight that is passed by its kind.
-fn word(verdict: &Verdict) -> &'static str {
-    match verdict {
-        Verdict::SomeValuation => "some",
-        Verdict::NoValuation => "none",
-        Verdict::Undecided { over, .. } => match over {
-            Some(over) => match over.weight {
-                Weight::Bits => "bits",
-                Weight::Literals => "literals",
-                Weight::Product => "product",
-            },
-            None => "open",
-        },
+/// The weight that is passed, by its kind.
+fn kind(over: &Weighed) -> &'static str {
+    match over.weight {
+        Weight::Bits => "bits",
+        Weight::Literals => "literals",
+        Weight::Product => "product",
     }
 }
 
-/// The number of the weight that is passed, 0 where none is.
-fn number(verdict: &Verdict) -> u64 {
+/// Adds the answer in a word, a weight that is passed by its kind and number.
+fn add_verdict(alloc: Global, verdict: &Verdict, told: &mut String) -> Result<(), AllocError> {
     match verdict {
+        Verdict::SomeValuation => told.push_str("some"),
+        Verdict::NoValuation => told.push_str("none"),
+        Verdict::Undecided { over: None, .. } => told.push_str("open"),
         Verdict::Undecided {
             over: Some(over),
             ..
-        } => over.number,
-        _ => 0,
+        } => {
+            let weight = format!(in alloc; "{} {}", kind(over), over.number)?;
+            told.push_str(weight.as_str())
+        }
     }
 }
 
-/// What is decided over a signature.
-fn decided_over(
+/// Adds what is decided of a state with these clauses.
+fn clauses_told(
     alloc: Global,
-    signature: &Signature,
-    text: &str,
-    hand: &str,
-) -> Result<Verdict, Fail> {
-    let table = HeadTable::new(alloc, signature)?;
-    let language = Language::new(alloc, signature)?;
-    let state = state(alloc, &language, text, hand)?;
-    Ok(decide(alloc, signature, &table, &state)?)
+    language: &Language,
+    clauses: &str,
+    state: &mut State,
+    told: &mut String,
+) -> Result<(), AllocError> {
+    add_clauses(alloc, language, clauses, &mut state.clauses)?;
+    let table = HeadTable::new(alloc, language.signature)?;
+    let verdict = decide(alloc, language.signature, &table, state)?;
+    add_verdict(alloc, &verdict, told)
 }
 
-/// What is decided of clauses with a variable of this sort at hand.
-pub(crate) fn decided_with(
+/// Adds what is decided of a text's state with clauses of letters.
+pub(crate) fn decided_told(
     alloc: Global,
-    text: &str,
-    hand: &str,
-) -> Result<(&'static str, u64), Fail> {
-    let signature = signature(alloc)?;
-    let verdict = decided_over(alloc, &signature, text, hand)?;
-    Ok((word(&verdict), number(&verdict)))
-}
-
-/// What is decided of clauses.
-pub(crate) fn decided(alloc: Global, text: &str) -> Result<&'static str, Fail> {
-    let (word, _) = decided_with(alloc, text, "I")?;
-    Ok(word)
+    language: &Language,
+    clauses: &str,
+    state: &str,
+    told: &mut String,
+) -> Result<(), AllocError> {
+    let Ok(pattern) = read_pattern(alloc, state.as_bytes()) else {
+        return told.push_str("no pattern");
+    };
+    match open(alloc, language, &pattern) {
+        Ok(mut state) => clauses_told(alloc, language, clauses, &mut state, told),
+        Err(_) => told.push_str("no state"),
+    }
 }

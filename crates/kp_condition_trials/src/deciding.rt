@@ -1,92 +1,57 @@
-use crate::decided::{decided, decided_with};
-use std::alloc::Global;
-use std::test::Fail;
+use crate::decided::SMALL;
+use crate::rows::{Asked, Table, first_failed};
 
-/// X < Y, Y < X, X = Y, X /= Y, X > 3, X < 5, X /= 4.
-const NUMBERS: [(&str, &str); 7] = [
-    ("a", "some"),
-    ("a;b", "none"),
-    ("c;d", "none"),
-    ("e;f", "some"),
-    ("e;f;g", "none"),
-    ("ac;db", "some"),
-    ("ac;b", "none"),
-];
+/// A state over the variable N of S.
+pub(crate) const STATE: &str = "g{}(N:S{})";
 
-/// P, and its opposite; no clauses, and one without a literal.
-const TRUTHS: [(&str, &str); 6] = [
-    ("h", "some"),
-    ("h;i", "none"),
-    ("h;z", "some"),
-    ("hi", "some"),
-    ("", "some"),
-    ("-", "none"),
-];
+/// The same beside a variable of a sort without values.
+const EMPTY: &str = r"\and{S{}}(g{}(N:S{}), \equals{E{},S{}}(H:E{}, H:E{}))";
 
-/// Tokens of two sorts are equal, or differ; X = a, X = b, Y = X, Y /= a.
-const TOKENS: [(&str, &str); 6] = [
-    ("k", "none"),
-    ("l", "some"),
-    ("m;n", "none"),
-    ("mn", "some"),
-    ("m;o;p", "none"),
-    ("n;o;p", "some"),
-];
+/// What is decided of clauses.
+const CLAUSES: &str = r"# X < Y, Y < X, X = Y, X /= Y, X > 3, X < 5, X /= 4
+a -> some
+a;b -> none
+c;d -> none
+e;f -> some
+e;f;g -> none
+ac;db -> some
+ac;b -> none
+# P, and its opposite; no clauses, and one without a literal
+h -> some
+h;i -> none
+h;z -> some
+hi -> some
+ -> some
+- -> none
+# tokens of two sorts are equal, or differ; X = a, X = b, Y = X, Y /= a
+k -> none
+l -> some
+m;n -> none
+mn -> some
+m;o;p -> none
+n;o;p -> some
+# M is neither c nor d, which no clause of both says plainly; M, and the term's N, equal f(X)
+q;r -> some
+qr -> open
+s;e -> some
+t;e -> open
+# X * X = 5 isn't decided
+j -> open
+je -> some
+je;h;i -> none
+jh;i -> open
+# a number of 127 digits beside a variable; eight clauses of three; as many plain ones, with one that isn't
+u -> bits 128
+jeh;jeh;jeh;jeh;jeh;jeh;jeh;jeh -> product 6561
+efh;efh;efh;efh;efh;efh;efh;efh;jh -> product 13122";
 
-/// M is neither c nor d, which no clause of both says plainly; M, and the term's N, equal f(X).
-const HEADS: [(&str, &str); 4] = [
-    ("q;r", "some"),
-    ("qr", "open"),
-    ("s;e", "some"),
-    ("t;e", "open"),
-];
-
-/// X * X = 5 isn't decided.
-const ROUGH: [(&str, &str); 4] = [
-    ("j", "open"),
-    ("je", "some"),
-    ("je;h;i", "none"),
-    ("jh;i", "open"),
-];
-
-/// Whether each is decided as it is said.
-fn are_decided(alloc: Global, rows: &[(&str, &str)]) -> Result<bool, Fail> {
-    for (text, wanted) in rows {
-        if decided(alloc, text)? != *wanted {
-            return Ok(false);
-        }
-    }
-    Ok(true)
-}
-
-#[test]
-fn conditions_are_decided(rt: HostRuntime) -> Result<(), Fail> {
-    assert!(rt; are_decided(rt.alloc(), &NUMBERS)?);
-    assert!(rt; are_decided(rt.alloc(), &TRUTHS)?);
-    assert!(rt; are_decided(rt.alloc(), &TOKENS)?);
-    Ok(())
-}
-
-#[test]
-fn heads_and_rough_clauses_are_told(rt: HostRuntime) -> Result<(), Fail> {
-    assert!(rt; are_decided(rt.alloc(), &HEADS)?);
-    assert!(rt; are_decided(rt.alloc(), &ROUGH)?);
-    Ok(())
-}
-
-/// A number of 127 digits beside a variable; eight clauses of three; as many plain ones, with one that isn't.
-const WEIGHTS: [(&str, &str, &str, u64); 4] = [
-    ("h", "E", "none", 0),
-    ("u", "I", "bits", 128),
-    ("jeh;jeh;jeh;jeh;jeh;jeh;jeh;jeh", "I", "product", 6561),
-    ("efh;efh;efh;efh;efh;efh;efh;efh;jh", "I", "product", 13122),
+/// The tables of what is decided.
+const TABLES: [Table<'static>; 2] = [
+    (Asked::Decided(STATE), CLAUSES),
+    (Asked::Decided(EMPTY), "h -> none"),
 ];
 
 #[test]
-fn sorts_without_values_and_weights_are_told(rt: HostRuntime) -> Result<(), Fail> {
-    for (text, hand, wanted, weight) in WEIGHTS {
-        let (word, number) = decided_with(rt.alloc(), text, hand)?;
-        assert!(rt; word == wanted && number == weight);
-    }
-    Ok(())
+fn conditions_are_decided(rt: HostRuntime) {
+    assert_eq!(rt; first_failed(rt.alloc(), SMALL, &TABLES), None);
 }

@@ -1,34 +1,35 @@
 use kp_fresh::fresh::fresh;
 use kp_kore::Name;
-use std::alloc::Global;
+use std::alloc::{AllocError, Global};
 use std::test::Fail;
 
-/// The words as names.
-fn names(alloc: Global, words: &[&str]) -> Result<Vec<Name>, Fail> {
+/// The words of a text as names.
+fn names(alloc: Global, text: &str) -> Result<Vec<Name>, AllocError> {
     let mut found = Vec::new(alloc);
-    for word in words {
+    for word in text.split(' ') {
         found.push(String::from_str(alloc, word)?)?;
     }
     Ok(found)
 }
 
-/// Whether this is the least new name beside those that are used.
-fn is_next(alloc: Global, used: &[&str], wanted: &str) -> Result<bool, Fail> {
+/// The least new name beside those of a text.
+fn beside(alloc: Global, used: &str) -> Result<Name, AllocError> {
     let names = names(alloc, used)?;
-    let name = fresh(alloc, &names)?;
-    Ok(name.as_str() == wanted)
+    fresh(alloc, &names)
 }
+
+/// Names that are used, and the least new one beside them.
+const ROWS: [(&str, &str); 4] = [
+    ("X Fresh2", "Fresh1"),
+    ("Fresh1 Fresh3", "Fresh2"),
+    ("Fresh2 Fresh1", "Fresh3"),
+    ("Fresh01 fresh1", "Fresh1"),
+];
 
 #[test]
 fn a_new_name_has_the_least_number(rt: HostRuntime) -> Result<(), Fail> {
-    let rows = [
-        ("X", "Fresh2", "Fresh1"),
-        ("Fresh1", "Fresh3", "Fresh2"),
-        ("Fresh2", "Fresh1", "Fresh3"),
-        ("Fresh01", "fresh1", "Fresh1"),
-    ];
-    for (first, second, wanted) in rows {
-        assert!(rt; is_next(rt.alloc(), &[first, second], wanted)?);
+    for (used, wanted) in ROWS {
+        assert_eq!(rt; beside(rt.alloc(), used)?.as_str(), wanted, "{used}");
     }
     Ok(())
 }

@@ -16,7 +16,11 @@ mod demands;
 #[cfg(test)]
 mod folding;
 #[cfg(test)]
+mod forms;
+#[cfg(test)]
 mod fresh;
+#[cfg(test)]
+mod module;
 #[cfg(test)]
 mod opened_states;
 #[cfg(test)]
@@ -24,6 +28,4 @@ mod opening;
 #[cfg(test)]
 mod random;
 #[cfg(test)]
-mod replaced;
-#[cfg(test)]
-mod texts;
+mod rows;

@@ -1,24 +1,22 @@
-use crate::clauses::{have_form, signature};
+use crate::forms::add_clauses;
+use crate::module::SMALL;
+use crate::rows::{Asked, Table, first_failed};
 use kp_clauses::{TermFault, open_state};
 use kp_kore::{Pattern, Sort};
-use kp_signature::Signature;
 use kp_symbolic::{Language, State};
-use kp_text::read_pattern;
 use std::alloc::{AllocError, Global};
-use std::test::Fail;
 
-/// The sort S.
-fn sort(alloc: Global) -> Result<Sort, AllocError> {
-    Ok(Sort::App {
-        name: String::from_str(alloc, "S")?,
-        arguments: Vec::new(alloc),
-    })
-}
-
-/// The pattern of a text, read as a state of the sort S.
-fn open(alloc: Global, signature: &Signature, pattern: &Pattern) -> Result<State, TermFault> {
-    let language = Language::new(alloc, signature)?;
-    open_state(alloc, &language, pattern, sort(alloc)?)
+/// A pattern, read as a state of the sort S.
+pub(crate) fn open(
+    alloc: Global,
+    language: &Language,
+    pattern: &Pattern,
+) -> Result<State, TermFault> {
+    let Ok(name) = String::from_str(alloc, "S") else {
+        return Err(TermFault::Memory);
+    };
+    let arguments = Vec::new(alloc);
+    open_state(alloc, language, pattern, Sort::App { name, arguments })
 }
 
 /// What is told of a pattern that isn't read.
@@ -31,67 +29,49 @@ fn fault(error: &TermFault) -> &str {
     }
 }
 
-/// Whether the state has so many variables and clauses of this form.
-fn has(alloc: Global, state: &State, variables: usize, wanted: &str) -> Result<bool, Fail> {
-    if state.variables.len() != variables {
-        return Ok(false);
+/// Adds a state's variables, and the form of its clauses.
+fn add_state(state: &State, told: &mut String) -> Result<(), AllocError> {
+    for variable in &state.variables {
+        told.push_str(variable.name.as_str())?;
     }
-    have_form(alloc, &state.clauses, wanted)
+    add_clauses(&state.clauses, told)
 }
 
-/// Whether the pattern is read as a state of so many variables whose clauses have this form, or this is told.
-fn is_read(alloc: Global, pattern: &Pattern, variables: usize, wanted: &str) -> Result<bool, Fail> {
-    let signature = signature(alloc)?;
-    match open(alloc, &signature, pattern) {
-        Ok(state) => has(alloc, &state, variables, wanted),
-        Err(error) => Ok(variables == 0 && fault(&error) == wanted),
+/// Adds the state that a pattern is read as, or its fault.
+pub(crate) fn state_told(
+    alloc: Global,
+    language: &Language,
+    pattern: &Pattern,
+    told: &mut String,
+) -> Result<(), AllocError> {
+    match open(alloc, language, pattern) {
+        Ok(state) => add_state(&state, told),
+        Err(error) => told.push_str(fault(&error)),
     }
 }
 
-/// The same of a text.
-fn row(alloc: Global, text: &str, variables: usize, wanted: &str) -> Result<bool, Fail> {
-    let pattern = read_pattern(alloc, text.as_bytes()).map_err(|_| "no pattern")?;
-    is_read(alloc, &pattern, variables, wanted)
-}
+/// A state is one term and predicates.
+const STATES: &str = r##"f{}(X:Int{}) -> X
+\and{S{}}(\equals{Int{},S{}}(X:Int{}, Y:Int{}), f{}(X:Int{})) -> XYX[+]
+\and{S{}}(f{}(X:Int{}), \and{S{}}(\top{S{}}(), \not{S{}}(\equals{Int{},S{}}(X:Int{}, Y:Int{})))) -> XXY[-]
+\and{S{}}(f{}(X:Int{}), f{}(Y:Int{})) -> shape
+\top{S{}}() -> shape
+\not{S{}}(f{}(X:Int{})) -> shape
+g{}(\top{S{}}()) -> shape"##;
 
-#[test]
-fn a_state_is_one_term_and_predicates(rt: HostRuntime) -> Result<(), Fail> {
-    let rows = [
-        (r"f{}(X:Int{})", 1, ""),
-        (
-            r"\and{S{}}(\equals{Int{},S{}}(X:Int{}, Y:Int{}), f{}(X:Int{}))",
-            3,
-            "[+]",
-        ),
-        (
-            r"\and{S{}}(f{}(X:Int{}), \and{S{}}(\top{S{}}(), \not{S{}}(\equals{Int{},S{}}(X:Int{}, Y:Int{}))))",
-            3,
-            "[-]",
-        ),
-        (r"\and{S{}}(f{}(X:Int{}), f{}(Y:Int{}))", 0, "shape"),
-        (r"\top{S{}}()", 0, "shape"),
-        (r"\not{S{}}(f{}(X:Int{}))", 0, "shape"),
-        (r"g{}(\top{S{}}())", 0, "shape"),
-    ];
-    for (text, variables, wanted) in rows {
-        assert!(rt; row(rt.alloc(), text, variables, wanted)?);
-    }
-    Ok(())
-}
+/// The first fault from the left is told.
+const FAULTS: &str = r##"g{}(h{}(Y:S{})) -> h
+\and{S{}}(h{}(Y:S{}), f{}(X:Int{})) -> h
+\and{S{}}(f{}(X:Int{}), h{}(Y:S{})) -> shape
+\and{S{}}(\ceil{S{},S{}}(h{}(Y:S{})), \top{S{}}()) -> h
+\and{S{}}(\not{S{}}(f{}(X:Int{})), h{}(Y:S{})) -> shape
+g{}(\not{S{}}(h{}(Y:S{}))) -> shape
+h{}(\top{S{}}()) -> h"##;
+
+/// The tables of states.
+const TABLES: [Table<'static>; 2] = [(Asked::State, STATES), (Asked::State, FAULTS)];
 
 #[test]
-fn the_first_fault_from_the_left_is_told(rt: HostRuntime) -> Result<(), Fail> {
-    let rows = [
-        (r"g{}(h{}(Y:S{}))", "h"),
-        (r"\and{S{}}(h{}(Y:S{}), f{}(X:Int{}))", "h"),
-        (r"\and{S{}}(f{}(X:Int{}), h{}(Y:S{}))", "shape"),
-        (r"\and{S{}}(\ceil{S{},S{}}(h{}(Y:S{})), \top{S{}}())", "h"),
-        (r"\and{S{}}(\not{S{}}(f{}(X:Int{})), h{}(Y:S{}))", "shape"),
-        (r"g{}(\not{S{}}(h{}(Y:S{})))", "shape"),
-        (r"h{}(\top{S{}}())", "h"),
-    ];
-    for (text, wanted) in rows {
-        assert!(rt; row(rt.alloc(), text, 0, wanted)?);
-    }
-    Ok(())
+fn patterns_are_read_as_states(rt: HostRuntime) {
+    assert_eq!(rt; first_failed(rt.alloc(), SMALL, &TABLES), None);
 }

@@ -1,113 +1,69 @@
-use kp_claim_files::module_text;
+use crate::claim_files::{TOYS, add_file};
+use crate::rows::{Asked, Table, first_failed};
+use kp_claim_files::{module_text, read_claims};
 use kp_claim_sentences::{ClaimItem, comma_parts};
-use kp_kore::{Claim, Pattern, Sort};
-use kp_text::read_pattern;
-use std::alloc::Global;
-use std::test::Fail;
+use kp_signature::Signature;
+use std::alloc::{AllocError, Global};
 
-fn pattern(alloc: Global, text: &str) -> Result<Pattern, Fail> {
-    match read_pattern(alloc, text.as_bytes()) {
-        Ok(pattern) => Ok(pattern),
-        Err(_) => Err(Fail::from("no pattern")),
-    }
-}
-
-fn sort(alloc: Global) -> Result<Sort, Fail> {
-    Ok(Sort::App {
-        name: String::from_str(alloc, "SortS")?,
-        arguments: Vec::new(alloc),
-    })
-}
-
-/// A claim of these sides, with a label that its rule doesn't have.
-fn claim(alloc: Global, left: &str, right: &str) -> Result<ClaimItem, Fail> {
-    let sides = Claim {
-        left: pattern(alloc, left)?,
-        right: pattern(alloc, right)?,
-    };
-    Ok(ClaimItem {
-        label: String::from_str(alloc, "T.claim")?,
-        sort: sort(alloc)?,
-        pattern: pattern(alloc, left)?,
-        claim: sides,
-        circular: true,
-        depends: Vec::new(alloc),
-    })
-}
-
-fn two(alloc: Global) -> Result<Vec<ClaimItem>, Fail> {
-    let mut claims = Vec::new(alloc);
-    claims.push(claim(alloc, DOWN, "Lbldone{}()")?)?;
-    claims.push(claim(
-        alloc,
-        "Lbllone{}()",
-        r"\exists{SortS{}}(Z:SortInt{},Lblvh{}(Z:SortInt{}))",
-    )?)?;
-    Ok(claims)
-}
-
-const DOWN: &str =
-    r#"\and{SortS{}}(Lblcount{}(X:SortInt{}), \equals{SortBool{}, SortS{}}(Lblge{}(X:SortInt{}, \dv{SortInt{}}("0")), \dv{SortBool{}}("true")))"#;
-
-const SECOND_AND_FIRST: &str =
-    r#"module CLAIMS import TOYS [] axiom{} \rewrites{SortS{}}(Lbllone{}(),\exists{SortS{}}(Z:SortInt{},Lblvh{}(Z:SortInt{}))) [priority{}("20")] axiom{} \rewrites{SortS{}}(\and{SortS{}}(Lblcount{}(X:SortInt{}),\equals{SortBool{},SortS{}}(Lblge{}(X:SortInt{},\dv{SortInt{}}("0")),\dv{SortBool{}}("true"))),Lbldone{}()) [priority{}("20")] endmodule []"#;
-
-fn read(alloc: Global, bytes: Vec<u8>) -> Result<String, Fail> {
-    match String::from_utf8(bytes) {
-        Ok(text) => Ok(text),
-        Err(_) => Err(Fail::from("no UTF-8")),
-    }
-}
-
-fn second_and_first(alloc: Global) -> Result<String, Fail> {
-    let claims = two(alloc)?;
+/// The text of the module of the second claim and the first; of none where there aren't two.
+fn written(alloc: Global, claims: &[ClaimItem]) -> Result<Vec<u8>, AllocError> {
     if claims.len() < 2 {
-        return Err(Fail::from("no claims"));
+        return module_text(alloc, "TOYS", claims, &[]);
     }
-    let bytes = module_text(alloc, "TOYS", &claims, &[1, 0])?;
-    read(alloc, bytes)
+    module_text(alloc, "TOYS", claims, &[1, 0])
 }
 
-fn none(alloc: Global) -> Result<String, Fail> {
-    let bytes = module_text(alloc, "TOYS", &[], &[])?;
-    read(alloc, bytes)
+/// Adds it.
+fn add_written(alloc: Global, claims: &[ClaimItem], told: &mut String) -> Result<(), AllocError> {
+    match String::from_utf8(written(alloc, claims)?) {
+        Ok(text) => told.push_str(text.as_str()),
+        Err(_) => told.push_str("no UTF-8"),
+    }
 }
 
-#[test]
-fn claims_are_written_as_rules(rt: HostRuntime) -> Result<(), Fail> {
-    let found = second_and_first(rt.alloc())?;
-    assert_eq!(rt; found.as_str(), SECOND_AND_FIRST);
-    Ok(())
+/// The same of claims in short.
+pub(crate) fn written_told(
+    alloc: Global,
+    signature: &Signature,
+    claims: &str,
+    told: &mut String,
+) -> Result<(), AllocError> {
+    let mut file = String::new(alloc);
+    add_file(claims, &mut file)?;
+    match read_claims(alloc, file.as_bytes(), signature) {
+        Ok(claims) => add_written(alloc, &claims, told),
+        Err(_) => told.push_str("no claims"),
+    }
 }
 
-#[test]
-fn a_module_without_claims(rt: HostRuntime) -> Result<(), Fail> {
-    let found = none(rt.alloc())?;
-    assert_eq!(rt; found.as_str(), "module CLAIMS import TOYS [] endmodule []");
-    Ok(())
-}
+/// Claims are written as rules, with labels that their rules don't have; a module without claims.
+const MODULES: &str =
+    r#"\and{SortS{}}(Lblcount{}(X:SortInt{}), \equals{SortBool{}, SortS{}}(Lblge{}(X:SortInt{}, \dv{SortInt{}}("0")), \dv{SortBool{}}("true"))) => Lbldone{}() [label{}("T.first")] & Lbllone{}() => \exists{SortS{}}(Z:SortInt{},Lblvh{}(Z:SortInt{})) [label{}("T.second")] -> module CLAIMS import TOYS [] axiom{} \rewrites{SortS{}}(Lbllone{}(),\exists{SortS{}}(Z:SortInt{},Lblvh{}(Z:SortInt{}))) [priority{}("20")] axiom{} \rewrites{SortS{}}(\and{SortS{}}(Lblcount{}(X:SortInt{}),\equals{SortBool{},SortS{}}(Lblge{}(X:SortInt{},\dv{SortInt{}}("0")),\dv{SortBool{}}("true"))),Lbldone{}()) [priority{}("20")] endmodule []
+ -> module CLAIMS import TOYS [] endmodule []"#;
 
-fn parts(alloc: Global, labels: &str) -> Result<String, Fail> {
-    let mut text = String::new(alloc);
+/// Adds what stands between commas, each ended by a semicolon.
+pub(crate) fn labels_told(
+    alloc: Global,
+    labels: &str,
+    told: &mut String,
+) -> Result<(), AllocError> {
     for part in comma_parts(alloc, labels)? {
-        text.push_str(part.as_str())?;
-        text.push_str(";")?;
-    }
-    Ok(text)
-}
-
-const LABELS: [(&str, &str); 4] = [
-    ("", ";"),
-    ("a", "a;"),
-    ("T.a,T.b", "T.a;T.b;"),
-    (",a,", ";a;;"),
-];
-
-#[test]
-fn labels_stand_between_commas(rt: HostRuntime) -> Result<(), Fail> {
-    for (labels, wanted) in LABELS {
-        let found = parts(rt.alloc(), labels)?;
-        assert_eq!(rt; found.as_str(), wanted);
+        told.push_str(part.as_str())?;
+        told.push_str(";")?;
     }
     Ok(())
+}
+
+/// Labels stand between commas.
+const LABELS: &str = " -> ;
+a -> a;
+T.a,T.b -> T.a;T.b;
+,a, -> ;a;;";
+
+/// The tables of what is written, and of labels.
+const TABLES: [Table<'static>; 2] = [(Asked::Written, MODULES), (Asked::Labels, LABELS)];
+
+#[test]
+fn claims_are_written_as_rules_and_labels_cut(rt: HostRuntime) {
+    assert_eq!(rt; first_failed(rt.alloc(), TOYS, &TABLES), None);
 }

@@ -15,11 +15,11 @@ mod layers;
 #[cfg(test)]
 mod many;
 #[cfg(test)]
+mod rows;
+#[cfg(test)]
 mod subsorts;
 #[cfg(test)]
 mod substituting;
-#[cfg(test)]
-mod texts;
 #[cfg(test)]
 mod values;
 #[cfg(test)]

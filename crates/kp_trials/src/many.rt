@@ -1,8 +1,28 @@
-use crate::claim_files::{definition, error_text, signature_of};
+use crate::claim_files::{TOYS, add_error};
+use crate::rows::{Asked, first_failed};
 use kp_claim_files::read_claims;
 use kp_signature::Signature;
-use std::alloc::Global;
+use std::alloc::{AllocError, Global};
 use std::test::Fail;
+
+/// Adds a number.
+fn add_number(alloc: Global, number: usize, told: &mut String) -> Result<(), AllocError> {
+    let digits = format!(in alloc; "{number}")?;
+    told.push_str(digits.as_str())
+}
+
+/// Adds how many claims a file has, or what is wrong with it.
+pub(crate) fn number_told(
+    alloc: Global,
+    signature: &Signature,
+    file: &str,
+    told: &mut String,
+) -> Result<(), AllocError> {
+    match read_claims(alloc, file.as_bytes(), signature) {
+        Ok(items) => add_number(alloc, items.len(), told),
+        Err(error) => add_error(alloc, &error, told),
+    }
+}
 
 /// A claim up to its label, and its attributes behind that.
 const CLAIM: &str =
@@ -12,74 +32,56 @@ const NEEDS: &str = r#""),depends{}(""#;
 
 const END: &str = r#"")]"#;
 
-fn add_number(alloc: Global, text: &mut String, number: usize) -> Result<(), Fail> {
-    let digits = format!(in alloc; "{number}")?;
-    Ok(text.push_str(digits.as_str())?)
+/// Adds a claim whose label is a number.
+fn add_label(alloc: Global, table: &mut String, label: usize) -> Result<(), AllocError> {
+    table.push_str(CLAIM)?;
+    add_number(alloc, label, table)
 }
 
-/// A claim whose label is a number and that depends on another number's claim.
-fn add_claim(alloc: Global, text: &mut String, label: usize, needed: usize) -> Result<(), Fail> {
-    text.push_str(CLAIM)?;
-    add_number(alloc, text, label)?;
-    text.push_str(NEEDS)?;
-    add_number(alloc, text, needed)?;
-    Ok(text.push_str(END)?)
+/// Adds a claim that depends on another number's claim.
+fn add_claim(
+    alloc: Global,
+    table: &mut String,
+    label: usize,
+    needed: usize,
+) -> Result<(), AllocError> {
+    add_label(alloc, table, label)?;
+    table.push_str(NEEDS)?;
+    add_number(alloc, needed, table)?;
+    table.push_str(END)
 }
 
-/// A claim that depends on none.
-fn add_last(alloc: Global, text: &mut String, label: usize) -> Result<(), Fail> {
-    text.push_str(CLAIM)?;
-    add_number(alloc, text, label)?;
-    Ok(text.push_str(END)?)
-}
-
-/// A file in which each claim depends on the next one, and the last on the first where it is a ring; labels go from 0.
-fn chain(alloc: Global, last: usize, ring: bool) -> Result<String, Fail> {
-    let mut text = String::from_str(alloc, "module MANY ")?;
+/// Adds a file's claims from 0, each of which depends on the next one.
+fn add_claims(alloc: Global, table: &mut String, last: usize) -> Result<(), AllocError> {
+    table.push_str("module MANY ")?;
     for label in 0..last {
-        add_claim(alloc, &mut text, label, label + 1)?;
+        add_claim(alloc, table, label, label + 1)?;
     }
-    add_end(alloc, &mut text, last, ring)?;
-    Ok(text)
-}
-
-/// The last claim and the end of the module.
-fn add_end(alloc: Global, text: &mut String, last: usize, ring: bool) -> Result<(), Fail> {
-    if ring {
-        add_claim(alloc, text, last, 0)?;
-    } else {
-        add_last(alloc, text, last)?;
-    }
-    Ok(text.push_str(" endmodule []")?)
-}
-
-/// How many claims a file has, or what is wrong with it.
-fn told_by(alloc: Global, signature: &Signature, file: &[u8]) -> Result<String, Fail> {
-    match read_claims(alloc, file, signature) {
-        Ok(items) => Ok(format!(in alloc; "{}", items.len())?),
-        Err(error) => error_text(alloc, &error),
-    }
-}
-
-fn told(alloc: Global, file: &[u8]) -> Result<String, Fail> {
-    let definition = definition(alloc)?;
-    let signature = signature_of(alloc, &definition.modules)?;
-    told_by(alloc, &signature, file)
-}
-
-fn told_of(alloc: Global, last: usize, ring: bool) -> Result<String, Fail> {
-    let file = chain(alloc, last, ring)?;
-    told(alloc, file.as_bytes())
+    Ok(())
 }
 
 #[test]
 fn a_file_of_a_hundred_thousand_claims_in_a_chain(rt: HostRuntime) -> Result<(), Fail> {
-    assert_eq!(rt; told_of(rt.alloc(), 99_999, false)?.as_str(), "100000");
+    let mut table = String::new(rt.alloc());
+    add_claims(rt.alloc(), &mut table, 99_999)?;
+    add_label(rt.alloc(), &mut table, 99_999)?;
+    table.push_str(r#"")] endmodule [] -> 100000"#)?;
+    assert_eq!(rt;
+        first_failed(rt.alloc(), TOYS, &[(Asked::Number, table.as_str())]),
+        None
+    );
     Ok(())
 }
 
 #[test]
 fn a_file_of_fifty_thousand_claims_in_a_ring(rt: HostRuntime) -> Result<(), Fail> {
-    assert_eq!(rt; told_of(rt.alloc(), 49_999, true)?.as_str(), "C5");
+    let mut table = String::new(rt.alloc());
+    add_claims(rt.alloc(), &mut table, 49_999)?;
+    add_claim(rt.alloc(), &mut table, 49_999, 0)?;
+    table.push_str(" endmodule [] -> C5")?;
+    assert_eq!(rt;
+        first_failed(rt.alloc(), TOYS, &[(Asked::Number, table.as_str())]),
+        None
+    );
     Ok(())
 }

@@ -1,7 +1,34 @@
-use crate::texts::signature;
+use crate::rows::{Asked, first_failed};
 use kp_kore::Sort;
-use std::alloc::Global;
-use std::test::Fail;
+use kp_signature::Signature;
+use std::alloc::{AllocError, Global};
+
+/// The sort of this name without arguments.
+pub(crate) fn sort_named(alloc: Global, name: &str) -> Result<Sort, AllocError> {
+    Ok(Sort::App {
+        name: String::from_str(alloc, name)?,
+        arguments: Vec::new(alloc),
+    })
+}
+
+/// Adds whether `A < B`.
+pub(crate) fn below_told(
+    alloc: Global,
+    signature: &Signature,
+    text: &str,
+    told: &mut String,
+) -> Result<(), AllocError> {
+    let Some((lower, upper)) = text.split_once(" < ") else {
+        return told.push_str("no sorts");
+    };
+    let lower = sort_named(alloc, lower)?;
+    let upper = sort_named(alloc, upper)?;
+    told.push_str(if signature.subsort(&lower, &upper) {
+        "yes"
+    } else {
+        "no"
+    })
+}
 
 /// A below B below C, D below B, and a pair that follows from others.
 const LADDER: &str = r#"module LADDER
@@ -21,44 +48,37 @@ const RING: &str = r#"module RING
 endmodule []
 "#;
 
-/// The sort of this name without arguments.
-fn sort_named(alloc: Global, name: &str) -> Result<Sort, Fail> {
-    Ok(Sort::App {
-        name: String::from_str(alloc, name)?,
-        arguments: Vec::new(alloc),
-    })
-}
+/// Which sorts lie below others by all pairs.
+const IN_LADDER: &str = "A < C -> yes
+D < C -> yes
+C < A -> no
+A < D -> no
+N < N -> yes
+N < C -> no";
 
-/// Whether the one sort lies below the other over the definition.
-fn is_below(alloc: Global, text: &str, lower: &str, upper: &str) -> Result<bool, Fail> {
-    let lower = sort_named(alloc, lower)?;
-    let upper = sort_named(alloc, upper)?;
-    let signature = signature(alloc, text)?;
-    Ok(signature.subsort(&lower, &upper))
-}
+/// The same where paths meet.
+const IN_OVERLAP: &str = "A < D -> yes
+E < D -> yes
+E < C -> no
+B < C -> no";
+
+/// The same in and around a ring.
+const IN_RING: &str = "A < C -> yes
+C < B -> yes
+D < A -> yes
+B < E -> yes
+A < D -> no
+E < A -> no";
+
+/// The modules with their tables.
+const LADDERS: [(&str, &str); 3] = [(LADDER, IN_LADDER), (OVERLAP, IN_OVERLAP), (RING, IN_RING)];
 
 #[test]
-fn sorts_lie_below_others_by_all_pairs(rt: HostRuntime) -> Result<(), Fail> {
-    let rows = [
-        (LADDER, "A", "C", true),
-        (LADDER, "D", "C", true),
-        (LADDER, "C", "A", false),
-        (LADDER, "A", "D", false),
-        (LADDER, "N", "N", true),
-        (LADDER, "N", "C", false),
-        (OVERLAP, "A", "D", true),
-        (OVERLAP, "E", "D", true),
-        (OVERLAP, "E", "C", false),
-        (OVERLAP, "B", "C", false),
-        (RING, "A", "C", true),
-        (RING, "C", "B", true),
-        (RING, "D", "A", true),
-        (RING, "B", "E", true),
-        (RING, "A", "D", false),
-        (RING, "E", "A", false),
-    ];
-    for (text, lower, upper, told) in &rows {
-        assert_eq!(rt; is_below(rt.alloc(), *text, *lower, *upper)?, *told);
+fn sorts_lie_below_others_by_all_pairs(rt: HostRuntime) {
+    for (module, table) in LADDERS {
+        assert_eq!(rt;
+            first_failed(rt.alloc(), module, &[(Asked::Below, table)]),
+            None
+        );
     }
-    Ok(())
 }

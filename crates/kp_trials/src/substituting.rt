@@ -1,6 +1,6 @@
-use crate::texts::pattern;
 use kp_substitution::{Replacement, substitute};
-use std::alloc::Global;
+use kp_text::read_pattern;
+use std::alloc::{AllocError, Global};
 use std::test::Fail;
 
 /// A pattern, and what it is with 2 for X and f() for Y.
@@ -24,28 +24,41 @@ const ROWS: [(&str, &str); 5] = [
     (r#"@X:SortInt{}"#, r#"@X:SortInt{}"#),
 ];
 
-fn replacement(alloc: Global, name: &str, term: &str) -> Result<Replacement, Fail> {
-    Ok(Replacement {
-        name: String::from_str(alloc, name)?,
-        term: pattern(alloc, term)?,
-    })
+/// Adds the term of a text for a name.
+fn add_replacement(
+    alloc: Global,
+    name: &str,
+    term: &str,
+    replacements: &mut Vec<Replacement>,
+) -> Result<(), AllocError> {
+    let name = String::from_str(alloc, name)?;
+    if let Ok(term) = read_pattern(alloc, term.as_bytes()) {
+        replacements.push(Replacement { name, term })?;
+    }
+    Ok(())
+}
+
+/// Whether a text with the terms put in is what is wanted.
+fn becomes(alloc: Global, terms: &[Replacement], text: &str, wanted: &str) -> bool {
+    let Ok(before) = read_pattern(alloc, text.as_bytes()) else {
+        return false;
+    };
+    let Ok(wanted) = read_pattern(alloc, wanted.as_bytes()) else {
+        return false;
+    };
+    match substitute(alloc, &before, terms) {
+        Ok(found) => found.equal(&wanted),
+        Err(AllocError) => false,
+    }
 }
 
 #[test]
 fn closed_terms_are_put_in_for_free_variables(rt: HostRuntime) -> Result<(), Fail> {
-    let alloc = rt.alloc();
-    let mut replacements = Vec::new(alloc);
-    replacements
-        .push(replacement(alloc, "X", r#"\dv{SortInt{}}("2")"#)?)
-        .map_err(|_| "memory")?;
-    replacements
-        .push(replacement(alloc, "Y", r#"Lblf{}()"#)?)
-        .map_err(|_| "memory")?;
+    let mut terms = Vec::new(rt.alloc());
+    add_replacement(rt.alloc(), "X", r#"\dv{SortInt{}}("2")"#, &mut terms)?;
+    add_replacement(rt.alloc(), "Y", "Lblf{}()", &mut terms)?;
     for (text, wanted) in ROWS {
-        let before = pattern(alloc, text)?;
-        let wanted = pattern(alloc, wanted)?;
-        let found = substitute(alloc, &before, &replacements)?;
-        assert!(rt; found.equal(&wanted));
+        assert!(rt; becomes(rt.alloc(), &terms, text, wanted), "{text}");
     }
     Ok(())
 }

@@ -1,10 +1,12 @@
-use crate::texts::signature;
+use crate::rows::{Asked, NONE, first_failed};
+use crate::subsorts::sort_named;
 use kp_heads::HeadTable;
-use kp_kore::Sort;
+use kp_kore::Module;
 use kp_signature::Signature;
-use std::alloc::Global;
-use std::test::Fail;
+use kp_text::read_module;
+use std::alloc::{AllocError, Global};
 
+/// The sorts, above the sentences of a row.
 const START: &str = r#"module VALUES
   hooked-sort SortInt{} [hook{}("INT.Int")]
   sort SortId{} [hasDomainValues{}()]
@@ -13,122 +15,61 @@ const START: &str = r#"module VALUES
   sort SortG{} []
 "#;
 
-const END: &str = r#"
-endmodule []
-"#;
+/// Adds whether the sort of a name has a value over a module, and whether the constructor `Lbln` heads one.
+fn sort_told(
+    alloc: Global,
+    module: &Module,
+    name: &str,
+    told: &mut String,
+) -> Result<(), AllocError> {
+    let sort = sort_named(alloc, name)?;
+    let signature = Signature::new(alloc, &[module])?;
+    let table = HeadTable::new(alloc, &signature)?;
+    told.push_str(if table.has_value(&signature, &sort) {
+        "yes, "
+    } else {
+        "no, "
+    })?;
+    told.push_str(if table.is_live(&signature, "Lbln") {
+        "yes"
+    } else {
+        "no"
+    })
+}
 
-const LOOP: &str = "symbol Lblloop{}(SortE{}) : SortE{} [constructor{}()]\n";
-
-const UP: &str =
-    "axiom{} \\top{SortF{}}() [subsort{SortE{}, SortF{}}()]\naxiom{} \\top{SortG{}}() [subsort{SortF{}, SortG{}}()]\n";
-
-/// Whether the sort has a value, and the constructor `Lbln` heads one, over the signature of these two texts.
-fn answers(alloc: Global, first: &str, second: &str, name: &str) -> Result<(bool, bool), Fail> {
-    let mut text = String::from_str(alloc, START)?;
-    text.push_str(first)?;
-    text.push_str(second)?;
-    text.push_str(END)?;
-    let sort = Sort::App {
-        name: String::from_str(alloc, name)?,
-        arguments: Vec::new(alloc),
+/// The same of a row's text: a sort's name, and the module's sentences.
+pub(crate) fn heads_told(alloc: Global, text: &str, told: &mut String) -> Result<(), AllocError> {
+    let Some((name, sentences)) = text.split_once(":") else {
+        return told.push_str("no sort");
     };
-    let signature = signature(alloc, text.as_str())?;
-    told(alloc, &signature, &sort)
+    let text = format!(in alloc; "{}{sentences}\nendmodule []", START)?;
+    match read_module(alloc, text.as_bytes()) {
+        Ok(module) => sort_told(alloc, &module, name, told),
+        Err(_) => told.push_str("no module"),
+    }
 }
 
-fn told(alloc: Global, signature: &Signature, sort: &Sort) -> Result<(bool, bool), Fail> {
-    let table = HeadTable::new(alloc, signature)?;
-    Ok((
-        table.has_value(signature, sort),
-        table.is_live(signature, "Lbln"),
-    ))
-}
+/// Sorts with sentences: whether they have a value, and whether `Lbln` heads one.
+const SORTS: &str = r"SortE: -> no, no
+SortInt: -> yes, no
+SortId: -> yes, no
+SortUnknown: -> no, no
+SortE: symbol Lblloop{}(SortE{}) : SortE{} [constructor{}()] -> no, no
+SortE: symbol Lblloop{}(SortE{}) : SortE{} [constructor{}()] symbol Lbln{}() : SortE{} [constructor{}()] -> yes, yes
+SortE: symbol Lblloop{}(SortE{}) : SortE{} [constructor{}()] symbol Lbln{}() : SortE{} [constructor{}(), assoc{}()] -> no, no
+SortE: symbol Lblloop{}(SortE{}) : SortE{} [constructor{}()] symbol Lbln{}() : SortE{} [function{}()] -> no, no
+SortF: symbol Lblloop{}(SortE{}) : SortE{} [constructor{}()] symbol Lbln{}(SortInt{}, SortE{}) : SortF{} [constructor{}()] -> no, no
+SortF: symbol Lblloop{}(SortE{}) : SortE{} [constructor{}()] symbol Lbln{}(SortInt{}, SortId{}) : SortF{} [constructor{}()] -> yes, yes
+SortG: axiom{} \top{SortF{}}() [subsort{SortE{}, SortF{}}()] axiom{} \top{SortG{}}() [subsort{SortF{}, SortG{}}()] symbol Lbln{}() : SortE{} [constructor{}()] -> yes, yes
+SortE: axiom{} \top{SortF{}}() [subsort{SortE{}, SortF{}}()] axiom{} \top{SortG{}}() [subsort{SortF{}, SortG{}}()] symbol Lbln{}() : SortG{} [constructor{}()] -> no, yes
+SortG: axiom{} \top{SortF{}}() [subsort{SortE{}, SortF{}}()] axiom{} \top{SortG{}}() [subsort{SortF{}, SortG{}}()] symbol Lbln{}(SortG{}) : SortE{} [constructor{}()] -> no, no
+SortInt: symbol Lbln{}(SortE{}) : SortInt{} [constructor{}()] -> yes, no
+SortE: symbol inj{From, To}(From, To) : To [constructor{}()] -> no, no";
 
 #[test]
-fn sorts_have_values_where_constructors_and_subsorts_make_them(
-    rt: HostRuntime,
-) -> Result<(), Fail> {
-    let rows = [
-        ("", "", "SortE", false, false),
-        ("", "", "SortInt", true, false),
-        ("", "", "SortId", true, false),
-        ("", "", "SortUnknown", false, false),
-        (LOOP, "", "SortE", false, false),
-        (
-            LOOP,
-            "symbol Lbln{}() : SortE{} [constructor{}()]",
-            "SortE",
-            true,
-            true,
-        ),
-        (
-            LOOP,
-            "symbol Lbln{}() : SortE{} [constructor{}(), assoc{}()]",
-            "SortE",
-            false,
-            false,
-        ),
-        (
-            LOOP,
-            "symbol Lbln{}() : SortE{} [function{}()]",
-            "SortE",
-            false,
-            false,
-        ),
-        (
-            LOOP,
-            "symbol Lbln{}(SortInt{}, SortE{}) : SortF{} [constructor{}()]",
-            "SortF",
-            false,
-            false,
-        ),
-        (
-            LOOP,
-            "symbol Lbln{}(SortInt{}, SortId{}) : SortF{} [constructor{}()]",
-            "SortF",
-            true,
-            true,
-        ),
-        (
-            UP,
-            "symbol Lbln{}() : SortE{} [constructor{}()]",
-            "SortG",
-            true,
-            true,
-        ),
-        (
-            UP,
-            "symbol Lbln{}() : SortG{} [constructor{}()]",
-            "SortE",
-            false,
-            true,
-        ),
-        (
-            UP,
-            "symbol Lbln{}(SortG{}) : SortE{} [constructor{}()]",
-            "SortG",
-            false,
-            false,
-        ),
-        (
-            "",
-            "symbol Lbln{}(SortE{}) : SortInt{} [constructor{}()]",
-            "SortInt",
-            true,
-            false,
-        ),
-        (
-            "",
-            "symbol inj{From, To}(From, To) : To [constructor{}()]",
-            "SortE",
-            false,
-            false,
-        ),
-    ];
-    for (first, second, name, has_value, is_live) in &rows {
-        let answer = answers(rt.alloc(), *first, *second, *name)?;
-        assert_eq!(rt; answer.0, *has_value);
-        assert_eq!(rt; answer.1, *is_live);
-    }
-    Ok(())
+fn sorts_have_values_where_constructors_and_subsorts_make_them(rt: HostRuntime) {
+    assert_eq!(rt;
+        first_failed(rt.alloc(), NONE, &[(Asked::Heads, SORTS)]),
+        None
+    );
 }

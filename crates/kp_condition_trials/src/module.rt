@@ -1,0 +1,21 @@
+/// Numbers with sums, truth values with their functions, three constructors of S, a foreign symbol, and inj.
+pub(crate) const SMALL: &str = r#"module SMALL
+  hooked-sort Int{} [hook{}("INT.Int")]
+  hooked-sort Bool{} [hook{}("BOOL.Bool")]
+  sort S{} []
+  symbol inj{From, To}(From) : To []
+  symbol f{}(Int{}) : S{} [constructor{}()]
+  symbol g{}(S{}) : S{} [constructor{}()]
+  symbol pair{}(Int{}, S{}) : S{} [constructor{}()]
+  symbol h{}(S{}) : S{} []
+  hooked-symbol plus{}(Int{}, Int{}) : Int{} [hook{}("INT.add")]
+  hooked-symbol minus{}(Int{}, Int{}) : Int{} [hook{}("INT.sub")]
+  hooked-symbol less{}(Int{}, Int{}) : Bool{} [hook{}("INT.lt")]
+  hooked-symbol and{}(Bool{}, Bool{}) : Bool{} [hook{}("BOOL.and")]
+  hooked-symbol or{}(Bool{}, Bool{}) : Bool{} [hook{}("BOOL.or")]
+  hooked-symbol implies{}(Bool{}, Bool{}) : Bool{} [hook{}("BOOL.implies")]
+  hooked-symbol not{}(Bool{}) : Bool{} [hook{}("BOOL.not")]
+  hooked-symbol same{}(S{}, S{}) : Bool{} [hook{}("KEQUAL.eq")]
+  hooked-symbol differ{}(S{}, S{}) : Bool{} [hook{}("KEQUAL.ne")]
+endmodule []
+"#;
