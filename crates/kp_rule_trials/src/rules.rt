@@ -137,7 +137,7 @@ fn a_rule_has_its_label(rt: HostRuntime) -> Result<(), Fail> {
 const LEFT: &str = r#"pair{}(\dv{Int{}}("7"), \dv{Int{}}("seven"))"#;
 
 /// Whether the skeleton of the left side may be a value.
-fn skeleton.admits(alloc: Global, signature: &Signature, value: &Value) -> Result<bool, Fail> {
+fn skeleton_may_be(alloc: Global, signature: &Signature, value: &Value) -> Result<bool, Fail> {
     let index = SortIndex::new(alloc, signature)?;
     let sort = sort(alloc, "E")?;
     let left = pattern(alloc, LEFT)?;
@@ -148,7 +148,7 @@ fn skeleton.admits(alloc: Global, signature: &Signature, value: &Value) -> Resul
 /// The same of a text's value.
 fn may_be(alloc: Global, signature: &Signature, text: &str) -> Result<bool, Fail> {
     let value = value(alloc, signature, text)?;
-    skeleton.admits(alloc, signature, &value)
+    skeleton_may_be(alloc, signature, &value)
 }
 
 /// What is said of a term's text.
