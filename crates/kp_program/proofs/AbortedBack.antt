@@ -22,7 +22,7 @@ use Rattle.kp_replies.specs.Failures.{weight_name, limit_tree, with_limit}
 use Rattle.kp_replies.specs.Read.{Method, execute, implies, simplify, add_module, ServerReply, executed, implied, read_state, nexts_of, executed_from, read_executed, read_implied, read_reply}
 use Rattle.kp_replies.specs.Replies.{IsReplyOf}
 use Rattle.kp_replies.specs.Written.{state_tree}
-use Rattle.kp_replies.proofs.Lines.{same_front}
+use Rattle.kp_program.proofs.ReplyLines.{same_front}
 use Rattle.kp_program.proofs.ResultTrees.{same}
 use Rattle.kp_program.proofs.ResultsBack.{state_tree_back}
 use Rattle.kp_program.proofs.WideNumbers.{IsWide, decimal_kinds, lexemes, lex_up_to, read_outline, unread}

@@ -25,7 +25,7 @@ use Rattle.kp_replies.specs.Replies.{IsReplyOf, IsImpliedReadBack}
 use Rattle.kp_replies.specs.Right.{asked_options, IsMainAsked}
 use Rattle.kp_replies.specs.Written.{executed_tree, simplified_tree, added_tree}
 use Rattle.kp_replies.proofs.Alone.{implication_line_alone, implication_line_no_run}
-use Rattle.kp_replies.proofs.Texts.{line_read}
+use Rattle.kp_program.proofs.ReplyLines.{line_read}
 use Rattle.kp_requests.specs.Requests as requests
 use Rattle.kp_requests.specs.Requests.{Asked, asks, refused, Call, Frame, single}
 use Rattle.kp_requests.specs.Read.{read_frame}

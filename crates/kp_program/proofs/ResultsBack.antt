@@ -15,8 +15,7 @@ use Rattle.kp_results.specs.Results.{NextParts, Ending, vacuous, depth_bound, st
 use Rattle.kp_replies.specs.Read.{execute, implies, ServerReply, executed, implied, read_executed, read_implied}
 use Rattle.kp_replies.specs.Replies.{IsReplyOf, StandWith}
 use Rattle.kp_replies.specs.Written.{state_tree, next_tree, next_trees, with_nexts, executed_members, executed_tree}
-use Rattle.kp_replies.proofs.Lines.{same_front}
-use Rattle.kp_replies.proofs.Texts.{executed_line_read}
+use Rattle.kp_program.proofs.ReplyLines.{same_front, executed_line_read}
 use Rattle.kp_program.specs.Lists.{lists_two}
 use Rattle.kp_program.proofs.ListsBack.{part_two}
 use Rattle.kp_program.proofs.ResultTrees.{same, AreReadBack, one_state, two_state, one_made, two_made, one_next, two_next, one_next_made, two_next_made, first_made, plain_tree, items_made, state_made, mapped, result_only, result_is_no_implication}

@@ -1,0 +1,138 @@
+-- The members of a tree that is read as a request, and those of its params.
+use Rattle.std.proofs.Common.{◌≡◌, Option, Some, None, option_and_then, refl, sym, ap, ◌∙◌}
+use Rattle.std.specs.Prelude.{codes}
+use Rattle.serde_json.specs.Data.{Data, null, boolean, number, string, array, object, Members, unsigned, negative, float}
+use Rattle.serde_json.specs.Find.{get, get_member, as_str}
+use Rattle.kp_kore.specs.Syntax.{Text}
+use Rattle.kp_rpc.specs.Request.{ExecuteOptions, HasParams, HasSides, RequestId, IsIdTree, IsRequest}
+use Rattle.kp_rpc.specs.Readings.{if_object, read_object, read_options, read_state, read_all_options, read_side, read_text, read_module, read_id}
+use Rattle.kp_rpc.proofs.OptionsRead.{options_found, options_told, text_found, text_told}
+
+-- ---- params
+
+pub record StateAndOptions (o : Members) (s : Data) (options : ExecuteOptions) : Type 0 where
+  pub state : Members
+  pub state_is : s ≡ object state
+  pub params : HasParams o state options
+
+state_in : (o p : Members) (x : Option Data) (s : Data) (options : ExecuteOptions) → get_member (codes "params") o ≡ Some (object p) → get_member (codes "state") p ≡ x
+    → option_and_then if_object x ≡ Some s → read_options (object p) ≡ Some options → StateAndOptions o s options
+state_in o p None s options has is e r = absurd (cc e)
+state_in o p (Some null) s options has is e r = absurd (cc e)
+state_in o p (Some (boolean b)) s options has is e r = absurd (cc e)
+state_in o p (Some (number n)) s options has is e r = absurd (cc e)
+state_in o p (Some (string t)) s options has is e r = absurd (cc e)
+state_in o p (Some (array ds)) s options has is e r = absurd (cc e)
+state_in o p (Some (object q)) s options has is e r =
+    record { state = q; state_is = cc e; params = record { params = p; has_params = has; has_state = is; has_options = options_found p options r } }
+
+params_in : (o : Members) (x : Option Data) (s : Data) (options : ExecuteOptions) → get_member (codes "params") o ≡ x
+    → option_and_then (read_object (codes "state")) (option_and_then if_object x) ≡ Some s → option_and_then read_options (option_and_then if_object x) ≡ Some options → StateAndOptions o s options
+params_in o None s options is e r = absurd (cc e)
+params_in o (Some null) s options is e r = absurd (cc e)
+params_in o (Some (boolean b)) s options is e r = absurd (cc e)
+params_in o (Some (number n)) s options is e r = absurd (cc e)
+params_in o (Some (string t)) s options is e r = absurd (cc e)
+params_in o (Some (array ds)) s options is e r = absurd (cc e)
+params_in o (Some (object p)) s options is e r = state_in o p (get_member (codes "state") p) s options is refl e r
+
+pub params_found : (o : Members) (s : Data) (options : ExecuteOptions) → read_state (object o) ≡ Some s → read_all_options (object o) ≡ Some options → StateAndOptions o s options
+params_found o s options e r = params_in o (get_member (codes "params") o) s options refl e r
+
+pub state_told : (o state : Members) (options : ExecuteOptions) → HasParams o state options → read_state (object o) ≡ Some (object state)
+state_told o state options h =
+    ap (λ x. option_and_then (read_object (codes "state")) (option_and_then if_object x)) h.has_params ∙ ap (λ x. option_and_then if_object x) h.has_state
+
+pub options_all_told : (o state : Members) (options : ExecuteOptions) → HasParams o state options → read_all_options (object o) ≡ Some options
+options_all_told o state options h =
+    ap (λ x. option_and_then read_options (option_and_then if_object x)) h.has_params ∙ options_told h.params options h.has_options
+
+-- ---- the sides of implies
+
+pub object_in : (x : Option Data) (d : Data) → option_and_then if_object x ≡ Some d → (q : Members) × (x ≡ Some (object q)) × (d ≡ object q)
+object_in None d e = absurd (cc e)
+object_in (Some null) d e = absurd (cc e)
+object_in (Some (boolean b)) d e = absurd (cc e)
+object_in (Some (number n)) d e = absurd (cc e)
+object_in (Some (string t)) d e = absurd (cc e)
+object_in (Some (array ds)) d e = absurd (cc e)
+object_in (Some (object q)) d e = (q, refl, cc e)
+
+present_in : {B : Type 0} (f : Data → Option B) (x : Option Data) (b : B) → option_and_then f x ≡ Some b → (d : Data) × (x ≡ Some d) × (f d ≡ Some b)
+present_in f None b e = absurd (cc e)
+present_in f (Some d) b e = (d, refl, e)
+
+-- params, with a member that is an object
+record Side (o : Members) (key : Text) (s : Data) : Type 0 where
+  pub params : Members
+  pub has_params : get_member (codes "params") o ≡ Some (object params)
+  pub side : Members
+  pub has_side : get_member key params ≡ Some (object side)
+
+side_found : (o : Members) (key : Text) (s : Data) → read_side key (object o) ≡ Some s → Side o key s
+side_found o key s e =
+    let params = present_in (read_object key) (read_object (codes "params") (object o)) s e in
+    let p = object_in (get_member (codes "params") o) params.0 params.1 in
+    let inside : read_object key (object p.0) ≡ Some s = ap (read_object key) (sym p.2) ∙ params.2 in
+    let q = object_in (get_member key p.0) s inside in
+    record { params = p.0; has_params = p.1; side = q.0; has_side = q.1 }
+
+pub record SidesAndName (o : Members) (name : Option Text) : Type 0 where
+  pub antecedent : Members
+  pub consequent : Members
+  pub sides : HasSides o antecedent consequent name
+
+pub sides_found : (o : Members) (a c : Data) (name : Option Text) → read_side (codes "antecedent") (object o) ≡ Some a → read_side (codes "consequent") (object o) ≡ Some c
+    → read_module (object o) ≡ Some name → SidesAndName o name
+sides_found o a c name e f m =
+    let left = side_found o (codes "antecedent") a e in
+    let inside : read_side (codes "consequent") (object o) ≡ read_object (codes "consequent") (object left.params) = ap (λ x. option_and_then (read_object (codes "consequent")) (option_and_then if_object x)) left.has_params in
+    let named : read_module (object o) ≡ read_text (get_member (codes "module") left.params) = ap (λ x. option_and_then (λ p. read_text (get (codes "module") p)) (option_and_then if_object x)) left.has_params in
+    let right = object_in (get_member (codes "consequent") left.params) c (sym inside ∙ f) in
+    record {
+      antecedent = left.side;
+      consequent = right.0;
+      sides = record { params = left.params; has_params = left.has_params; has_antecedent = left.has_side; has_consequent = right.1; has_module = text_found left.params (codes "module") name (sym named ∙ m) };
+    }
+
+pub side_told : (o p q : Members) (key : Text) → get_member (codes "params") o ≡ Some (object p) → get_member key p ≡ Some (object q) → read_side key (object o) ≡ Some (object q)
+side_told o p q key h k = ap (λ x. option_and_then (read_object key) (option_and_then if_object x)) h ∙ ap (option_and_then if_object) k
+
+pub module_told : (o a c : Members) (name : Option Text) → HasSides o a c name → read_module (object o) ≡ Some name
+module_told o a c name h = ap (λ x. option_and_then (λ p. read_text (get (codes "module") p)) (option_and_then if_object x)) h.has_params ∙ text_told h.params (codes "module") name h.has_module
+
+-- ---- headings
+
+text_is : (x : Option Data) (t : Text) → Some t ≡ option_and_then as_str x → x ≡ Some (string t)
+text_is None t e = absurd (cc e)
+text_is (Some null) t e = absurd (cc e)
+text_is (Some (boolean b)) t e = absurd (cc e)
+text_is (Some (number n)) t e = absurd (cc e)
+text_is (Some (string u)) t e = cc e
+text_is (Some (array ds)) t e = absurd (cc e)
+text_is (Some (object o)) t e = absurd (cc e)
+
+lawful_is : (d : Data) (id : RequestId) → Some id ≡ read_id d → IsIdTree d id
+lawful_is null id e = cc e
+lawful_is (boolean b) id e = absurd (cc e)
+lawful_is (number (unsigned n)) id e = cc e
+lawful_is (number (negative z)) id e = cc e
+lawful_is (number (float x)) id e = absurd (cc e)
+lawful_is (string t) id e = cc e
+lawful_is (array ds) id e = absurd (cc e)
+lawful_is (object o) id e = absurd (cc e)
+
+id_is : (x : Option Data) (id : RequestId) → Some id ≡ option_and_then read_id x → (d : Data) × (x ≡ Some d) × IsIdTree d id
+id_is None id e = absurd (cc e)
+id_is (Some d) id e = (d, refl, lawful_is d id e)
+
+pub request_is : (d : Data) (id : RequestId) (method : Text) → Some (codes "2.0") ≡ option_and_then as_str (get (codes "jsonrpc") d)
+    → Some method ≡ option_and_then as_str (get (codes "method") d) → Some id ≡ option_and_then read_id (get (codes "id") d)
+    → (o : Members) × (d ≡ object o) × IsRequest o id method
+request_is null id method v m i = absurd (cc m)
+request_is (boolean b) id method v m i = absurd (cc m)
+request_is (number n) id method v m i = absurd (cc m)
+request_is (string t) id method v m i = absurd (cc m)
+request_is (array ds) id method v m i = absurd (cc m)
+request_is (object o) id method v m i =
+    (o, refl, record { version = text_is _ (codes "2.0") v; method_text = text_is _ method m; has_id = id_is _ id i })
