@@ -20,8 +20,8 @@ def line(reply):
 def wanted_reply(definition, request_id, term, sort, bound):
     """The reply, and the word under which it is counted."""
     ended = execute(definition, value_of(term, {}), sort, bound)
-    if ended is None:
-        return None, "T2"
+    if len(ended) == 1:
+        return None, ended[0]
     reason, depth, value, last = ended[:4]
     result = {"depth": depth, "reason": reason, "state": {"term": wrapped(value_json(definition, value, last))}}
     if reason == "aborted":
@@ -65,7 +65,7 @@ class Check:
                 continue
             self.counts[word] += 1
             # (runs that leave ground values are judged by examples/execute)
-            if word != "T2":
+            if reply:
                 self.run(["stdio", path, "--module", "MAIN"], json.dumps(request).encode(), (0, reply), f"{name}, request {place}")
 
     def implications(self, maker, path, name):

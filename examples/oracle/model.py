@@ -224,8 +224,8 @@ def firing(definition, rule, value):
 
 
 def step(definition, value):
-    """("foreign", id), ("wide",), ("stuck",), ("more",) where two rules have their turn or one chooses, or
-    ("next", value, the rule's sort)."""
+    """("foreign", id), ("wide",), ("stuck",), ("branching",) where two rules have their turn, ("open",) where one
+    chooses, or ("next", value, the rule's sort)."""
     foreign = [it for it in definition.rules if it.is_foreign and meets_skeleton(definition, it, value)]
     if foreign:
         return ("foreign", min(foreign, key=lambda it: it.priority).id)
@@ -245,7 +245,7 @@ def step(definition, value):
     rule, valuation = turns[0]
     chooses = any(it[0] != "top" for it in rule.ensured) or any(it[1] not in valuation for it in variables(rule.right))
     if len(turns) > 1 or chooses:
-        return ("more",)
+        return ("branching",) if len(turns) > 1 else ("open",)
     try:
         return ("next", value_of(rule.right, valuation), rule.sort)
     except Wide:
@@ -253,7 +253,8 @@ def step(definition, value):
 
 
 def execute(definition, value, sort, bound):
-    """(reason, depth, value, sort) with the rule's id behind where it is aborted, or None where no reply is given yet."""
+    """(reason, depth, value, sort) with the rule's id behind where it is aborted, or the reason alone, in words of
+    this model, where the run branches, leaves ground values or passes a limit."""
     depth = 0
     while depth != bound:
         taken = step(definition, value)
@@ -262,17 +263,18 @@ def execute(definition, value, sort, bound):
         if taken[0] == "stuck":
             return ("stuck", depth, value, sort)
         if taken[0] != "next":
-            return None
+            return (taken[0],)
         value = taken[1]
         sort = sort if taken[2] in definition.below[sort] else taken[2]
         if term_depth(value_json(definition, value, sort)) > DEEPEST_TERM:
-            return None
+            return ("deep",)
         depth += 1
     return ("depth-bound", depth, value, sort)
 
 
 def prove(definition, left, right, sort, most_steps):
-    """What a claim from one ground value to another comes to, as a report has it behind the label."""
+    """What a claim from one ground value to another comes to, as a report has it behind the label. Runs that leave
+    ground values aren't judged."""
     value, first, node = left, sort, 1
     while node <= 1000:
         if sort != first:
@@ -280,8 +282,10 @@ def prove(definition, left, right, sort, most_steps):
         if value == right:
             return "passed", ""
         ended = execute(definition, value, sort, most_steps)
-        if ended is None:
-            return "refused", "code 2"
+        if ended[0] in ("open", "deep"):
+            raise Wide
+        if len(ended) == 1:
+            return "refused", "code -32700"
         if ended[1] == 0:
             return ("failed", f"node {node}") if ended[0] == "stuck" else ("pending", f"node {node} foreign {ended[4]}")
         value, sort, node = ended[2], ended[3], node + 1
