@@ -10,7 +10,8 @@ words.py clauses: lists the clauses of more than 260 characters, the longest fir
 - A public type's name is that of one crate, or stands in the document's table of names of several types.
 - A file of the repository that a document names is there, and so is the definition that it names behind a file.
 - The tables of docs/ARCHITECTURE.md have the crates of crates.txt but those of tests, in order.
-- No function, outside the crates of tests, has a name that nobody could guess (VAGUE), or is without its `///` line.
+- No function, outside the crates of tests, has a name that nobody could guess (VAGUE, but for one
+  that the public interface fixed, FIXED_NAMES), or is without its `///` line.
 """
 import glob
 import os
@@ -19,6 +20,7 @@ import sys
 
 TOP = os.path.join(os.path.dirname(os.path.abspath(__file__)), "..", "..")
 FIXED = {"LoadFault", "TreeFault", "ProveFault", "TermFault", "OutsideFault"}
+FIXED_NAMES = {("crates/kp_graph/src/tree.rt", "held")}
 LIMITS = {"48": "levels of a term", "256": "nesting of a text", "10_000": "steps, nodes", "4_194_304": "bytes of a frame"}
 VAGUE = {"asked", "held", "right", "within", "put_in", "parts_read", "may_be"}
 STANDING = {
@@ -27,7 +29,6 @@ STANDING = {
     "crates/kp_requests/src/frame.rt: 4_194_304 (bytes of a frame) is FRAME_LIMIT here, too",
     "crates/kp_rpc/src/frame.rt: 4_194_304 (bytes of a frame) is FRAME_LIMIT here, too",
     "crates/kp_simplify/src/depth.rt: 48 (levels of a term) is MOST_DEPTH here, too",
-    "crates/kp_graph/src/tree.rt: `held` is a name that nobody could guess",
 }
 found, clauses = set(), []
 
@@ -152,7 +153,7 @@ def functions():
             it = re.match(r"\s*(?:pub(?:\(crate\))? )?fn (\w+)", line)
             if not it:
                 continue
-            if it[1] in VAGUE:
+            if it[1] in VAGUE and (path, it[1]) not in FIXED_NAMES:
                 found.add(f"{path}: `{it[1]}` is a name that nobody could guess")
             k = i - 1
             while k >= 0 and re.match(r"\s*(#\[|\)\]|[^/]*\)\]$)", lines[k]):

@@ -56,7 +56,7 @@ fn what_is_no_request_is_told(rt: HostRuntime) {
 }
 
 /// Requests that can't be served, and notifications, and their replies.
-const REQUESTS: [(&str, &str); 13] = [
+const REQUESTS: [(&str, &str); 15] = [
     // other methods are not found
     (
         r#"{"jsonrpc":"2.0","id":18446744073709551615,"method":"x"}"#,
@@ -65,6 +65,10 @@ const REQUESTS: [(&str, &str); 13] = [
     (
         r#"{"jsonrpc":"2.0","id":null,"method":"x"}"#,
         "{\"error\":{\"code\":-32601,\"message\":\"Method not found\"},\"id\":null,\"jsonrpc\":\"2.0\"}\n",
+    ),
+    (
+        r#"{"jsonrpc":"2.0","id":7,"method":"frobnicate"}"#,
+        "{\"error\":{\"code\":-32601,\"message\":\"Method not found\"},\"id\":7,\"jsonrpc\":\"2.0\"}\n",
     ),
     (
         r#"{"jsonrpc":"2.0","id":-5,"method":"x"}"#,
@@ -84,6 +88,10 @@ const REQUESTS: [(&str, &str); 13] = [
     ),
     (
         r#"{"jsonrpc":"2.0","id":"a","method":"execute","params":[]}"#,
+        PARAMS,
+    ),
+    (
+        r#"{"jsonrpc":"2.0","id":"a","method":"execute","params":{"state":{},"max-depth":-1}}"#,
         PARAMS,
     ),
     (r#"{"jsonrpc":"2.0","id":"a","method":"simplify"}"#, PARAMS),

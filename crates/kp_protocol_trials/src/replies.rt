@@ -3,69 +3,9 @@ use crate::table::{Subject, bytes, each_is_told, text, written};
 use kp_kore::{Pattern, Sort};
 use kp_replies::{executed_text, implied_text};
 use kp_results::{Executed, Implied, Reason, State};
-use kp_rpc::{
-    Execute, Id, Parsed, PatternFault, StateFault, fault_text, refusal_text, request_of, state_of,
-};
+use kp_rpc::{Id, PatternFault, StateFault, fault_text, refusal_text};
 use std::alloc::Global;
 use std::process::Abort;
-
-/// What is told of a request of execute: its depth and whether it has a state.
-fn execute_text(rt: &impl Abort, alloc: Global, execute: &Execute) -> Vec<u8> {
-    let has_state = state_of(&execute.request).is_some();
-    let depth = execute.options.max_depth.unwrap_or(0);
-    format!(in alloc; "depth {depth}, state {has_state}")
-        .expect(rt, "memory")
-        .into_bytes()
-}
-
-/// A frame.
-#[derive(Clone, Copy)]
-struct Frame(&'static str);
-
-impl Subject for Frame {
-    /// The reply to a frame that is refused, or what is told of a request.
-    fn told(&self, rt: &impl Abort, alloc: Global) -> Vec<u8> {
-        match request_of(alloc, self.0.as_bytes()).expect(rt, "memory") {
-            Parsed::Refused(id, refusal) => refusal_text(alloc, &id, refusal).expect(rt, "memory"),
-            Parsed::Execute(execute) => execute_text(rt, alloc, &execute),
-            Parsed::Implies(_) => bytes(rt, alloc, "implies"),
-        }
-    }
-}
-
-/// Frames, and their replies or what is told of them.
-const FRAMES: [(Frame, &str); 5] = [
-    (
-        Frame(r#"{"jsonrpc":"2.0","method":"exec"#),
-        "{\"error\":{\"code\":-32700,\"message\":\"Parse error\"},\"id\":null,\"jsonrpc\":\"2.0\"}\n",
-    ),
-    (
-        Frame("[]"),
-        "{\"error\":{\"code\":-32600,\"message\":\"Invalid Request\"},\"id\":null,\"jsonrpc\":\"2.0\"}\n",
-    ),
-    (
-        Frame(r#"{"jsonrpc":"2.0","id":7,"method":"frobnicate"}"#),
-        "{\"error\":{\"code\":-32601,\"message\":\"Method not found\"},\"id\":7,\"jsonrpc\":\"2.0\"}\n",
-    ),
-    (
-        Frame(
-            r#"{"jsonrpc":"2.0","id":"a","method":"execute","params":{"state":{},"max-depth":-1}}"#,
-        ),
-        "{\"error\":{\"code\":-32602,\"message\":\"Invalid params\"},\"id\":\"a\",\"jsonrpc\":\"2.0\"}\n",
-    ),
-    (
-        Frame(
-            r#" {"jsonrpc":"2.0","id":1,"method":"execute","params":{"state":{},"max-depth":5}} "#,
-        ),
-        "depth 5, state true",
-    ),
-];
-
-/// Frames of execute and implies are refused or accepted.
-#[test]
-fn frames_are_refused_or_accepted(rt: HostRuntime) {
-    each_is_told(&rt, rt.alloc(), &FRAMES);
-}
 
 /// The fault that there is no module of a name.
 fn no_module(rt: &impl Abort, alloc: Global) -> StateFault {

@@ -1,5 +1,5 @@
 -- The numbers of a tree that was read have 64 bits, so its id is one that a reader of JSON can have read.
-use Rattle.std.proofs.Common.{◌≡◌, inl, inr, ℕ, zero, suc, ◌<◌, ◌≤◌, ◌^◌, pos, negsuc, neg_ℤ, List, Option, Some, None, option_map, option_and_then, Bool, true, false, Ordering, Less, Equal, Greater, if◌then◌else◌, nat_lt, nat_le, ◌&&◌, ◌==◌, drop, slice_index, Float, refl, sym, subst, arith}
+use Rattle.std.proofs.Common.{◌≡◌, ℕ, zero, suc, ◌<◌, ◌≤◌, ◌^◌, pos, negsuc, neg_ℤ, List, Option, Some, None, option_map, option_and_then, Bool, true, false, Ordering, Less, Equal, Greater, if◌then◌else◌, nat_lt, nat_le, ◌&&◌, ◌==◌, drop, slice_index, Float, refl, sym, subst, arith}
 use Rattle.std.proofs.lemmas.Bool.{and_parts, ltb-true, leb-true}
 use Rattle.std.specs.Prelude.{codes, ⊤}
 use Rattle.std.specs.Cmp.Lexicographic.{slice_cmp}
@@ -12,9 +12,7 @@ use Rattle.serde_json.specs.Find.{get_member}
 use Rattle.serde_json.specs.Read.{is_integer, float_of, number_from, number_of, of_json, of_items, of_members, read, max_depth}
 use Rattle.kp_kore.specs.Syntax.{Text}
 use Rattle.kp_rpc.specs.Frame.{IsFrame}
-use Rattle.kp_rpc.specs.Request.{IsReadId, RequestId, id_null, IsIdTree, HasId, EchoesId}
-use Rattle.kp_rpc.specs.Reply.{RequestError, parse_error, invalid_request, method_not_found, invalid_params, no_module, no_pattern, not_verified}
-use Rattle.kp_rpc.specs.Causes.{IsRefused}
+use Rattle.kp_rpc.specs.Request.{IsReadId, RequestId, IsIdTree, HasId}
 
 -- ---- numbers
 
@@ -155,25 +153,3 @@ id_is (object o) id h is = absurd is
 
 pub id_read : (bytes : List ℕ) (o : Members) (id : RequestId) → IsFrame bytes (object o) → HasId o id → IsReadId id
 id_read bytes o id frame (d, has, is) = id_is d id (member_fits (codes "id") o d (read_fits bytes (object o) frame.reads) has) is
-
-null_read : (id : RequestId) → id ≡ id_null → IsReadId id
-null_read id is = subst IsReadId (sym is) tt
-
-pub echoed_read : (bytes : List ℕ) (d : Data) (id : RequestId) → IsFrame bytes d → EchoesId d id → IsReadId id
-echoed_read bytes null id frame is = null_read id is
-echoed_read bytes (boolean b) id frame is = null_read id is
-echoed_read bytes (number n) id frame is = null_read id is
-echoed_read bytes (string t) id frame is = null_read id is
-echoed_read bytes (array ds) id frame is = null_read id is
-echoed_read bytes (object o) id frame (inl has) = id_read bytes o id frame has
-echoed_read bytes (object o) id frame (inr (none, is)) = null_read id is
-
-pub refused_read : (bytes : List ℕ) (id : RequestId) (e : RequestError) → IsRefused bytes id e → IsReadId id
-refused_read bytes id parse_error (none, is) = null_read id is
-refused_read bytes id invalid_request (d, frame, none, echoes) = echoed_read bytes d id frame echoes
-refused_read bytes id method_not_found (o, method, frame, request, other) = id_read bytes o id frame request.has_id
-refused_read bytes id invalid_params (o, frame, inl (request, none)) = id_read bytes o id frame request.has_id
-refused_read bytes id invalid_params (o, frame, inr (request, none)) = id_read bytes o id frame request.has_id
-refused_read bytes id (no_module name) h = absurd h
-refused_read bytes id (no_pattern f) h = absurd h
-refused_read bytes id (not_verified f) h = absurd h

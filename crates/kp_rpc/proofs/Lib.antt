@@ -1,10 +1,10 @@
 pub mod Asked
 pub mod CompactRead
 pub mod Floats
-mod HeadingsRead
+pub mod HeadingsRead
 pub mod IdsRead
 pub mod OptionsRead
-mod ParamsRead
+pub mod ParamsRead
 pub mod PartsBack
 pub mod QuestionBack
 mod QuestionText

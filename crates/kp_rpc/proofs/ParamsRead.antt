@@ -6,7 +6,7 @@ use Rattle.serde_json.specs.Find.{get, get_member}
 use Rattle.kp_kore.specs.Syntax.{Text}
 use Rattle.kp_rpc.specs.Request.{ExecuteOptions, HasParams, HasSides}
 use Rattle.kp_rpc.specs.Readings.{if_object, read_object, read_options, read_state, read_all_options, read_side, read_text, read_module}
-use Rattle.kp_rpc.proofs.OptionsRead.{options_found, options_told, text_found, text_told}
+use Rattle.kp_rpc.proofs.OptionsRead.{options_found, text_found}
 
 pub record StateAndOptions (o : Members) (s : Data) (options : ExecuteOptions) : Type 0 where
   pub state : Members
@@ -36,14 +36,6 @@ params_in o (Some (object p)) s options is e r = state_in o p (get_member (codes
 
 pub params_found : (o : Members) (s : Data) (options : ExecuteOptions) → read_state (object o) ≡ Some s → read_all_options (object o) ≡ Some options → StateAndOptions o s options
 params_found o s options e r = params_in o (get_member (codes "params") o) s options refl e r
-
-pub state_told : (o state : Members) (options : ExecuteOptions) → HasParams o state options → read_state (object o) ≡ Some (object state)
-state_told o state options h =
-    ap (λ x. option_and_then (read_object (codes "state")) (option_and_then if_object x)) h.has_params ∙ ap (λ x. option_and_then if_object x) h.has_state
-
-pub options_all_told : (o state : Members) (options : ExecuteOptions) → HasParams o state options → read_all_options (object o) ≡ Some options
-options_all_told o state options h =
-    ap (λ x. option_and_then read_options (option_and_then if_object x)) h.has_params ∙ options_told h.params options h.has_options
 
 -- ---- the sides of implies
 
@@ -95,6 +87,3 @@ sides_found o a c name e f m =
 
 pub side_told : (o p q : Members) (key : Text) → get_member (codes "params") o ≡ Some (object p) → get_member key p ≡ Some (object q) → read_side key (object o) ≡ Some (object q)
 side_told o p q key h k = ap (λ x. option_and_then (read_object key) (option_and_then if_object x)) h ∙ ap (option_and_then if_object) k
-
-pub module_told : (o a c : Members) (name : Option Text) → HasSides o a c name → read_module (object o) ≡ Some name
-module_told o a c name h = ap (λ x. option_and_then (λ p. read_text (get (codes "module") p)) (option_and_then if_object x)) h.has_params ∙ text_told h.params (codes "module") name h.has_module

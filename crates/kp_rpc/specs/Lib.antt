@@ -1,8 +1,5 @@
-pub mod Causes
 pub mod Examples
 pub mod Frame
-pub mod Headings
-pub mod Outcomes
 pub mod Questions
 pub mod Readings
 pub mod Reply

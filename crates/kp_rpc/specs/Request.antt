@@ -39,11 +39,6 @@ IsReadId id_null = Unit {0}
 abbrev pub HasId : Members → RequestId → Type 0
 HasId o id = (d : Data) × Has o (codes "id") d × IsIdTree d id
 
--- the id that a reply to any tree carries: the object's where it is lawful, else null
-abbrev pub EchoesId : Data → RequestId → Type 0
-EchoesId (object o) id = HasId o id ⊎ (((lawful : RequestId) → ¬ HasId o lawful) × (id ≡ id_null))
-EchoesId _ id = id ≡ id_null
-
 -- an object with jsonrpc "2.0", a text method and a lawful id
 pub record IsRequest (o : Members) (id : RequestId) (method : Text) : Type 0 where
   pub version : HasText o (codes "jsonrpc") (codes "2.0")

@@ -44,17 +44,6 @@ fn number_id(number: &Number) -> Option<Id>
     }
 }
 
-/// The lawful id of a request object.
-pub fn id_at(value: &Value) -> Result<Option<Id>, AllocError>
-    ensures { IfOk result (λ o. option_map id_view o
-        ≡ option_and_then read_id (get (codes "id") (view value.now))) }
-{
-    match value.get("id") {
-        Some(member) => id_of(member),
-        None => Ok(None),
-    }
-}
-
 /// The tree of an id.
 pub fn id_value(id: &Id) -> Result<Value, AllocError>
     ensures { IfOk result (λ v. view v ≡ id_tree (id_view id.now)) }

@@ -6,10 +6,8 @@ ghost use Rattle.kp_kore.specs.Syntax.{KoreSort, KorePattern, top, bottom, conju
 ghost use Rattle.kp_kore.specs.Parts.{is_term};
 ghost use Rattle.kp_json.specs.Trees.{SpellsWrapped};
 ghost use Rattle.kp_rpc.specs.Frame.{IsFrame};
-ghost use Rattle.kp_rpc.specs.Request.{RequestId, IsReadId, EchoesId, ExecuteRequest, ImpliesRequest, IsExecute, IsImplies};
-ghost use Rattle.kp_rpc.specs.Causes.{IsRefused};
+ghost use Rattle.kp_rpc.specs.Request.{ExecuteRequest, ImpliesRequest, IsExecute, IsImplies};
 ghost use Rattle.kp_rpc.specs.Questions.{IsAskable, IsLawfulId, IsReadBack, question_tree, to_execute, to_imply};
-ghost use Rattle.kp_rpc.specs.Reply.{RequestError};
 ghost use Rattle.kp_rpc.specs.View.{id_view};
 ghost use Rattle.kp_rpc.specs.declared.id.Id.{Id as SpecId};
 
@@ -31,16 +29,6 @@ pub fn what_is_asked_to_imply_is_that_request()
 #[tactic(auto, using(crate::proofs::Asked::ids_are_lawful))]
 pub fn each_id_is_lawful()
     ensures { (id : SpecId) → IsLawfulId (id_view id) }
-{}
-
-/// The id that the reply to a frame carries is one that a reader of JSON can have read.
-pub fn the_id_of_a_frame_is_read()
-    ensures { (bytes : List ℕ) (d : Data) (id : RequestId) → IsFrame bytes d → EchoesId d id → IsReadId id }
-{}
-
-/// The id that the reply to refused bytes carries is one that a reader of JSON can have read.
-pub fn the_id_of_refused_bytes_is_read()
-    ensures { (bytes : List ℕ) (id : RequestId) (e : RequestError) → IsRefused bytes id e → IsReadId id }
 {}
 
 /// The tree that is written of a term spells no other pattern.

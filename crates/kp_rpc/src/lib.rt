@@ -1,7 +1,7 @@
 // Frames, requests, codes and faults of the protocol: what they are as bytes and as JSON trees (specs/, in the order Frame,
-// Request, Reply, Causes), examples of them, which the functions of examples.rt carry, and the code that reads a frame
-// into a request or the first cause why it is refused, and that writes the replies with an error. Replies with a result are
-// kp_replies'.
+// Request, Questions, Reply), examples of them, which the functions of examples.rt carry, and the code that reads a frame,
+// an id and the options of a request, that writes a client's questions and the replies with an error. Requests are read by
+// kp_requests; replies with a result are kp_replies'.
 #![tactic(auto)]
 
 pub mod examples;
@@ -17,10 +17,7 @@ mod request;
 pub use fault::{PatternFault, StateFault, fault_text, kind_value, named_value};
 pub use frame::{FrameError, frame_of, is_white};
 pub use id::{Id, id_of, id_value};
-pub use params::{
-    Options, ParamsError, antecedent_of, bound_of, consequent_of, object_at, options_of, state_of,
-    text_at,
-};
+pub use params::{Options, ParamsError, bound_of, object_at, options_of, text_at};
 pub use question::{Object, Question, question_text, request_value, with_member_at, with_text_at};
 pub use reply::{line_of, refusal_text};
-pub use request::{Execute, Implies, Parsed, Refusal, is_version_two, member_text, request_of};
+pub use request::{Refusal, is_version_two, member_text};

@@ -3,8 +3,8 @@ ghost use Rattle.serde_json.specs.Data.{array};
 ghost use Rattle.serde_json.specs.Find.{get};
 ghost use Rattle.serde_json.specs.View.{view, items_view};
 ghost use Rattle.kp_rpc.specs.Request.{bound_of};
-ghost use Rattle.kp_rpc.specs.View.{texts_view, options_view, name_view};
-ghost use Rattle.kp_rpc.specs.Readings.{read_number, read_text, read_texts, read_items, read_options, read_object, read_state, read_all_options, read_side, read_module};
+ghost use Rattle.kp_rpc.specs.View.{texts_view, options_view};
+ghost use Rattle.kp_rpc.specs.Readings.{read_number, read_text, read_texts, read_items, read_options, read_object};
 ghost use Rattle.kp_rpc.specs.declared.params.ParamsError.TheVariants.{OtherKind};
 
 use serde_json::Value;
@@ -162,75 +162,5 @@ pub fn object_at<'a>(value: &'a Value, key: &str) -> Option<&'a Value>
             None
         },
         None => None,
-    }
-}
-
-/// The state in the params of a request.
-pub fn state_of(request: &Value) -> Option<&Value>
-    ensures { option_map (λ v. view v.now) result ≡ read_state (view request.now) }
-{
-    match object_at(request, "params") {
-        Some(params) => object_at(params, "state"),
-        None => None,
-    }
-}
-
-/// The other members of a request's params.
-pub fn options_at(alloc: Global, request: &Value) -> Result<Options, ParamsError>
-    ensures found { IfOk result (λ o. read_all_options (view request.now) ≡ Some (options_view o)) }
-    ensures only { IfErr result (λ e. e ≡ OtherKind → read_all_options (view request.now) ≡ None) }
-{
-    match object_at(request, "params") {
-        Some(params) => options_of(alloc, params),
-        None => Err(ParamsError::OtherKind),
-    }
-}
-
-/// A side in the params of a request of implies.
-fn side_of<'a>(request: &'a Value, key: &str) -> Option<&'a Value>
-    ensures { option_map (λ v. view v.now) result ≡ read_side key.now (view request.now) }
-{
-    match object_at(request, "params") {
-        Some(params) => object_at(params, key),
-        None => None,
-    }
-}
-
-/// The antecedent in the params of a request of implies.
-pub fn antecedent_of(request: &Value) -> Option<&Value>
-    ensures { option_map (λ v. view v.now) result ≡ read_side (codes "antecedent") (view request.now) }
-{
-    side_of(request, "antecedent")
-}
-
-/// The consequent in the params of a request of implies.
-pub fn consequent_of(request: &Value) -> Option<&Value>
-    ensures { option_map (λ v. view v.now) result ≡ read_side (codes "consequent") (view request.now) }
-{
-    side_of(request, "consequent")
-}
-
-/// The module that params name.
-fn name_at(alloc: Global, params: &Value) -> Result<Option<String>, ParamsError>
-    ensures found { IfOk result (λ o. read_text (get (codes "module") (view params.now)) ≡ Some (name_view o)) }
-    ensures only { IfErr result (λ e. e ≡ OtherKind → read_text (get (codes "module") (view params.now)) ≡ None) }
-{
-    let Some(name) = text_at(params, "module") else {
-        return Err(ParamsError::OtherKind);
-    };
-    match name {
-        Some(text) => Ok(Some(String::from_str(alloc, text)?)),
-        None => Ok(None),
-    }
-}
-
-/// The module that a request's params name.
-pub fn module_at(alloc: Global, request: &Value) -> Result<Option<String>, ParamsError>
-    ensures found { IfOk result (λ o. read_module (view request.now) ≡ Some (name_view o)) }
-    ensures only { IfErr result (λ e. e ≡ OtherKind → read_module (view request.now) ≡ None) }
-{
-    match object_at(request, "params") {
-        Some(params) => name_at(alloc, params),
-        None => Err(ParamsError::OtherKind),
     }
 }
