@@ -282,10 +282,10 @@ def prove(definition, left, right, sort, most_steps):
         if value == right:
             return "passed", ""
         ended = execute(definition, value, sort, most_steps)
-        if ended[0] in ("open", "deep"):
+        if ended[0] == "open":
             raise Wide
         if len(ended) == 1:
-            return "refused", "code -32700"
+            return "refused", "code 2"
         if ended[1] == 0:
             return ("failed", f"node {node}") if ended[0] == "stuck" else ("pending", f"node {node} foreign {ended[4]}")
         value, sort, node = ended[2], ended[3], node + 1

@@ -10,7 +10,7 @@ use Rattle.kp_rpc.specs.Request.{RequestId}
 use Rattle.kp_results.specs.Results.{ExecutedParts}
 use Rattle.kp_replies.specs.Read.{Method, ServerReply, execute, implies, implied}
 use Rattle.kp_client.specs.Links.{Exchange, LinkState, Makes}
-use Rattle.kp_client.specs.Rounds.{IsGivenId, Asks, Tells, Refuses, by_error, by_no_reply, by_reason, by_no_text, MayAsk, unasked, asked, RoundBegins, with_cover, with_steps, BreaksOff, between, in_next, cover_question, step_question, least_open, most_rounds}
+use Rattle.kp_client.specs.Rounds.{IsGivenId, Asks, Tells, Refuses, by_error, by_no_reply, by_reason, by_unfinished, by_no_text, MayAsk, unasked, asked, RoundBegins, with_cover, with_steps, BreaksOff, between, in_next, cover_question, step_question, least_open, most_rounds}
 use Rattle.kp_client.specs.Answers.{IsCoverAnswer, IsStepAnswer, Made, MaySend, unsent, sent, BeginsSteps, BeginsRound, Played, IsHeard}
 use Rattle.kp_client.specs.declared.hear.Heard.{Heard}
 use Rattle.kp_client.specs.declared.hear.Heard.TheVariants as heard
@@ -67,6 +67,7 @@ refused_is_asked : (question : RequestId → Question) (method : Method) (es : L
 refused_is_asked question method _ code (by_error e c t) = asked e (record { number = t.number; lawful = t.lawful; asked = t.asked })
 refused_is_asked question method _ code (by_no_reply e t) = asked e (record { number = t.number; lawful = t.lawful; asked = t.asked })
 refused_is_asked question method _ code (by_reason e x t f) = asked e (record { number = t.number; lawful = t.lawful; asked = t.asked })
+refused_is_asked question method _ code (by_unfinished e t) = asked e (record { number = t.number; lawful = t.lawful; asked = t.asked })
 refused_is_asked question method _ code (by_no_text i n) = unasked
 
 cover_is_asked : (claim : ReachabilityClaim) (s : KorePattern) (es : List Exchange) (a : CoverAnswer) → IsCoverAnswer claim s es a → MayAsk (cover_question claim s) es

@@ -26,6 +26,9 @@ use std::alloc::{AllocError, Global};
 /// The code of a server that can't decide an implication.
 const UNDECIDED: i64 = 5;
 
+/// The code of a run that the prover can't go by yet.
+pub const UNSUPPORTED: i64 = 2;
+
 /// The code of bytes that aren't read.
 pub const PARSE_ERROR: i64 = -32700;
 
@@ -81,6 +84,7 @@ fn told_cover(reply: ServerReply, line: Vec<u8>) -> CoverAnswer
         ServerReply::Implied(Implied::NotValid) => CoverAnswer::Uncovered,
         ServerReply::Failed { code } => failed_cover(code, line),
         ServerReply::Executed(_) => CoverAnswer::Refused(PARSE_ERROR),
+        ServerReply::Unfinished => CoverAnswer::Refused(UNSUPPORTED),
         ServerReply::Simplified(_) => CoverAnswer::Refused(PARSE_ERROR),
         ServerReply::Added(_) => CoverAnswer::Refused(PARSE_ERROR),
     }

@@ -14,7 +14,7 @@ ghost use Rattle.kp_client.specs.Links.{Exchange, Makes};
 ghost use Rattle.kp_client.specs.Rounds.{IsGivenId, MayAsk, is_followed as goes_by, step_question, Tells};
 ghost use Rattle.kp_client.specs.declared.outcome.ProveFault.TheVariants.{LinkFault};
 
-use crate::cover::{NO_PATTERN, PARSE_ERROR};
+use crate::cover::{NO_PATTERN, PARSE_ERROR, UNSUPPORTED};
 use crate::hear::{Heard, hear};
 use crate::link::Link;
 use crate::outcome::ProveFault;
@@ -168,7 +168,7 @@ fn run_answer(alloc: Global, run: Executed, line: Vec<u8>) -> Result<StepAnswer,
         → IsStepAnswer depth s (e ∷ []) a) }
 {
     if !is_followed(&run.reason) {
-        return Ok(StepAnswer::Refused(PARSE_ERROR));
+        return Ok(StepAnswer::Refused(UNSUPPORTED));
     }
     let depth = run.depth;
     if depth > 0 {
@@ -187,6 +187,7 @@ fn told_steps(alloc: Global, reply: ServerReply, line: Vec<u8>) -> Result<StepAn
 {
     match reply {
         ServerReply::Executed(run) => run_answer(alloc, run, line),
+        ServerReply::Unfinished => Ok(StepAnswer::Refused(UNSUPPORTED)),
         ServerReply::Failed { code } => Ok(StepAnswer::Refused(code)),
         ServerReply::Implied(_) => Ok(StepAnswer::Refused(PARSE_ERROR)),
         ServerReply::Simplified(_) => Ok(StepAnswer::Refused(PARSE_ERROR)),

@@ -1,6 +1,6 @@
--- The line of a run that is aborted by what isn't decided tells no result, whatever numbers stand in it.
-use Rattle.std.proofs.Common.{◌≡◌, ℕ, ◌^◌, ◌<◌, List, [], ◌∷◌, ◌++◌, false, Option, Some, None, option_map, option_and_then, decimal, refl, sym, ap, ◌∙◌, subst, inl, inr, ◌⊎◌}
-use Rattle.std.specs.Prelude.{codes, ⊤}
+-- The line of a run that is aborted by what isn't decided tells that alone and no result, whatever numbers stand in it.
+use Rattle.std.proofs.Common.{◌≡◌, ℕ, ◌^◌, ◌<◌, List, [], ◌∷◌, ◌++◌, Bool, true, false, Option, Some, None, option_map, option_and_then, decimal, refl, sym, ap, ◌∙◌, subst, inl, inr, ◌⊎◌}
+use Rattle.std.specs.Prelude.{codes, ⊤, if◌then◌else◌}
 use Rattle.json.specs.Json as json
 use Rattle.json.specs.Lex.{Lexeme, token, fresh, punctuate, tokens}
 use Rattle.json.specs.Print.{IsNumber, print, ArePrintable}
@@ -16,13 +16,13 @@ use Rattle.kp_json.specs.Written.{wrapped_pattern}
 use Rattle.kp_rpc.specs.Request.{RequestId, IsReadId, id_text, id_number, id_null, id_tree}
 use Rattle.kp_rpc.specs.Reply.{result_reply, reply_bytes}
 use Rattle.kp_rpc.proofs.ReadBack.{Back, number_back, id_back, wrapped_back, plain_back}
-use Rattle.kp_results.specs.Results.{StateParts, NextParts, Ending, Weight, Limit, weighed, wide_call, Undecided, predicate, limit}
+use Rattle.kp_results.specs.Results.{StateParts, NextParts, ExecutedParts, Ending, Weight, Limit, weighed, wide_call, Undecided, predicate, limit}
 use Rattle.kp_replies.specs.Aborted.{with_undecided, aborted_members, aborted_tree}
 use Rattle.kp_replies.specs.Failures.{weight_name, limit_tree, with_limit}
-use Rattle.kp_replies.specs.Read.{Method, execute, implies, simplify, add_module, ServerReply, executed, implied, read_state, nexts_of, executed_from, read_executed, read_implied, read_reply}
+use Rattle.kp_replies.specs.Read.{Method, execute, implies, simplify, add_module, ServerReply, executed, unfinished, implied, is_unfinished, read_run, read_state, nexts_of, executed_from, read_executed, read_implied, read_reply}
 use Rattle.kp_replies.specs.Replies.{IsReplyOf}
 use Rattle.kp_replies.specs.Written.{state_tree}
-use Rattle.kp_program.proofs.ReplyLines.{same_front}
+use Rattle.kp_replies.proofs.Lines.{same_front}
 use Rattle.kp_program.proofs.ResultTrees.{same}
 use Rattle.kp_program.proofs.ResultsBack.{state_tree_back}
 use Rattle.kp_program.proofs.WideNumbers.{IsWide, decimal_kinds, lexemes, lex_up_to, read_outline, unread}
@@ -97,12 +97,25 @@ IsAsked execute = ⊤
 IsAsked implies = ⊤
 IsAsked method = ⊥
 
+-- what a reply tells that tells no result: that the run is unfinished; of other methods nothing
+abbrev IsLeft : Method → ServerReply → Type 0
+IsLeft execute r = r ≡ unfinished
+IsLeft method r = ⊥
+
 mapped_none : {A : Type 0} (make : A → ServerReply) (x : Option A) (r : ServerReply) → x ≡ None → option_map make x ≡ Some r → ⊥
 mapped_none make None r none e = absurd (cc e)
 mapped_none make (Some a) r none e = absurd (cc none)
 
-untold : (method : Method) (id : RequestId) (n : ℕ) (d : Data) (l q : Option Data) (r : ServerReply) → IsAsked method → read_reply method (result_reply id (open_tree n d l q)) ≡ Some r → ⊥
-untold execute id n d l q r asked e = mapped_none executed (read_executed (open_tree n d l q)) r (no_run n d l q) e
+unfinished_alone : (b : Bool) (r : ServerReply) → (if b then Some unfinished else None) ≡ Some r → r ≡ unfinished
+unfinished_alone true r e = cc e
+unfinished_alone false r e = absurd (cc e)
+
+no_run_told : (x : Option ExecutedParts) (d : Data) (r : ServerReply) → x ≡ None → read_run x d ≡ Some r → r ≡ unfinished
+no_run_told None d r none e = unfinished_alone (is_unfinished d) r e
+no_run_told (Some x) d r none e = absurd (cc none)
+
+untold : (method : Method) (id : RequestId) (n : ℕ) (d : Data) (l q : Option Data) (r : ServerReply) → IsAsked method → read_reply method (result_reply id (open_tree n d l q)) ≡ Some r → IsLeft method r
+untold execute id n d l q r asked e = no_run_told (read_executed (open_tree n d l q)) (open_tree n d l q) r (no_run n d l q) e
 untold implies id n d l q r asked e = mapped_none implied (read_implied (open_tree n d l q)) r (no_validity n d l q) e
 untold simplify id n d l q r asked e = absurd asked
 untold add_module id n d l q r asked e = absurd asked
@@ -226,20 +239,20 @@ limit_kinds (Some (weighed w k)) = by (decimal_kinds k)
     by (inr h) = inr (w, k, refl, h)
 
 open_untold : (method : Method) (id : RequestId) (n : ℕ) (d : Data) (l : Option Limit) (q : Option Data) (e : Data) (r : ServerReply) → IsAsked method → Back (id_tree id) → Back (value.number (unsigned n)) → Back d → MayBack q → LimitKinds l
-    → read (compact_text (result_reply id (open_tree n d (option_map limit_tree l) q))) ≡ Some e → read_reply method e ≡ Some r → ⊥
+    → read (compact_text (result_reply id (open_tree n d (option_map limit_tree l) q))) ≡ Some e → read_reply method e ≡ Some r → IsLeft method r
 open_untold method id n d l q e r asked i m h g (inl k) reads tells =
     let x : Option Data = option_map limit_tree l in
     let o = read_open id n d x q e i m h g (read_outline (result_reply id (open_tree n d x q)) e (reply_numbers id n d x q i m h k g) reads) in
     untold method id n d o.limit_read q r asked (subst (λ t. read_reply method t ≡ Some r) o.is tells)
 open_untold method id n d l q e r asked i m h g (inr (w, k, is, wide)) reads tells =
-    wide_unread id n w k d q e i m wide (subst (λ y. read (compact_text (result_reply id (open_tree n d (option_map limit_tree y) q))) ≡ Some e) is reads)
+    absurd (wide_unread id n w k d q e i m wide (subst (λ y. read (compact_text (result_reply id (open_tree n d (option_map limit_tree y) q))) ≡ Some e) is reads))
 
 may_back : (q : Option Data) → ((x : Data) → q ≡ Some x → Back x) → MayBack q
 may_back None h = tt
 may_back (Some x) h = h x refl
 
 tells_nothing : (method : Method) (id : RequestId) (depth : ℕ) (state : StateParts) (u : Undecided) (tree : Data) (r : ServerReply) → IsAsked method → IsReadId id → depth < 2 ^ 64 → aborted_tree depth state u ≡ Some tree
-    → IsReplyOf method (reply_bytes (result_reply id tree)) r → ⊥
+    → IsReplyOf method (reply_bytes (result_reply id tree)) r → IsLeft method r
 tells_nothing method id depth state u tree r asked lawful fits written (text, is, (e, frame, tells)) =
     let m = made depth state u tree written in
     let one : compact_text (result_reply id tree) ≡ text = same_front (compact_text (result_reply id tree)) text is in
@@ -248,7 +261,7 @@ tells_nothing method id depth state u tree r asked lawful fits written (text, is
     (limit_kinds (limit_of u)) (subst (λ t. read (compact_text (result_reply id t)) ≡ Some e) (sym m.is) reads) tells
 
 pub aborted_back : (id : RequestId) (depth : ℕ) (state : StateParts) (u : Undecided) (tree : Data) (r : ServerReply) → IsReadId id → depth < 2 ^ 64 → aborted_tree depth state u ≡ Some tree
-    → IsReplyOf execute (reply_bytes (result_reply id tree)) r → ⊥
+    → IsReplyOf execute (reply_bytes (result_reply id tree)) r → r ≡ unfinished
 aborted_back id depth state u tree r lawful fits written told = tells_nothing execute id depth state u tree r tt lawful fits written told
 
 pub aborted_no_implication : (id : RequestId) (depth : ℕ) (state : StateParts) (u : Undecided) (tree : Data) (r : ServerReply) → IsReadId id → depth < 2 ^ 64 → aborted_tree depth state u ≡ Some tree

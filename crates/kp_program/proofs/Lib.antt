@@ -9,8 +9,6 @@ pub mod LocalExchanges
 pub mod PlainTexts
 pub mod ProvableClaims
 pub mod Proving
-pub mod ReplyLines
-pub mod RequestMembers
 pub mod RequestsRead
 pub mod ResultTrees
 pub mod ResultsBack

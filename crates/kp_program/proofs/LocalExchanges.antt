@@ -20,12 +20,12 @@ use Rattle.kp_rpc.proofs.TermsBack.{top_back, bottom_back}
 use Rattle.kp_results.specs.Results.{ExecutedParts, StateParts, Undecided}
 use Rattle.kp_replies.specs.Aborted.{aborted_tree}
 use Rattle.kp_replies.specs.Failures.{Failure, undecided, failure_data, failure_error, failed_reply, failure_reply}
-use Rattle.kp_replies.specs.Read.{execute, implies, executed, implied, failed, read_reply}
+use Rattle.kp_replies.specs.Read.{execute, implies, executed, unfinished, implied, failed, read_reply}
 use Rattle.kp_replies.specs.Replies.{IsReplyOf, IsImpliedReadBack}
 use Rattle.kp_replies.specs.Right.{asked_options, IsMainAsked}
 use Rattle.kp_replies.specs.Written.{executed_tree, simplified_tree, added_tree}
 use Rattle.kp_replies.proofs.Alone.{implication_line_alone, implication_line_no_run}
-use Rattle.kp_program.proofs.ReplyLines.{line_read}
+use Rattle.kp_replies.proofs.Texts.{line_read}
 use Rattle.kp_requests.specs.Requests as requests
 use Rattle.kp_requests.specs.Requests.{Asked, asks, refused, Call, Frame, single}
 use Rattle.kp_requests.specs.Read.{read_frame}
@@ -92,6 +92,9 @@ nothing_told = record {
 
 no_run_failed : (x : ExecutedParts) (code : ℤ) → executed x ≡ failed code → ⊥
 no_run_failed x code e = cc e
+
+no_run_unfinished : (x : ExecutedParts) → executed x ≡ unfinished → ⊥
+no_run_unfinished x e = cc e
 
 no_implication_failed : (x : Implied) (code : ℤ) → implied x ≡ failed code → ⊥
 no_implication_failed x code e = cc e
@@ -192,7 +195,7 @@ left_open : (id : RequestId) (depth : ℕ) (state : StateParts) (u : Undecided) 
 left_open id depth state u d lawful short made =
     let m = mapped (result_reply id) (aborted_tree depth state u) d made in
     subst (λ (y : Data). TellsNothing (reply_bytes y)) m.2 (record {
-      no_run = λ x h. aborted_back id depth state u m.0 (executed x) lawful short m.1 h;
+      no_run = λ x h. no_run_unfinished x (aborted_back id depth state u m.0 (executed x) lawful short m.1 h);
       no_implication = λ x h. aborted_no_implication id depth state u m.0 (implied x) lawful short m.1 h;
     })
 

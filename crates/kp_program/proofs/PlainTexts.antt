@@ -18,7 +18,7 @@ use Rattle.kp_rpc.specs.Reply.{reply_bytes}
 use Rattle.kp_replies.specs.Failures.{failed_reply}
 use Rattle.kp_replies.specs.Read.{Method, ServerReply, failed, read_either, is_two, text_in, read_reply}
 use Rattle.kp_replies.specs.Replies.{IsReplyOf}
-use Rattle.kp_program.proofs.ReplyLines.{same_front}
+use Rattle.kp_replies.proofs.Lines.{same_front}
 
 from_some : {A : Type 0} (x y : A) → Some x ≡ Some y → x ≡ y
 from_some x y e = cc e

@@ -13,7 +13,8 @@ use Rattle.kp_rpc.specs.Frame.{IsFrame}
 use Rattle.kp_rpc.specs.Reply.{method_not_found}
 use Rattle.kp_rpc.specs.Readings.{read_id, read_object, read_options, read_text}
 use Rattle.kp_rpc.specs.Request.{RequestId, IsReadId, IsRequest, ExecuteOptions, IsExecute, IsImplies, execute_method, implies_method}
-use Rattle.kp_program.proofs.RequestMembers.{request_is, params_found, sides_found, side_told}
+use Rattle.kp_rpc.proofs.HeadingsRead.{request_is}
+use Rattle.kp_rpc.proofs.ParamsRead.{params_found, sides_found, side_told}
 use Rattle.kp_rpc.proofs.IdsRead.{id_read}
 use Rattle.kp_requests.specs.Requests.{Request, execute, implies, simplify, add_module, asks, refused, Call, single}
 use Rattle.kp_requests.specs.Read.{asked_of, call_from, is_two, or_invalid_params, read_call, read_call_id, read_execute, read_flag, read_implies, read_simplify, read_add_module, read_batch, read_frame}

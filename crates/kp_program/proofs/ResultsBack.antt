@@ -12,10 +12,12 @@ use Rattle.kp_rpc.specs.Reply.{result_reply, reply_bytes}
 use Rattle.kp_rpc.proofs.CompactRead.{compact_reads}
 use Rattle.kp_rpc.proofs.ReadBack.{Back, ItemsBack, number_back, reply_back, plain_back, wrapped_back}
 use Rattle.kp_results.specs.Results.{NextParts, Ending, vacuous, depth_bound, stuck, branching, cut_point, terminal, aborted, ExecutedParts}
-use Rattle.kp_replies.specs.Read.{execute, implies, ServerReply, executed, implied, read_executed, read_implied}
+use Rattle.kp_replies.specs.Read.{execute, implies, ServerReply, executed, implied, read_executed, read_implied, read_run}
 use Rattle.kp_replies.specs.Replies.{IsReplyOf, StandWith}
 use Rattle.kp_replies.specs.Written.{state_tree, next_tree, next_trees, with_nexts, executed_members, executed_tree}
-use Rattle.kp_program.proofs.ReplyLines.{same_front, executed_line_read}
+use Rattle.kp_replies.proofs.Lines.{same_front}
+use Rattle.kp_replies.proofs.Texts.{executed_line_read, executed_back, state_back}
+use Rattle.kp_replies.proofs.Alone.{run_is_finished, run_told}
 use Rattle.kp_program.specs.Lists.{lists_two}
 use Rattle.kp_program.proofs.ListsBack.{part_two}
 use Rattle.kp_program.proofs.ResultTrees.{same, AreReadBack, one_state, two_state, one_made, two_made, one_next, two_next, one_next_made, two_next_made, first_made, plain_tree, items_made, state_made, mapped, result_only, result_is_no_implication}
@@ -27,8 +29,8 @@ use Rattle.kp_program.proofs.ResultsListed.{result_listed}
 pub run_line_back : (id : RequestId) (x : ExecutedParts) (tree : Data) (r : ServerReply) → IsReadId id → x.depth < 2 ^ 64 → StandWith x.ending x.nexts → AreReadBack x → executed_tree x ≡ Some tree
     → IsReplyOf execute (reply_bytes (result_reply id tree)) r → r ≡ executed x
 run_line_back id x tree r lawful fits stand back made told =
-    let read : option_map executed (read_executed tree) ≡ Some r = executed_line_read execute id x tree r lawful fits made told in
-    let y = mapped executed (read_executed tree) r read in
+    let read : read_run (read_executed tree) tree ≡ Some r = executed_line_read execute id x tree r lawful fits made told in
+    let y = run_told (read_executed tree) tree r (run_is_finished x tree made) read in
     sym y.2 ∙ ap executed (result_only x y.0 tree stand back made y.1)
 
 -- and no result of implies
@@ -42,66 +44,11 @@ run_no_implication id x tree r lawful fits made told =
 
 -- ---- the tree that is read of its text
 
-back_of : (p : KorePattern) (d : Data) → wrapped_pattern p ≡ Some d → Back d
-back_of p d is = plain_back (wrapped_pattern p) d (wrapped_back p) is
-
-one_state_back : (t : Data) → Back t → Back (one_state t)
-one_state_back t h = record { numbers = (h.numbers, tt); is = rw h.is refl }
-
-two_state_back : (p t : Data) → Back p → Back t → Back (two_state p t)
-two_state_back p t h k = record { numbers = (h.numbers, (k.numbers, tt)); is = rw (h.is, k.is) refl }
-
 pub state_tree_back : (term : KorePattern) (predicate : Option KorePattern) (d : Data) → state_tree (record { term = term; predicate = predicate }) ≡ Some d → Back d
-state_tree_back term None d made = let m = one_made (wrapped_pattern term) d made in subst Back m.2 (one_state_back m.0 (back_of term m.0 m.1))
-state_tree_back term (Some q) d made = let m = two_made (wrapped_pattern term) (wrapped_pattern q) d made in subst Back m.4 (two_state_back m.1 m.0 (back_of q m.1 m.3) (back_of term m.0 m.2))
-
-one_next_back : (rule : Option Text) (w t : Data) → Back w → Back t → Back (one_next rule w t)
-one_next_back None w t h k = record { numbers = (h.numbers, (k.numbers, tt)); is = rw (h.is, k.is) refl }
-one_next_back (Some id) w t h k = record { numbers = (tt, (h.numbers, (k.numbers, tt))); is = rw (h.is, k.is) refl }
-
-two_next_back : (rule : Option Text) (w p t : Data) → Back w → Back p → Back t → Back (two_next rule w p t)
-two_next_back None w p t h k l = record { numbers = (k.numbers, (h.numbers, (l.numbers, tt))); is = rw (h.is, k.is, l.is) refl }
-two_next_back (Some id) w p t h k l = record { numbers = (k.numbers, (tt, (h.numbers, (l.numbers, tt)))); is = rw (h.is, k.is, l.is) refl }
-
-next_back : (rule : Option Text) (when term : KorePattern) (predicate : Option KorePattern) (d : Data) → next_tree (record { rule = rule; predicate = when; state = record { term = term; predicate = predicate } }) ≡ Some d → Back d
-next_back rule when term None d made =
-    let m = one_next_made rule (wrapped_pattern term) (wrapped_pattern when) d made in
-    subst Back m.4 (one_next_back rule m.1 m.0 (back_of when m.1 m.3) (back_of term m.0 m.2))
-next_back rule when term (Some q) d made =
-    let m = two_next_made rule (wrapped_pattern term) (wrapped_pattern q) (wrapped_pattern when) d made in
-    subst Back m.6 (two_next_back rule m.2 m.1 m.0 (back_of when m.2 m.5) (back_of q m.1 m.4) (back_of term m.0 m.3))
-
-nexts_back : (ns : List NextParts) (ds : Items) → next_trees ns ≡ Some ds → ItemsBack ds
-nexts_back [] ds made = subst ItemsBack (same no_items ds made) (record { numbers = tt; is = refl })
-nexts_back (n ∷ ns) ds made =
-    let m = first_made (next_tree n) (next_trees ns) ds made in
-    let h = next_back n.rule n.predicate n.state.term n.state.predicate m.0 m.2 in
-    let k = nexts_back ns m.1 m.3 in
-    subst ItemsBack m.4 (record { numbers = (h.numbers, k.numbers); is = rw (h.is, k.is) refl })
-
-ending_back : (n : ℕ) (e : Ending) (ns : List NextParts) (d tree : Data) → n < 2 ^ 64 → Back d → option_map object (with_nexts e ns (executed_members n e d)) ≡ Some tree → Back tree
-ending_back n vacuous ns d tree fits h made = let m = number_back n fits in subst Back (same (plain_tree n vacuous d) tree made) (record { numbers = (m.numbers, (tt, (h.numbers, tt))); is = rw (m.is, h.is) refl })
-ending_back n depth_bound ns d tree fits h made = let m = number_back n fits in subst Back (same (plain_tree n depth_bound d) tree made) (record { numbers = (m.numbers, (tt, (h.numbers, tt))); is = rw (m.is, h.is) refl })
-ending_back n stuck ns d tree fits h made = let m = number_back n fits in subst Back (same (plain_tree n stuck d) tree made) (record { numbers = (m.numbers, (tt, (h.numbers, tt))); is = rw (m.is, h.is) refl })
-ending_back n branching ns d tree fits h made =
-    let l = items_made (next_trees ns) (executed_members n branching d) tree made in
-    let m = number_back n fits in
-    let i = nexts_back ns l.0 l.1 in
-    subst Back l.2 (record { numbers = (m.numbers, (i.numbers, (tt, (h.numbers, tt)))); is = rw (m.is, i.is, h.is) refl })
-ending_back n (cut_point id) ns d tree fits h made =
-    let l = items_made (next_trees ns) (executed_members n (cut_point id) d) tree made in
-    let m = number_back n fits in
-    let i = nexts_back ns l.0 l.1 in
-    subst Back l.2 (record { numbers = (m.numbers, (i.numbers, (tt, (tt, (h.numbers, tt))))); is = rw (m.is, i.is, h.is) refl })
-ending_back n (terminal id) ns d tree fits h made = let m = number_back n fits in subst Back (same (plain_tree n (terminal id) d) tree made) (record { numbers = (m.numbers, (tt, (tt, (h.numbers, tt)))); is = rw (m.is, h.is) refl })
-ending_back n (aborted (foreign id)) ns d tree fits h made =
-    let m = number_back n fits in
-    subst Back (same (plain_tree n (aborted (foreign id)) d) tree made) (record { numbers = (m.numbers, (tt, (tt, (h.numbers, tt)))); is = rw (m.is, h.is) refl })
+state_tree_back term predicate d made = plain_back (state_tree (record { term = term; predicate = predicate })) d (state_back term predicate) made
 
 result_back : (x : ExecutedParts) (tree : Data) → x.depth < 2 ^ 64 → executed_tree x ≡ Some tree → Back tree
-result_back x tree fits made =
-    let m = state_made x (state_tree x.state) tree made in
-    ending_back x.depth x.ending x.nexts m.0 tree fits (state_tree_back x.state.term x.state.predicate m.0 m.1) m.2
+result_back x tree fits made = plain_back (executed_tree x) tree (executed_back x fits) made
 
 -- ---- the line of a tree that lists two patterns or more
 

@@ -65,11 +65,33 @@ const ODD: &str = r#"module TOYS-SPEC
 endmodule []
 "#;
 
+/// A state with two ways on, and a number that grows.
+const FORK: &str = r#"[]
+module TOYS
+  hooked-sort SortInt{} [hook{}("INT.Int")]
+  hooked-symbol Lbladd{}(SortInt{}, SortInt{}) : SortInt{} [hook{}("INT.add")]
+  sort SortS{} []
+  symbol Lblfork{}() : SortS{} [constructor{}()]
+  symbol Lbldone{}() : SortS{} [constructor{}()]
+  symbol Lblup{}(SortInt{}) : SortS{} [constructor{}()]
+  axiom{} \rewrites{SortS{}}(Lblfork{}(), Lbldone{}()) [label{}("TOYS.left")]
+  axiom{} \rewrites{SortS{}}(Lblfork{}(), Lblfork{}()) [label{}("TOYS.right")]
+  axiom{} \rewrites{SortS{}}(Lblup{}(N:SortInt{}), Lblup{}(Lbladd{}(N:SortInt{}, \dv{SortInt{}}("1")))) [label{}("TOYS.up")]
+endmodule []
+"#;
+
+/// Claims whose runs branch and pass 128 bits.
+const FORKING: &str = r#"module TOYS-SPEC
+  claim{} \implies{SortS{}}(Lblfork{}(), weakAlwaysFinally{SortS{}}(Lbldone{}())) [label{}("T.fork")]
+  claim{} \implies{SortS{}}(Lblup{}(\dv{SortInt{}}("170141183460469231731687303715884105726")), weakAlwaysFinally{SortS{}}(Lbldone{}())) [label{}("T.wide")]
+endmodule []
+"#;
+
 /// The words before the name of the file of claims.
 const PROVE: [&str; 6] = ["kprove", "prove", "d.kore", "--module", "TOYS", "--claims"];
 
 /// A definition, claims, more words, and what is told.
-static ROWS: [(&str, &str, &[&str], &str); 15] = [
+static ROWS: [(&str, &str, &[&str], &str); 16] = [
     // a rule's label makes no line of a report
     (
         FORGING,
@@ -96,6 +118,13 @@ static ROWS: [(&str, &str, &[&str], &str); 15] = [
         SPIN,
         &["c.kore", "--max-depth", "+01"],
         "pending T.spin node 1001 rounds\nstatus 2: ",
+    ),
+    // what the prover can't go by yet: a run that branches, and one that passes a limit
+    (
+        FORK,
+        FORKING,
+        &["c.kore"],
+        "refused T.fork code 2\nrefused T.wide code 2\nstatus 2: ",
     ),
     // the definition is read before the claims
     (

@@ -136,11 +136,16 @@ const VACUOUS: &str =
     r#"{"id":2,"jsonrpc":"2.0","result":{"depth":3,"reason":"vacuous","state":{"term":{"format":"KORE","term":{"args":[],"name":"middle","sorts":[],"tag":"App"},"version":1}}}}
 "#;
 
+/// The reply that a limit ended a run.
+const LIMITED: &str =
+    r#"{"id":2,"jsonrpc":"2.0","result":{"depth":1,"limit":{"name":"depth","number":49},"reason":"aborted","state":{"term":{"format":"KORE","term":{"args":[],"name":"middle","sorts":[],"tag":"App"},"version":1}}}}
+"#;
+
 /// Two edges and a cover.
 const PASSING: [&str; 5] = [UNCOVERED, BOUNDED, UNCOVERED, STUCK, COVERED];
 
 /// Proofs, and what is told of them.
-const PROOFS: [(Proof, &str); 4] = [
+const PROOFS: [(Proof, &str); 5] = [
     (
         Proof(&PASSING, 2, 0),
         "passed: 3 nodes, Passed, last done; 5 asked, 0 failed\n{\"id\":1,\"jsonrpc\":\"2.0\",\"method\":\"implies\",\"params\":{\"antecedent\":{\"format\":\"KORE\",\"term\":{\"args\":[],\"name\":\"start\",\"sorts\":[],\"tag\":\"App\"},\"version\":1},\"consequent\":{\"format\":\"KORE\",\"term\":{\"args\":[],\"name\":\"done\",\"sorts\":[],\"tag\":\"App\"},\"version\":1}}}",
@@ -152,7 +157,11 @@ const PROOFS: [(Proof, &str); 4] = [
     // a reason that the prover can't use ends the proof
     (
         Proof(&[UNCOVERED, VACUOUS], 1, 9),
-        "refused -32700: 1 nodes, Pending, last start; 2 asked, 0 failed\nnothing",
+        "refused 2: 1 nodes, Pending, last start; 2 asked, 0 failed\nnothing",
+    ),
+    (
+        Proof(&[UNCOVERED, LIMITED], 1, 9),
+        "refused 2: 1 nodes, Pending, last start; 2 asked, 0 failed\nnothing",
     ),
     // a link that fails breaks the proof off
     (

@@ -17,6 +17,7 @@ fn reply_text(rt: &impl Abort, alloc: Global, reply: &ServerReply) -> Vec<u8> {
         ServerReply::Executed(executed) => {
             written(rt, executed_text(alloc, &Id::Unsigned(1), executed))
         }
+        ServerReply::Unfinished => bytes(rt, alloc, "unfinished"),
         ServerReply::Implied(_) => bytes(rt, alloc, "implied"),
         ServerReply::Simplified(_) => bytes(rt, alloc, "simplified"),
         ServerReply::Added(id) => bytes(rt, alloc, id),
@@ -86,13 +87,31 @@ const TWO_LINES: &str =
     r#"{"id":1,"jsonrpc":"2.0","result":{"depth":0,"foreign-rule":"a\nb","reason":"aborted","state":{"term":{"format":"KORE","term":{"args":[],"name":"Lbldone","sorts":[],"tag":"App"},"version":1}}}}
 "#;
 
+/// A run that a limit aborts.
+const LIMITED: &str =
+    r#"{"id":1,"jsonrpc":"2.0","result":{"depth":2,"limit":{"name":"depth","number":49},"reason":"aborted","state":{"term":{"format":"KORE","term":{"args":[],"name":"Lbldone","sorts":[],"tag":"App"},"version":1}}}}
+"#;
+
+/// Its state is missing.
+const NO_STATE: &str =
+    r#"{"id":1,"jsonrpc":"2.0","result":{"depth":2,"limit":{"name":"depth","number":49},"reason":"aborted"}}
+"#;
+
+/// Nothing says why the run is aborted.
+const NO_CAUSE: &str =
+    r#"{"id":1,"jsonrpc":"2.0","result":{"depth":2,"reason":"aborted","state":{"term":{"format":"KORE","term":{"args":[],"name":"Lbldone","sorts":[],"tag":"App"},"version":1}}}}
+"#;
+
 /// What is heard, and what it tells.
-const TOLD: [(Heard, &str); 16] = [
+const TOLD: [(Heard, &str); 19] = [
     (Heard::Line(Method::Execute, BRANCHING), BRANCHING),
     (Heard::Line(Method::Execute, CUT_POINT), CUT_POINT),
     (Heard::Line(Method::Execute, TERMINAL), TERMINAL),
     (Heard::Line(Method::Execute, VACUOUS), VACUOUS),
     (Heard::Line(Method::Execute, ABORTED), ABORTED),
+    (Heard::Line(Method::Execute, LIMITED), "unfinished"),
+    (Heard::Line(Method::Execute, NO_STATE), "none"),
+    (Heard::Line(Method::Execute, NO_CAUSE), "none"),
     (Heard::Line(Method::Execute, NO_NEXT_STATE), "none"),
     (Heard::Line(Method::Execute, TWO_LINES), "none"),
     (Heard::Line(Method::AddModule, ADDED), MODULE),

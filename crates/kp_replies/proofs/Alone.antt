@@ -1,7 +1,7 @@
 -- The line that is written of a result tells that result alone, where the trees of its patterns spell no other patterns.
 use Rattle.std.proofs.Common.{◌≡◌, ℕ, ◌^◌, ◌<◌, List, [], ◌∷◌, Bool, true, false, Option, Some, None, option_map, option_and_then, refl, sym, ap, ◌∙◌, subst, inl, inr, ◌⊎◌}
-use Rattle.std.specs.Prelude.{codes}
-use Rattle.serde_json.specs.Data.{Data, array, object, no_items, no_members, put}
+use Rattle.std.specs.Prelude.{codes, if◌then◌else◌}
+use Rattle.serde_json.specs.Data.{Data, array, object, Items, no_items, no_members, put}
 use Rattle.kp_kore.specs.Syntax.{Text, KorePattern}
 use Rattle.kp_json.specs.Faults.{wrapped_reading}
 use Rattle.kp_json.specs.Written.{two_parts, wrapped_pattern}
@@ -12,8 +12,8 @@ use Rattle.kp_rpc.specs.Request.{IsReadId}
 use Rattle.kp_rpc.specs.Reply.{result_reply, reply_bytes}
 use Rattle.kp_rpc.specs.Request.{RequestId}
 use Rattle.kp_results.specs.Results.{NextParts, Ending, vacuous, depth_bound, stuck, branching, cut_point, terminal, aborted, ExecutedParts}
-use Rattle.kp_replies.specs.Written.{with_nexts, executed_members, executed_tree, not_valid_object, valid_object, implied_tree}
-use Rattle.kp_replies.specs.Read.{execute, implies, ServerReply, executed, implied, pattern_in, is_rule_id, read_executed, read_implied, condition_from}
+use Rattle.kp_replies.specs.Written.{state_tree, next_trees, with_nexts, executed_members, executed_tree, not_valid_object, valid_object, implied_tree}
+use Rattle.kp_replies.specs.Read.{execute, implies, ServerReply, executed, unfinished, implied, pattern_in, is_rule_id, read_executed, is_unfinished, read_run, read_implied, condition_from}
 use Rattle.kp_replies.specs.Replies.{IsReplyOf, IsBare, IsImpliedReadBack}
 use Rattle.kp_replies.proofs.PatternsRead.{only_in}
 use Rattle.kp_replies.proofs.Texts.{executed_line_read, implied_line_read}
@@ -168,13 +168,52 @@ implication_is_no_run (valid p q) tree e =
     let t = both_of valid_object (wrapped_pattern p) (wrapped_pattern q) tree e in
     ap read_executed (sym t.4)
 
+-- ---- a result of execute names no limit and no predicate
+
+branching_is_finished : (n : ℕ) (x : Option Items) (s tree : Data) → option_map object (option_map (λ ds. put (codes "next-states") (array ds) (executed_members n branching s)) x) ≡ Some tree → is_unfinished tree ≡ false
+branching_is_finished n None s tree e = absurd (cc e)
+branching_is_finished n (Some ds) s tree e = ap is_unfinished (sym (same _ tree e))
+
+cut_is_finished : (n : ℕ) (id : Text) (x : Option Items) (s tree : Data) → option_map object (option_map (λ ds. put (codes "next-states") (array ds) (executed_members n (cut_point id) s)) x) ≡ Some tree → is_unfinished tree ≡ false
+cut_is_finished n id None s tree e = absurd (cc e)
+cut_is_finished n id (Some ds) s tree e = ap is_unfinished (sym (same _ tree e))
+
+ending_is_finished : (n : ℕ) (e : Ending) (ns : List NextParts) (s tree : Data) → option_map object (with_nexts e ns (executed_members n e s)) ≡ Some tree → is_unfinished tree ≡ false
+ending_is_finished n vacuous ns s tree e = ap is_unfinished (sym (same _ tree e))
+ending_is_finished n depth_bound ns s tree e = ap is_unfinished (sym (same _ tree e))
+ending_is_finished n stuck ns s tree e = ap is_unfinished (sym (same _ tree e))
+ending_is_finished n branching ns s tree e = branching_is_finished n (next_trees ns) s tree e
+ending_is_finished n (cut_point id) ns s tree e = cut_is_finished n id (next_trees ns) s tree e
+ending_is_finished n (terminal id) ns s tree e = ap is_unfinished (sym (same _ tree e))
+ending_is_finished n (aborted (foreign id)) ns s tree e = ap is_unfinished (sym (same _ tree e))
+
+state_is_finished : (x : ExecutedParts) (y : Option Data) (tree : Data) → option_and_then (λ s. option_map object (with_nexts x.ending x.nexts (executed_members x.depth x.ending s))) y ≡ Some tree → is_unfinished tree ≡ false
+state_is_finished x None tree e = absurd (cc e)
+state_is_finished x (Some s) tree e = ending_is_finished x.depth x.ending x.nexts s tree e
+
+pub run_is_finished : (x : ExecutedParts) (tree : Data) → executed_tree x ≡ Some tree → is_unfinished tree ≡ false
+run_is_finished x tree e = state_is_finished x (state_tree x.state) tree e
+
+implication_is_finished : (x : Implied) (tree : Data) → implied_tree x ≡ Some tree → is_unfinished tree ≡ false
+implication_is_finished not_valid tree e = ap is_unfinished (sym (same not_valid_object tree e))
+implication_is_finished (valid p q) tree e =
+    let t = both_of valid_object (wrapped_pattern p) (wrapped_pattern q) tree e in
+    ap is_unfinished (sym t.4)
+
+-- what is told of such a tree is a run that is read of it
+pub run_told : (x : Option ExecutedParts) (d : Data) (r : ServerReply) → is_unfinished d ≡ false → read_run x d ≡ Some r → (y : ExecutedParts) × (x ≡ Some y) × (executed y ≡ r)
+run_told (Some y) d r decided e = (y, refl, cc e)
+run_told None d r decided e =
+    let none : read_run None d ≡ None = ap (λ (b : Bool). if b then Some unfinished else None) decided in
+    let both : None ≡ Some r = sym none ∙ e in absurd (cc both)
+
 -- ---- lines
 
 pub run_line_alone : (id : RequestId) (x : ExecutedParts) (tree : Data) (r : ServerReply) → IsReadId id → x.depth < 2 ^ 64 → IsBare x → IsReadBack x.state.term → executed_tree x ≡ Some tree
     → IsReplyOf execute (reply_bytes (result_reply id tree)) r → r ≡ executed x
 run_line_alone id x tree r lawful fits h back e told =
-    let read : option_map executed (read_executed tree) ≡ Some r = executed_line_read execute id x tree r lawful fits e told in
-    let y = mapped executed (read_executed tree) r read in
+    let read : read_run (read_executed tree) tree ≡ Some r = executed_line_read execute id x tree r lawful fits e told in
+    let y = run_told (read_executed tree) tree r (run_is_finished x tree e) read in
     sym y.2 ∙ ap executed (run_alone x y.0 tree h back e y.1)
 
 pub run_line_no_implication : (id : RequestId) (x : ExecutedParts) (tree : Data) (r : ServerReply) → IsReadId id → x.depth < 2 ^ 64 → IsBare x → executed_tree x ≡ Some tree
@@ -195,7 +234,7 @@ implication_line_alone id x tree r lawful back e told =
 pub implication_line_no_run : (id : RequestId) (x : Implied) (tree : Data) (r : ServerReply) → IsReadId id → implied_tree x ≡ Some tree
     → IsReplyOf execute (reply_bytes (result_reply id tree)) r → ⊥
 implication_line_no_run id x tree r lawful e told =
-    let read : option_map executed (read_executed tree) ≡ Some r = implied_line_read execute id x tree r lawful e told in
-    let y = mapped executed (read_executed tree) r read in
+    let read : read_run (read_executed tree) tree ≡ Some r = implied_line_read execute id x tree r lawful e told in
+    let y = run_told (read_executed tree) tree r (implication_is_finished x tree e) read in
     let both : None ≡ Some y.0 = sym (implication_is_no_run x tree e) ∙ y.1 in
     absurd (cc both)

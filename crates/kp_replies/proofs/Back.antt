@@ -13,7 +13,7 @@ use Rattle.kp_rpc.specs.Reply.{RequestError, parse_error, invalid_request, metho
 use Rattle.kp_rpc.specs.Questions.{with_text}
 use Rattle.kp_replies.specs.Written.{state_tree, next_tree, first_item, next_trees, with_nexts, executed_members, executed_tree, not_valid_object, valid_object, implied_tree, simplified_tree, added_tree}
 use Rattle.kp_replies.specs.Failures.{Failure, bad_sides, undecided, bad_module, duplicate, failure_code, failure_data, failure_error, failed_reply, failure_reply}
-use Rattle.kp_replies.specs.Read.{Method, execute, simplify, add_module, executed, simplified, added, failed, is_module_id, read_state, read_next, first_next, read_nexts, read_executed, read_implied, read_reply, implies, implied}
+use Rattle.kp_replies.specs.Read.{Method, execute, read_run, simplify, add_module, executed, simplified, added, failed, is_module_id, read_state, read_next, first_next, read_nexts, read_executed, read_implied, read_reply, implies, implied}
 use Rattle.kp_replies.proofs.PatternsRead.{read_in, written}
 use Rattle.kp_replies.specs.Replies.{IsSpelled, IsSpelledState, IsSpelledImplied, IsNamed, IsWritableNext, IsWritableEnding, IsWritable}
 
@@ -138,7 +138,7 @@ executed_back x tree w e =
     ending_back x.depth x.ending x.state x.nexts s.0 tree (state_back x.state.term x.state.predicate s.0 w.state s.1) w.ending s.2
 
 pub executed_read_back : (id : RequestId) (x : ExecutedParts) (tree : Data) → IsWritable x → executed_tree x ≡ Some tree → read_reply execute (result_reply id tree) ≡ Some (executed x)
-executed_read_back id x tree w e = ap (option_map executed) (executed_back x tree w e)
+executed_read_back id x tree w e = ap (λ y. read_run y tree) (executed_back x tree w e)
 
 -- ---- implies
 

@@ -10,7 +10,7 @@ use Rattle.kp_json.specs.Faults.{wrapped_reading}
 use Rattle.kp_kore.specs.Causes.{foreign}
 use Rattle.kp_rpc.specs.Questions.{IsReadBack}
 use Rattle.kp_results.specs.Results.{StateParts, NextParts, Ending, vacuous, depth_bound, stuck, branching, cut_point, terminal, aborted, ExecutedParts, IsPatternOf}
-use Rattle.kp_replies.specs.Read.{Method, execute, implies, simplify, add_module, ServerReply, executed, implied, simplified, added, failed, pattern_in, read_wrapped, read_optional, text_in, is_rule_id, if_rule_id, read_rule, if_module_id, state_from, read_state, ending_named, read_ending, one_alone, read_next_states, nexts_of, executed_from, read_executed, read_implied, read_code, read_result, read_either, is_two, read_reply}
+use Rattle.kp_replies.specs.Read.{Method, execute, implies, simplify, add_module, ServerReply, executed, unfinished, implied, simplified, added, failed, is_unfinished, read_run, pattern_in, read_wrapped, read_optional, text_in, is_rule_id, if_rule_id, read_rule, if_module_id, state_from, read_state, ending_named, read_ending, one_alone, read_next_states, nexts_of, executed_from, read_executed, read_implied, read_code, read_result, read_either, is_two, read_reply}
 use Rattle.kp_replies.specs.Replies.{IsOfMethod, IsSpelled, IsSpelledState, StandWith, IsNamedEnding, IsReplyOf}
 use Rattle.kp_rpc.proofs.StatesBack.{spelled_back, pair_back}
 use Rattle.kp_replies.proofs.PatternsRead.{spelled_in}
@@ -36,8 +36,20 @@ error_of_method method error r e =
     let c = mapped failed (option_and_then as_i64 (option_and_then as_number (get (codes "code") error))) r e in
     subst (IsOfMethod method) c.2 (code_of_method method c.0)
 
+-- what holds under a test
+if_holds : (b : Bool) (x : Option ServerReply) (r : ServerReply) → (if b then x else None) ≡ Some r → x ≡ Some r
+if_holds true x r e = e
+if_holds false x r e = absurd (cc e)
+
+same_reply : (r s : ServerReply) → Some r ≡ Some s → r ≡ s
+same_reply r s e = cc e
+
+run_of_method : (x : Option ExecutedParts) (d : Data) (r : ServerReply) → read_run x d ≡ Some r → IsOfMethod execute r
+run_of_method (Some x) d r e = subst (IsOfMethod execute) (same_reply (executed x) r e) tt
+run_of_method None d r e = subst (IsOfMethod execute) (same_reply unfinished r (if_holds (is_unfinished d) (Some unfinished) r e)) tt
+
 result_of_method : (method : Method) (d : Data) (r : ServerReply) → read_result method d ≡ Some r → IsOfMethod method r
-result_of_method execute d r e = let x = mapped executed (read_executed d) r e in subst (IsOfMethod execute) x.2 tt
+result_of_method execute d r e = run_of_method (read_executed d) d r e
 result_of_method implies d r e = let x = mapped implied (read_implied d) r e in subst (IsOfMethod implies) x.2 tt
 result_of_method simplify d r e = let x = mapped simplified (read_wrapped (get (codes "state") d)) r e in subst (IsOfMethod simplify) x.2 tt
 result_of_method add_module d r e = let x = mapped added (option_and_then if_module_id (text_in (get (codes "module") d))) r e in subst (IsOfMethod add_module) x.2 tt
@@ -47,11 +59,6 @@ either_of_method method (Some error) (Some result) r e = absurd (cc e)
 either_of_method method (Some error) None r e = error_of_method method error r e
 either_of_method method None (Some result) r e = result_of_method method result r e
 either_of_method method None None r e = absurd (cc e)
-
--- what holds under a test
-if_holds : (b : Bool) (x : Option ServerReply) (r : ServerReply) → (if b then x else None) ≡ Some r → x ≡ Some r
-if_holds true x r e = e
-if_holds false x r e = absurd (cc e)
 
 reply_of_method : (method : Method) (d : Data) (r : ServerReply) → read_reply method d ≡ Some r → IsOfMethod method r
 reply_of_method method d r e =
@@ -63,14 +70,22 @@ line_of_method method line r (text, is, (d, frame, tells)) = reply_of_method met
 
 -- ---- the result of execute
 
+one_run : (x z : ExecutedParts) → executed x ≡ executed z → x ≡ z
+one_run x z e = cc e
+
+not_unfinished : (z : ExecutedParts) → unfinished ≡ executed z → ⊥
+not_unfinished z e = cc e
+
+run_read : (x : Option ExecutedParts) (d : Data) (z : ExecutedParts) → read_run x d ≡ Some (executed z) → x ≡ Some z
+run_read (Some x) d z e = let is : executed x ≡ executed z = same_reply (executed x) (executed z) e in ap Some (one_run x z is)
+run_read None d z e = absurd (not_unfinished z (same_reply unfinished (executed z) (if_holds (is_unfinished d) (Some unfinished) (executed z) e)))
+
 -- the result that is read of a reply is read of some tree
 run_at : (x y : Option Data) (z : ExecutedParts) → read_either execute x y ≡ Some (executed z) → (d : Data) × (read_executed d ≡ Some z)
 run_at (Some error) (Some result) z e = absurd (cc e)
 run_at (Some error) None z e = let c = mapped failed (option_and_then as_i64 (option_and_then as_number (get (codes "code") error))) (executed z) e in absurd (cc c.2)
 run_at None (Some result) z e =
-    let x = mapped executed (read_executed result) (executed z) e in
-    let same : x.0 ≡ z = cc x.2 in
-    (result, x.1 ∙ ap Some same)
+    (result, run_read (read_executed result) result z e)
 run_at None None z e = absurd (cc e)
 
 run_of_line : (line : List ℕ) (x : ExecutedParts) → IsReplyOf execute line (executed x) → (d : Data) × (read_executed d ≡ Some x)

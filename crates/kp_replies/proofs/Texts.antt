@@ -37,7 +37,7 @@ two_state_back None y h k = tt
 two_state_back (Some d) None h k = tt
 two_state_back (Some d) (Some e) h k = record { numbers = (k.numbers, (h.numbers, tt)); is = rw (k.is, h.is) refl }
 
-state_back : (term : KorePattern) (predicate : Option KorePattern) → IsBack (state_tree (record { term = term; predicate = predicate }))
+pub state_back : (term : KorePattern) (predicate : Option KorePattern) → IsBack (state_tree (record { term = term; predicate = predicate }))
 state_back term None = one_state_back (wrapped_pattern term) (wrapped_back term)
 state_back term (Some q) = two_state_back (wrapped_pattern term) (wrapped_pattern q) (wrapped_back term) (wrapped_back q)
 
@@ -98,7 +98,7 @@ from_state : (x : ExecutedParts) (y : Option Data) → x.depth < 2 ^ 64 → IsBa
 from_state x None fits h = tt
 from_state x (Some s) fits h = made_back x.depth x.ending x.nexts s fits h
 
-executed_back : (x : ExecutedParts) → x.depth < 2 ^ 64 → IsBack (executed_tree x)
+pub executed_back : (x : ExecutedParts) → x.depth < 2 ^ 64 → IsBack (executed_tree x)
 executed_back x fits = from_state x (state_tree x.state) fits (state_back x.state.term x.state.predicate)
 
 -- ---- lines

@@ -1,7 +1,7 @@
 -- What is read of the tree of a reply, or None where it is no reply to the method.
 -- Source: JSON-RPC 2.0 (response objects); the K Haskell backend's JSON-RPC documentation (execute, implies, simplify,
 -- add-module).
-use Rattle.std.specs.Prelude.{ℕ, ℤ, Bool, true, false, ◌&&◌, ◌==◌, List, [], ◌∷◌, length, nat_lt, nat_le, Option, Some, None, option_map, option_and_then, if◌then◌else◌, codes}
+use Rattle.std.specs.Prelude.{ℕ, ℤ, Bool, true, false, ◌&&◌, ◌||◌, ◌==◌, List, [], ◌∷◌, length, nat_lt, nat_le, Option, Some, None, is_some, option_map, option_and_then, if◌then◌else◌, codes}
 use Rattle.std.specs.List.{list_all}
 use Rattle.std.specs.Str.{bytes_eq}
 use Rattle.serde_json.specs.Data.{Data, Items, no_items, item}
@@ -17,9 +17,10 @@ use Rattle.kp_results.specs.Results.{StateParts, NextParts, Ending, vacuous, dep
 pub data Method : Type 0 where
   execute implies simplify add_module : Method
 
--- what a reply tells: a method's result, or an error's code
+-- what a reply tells: a method's result, or an error's code; of a run that is aborted by what isn't decided, that alone
 pub data ServerReply : Type 0 where
   executed : ExecutedParts → ServerReply
+  unfinished : ServerReply
   implied : Implied → ServerReply
   simplified : KorePattern → ServerReply
   added : Text → ServerReply
@@ -131,6 +132,22 @@ executed_from depth state ending nexts =
 abbrev pub read_executed : Data → Option ExecutedParts
 read_executed d = executed_from (read_depth (get (codes "depth") d)) (option_and_then read_state (get (codes "state") d)) (read_ending d) (nexts_of d)
 
+abbrev pub is_word : Option Text → Text → Bool
+is_word None word = false
+is_word (Some t) word = bytes_eq t word
+
+-- a run that is aborted by a limit or by a predicate: what isn't decided has a member, and depth and state are read
+abbrev pub is_unfinished : Data → Bool
+is_unfinished d =
+    is_word (text_in (get (codes "reason") d)) (codes "aborted")
+    && (is_some (get (codes "limit") d) || is_some (get (codes "unknown-predicate") d))
+    && (is_some (read_depth (get (codes "depth") d)) && is_some (option_and_then read_state (get (codes "state") d)))
+
+-- the run, where one was read
+abbrev pub read_run : Option ExecutedParts → Data → Option ServerReply
+read_run (Some x) d = Some (executed x)
+read_run None d = if is_unfinished d then Some unfinished else None
+
 -- ---- implies
 
 abbrev pub condition_from : Option KorePattern → Option KorePattern → Option Implied
@@ -157,7 +174,7 @@ abbrev pub read_code : Data → Option ServerReply
 read_code error = option_map failed (option_and_then as_i64 (option_and_then as_number (get (codes "code") error)))
 
 abbrev pub read_result : Method → Data → Option ServerReply
-read_result execute d = option_map executed (read_executed d)
+read_result execute d = read_run (read_executed d) d
 read_result implies d = option_map implied (read_implied d)
 read_result simplify d = option_map simplified (read_wrapped (get (codes "state") d))
 read_result add_module d = option_map added (option_and_then if_module_id (text_in (get (codes "module") d)))

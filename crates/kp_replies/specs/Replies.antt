@@ -11,7 +11,7 @@ use Rattle.kp_results.specs.Results.{NextParts, Ending, vacuous, depth_bound, st
 use Rattle.kp_rpc.specs.Frame.{IsFrame}
 use Rattle.kp_rpc.specs.Questions.{IsReadBack}
 use Rattle.kp_replies.specs.Failures.{Failure, undecided, bad_module, duplicate, bad_text, bad_axiom, bad_sentence}
-use Rattle.kp_replies.specs.Read.{Method, execute, implies, simplify, add_module, ServerReply, executed, implied, simplified, added, failed, is_rule_id, read_reply}
+use Rattle.kp_replies.specs.Read.{Method, execute, implies, simplify, add_module, ServerReply, executed, unfinished, implied, simplified, added, failed, is_rule_id, read_reply}
 
 -- the text is a frame of a reply to the method that tells this
 abbrev pub IsFrameReply : Method → List ℕ → ServerReply → Type 0
@@ -24,6 +24,7 @@ IsReplyOf method line reply = (text : List ℕ) × (line ≡ text ++ 10 ∷ []) 
 -- a method's result, or an error's code
 abbrev pub IsOfMethod : Method → ServerReply → Type 0
 IsOfMethod execute (executed x) = Unit {0}
+IsOfMethod execute unfinished = Unit {0}
 IsOfMethod implies (implied x) = Unit {0}
 IsOfMethod simplify (simplified p) = Unit {0}
 IsOfMethod add_module (added id) = Unit {0}

@@ -41,6 +41,7 @@ method_view method.AddModule = read.add_module
 
 abbrev pub reply_view : ServerReply → read.ServerReply
 reply_view (reply.Executed e) = read.executed (executed_view e)
+reply_view reply.Unfinished = read.unfinished
 reply_view (reply.Implied i) = read.implied (implied_view i)
 reply_view (reply.Simplified p) = read.simplified (view p)
 reply_view (reply.Added id) = read.added (string_bytes id)

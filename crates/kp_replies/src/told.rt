@@ -1,10 +1,10 @@
-ghost use Rattle.std.specs.Prelude.{◌≡◌, ◌≢◌, ◌∷◌, ◌++◌, [], ℕ, List, Some, IfOk, IfSome, IfNone, option_map, option_and_then, codes};
+ghost use Rattle.std.specs.Prelude.{◌≡◌, ◌≢◌, ◌∷◌, ◌++◌, ◌&&◌, ◌||◌, [], ℕ, List, Some, IfOk, IfSome, IfNone, option_map, option_and_then, is_some, codes};
 ghost use Rattle.serde_json.specs.Find.{get};
 ghost use Rattle.serde_json.specs.View.{view};
 ghost use Rattle.kp_kore.specs.Causes.{foreign};
 ghost use Rattle.kp_results.specs.Results.{cut_point, terminal, aborted};
 ghost use Rattle.kp_results.specs.View.{reason_view, nexts_view, executed_view};
-ghost use Rattle.kp_replies.specs.Read.{read_rule, one_alone, ending_named, read_ending, read_next_states, nexts_of as spec_nexts_of, read_executed, read_result, read_code, read_reply, ServerReply as SpecReply};
+ghost use Rattle.kp_replies.specs.Read.{read_rule, one_alone, ending_named, read_ending, read_next_states, nexts_of as spec_nexts_of, read_executed, read_run, is_word, text_in, is_unfinished as spec_is_unfinished, read_result, read_code, read_reply, ServerReply as SpecReply};
 ghost use Rattle.kp_replies.specs.Replies.{IsFrameReply, IsReplyOf};
 ghost use Rattle.kp_replies.specs.View.{method_view, reply_view};
 
@@ -32,6 +32,8 @@ pub enum Method {
 #[derive(Drop)]
 pub enum ServerReply {
     Executed(Executed),
+    /// A run that is aborted by what isn't decided.
+    Unfinished,
     Implied(Implied),
     /// The simplified state.
     Simplified(Pattern),
@@ -170,6 +172,51 @@ fn executed_of(alloc: Global, value: &Value) -> Result<Option<Executed>, AllocEr
     }))
 }
 
+/// Whether a member's text is this word.
+fn is_member_word(value: &Value, key: &str, word: &str) -> bool
+    ensures { result ≡ is_word (text_in (get key.now (view value.now))) word.now }
+{
+    match member_text(value, key) {
+        Some(text) => text == word,
+        None => false,
+    }
+}
+
+/// Whether a member names what isn't decided of a run that is aborted.
+fn is_left_open(value: &Value) -> bool
+    ensures { result ≡ is_word (text_in (get (codes "reason") (view value.now))) (codes "aborted")
+        && (is_some (get (codes "limit") (view value.now)) || is_some (get (codes "unknown-predicate") (view value.now))) }
+{
+    if !is_member_word(value, "reason", "aborted") {
+        return false;
+    }
+    value.get("limit").is_some() || value.get("unknown-predicate").is_some()
+}
+
+/// Whether a run is aborted by what isn't decided.
+fn is_unfinished(alloc: Global, value: &Value) -> Result<bool, AllocError>
+    ensures { IfOk result (λ b. b ≡ spec_is_unfinished (view value.now)) }
+{
+    if !is_left_open(value) || value.get("depth").and_then(Value::as_u64).is_none() {
+        return Ok(false);
+    }
+    Ok(state_at(alloc, value)?.is_some())
+}
+
+/// What the result of execute tells.
+fn run_told(alloc: Global, value: &Value) -> Result<Option<ServerReply>, AllocError>
+    ensures { IfOk result (λ o. option_map reply_view o ≡ read_run (read_executed (view value.now)) (view value.now)) }
+{
+    match executed_of(alloc, value)? {
+        Some(executed) => Ok(Some(ServerReply::Executed(executed))),
+        None => if is_unfinished(alloc, value)? {
+            Ok(Some(ServerReply::Unfinished))
+        } else {
+            Ok(None)
+        },
+    }
+}
+
 // ---- replies
 
 /// The result of a method.
@@ -181,10 +228,7 @@ fn result_of(
     ensures { IfOk result (λ o. option_map reply_view o ≡ read_result (method_view method) (view value.now)) }
 {
     match method {
-        Method::Execute => match executed_of(alloc, value)? {
-            Some(executed) => Ok(Some(ServerReply::Executed(executed))),
-            None => Ok(None),
-        },
+        Method::Execute => run_told(alloc, value),
         Method::Implies => match implied_of(alloc, value)? {
             Some(implied) => Ok(Some(ServerReply::Implied(implied))),
             None => Ok(None),

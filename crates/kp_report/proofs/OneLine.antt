@@ -13,7 +13,7 @@ use Rattle.kp_replies.specs.Read.{is_visible}
 use Rattle.kp_replies.specs.Replies.{IsNamedEnding}
 use Rattle.kp_replies.proofs.Methods.{told_ids}
 use Rattle.kp_client.specs.Rounds.{ProofOutcome, passed, failed_at, pending_at, refused_with}
-use Rattle.kp_report.specs.Report.{ReportLine, IsLine, IsWhy, IsReplyWhy, by_run, by_error, by_nothing, run_why, IsReport, no_lines, one_line, is_one_line, HasLine, first_line, later_line}
+use Rattle.kp_report.specs.Report.{ReportLine, IsLine, IsWhy, IsReplyWhy, by_run, by_unfinished, by_error, by_nothing, run_why, IsReport, no_lines, one_line, is_one_line, HasLine, first_line, later_line}
 
 both : (h t u : Bool) → (h && t) ≡ true → (t ≡ true → u ≡ true) → (h && u) ≡ true
 both true t u a f = f a
@@ -179,6 +179,7 @@ told_reason (aborted (foreign id)) h = each_visible id (both_parts (nat_lt 0 (le
 
 reply_in_one_line : (line : List ℕ) (why : Text) → IsReplyWhy line why → is_one_line why ≡ true
 reply_in_one_line line _ (by_run x told) = told_reason x.ending (told_ids line x told)
+reply_in_one_line line _ (by_unfinished told) = refl
 reply_in_one_line line _ (by_error code told) = refl
 reply_in_one_line line _ (by_nothing none) = refl
 

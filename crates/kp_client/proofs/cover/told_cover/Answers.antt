@@ -18,6 +18,9 @@ returns-in-Failed c claim s e same h =
 pub returns-in-Executed : goal.returns-in-Executed
 returns-in-Executed c claim s e same h = let told = subst (λ r. Tells (cover_question claim s) implies e (reply_view r)) c.in-Executed.is h in absurd (line_of_method implies e.reply _ told.told)
 
+pub returns-in-Unfinished : goal.returns-in-Unfinished
+returns-in-Unfinished c claim s e same h = let told = subst (λ r. Tells (cover_question claim s) implies e (reply_view r)) c.in-Unfinished.is h in absurd (line_of_method implies e.reply _ told.told)
+
 pub returns-in-Simplified : goal.returns-in-Simplified
 returns-in-Simplified c claim s e same h = let told = subst (λ r. Tells (cover_question claim s) implies e (reply_view r)) c.in-Simplified.is h in absurd (line_of_method implies e.reply _ told.told)
 
