@@ -32,11 +32,11 @@ pub fn executed_line(
     rules: &RuleSet,
     id: &Id,
     state: Reading,
-    options: &Options,
+    options: Options,
 ) -> Result<Vec<u8>, AllocError>
     requires { IsPrepared prepared.now }
-    ensures { (s : Setting) → RunsAs s.theory rules.now → signature_in prepared.now ≡ s.theory.signature → ¬ IsElsewhere s.main (options_view options.now).module_name →
-        IfOk result (λ line. IsReplyLine (IsExecutedAs s (id_view id.now) (options_view options.now) (reading_view state)) line.items) }
+    ensures { (s : Setting) → RunsAs s.theory rules.now → signature_in prepared.now ≡ s.theory.signature → ¬ IsElsewhere s.main (options_view options).module_name →
+        IfOk result (λ line. IsReplyLine (IsExecutedAs s (id_view id.now) (options_view options) (reading_view state)) line.items) }
 {
     match state {
         Reading::Pattern(pattern) => pattern_line(alloc, prepared, rules, id, &pattern, options),
@@ -51,11 +51,11 @@ fn pattern_line(
     rules: &RuleSet,
     id: &Id,
     pattern: &Pattern,
-    options: &Options,
+    options: Options,
 ) -> Result<Vec<u8>, AllocError>
     requires { IsPrepared prepared.now }
-    ensures { (s : Setting) → RunsAs s.theory rules.now → signature_in prepared.now ≡ s.theory.signature → ¬ IsElsewhere s.main (options_view options.now).module_name →
-        IfOk result (λ line. IsReplyLine (IsExecutedAs s (id_view id.now) (options_view options.now) (faults.read (view pattern.now))) line.items) }
+    ensures { (s : Setting) → RunsAs s.theory rules.now → signature_in prepared.now ≡ s.theory.signature → ¬ IsElsewhere s.main (options_view options).module_name →
+        IfOk result (λ line. IsReplyLine (IsExecutedAs s (id_view id.now) (options_view options) (faults.read (view pattern.now))) line.items) }
 {
     match verify(alloc, &rules.signature, pattern) {
         Ok(sort) => verified_line(alloc, prepared, rules, id, pattern, sort, options),
@@ -71,14 +71,14 @@ fn verified_line(
     id: &Id,
     pattern: &Pattern,
     sort: Sort,
-    options: &Options,
+    options: Options,
 ) -> Result<Vec<u8>, AllocError>
     requires { IsPrepared prepared.now }
-    ensures { (s : Setting) → RunsAs s.theory rules.now → signature_in prepared.now ≡ s.theory.signature → ¬ IsElsewhere s.main (options_view options.now).module_name → VerifiesAs s.theory.signature (view pattern.now) (sort_view sort) →
-        IfOk result (λ line. IsReplyLine (IsUnderstoodAs s (id_view id.now) (options_view options.now) (view pattern.now)) line.items) }
+    ensures { (s : Setting) → RunsAs s.theory rules.now → signature_in prepared.now ≡ s.theory.signature → ¬ IsElsewhere s.main (options_view options).module_name → VerifiesAs s.theory.signature (view pattern.now) (sort_view sort) →
+        IfOk result (λ line. IsReplyLine (IsUnderstoodAs s (id_view id.now) (options_view options) (view pattern.now)) line.items) }
 {
     let own = sort.copy(alloc)?;
-    match ground_line(alloc, rules, id, pattern, own, options)? {
+    match ground_line(alloc, rules, id, pattern, own, &options)? {
         Some(line) => Ok(line),
         None => symbolic_line(alloc, prepared, rules, id, pattern, sort, options),
     }

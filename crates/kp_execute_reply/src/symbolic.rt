@@ -1,5 +1,5 @@
 // The run of a symbolic state.
-ghost use Rattle.std.specs.Prelude.{◌≡◌, IfOk, None, Option, map, string_bytes};
+ghost use Rattle.std.specs.Prelude.{◌≡◌, IfOk, None, Option};
 ghost use Rattle.serde_json.specs.Data.{Data};
 ghost use Rattle.kp_clauses.specs.Faults.{state_fault};
 ghost use Rattle.kp_heads.specs.Made.{IsHeadTableOf};
@@ -33,28 +33,15 @@ use kp_simplify_reply::Prepared;
 use kp_symbolic::Language;
 use std::alloc::{AllocError, Global};
 
-/// The same texts.
-fn copied(alloc: Global, texts: &[String]) -> Result<Vec<String>, AllocError>
-    ensures { IfOk result (λ copies. map string_bytes copies.items ≡ map string_bytes texts.now) }
-{
-    let mut copies = Vec::new(alloc);
-    for text in texts {
-        copies.push(text.clone()?)?;
-    }
-    Ok(copies)
-}
-
 /// What a run is asked for.
-fn asked_of(alloc: Global, options: &Options) -> Result<Asked, AllocError>
-    ensures { IfOk result (λ o. results.options_view o ≡ asked_options (options_view options.now)) }
+fn asked_of(options: Options) -> Asked
+    ensures { results.options_view result ≡ asked_options (options_view options) }
 {
-    let cut_points = copied(alloc, &options.cut_points)?;
-    let terminals = copied(alloc, &options.terminals)?;
-    Ok(Asked {
-        bound: bound_of(options),
-        cut_points,
-        terminals,
-    })
+    Asked {
+        bound: bound_of(&options),
+        cut_points: options.cut_points,
+        terminals: options.terminals,
+    }
 }
 
 /// The line of a reply; T2 where there is none: Kore JSON has no tag for a pattern in it.
@@ -138,13 +125,13 @@ fn line_over(
     id: &Id,
     pattern: &Pattern,
     sort: Sort,
-    options: &Options,
+    options: Options,
 ) -> Result<Vec<u8>, AllocError>
     requires { IsHeadTableOf (language_view language.now) table.now }
     ensures { (s : Setting) → RunsAs s.theory rules.now → language_view language.now ≡ s.theory.signature → VerifiesAs s.theory.signature (view pattern.now) (sort_view sort) →
-        IfOk result (λ line. IsReplyLine (IsUnderstoodAs s (id_view id.now) (options_view options.now) (view pattern.now)) line.items) }
+        IfOk result (λ line. IsReplyLine (IsUnderstoodAs s (id_view id.now) (options_view options) (view pattern.now)) line.items) }
 {
-    let asked = asked_of(alloc, options)?;
+    let asked = asked_of(options);
     asked_line(alloc, language, table, rules, id, pattern, sort, &asked)
 }
 
@@ -156,11 +143,11 @@ pub fn symbolic_line(
     id: &Id,
     pattern: &Pattern,
     sort: Sort,
-    options: &Options,
+    options: Options,
 ) -> Result<Vec<u8>, AllocError>
     requires { IsPrepared prepared.now }
     ensures { (s : Setting) → RunsAs s.theory rules.now → signature_in prepared.now ≡ s.theory.signature → VerifiesAs s.theory.signature (view pattern.now) (sort_view sort) →
-        IfOk result (λ line. IsReplyLine (IsUnderstoodAs s (id_view id.now) (options_view options.now) (view pattern.now)) line.items) }
+        IfOk result (λ line. IsReplyLine (IsUnderstoodAs s (id_view id.now) (options_view options) (view pattern.now)) line.items) }
 {
     let language = prepared.language()?;
     line_over(

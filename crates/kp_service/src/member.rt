@@ -209,7 +209,7 @@ fn execute_line(
     ensures line { IfOk result (λ line. AtEachBookSeen registry.now pass.old (λ o book. IsLineOf (IsReplyIn o book (options_view options).module_name (id_view id.now) (λ s. IsExecutedAs s (id_view id.now) (options_view options) (reading_view state))) line.items)) }
 {
     match rules_at(alloc, registry, pass, &options.module_name)? {
-        Some(rules) => executed_line(alloc, prepared, &rules, id, state, &options),
+        Some(rules) => executed_line(alloc, prepared, &rules, id, state, options),
         None => no_module_line(alloc, id, options.module_name),
     }
 }
