@@ -21,15 +21,9 @@ import sys
 TOP = os.path.join(os.path.dirname(os.path.abspath(__file__)), "..", "..")
 FIXED = {"LoadFault", "TreeFault", "ProveFault", "TermFault", "OutsideFault"}
 FIXED_NAMES = {("crates/kp_graph/src/tree.rt", "held")}
-LIMITS = {"48": "levels of a term", "256": "nesting of a text", "10_000": "steps, nodes", "4_194_304": "bytes of a frame"}
+LIMITS = [("48", "levels of a term", ""), ("256", "nesting of a text", ""), ("10_000", "steps", "MOST_STEPS"), ("10_000", "nodes", "MOST_NODES"), ("4_194_304", "bytes of a frame", "")]
 VAGUE = {"asked", "held", "right", "within", "put_in", "parts_read", "may_be"}
-STANDING = {
-    "crates/kp_program/src/command.rt: 10_000 (steps, nodes) is MOST_DEPTH here, too",
-    "crates/kp_rpc/src/params.rt: 10_000 (steps, nodes) is MOST_DEPTH here, too",
-    "crates/kp_requests/src/frame.rt: 4_194_304 (bytes of a frame) is FRAME_LIMIT here, too",
-    "crates/kp_rpc/src/frame.rt: 4_194_304 (bytes of a frame) is FRAME_LIMIT here, too",
-    "crates/kp_simplify/src/depth.rt: 48 (levels of a term) is MOST_DEPTH here, too",
-}
+STANDING = set()
 found, clauses = set(), []
 
 
@@ -89,14 +83,13 @@ def errors():
 
 def limits():
     """A limit is a constant once."""
-    for number, what in LIMITS.items():
+    for number, what, name in LIMITS:
+        others = [it[2] for it in LIMITS if it[0] == number and it[1] != what]
         places = []
         for path in sources():
-            places += [(path, it[1]) for it in re.finditer(rf"const (\w+): \w+ = {number};", text_of(path))]
-        kept = [it for it in places if it[0] in ("crates/kp_conn/src/serving.rt", "crates/kp_rules/src/skeleton.rt")]
-        for path, name in places:
-            if (path, name) != (kept or places)[0]:
-                found.add(f"{path}: {number} ({what}) is {name} here, too")
+            places += [(path, it[1]) for it in re.finditer(rf"const (\w+): \w+ = {number};", text_of(path)) if it[1] not in others]
+        for path, other in places[1:]:
+            found.add(f"{path}: {number} ({what}) is {other} here, too")
 
 
 def types():

@@ -7,10 +7,10 @@ use Rattle.std.specs.Io.KnownBytes.{Appends, Consumes, Keeps, IsAtEnd}
 use Rattle.kp_io.specs.Outside.{CountsFault}
 use Rattle.kp_io.specs.declared.fault.OutsideFault.{OutsideFault}
 use Rattle.kp_io.specs.declared.fault.OutsideFault.TheVariants as outside
-use Rattle.kp_frames.specs.Frames.{begins_bracketed, Cuts, white, bracketed, malformed, unended, full}
+use Rattle.kp_frames.specs.Frames.{begins_bracketed, most_frame, Cuts, white, bracketed, malformed, unended, full}
 use Rattle.kp_frames.specs.Held.{Cutting, HasCut}
 use Rattle.kp_book.specs.Books.{Registration}
-use Rattle.kp_conn.specs.Conversations.{Sees, frame_limit, most_taken, frames_read, last_line, parse_error, Answered, none, not_begun, BrokenOff, Conversation, HasEnded, IsBroken, among, at_last, IsServed, ended, truncated, too_long, spent, not_read, not_written, out_of_memory}
+use Rattle.kp_conn.specs.Conversations.{Sees, most_taken, frames_read, last_line, parse_error, Answered, none, not_begun, BrokenOff, Conversation, HasEnded, IsBroken, among, at_last, IsServed, ended, truncated, too_long, spent, not_read, not_written, out_of_memory}
 use Rattle.kp_conn.specs.Turns.{EndsMany, HasCounted, IsTurn, BrokenTurn, uncut, unanswered, Talks, IsLastPut, last_put, not_put, no_memory, end_behind, IsRestTold, no_rest, rest_told}
 use Rattle.kp_conn.specs.declared.served.Served.{Served}
 use Rattle.kp_conn.specs.declared.served.Served.TheVariants as served
@@ -95,7 +95,7 @@ one_more frames (b ∷ rest) some = refl
 
 module _ (Answers : List Registration → List ℕ → Option (List ℕ) → List Registration → Type 0) (Begins : List Registration → List ℕ → List Registration → Type 0) where
   -- no byte was taken yet
-  pub begins_talking : (seen : List Registration) (l h : Option (List ℕ)) (c : Cutting) → c.limit ≡ frame_limit → HasCut c [] [] → Appends h h [] → Talks Answers seen l l h h seen c 0 0
+  pub begins_talking : (seen : List Registration) (l h : Option (List ℕ)) (c : Cutting) → c.limit ≡ most_frame → HasCut c [] [] → Appends h h [] → Talks Answers seen l l h h seen c 0 0
   begins_talking seen l h c e cut put = record {
     talk = record { taken = []; consumed = Consumes-nil l; frames = []; rest = c.rest; is_full = c.is_full; cut = subst (λ n. Cuts n [] [] c.rest c.is_full) e cut; lines = []; answered = none seen };
     rest = refl;
@@ -105,12 +105,12 @@ module _ (Answers : List Registration → List ℕ → Option (List ℕ) → Lis
     put = put;
   }
 
-  cut_of : (before after : List Registration) (l m h i : Option (List ℕ)) (c : Cutting) (taken frames : ℕ) → c.limit ≡ frame_limit → (t : Talks Answers before l m h i after c taken frames) → HasCut c t.talk.taken t.talk.frames
+  cut_of : (before after : List Registration) (l m h i : Option (List ℕ)) (c : Cutting) (taken frames : ℕ) → c.limit ≡ most_frame → (t : Talks Answers before l m h i after c taken frames) → HasCut c t.talk.taken t.talk.frames
   cut_of before after l m h i c taken frames e t =
-      subst (λ n. Cuts n t.talk.taken t.talk.frames c.rest c.is_full) (sym e) (subst (λ r. Cuts frame_limit t.talk.taken t.talk.frames r c.is_full) t.rest (subst (λ f. Cuts frame_limit t.talk.taken t.talk.frames t.talk.rest f) t.full t.talk.cut))
+      subst (λ n. Cuts n t.talk.taken t.talk.frames c.rest c.is_full) (sym e) (subst (λ r. Cuts most_frame t.talk.taken t.talk.frames r c.is_full) t.rest (subst (λ f. Cuts most_frame t.talk.taken t.talk.frames t.talk.rest f) t.full t.talk.cut))
 
   pub talks_on : (before between after : List Registration) (l m n h i j : Option (List ℕ)) (c d : Cutting) (taken frames count : ℕ) (piece : List ℕ) →
-      c.limit ≡ frame_limit → d.limit ≡ frame_limit → Talks Answers before l m h i between c taken frames → Consumes m n piece → IsTurn Answers between c d piece i j after count →
+      c.limit ≡ most_frame → d.limit ≡ most_frame → Talks Answers before l m h i between c taken frames → Consumes m n piece → IsTurn Answers between c d piece i j after count →
       Talks Answers before l n h j after d (taken + length piece) (frames + count)
   talks_on before between after l m n h i j c d taken frames count piece e g t consumed turn = record {
     talk = record {
@@ -132,7 +132,7 @@ module _ (Answers : List Registration → List ℕ → Option (List ℕ) → Lis
 
   -- a turn over the first bytes of a piece
   pub talks_turn : (before between after : List Registration) (l m n h i j : Option (List ℕ)) (c d : Cutting) (taken frames count k : ℕ) (piece : List ℕ) → k ≤ length piece →
-      c.limit ≡ frame_limit → d.limit ≡ frame_limit → Talks Answers before l m h i between c taken frames → Consumes m n (take k piece) → IsTurn Answers between c d (take k piece) i j after count →
+      c.limit ≡ most_frame → d.limit ≡ most_frame → Talks Answers before l m h i between c taken frames → Consumes m n (take k piece) → IsTurn Answers between c d (take k piece) i j after count →
       Talks Answers before l n h j after d (taken + k) (frames + count)
   talks_turn before between after l m n h i j c d taken frames count k piece short e g t consumed turn =
       subst (λ x. Talks Answers before l n h j after d (taken + x) (frames + count)) (length-take-le k piece short) (talks_on before between after l m n h i j c d taken frames count (take k piece) e g t consumed turn)
@@ -146,7 +146,7 @@ module _ (Answers : List Registration → List ℕ → Option (List ℕ) → Lis
       (subst (Consumes l n) (sym (append-nil t.talk.taken)) (Consumes-kept l m n t.talk.taken t.talk.consumed kept)) t.talk.cut (all_done before after t.talk.frames t.talk.lines t.talk.answered) t.put)
 
   pub turn_broken : (before between after : List Registration) (l m n h i j : Option (List ℕ)) (c d : Cutting) (taken frames : ℕ) (piece : List ℕ) →
-      c.limit ≡ frame_limit → d.limit ≡ frame_limit → Talks Answers before l m h i between c taken frames → Consumes m n piece → BrokenTurn Answers Begins between c d piece i j after →
+      c.limit ≡ most_frame → d.limit ≡ most_frame → Talks Answers before l m h i between c taken frames → Consumes m n piece → BrokenTurn Answers Begins between c d piece i j after →
       IsBroken Answers Begins before l n h j after
   turn_broken before between after l m n h i j c d taken frames piece e g t consumed (uncut same put) = among t.talk.taken piece t.talk.frames t.talk.rest t.talk.lines t.talk.is_full
       (Consumes-trans l m n t.talk.taken piece t.talk.consumed consumed) t.talk.cut
@@ -183,7 +183,7 @@ module _ (Answers : List Registration → List ℕ → Option (List ℕ) → Lis
   last_told before after l m h i j t end result some put whole (no_memory n p) = out_of_memory (at_last t n (subst (λ x. Appends h j (t.lines ++ take n x)) (sym (line_for t.rest some)) (Appends-trans h i j t.lines _ put p)))
 
   pub long_told : (before after : List Registration) (l m h i j : Option (List ℕ)) (c : Cutting) (taken frames : ℕ) (result : Served) → Talks Answers before l m h i after c taken frames → c.is_full ≡ true →
-      length c.rest ≡ frame_limit → IsLastPut served.TooLong i j result → IsServed Answers Begins before l m h j after result
+      length c.rest ≡ most_frame → IsLastPut served.TooLong i j result → IsServed Answers Begins before l m h j after result
   long_told before after l m h i j c taken frames result t e long p = last_told before after l m h i j t.talk served.TooLong result (λ none_left. absurd (omega (arith, long, ap length t.rest, ap length none_left))) t.put
       (λ put. too_long (record { talk = t.talk; full = t.full ∙ e; put = put })) p
 
@@ -219,7 +219,7 @@ module _ (Answers : List Registration → List ℕ → Option (List ℕ) → Lis
 
   -- a turn behind what was seen
   pub talks_seen : (Had Has : List Registration → Type 0) (before : List Registration) (l m n h i j : Option (List ℕ)) (c d : Cutting) (taken frames count k : ℕ) (piece : List ℕ) → k ≤ length piece →
-      c.limit ≡ frame_limit → d.limit ≡ frame_limit → Consumes m n (take k piece) → Sees Had before (λ after. Talks Answers before l m h i after c taken frames) →
+      c.limit ≡ most_frame → d.limit ≡ most_frame → Consumes m n (take k piece) → Sees Had before (λ after. Talks Answers before l m h i after c taken frames) →
       ((between : List Registration) → Had between → Sees Has between (λ after. IsTurn Answers between c d (take k piece) i j after count)) →
       Sees Has before (λ after. Talks Answers before l n h j after d (taken + k) (frames + count))
   talks_seen Had Has before l m n h i j c d taken frames count k piece short e g consumed s turn = sees_behind Has before s.after _ _ s.grows

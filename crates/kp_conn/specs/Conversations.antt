@@ -2,15 +2,12 @@
 -- Source: JSON-RPC 2.0 over a stream; each reply is a line.
 use Rattle.std.specs.Prelude.{◌≡◌, ℕ, suc, Bool, true, false, List, [], ◌∷◌, ◌++◌, length, take, Option, Some, None, codes}
 use Rattle.std.specs.Io.KnownBytes.{Appends, Consumes, IsAtEnd}
-use Rattle.kp_frames.specs.Frames.{Cuts, begins_bracketed}
+use Rattle.kp_frames.specs.Frames.{Cuts, begins_bracketed, most_frame}
 use Rattle.kp_book.specs.Books.{Opening, Registration, Grows}
 use Rattle.kp_conn.specs.declared.served.Served.{Served}
 use Rattle.kp_conn.specs.declared.served.Served.TheVariants as served
 
--- the longest frame, and the bytes after which a connection ends
-abbrev pub frame_limit : ℕ
-frame_limit = 4194304
-
+-- the bytes after which a connection ends
 abbrev pub most_taken : ℕ
 most_taken = 1099511627776
 
@@ -76,7 +73,7 @@ pub record Conversation (Answers : List Registration → List ℕ → Option (Li
   pub frames : List (List ℕ)
   pub rest : List ℕ
   pub is_full : Bool
-  pub cut : Cuts frame_limit taken frames rest is_full
+  pub cut : Cuts most_frame taken frames rest is_full
   pub lines : List ℕ
   pub answered : Answered Answers before frames lines after
 
@@ -121,7 +118,7 @@ pub record IsSpent (Answers : List Registration → List ℕ → Option (List �
 pub data IsBroken (Answers : List Registration → List ℕ → Option (List ℕ) → List Registration → Type 0) (Begins : List Registration → List ℕ → List Registration → Type 0)
     (before : List Registration) (left left_after held held_after : Option (List ℕ)) (after : List Registration) : Type 0 where
   among : (taken unread : List ℕ) (frames : List (List ℕ)) (rest written : List ℕ) (is_full : Bool) → Consumes left left_after (taken ++ unread) →
-      Cuts frame_limit taken frames rest is_full → BrokenOff Answers Begins before frames written after → Appends held held_after written →
+      Cuts most_frame taken frames rest is_full → BrokenOff Answers Begins before frames written after → Appends held held_after written →
       IsBroken Answers Begins before left left_after held held_after after
   at_last : (talk : Conversation Answers before left left_after after) (count : ℕ) → Appends held held_after (talk.lines ++ take count (last_line talk.rest)) →
       IsBroken Answers Begins before left left_after held held_after after

@@ -9,12 +9,9 @@ ghost use Rattle.kp_conn.specs.declared.served.Served.TheVariants.{ReadFault, Wr
 use crate::answerer::Answerer;
 use crate::served::{Served, broken_by};
 use crate::turn::take_turn;
-use kp_frames::Cutter;
+use kp_frames::{Cutter, MOST_FRAME};
 use kp_io::{Failed, OutsideFault, Sink, Source, put_all};
 use std::alloc::Global;
-
-/// The longest frame, in bytes.
-const FRAME_LIMIT: usize = 4_194_304;
 
 /// A connection ends after so many bytes.
 const MOST_TAKEN: u64 = 1_099_511_627_776;
@@ -131,7 +128,7 @@ pub fn serve<A: Answerer, S: Source, K: Sink>(
     ensures rose { result ≡ WriteFault → Rose (K.fault_count sink.old) (K.fault_count sink.new) }
     ensures stays { ¬ (result ≡ WriteFault) → ¬ (result ≡ Memory) → K.fault_count sink.new ≡ K.fault_count sink.old }
 {
-    let mut cutter = Cutter::new(alloc, FRAME_LIMIT);
+    let mut cutter = Cutter::new(alloc, MOST_FRAME);
     let mut piece = [0u8; PIECE];
     let mut taken: u64 = 0;
     let mut frames: u64 = 0;

@@ -6,6 +6,10 @@ use Rattle.kp_frames.specs.declared.nest.Place.{Place}
 use Rattle.kp_frames.specs.declared.nest.Place.TheVariants as place
 use Rattle.kp_frames.specs.declared.nest.Nest.{Nest}
 
+-- the most bytes of a frame
+abbrev pub most_frame : ℕ
+most_frame = 4194304
+
 -- space, tab, carriage return, line feed
 abbrev pub is_white : ℕ → Bool
 is_white b = ((b == 32) || (b == 9)) || ((b == 13) || (b == 10))

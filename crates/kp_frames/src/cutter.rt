@@ -5,6 +5,9 @@ use crate::held::Held;
 use std::alloc::{AllocError, Global};
 use std::marker::Model;
 
+/// The longest frame, in bytes.
+pub const MOST_FRAME: usize = 4_194_304;
+
 /// Cuts a stream of bytes, piece by piece, into frames of at most `limit` bytes.
 #[derive(Drop)]
 pub struct Cutter {

@@ -9,7 +9,7 @@ mod held;
 mod laws;
 mod nest;
 
-pub use cutter::Cutter;
+pub use cutter::{Cutter, MOST_FRAME};
 pub use laws::{
     a_stream_is_cut_in_one_way, every_stream_is_cut, pieces_do_not_matter, what_is_cut_stays_cut,
 };

@@ -2,6 +2,8 @@ ghost use Rattle.std.specs.Prelude.{◌≡◌, ◌↔◌, ℕ, IsTrue, IfSome, I
 ghost use Rattle.kp_program.specs.Commands.{IsCommand, IsDepthAt, prove_view};
 ghost use Rattle.kp_program.specs.Words.{ProveWords, SpellsProve, SpellsSome, SpellsStdio, WritesDepth};
 
+use kp_rpc::MOST_STEPS;
+
 /// A command of the program.
 #[derive(Clone, Copy)]
 pub enum Command<'a> {
@@ -25,9 +27,6 @@ pub struct Prove<'a> {
     pub claims: &'a str,
     pub max_depth: u64,
 }
-
-/// An edge has at most so many steps.
-const MOST_DEPTH: u64 = 10_000;
 
 /// The command that the words spell.
 pub fn command_of(words: &[String]) -> Option<Command<'_>>
@@ -114,7 +113,7 @@ fn depth_of(word: &str) -> Option<u64>
     ensures none { IfNone result ((n : ℕ) → ¬ WritesDepth word.now n) }
 {
     match word.parse::<u64>() {
-        Ok(number) => if 1 <= number && number <= MOST_DEPTH {
+        Ok(number) => if 1 <= number && number <= MOST_STEPS {
             Some(number)
         } else {
             None

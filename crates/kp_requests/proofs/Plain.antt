@@ -6,7 +6,7 @@ use Rattle.serde_json.specs.Read.{read, max_depth}
 use Rattle.serde_json.specs.Written.{has_float, members_have_float, compact_text}
 use Rattle.kp_kore.specs.Syntax.{Text, KorePattern}
 use Rattle.kp_json.specs.Written.{wrapped_pattern}
-use Rattle.kp_rpc.specs.Frame.{most_frame}
+use Rattle.kp_frames.specs.Frames.{most_frame}
 use Rattle.kp_rpc.specs.Request.{RequestId, id_text, id_number, id_null, id_tree}
 use Rattle.kp_rpc.specs.Questions.{IsLawfulId, request_object}
 use Rattle.kp_rpc.specs.View.{id_view}

@@ -3,7 +3,7 @@
 use Rattle.std.specs.Prelude.{◌≡◌, ◌≤◌, ℕ, List, length, Some, IsUtf8}
 use Rattle.serde_json.specs.Data.{Data}
 use Rattle.serde_json.specs.Read.{read}
-use Rattle.kp_rpc.specs.Frame.{most_frame}
+use Rattle.kp_frames.specs.Frames.{most_frame}
 use Rattle.kp_rpc.specs.Reply.{parse_error}
 use Rattle.kp_requests.specs.Requests.{Frame, refused_whole}
 use Rattle.kp_requests.specs.Read.{read_frame}

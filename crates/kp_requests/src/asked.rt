@@ -4,7 +4,7 @@ ghost use Rattle.serde_json.specs.Read.{max_depth};
 ghost use Rattle.serde_json.specs.View.{view, members_view};
 ghost use Rattle.serde_json.specs.Written.{compact_text};
 ghost use Rattle.kp_kore.specs.View.{view as pattern_view};
-ghost use Rattle.kp_rpc.specs.Frame.{most_frame};
+ghost use Rattle.kp_frames.specs.Frames.{most_frame};
 ghost use Rattle.kp_rpc.specs.View.{id_view, name_view};
 ghost use Rattle.kp_requests.specs.Asked.{simplify_params, simplify_tree, add_module_params, add_module_tree};
 ghost use Rattle.kp_requests.specs.Frames.{IsJson};

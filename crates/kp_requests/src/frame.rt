@@ -6,6 +6,7 @@ ghost use Rattle.kp_requests.specs.Read.{read_batch, read_calls, read_frame};
 ghost use Rattle.kp_requests.specs.View.{calls_view, parsed_view};
 
 use crate::call::{Call, call_of};
+use kp_frames::MOST_FRAME;
 use kp_rpc::Refusal;
 use serde_json::Value;
 use std::alloc::{AllocError, Global};
@@ -20,14 +21,12 @@ pub enum Parsed {
     Refused(Refusal),
 }
 
-const FRAME_LIMIT: usize = 4_194_304;
-
 /// The JSON value that the bytes are the text of.
 fn json_of(alloc: Global, bytes: &[u8]) -> Result<Option<Value>, AllocError>
     ensures found { IfOk result (λ o. IfSome o (λ v. IsJson bytes.now (view v))) }
     ensures none { IfOk result (λ o. IfNone o ((d : Data) → ¬ IsJson bytes.now d)) }
 {
-    if bytes.len() > FRAME_LIMIT {
+    if bytes.len() > MOST_FRAME {
         return Ok(None);
     }
     match Value::from_slice(alloc, bytes) {

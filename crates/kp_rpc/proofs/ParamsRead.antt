@@ -5,8 +5,16 @@ use Rattle.serde_json.specs.Data.{Data, null, boolean, number, string, array, ob
 use Rattle.serde_json.specs.Find.{get, get_member}
 use Rattle.kp_kore.specs.Syntax.{Text}
 use Rattle.kp_rpc.specs.Request.{ExecuteOptions, HasParams, HasSides}
-use Rattle.kp_rpc.specs.Readings.{if_object, read_object, read_options, read_state, read_all_options, read_side, read_text, read_module}
+use Rattle.kp_rpc.specs.Readings.{if_object, read_object, read_options, read_text}
 use Rattle.kp_rpc.proofs.OptionsRead.{options_found, text_found}
+
+-- ---- the params of execute
+
+abbrev pub read_state : Data → Option Data
+read_state d = option_and_then (read_object (codes "state")) (read_object (codes "params") d)
+
+abbrev pub read_all_options : Data → Option ExecuteOptions
+read_all_options d = option_and_then read_options (read_object (codes "params") d)
 
 pub record StateAndOptions (o : Members) (s : Data) (options : ExecuteOptions) : Type 0 where
   pub state : Members
@@ -39,7 +47,14 @@ params_found o s options e r = params_in o (get_member (codes "params") o) s opt
 
 -- ---- the sides of implies
 
-pub object_in : (x : Option Data) (d : Data) → option_and_then if_object x ≡ Some d → (q : Members) × (x ≡ Some (object q)) × (d ≡ object q)
+-- the sides in the params of implies, and its module
+abbrev pub read_side : Text → Data → Option Data
+read_side key d = option_and_then (read_object key) (read_object (codes "params") d)
+
+abbrev pub read_module : Data → Option (Option Text)
+read_module d = option_and_then (λ p. read_text (get (codes "module") p)) (read_object (codes "params") d)
+
+object_in : (x : Option Data) (d : Data) → option_and_then if_object x ≡ Some d → (q : Members) × (x ≡ Some (object q)) × (d ≡ object q)
 object_in None d e = absurd (cc e)
 object_in (Some null) d e = absurd (cc e)
 object_in (Some (boolean b)) d e = absurd (cc e)

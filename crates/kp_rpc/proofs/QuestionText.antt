@@ -10,7 +10,8 @@ use Rattle.serde_json.specs.Written.{has_float, items_have_float, members_have_f
 use Rattle.kp_kore.specs.Syntax.{Text}
 use Rattle.kp_kore.specs.View.{view}
 use Rattle.kp_json.specs.Written.{two_parts, wrapped_pattern}
-use Rattle.kp_rpc.specs.Frame.{IsFrame, IsFrameData, most_frame}
+use Rattle.kp_frames.specs.Frames.{most_frame}
+use Rattle.kp_rpc.specs.Frame.{IsFrame, IsFrameData}
 use Rattle.kp_rpc.specs.Request.{RequestId, id_text, id_number, id_null, id_tree, ExecuteOptions, ExecuteRequest, ImpliesRequest, execute_method, implies_method}
 use Rattle.kp_rpc.specs.Questions.{Question, to_execute, to_imply, IsLawfulId, with_number, with_text, text_items, with_texts, execute_params, implies_params, request_object, question_tree}
 use Rattle.kp_rpc.specs.View.{id_view, options_view, name_view, question_view}

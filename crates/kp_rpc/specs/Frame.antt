@@ -1,21 +1,9 @@
 -- What one frame is, and which JSON it holds.
 -- Source: JSON-RPC 2.0; JSON (RFC 8259) as serde_json reads it, nested at most 127 deep.
-use Rattle.std.specs.Prelude.{◌≡◌, ◌≤◌, ℕ, List, length, Some, IsUtf8, true, ◌==◌, ◌||◌, Bool}
-use Rattle.std.specs.List.{list_all}
+use Rattle.std.specs.Prelude.{◌≡◌, ◌≤◌, ℕ, List, length, Some, IsUtf8}
 use Rattle.serde_json.specs.Data.{Data, array, object}
 use Rattle.serde_json.specs.Read.{read}
-
--- space, tab, carriage return, line feed
-abbrev pub is_white : ℕ → Bool
-is_white b = ((b == 32) || (b == 9)) || ((b == 13) || (b == 10))
-
--- nothing but white space, which asks for no reply
-abbrev pub IsWhite : List ℕ → Type 0
-IsWhite bytes = list_all is_white bytes ≡ true
-
--- the most bytes of a frame
-abbrev pub most_frame : ℕ
-most_frame = 4194304
+use Rattle.kp_frames.specs.Frames.{most_frame}
 
 -- one JSON object or array
 abbrev pub IsFrameData : Data → Type 0

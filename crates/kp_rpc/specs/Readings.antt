@@ -1,4 +1,5 @@
--- What is read of a member, or None where it is of another kind; for private clauses.
+-- What is read of the members of a request, or None where one is of another kind.
+-- Source: JSON-RPC 2.0 (ids); the K Haskell backend's JSON-RPC documentation (execute); this project.
 use Rattle.std.specs.Prelude.{ℕ, List, [], ◌∷◌, Option, Some, None, option_map, option_and_then, codes}
 use Rattle.serde_json.specs.Data.{Data, Num, unsigned, negative, float, null, boolean, number, string, array, object, Items, no_items, item}
 use Rattle.serde_json.specs.Find.{get}
@@ -84,16 +85,3 @@ if_object (object o) = Some (object o)
 
 abbrev pub read_object : Text → Data → Option Data
 read_object key d = option_and_then if_object (get key d)
-
-abbrev pub read_state : Data → Option Data
-read_state d = option_and_then (read_object (codes "state")) (read_object (codes "params") d)
-
-abbrev pub read_all_options : Data → Option ExecuteOptions
-read_all_options d = option_and_then read_options (read_object (codes "params") d)
-
--- the sides in the params of implies, and its module
-abbrev pub read_side : Text → Data → Option Data
-read_side key d = option_and_then (read_object key) (read_object (codes "params") d)
-
-abbrev pub read_module : Data → Option (Option Text)
-read_module d = option_and_then (λ p. read_text (get (codes "module") p)) (read_object (codes "params") d)

@@ -19,15 +19,16 @@ pub struct Options {
     pub terminals: Vec<String>,
 }
 
-const MOST_DEPTH: u64 = 10_000;
+/// The most steps of a run.
+pub const MOST_STEPS: u64 = 10_000;
 
 /// How many steps a run may take at most: `max-depth`, but no more than 10,000, which also holds where there is none.
 pub fn bound_of(options: &Options) -> u64
     ensures { result ≡ bound_of (options_view options.now) }
 {
     match options.max_depth {
-        Some(depth) => depth.min(MOST_DEPTH),
-        None => MOST_DEPTH,
+        Some(depth) => depth.min(MOST_STEPS),
+        None => MOST_STEPS,
     }
 }
 

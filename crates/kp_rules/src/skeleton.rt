@@ -21,14 +21,11 @@ use kp_ground::Value;
 use kp_kore::{Name, Pattern, Sort};
 use kp_signature::instance::sort_at;
 use kp_signature::rules::is_numeral;
-use kp_signature::{Meaning, Signature, meaning_of};
+use kp_signature::{MOST_DEPTH, Meaning, Signature, meaning_of};
 use kp_sort_index::inject::is_split;
 use kp_sort_index::sort_index::SortIndex;
 use std::alloc::{AllocError, Global};
 use std::sync::Arc;
-
-/// The most levels that a term has.
-pub const MOST_DEPTH: usize = 48;
 
 /// What a rule's left side may stand for.
 #[derive(Drop)]

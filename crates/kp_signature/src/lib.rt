@@ -44,6 +44,7 @@ pub use function::Function;
 pub use meaning::Meaning;
 pub use meanings::meaning_of;
 pub use own::own_sort;
+pub use rules::MOST_DEPTH;
 pub use signature::Signature;
 pub use subsort::Subsort;
 pub use text::sort_text;

@@ -38,12 +38,15 @@ pub fn check_same(alloc: Global, expected: &Sort, found: &Sort) -> Result<(), Ve
     })
 }
 
+/// The most levels of a term.
+pub const MOST_DEPTH: usize = 48;
+
 /// V6.
 pub fn check_depth(depth: usize) -> Result<(), VerifyError>
     ensures ok { OnOk result (depth_fault depth ≡ None) }
     ensures err { IfErr result (λ e. (f : VerifyFault) → fault_view e ≡ Some f → depth_fault depth ≡ Some f) }
 {
-    if depth <= 48 {
+    if depth <= MOST_DEPTH {
         Ok(())
     } else {
         Err(VerifyError::TermTooDeep)

@@ -9,14 +9,12 @@ ghost use Rattle.kp_simplify.specs.Answers as model;
 
 use crate::shallow::is_shallow;
 use kp_kore::{Pattern, Sort};
+use kp_signature::MOST_DEPTH;
 use kp_symbolic::{Atom, Clause, Language, Literal, State, Term};
 use kp_writing::term_out;
 use std::alloc::{AllocError, Global};
 
-/// As many levels as a term may have.
-const MOST_DEPTH: u64 = 48;
-
-/// Half as many: each level of a term is written with at most one `inj` more, so a term of these isn't too deep.
+/// Half as many levels as a term may have: each level of a term is written with at most one `inj` more, so a term of these isn't too deep.
 const SURELY_WRITTEN: u64 = 24;
 
 /// One level more.
@@ -65,7 +63,7 @@ fn deep_term(
         return Ok(None);
     }
     let depth = depth_of(&term_out(term, alloc, language, sort)?)?;
-    if depth > MOST_DEPTH {
+    if depth > MOST_DEPTH as u64 {
         return Ok(Some(depth));
     }
     Ok(None)

@@ -1,12 +1,13 @@
 use Rattle.std.proofs.Common.{◌≡◌, ◌-◌, ◌≤◌, false, length}
-use Rattle.kp_conn.specs.Conversations.{ForEachSeen, frame_limit, most_taken}
+use Rattle.kp_frames.specs.Frames.{most_frame}
+use Rattle.kp_conn.specs.Conversations.{ForEachSeen, most_taken}
 use Rattle.kp_conn.specs.Turns.{HasCounted, Talks}
 use Rattle.kp_conn.proofs.serving.serve.Given as goal
 
 abbrev pub invariant-loop-taken : goal.invariant-loop-taken
 invariant-loop-taken g l = record {
   pass : g.A.Answerer.is_pass l.answerer l.pass;
-  limit : l.cutter.limit ≡ frame_limit;
+  limit : l.cutter.limit ≡ most_frame;
   memory : l.cutter.is_out_of_memory ≡ false;
   room : l.cutter.is_full ≡ false;
   within : l.taken ≤ most_taken;
