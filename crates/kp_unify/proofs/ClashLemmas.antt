@@ -3,7 +3,7 @@ use Rattle.std.proofs.Common.{◌≡◌, refl, sym, ap, subst, ◌∙◌, ℕ, z
 use Rattle.std.specs.Prelude.{◌↔◌, not, IsTrue}
 use Rattle.std.specs.Str.{bytes_eq}
 use Rattle.std.proofs.lemmas.Slice.Eq.{bytes_eq-Decides}
-use Rattle.kp_kore.specs.Syntax.{Text, KoreSort, no_sorts, next_sort}
+use Rattle.kp_kore.specs.Syntax.{Text, KoreSort, KoreSorts, no_sorts, next_sort}
 use Rattle.kp_kore.specs.Hooks.{Hook, whole_arithmetic, whole_comparison, truth_connective, truth_negation, values_equal, values_different}
 use Rattle.kp_kore.specs.Parts.{SortedName}
 use Rattle.kp_kore.specs.Signature.{KoreSignature, SymbolMeaning, construction, interpretation, injection, foreign, meaning_of, integers, constructor_of}
@@ -17,10 +17,10 @@ use Rattle.kp_symbolic.specs.WellFormed.{IsWellSorted, stands_in_terms}
 use Rattle.kp_symbolic.specs.Opening.{head_of_call}
 use Rattle.kp_symbolic.proofs.Distribution.{all_first, all_second}
 use Rattle.kp_symbolic.specs.View.{terms_of}
-use Rattle.kp_rules.specs.Skeletons.{Form, fixed, forms_of, Admits, AdmitAll}
+use Rattle.kp_rules.specs.Skeletons.{Form, one_of, fixed, forms_of, Admits, AdmitAll}
 use Rattle.kp_cases.specs.Rows.{HasMembers, IsHeadOfSymbol}
 use Rattle.kp_cases.proofs.RowLemmas.{admits_members, head_admitted, value_head}
-use Rattle.kp_unify.specs.Clash.{IsNever, AreNever, IsNeverOf, AreNeverOf}
+use Rattle.kp_unify.specs.Clash.{IsNever, AreNever, IsNeverOf, AreNeverOf, IsNeverWhere, AreNeverWhere, IsValueOf, StandsForTerm}
 use Rattle.kp_unify.specs.Literals.{IsLiteral}
 
 abbrev Given : KoreSignature → Valuation → SortedName → Type 0
@@ -135,3 +135,31 @@ other_headed f c d fs ts m n g r w s k h a = n (headed_by f c d fs ts m g r w s 
 
 pub other_members_of : (f : Form) (c d : Text) (fs : List Form) (ts : List SymbolicTerm) → HasMembers f c (forms_of fs) → AreNeverOf fs (terms_of ts) → IsNeverOf f (headed d (terms_of ts))
 other_members_of f c d fs ts m n g r w s k h a = n g r w (places_of g d) k.2 h (headed_by f c d fs ts m g r w s k h (meaning_of g d) refl a).1
+
+-- ---- where something holds of the valuations
+
+pub never_where_at : (Where : KoreSignature → Valuation → Valuation → Type 0) (fs : List Form) (ts : List SymbolicTerm) (i : ℕ) (f : Form) (t : SymbolicTerm) → i < length ts → f ≡ get_or fs i f → t ≡ get_or ts i t →
+    IsNeverWhere Where f t → AreNeverWhere Where fs (terms_of ts)
+never_where_at Where [] [] i f t l d e n g r w ss q k h a = absurd (omega (arith, l))
+never_where_at Where [] (z ∷ ts) i f t l d e n g r w ss q k h a = a
+never_where_at Where (y ∷ fs) [] i f t l d e n g r w ss q k h a = a
+never_where_at Where (y ∷ fs) (z ∷ ts) zero f t l d e n g r w (next_sort s ss) q k h a =
+    subst (λ x. IsNeverWhere Where x z) d (subst (λ x. IsNeverWhere Where f x) e n) g r w s q k.0 (all_first (Given g w) (term_variables z) (all_term_variables (terms_of ts)) h) a.0
+never_where_at Where (y ∷ fs) (z ∷ ts) (suc i) f t l d e n g r w (next_sort s ss) q k h a =
+    never_where_at Where fs ts i f t (omega (arith, l)) d e n g r w ss q k.1 (all_second (Given g w) (term_variables z) (all_term_variables (terms_of ts)) h) a.1
+never_where_at Where (y ∷ fs) (z ∷ ts) zero f t l d e n g r w no_sorts q k h a = absurd k
+never_where_at Where (y ∷ fs) (z ∷ ts) (suc i) f t l d e n g r w no_sorts q k h a = absurd k
+
+pub members_where : (Where : KoreSignature → Valuation → Valuation → Type 0) (f : Form) (c d : Text) (fs : List Form) (ts : List SymbolicTerm) → HasMembers f c (forms_of fs) → AreNeverWhere Where fs (terms_of ts) → IsNeverWhere Where f (headed d (terms_of ts))
+members_where Where f c d fs ts m n g r w s q k h a = n g r w (places_of g d) q k.2 h (headed_by f c d fs ts m g r w s k h (meaning_of g d) refl a).1
+
+-- a variable that has the value, and stands for a term that is never the value
+pub other_of_name : (x : Text) (s : KoreSort) (u : Value) (t : SymbolicTerm) → IsNeverOf (fixed u) t → IsNeverWhere (IsValueOf x u) (one_of x s) t
+other_of_name x s u t n g r w place q k h a = n g r w place k h (a.0 ∙ q)
+
+-- a variable stands here for the value, which it never is elsewhere
+pub elsewhere : (x : Text) (s : KoreSort) (u : Value) (f : Form) (t : SymbolicTerm) → IsNeverWhere (IsValueOf x u) f t → IsNeverWhere (StandsForTerm f t) (one_of x s) (known u)
+elsewhere x s u f t n g r w place q k h a = n g r w q.place (sym a.0) q.sorted q.given q.stands
+
+pub never_twice : (f : Form) (t : SymbolicTerm) → IsNeverWhere (StandsForTerm f t) f t → IsNeverOf f t
+never_twice f t n g r w place k h a = n g r w place (record { place = place; sorted = k; given = h; stands = a }) k h a

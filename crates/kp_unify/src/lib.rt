@@ -16,6 +16,7 @@ pub mod pairs;
 pub mod part;
 pub mod place;
 pub mod put;
+pub mod repeats;
 pub mod sorts;
 
 pub use meeting::{cases, meet};

@@ -8,12 +8,12 @@ ghost use Rattle.kp_cases.specs.Courses.{all_equality_clauses};
 ghost use Rattle.kp_unify.specs.Views.{signature_of, numbered_view, met_view, equality_view, stage_view, HasItsTable};
 ghost use Rattle.kp_unify.specs.Promises.{RunsToItsEnd, IsPlacedIf, ArePlacedIf, met_at_end, MeetsAtEnd, MeetsPart};
 
-use crate::clash::clashes;
 use crate::course::{Course, Equality, begin};
 use crate::forms::Form;
 use crate::heads::has_sort;
 use crate::literals::{are_never, equal_clauses};
 use crate::part::{Meeting, MetPart, Part, Setting, whole};
+use crate::repeats::differs;
 use kp_compile::CompileError;
 use kp_rules::skeleton::Skeleton;
 use kp_signature::Signature;
@@ -138,7 +138,7 @@ pub fn meet(
     requires heads { HasItsTable setting.now }
     ensures { MeetsPart setting.now (numbered_view part.now) (skeleton_view left.now) result }
 {
-    if clashes(&part.state.term, Form::Skeleton { skeleton: left }) {
+    if differs(&part.state.term, Form::Skeleton { skeleton: left }) {
         return Ok(None);
     }
     let mut course = begin(alloc, left, part)?;

@@ -118,7 +118,7 @@ fn counts(
 /// What is said, a state, a left side, and the counts of what is met.
 type Row = (&'static str, &'static str, &'static str, Option<Counts>);
 
-static ROWS: [Row; 22] = [
+static ROWS: [Row; 24] = [
     (
         "nothing is narrowed",
         "pair{}(X:PP{}, Y:PP{})",
@@ -215,6 +215,18 @@ static ROWS: [Row; 22] = [
         "num{}(X:Int{}, X:Int{})",
         "num{}(\\dv{Int{}}(\"1\"), \\dv{Int{}}(\"2\"))",
         Some((0, 2, 0, 0, 0)),
+    ),
+    (
+        "a sum and two numbers against one variable",
+        "tri{}(add{}(X:Int{}, Y:Int{}), \\dv{Int{}}(\"1\"), \\dv{Int{}}(\"2\"))",
+        "tri{}(L:Int{}, L:Int{}, L:Int{})",
+        None,
+    ),
+    (
+        "a sum and one number twice against one variable",
+        "tri{}(add{}(X:Int{}, Y:Int{}), \\dv{Int{}}(\"1\"), \\dv{Int{}}(\"1\"))",
+        "tri{}(L:Int{}, L:Int{}, L:Int{})",
+        Some((1, 2, 0, 0, 0)),
     ),
     (
         "two tokens",

@@ -42,6 +42,7 @@ pub const SMALL: &str = r#"module SMALL
   symbol pair{}(PP{}, PP{}) : K{} [constructor{}()]
   symbol two{}(D{}, D{}) : K{} [constructor{}()]
   symbol num{}(Int{}, Int{}) : K{} [constructor{}()]
+  symbol tri{}(Int{}, Int{}, Int{}) : K{} [constructor{}()]
   symbol tok{}(T{}, T{}) : K{} [constructor{}()]
   symbol hold{}(W{}) : K{} [constructor{}()]
   symbol inj{From,To}(From) : To [sortInjection{}()]
