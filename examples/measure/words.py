@@ -12,6 +12,7 @@ words.py clauses: lists the clauses of more than 260 characters, the longest fir
 - The tables of docs/ARCHITECTURE.md have the crates of crates.txt but those of tests, in order.
 - No function, outside the crates of tests, has a name that nobody could guess (VAGUE, but for one
   that the public interface fixed, FIXED_NAMES), or is without its `///` line.
+Each folder of answers is of a function that is there.
 """
 import glob
 import os
@@ -28,7 +29,7 @@ found, clauses = set(), []
 
 
 def paths(pattern):
-    return [os.path.relpath(it, TOP) for it in sorted(glob.glob(os.path.join(TOP, pattern)))]
+    return [os.path.relpath(it, TOP) for it in sorted(glob.glob(os.path.join(TOP, pattern), recursive=True))]
 
 
 def text_of(path):
@@ -167,7 +168,17 @@ def lengths():
                 clauses.append((size, f"{path}:{text[: it.start()].count(chr(10)) + 1}"))
 
 
-for rule in (definitions, errors, limits, types, files, crates, functions, lengths):
+def answers():
+    """A folder of answers has the name of a function of its crate; one of a cycle of calls begins with +."""
+    for path in paths("crates/*/proofs/**/*.antt"):
+        *_, folder, _ = parts = path.split("/")
+        if len(parts) < 6 or folder.startswith("+"):
+            continue
+        if not any(re.search(rf"\bfn {folder}\b", text_of(it)) for it in paths(f"crates/{parts[1]}/src/**/*.rt")):
+            found.add(f"{'/'.join(parts[:-1])}: no such function")
+
+
+for rule in (definitions, errors, limits, types, files, crates, functions, answers, lengths):
     rule()
 if sys.argv[1:] == ["clauses"]:
     print("\n".join(f"{size} {place}" for size, place in sorted(clauses, reverse=True)))

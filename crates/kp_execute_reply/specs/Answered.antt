@@ -12,7 +12,7 @@ use Rattle.kp_compile.specs.Spelled.{injection_name}
 use Rattle.kp_clauses.specs.Faults as place
 use Rattle.kp_clauses.specs.Faults.{state_fault}
 use Rattle.kp_rpc.specs.Request.{RequestId, ExecuteOptions, ExecuteRequest}
-use Rattle.kp_rpc.specs.Reply.{VerifyFault, foreign_symbol, other_shape, no_pattern, not_verified, error_reply, result_reply}
+use Rattle.kp_rpc.specs.Reply.{PatternRefusal, foreign_symbol, other_shape, no_pattern, not_verified, error_reply, result_reply}
 use Rattle.kp_replies.specs.Aborted.{aborted_tree}
 use Rattle.kp_replies.specs.Replies.{IsBare}
 use Rattle.kp_replies.specs.Right.{IsRightReply, asked_options}
@@ -62,5 +62,5 @@ pub data IsUnderstoodAs (s : Setting) (id : RequestId) (options : ExecuteOptions
 -- the tree spells no pattern; the pattern has a verify fault; or it verifies
 pub data IsExecutedAs (s : Setting) (id : RequestId) (options : ExecuteOptions) : Reading KorePattern → Data → Type 0 where
   unread : (f : TreeFault) → IsExecutedAs s id options (fault f) (error_reply id (no_pattern f))
-  faulty : (p : KorePattern) (f : VerifyFault) → IsFirstFault s.theory.signature p f → IsExecutedAs s id options (read p) (error_reply id (not_verified f))
+  faulty : (p : KorePattern) (f : PatternRefusal) → IsFirstFault s.theory.signature p f → IsExecutedAs s id options (read p) (error_reply id (not_verified f))
   understood : (p : KorePattern) (sort : KoreSort) (reply : Data) → VerifiesAs s.theory.signature p sort → IsUnderstoodAs s id options p reply → IsExecutedAs s id options (read p) reply

@@ -4,6 +4,7 @@ use kp_kore::{Pattern, Sort};
 use kp_replies::{executed_text, implied_text};
 use kp_results::{Executed, Implied, Reason, State};
 use kp_rpc::{Id, PatternFault, StateFault, fault_text, refusal_text};
+use kp_signature::VerifyError;
 use std::alloc::Global;
 use std::process::Abort;
 
@@ -14,12 +15,20 @@ fn no_module(rt: &impl Abort, alloc: Global) -> StateFault {
     }
 }
 
+/// A sort without arguments.
+fn sort(rt: &impl Abort, alloc: Global, name: &str) -> Sort {
+    Sort::App {
+        name: text(rt, alloc, name),
+        arguments: Vec::new(alloc),
+    }
+}
+
 /// The fault that a pattern has another sort.
 fn other_sort(rt: &impl Abort, alloc: Global) -> StateFault {
-    StateFault::Verify(PatternFault::SortsDiffer {
-        expected: text(rt, alloc, "SortInt{}"),
-        found: text(rt, alloc, "SortBool{}"),
-    })
+    StateFault::Verify(PatternFault::Unverified(VerifyError::SortDiffers {
+        expected: sort(rt, alloc, "SortInt"),
+        found: sort(rt, alloc, "SortBool"),
+    }))
 }
 
 /// The reply of a fault.

@@ -7,7 +7,8 @@ use Rattle.kp_kore.specs.Syntax.{Text}
 use Rattle.kp_json.specs.Members.{object_of}
 use Rattle.kp_json.specs.Faults.{TreeFault, unknown_tag, missing_member, wrong_kind, wrong_format, nested_too_deep}
 use Rattle.kp_rpc.specs.Request.{RequestId}
-use Rattle.kp_rpc.specs.Reply.{reply_bytes, RequestError, parse_error, invalid_request, method_not_found, invalid_params, no_module, no_pattern, not_verified, VerifyFault, unknown_sort, unknown_symbol, other_number, sorts_differ, wide_number, deep_term, no_literal, foreign_symbol, other_shape, kind_only, kind_and_name, tree_fault_data, verify_fault_data, error_parts, error_tree, error_reply}
+use Rattle.kp_signature.specs.Verify.{VerifyFault, unknown_sort, unknown_symbol, wrong_number, sort_differs, number_too_wide, term_too_deep, no_literal, sort_text}
+use Rattle.kp_rpc.specs.Reply.{reply_bytes, RequestError, parse_error, invalid_request, method_not_found, invalid_params, no_module, no_pattern, not_verified, PatternRefusal, unverified, foreign_symbol, other_shape, kind_only, kind_and_name, tree_fault_data, verify_fault_data, pattern_data, error_parts, error_tree, error_reply}
 use Rattle.kp_rpc.specs.Request.{IsReadId}
 use Rattle.kp_rpc.proofs.ReadBack.{Back, number_back, negative_back, id_back}
 use Rattle.kp_replies.specs.Read.{Method, ServerReply, failed}
@@ -42,15 +43,18 @@ tree_fault_back (wrong_format name) = name_back (codes "J4") name
 tree_fault_back nested_too_deep = kind_back (codes "J5")
 
 verify_fault_back : (f : VerifyFault) → Back (verify_fault_data f)
-verify_fault_back (unknown_sort name) = name_back (codes "V1") name
+verify_fault_back (unknown_sort s) = name_back (codes "V1") (sort_text s)
 verify_fault_back (unknown_symbol name) = name_back (codes "V2") name
-verify_fault_back (other_number name) = name_back (codes "V3") name
-verify_fault_back (sorts_differ expected found) = record { numbers = (tt, (tt, (tt, tt))); is = refl }
-verify_fault_back (wide_number text) = name_back (codes "V5") text
-verify_fault_back deep_term = kind_back (codes "V6")
+verify_fault_back (wrong_number name) = name_back (codes "V3") name
+verify_fault_back (sort_differs expected found) = record { numbers = (tt, (tt, (tt, tt))); is = refl }
+verify_fault_back (number_too_wide text) = name_back (codes "V5") text
+verify_fault_back term_too_deep = kind_back (codes "V6")
 verify_fault_back (no_literal text) = name_back (codes "V7") text
-verify_fault_back (foreign_symbol name) = name_back (codes "T1") name
-verify_fault_back other_shape = kind_back (codes "T2")
+
+pattern_back : (f : PatternRefusal) → Back (pattern_data f)
+pattern_back (unverified f) = verify_fault_back f
+pattern_back (foreign_symbol name) = name_back (codes "T1") name
+pattern_back other_shape = kind_back (codes "T2")
 
 error_back : (e : RequestError) → Back (error_tree e)
 error_back parse_error = plain_error_back (negative (negsuc 32699)) (codes "Parse error") (negative_back 32699 (omega arith))
@@ -59,7 +63,7 @@ error_back method_not_found = plain_error_back (negative (negsuc 32600)) (codes 
 error_back invalid_params = plain_error_back (negative (negsuc 32601)) (codes "Invalid params") (negative_back 32601 (omega arith))
 error_back (no_module name) = full_error_back (unsigned 3) (object_of ((codes "name", string name) ∷ [])) (codes "Could not find module") (number_back 3 (omega arith)) (record { numbers = (tt, tt); is = refl })
 error_back (no_pattern f) = full_error_back (unsigned 1) (tree_fault_data f) (codes "Could not parse pattern") (number_back 1 (omega arith)) (tree_fault_back f)
-error_back (not_verified f) = full_error_back (unsigned 2) (verify_fault_data f) (codes "Could not verify pattern") (number_back 2 (omega arith)) (verify_fault_back f)
+error_back (not_verified f) = full_error_back (unsigned 2) (pattern_data f) (codes "Could not verify pattern") (number_back 2 (omega arith)) (pattern_back f)
 
 error_reply_back : (id : RequestId) (e : RequestError) → IsReadId id → Back (error_reply id e)
 error_reply_back id e lawful =

@@ -7,22 +7,17 @@ use Rattle.serde_json.specs.Written.{compact_text}
 use Rattle.kp_kore.specs.Syntax.{Text}
 use Rattle.kp_json.specs.Members.{object_of}
 use Rattle.kp_json.specs.Faults.{TreeFault, unknown_tag, missing_member, wrong_kind, wrong_format, nested_too_deep}
+use Rattle.kp_signature.specs.Verify.{VerifyFault, unknown_sort, unknown_symbol, wrong_number, sort_differs, number_too_wide, term_too_deep, no_literal, sort_text}
 use Rattle.kp_rpc.specs.Request.{RequestId, id_tree}
 
 -- ---- errors
 
--- what is wrong with a tree that spells no pattern is a TreeFault; with a pattern: an unknown sort or symbol, a number of arguments, two sorts that differ, a number too
--- wide, a term too deep, no literal of its sort; a foreign symbol; a shape that isn't read
-pub data VerifyFault : Type 0 where
-  unknown_sort : Text → VerifyFault
-  unknown_symbol : Text → VerifyFault
-  other_number : Text → VerifyFault
-  sorts_differ : Text → Text → VerifyFault
-  wide_number : Text → VerifyFault
-  deep_term : VerifyFault
-  no_literal : Text → VerifyFault
-  foreign_symbol : Text → VerifyFault
-  other_shape : VerifyFault
+-- why a pattern has no place in a request: its first verify fault; a foreign symbol; a shape that isn't read. (What is wrong with a
+-- tree that spells no pattern is a TreeFault.)
+pub data PatternRefusal : Type 0 where
+  unverified : VerifyFault → PatternRefusal
+  foreign_symbol : Text → PatternRefusal
+  other_shape : PatternRefusal
 
 pub data RequestError : Type 0 where
   parse_error : RequestError
@@ -31,7 +26,7 @@ pub data RequestError : Type 0 where
   invalid_params : RequestError
   no_module : Text → RequestError
   no_pattern : TreeFault → RequestError
-  not_verified : VerifyFault → RequestError
+  not_verified : PatternRefusal → RequestError
 
 abbrev pub kind_only : Text → Data
 kind_only kind = object_of ((codes "kind", string kind) ∷ [])
@@ -47,15 +42,18 @@ tree_fault_data (wrong_format name) = kind_and_name (codes "J4") name
 tree_fault_data nested_too_deep = kind_only (codes "J5")
 
 abbrev pub verify_fault_data : VerifyFault → Data
-verify_fault_data (unknown_sort name) = kind_and_name (codes "V1") name
+verify_fault_data (unknown_sort s) = kind_and_name (codes "V1") (sort_text s)
 verify_fault_data (unknown_symbol name) = kind_and_name (codes "V2") name
-verify_fault_data (other_number name) = kind_and_name (codes "V3") name
-verify_fault_data (sorts_differ expected found) = object_of ((codes "expected", string expected) ∷ (codes "found", string found) ∷ (codes "kind", string (codes "V4")) ∷ [])
-verify_fault_data (wide_number text) = kind_and_name (codes "V5") text
-verify_fault_data deep_term = kind_only (codes "V6")
+verify_fault_data (wrong_number name) = kind_and_name (codes "V3") name
+verify_fault_data (sort_differs expected found) = object_of ((codes "expected", string (sort_text expected)) ∷ (codes "found", string (sort_text found)) ∷ (codes "kind", string (codes "V4")) ∷ [])
+verify_fault_data (number_too_wide text) = kind_and_name (codes "V5") text
+verify_fault_data term_too_deep = kind_only (codes "V6")
 verify_fault_data (no_literal text) = kind_and_name (codes "V7") text
-verify_fault_data (foreign_symbol name) = kind_and_name (codes "T1") name
-verify_fault_data other_shape = kind_only (codes "T2")
+
+abbrev pub pattern_data : PatternRefusal → Data
+pattern_data (unverified f) = verify_fault_data f
+pattern_data (foreign_symbol name) = kind_and_name (codes "T1") name
+pattern_data other_shape = kind_only (codes "T2")
 
 -- a code, its message, and data where there are any
 pub record ErrorParts : Type 0 where
@@ -70,7 +68,7 @@ error_parts method_not_found = record { code = negative (negsuc 32600); message 
 error_parts invalid_params = record { code = negative (negsuc 32601); message = codes "Invalid params"; details = None }
 error_parts (no_module name) = record { code = unsigned 3; message = codes "Could not find module"; details = Some (object_of ((codes "name", string name) ∷ [])) }
 error_parts (no_pattern f) = record { code = unsigned 1; message = codes "Could not parse pattern"; details = Some (tree_fault_data f) }
-error_parts (not_verified f) = record { code = unsigned 2; message = codes "Could not verify pattern"; details = Some (verify_fault_data f) }
+error_parts (not_verified f) = record { code = unsigned 2; message = codes "Could not verify pattern"; details = Some (pattern_data f) }
 
 -- {"code":c,"data":d,"message":m}
 abbrev pub error_tree : RequestError → Data

@@ -1,5 +1,5 @@
 -- The data of requests and replies that the Rust types stand for.
-use Rattle.std.specs.Prelude.{List, Option, option_map, map, String, string_bytes}
+use Rattle.std.specs.Prelude.{List, Option, Some, None, option_map, map, String, string_bytes}
 use Rattle.std.specs.declared.alloc.Global.{Global}
 use Rattle.serde_json.specs.Data.{unsigned}
 use Rattle.serde_json.specs.Find.{of_integer}
@@ -7,7 +7,10 @@ use Rattle.kp_kore.specs.Syntax.{Text}
 use Rattle.kp_kore.specs.View.{view}
 use Rattle.kp_rpc.specs.Request.{RequestId, id_text, id_number, id_null, ExecuteOptions}
 use Rattle.kp_json.specs.View.{fault_view}
-use Rattle.kp_rpc.specs.Reply.{RequestError, parse_error, invalid_request, method_not_found, invalid_params, no_module, no_pattern, not_verified, VerifyFault, unknown_sort, unknown_symbol, other_number, sorts_differ, wide_number, deep_term, no_literal, foreign_symbol, other_shape}
+use Rattle.kp_signature.specs.Faults as faults
+use Rattle.kp_signature.specs.Verify.{VerifyFault}
+use Rattle.kp_signature.specs.declared.error.VerifyError.{VerifyError}
+use Rattle.kp_rpc.specs.Reply.{RequestError, parse_error, invalid_request, method_not_found, invalid_params, no_module, no_pattern, not_verified, PatternRefusal, unverified, foreign_symbol, other_shape}
 use Rattle.kp_rpc.specs.declared.fault.PatternFault.{PatternFault}
 use Rattle.kp_rpc.specs.declared.fault.PatternFault.TheVariants as pattern
 use Rattle.kp_rpc.specs.declared.fault.StateFault.{StateFault}
@@ -44,14 +47,16 @@ refusal_view refusal.InvalidRequest = invalid_request
 refusal_view refusal.MethodNotFound = method_not_found
 refusal_view refusal.InvalidParams = invalid_params
 
-abbrev pub pattern_fault_view : PatternFault → VerifyFault
-pattern_fault_view (pattern.UnknownSort sort) = unknown_sort (string_bytes sort)
-pattern_fault_view (pattern.UnknownSymbol name) = unknown_symbol (string_bytes name)
-pattern_fault_view (pattern.OtherNumber name) = other_number (string_bytes name)
-pattern_fault_view (pattern.SortsDiffer expected found) = sorts_differ (string_bytes expected) (string_bytes found)
-pattern_fault_view (pattern.WideNumber text) = wide_number (string_bytes text)
-pattern_fault_view pattern.DeepTerm = deep_term
-pattern_fault_view (pattern.NoLiteral text) = no_literal (string_bytes text)
+-- what an error of verify tells; want of memory tells nothing, and there is no reply that tells it
+abbrev pub verify_error_view : VerifyError → PatternRefusal
+verify_error_view e = told (faults.fault_view e)
+  where
+    told : Option VerifyFault → PatternRefusal
+    told (Some f) = unverified f
+    told None = other_shape
+
+abbrev pub pattern_fault_view : PatternFault → PatternRefusal
+pattern_fault_view (pattern.Unverified e) = verify_error_view e
 pattern_fault_view (pattern.ForeignSymbol name) = foreign_symbol (string_bytes name)
 pattern_fault_view pattern.OtherShape = other_shape
 

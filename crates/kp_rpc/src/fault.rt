@@ -3,32 +3,24 @@ ghost use Rattle.serde_json.specs.Data.{number, string, unsigned};
 ghost use Rattle.serde_json.specs.View.{view};
 ghost use Rattle.kp_json.specs.Members.{object_of};
 ghost use Rattle.kp_json.specs.View.{fault_view};
-ghost use Rattle.kp_rpc.specs.Reply.{kind_only, kind_and_name, tree_fault_data, verify_fault_data, error_tree, error_reply, reply_bytes};
-ghost use Rattle.kp_rpc.specs.View.{id_view, pattern_fault_view, state_fault_view};
+ghost use Rattle.kp_kore.specs.View.{sort_view};
+ghost use Rattle.kp_signature.specs.Verify.{sort_differs, sort_text};
+ghost use Rattle.kp_rpc.specs.Reply.{kind_only, kind_and_name, tree_fault_data, verify_fault_data, pattern_data, error_tree, error_reply, reply_bytes};
+ghost use Rattle.kp_rpc.specs.View.{id_view, verify_error_view, pattern_fault_view, state_fault_view};
 
 use crate::id::{Id, id_value};
 use crate::reply::line_of;
 use kp_json::JsonFault;
+use kp_kore::Sort;
+use kp_signature::{VerifyError, sort_text};
 use serde_json::{Value, json};
 use std::alloc::{AllocError, Global};
 
-/// What is wrong with a pattern that doesn't fit the module's signature.
+/// Why a pattern has no place in a request.
 #[derive(Drop)]
 pub enum PatternFault {
-    /// V1: no such sort, as text.
-    UnknownSort { sort: String },
-    /// V2: no such symbol.
-    UnknownSymbol { name: String },
-    /// V3: another number of sorts or arguments than the symbol's.
-    OtherNumber { name: String },
-    /// V4: a part has another sort than its place, both as text.
-    SortsDiffer { expected: String, found: String },
-    /// V5: a number that leaves signed 128 bits, as its digits.
-    WideNumber { text: String },
-    /// V6: a term that nests too deep.
-    DeepTerm,
-    /// V7: a text that is no literal of its sort.
-    NoLiteral { text: String },
+    /// V1 to V7: its first verify fault. Want of memory is no fault, and no reply tells it.
+    Unverified(VerifyError),
     /// T1: a symbol whose meaning isn't known here.
     ForeignSymbol { name: String },
     /// T2: a pattern of a shape that isn't executed.
@@ -73,28 +65,51 @@ fn json_value(alloc: Global, fault: &JsonFault) -> Result<Value, AllocError>
     }
 }
 
+/// The data of a fault that names a sort.
+fn named_sort(alloc: Global, kind: &str, sort: &Sort) -> Result<Value, AllocError>
+    ensures { IfOk result (λ v. view v ≡ kind_and_name kind.now (sort_text (sort_view sort.now))) }
+{
+    let text = sort_text(alloc, sort)?;
+    named_value(alloc, kind, text.as_str())
+}
+
+/// The data of a verify fault; none where memory ran out.
+fn verify_value(alloc: Global, error: &VerifyError) -> Result<Value, AllocError>
+    ensures { IfOk result (λ v. view v ≡ pattern_data (verify_error_view error.now)) }
+{
+    match error {
+        VerifyError::Memory => Err(AllocError),
+        VerifyError::UnknownSort { sort } => named_sort(alloc, "V1", sort),
+        VerifyError::UnknownSymbol { name } => named_value(alloc, "V2", name.as_str()),
+        VerifyError::WrongNumber { name } => named_value(alloc, "V3", name.as_str()),
+        VerifyError::SortDiffers { expected, found } => differing_sorts(alloc, expected, found),
+        VerifyError::NumberTooWide { text } => named_value(alloc, "V5", text.as_str()),
+        VerifyError::TermTooDeep => kind_value(alloc, "V6"),
+        VerifyError::NoLiteral { text } => named_value(alloc, "V7", text.as_str()),
+    }
+}
+
 /// The data of a pattern's fault.
 fn pattern_value(alloc: Global, fault: &PatternFault) -> Result<Value, AllocError>
-    ensures { IfOk result (λ v. view v ≡ verify_fault_data (pattern_fault_view fault.now)) }
+    ensures { IfOk result (λ v. view v ≡ pattern_data (pattern_fault_view fault.now)) }
 {
     match fault {
-        PatternFault::UnknownSort { sort } => named_value(alloc, "V1", sort.as_str()),
-        PatternFault::UnknownSymbol { name } => named_value(alloc, "V2", name.as_str()),
-        PatternFault::OtherNumber { name } => named_value(alloc, "V3", name.as_str()),
-        PatternFault::SortsDiffer { expected, found } => differing_value(
-            alloc,
-            expected.as_str(),
-            found.as_str(),
-        ),
-        PatternFault::WideNumber { text } => named_value(alloc, "V5", text.as_str()),
-        PatternFault::DeepTerm => kind_value(alloc, "V6"),
-        PatternFault::NoLiteral { text } => named_value(alloc, "V7", text.as_str()),
+        PatternFault::Unverified(error) => verify_value(alloc, error),
         PatternFault::ForeignSymbol { name } => named_value(alloc, "T1", name.as_str()),
         PatternFault::OtherShape => kind_value(alloc, "T2"),
     }
 }
 
 /// The data of two sorts that differ.
+fn differing_sorts(alloc: Global, expected: &Sort, found: &Sort) -> Result<Value, AllocError>
+    ensures { IfOk result (λ v. view v ≡ verify_fault_data (sort_differs (sort_view expected.now) (sort_view found.now))) }
+{
+    let wanted = sort_text(alloc, expected)?;
+    let other = sort_text(alloc, found)?;
+    differing_value(alloc, wanted.as_str(), other.as_str())
+}
+
+/// The data of two texts of sorts that differ.
 fn differing_value(alloc: Global, expected: &str, found: &str) -> Result<Value, AllocError>
     ensures { IfOk result (λ v. view v ≡ object_of ((codes "expected", string expected.now)
         ∷ (codes "found", string found.now) ∷ (codes "kind", string (codes "V4")) ∷ [])) }

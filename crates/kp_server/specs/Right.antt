@@ -7,11 +7,10 @@
 use Rattle.std.specs.Prelude.{◌≡◌, ◌≤◌, ◌⊎◌, Some, None}
 use Rattle.kp_kore.specs.Syntax.{KoreSort, KorePattern}
 use Rattle.kp_kore.specs.Signature.{KoreSignature}
-use Rattle.kp_signature.specs.Verify as verify
 use Rattle.kp_signature.specs.Verify.{FailsWith, VerifiesAs}
 use Rattle.kp_compile.specs.Spelled.{first_foreign}
 use Rattle.kp_rpc.specs.Request.{ExecuteRequest, ImpliesRequest}
-use Rattle.kp_rpc.specs.Reply.{VerifyFault, unknown_sort, unknown_symbol, other_number, sorts_differ, wide_number, deep_term, no_literal, foreign_symbol, other_shape}
+use Rattle.kp_rpc.specs.Reply.{PatternRefusal, unverified, foreign_symbol, other_shape}
 use Rattle.kp_server.specs.Setting.{Setting}
 use Rattle.kp_server.specs.Untold.{IsUntold, IsImpliesUntold}
 
@@ -28,14 +27,8 @@ pub record IsTold (s : Setting) (request : ExecuteRequest) : Type 0 where
 
 -- V1 to V7 tell the pattern's first fault; T1, where it has none, its first foreign symbol; T2, where it has neither, that
 -- it is left out
-abbrev pub IsPatternFault : KoreSignature → (KorePattern → KoreSort → Type 0) → KorePattern → VerifyFault → Type 0
-IsPatternFault g LeftOut p (unknown_sort text) = (s : KoreSort) × (text ≡ verify.sort_text s) × FailsWith g p (verify.unknown_sort s)
-IsPatternFault g LeftOut p (unknown_symbol name) = FailsWith g p (verify.unknown_symbol name)
-IsPatternFault g LeftOut p (other_number name) = FailsWith g p (verify.wrong_number name)
-IsPatternFault g LeftOut p (sorts_differ a b) = (expected : KoreSort) × (found : KoreSort) × (a ≡ verify.sort_text expected) × (b ≡ verify.sort_text found) × FailsWith g p (verify.sort_differs expected found)
-IsPatternFault g LeftOut p (wide_number text) = FailsWith g p (verify.number_too_wide text)
-IsPatternFault g LeftOut p deep_term = FailsWith g p verify.term_too_deep
-IsPatternFault g LeftOut p (no_literal text) = FailsWith g p (verify.no_literal text)
+abbrev pub IsPatternFault : KoreSignature → (KorePattern → KoreSort → Type 0) → KorePattern → PatternRefusal → Type 0
+IsPatternFault g LeftOut p (unverified f) = FailsWith g p f
 IsPatternFault g LeftOut p (foreign_symbol name) = (s : KoreSort) × VerifiesAs g p s × (first_foreign g p ≡ Some name)
 IsPatternFault g LeftOut p other_shape = (s : KoreSort) × VerifiesAs g p s × (first_foreign g p ≡ None) × LeftOut p s
 

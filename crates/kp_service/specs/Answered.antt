@@ -7,7 +7,7 @@ use Rattle.kp_json.specs.Faults.{Reading, read, fault}
 use Rattle.kp_signature.specs.Verify.{VerifiesAs}
 use Rattle.kp_compile.specs.Spelled.{first_foreign}
 use Rattle.kp_rpc.specs.Request.{RequestId, ImpliesRequest}
-use Rattle.kp_rpc.specs.Reply.{RequestError, VerifyFault, no_module, no_pattern, not_verified, other_shape, error_reply}
+use Rattle.kp_rpc.specs.Reply.{RequestError, PatternRefusal, no_module, no_pattern, not_verified, other_shape, error_reply}
 use Rattle.kp_replies.specs.Right.{IsRightImpliesReply}
 use Rattle.kp_book.specs.Books.{Opening, Registration}
 use Rattle.kp_server.specs.Right.{IsPatternFault, NoneLeftOut, IsImpliesTold}
@@ -19,8 +19,8 @@ use Rattle.kp_service.specs.Meant.{IsUnbound, IsServedAt}
 
 -- what is wrong with two patterns: the antecedent has a fault; the consequent has one; no result is told of them
 pub data IsSidesError (s : Setting) (asked : Option Text) (a c : KorePattern) : RequestError → Type 0 where
-  in_antecedent : (f : VerifyFault) → IsPatternFault s.theory.signature NoneLeftOut a f → IsSidesError s asked a c (not_verified f)
-  in_consequent : (sort : KoreSort) (f : VerifyFault) → VerifiesAs s.theory.signature a sort → first_foreign s.theory.signature a ≡ None →
+  in_antecedent : (f : PatternRefusal) → IsPatternFault s.theory.signature NoneLeftOut a f → IsSidesError s asked a c (not_verified f)
+  in_consequent : (sort : KoreSort) (f : PatternRefusal) → VerifiesAs s.theory.signature a sort → first_foreign s.theory.signature a ≡ None →
       IsPatternFault s.theory.signature NoneLeftOut c f → IsSidesError s asked a c (not_verified f)
   untold : (sort other : KoreSort) → VerifiesAs s.theory.signature a sort → first_foreign s.theory.signature a ≡ None → VerifiesAs s.theory.signature c other → first_foreign s.theory.signature c ≡ None →
       IsImpliesUntold s asked a c sort other → IsSidesError s asked a c (not_verified other_shape)

@@ -113,7 +113,7 @@ fn side_at(
 {
     let sort = match verify(alloc, signature, pattern) {
         Ok(sort) => sort,
-        Err(error) => return Err(verify_failure(alloc, error)),
+        Err(error) => return Err(verify_failure(error)),
     };
     side_state(alloc, signature, pattern, sort)
 }

@@ -13,7 +13,7 @@ use Rattle.kp_symbolic.specs.Endings.{Result, answered, left_open, IsRightOfSimp
 use Rattle.kp_clauses.specs.Faults as place
 use Rattle.kp_clauses.specs.Faults.{state_fault}
 use Rattle.kp_rpc.specs.Request.{RequestId}
-use Rattle.kp_rpc.specs.Reply.{VerifyFault, foreign_symbol, other_shape, no_pattern, not_verified, error_reply, result_reply, reply_bytes}
+use Rattle.kp_rpc.specs.Reply.{PatternRefusal, foreign_symbol, other_shape, no_pattern, not_verified, error_reply, result_reply, reply_bytes}
 use Rattle.kp_replies.specs.Failures.{undecided, failure_reply}
 use Rattle.kp_replies.specs.Written.{simplified_tree}
 use Rattle.kp_server.specs.Right.{IsPatternFault, NoneLeftOut}
@@ -41,13 +41,13 @@ reply_of id (left_open cause) = failure_reply id (undecided (parts_of_cause caus
 -- ---- refusals
 
 -- a verify fault, of a pattern that doesn't verify
-pub record IsFirstFault (g : KoreSignature) (p : KorePattern) (f : VerifyFault) : Type 0 where
+pub record IsFirstFault (g : KoreSignature) (p : KorePattern) (f : PatternRefusal) : Type 0 where
   pub tells : IsPatternFault g NoneLeftOut p f
   pub unverified : (sort : KoreSort) → ¬ VerifiesAs g p sort
 
 -- a reply that tells such a fault
 pub data IsFaultTold (g : KoreSignature) (id : RequestId) (p : KorePattern) : Data → Type 0 where
-  fault_told : (f : VerifyFault) → IsFirstFault g p f → IsFaultTold g id p (error_reply id (not_verified f))
+  fault_told : (f : PatternRefusal) → IsFirstFault g p f → IsFaultTold g id p (error_reply id (not_verified f))
 
 -- why no answer is told of a verified pattern: it isn't one term and predicates; an inj would stand in the answer, and the
 -- signature has none; Kore JSON has no tag for a pattern in the answer
@@ -68,7 +68,7 @@ pub data IsUnderstoodAs (g : KoreSignature) (id : RequestId) (p : KorePattern) :
 -- the tree spells no pattern; the pattern has a verify fault; or it verifies
 pub data IsSimplifiedAs (g : KoreSignature) (id : RequestId) : Reading KorePattern → Data → Type 0 where
   unread : (f : TreeFault) → IsSimplifiedAs g id (fault f) (error_reply id (no_pattern f))
-  faulty : (p : KorePattern) (f : VerifyFault) → IsFirstFault g p f → IsSimplifiedAs g id (read p) (error_reply id (not_verified f))
+  faulty : (p : KorePattern) (f : PatternRefusal) → IsFirstFault g p f → IsSimplifiedAs g id (read p) (error_reply id (not_verified f))
   understood : (p : KorePattern) (sort : KoreSort) (reply : Data) → VerifiesAs g p sort → IsUnderstoodAs g id p reply → IsSimplifiedAs g id (read p) reply
 
 -- ---- lines

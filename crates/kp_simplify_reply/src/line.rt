@@ -91,7 +91,7 @@ pub fn unverified_line(alloc: Global, id: &Id, error: VerifyError) -> Result<Vec
     if is_memory(&error) {
         return Err(AllocError);
     }
-    match verify_failure(alloc, error) {
+    match verify_failure(error) {
         Failure::Fault(fault) => fault_text(alloc, id, &fault),
         Failure::Memory => Err(AllocError),
     }
