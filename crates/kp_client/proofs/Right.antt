@@ -10,7 +10,7 @@ use Rattle.kp_kore.specs.Implied.{Implied, DoesImply, HasCounterexample, IsRight
 use Rattle.kp_kore.specs.Onward.{Leads, Passes}
 use Rattle.kp_kore.specs.Executions as theory
 use Rattle.kp_kore.specs.Executions.{Options, Executed, RunsTo, IsRightExecuted}
-use Rattle.kp_kore.proofs.GroundReplies.{after_of_both}
+use Rattle.kp_kore.proofs.AfterLemmas.{after_of_both}
 use Rattle.kp_kore.proofs.Ended.{stuck_reply}
 use Rattle.serde_json.specs.Data.{unsigned, negative, float}
 use Rattle.kp_rpc.specs.Request.{RequestId, id_text, id_number, id_null, ExecuteRequest, ImpliesRequest}

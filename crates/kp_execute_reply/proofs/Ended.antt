@@ -8,16 +8,13 @@ use Rattle.kp_kore.specs.Syntax.{KoreSort, KorePattern}
 use Rattle.kp_kore.specs.Signature.{KoreSignature}
 use Rattle.kp_kore.specs.View.{sort_view}
 use Rattle.kp_kore.specs.Value.{HasSort}
-use Rattle.kp_kore.specs.Replies as three
-use Rattle.kp_kore.specs.Ground.{executed_of}
-use Rattle.kp_kore.proofs.GroundReplies.{ground_is_right}
 use Rattle.kp_ground.specs.View.{value_view}
 use Rattle.kp_signature.specs.Verify.{VerifiesAs}
 use Rattle.kp_compile.specs.Spelled.{first_foreign, IsGroundState, IsOtherShape, IsSpellingOf, spelling}
 use Rattle.kp_compile.specs.declared.state.State.{State}
 use Rattle.kp_run.specs.Causes.{IsStateIn, StopsUntold}
 use Rattle.kp_run.specs.Runs.{written_of}
-use Rattle.kp_run.specs.declared.run.Executed.{Executed}
+use Rattle.kp_run.specs.declared.run.RunEnd.{RunEnd}
 use Rattle.kp_rpc.specs.Request.{RequestId, ExecuteOptions, bound_of}
 use Rattle.kp_rpc.specs.Reply.{result_reply, reply_bytes}
 use Rattle.kp_replies.specs.Written.{executed_tree}
@@ -50,7 +47,7 @@ sorted_start g p found h = (h.is_state.ground h.verifies).sorted
 
 -- ---- ends
 
-later_at : (s : Setting) (options : ExecuteOptions) (p : KorePattern) (end : Executed) (h : IsEndOf s.theory options p end) → IsLater s.theory p h.is_start.sort end.depth (written_of end.state)
+later_at : (s : Setting) (options : ExecuteOptions) (p : KorePattern) (end : RunEnd) (h : IsEndOf s.theory options p end) → IsLater s.theory p h.is_start.sort end.depth (written_of end.state)
 later_at s options p end h =
     let st = h.is_start in
     let ground = st.is_state.ground st.verifies in
@@ -60,7 +57,7 @@ later_at s options p end h =
       reached = subst (λ k. IsStateIn s.theory end.depth (record { value = value_view h.start.value; sort = k }) (written_of end.state)) st.is_state.sort_is h.ends;
     }
 
-is_told : (s : Setting) (options : ExecuteOptions) (p : KorePattern) (end : Executed) → ¬ IsElsewhere s.main options.module_name → (h : IsEndOf s.theory options p end) → ¬ IsUntold s options p h.is_start.sort
+is_told : (s : Setting) (options : ExecuteOptions) (p : KorePattern) (end : RunEnd) → ¬ IsElsewhere s.main options.module_name → (h : IsEndOf s.theory options p end) → ¬ IsUntold s options p h.is_start.sort
 is_told s options p end here h (elsewhere e) = here e
 is_told s options p end here h (stops_at_rules e) = e (both_empty options.cut_points options.terminals h.plain.cut_points h.plain.terminals)
 is_told s options p end here h (no_state e) = h.is_start.is_state.shape e
@@ -70,7 +67,7 @@ is_told s options p end here h (no_run c means stops) =
     let at_value = subst (λ u. StopsUntold s.theory (record { value = u; sort = st.sort }) (bound_of options)) (same_value s.theory.signature p c (value_view h.start.value) means ground.meant) stops in
     h.told (subst (λ k. StopsUntold s.theory (record { value = value_view h.start.value; sort = k }) (bound_of options)) (sym st.is_state.sort_is) at_value)
 
-answered : (s : Setting) (id : RequestId) (options : ExecuteOptions) (q : KorePattern) (end : Executed) → ¬ IsElsewhere s.main options.module_name → (h : IsEndOf s.theory options q end) → (p : KorePattern) →
+answered : (s : Setting) (id : RequestId) (options : ExecuteOptions) (q : KorePattern) (end : RunEnd) → ¬ IsElsewhere s.main options.module_name → (h : IsEndOf s.theory options q end) → (p : KorePattern) →
     IsSpellingOf s.theory.signature (value_view end.state.value) p → p ≡ spelling s.theory.signature (sort_view end.state.sort) (value_view end.state.value) →
     (tree : Data) → executed_tree (result_of end p) ≡ Some tree → IsExecuted s (record { id = id; state = q; options = options }) (result_reply id tree)
 answered s id options q end here h p sp normal tree w =
@@ -83,12 +80,10 @@ answered s id options q end here h p sp normal tree w =
         tree = tree;
         written = w;
         reply_is = refl;
-        meant = executed_of (ended end p);
+        meant = ended end p;
         means = record { depth = refl; reason = reason_meant end.stop; state = refl };
-        right = ground_is_right s.theory (asked_options options) q (ended end p) ground.closed
-            (subst (λ ids. three.IsRightExecuted s.theory ids (bound_of options) q (ended end p))
-            (sym (both_empty options.cut_points options.terminals h.plain.cut_points h.plain.terminals))
-            (run_is_right s.theory q p (value_view h.start.value) (bound_of options) end h.run ground.term ground.closed ground.meant sp));
+        right = run_is_right s.theory (asked_options options) q p (value_view h.start.value) end h.run
+            (both_empty options.cut_points options.terminals h.plain.cut_points h.plain.terminals) ground.term ground.closed ground.meant sp;
       };
       normal = record { later = written_of end.state; is_later = later_at s options q end h; spelled = normal };
       first = tells_first s.theory (value_view h.start.value) (bound_of options) end h.run;
@@ -98,7 +93,7 @@ answered s id options q end here h p sp normal tree w =
 -- ---- lines
 
 -- the line with the end of a run, where there is one
-pub end_line_is_right : {E : Type 0} (r : Result (Option (Vec ℕ Global)) E) (s : Setting) (id : RequestId) (options : ExecuteOptions) (q : KorePattern) (end : Executed) → ¬ IsElsewhere s.main options.module_name → IsEndOf s.theory options q end →
+pub end_line_is_right : {E : Type 0} (r : Result (Option (Vec ℕ Global)) E) (s : Setting) (id : RequestId) (options : ExecuteOptions) (q : KorePattern) (end : RunEnd) → ¬ IsElsewhere s.main options.module_name → IsEndOf s.theory options q end →
     (p : KorePattern) → IsSpellingOf s.theory.signature (value_view end.state.value) p → p ≡ spelling s.theory.signature (sort_view end.state.sort) (value_view end.state.value) →
     IfOk r (λ line. option_map (λ (b : Vec ℕ Global). b.items) line ≡ option_map (λ (t : Data). reply_bytes (result_reply id t)) (executed_tree (result_of end p))) →
     IfOk r (λ found. IfSome found (λ line. IsReplyLine (IsExecuted s (record { id = id; state = q; options = options })) line.items))

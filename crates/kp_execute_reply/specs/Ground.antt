@@ -9,7 +9,7 @@ use Rattle.kp_signature.specs.Verify.{VerifiesAs}
 use Rattle.kp_compile.specs.declared.state.State.{State}
 use Rattle.kp_run.specs.Causes.{IsStateIn, StopsUntold}
 use Rattle.kp_run.specs.Runs.{IsRunOf, written_of}
-use Rattle.kp_run.specs.declared.run.Executed.{Executed}
+use Rattle.kp_run.specs.declared.run.RunEnd.{RunEnd}
 use Rattle.kp_rpc.specs.Request.{ExecuteOptions, bound_of}
 use Rattle.kp_server.specs.Ends.{IsStateAt}
 
@@ -25,7 +25,7 @@ pub record ListsNone (options : ExecuteOptions) : Type 0 where
   pub terminals : options.terminals ≡ []
 
 -- the run from the state is told, and ends so
-pub record IsEndOf (t : Theory) (options : ExecuteOptions) (p : KorePattern) (end : Executed) : Type 0 where
+pub record IsEndOf (t : Theory) (options : ExecuteOptions) (p : KorePattern) (end : RunEnd) : Type 0 where
   pub start : State
   pub is_start : IsStateOf t.signature p start
   pub plain : ListsNone options

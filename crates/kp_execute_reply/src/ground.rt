@@ -20,7 +20,7 @@ use kp_kore::{Pattern, Sort};
 use kp_replies::executed_text;
 use kp_rpc::{Id, Options, bound_of};
 use kp_rule_sets::RuleSet;
-use kp_run::{Executed, RunError, execute};
+use kp_run::{RunEnd, RunError, execute};
 use kp_server::result_of;
 use std::alloc::{AllocError, Global};
 
@@ -40,7 +40,7 @@ fn end_from(
     rules: &RuleSet,
     state: State,
     options: &Options,
-) -> Result<Option<Executed>, AllocError>
+) -> Result<Option<RunEnd>, AllocError>
     ensures { (t : Theory) (p : KorePattern) → RunsAs t rules.now → IsStateOf t.signature p state → ListsNone (options_view options.now) →
         IfOk result (λ found. IfSome found (IsEndOf t (options_view options.now) p)) }
 {
@@ -58,7 +58,7 @@ fn end_of(
     pattern: &Pattern,
     sort: Sort,
     options: &Options,
-) -> Result<Option<Executed>, AllocError>
+) -> Result<Option<RunEnd>, AllocError>
     ensures { (t : Theory) → RunsAs t rules.now → VerifiesAs t.signature (view pattern.now) (sort_view sort) →
         IfOk result (λ found. IfSome found (IsEndOf t (options_view options.now) (view pattern.now))) }
 {
@@ -77,7 +77,7 @@ fn end_of(
 fn written_line(
     alloc: Global,
     id: &Id,
-    end: &Executed,
+    end: &RunEnd,
     term: Pattern,
 ) -> Result<Option<Vec<u8>>, AllocError>
     ensures { let tree = executed_tree (end_result end.now (view term)) in IfOk result (λ line. option_map (λ b. b.items) line ≡ option_map (λ t. reply_bytes (result_reply (id_view id.now) t)) tree) }
@@ -91,7 +91,7 @@ fn end_line(
     alloc: Global,
     rules: &RuleSet,
     id: &Id,
-    end: &Executed,
+    end: &RunEnd,
 ) -> Result<Option<Vec<u8>>, AllocError>
     ensures { (s : Setting) (options : ExecuteOptions) (p : KorePattern) → RunsAs s.theory rules.now → ¬ IsElsewhere s.main options.module_name → IsEndOf s.theory options p end.now →
         IfOk result (λ found. IfSome found (λ line. IsReplyLine (IsExecuted s (record { id = id_view id.now; state = p; options = options })) line.items)) }

@@ -3,7 +3,7 @@ pub mod Views
 pub mod ArcLemmas
 pub mod ConjunctionLemmas
 pub mod Dividing
-pub mod GroundReplies
+pub mod AfterLemmas
 pub mod InstanceLemmas
 pub mod RunLemmas
 pub mod Branching

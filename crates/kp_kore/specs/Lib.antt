@@ -13,7 +13,6 @@ pub mod Executions
 pub mod Folds
 pub mod Foreign
 pub mod Forms
-pub mod Ground
 pub mod HookView
 pub mod Hooks
 pub mod Implied

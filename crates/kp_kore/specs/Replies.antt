@@ -1,6 +1,7 @@
--- When the reply to an execute request is right.
--- Source: the K Haskell backend's JSON-RPC documentation (execute: reasons stuck, depth-bound and aborted).
-use Rattle.std.specs.Prelude.{◌≡◌, ℕ, suc, ◌<◌, ◌≤◌, Bool, true, false, not, ◌&&◌, List, [], ◌++◌, IsTrue, codes}
+-- What a reply to an execute request tells of its state: it is so many steps after the request's, its new variables have new names,
+-- and what has a value is computed.
+-- Source: the K Haskell backend's JSON-RPC documentation (execute); All-Path Reachability Logic.
+use Rattle.std.specs.Prelude.{◌≡◌, ℕ, ◌<◌, ◌≤◌, Bool, true, false, not, ◌&&◌, List, ◌++◌, IsTrue, codes}
 use Rattle.std.specs.List.{AllByRecursion, filter, list_any}
 use Rattle.std.specs.Fmt.{decimal}
 use Rattle.std.specs.Str.{bytes_eq}
@@ -8,12 +9,12 @@ use Rattle.kp_kore.specs.Syntax.{Text, KorePattern, KorePatterns, application, l
 use Rattle.kp_kore.specs.Parts.{SortedName, subpatterns, free_variables, variable_names}
 use Rattle.kp_kore.specs.Signature.{KoreSignature, meaning_of}
 use Rattle.kp_kore.specs.Value.{Value, whole}
-use Rattle.kp_kore.specs.Instance.{Valuation, instance, GivesSorts, AgreesOff, IsInstance, is_named, conjoined_predicates}
+use Rattle.kp_kore.specs.Instance.{Valuation, instance, GivesSorts, AgreesOff, IsInstance, is_named}
 use Rattle.kp_kore.specs.Rules.{RewriteRule}
 use Rattle.kp_kore.specs.Limits.{fits_number}
 use Rattle.kp_kore.specs.Foreign.{is_interpretation}
 use Rattle.kp_kore.specs.Theory.{Theory}
-use Rattle.kp_kore.specs.Steps.{AnyByRecursion, HasTurn, IsUnknown, IsUnknownBy, StepsIn, IsFinal, NoneFires}
+use Rattle.kp_kore.specs.Steps.{HasTurn, StepsIn, IsFinal}
 
 -- ---- new variables
 
@@ -55,42 +56,7 @@ pub record After (t : Theory) (listed : List Text) (s s' : KorePattern) (d : ℕ
   pub none_listed : (v : Valuation) (n : ℕ) (c : Value) → GivesSorts t.signature v (free_variables s) → n < d → IsAfter t s v n c → NoneListed t listed c
   pub names : AllByRecursion (λ x. IsFreshName x.name × IsAbsent x.name s) (variables_beyond s s')
 
--- ---- results
-
-pub data Reason : Type 0 where
-  stuck depth_bound : Reason
-  -- aborted, because the foreign rule of this id might apply
-  aborted_by_rule : Text → Reason
-
--- the state of the reply, the depth and the reason
-pub record Executed : Type 0 where
-  pub depth : ℕ
-  pub reason : Reason
-  pub state : KorePattern
-
--- some valuation gives the pattern an instance
-abbrev pub HasInstance : KoreSignature → KorePattern → Type 0
-HasInstance g p = (v : Valuation) × (c : Value) × GivesSorts g v (free_variables p) × IsInstance g v p c
-
--- some instance of the pattern is one of the rule's skeleton, where the rule is foreign
-pub record MeetsSkeleton (g : KoreSignature) (p : KorePattern) (r : RewriteRule) : Type 0 where
-  pub valuation : Valuation
-  pub configuration : Value
-  pub sorts : GivesSorts g valuation (free_variables p)
-  pub met : IsInstance g valuation p configuration
-  pub unknown : IsUnknownBy g r.body configuration
-
--- stuck: below the bound; no rule fires on an instance, and none is unknown.
--- depth-bound: at the bound; a state without predicates has an instance.
--- aborted by a rule: below the bound; the state meets the skeleton of the foreign rule of this id.
-abbrev pub IsRightReason : Theory → ℕ → ℕ → KorePattern → Reason → Type 0
-IsRightReason t bound d s' stuck =
-    (d < bound) × HasInstance t.signature s' ×
-    ((v : Valuation) (c : Value) → GivesSorts t.signature v (free_variables s') → IsInstance t.signature v s' c → NoneFires t c × ¬ IsUnknown t c)
-IsRightReason t bound d s' depth_bound =
-    (d ≡ bound) × (conjoined_predicates s' ≡ [] → HasInstance t.signature s')
-IsRightReason t bound d s' (aborted_by_rule id) =
-    (d < bound) × AnyByRecursion (λ r. (r.id ≡ id) × MeetsSkeleton t.signature s' r) t.rules
+-- ---- what is computed
 
 -- an interpreted call with literals alone for arguments
 abbrev pub are_literals : KorePatterns → Bool
@@ -109,11 +75,3 @@ is_wide_value _ = false
 -- such a call stands only where its value leaves signed 128 bits
 abbrev pub IsComputed : KoreSignature → KorePattern → Type 0
 IsComputed g p = AllByRecursion (λ q. is_open_call g q ≡ true → (v : Valuation) → IsTrue (is_wide_value (instance g v q))) (subpatterns p)
-
--- the reply is right for the theory, the listed rules, the bound and the request's state
-pub record IsRightExecuted (t : Theory) (listed : List Text) (bound : ℕ) (s : KorePattern) (reply : Executed) : Type 0 where
-  pub within_bound : reply.depth ≤ bound
-  pub after : After t listed s reply.state reply.depth
-  pub reached : (n : ℕ) → reply.depth ≡ suc n → (v : Valuation) × (c : Value) × GivesSorts t.signature v (free_variables s) × IsAfter t s v n c
-  pub computed : IsComputed t.signature reply.state
-  pub reason : IsRightReason t bound reply.depth reply.state reply.reason

@@ -14,11 +14,9 @@ ghost use Rattle.kp_kore.specs.Rules.{RewriteRule, RuleBody, priority_of};
 ghost use Rattle.kp_kore.specs.Claims.{ReachabilityClaim, Holds};
 ghost use Rattle.kp_kore.specs.Theory.{Theory};
 ghost use Rattle.kp_kore.specs.Steps.{Fires, HasTurn, NoneFires};
-ghost use Rattle.kp_kore.specs.Replies.{After, Executed, IsRightExecuted as IsRightGround};
+ghost use Rattle.kp_kore.specs.Replies.{After};
 ghost use Rattle.kp_kore.specs.AtHand.{HasNewNames};
 ghost use Rattle.kp_kore.specs.Onward.{Leads, Passes};
-ghost use Rattle.kp_kore.specs.Executions.{Options, listed_in, IsRightExecuted};
-ghost use Rattle.kp_kore.specs.Ground.{executed_of};
 ghost use Rattle.kp_kore.specs.Scopes.{LeadsIn, IsWithin, AreExtended};
 ghost use Rattle.kp_kore.specs.Division.{Part, reading, IsPartOf, IsHeldBy, Divides, NoneOf};
 
@@ -198,13 +196,6 @@ pub fn after_is_to_lead_and_to_pass()
     ensures passes { (t : Theory) (listed : List Text) (s s' : KorePattern) (d : ℕ) → After t listed s s' d → Passes t listed s d }
     ensures both { (t : Theory) (listed : List Text) (s s' : KorePattern) (d : ℕ) →
         Leads t s s' d → Passes t listed s d → After t listed s s' d }
-{}
-
-/// A reply to a request without variables that is right by the three reasons of ground runs is right by the seven.
-pub fn right_ground_replies_are_right()
-    ensures { (t : Theory) (o : Options) (request : KorePattern) (reply : Executed) →
-        free_variables request ≡ [] → IsRightGround t (listed_in o) o.bound request reply →
-        IsRightExecuted t o request (executed_of reply) }
 {}
 
 /// Runs over scopes compose, whatever variables the state between them has lost.

@@ -1,20 +1,20 @@
 -- What a run says of the replies to it.
 use Rattle.std.proofs.Common.{◌≡◌, refl, sym, subst, ◌∙◌, ℕ, zero, suc, ◌+◌, ◌<◌, ◌≤◌, true, List, [], ◌∷◌, inl, inr, arith}
-use Rattle.std.specs.Prelude.{not, string_bytes}
+use Rattle.std.specs.Prelude.{not, string_bytes, ⊤}
 use Rattle.std.specs.List.{AllByRecursion, filter}
 use Rattle.kp_kore.specs.Syntax.{Text, KorePattern}
 use Rattle.kp_kore.specs.Parts.{SortedName, free_variables}
 use Rattle.kp_kore.specs.Value.{Value, truth}
-use Rattle.kp_kore.specs.Instance.{Valuation, GivesSorts, is_named}
+use Rattle.kp_kore.specs.Instance.{Valuation, GivesSorts, IsInstance, is_named}
 use Rattle.kp_kore.specs.Rules.{RewriteRule}
 use Rattle.kp_kore.specs.Theory.{Theory}
 use Rattle.kp_kore.specs.Steps.{Fires, Steps, StepsBy, StepsIn, IsFinal, HasTurn, IsUnknown, IsUnknownBy, AnyByRecursion}
-use Rattle.kp_kore.specs.Executions.{Options, listed_in, IsRightExecuted}
-use Rattle.kp_kore.specs.Ground.{executed_of}
-use Rattle.kp_kore.proofs.GroundReplies.{ground_is_right}
-use Rattle.kp_kore.specs.Replies.{IsComputed, After, IsAfter, HasInstance, MeetsSkeleton, IsRightReason, is_listed, variables_beyond, IsFreshName, IsAbsent}
+use Rattle.kp_kore.specs.AtHand.{OfSome, HasSome}
+use Rattle.kp_kore.specs.Onward.{Leads, Passes}
+use Rattle.kp_kore.specs.Executions.{Options, listed_in, RunsTo, IsRightReason, IsRightExecuted}
+use Rattle.kp_kore.specs.Replies.{IsComputed, is_listed, variables_beyond, IsFreshName, IsAbsent}
 use Rattle.kp_ground.specs.View.{value_view}
-use Rattle.kp_run.specs.declared.run.Executed.{Executed}
+use Rattle.kp_run.specs.declared.run.RunEnd.{RunEnd}
 use Rattle.kp_run.specs.declared.run.Stop.{Stop}
 use Rattle.kp_run.specs.declared.run.Stop.TheVariants.{Stuck, DepthBound, ForeignRule}
 use Rattle.kp_run.specs.Runs.{GoesOnlyTo, GoesOnlyIn, IsStuck, IsUnknownAs, IsFirstUnknown, kept_priority, IsRunOf, IsOnlyInstance, reason_of}
@@ -74,36 +74,49 @@ no_rule_listed t c (r ∷ rs) = ((λ e. absurd (cc)), no_rule_listed t c rs)
 without_sorts : (t : Theory) (s : KorePattern) (v : Valuation) → free_variables s ≡ [] → GivesSorts t.signature v (free_variables s)
 without_sorts t s v e = subst (GivesSorts t.signature v) (sym e) tt
 
-from_only : (t : Theory) (s : KorePattern) (c : Value) (v : Valuation) (n : ℕ) (later : Value) → IsOnlyInstance t s c → IsAfter t s v n later → StepsIn t n c later
-from_only t s c v n later only after = subst (λ x. StepsIn t n x later) ((only v after.0).0 after.1) after.2
+-- an instance of the state is the configuration
+from_only : (t : Theory) (s : KorePattern) (c : Value) (v : Valuation) (at : Value) (n : ℕ) (later : Value) → IsOnlyInstance t s c → IsInstance t.signature v s at → StepsIn t n at later → StepsIn t n c later
+from_only t s c v at n later only met steps = subst (λ x. StepsIn t n x later) ((only v at).0 met) steps
 
 -- the configurations after the state are those of the reply's state
-pub run_is_after : (t : Theory) (s s' : KorePattern) (c : Value) (bound : ℕ) (e : Executed) → IsRunOf t c bound e →
-    IsOnlyInstance t s c → IsOnlyInstance t s' (value_view e.state.value) → free_variables s ≡ [] → free_variables s' ≡ [] → After t [] s s' e.depth
-run_is_after t s s' c bound e run only only' none none' = record {
-  found = λ v later sorts after.
-      (v, (λ y _. refl), without_sorts t s' v none', (only' v later).1 (only_in t e.depth c (value_view e.state.value) later run.steps (from_only t s c v e.depth later only after)));
-  only = λ v w later sorts agrees sorts' is.
-      (c, (only v c).1 refl, subst (StepsIn t e.depth c) (sym ((only' w later).0 is)) (steps_in t e.depth c (value_view e.state.value) run.steps));
-  not_final = λ v n at sorts lt after.
-      let next = steps_before t e.depth n c (value_view e.state.value) at run.steps lt (from_only t s c v n at only after) in
-      not_final t at next.0 next.1;
-  none_listed = λ v n at sorts lt after. no_rule_listed t at t.rules;
+run_leads : (t : Theory) (s s' : KorePattern) (c : Value) (bound : ℕ) (e : RunEnd) → IsRunOf t c bound e →
+    IsOnlyInstance t s c → IsOnlyInstance t s' (value_view e.state.value) → free_variables s' ≡ [] → Leads t s s' e.depth
+run_leads t s s' c bound e run only only' none' = record {
+  found = λ v at given met later steps. record {
+    chosen = v;
+    agrees = λ y _. refl;
+    sorts = without_sorts t s' v none';
+    met = (only' v later).1 (only_in t e.depth c (value_view e.state.value) later run.steps (from_only t s c v at e.depth later only met steps));
+  };
+  only = λ v later sorts over.
+      (c, (only v c).1 refl, subst (StepsIn t e.depth c) (sym ((only' over.chosen later).0 over.met)) (steps_in t e.depth c (value_view e.state.value) run.steps));
   names = beyond_none s s' (λ x. IsFreshName x.name × IsAbsent x.name s) none';
+}
+
+-- none before the last is final, where no rule is listed
+run_passes : (t : Theory) (s : KorePattern) (c : Value) (bound : ℕ) (e : RunEnd) → IsRunOf t c bound e → IsOnlyInstance t s c → Passes t [] s e.depth
+run_passes t s c bound e run only = record {
+  not_final = λ v at given met n later less steps.
+      let next = steps_before t e.depth n c (value_view e.state.value) later run.steps less (from_only t s c v at n later only met steps) in
+      not_final t later next.0 next.1;
+  none_listed = λ v at given met n later less steps. no_rule_listed t later t.rules;
 }
 
 some_valuation : Valuation
 some_valuation = λ x. truth true
 
+-- something of the one instance
+of_only : (t : Theory) (known : List KorePattern) (s : KorePattern) (c : Value) (P : Valuation → Value → Type 0) → IsOnlyInstance t s c → free_variables s ≡ [] →
+    AllByRecursion (λ p. GivesSorts t.signature some_valuation (free_variables p)) known → P some_valuation c → OfSome t.signature known s P
+of_only t known s c P only none given such =
+    record { valuation = some_valuation; configuration = c; given = (without_sorts t s some_valuation none, given); met = (only some_valuation c).1 refl; such = such }
+
 -- some configuration is as far as the depth but one
-pub run_is_reached : (t : Theory) (s : KorePattern) (c : Value) (bound : ℕ) (e : Executed) → IsRunOf t c bound e → IsOnlyInstance t s c → free_variables s ≡ [] →
-    (n : ℕ) → e.depth ≡ suc n → (v : Valuation) × (at : Value) × GivesSorts t.signature v (free_variables s) × IsAfter t s v n at
+run_is_reached : (t : Theory) (s : KorePattern) (c : Value) (bound : ℕ) (e : RunEnd) → IsRunOf t c bound e → IsOnlyInstance t s c → free_variables s ≡ [] →
+    (n : ℕ) → e.depth ≡ suc n → OfSome t.signature [] s (λ v at. (later : Value) × StepsIn t n at later)
 run_is_reached t s c bound e run only none n is =
     let r = reached_before t n c (value_view e.state.value) (subst (λ d. GoesOnlyIn t d c (value_view e.state.value)) is run.steps) in
-    (some_valuation, r.0, without_sorts t s some_valuation none, (c, (only some_valuation c).1 refl, r.1))
-
-has_instance : (t : Theory) (s : KorePattern) (c : Value) → IsOnlyInstance t s c → free_variables s ≡ [] → HasInstance t.signature s
-has_instance t s c only none = (some_valuation, c, without_sorts t s some_valuation none, (only some_valuation c).1 refl)
+    of_only t [] s c (λ v at. (later : Value) × StepsIn t n at later) only none tt (r.0, r.1)
 
 -- a configuration for which a foreign rule is told is unknown
 pub first_is_unknown : (t : Theory) (c : Value) (id : Text) → IsFirstUnknown t c id → IsUnknown t c
@@ -112,29 +125,33 @@ first_is_unknown t c id first =
     (λ r. IsUnknownBy t.signature r.body c) (λ r h. h.unknown) t.rules first.1
 
 -- and the reason is right
-pub run_has_reason : (t : Theory) (s' : KorePattern) (c : Value) (bound : ℕ) (e : Executed) → IsRunOf t c bound e → IsOnlyInstance t s' (value_view e.state.value) → free_variables s' ≡ [] →
-    IsRightReason t bound e.depth s' (reason_of e.stop)
-run_has_reason t s' c bound e run only none = by_stop e.stop refl
+run_has_reason : (t : Theory) (o : Options) (s s' : KorePattern) (c : Value) (e : RunEnd) → IsRunOf t c o.bound e → IsOnlyInstance t s' (value_view e.state.value) → free_variables s ≡ [] → free_variables s' ≡ [] →
+    IsRightReason t o s s' e.depth (reason_of e.stop)
+run_has_reason t o s s' c e run only none none' = by_stop e.stop refl
   where
-    by_stop : (r : Stop) → e.stop ≡ r → IsRightReason t bound e.depth s' (reason_of r)
+    some : (P : Valuation → Value → Type 0) → P some_valuation (value_view e.state.value) → OfSome t.signature (s ∷ []) s' P
+    some P such = of_only t (s ∷ []) s' (value_view e.state.value) P only none' (without_sorts t s some_valuation none, tt) such
+    has_some : HasSome t.signature (s ∷ []) s'
+    has_some = some (λ v at. ⊤) tt
+    by_stop : (r : Stop) → e.stop ≡ r → IsRightReason t o s s' e.depth (reason_of r)
     by_stop Stuck is =
         let k = run.stuck is in
-        (k.0, has_instance t s' (value_view e.state.value) only none, λ v u sorts inst. subst (IsStuck t) (sym ((only v u).0 inst)) k.1)
+        (k.0, record { has = has_some; final = λ v u given met. subst (IsStuck t) (sym ((only v u).0 met)) k.1 })
     by_stop (ForeignRule id) is =
         let k = run.foreign id is in
         let u = value_view e.state.value in
         let number = k.1.0 in (
           k.0,
           between_any (IsUnknownAs t.signature u (string_bytes id) number) (λ r. IsUnknownBy t.signature r.body u → number < kept_priority r) (λ r. IsUnknownBy t.signature r.body u → number ≤ kept_priority r)
-              (λ r. (r.id ≡ string_bytes id) × MeetsSkeleton t.signature s' r)
-              (λ r h. (h.named, record { valuation = some_valuation; configuration = u; sorts = without_sorts t s' some_valuation none; met = (only some_valuation u).1 refl; unknown = h.unknown }))
+              (λ r. (r.id ≡ string_bytes id) × OfSome t.signature (s ∷ []) s' (λ v at. IsUnknownBy t.signature r.body at))
+              (λ r h. (h.named, some (λ v at. IsUnknownBy t.signature r.body at) h.unknown))
               t.rules k.1.1,
         )
-    by_stop DepthBound is = (run.at_bound is, λ _. has_instance t s' (value_view e.state.value) only none)
+    by_stop DepthBound is = (run.at_bound is, λ _. has_some)
 
 -- ---- the reply
 
-within_bound : (t : Theory) (c : Value) (bound : ℕ) (e : Executed) → IsRunOf t c bound e → e.depth ≤ bound
+within_bound : (t : Theory) (c : Value) (bound : ℕ) (e : RunEnd) → IsRunOf t c bound e → e.depth ≤ bound
 within_bound t c bound e run = by_stop e.stop refl
   where
     by_stop : (s : Stop) → e.stop ≡ s → e.depth ≤ bound
@@ -142,15 +159,22 @@ within_bound t c bound e run = by_stop e.stop refl
     by_stop DepthBound is = let k = run.at_bound is in omega arith
     by_stop (ForeignRule id) is = let k = (run.foreign id is).0 in omega arith
 
+-- how the run came to its end
+runs_to : (t : Theory) (o : Options) (s s' : KorePattern) (d : ℕ) (stop : Stop) → Leads t s s' d → Passes t (listed_in o) s d → RunsTo t o s s' d (reason_of stop)
+runs_to t o s s' d Stuck leads passes = (leads, passes)
+runs_to t o s s' d DepthBound leads passes = (leads, passes)
+runs_to t o s s' d (ForeignRule id) leads passes = (leads, passes)
+
 -- between two states without variables, of which these are the only instances, where no rule is listed
-pub run_is_told : (t : Theory) (o : Options) (s s' : KorePattern) (c : Value) (e : Executed) → IsRunOf t c o.bound e → listed_in o ≡ [] →
+pub run_is_told : (t : Theory) (o : Options) (s s' : KorePattern) (c : Value) (e : RunEnd) → IsRunOf t c o.bound e → listed_in o ≡ [] →
     IsOnlyInstance t s c → IsOnlyInstance t s' (value_view e.state.value) → free_variables s ≡ [] → free_variables s' ≡ [] → IsComputed t.signature s' →
-    IsRightExecuted t o s (executed_of (record { depth = e.depth; reason = reason_of e.stop; state = s' }))
-run_is_told t o s s' c e run unlisted only only' none none' computed =
-    ground_is_right t o s (record { depth = e.depth; reason = reason_of e.stop; state = s' }) none (record {
-      within_bound = within_bound t c o.bound e run;
-      after = subst (λ ids. After t ids s s' e.depth) (sym unlisted) (run_is_after t s s' c o.bound e run only only' none none');
-      reached = run_is_reached t s c o.bound e run only none;
-      computed = computed;
-      reason = run_has_reason t s' c o.bound e run only' none';
-    })
+    IsRightExecuted t o s (record { depth = e.depth; reason = reason_of e.stop; state = s' })
+run_is_told t o s s' c e run unlisted only only' none none' computed = record {
+  within_bound = within_bound t c o.bound e run;
+  runs = runs_to t o s s' e.depth e.stop
+      (run_leads t s s' c o.bound e run only only' none')
+      (subst (λ ids. Passes t ids s e.depth) (sym unlisted) (run_passes t s c o.bound e run only));
+  reached = run_is_reached t s c o.bound e run only none;
+  computed = computed;
+  reason = run_has_reason t o s s' c e run only' none none';
+}

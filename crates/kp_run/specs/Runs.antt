@@ -11,10 +11,11 @@ use Rattle.kp_kore.specs.Instance.{Valuation, IsInstance}
 use Rattle.kp_kore.specs.Theory.{Theory}
 use Rattle.kp_kore.specs.Rules.{RewriteRule, most_priority}
 use Rattle.kp_kore.specs.Steps.{Steps, NoneFires, IsUnknown, IsUnknownBy}
-use Rattle.kp_kore.specs.Replies.{Reason, stuck, depth_bound, aborted_by_rule}
+use Rattle.kp_kore.specs.Causes.{foreign}
+use Rattle.kp_kore.specs.Executions.{Reason, stuck, depth_bound, aborted}
 use Rattle.kp_ground.specs.View.{value_view}
 use Rattle.kp_compile.specs.declared.state.State.{State}
-use Rattle.kp_run.specs.declared.run.Executed.{Executed}
+use Rattle.kp_run.specs.declared.run.RunEnd.{RunEnd}
 use Rattle.kp_run.specs.declared.run.Stop.{Stop}
 use Rattle.kp_run.specs.declared.run.Stop.TheVariants.{Stuck, DepthBound, ForeignRule}
 use Rattle.kp_run.specs.declared.step.Next.{Next}
@@ -76,7 +77,7 @@ GoesOnlyIn t (suc n) c later = (next : Value) × GoesOnlyTo t c next × GoesOnly
 
 -- the run from c for at most so many steps: it ends where it says, at its bound, where nothing fires, or where a foreign
 -- rule might rewrite the configuration
-pub record IsRunOf (t : Theory) (c : Value) (bound : ℕ) (e : Executed) : Type 0 where
+pub record IsRunOf (t : Theory) (c : Value) (bound : ℕ) (e : RunEnd) : Type 0 where
   pub steps : GoesOnlyIn t e.depth c (value_view e.state.value)
   pub sorted : IsAt t e.state
   pub stuck : e.stop ≡ Stuck → (e.depth < bound) × IsStuck t (value_view e.state.value)
@@ -91,4 +92,4 @@ IsOnlyInstance t s c = (v : Valuation) (u : Value) → IsInstance t.signature v 
 abbrev pub reason_of : Stop → Reason
 reason_of Stuck = stuck
 reason_of DepthBound = depth_bound
-reason_of (ForeignRule id) = aborted_by_rule (string_bytes id)
+reason_of (ForeignRule id) = aborted (foreign (string_bytes id))

@@ -10,5 +10,5 @@ mod run;
 mod step;
 
 pub use error::RunError;
-pub use run::{Executed, Stop, execute};
+pub use run::{RunEnd, Stop, execute};
 pub use step::{Next, foreign_on, next_state};

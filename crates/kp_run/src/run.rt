@@ -27,7 +27,7 @@ pub enum Stop {
 
 /// The end of a run: the number of steps, why it ends, and the last state.
 #[derive(Drop)]
-pub struct Executed {
+pub struct RunEnd {
     pub depth: u64,
     pub stop: Stop,
     pub state: State,
@@ -39,7 +39,7 @@ pub fn execute(
     rules: &RuleSet,
     state: State,
     bound: u64,
-) -> Result<Executed, RunError>
+) -> Result<RunEnd, RunError>
     ensures within { IfOk result (λ e. e.depth ≤ bound) }
     ensures stuck { IfOk result (λ e. e.stop ≡ Stuck → e.depth < bound) }
     ensures foreign { IfOk result (λ e. (id : String Global) → e.stop ≡ ForeignRule id → e.depth < bound) }
@@ -61,14 +61,14 @@ pub fn execute(
                 depths = levels;
             }
             Next::Stuck => {
-                return Ok(Executed {
+                return Ok(RunEnd {
                     depth,
                     stop: Stop::Stuck,
                     state,
                 });
             }
             Next::ForeignRule { id } => {
-                return Ok(Executed {
+                return Ok(RunEnd {
                     depth,
                     stop: Stop::ForeignRule { id },
                     state,
@@ -76,7 +76,7 @@ pub fn execute(
             }
         }
     }
-    Ok(Executed {
+    Ok(RunEnd {
         depth: bound,
         stop: Stop::DepthBound,
         state,

@@ -8,8 +8,7 @@ use Rattle.kp_kore.specs.Signature.{KoreSignature}
 use Rattle.kp_ground.specs.View.{value_view}
 use Rattle.kp_kore.specs.Value.{Value, HasSort, truth}
 use Rattle.kp_kore.specs.Instance.{Valuation, instance}
-use Rattle.kp_kore.specs.Replies as three
-use Rattle.kp_kore.specs.Ground.{reason_of as reason_among_seven}
+use Rattle.kp_kore.specs.Executions.{Executed}
 use Rattle.kp_kore.specs.Theory.{Theory}
 use Rattle.kp_rpc.specs.Request.{RequestId}
 use Rattle.kp_rpc.specs.Reply.{result_reply, reply_bytes}
@@ -17,14 +16,14 @@ use Rattle.kp_results.specs.Results.{IsReasonOf}
 use Rattle.kp_rpc.specs.declared.fault.StateFault.TheVariants as fault
 use Rattle.kp_run.specs.Runs.{IsRunOf, reason_of}
 use Rattle.kp_compile.specs.Spelled.{IsSpellingOf}
-use Rattle.kp_run.specs.declared.run.Executed.{Executed}
+use Rattle.kp_run.specs.declared.run.RunEnd.{RunEnd}
 use Rattle.kp_run.specs.declared.run.Stop.{Stop}
 use Rattle.kp_run.specs.declared.run.Stop.TheVariants.{Stuck, DepthBound, ForeignRule}
 use Rattle.kp_server.specs.Normal.{TellsFirst}
 use Rattle.kp_server.specs.Ends.{ending_of}
 use Rattle.kp_server.specs.declared.failure.Failure.TheVariants as failure
 
-pub tells_first : (t : Theory) (c : Value) (bound : ℕ) (end : Executed) → IsRunOf t c bound end → TellsFirst t (ending_of end.stop) (value_view end.state.value)
+pub tells_first : (t : Theory) (c : Value) (bound : ℕ) (end : RunEnd) → IsRunOf t c bound end → TellsFirst t (ending_of end.stop) (value_view end.state.value)
 tells_first t c bound end run = by_stop end.stop refl
   where
     by_stop : (stop : Stop) → end.stop ≡ stop → TellsFirst t (ending_of stop) (value_view end.state.value)
@@ -46,11 +45,11 @@ both_empty [] [] a b = refl
 both_empty [] (y ∷ ys) a b = absurd (cc b)
 both_empty (x ∷ xs) ys a b = absurd (cc a)
 
--- the end of a run as a reply of three reasons, and its result as one of seven
-abbrev pub ended : Executed → KorePattern → three.Executed
+-- the end of a run, with its state spelled so
+abbrev pub ended : RunEnd → KorePattern → Executed
 ended end p = record { depth = end.depth; reason = reason_of end.stop; state = p }
 
-pub reason_meant : (stop : Stop) → IsReasonOf (ending_of stop) [] (reason_among_seven (reason_of stop))
+pub reason_meant : (stop : Stop) → IsReasonOf (ending_of stop) [] (reason_of stop)
 reason_meant Stuck = (refl, refl)
 reason_meant DepthBound = (refl, refl)
 reason_meant (ForeignRule id) = (refl, refl)

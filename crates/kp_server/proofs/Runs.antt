@@ -1,5 +1,5 @@
 -- A run from a ground state, whose end is spelled, is what a reply has to say.
-use Rattle.std.proofs.Common.{◌≡◌, ◌≤◌, ℕ, Bool, true, false, not, ◌&&◌, List, [], ◌∷◌, IsTrue, refl, sym, ◌∙◌, arith}
+use Rattle.std.proofs.Common.{◌≡◌, Bool, true, false, not, ◌&&◌, List, [], ◌∷◌, IsTrue, refl, sym, ◌∙◌}
 use Rattle.std.specs.List.{AllByRecursion, list_all}
 use Rattle.kp_kore.specs.Syntax.{KorePattern, variable, set_variable, application, string_literal, literal, top, bottom, negation, next, conjunction, disjunction, implication, equivalence, rewriting, exists, forall, ceil, floor, equals, membership, mu, nu}
 use Rattle.kp_kore.specs.Parts.{is_term, free_variables, subpatterns}
@@ -9,14 +9,13 @@ use Rattle.kp_kore.specs.Value.{Value}
 use Rattle.kp_kore.specs.Instance.{Valuation, instance}
 use Rattle.kp_kore.specs.Foreign.{none_within, has_interpreted_head, is_interpretation}
 use Rattle.kp_kore.specs.Theory.{Theory}
-use Rattle.kp_kore.specs.Replies.{IsComputed, IsRightExecuted, are_literals, is_open_call, is_wide_value}
+use Rattle.kp_kore.specs.Replies.{IsComputed, are_literals, is_open_call, is_wide_value}
+use Rattle.kp_kore.specs.Executions.{Options, listed_in, IsRightExecuted}
 use Rattle.kp_kore.proofs.InstanceLemmas.{one_instance}
-use Rattle.kp_run.proofs.Runs.{run_is_after, run_is_reached, run_has_reason}
+use Rattle.kp_run.proofs.Runs.{run_is_told}
 use Rattle.kp_run.specs.Runs.{IsRunOf, IsOnlyInstance, reason_of}
 use Rattle.kp_compile.specs.Spelled.{IsSpellingOf}
-use Rattle.kp_run.specs.declared.run.Executed.{Executed}
-use Rattle.kp_run.specs.declared.run.Stop.{Stop}
-use Rattle.kp_run.specs.declared.run.Stop.TheVariants.{Stuck, DepthBound, ForeignRule}
+use Rattle.kp_run.specs.declared.run.RunEnd.{RunEnd}
 
 -- a ground term's only instance is its value
 only_instance : (t : Theory) (s : KorePattern) (c : Value) → IsTrue (is_term s) → ((v : Valuation) → instance t.signature v s ≡ c) → IsOnlyInstance t s c
@@ -67,24 +66,11 @@ none_open g (p ∷ ps) h =
 computed : (g : KoreSignature) (p : KorePattern) → IsTrue (none_within (has_interpreted_head g) p) → IsComputed g p
 computed g p h = none_open g (subpatterns p) h
 
-within : (t : Theory) (c : Value) (bound : ℕ) (e : Executed) → IsRunOf t c bound e → e.depth ≤ bound
-within t c bound e run = by_stop e.stop refl
-  where
-    by_stop : (s : Stop) → e.stop ≡ s → e.depth ≤ bound
-    by_stop Stuck is = let k = (run.stuck is).0 in omega arith
-    by_stop DepthBound is = let k = run.at_bound is in omega arith
-    by_stop (ForeignRule id) is = let k = (run.foreign id is).0 in omega arith
-
-pub run_is_right : (t : Theory) (s s' : KorePattern) (c : Value) (bound : ℕ) (e : Executed) → IsRunOf t c bound e →
+pub run_is_right : (t : Theory) (o : Options) (s s' : KorePattern) (c : Value) (e : RunEnd) → IsRunOf t c o.bound e → listed_in o ≡ [] →
     IsTrue (is_term s) → free_variables s ≡ [] → ((v : Valuation) → instance t.signature v s ≡ c) → IsSpellingOf t.signature (value_view e.state.value) s' →
-    IsRightExecuted t [] bound s (record { depth = e.depth; reason = reason_of e.stop; state = s' })
-run_is_right t s s' c bound e run term closed means spelling =
-    let first = only_instance t s c term means in
-    let last = only_instance t s' (value_view e.state.value) spelling.term spelling.meant in
-    record {
-      within_bound = within t c bound e run;
-      after = run_is_after t s s' c bound e run first last closed spelling.closed;
-      reached = run_is_reached t s c bound e run first closed;
-      computed = computed t.signature s' spelling.computed;
-      reason = run_has_reason t s' c bound e run last spelling.closed;
-    }
+    IsRightExecuted t o s (record { depth = e.depth; reason = reason_of e.stop; state = s' })
+run_is_right t o s s' c e run unlisted term closed means spelling =
+    run_is_told t o s s' c e run unlisted
+        (only_instance t s c term means)
+        (only_instance t s' (value_view e.state.value) spelling.term spelling.meant)
+        closed spelling.closed (computed t.signature s' spelling.computed)

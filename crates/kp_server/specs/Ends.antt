@@ -11,7 +11,7 @@ use Rattle.kp_signature.specs.declared.error.VerifyError.{VerifyError}
 use Rattle.kp_kore.specs.Causes.{foreign}
 use Rattle.kp_ground.specs.View.{value_view}
 use Rattle.kp_compile.specs.declared.state.State.{State}
-use Rattle.kp_run.specs.declared.run.Executed.{Executed}
+use Rattle.kp_run.specs.declared.run.RunEnd.{RunEnd}
 use Rattle.kp_run.specs.declared.run.Stop.{Stop}
 use Rattle.kp_run.specs.declared.run.Stop.TheVariants.{Stuck, DepthBound, ForeignRule}
 use Rattle.kp_rpc.specs.View.{pattern_fault_view}
@@ -51,5 +51,5 @@ ending_of DepthBound = depth_bound
 ending_of (ForeignRule id) = aborted (foreign (string_bytes id))
 
 -- the result of a run that ended so, with its state spelled so
-abbrev pub result_of : Executed → KorePattern → ExecutedParts
+abbrev pub result_of : RunEnd → KorePattern → ExecutedParts
 result_of end p = record { depth = end.depth; ending = ending_of end.stop; state = record { term = p; predicate = None }; nexts = [] }

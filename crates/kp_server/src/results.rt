@@ -7,8 +7,8 @@ ghost use Rattle.kp_server.specs.Ends.{ending_of, result_of as end_result};
 ghost use Rattle.kp_server.specs.Sides.{result_at};
 
 use kp_kore::{Pattern, Sort};
-use kp_results::{Cause, Executed as Written, Implied, Reason, State as WrittenState};
-use kp_run::{Executed, Stop};
+use kp_results::{Cause, Executed, Implied, Reason, State};
+use kp_run::{RunEnd, Stop};
 use std::alloc::{AllocError, Global};
 
 /// The reason of a reply.
@@ -25,13 +25,13 @@ fn reason_of(stop: &Stop) -> Result<Reason, AllocError>
 }
 
 /// The result of a run whose last state is spelled so.
-pub fn result_of(alloc: Global, end: &Executed, term: Pattern) -> Result<Written, AllocError>
+pub fn result_of(alloc: Global, end: &RunEnd, term: Pattern) -> Result<Executed, AllocError>
     ensures { IfOk result (λ x. executed_view x ≡ end_result end.now (view term)) }
 {
     let reason = reason_of(&end.stop)?;
-    Ok(Written {
+    Ok(Executed {
         depth: end.depth,
-        state: WrittenState {
+        state: State {
             term,
             predicate: None,
         },

@@ -1,4 +1,4 @@
-use Rattle.kp_kore.proofs.GroundReplies.{leads_of_after, passes_of_after, after_of_both}
+use Rattle.kp_kore.proofs.AfterLemmas.{leads_of_after, passes_of_after, after_of_both}
 use Rattle.kp_kore.proofs.laws.after_is_to_lead_and_to_pass.Goals as goal
 
 pub returns-clause-leads : goal.returns-clause-leads
