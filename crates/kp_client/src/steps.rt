@@ -21,7 +21,7 @@ use crate::outcome::ProveFault;
 use kp_kore::{Pattern, Sort};
 use kp_replies::{Method, ServerReply};
 use kp_results::{Executed, Reason, State};
-use kp_rpc::{Id, Options, Question};
+use kp_rpc::{ExecuteOptions, Id, Question};
 use std::alloc::{AllocError, Global};
 
 /// Where the steps from a state lead.
@@ -49,7 +49,7 @@ fn step_question_of(
     Ok(Question::Execute {
         id: Id::Unsigned(id),
         state: state.copy(alloc)?,
-        options: Options {
+        options: ExecuteOptions {
             max_depth: Some(depth),
             module_name: None,
             cut_points: Vec::new(alloc),

@@ -18,14 +18,14 @@ ghost use Rattle.kp_execute_reply.specs.Ground.{IsEndOf, IsStateOf, ListsNone};
 use kp_compile::{SpellingError, State, StateError, spelled, state_of};
 use kp_kore::{Pattern, Sort};
 use kp_replies::executed_text;
-use kp_rpc::{Id, Options, bound_of};
+use kp_rpc::{ExecuteOptions, Id, bound_of};
 use kp_rule_sets::RuleSet;
 use kp_run::{RunEnd, RunError, execute};
 use kp_server::result_of;
 use std::alloc::{AllocError, Global};
 
 /// Whether there are rules to stop at.
-fn lists_rules(options: &Options) -> bool
+fn lists_rules(options: &ExecuteOptions) -> bool
     ensures { result ≡ false → ListsNone (options_view options.now) }
 {
     if !options.cut_points.is_empty() {
@@ -39,7 +39,7 @@ fn end_from(
     alloc: Global,
     rules: &RuleSet,
     state: State,
-    options: &Options,
+    options: &ExecuteOptions,
 ) -> Result<Option<RunEnd>, AllocError>
     ensures { (t : Theory) (p : KorePattern) → RunsAs t rules.now → IsStateOf t.signature p state → ListsNone (options_view options.now) →
         IfOk result (λ found. IfSome found (IsEndOf t (options_view options.now) p)) }
@@ -57,7 +57,7 @@ fn end_of(
     rules: &RuleSet,
     pattern: &Pattern,
     sort: Sort,
-    options: &Options,
+    options: &ExecuteOptions,
 ) -> Result<Option<RunEnd>, AllocError>
     ensures { (t : Theory) → RunsAs t rules.now → VerifiesAs t.signature (view pattern.now) (sort_view sort) →
         IfOk result (λ found. IfSome found (IsEndOf t (options_view options.now) (view pattern.now))) }
@@ -111,7 +111,7 @@ pub fn ground_line(
     id: &Id,
     pattern: &Pattern,
     sort: Sort,
-    options: &Options,
+    options: &ExecuteOptions,
 ) -> Result<Option<Vec<u8>>, AllocError>
     ensures { (s : Setting) → RunsAs s.theory rules.now → ¬ IsElsewhere s.main (options_view options.now).module_name → VerifiesAs s.theory.signature (view pattern.now) (sort_view sort) →
         IfOk result (λ found. IfSome found (λ line. IsReplyLine (IsExecuted s (record { id = id_view id.now; state = view pattern.now; options = options_view options.now })) line.items)) }

@@ -15,7 +15,7 @@ use crate::ground::ground_line;
 use crate::symbolic::symbolic_line;
 use kp_kore::{Pattern, Sort};
 use kp_requests::Reading;
-use kp_rpc::{Id, Options, StateFault, fault_text};
+use kp_rpc::{ExecuteOptions, Id, StateFault, fault_text};
 use kp_rule_sets::RuleSet;
 use kp_signature::verify;
 use kp_simplify_reply::{Prepared, unverified_line};
@@ -32,7 +32,7 @@ pub fn executed_line(
     rules: &RuleSet,
     id: &Id,
     state: Reading,
-    options: Options,
+    options: ExecuteOptions,
 ) -> Result<Vec<u8>, AllocError>
     requires { IsPrepared prepared.now }
     ensures { (s : Setting) → RunsAs s.theory rules.now → signature_in prepared.now ≡ s.theory.signature → ¬ IsElsewhere s.main (options_view options).module_name →
@@ -51,7 +51,7 @@ fn pattern_line(
     rules: &RuleSet,
     id: &Id,
     pattern: &Pattern,
-    options: Options,
+    options: ExecuteOptions,
 ) -> Result<Vec<u8>, AllocError>
     requires { IsPrepared prepared.now }
     ensures { (s : Setting) → RunsAs s.theory rules.now → signature_in prepared.now ≡ s.theory.signature → ¬ IsElsewhere s.main (options_view options).module_name →
@@ -71,7 +71,7 @@ fn verified_line(
     id: &Id,
     pattern: &Pattern,
     sort: Sort,
-    options: Options,
+    options: ExecuteOptions,
 ) -> Result<Vec<u8>, AllocError>
     requires { IsPrepared prepared.now }
     ensures { (s : Setting) → RunsAs s.theory rules.now → signature_in prepared.now ≡ s.theory.signature → ¬ IsElsewhere s.main (options_view options).module_name → VerifiesAs s.theory.signature (view pattern.now) (sort_view sort) →

@@ -25,8 +25,8 @@ use kp_execute::{Answer, ExecuteError, execute};
 use kp_heads::HeadTable;
 use kp_kore::{Pattern, Sort};
 use kp_replies::{aborted_text, executed_text};
-use kp_results::Options as Asked;
-use kp_rpc::{Id, Options, PatternFault, StateFault, bound_of, fault_text};
+use kp_results::Options;
+use kp_rpc::{ExecuteOptions, Id, PatternFault, StateFault, bound_of, fault_text};
 use kp_rule_sets::RuleSet;
 use kp_server::not_answered;
 use kp_simplify_reply::Prepared;
@@ -34,10 +34,10 @@ use kp_symbolic::Language;
 use std::alloc::{AllocError, Global};
 
 /// What a run is asked for.
-fn asked_of(options: Options) -> Asked
+fn asked_of(options: ExecuteOptions) -> Options
     ensures { results.options_view result ≡ asked_options (options_view options) }
 {
-    Asked {
+    Options {
         bound: bound_of(&options),
         cut_points: options.cut_points,
         terminals: options.terminals,
@@ -104,7 +104,7 @@ fn asked_line(
     id: &Id,
     pattern: &Pattern,
     sort: Sort,
-    asked: &Asked,
+    asked: &Options,
 ) -> Result<Vec<u8>, AllocError>
     requires { IsHeadTableOf (language_view language.now) table.now }
     ensures { (s : Setting) (options : ExecuteOptions) → RunsAs s.theory rules.now → language_view language.now ≡ s.theory.signature → results.options_view asked.now ≡ asked_options options →
@@ -125,7 +125,7 @@ fn line_over(
     id: &Id,
     pattern: &Pattern,
     sort: Sort,
-    options: Options,
+    options: ExecuteOptions,
 ) -> Result<Vec<u8>, AllocError>
     requires { IsHeadTableOf (language_view language.now) table.now }
     ensures { (s : Setting) → RunsAs s.theory rules.now → language_view language.now ≡ s.theory.signature → VerifiesAs s.theory.signature (view pattern.now) (sort_view sort) →
@@ -143,7 +143,7 @@ pub fn symbolic_line(
     id: &Id,
     pattern: &Pattern,
     sort: Sort,
-    options: Options,
+    options: ExecuteOptions,
 ) -> Result<Vec<u8>, AllocError>
     requires { IsPrepared prepared.now }
     ensures { (s : Setting) → RunsAs s.theory rules.now → signature_in prepared.now ≡ s.theory.signature → VerifiesAs s.theory.signature (view pattern.now) (sort_view sort) →

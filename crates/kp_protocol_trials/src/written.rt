@@ -3,7 +3,7 @@ use kp_kore::{Pattern, Sort};
 use kp_requests::{
     Asked, Call, Parsed, Reading, Request, add_module_text, request_of, simplify_text,
 };
-use kp_rpc::{Id, Options, Question, question_text};
+use kp_rpc::{ExecuteOptions, Id, Question, question_text};
 use std::alloc::Global;
 use std::process::Abort;
 
@@ -70,7 +70,7 @@ fn question(rt: &impl Abort, alloc: Global) -> Question {
     Question::Execute {
         id: Id::Unsigned(1),
         state: top(rt, alloc),
-        options: Options {
+        options: ExecuteOptions {
             max_depth: Some(12_000),
             module_name: None,
             cut_points: vec![in alloc; text(rt, alloc, "A.b")].expect(rt, "memory"),

@@ -1,6 +1,6 @@
 use kp_json::JsonFault;
 use kp_kore::Pattern;
-use kp_rpc::Options;
+use kp_rpc::ExecuteOptions;
 
 /// What is read of the tree of a state or of a side: the pattern that it spells, or its first fault.
 #[derive(Drop)]
@@ -15,7 +15,7 @@ pub enum Reading {
 pub enum Request {
     Execute {
         state: Reading,
-        options: Options,
+        options: ExecuteOptions,
     },
     Implies {
         antecedent: Reading,

@@ -6,7 +6,8 @@ ghost use Rattle.kp_json.specs.View.{fault_view};
 ghost use Rattle.kp_kore.specs.View.{sort_view};
 ghost use Rattle.kp_signature.specs.Verify.{sort_differs, sort_text};
 ghost use Rattle.kp_rpc.specs.Reply.{kind_only, kind_and_name, tree_fault_data, verify_fault_data, pattern_data, error_tree, error_reply, reply_bytes};
-ghost use Rattle.kp_rpc.specs.View.{id_view, verify_error_view, pattern_fault_view, state_fault_view};
+ghost use Rattle.kp_rpc.specs.View.{id_view, verify_error_view, pattern_fault_view, state_fault_view, IsTold, IsToldOfState};
+ghost use Rattle.kp_signature.specs.declared.error.VerifyError.TheVariants as verify;
 
 use crate::id::{Id, id_value};
 use crate::reply::line_of;
@@ -75,7 +76,8 @@ fn named_sort(alloc: Global, kind: &str, sort: &Sort) -> Result<Value, AllocErro
 
 /// The data of a verify fault; none where memory ran out.
 fn verify_value(alloc: Global, error: &VerifyError) -> Result<Value, AllocError>
-    ensures { IfOk result (λ v. view v ≡ pattern_data (verify_error_view error.now)) }
+    ensures data { IfOk result (λ v. view v ≡ pattern_data (verify_error_view error.now)) }
+    ensures told { IfOk result (λ _. ¬ (error.now ≡ verify.Memory)) }
 {
     match error {
         VerifyError::Memory => Err(AllocError),
@@ -91,7 +93,8 @@ fn verify_value(alloc: Global, error: &VerifyError) -> Result<Value, AllocError>
 
 /// The data of a pattern's fault.
 fn pattern_value(alloc: Global, fault: &PatternFault) -> Result<Value, AllocError>
-    ensures { IfOk result (λ v. view v ≡ pattern_data (pattern_fault_view fault.now)) }
+    ensures data { IfOk result (λ v. view v ≡ pattern_data (pattern_fault_view fault.now)) }
+    ensures told { IfOk result (λ _. IsTold fault.now) }
 {
     match fault {
         PatternFault::Unverified(error) => verify_value(alloc, error),
@@ -132,7 +135,8 @@ fn detailed_value(
 
 /// The tree of the error that a fault is answered with.
 fn fault_value(alloc: Global, fault: &StateFault) -> Result<Value, AllocError>
-    ensures { IfOk result (λ v. view v ≡ error_tree (state_fault_view fault.now)) }
+    ensures tree { IfOk result (λ v. view v ≡ error_tree (state_fault_view fault.now)) }
+    ensures told { IfOk result (λ _. IsToldOfState fault.now) }
 {
     match fault {
         StateFault::Json(fault) => {
@@ -152,7 +156,8 @@ fn fault_value(alloc: Global, fault: &StateFault) -> Result<Value, AllocError>
 
 /// The tree of the reply to a request whose state or module is at fault.
 fn fault_reply(alloc: Global, id: &Id, fault: &StateFault) -> Result<Value, AllocError>
-    ensures { IfOk result (λ v. view v ≡ error_reply (id_view id.now) (state_fault_view fault.now)) }
+    ensures tree { IfOk result (λ v. view v ≡ error_reply (id_view id.now) (state_fault_view fault.now)) }
+    ensures told { IfOk result (λ _. IsToldOfState fault.now) }
 {
     let error = fault_value(alloc, fault)?;
     let id_member = id_value(id)?;
@@ -160,9 +165,10 @@ fn fault_reply(alloc: Global, id: &Id, fault: &StateFault) -> Result<Value, Allo
 }
 
 /// The bytes of the reply to a request whose state, or the module that it names, is at fault: code 1, 2 or 3 with
-/// the fault's data, in one line.
+/// the fault's data, in one line. Want of memory among the errors of `verify` is no fault, and isn't told.
 pub fn fault_text(alloc: Global, id: &Id, fault: &StateFault) -> Result<Vec<u8>, AllocError>
-    ensures { IfOk result (λ b. b.items ≡ reply_bytes (error_reply (id_view id.now) (state_fault_view fault.now))) }
+    ensures reply { IfOk result (λ b. b.items ≡ reply_bytes (error_reply (id_view id.now) (state_fault_view fault.now))) }
+    ensures told { IfOk result (λ _. IsToldOfState fault.now) }
 {
     let tree = fault_reply(alloc, id, fault)?;
     line_of(alloc, &tree)

@@ -12,7 +12,7 @@ use std::alloc::{AllocError, AllocFailed, Global};
 
 /// What a request of execute says beside its state.
 #[derive(Drop)]
-pub struct Options {
+pub struct ExecuteOptions {
     pub max_depth: Option<u64>,
     pub module_name: Option<String>,
     pub cut_points: Vec<String>,
@@ -23,7 +23,7 @@ pub struct Options {
 pub const MOST_STEPS: u64 = 10_000;
 
 /// How many steps a run may take at most: `max-depth`, but no more than 10,000, which also holds where there is none.
-pub fn bound_of(options: &Options) -> u64
+pub fn bound_of(options: &ExecuteOptions) -> u64
     ensures { result ≡ bound_of (options_view options.now) }
 {
     match options.max_depth {
@@ -124,7 +124,7 @@ fn texts_at(alloc: Global, params: &Value, key: &str) -> Result<Option<Vec<Strin
 ///
 /// # Errors
 /// `OtherKind` where a member is of another kind; `Memory`.
-pub fn options_of(alloc: Global, params: &Value) -> Result<Options, ParamsError>
+pub fn options_of(alloc: Global, params: &Value) -> Result<ExecuteOptions, ParamsError>
     ensures found { IfOk result (λ o. read_options (view params.now) ≡ Some (options_view o)) }
     ensures only { IfErr result (λ e. e ≡ OtherKind → read_options (view params.now) ≡ None) }
 {
@@ -144,7 +144,7 @@ pub fn options_of(alloc: Global, params: &Value) -> Result<Options, ParamsError>
     let Some(terminals) = texts_at(alloc, params, "terminal-rules")? else {
         return Err(ParamsError::OtherKind);
     };
-    Ok(Options {
+    Ok(ExecuteOptions {
         max_depth,
         module_name,
         cut_points,

@@ -12,7 +12,7 @@ ghost use Rattle.kp_rpc.specs.Request.{execute_method, implies_method};
 ghost use Rattle.kp_rpc.specs.View.{id_view, name_view, options_view, question_view, texts_view};
 
 use crate::id::{Id, id_value};
-use crate::params::Options;
+use crate::params::ExecuteOptions;
 use kp_json::value_of;
 use kp_kore::Pattern;
 use serde_json::{Map, Value, json, put};
@@ -24,7 +24,7 @@ pub enum Question {
     Execute {
         id: Id,
         state: Pattern,
-        options: Options,
+        options: ExecuteOptions,
     },
     Implies {
         id: Id,
@@ -122,7 +122,11 @@ pub fn with_member_at(
 }
 
 /// The params of execute.
-fn execute_object(alloc: Global, options: &Options, state: Value) -> Result<Object, AllocError>
+fn execute_object(
+    alloc: Global,
+    options: &ExecuteOptions,
+    state: Value,
+) -> Result<Object, AllocError>
     ensures { IfOk result (λ o. members_view o.entries ≡ execute_params (options_view options.now) (view state)) }
 {
     let object = with_texts_at(alloc, Map::new(alloc), "terminal-rules", &options.terminals)?;
@@ -165,7 +169,7 @@ fn execute_value(
     alloc: Global,
     id: &Id,
     state: &Pattern,
-    options: &Options,
+    options: &ExecuteOptions,
 ) -> Result<Option<Value>, AllocError>
     ensures { IfOk result (λ o. option_map view o
         ≡ option_map (λ s. request_object (id_view id.now) execute_method (execute_params (options_view options.now) s)) (wrapped_pattern (pattern_view state.now))) }

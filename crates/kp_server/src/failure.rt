@@ -1,7 +1,10 @@
+ghost use Rattle.std.specs.Prelude.{◌≡◌};
 ghost use Rattle.kp_kore.specs.Signature.{KoreSignature};
 ghost use Rattle.kp_kore.specs.Syntax.{KorePattern};
 ghost use Rattle.kp_server.specs.Ends.{IsWrongPattern, TellsFault};
 ghost use Rattle.kp_server.specs.Right.{NoneLeftOut};
+ghost use Rattle.kp_server.specs.declared.failure.Failure.TheVariants as failure;
+ghost use Rattle.kp_signature.specs.declared.error.VerifyError.TheVariants as verify;
 
 use kp_rpc::{PatternFault, StateFault};
 use kp_signature::VerifyError;
@@ -27,7 +30,8 @@ impl From<AllocError> for Failure {
 
 /// Why a pattern that doesn't verify has no place in a request.
 pub fn verify_failure(error: VerifyError) -> Failure
-    ensures { (g : KoreSignature) (p : KorePattern) → TellsFault g p error → IsWrongPattern g NoneLeftOut p result }
+    ensures memory { result ≡ failure.Memory → error ≡ verify.Memory }
+    ensures fault { (g : KoreSignature) (p : KorePattern) → TellsFault g p error → IsWrongPattern g NoneLeftOut p result }
 {
     match error {
         VerifyError::Memory => Failure::Memory,

@@ -20,7 +20,7 @@ use crate::implied::implied_line;
 use kp_execute_reply::executed_line;
 use kp_registry::{Pass, Registry};
 use kp_requests::{Asked, Call, Reading, Request};
-use kp_rpc::{Id, Options, StateFault, fault_text, refusal_text};
+use kp_rpc::{ExecuteOptions, Id, StateFault, fault_text, refusal_text};
 use kp_rule_sets::RuleSet;
 use kp_simplify_reply::{Prepared, simplified_line};
 use std::alloc::{AllocError, Global};
@@ -201,7 +201,7 @@ fn execute_line(
     pass: &mut Pass,
     id: &Id,
     state: Reading,
-    options: Options,
+    options: ExecuteOptions,
 ) -> Result<Vec<u8>, AllocError>
     requires pass { IsPass pass.old }
     requires prepared { IsReadyFor registry.now prepared.now }

@@ -20,4 +20,4 @@ returns-in-Fault c = λ s runs over here.
     let options = options_view c.args.options in
     let f = fault_view c.in-Fault.fault in
     line_of_read c.fault_text.result s id options (reading_view c.args.state) (fault f) (ap reading_view c.in-Fault.is)
-    (right_line c.fault_text.result (IsExecutedAs s id options (fault f)) (error_reply id (no_pattern f)) (unread f) c.fault_text.ensures)
+    (right_line c.fault_text.result (IsExecutedAs s id options (fault f)) (error_reply id (no_pattern f)) (unread f) c.fault_text.ensures.reply)

@@ -3,7 +3,7 @@ use Rattle.kp_execute_reply.proofs.Lines.{foreign_line, no_injection_untold, oth
 use Rattle.kp_execute_reply.proofs.symbolic.refused_line.Goals as goal
 
 pub returns-in-ForeignSymbol : goal.returns-in-ForeignSymbol
-returns-in-ForeignSymbol c = λ s options p h wants. foreign_line c.fault_text.result s (id_view c.args.id.now) options p c.args.error c.in-ForeignSymbol.name c.in-ForeignSymbol.is h c.fault_text.ensures
+returns-in-ForeignSymbol c = λ s options p h wants. foreign_line c.fault_text.result s (id_view c.args.id.now) options p c.args.error c.in-ForeignSymbol.name c.in-ForeignSymbol.is h c.fault_text.ensures.reply
 
 pub returns-in-OtherShape : goal.returns-in-OtherShape
 returns-in-OtherShape c = λ s options p h wants. untold_line c.fault_text-in-OtherShape.result s (id_view c.args.id.now) options p c.not_answered.result c.not_answered.ensures (other_shape_untold s options p c.args.error c.in-OtherShape.is h) c.fault_text-in-OtherShape.ensures

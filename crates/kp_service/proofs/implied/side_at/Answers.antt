@@ -5,7 +5,7 @@ use Rattle.kp_service.proofs.Implying.{side_of}
 use Rattle.kp_service.proofs.implied.side_at.Goals as goal
 
 pub returns-in-Err-clause-failed : goal.returns-in-Err-clause-failed
-returns-in-Err-clause-failed c = c.verify_failure.ensures (signature_view c.args.signature.now) (view c.args.pattern.now) c.in-Err.ensures.fault
+returns-in-Err-clause-failed c = c.verify_failure.ensures.fault (signature_view c.args.signature.now) (view c.args.pattern.now) c.in-Err.ensures.fault
 
 pub returns-clause-found : goal.returns-clause-found
 returns-clause-found c =

@@ -19,4 +19,4 @@ returns-in-Fault c =
     let id = id_view c.args.id.now in
     let f = fault_view c.in-Fault.fault in
     line_of_read c.fault_text.result g id (reading_view c.args.state) (fault f) (ap reading_view c.in-Fault.is)
-    (right_line c.fault_text.result (IsSimplifiedAs g id (fault f)) (error_reply id (no_pattern f)) (unread f) c.fault_text.ensures)
+    (right_line c.fault_text.result (IsSimplifiedAs g id (fault f)) (error_reply id (no_pattern f)) (unread f) c.fault_text.ensures.reply)

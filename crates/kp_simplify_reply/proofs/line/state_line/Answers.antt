@@ -10,4 +10,4 @@ returns-in-Some c = λ g p r right same.
 pub returns-in-None : goal.returns-in-None
 returns-in-None c = λ g p r right same.
     untold_line c.fault_text.result g p (id_view c.args.id.now) c.not_answered.result c.not_answered.ensures
-    (state_untold g p (id_view c.args.id.now) r (view c.args.state.now) c.in_ok-line.field-0 right same c.in-None.is c.in_ok-line.ensures) c.fault_text.ensures
+    (state_untold g p (id_view c.args.id.now) r (view c.args.state.now) c.in_ok-line.field-0 right same c.in-None.is c.in_ok-line.ensures) c.fault_text.ensures.reply

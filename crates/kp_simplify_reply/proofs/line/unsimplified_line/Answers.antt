@@ -3,7 +3,7 @@ use Rattle.kp_simplify_reply.proofs.Lines.{foreign_line, no_injection_untold, ot
 use Rattle.kp_simplify_reply.proofs.line.unsimplified_line.Goals as goal
 
 pub returns-in-ForeignSymbol : goal.returns-in-ForeignSymbol
-returns-in-ForeignSymbol c = λ g p h wants. foreign_line c.fault_text.result g p (id_view c.args.id.now) c.args.error c.in-ForeignSymbol.name c.in-ForeignSymbol.is h c.fault_text.ensures
+returns-in-ForeignSymbol c = λ g p h wants. foreign_line c.fault_text.result g p (id_view c.args.id.now) c.args.error c.in-ForeignSymbol.name c.in-ForeignSymbol.is h c.fault_text.ensures.reply
 
 pub returns-in-OtherShape : goal.returns-in-OtherShape
 returns-in-OtherShape c = λ g p h wants. untold_line c.fault_text-in-OtherShape.result g p (id_view c.args.id.now) c.not_answered.result c.not_answered.ensures (other_shape_untold g p c.args.error c.in-OtherShape.is h) c.fault_text-in-OtherShape.ensures
