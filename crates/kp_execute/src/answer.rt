@@ -27,8 +27,8 @@ pub enum ExecuteError {
     OtherShape,
     /// An `inj` would stand in what is written, and the signature has none.
     NoInjection,
-    /// A step is refused: a sum can't be written, or a foreign rule's left side has one name at two sorts, each two of which share
-    /// a value.
+    /// A step is refused: a sum can't be written, or a foreign rule's left side has one name at two sorts that share a value, and
+    /// no sort has all values that they share.
     NoStep,
 }
 

@@ -20,6 +20,7 @@ pub mod OutcomeLemmas
 pub mod VerifiedLemmas
 pub mod OneSortLemmas
 pub mod SharedLemmas
+pub mod LoweredLemmas
 pub mod MadeLemmas
 pub mod FollowingLemmas
 pub mod AskedLemmas

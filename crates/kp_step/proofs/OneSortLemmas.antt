@@ -24,11 +24,11 @@ one_sort_each xs = (
 
 -- ---- parts one by one
 
-abbrev AllOf : (SortedName → Type 0) → List Skeleton → Type 0
+abbrev pub AllOf : (SortedName → Type 0) → List Skeleton → Type 0
 AllOf P ks = AllByRecursion P (all_form_variables (forms_of (map skeleton_view ks)))
 
 -- of the first and of the others
-front_of : (P : SortedName → Type 0) (ks : List Skeleton) (i : ℕ) (k : Skeleton) → i < length ks → k ≡ get_or ks i k → AllOf P (drop i ks) ↔ (AllByRecursion P (form_variables (skeleton_view k)) × AllOf P (drop (i + 1) ks))
+pub front_of : (P : SortedName → Type 0) (ks : List Skeleton) (i : ℕ) (k : Skeleton) → i < length ks → k ≡ get_or ks i k → AllOf P (drop i ks) ↔ (AllByRecursion P (form_variables (skeleton_view k)) × AllOf P (drop (i + 1) ks))
 front_of P ks i k h e =
     let xs = form_variables (skeleton_view k) in
     let ys = all_form_variables (forms_of (map skeleton_view (drop (i + 1) ks))) in

@@ -47,11 +47,11 @@ all_fails g others ks i k h e b n t a = part_fails (λ x. SharesWith g x.name x.
 -- ---- what stands for a value
 
 -- each variable has a value of its sort
-abbrev HaveSorts : KoreSignature → Valuation → List SortedName → Type 0
+abbrev pub HaveSorts : KoreSignature → Valuation → List SortedName → Type 0
 HaveSorts g v xs = AllByRecursion (λ x. HasSort g x.sort (v x.name)) xs
 
 mutual
-  have_sorts : (g : KoreSignature) (v : Valuation) (form : Form) (u : Value) → Admits g v form u → HaveSorts g v (form_variables form)
+  pub have_sorts : (g : KoreSignature) (v : Valuation) (form : Form) (u : Value) → Admits g v form u → HaveSorts g v (form_variables form)
   have_sorts g v anything u a = tt
   have_sorts g v nothing u a = absurd a
   have_sorts g v (any_of s) u a = tt

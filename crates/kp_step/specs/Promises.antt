@@ -84,13 +84,7 @@ TellsMet g p met result =
     IsWholeReady g used s (numbered_view p) → IsMeeting g used left (part_view p) (met_view met) met.part.next apart →
     IfOk result (IsRightAnswerOf g s (with_clauses (part_view met.part) (clauses_view met.equations.items)).state)
 
--- whether the foreign rule of each place whose left side this skeleton is might rewrite an instance
-abbrev pub TellsTwoSorts : {E : Type 0} → KoreSignature → Skeleton → Result Answer E → Type 0
-TellsTwoSorts g k result =
-    (t : Theory) (used : List Text) (s : SymbolicState) (place : ℕ) (q : NumberedPart) →
-    g ≡ t.signature → IsWholeReady g used s q → IsForeignAt t place k → IfOk result (TellsForeign t s place)
-
--- the same where the skeleton is met with the whole of a state
+-- whether the foreign rule of each place whose left side this skeleton is might rewrite an instance of the whole of a state
 abbrev pub TellsSkeletonMeets : {E : Type 0} → Setting → Part → Skeleton → Result Answer E → Type 0
 TellsSkeletonMeets setting p k result =
     (t : Theory) (used : List Text) (s : SymbolicState) (place : ℕ) → let g = signature_of setting in

@@ -4,12 +4,16 @@ ghost use Rattle.std.specs.List.{AllByRecursion, Contains};
 ghost use Rattle.kp_kore.specs.Syntax.{Text};
 ghost use Rattle.kp_kore.specs.Theory.{Theory};
 ghost use Rattle.kp_symbolic.specs.States.{SymbolicState};
+ghost use Rattle.kp_symbolic_laws.specs.Runs.{HasOneSortEach};
+ghost use Rattle.kp_rules.specs.Skeletons.{skeleton_view};
+ghost use Rattle.kp_cases.specs.Courses.{form_variables};
 ghost use Rattle.kp_unify.specs.Views.{signature_of, HasItsTable};
 ghost use Rattle.kp_step.specs.Answers.{TellsForeign, TellsKnown, IsOpenAt};
 ghost use Rattle.kp_step.specs.Outcomes.{IsRightStep};
-ghost use Rattle.kp_step.specs.Promises.{TellsMet, TellsTwoSorts, TellsSkeletonMeets, OfEachStep};
+ghost use Rattle.kp_step.specs.Promises.{TellsMet, TellsSkeletonMeets, OfEachStep};
 
 use crate::answers::{Answer, Open, answer_of};
+use crate::lowered::lowered;
 use crate::outcome::StepOutcome;
 use crate::rules::foreign_at;
 use crate::shared::has_shared_sorts;
@@ -35,20 +39,45 @@ fn met_answer(
     Ok(answer_of(alloc, setting, &whole.state, &part.state)?)
 }
 
-/// Whether a left side with one name at two sorts stands for an instance. It stands for nothing, where two such sorts share no
-/// value; refused where each two share one.
-fn at_two_sorts(setting: Setting<'_>, skeleton: &Skeleton) -> Result<Answer, CompileError>
+/// The same of a left side in which each name stands at one sort.
+fn meets_at_one_sort(
+    alloc: Global,
+    setting: Setting<'_>,
+    whole: &Part,
+    skeleton: &Skeleton,
+) -> Result<Answer, CompileError>
     requires { HasItsTable setting }
-    ensures { TellsTwoSorts (signature_of setting.entry) skeleton.now result }
+    ensures { HasOneSortEach (form_variables (skeleton_view skeleton.now)) → TellsSkeletonMeets setting.entry whole.now skeleton.now result }
 {
-    if has_shared_sorts(setting.table, setting.language.signature, skeleton) {
-        return Err(CompileError::Shape);
+    match meet(alloc, &setting, whole, skeleton)? {
+        Some(meeting) => met_answer(alloc, setting, whole, &meeting.met),
+        None => Ok(Answer::Nothing),
     }
-    Ok(Answer::Nothing)
 }
 
-/// Whether the left side of a foreign rule stands for an instance of the part. Refused where it has one name at two sorts, each
-/// two of which share a value.
+/// The same of a left side with one name at two sorts. It stands for nothing, where two such sorts share no value. Refused where
+/// there is no sort of what they share.
+fn meets_at_two_sorts(
+    alloc: Global,
+    setting: Setting<'_>,
+    whole: &Part,
+    skeleton: &Skeleton,
+) -> Result<Answer, CompileError>
+    requires { HasItsTable setting }
+    ensures { TellsSkeletonMeets setting.entry whole.now skeleton.now result }
+{
+    if !has_shared_sorts(setting.table, setting.language.signature, skeleton) {
+        return Ok(Answer::Nothing);
+    }
+    let low = lowered(alloc, setting.language.signature, skeleton, skeleton)?;
+    if !has_one_sort_each(&low) {
+        return Err(CompileError::Shape);
+    }
+    meets_at_one_sort(alloc, setting, whole, &low)
+}
+
+/// Whether the left side of a foreign rule stands for an instance of the part. Refused where it has one name at two sorts that
+/// share a value, and there is no sort of all values that they share.
 fn meets(
     alloc: Global,
     setting: Setting<'_>,
@@ -58,13 +87,10 @@ fn meets(
     requires { HasItsTable setting }
     ensures { TellsSkeletonMeets setting.entry whole.now skeleton.now result }
 {
-    if !has_one_sort_each(skeleton) {
-        return at_two_sorts(setting, skeleton);
+    if has_one_sort_each(skeleton) {
+        return meets_at_one_sort(alloc, setting, whole, skeleton);
     }
-    match meet(alloc, &setting, whole, skeleton)? {
-        Some(meeting) => met_answer(alloc, setting, whole, &meeting.met),
-        None => Ok(Answer::Nothing),
-    }
+    meets_at_two_sorts(alloc, setting, whole, skeleton)
 }
 
 /// Whether the rule at this place is foreign and may rewrite an instance.

@@ -7,6 +7,7 @@ pub mod chosen;
 pub mod foreign;
 pub mod left;
 pub mod limits;
+pub mod lowered;
 pub mod nexts;
 pub mod outcome;
 pub mod right;
