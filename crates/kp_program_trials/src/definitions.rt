@@ -74,6 +74,27 @@ module CHOICES
 endmodule []
 "#;
 
+/// Foreign rules with one name at a sort and one above it, and at two sorts above one; a sort of tokens below two others.
+const TWICE: &str = r#"[]
+module TWICE
+  sort SortId{} [hasDomainValues{}(), token{}()]
+  sort SortName{} [hasDomainValues{}(), token{}()]
+  sort SortTag{} [hasDomainValues{}(), token{}()]
+  sort SortS{} []
+  axiom{R} \exists{R}(Val:SortName{}, \equals{SortName{}, R}(Val:SortName{}, inj{SortId{}, SortName{}}(From:SortId{}))) [subsort{SortId{}, SortName{}}()]
+  axiom{R} \exists{R}(Val:SortTag{}, \equals{SortTag{}, R}(Val:SortTag{}, inj{SortId{}, SortTag{}}(From:SortId{}))) [subsort{SortId{}, SortTag{}}()]
+  symbol inj{From, To}(From) : To [sortInjection{}()]
+  symbol Lblg{}(SortId{}, SortName{}) : SortS{} [constructor{}()]
+  symbol Lblh{}(SortName{}, SortTag{}) : SortS{} [constructor{}()]
+  symbol Lbldone{}() : SortS{} [constructor{}()]
+  symbol Lblother{}(SortName{}) : SortS{} [function{}()]
+  axiom{} \rewrites{SortS{}}(Lblg{}(X:SortId{}, X:SortName{}), Lblother{}(X:SortName{})) [label{}("below")]
+  axiom{} \rewrites{SortS{}}(Lblh{}(X:SortName{}, X:SortTag{}), Lblother{}(X:SortName{})) [label{}("beside")]
+  axiom{} \rewrites{SortS{}}(Lblg{}(X:SortId{}, Y:SortName{}), Lbldone{}()) [label{}("goes")]
+  axiom{} \rewrites{SortS{}}(Lblh{}(X:SortName{}, Y:SortTag{}), Lbldone{}()) [label{}("goes.on")]
+endmodule []
+"#;
+
 /// Two sorts above the same two sorts, no one of which has all that is in both; a rule's left term is a variable of the one.
 const LONE: &str = r#"[]
 module LONE
@@ -216,6 +237,8 @@ pub(crate) enum Asked {
     Choices,
     /// The one with a rule whose left term is a variable.
     Lone,
+    /// The one with foreign rules that have one name at two sorts.
+    Twice,
     /// The one with calls on whole numbers.
     Numbers,
     /// The one whose main module imports the rules that count down and choose.
@@ -234,6 +257,7 @@ pub(crate) fn definition_of(asked: Asked) -> (&'static str, &'static str) {
         Asked::Toys => ("TOYS", TOYS),
         Asked::Choices => ("CHOICES", CHOICES),
         Asked::Lone => ("LONE", LONE),
+        Asked::Twice => ("TWICE", TWICE),
         Asked::Numbers => ("TOYS", NUMBERS),
         Asked::Counting => ("COUNTING", COUNTING),
         Asked::Small => ("TOYS", SMALL),

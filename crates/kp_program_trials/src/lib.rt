@@ -52,4 +52,6 @@ mod refused;
 #[cfg(test)]
 mod stopping;
 #[cfg(test)]
+mod twice;
+#[cfg(test)]
 mod undecided;
