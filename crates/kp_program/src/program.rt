@@ -38,9 +38,11 @@ pub fn run<H: Shelf, I: Source, O: Sink, E: Sink>(
     // each line that tells a claim as passed is of a claim that holds
     ensures headline { result ≤ 2 → PassedHolds (H.names shelf.old) (map string_bytes words.now) (O.held out.old) (O.held out.new) }
     // why it is another status, and what standard error got
-    ensures ended { 3 ≤ result → IsEnded (H.names shelf.old) (map string_bytes words.now) (Rose (H.fault_count shelf.old) (H.fault_count shelf.new) ⊎ (Rose (I.fault_count input.old) (I.fault_count input.new) ⊎ Rose (O.fault_count out.old) (O.fault_count out.new))) (E.held err.old) (E.held err.new) (Rose (E.fault_count err.old) (E.fault_count err.new)) result }
+    ensures ended { let Failed = Rose (H.fault_count shelf.old) (H.fault_count shelf.new) ⊎ (Rose (I.fault_count input.old) (I.fault_count input.new) ⊎ Rose (O.fault_count out.old) (O.fault_count out.new)) in
+        3 ≤ result → IsEnded (H.names shelf.old) (map string_bytes words.now) Failed (E.held err.old) (E.held err.new) (Rose (E.fault_count err.old) (E.fault_count err.new)) result }
     ensures usage { (result ≡ 3) ↔ ¬ SpellsSome (map string_bytes words.now) }
-    ensures complete { IfSome (H.names shelf.old) (λ held. IsPossible (map string_bytes words.now) held → ¬ (Rose (H.fault_count shelf.old) (H.fault_count shelf.new) ⊎ (Rose (I.fault_count input.old) (I.fault_count input.new) ⊎ Rose (O.fault_count out.old) (O.fault_count out.new))) → (result ≤ 2) ⊎ (result ≡ 7)) }
+    ensures complete { let Failed = Rose (H.fault_count shelf.old) (H.fault_count shelf.new) ⊎ (Rose (I.fault_count input.old) (I.fault_count input.new) ⊎ Rose (O.fault_count out.old) (O.fault_count out.new)) in
+        IfSome (H.names shelf.old) (λ held. IsPossible (map string_bytes words.now) held → ¬ Failed → (result ≤ 2) ⊎ (result ≡ 7)) }
     ensures untold { result ≤ 2 → E.held err.new ≡ E.held err.old }
     ensures untouched { 3 ≤ result → result ≤ 5 → (I.left input.new ≡ I.left input.old) × (O.held out.new ≡ O.held out.old) }
     ensures unread { (c : ProveWords) → SpellsProve (map string_bytes words.now) c → I.left input.new ≡ I.left input.old }
@@ -66,7 +68,8 @@ fn obey<H: Shelf, I: Source, O: Sink>(
     out: &mut O,
 ) -> Result<u8, Trouble>
     ensures done { (words : List (List ℕ)) → IsCommand words command.now → IfOk result (λ status. (status ≤ 2) × DoesWords (H.names shelf.old) (I.left input.old) (I.left input.new) (O.held out.old) (O.held out.new) words status) }
-    ensures cause { (words : List (List ℕ)) → IsCommand words command.now → IfErr result (λ trouble. IsCause (H.names shelf.old) words (Rose (H.fault_count shelf.old) (H.fault_count shelf.new) ⊎ (Rose (I.fault_count input.old) (I.fault_count input.new) ⊎ Rose (O.fault_count out.old) (O.fault_count out.new))) (ending_of trouble)) }
+    ensures cause { let Failed = Rose (H.fault_count shelf.old) (H.fault_count shelf.new) ⊎ (Rose (I.fault_count input.old) (I.fault_count input.new) ⊎ Rose (O.fault_count out.old) (O.fault_count out.new)) in
+        (words : List (List ℕ)) → IsCommand words command.now → IfErr result (λ trouble. IsCause (H.names shelf.old) words Failed (ending_of trouble)) }
     ensures untouched { IfErr result (λ trouble. exit_status (ending_of trouble) ≤ 5 → (I.left input.new ≡ I.left input.old) × (O.held out.new ≡ O.held out.old)) }
     ensures unread { (words : List (List ℕ)) (c : ProveWords) → IsCommand words command.now → SpellsProve words c → I.left input.new ≡ I.left input.old }
     ensures front { (words : List (List ℕ)) → IsCommand words command.now → OnErr result (((I.left input.new ≡ I.left input.old) × (O.held out.new ≡ O.held out.old)) ⊎ BeginsWords (H.names shelf.old) (I.left input.old) (I.left input.new) (O.held out.old) (O.held out.new) words) }
@@ -93,7 +96,8 @@ fn serve_input<H: Shelf, I: Source, O: Sink>(
     out: &mut O,
 ) -> Result<(), Trouble>
     ensures served { OnOk result (ServesFile (H.names shelf.old) (I.left input.old) (I.left input.new) (O.held out.old) (O.held out.new) command.now.definition.now command.now.module_name.now) }
-    ensures cause { (words : List (List ℕ)) → NamesDefinition words command.now.definition.now command.now.module_name.now → IfErr result (λ trouble. IsCause (H.names shelf.old) words (Rose (H.fault_count shelf.old) (H.fault_count shelf.new) ⊎ (Rose (I.fault_count input.old) (I.fault_count input.new) ⊎ Rose (O.fault_count out.old) (O.fault_count out.new))) (ending_of trouble)) }
+    ensures cause { let Failed = Rose (H.fault_count shelf.old) (H.fault_count shelf.new) ⊎ (Rose (I.fault_count input.old) (I.fault_count input.new) ⊎ Rose (O.fault_count out.old) (O.fault_count out.new)) in
+        (words : List (List ℕ)) → NamesDefinition words command.now.definition.now command.now.module_name.now → IfErr result (λ trouble. IsCause (H.names shelf.old) words Failed (ending_of trouble)) }
     ensures untouched { IfErr result (λ trouble. exit_status (ending_of trouble) ≤ 5 → (I.left input.new ≡ I.left input.old) × (O.held out.new ≡ O.held out.old)) }
     ensures front { OnErr result (((I.left input.new ≡ I.left input.old) × (O.held out.new ≡ O.held out.old)) ⊎ BreaksFile (H.names shelf.old) (I.left input.old) (I.left input.new) (O.held out.old) (O.held out.new) command.now.definition.now command.now.module_name.now) }
     ensures files_kept { H.names shelf.new ≡ H.names shelf.old }

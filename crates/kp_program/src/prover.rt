@@ -45,7 +45,8 @@ pub fn prove_file<H: Shelf, O: Sink>(
     out: &mut O,
 ) -> Result<u8, Trouble>
     ensures proved { IfOk result (Proved (H.names shelf.old) (Appends (O.held out.old) (O.held out.new)) (prove_view command.now)) }
-    ensures cause { (words : List (List ℕ)) → let command' = prove_view command.now in SpellsProve words command' → IfErr result (λ trouble. IsCause (H.names shelf.old) words (Rose (H.fault_count shelf.old) (H.fault_count shelf.new) ⊎ Rose (O.fault_count out.old) (O.fault_count out.new)) (ending_of trouble)) }
+    ensures cause { let Failed = Rose (H.fault_count shelf.old) (H.fault_count shelf.new) ⊎ Rose (O.fault_count out.old) (O.fault_count out.new) in
+        (words : List (List ℕ)) → let command' = prove_view command.now in SpellsProve words command' → IfErr result (λ trouble. IsCause (H.names shelf.old) words Failed (ending_of trouble)) }
     ensures untouched { IfErr result (λ trouble. trouble_status (ending_of trouble) ≤ 5 → O.held out.new ≡ O.held out.old) }
     ensures front { let command' = prove_view command.now in OnErr result ((O.held out.new ≡ O.held out.old) ⊎ ((status : ℕ) × Proved (H.names shelf.old) (GainsFront (O.held out.old) (O.held out.new)) command' status)) }
     ensures files_kept { H.names shelf.new ≡ H.names shelf.old }
@@ -67,7 +68,8 @@ fn prove_over<H: Shelf, O: Sink>(
     out: &mut O,
 ) -> Result<u8, Trouble>
     ensures proved { (l : IsLoaded (H.names shelf.old) command.now.definition.now command.now.module_name.now) → let command' = prove_view command.now in IsSettingOf l.setting table → IsTableOf (opening_of l.definition command.now.module_name.now) table → IfOk result (Proved (H.names shelf.old) (Appends (O.held out.old) (O.held out.new)) command') }
-    ensures cause { (words : List (List ℕ)) (l : IsLoaded (H.names shelf.old) command.now.definition.now command.now.module_name.now) → let command' = prove_view command.now in IsSettingOf l.setting table → IsTableOf (opening_of l.definition command.now.module_name.now) table → SpellsProve words command' → IfErr result (λ trouble. IsCause (H.names shelf.old) words (Rose (H.fault_count shelf.old) (H.fault_count shelf.new) ⊎ Rose (O.fault_count out.old) (O.fault_count out.new)) (ending_of trouble)) }
+    ensures cause { let Failed = Rose (H.fault_count shelf.old) (H.fault_count shelf.new) ⊎ Rose (O.fault_count out.old) (O.fault_count out.new) in
+        (words : List (List ℕ)) (l : IsLoaded (H.names shelf.old) command.now.definition.now command.now.module_name.now) → let command' = prove_view command.now in IsSettingOf l.setting table → IsTableOf (opening_of l.definition command.now.module_name.now) table → SpellsProve words command' → IfErr result (λ trouble. IsCause (H.names shelf.old) words Failed (ending_of trouble)) }
     ensures untouched { IfErr result (λ trouble. trouble_status (ending_of trouble) ≤ 5 → O.held out.new ≡ O.held out.old) }
     ensures front { (l : IsLoaded (H.names shelf.old) command.now.definition.now command.now.module_name.now) → let command' = prove_view command.now in IsSettingOf l.setting table → IsTableOf (opening_of l.definition command.now.module_name.now) table → OnErr result ((O.held out.new ≡ O.held out.old) ⊎ ((status : ℕ) × Proved (H.names shelf.old) (GainsFront (O.held out.old) (O.held out.new)) command' status)) }
     ensures files_kept { H.names shelf.new ≡ H.names shelf.old }
