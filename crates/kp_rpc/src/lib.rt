@@ -17,7 +17,9 @@ mod request;
 pub use fault::{PatternFault, StateFault, fault_text, kind_value, named_value};
 pub use frame::{FrameError, frame_of};
 pub use id::{Id, id_of, id_value};
-pub use params::{ExecuteOptions, MOST_STEPS, ParamsError, bound_of, object_at, options_of, text_at};
+pub use params::{
+    ExecuteOptions, MOST_STEPS, ParamsError, bound_of, object_at, options_of, text_at,
+};
 pub use question::{Object, Question, question_text, request_value, with_member_at, with_text_at};
 pub use reply::{line_of, refusal_text};
 pub use request::{Refusal, is_version_two, member_text};

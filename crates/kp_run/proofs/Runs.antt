@@ -131,8 +131,10 @@ run_has_reason t o s s' c e run only none none' = by_stop e.stop refl
   where
     some : (P : Valuation → Value → Type 0) → P some_valuation (value_view e.state.value) → OfSome t.signature (s ∷ []) s' P
     some P such = of_only t (s ∷ []) s' (value_view e.state.value) P only none' (without_sorts t s some_valuation none, tt) such
+
     has_some : HasSome t.signature (s ∷ []) s'
     has_some = some (λ v at. ⊤) tt
+
     by_stop : (r : Stop) → e.stop ≡ r → IsRightReason t o s s' e.depth (reason_of r)
     by_stop Stuck is =
         let k = run.stuck is in

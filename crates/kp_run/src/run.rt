@@ -34,12 +34,7 @@ pub struct RunEnd {
 }
 
 /// Runs the rule set from a state for at most `bound` steps.
-pub fn execute(
-    alloc: Global,
-    rules: &RuleSet,
-    state: State,
-    bound: u64,
-) -> Result<RunEnd, RunError>
+pub fn execute(alloc: Global, rules: &RuleSet, state: State, bound: u64) -> Result<RunEnd, RunError>
     ensures within { IfOk result (λ e. e.depth ≤ bound) }
     ensures stuck { IfOk result (λ e. e.stop ≡ Stuck → e.depth < bound) }
     ensures foreign { IfOk result (λ e. (id : String Global) → e.stop ≡ ForeignRule id → e.depth < bound) }

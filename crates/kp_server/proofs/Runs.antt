@@ -71,6 +71,6 @@ pub run_is_right : (t : Theory) (o : Options) (s s' : KorePattern) (c : Value) (
     IsRightExecuted t o s (record { depth = e.depth; reason = reason_of e.stop; state = s' })
 run_is_right t o s s' c e run unlisted term closed means spelling =
     run_is_told t o s s' c e run unlisted
-        (only_instance t s c term means)
-        (only_instance t s' (value_view e.state.value) spelling.term spelling.meant)
-        closed spelling.closed (computed t.signature s' spelling.computed)
+    (only_instance t s c term means)
+    (only_instance t s' (value_view e.state.value) spelling.term spelling.meant)
+    closed spelling.closed (computed t.signature s' spelling.computed)

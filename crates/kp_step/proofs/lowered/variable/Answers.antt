@@ -18,5 +18,5 @@ returns-in_ok-copy-in-Some c =
     let is = subst (λ o. MatchOption o ⊤ (λ next. IsLowest g name sort xs (sort_view next.now))) c.in-Some.is c.lowest.ensures in
     let copied = c.in_ok-copy-in-Some.field-0 in
     let seen : skeleton_view c.variable_at.result ≡ one_of name low =
-        c.variable_at.ensures ∙ ap (λ n. one_of n (sort_view copied)) (ap string_bytes c.in_ok-name-in-Some.ensures) ∙ ap (one_of name) c.in_ok-copy-in-Some.ensures in
+    c.variable_at.ensures ∙ ap (λ n. one_of n (sort_view copied)) (ap string_bytes c.in_ok-name-in-Some.ensures) ∙ ap (one_of name) c.in_ok-copy-in-Some.ensures in
     variable_made g xs name sort low c.variable_at.result seen is
