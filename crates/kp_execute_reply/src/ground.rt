@@ -5,7 +5,7 @@ ghost use Rattle.kp_kore.specs.Theory.{Theory};
 ghost use Rattle.kp_kore.specs.View.{view, sort_view};
 ghost use Rattle.kp_replies.specs.Written.{executed_tree};
 ghost use Rattle.kp_rpc.specs.Reply.{reply_bytes, result_reply};
-ghost use Rattle.kp_rpc.specs.Request.{ExecuteOptions};
+ghost use Rattle.kp_rpc.specs.Request.{ExecuteOptions as RequestOptions};
 ghost use Rattle.kp_rpc.specs.View.{id_view, options_view};
 ghost use Rattle.kp_rule_sets.specs.RuleSets.{RunsAs};
 ghost use Rattle.kp_server.specs.Ends.{result_of as end_result};
@@ -93,7 +93,7 @@ fn end_line(
     id: &Id,
     end: &RunEnd,
 ) -> Result<Option<Vec<u8>>, AllocError>
-    ensures { (s : Setting) (options : ExecuteOptions) (p : KorePattern) → RunsAs s.theory rules.now → ¬ IsElsewhere s.main options.module_name → IsEndOf s.theory options p end.now →
+    ensures { (s : Setting) (options : RequestOptions) (p : KorePattern) → RunsAs s.theory rules.now → ¬ IsElsewhere s.main options.module_name → IsEndOf s.theory options p end.now →
         IfOk result (λ found. IfSome found (λ line. IsReplyLine (IsExecuted s (record { id = id_view id.now; state = p; options = options })) line.items)) }
 {
     match spelled(alloc, &rules.signature, &end.state.value, &end.state.sort) {

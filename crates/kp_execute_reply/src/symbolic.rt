@@ -7,7 +7,7 @@ ghost use Rattle.kp_kore.specs.Syntax.{KorePattern};
 ghost use Rattle.kp_kore.specs.View.{view, sort_view};
 ghost use Rattle.kp_results.specs.View as results;
 ghost use Rattle.kp_rpc.specs.Reply.{reply_bytes};
-ghost use Rattle.kp_rpc.specs.Request.{ExecuteOptions};
+ghost use Rattle.kp_rpc.specs.Request.{ExecuteOptions as RequestOptions};
 ghost use Rattle.kp_rpc.specs.View.{id_view, options_view};
 ghost use Rattle.kp_replies.specs.Right.{asked_options};
 ghost use Rattle.kp_rule_sets.specs.RuleSets.{RunsAs};
@@ -70,7 +70,7 @@ fn line_of(alloc: Global, id: &Id, answer: &Answer) -> Result<Option<Vec<u8>>, A
 
 /// The line that tells an answer; T2 where no reply tells it.
 fn answer_line(alloc: Global, id: &Id, answer: &Answer) -> Result<Vec<u8>, AllocError>
-    ensures { (s : Setting) (options : ExecuteOptions) (p : KorePattern) → state_fault s.theory.signature p ≡ None → IsRightAnswer s.theory (asked_options options) p (answer_view answer.now) →
+    ensures { (s : Setting) (options : RequestOptions) (p : KorePattern) → state_fault s.theory.signature p ≡ None → IsRightAnswer s.theory (asked_options options) p (answer_view answer.now) →
         IfOk result (λ line. IsReplyLine (IsUnderstoodAs s (id_view id.now) options p) line.items) }
 {
     let line = line_of(alloc, id, answer)?;
@@ -79,7 +79,7 @@ fn answer_line(alloc: Global, id: &Id, answer: &Answer) -> Result<Vec<u8>, Alloc
 
 /// The line that tells why a pattern isn't executed.
 fn refused_line(alloc: Global, id: &Id, error: ExecuteError) -> Result<Vec<u8>, AllocError>
-    ensures { (s : Setting) (options : ExecuteOptions) (p : KorePattern) → IsUnexecuted s.theory.signature p error → (TellsNoInjection error → LacksInjection s.theory (asked_options options) p) →
+    ensures { (s : Setting) (options : RequestOptions) (p : KorePattern) → IsUnexecuted s.theory.signature p error → (TellsNoInjection error → LacksInjection s.theory (asked_options options) p) →
         IfOk result (λ line. IsReplyLine (IsUnderstoodAs s (id_view id.now) options p) line.items) }
 {
     match error {
@@ -107,7 +107,7 @@ fn asked_line(
     asked: &Options,
 ) -> Result<Vec<u8>, AllocError>
     requires { IsHeadTableOf (language_view language.now) table.now }
-    ensures { (s : Setting) (options : ExecuteOptions) → RunsAs s.theory rules.now → language_view language.now ≡ s.theory.signature → results.options_view asked.now ≡ asked_options options →
+    ensures { (s : Setting) (options : RequestOptions) → RunsAs s.theory rules.now → language_view language.now ≡ s.theory.signature → results.options_view asked.now ≡ asked_options options →
         VerifiesAs s.theory.signature (view pattern.now) (sort_view sort) → IfOk result (λ line. IsReplyLine (IsUnderstoodAs s (id_view id.now) options (view pattern.now)) line.items) }
 {
     match execute(alloc, language, table, rules, pattern, sort, asked) {
