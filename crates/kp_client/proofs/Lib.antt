@@ -2,7 +2,6 @@ pub mod Made
 pub mod EachNode
 pub mod Nodes
 pub mod Trees
-pub mod StatesRead
 pub mod Right
 pub mod Said
 pub mod Hearing

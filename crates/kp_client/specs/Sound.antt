@@ -7,17 +7,11 @@ use Rattle.kp_kore.specs.Claims.{ReachabilityClaim}
 use Rattle.kp_kore.specs.Arcs.{StuckSays}
 use Rattle.kp_kore.specs.Implied.{HasCounterexample}
 use Rattle.kp_graph.specs.Tree.{ProofNode, node_at, stuck}
-use Rattle.kp_rpc.specs.Questions.{IsReadBack}
 
 -- no side has a variable
 pub record IsGround (claim : ReachabilityClaim) : Type 0 where
   pub left : free_variables claim.left ≡ []
   pub right : free_variables claim.right ≡ []
-
--- what is read of the trees that are written of both sides, if anything, is these sides
-pub record AreReadBack (claim : ReachabilityClaim) : Type 0 where
-  pub left : IsReadBack claim.left
-  pub right : IsReadBack claim.right
 
 -- node n is stuck: each instance of its state is final, and some instance is none of the claim's right side
 pub record IsStuckAt (t : Theory) (claim : ReachabilityClaim) (tree : List ProofNode) (n : ℕ) : Type 0 where

@@ -12,7 +12,7 @@ ghost use Rattle.kp_graph.specs.declared.status.Status.TheVariants.{Passed};
 ghost use Rattle.kp_client.specs.Answers.{IsEnding, IsProved, Made};
 ghost use Rattle.kp_client.specs.Links.{Serves, ToldTheory};
 ghost use Rattle.kp_client.specs.Rounds.{BreaksOff, least_open, passed, failed_at, pending_at};
-ghost use Rattle.kp_client.specs.Sound.{AreReadBack, IsGround, IsStuckAt};
+ghost use Rattle.kp_client.specs.Sound.{IsGround, IsStuckAt};
 ghost use Rattle.kp_client.specs.View.{outcome_view};
 ghost use Rattle.kp_client.specs.declared.outcome.ProveFault.TheVariants.{LinkFault};
 
@@ -103,10 +103,10 @@ pub fn prove_claim<L: Link>(
     ensures shape { IfOk result (λ r. IsTree (tree_view r.1)) }
     ensures first { IfOk result (λ r. option_map (λ x. x.state) (node_at (tree_view r.1) 1) ≡ Some (claim_view claim.now).left) }
     ensures status { IfOk result (λ r. outcome_view r.0 ≡ passed → status_of (tree_view r.1) ≡ Passed) }
-    // where the link serves a theory, and what is read of both sides' texts, if anything, is these sides
-    ensures says { (t : ToldTheory) → let claim' = claim_view claim.now in Serves (L.told link.old) t → free_variables claim'.right ≡ [] → AreReadBack claim' → IfOk result (λ r. TreeSays t.theory [] [] claim' (tree_view r.1)) }
-    ensures holds { (t : ToldTheory) → let claim' = claim_view claim.now in Serves (L.told link.old) t → IsGround claim' → AreReadBack claim' → IfOk result (λ r. outcome_view r.0 ≡ passed → Holds t.theory claim') }
-    ensures stuck { (t : ToldTheory) (n : ℕ) → let claim' = claim_view claim.now in Serves (L.told link.old) t → AreReadBack claim' → IfOk result (λ r. outcome_view r.0 ≡ failed_at n → IsStuckAt t.theory claim' (tree_view r.1) n) }
+    // where the link serves a theory
+    ensures says { (t : ToldTheory) → let claim' = claim_view claim.now in Serves (L.told link.old) t → free_variables claim'.right ≡ [] → IfOk result (λ r. TreeSays t.theory [] [] claim' (tree_view r.1)) }
+    ensures holds { (t : ToldTheory) → let claim' = claim_view claim.now in Serves (L.told link.old) t → IsGround claim' → IfOk result (λ r. outcome_view r.0 ≡ passed → Holds t.theory claim') }
+    ensures stuck { (t : ToldTheory) (n : ℕ) → let claim' = claim_view claim.now in Serves (L.told link.old) t → IfOk result (λ r. outcome_view r.0 ≡ failed_at n → IsStuckAt t.theory claim' (tree_view r.1) n) }
     // where it breaks off, the exchanges are those of some rounds and the first ones of the next
     ensures broken { OnErr result (Made (L.told link.old) (L.told link.new) (BreaksOff (claim_view claim.now) options.now.max_depth)) }
     ensures link_fault { IsErrOf result LinkFault → Rose (L.told link.old).faults (L.told link.new).faults }
@@ -131,9 +131,9 @@ pub fn prove<L: Link>(
     ensures shape { IfOk result (λ r. IsTree (tree_view r.1)) }
     ensures first { (i : LabelledClaim) → let claims' = items_view claims.now in slice_get claims' place ≡ Some i → IfOk result (λ r. option_map (λ x. x.state) (node_at (tree_view r.1) 1) ≡ Some i.claim.left) }
     ensures status { IfOk result (λ r. outcome_view r.0 ≡ passed → status_of (tree_view r.1) ≡ Passed) }
-    ensures says { (i : LabelledClaim) (t : ToldTheory) → let claims' = items_view claims.now in slice_get claims' place ≡ Some i → Serves (L.told link.old) t → free_variables i.claim.right ≡ [] → AreReadBack i.claim → IfOk result (λ r. TreeSays t.theory [] [] i.claim (tree_view r.1)) }
-    ensures holds { (i : LabelledClaim) (t : ToldTheory) → let claims' = items_view claims.now in slice_get claims' place ≡ Some i → Serves (L.told link.old) t → IsGround i.claim → AreReadBack i.claim → IfOk result (λ r. outcome_view r.0 ≡ passed → Holds t.theory i.claim) }
-    ensures stuck { (i : LabelledClaim) (t : ToldTheory) (n : ℕ) → let claims' = items_view claims.now in slice_get claims' place ≡ Some i → Serves (L.told link.old) t → AreReadBack i.claim → IfOk result (λ r. outcome_view r.0 ≡ failed_at n → IsStuckAt t.theory i.claim (tree_view r.1) n) }
+    ensures says { (i : LabelledClaim) (t : ToldTheory) → let claims' = items_view claims.now in slice_get claims' place ≡ Some i → Serves (L.told link.old) t → free_variables i.claim.right ≡ [] → IfOk result (λ r. TreeSays t.theory [] [] i.claim (tree_view r.1)) }
+    ensures holds { (i : LabelledClaim) (t : ToldTheory) → let claims' = items_view claims.now in slice_get claims' place ≡ Some i → Serves (L.told link.old) t → IsGround i.claim → IfOk result (λ r. outcome_view r.0 ≡ passed → Holds t.theory i.claim) }
+    ensures stuck { (i : LabelledClaim) (t : ToldTheory) (n : ℕ) → let claims' = items_view claims.now in slice_get claims' place ≡ Some i → Serves (L.told link.old) t → IfOk result (λ r. outcome_view r.0 ≡ failed_at n → IsStuckAt t.theory i.claim (tree_view r.1) n) }
     ensures broken { (i : LabelledClaim) → let claims' = items_view claims.now in slice_get claims' place ≡ Some i → OnErr result (Made (L.told link.old) (L.told link.new) (BreaksOff i.claim options.now.max_depth)) }
     ensures link_fault { IsErrOf result LinkFault → Rose (L.told link.old).faults (L.told link.new).faults }
 {

@@ -1,10 +1,14 @@
 pub mod Complete
 pub mod Depth
+pub mod FormsBack
 pub mod Lists
+pub mod PartsBack
 pub mod Patterns
 pub mod Readings
 pub mod RoundTrip
 pub mod Sorts
+pub mod SortsBack
 pub mod Sound
+pub mod TreesBack
 pub mod Wrapped
 pub mod Writes

@@ -1,5 +1,5 @@
 -- What is written of a list, item by item.
-use Rattle.std.proofs.Common.{◌≡◌, ℕ, ◌<◌, ◌≤◌, length, get_or, drop, ◌+◌, List, [], ◌∷◌, ◌++◌, Option, Some, None, refl, sym, ap, ◌∙◌}
+use Rattle.std.proofs.Common.{◌≡◌, ℕ, ◌<◌, ◌≤◌, length, get_or, drop, ◌+◌, List, [], ◌∷◌, ◌++◌, Option, Some, None, refl, sym, ap, ◌∙◌, arith}
 use Rattle.std.proofs.lemmas.List.{at_drop_more, at_drop_all}
 use Rattle.std.specs.Option.{option_map}
 use Rattle.serde_json.specs.Data.{Items, no_items, item}
@@ -8,7 +8,7 @@ use Rattle.serde_json.specs.declared.value.Value.{Value}
 use Rattle.kp_kore.specs.View.{view, sort_view, sorts_view, patterns_view}
 use Rattle.kp_kore.specs.declared.sort.Sort.{Sort}
 use Rattle.kp_kore.specs.declared.pattern.Pattern.{Pattern}
-use Rattle.kp_json.specs.Written.{sort_tree, sort_trees, first_and_rest, pattern_tree, pattern_trees}
+use Rattle.kp_json.specs.Written.{sort_tree, sort_trees, first_and_rest, of_two_or_more, pattern_tree, pattern_trees}
 
 -- trees already written, before others
 abbrev pub joined_items : List Value → Items → Items
@@ -64,3 +64,15 @@ patterns_next done ps i p v within is written =
 
 pub patterns_done : (done : List Value) (ps : List Pattern) (i : ℕ) → length ps ≤ i → patterns_written done (drop i ps) ≡ Some (items_view done)
 patterns_done done ps i h = at_drop_all (patterns_written done) ps i h ∙ ap Some (joined_end done)
+
+-- ---- lists of two patterns or more
+
+pub two_kept : (ps : List Pattern) (trees : Option Items) → 2 ≤ length ps → of_two_or_more (patterns_view ps) trees ≡ trees
+two_kept [] trees h = absurd (omega (arith, h))
+two_kept (p ∷ []) trees h = absurd (omega (arith, h))
+two_kept (p ∷ q ∷ ps) trees h = refl
+
+pub none_of_fewer : (ps : List Pattern) (trees : Option Items) → length ps < 2 → of_two_or_more (patterns_view ps) trees ≡ None
+none_of_fewer [] trees h = refl
+none_of_fewer (p ∷ []) trees h = refl
+none_of_fewer (p ∷ q ∷ ps) trees h = absurd (omega (arith, h))

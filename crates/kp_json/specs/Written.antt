@@ -1,6 +1,6 @@
 -- The tree that is written for a sort and for a pattern, with its members in the order of their names.
 -- Source: the K framework's Kore JSON, version 1. What it has no tag for (set variables, string patterns, \next,
--- \mu, \nu) has no tree.
+-- \mu, \nu) has no tree, nor has \and or \or of fewer than two patterns, which a list of so few doesn't spell.
 use Rattle.std.specs.Prelude.{List, [], ◌∷◌, Option, Some, None, codes}
 use Rattle.std.specs.Option.{option_map, option_and_then}
 use Rattle.serde_json.specs.Data.{Data, string, number, unsigned, array, Items, no_items, item}
@@ -36,6 +36,11 @@ first_and_rest p ps = option_and_then (λ d. option_map (item d) ps) p
 abbrev pub two_parts : (Data → Data → Data) → Option Data → Option Data → Option Data
 two_parts make p q = option_and_then (λ d. option_map (make d) q) p
 
+-- the trees of two patterns or more; none of fewer
+abbrev pub of_two_or_more : KorePatterns → Option Items → Option Items
+of_two_or_more (next_pattern p (next_pattern q ps)) trees = trees
+of_two_or_more ps trees = None
+
 abbrev mutual
   pub pattern_tree : KorePattern → Option Data
   pattern_tree (variable x s) = Some (tagged (codes "EVar") ((codes "name", string x) ∷ sort_member s ∷ []))
@@ -44,8 +49,8 @@ abbrev mutual
   pattern_tree (top s) = Some (tagged (codes "Top") (sort_member s ∷ []))
   pattern_tree (bottom s) = Some (tagged (codes "Bottom") (sort_member s ∷ []))
   pattern_tree (negation s p) = one_part (λ d. tagged (codes "Not") (sort_member s ∷ (codes "arg", d) ∷ [])) (pattern_tree p)
-  pattern_tree (conjunction s ps) = one_list (λ ds. tagged (codes "And") (sort_member s ∷ (codes "patterns", array ds) ∷ [])) (pattern_trees ps)
-  pattern_tree (disjunction s ps) = one_list (λ ds. tagged (codes "Or") (sort_member s ∷ (codes "patterns", array ds) ∷ [])) (pattern_trees ps)
+  pattern_tree (conjunction s ps) = one_list (λ ds. tagged (codes "And") (sort_member s ∷ (codes "patterns", array ds) ∷ [])) (of_two_or_more ps (pattern_trees ps))
+  pattern_tree (disjunction s ps) = one_list (λ ds. tagged (codes "Or") (sort_member s ∷ (codes "patterns", array ds) ∷ [])) (of_two_or_more ps (pattern_trees ps))
   pattern_tree (implication s p q) = two_parts (λ d e. tagged (codes "Implies") (sort_member s ∷ (codes "first", d) ∷ (codes "second", e) ∷ [])) (pattern_tree p) (pattern_tree q)
   pattern_tree (equivalence s p q) = two_parts (λ d e. tagged (codes "Iff") (sort_member s ∷ (codes "first", d) ∷ (codes "second", e) ∷ [])) (pattern_tree p) (pattern_tree q)
   pattern_tree (rewriting s p q) = two_parts (λ d e. tagged (codes "Rewrites") (sort_member s ∷ (codes "source", d) ∷ (codes "dest", e) ∷ [])) (pattern_tree p) (pattern_tree q)

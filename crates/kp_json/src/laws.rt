@@ -29,3 +29,9 @@ pub fn what_is_written_spells_the_pattern()
 pub fn what_is_written_is_read()
     ensures { (d e : Data) (p : KorePattern) → SpellsWrapped d p → wrapped_pattern p ≡ Some e → wrapped_reading e ≡ read p }
 {}
+
+/// What is written of a pattern spells no other pattern.
+#[tactic(auto, using(crate::proofs::TreesBack::tree_back))]
+pub fn what_is_written_spells_no_other_pattern()
+    ensures { (p q : KorePattern) (tree : Data) → wrapped_pattern p ≡ Some tree → SpellsWrapped tree q → q ≡ p }
+{}

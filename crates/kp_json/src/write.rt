@@ -2,7 +2,7 @@ ghost use Rattle.std.specs.Prelude.{◌≡◌, IfOk, IfErr, Some, option_map};
 ghost use Rattle.serde_json.specs.Data.{object};
 ghost use Rattle.serde_json.specs.View.{view as data_view, items_view, members_view};
 ghost use Rattle.kp_kore.specs.View.{view, patterns_view};
-ghost use Rattle.kp_json.specs.Written.{pattern_tree, pattern_trees, wrapped_pattern};
+ghost use Rattle.kp_json.specs.Written.{of_two_or_more, pattern_tree, pattern_trees, wrapped_pattern};
 ghost use Rattle.kp_json.specs.View.{Untold};
 
 use crate::member::Object;
@@ -11,8 +11,8 @@ use kp_kore::Pattern;
 use serde_json::{Value, push};
 use std::alloc::{AllocError, AllocFailed, Global};
 
-/// The wrapper of a pattern's tree; none where Kore JSON has no tag for it (set variables, string patterns, `\next`,
-/// `\mu`, `\nu`).
+/// The wrapper of a pattern's tree; none where no tree spells it: set variables, string patterns, `\next`, `\mu`, `\nu`, and
+/// `\and` and `\or` of fewer than two patterns.
 /// Source: the K framework's Kore JSON, version 1.
 ///
 /// # Errors
@@ -31,7 +31,7 @@ pub fn value_of(alloc: Global, pattern: &Pattern) -> Result<Option<Value>, Alloc
 #[derive(Drop)]
 pub enum Unwritten {
     Memory,
-    /// Kore JSON has no tag for it.
+    /// Kore JSON has no tag for it, or a list of so few patterns spells another.
     NoTag,
 }
 
@@ -57,6 +57,17 @@ impl<T: Drop> From<AllocFailed<T>> for Unwritten {
     }
 }
 
+/// That these are two patterns or more; `NoTag`, where they are fewer.
+fn check_two(patterns: &[Pattern]) -> Result<(), Unwritten>
+    ensures enough { let ps = patterns_view patterns.now in IfOk result (λ _. of_two_or_more ps (pattern_trees ps) ≡ pattern_trees ps) }
+    ensures fewer { let ps = patterns_view patterns.now in IfErr result (λ e. Untold e (of_two_or_more ps (pattern_trees ps))) }
+{
+    match patterns {
+        [_, _, ..] => Ok(()),
+        _ => Err(Unwritten::NoTag),
+    }
+}
+
 /// The members of a pattern's tree.
 #[cycle(pattern)]
 fn pattern_object(alloc: Global, pattern: &Pattern) -> Result<Object, Unwritten>
@@ -77,10 +88,12 @@ fn pattern_object(alloc: Global, pattern: &Pattern) -> Result<Object, Unwritten>
             Ok(form::application(alloc, symbol, sorts, arguments)?)
         }
         Pattern::And { sort, patterns } => {
+            check_two(patterns)?;
             let below = pattern_values(alloc, patterns)?;
             Ok(form::list_below(alloc, "And", sort, below)?)
         }
         Pattern::Or { sort, patterns } => {
+            check_two(patterns)?;
             let below = pattern_values(alloc, patterns)?;
             Ok(form::list_below(alloc, "Or", sort, below)?)
         }

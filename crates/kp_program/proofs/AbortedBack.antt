@@ -19,13 +19,18 @@ use Rattle.kp_rpc.proofs.ReadBack.{Back, number_back, id_back, wrapped_back, pla
 use Rattle.kp_results.specs.Results.{StateParts, NextParts, ExecutedParts, Ending, Weight, Limit, weighed, wide_call, Undecided, predicate, limit}
 use Rattle.kp_replies.specs.Aborted.{with_undecided, aborted_members, aborted_tree}
 use Rattle.kp_replies.specs.Failures.{weight_name, limit_tree, with_limit}
-use Rattle.kp_replies.specs.Read.{Method, execute, implies, simplify, add_module, ServerReply, executed, unfinished, implied, is_unfinished, read_run, read_state, nexts_of, executed_from, read_executed, read_implied, read_reply}
+use Rattle.kp_replies.specs.Read.{Method, execute, implies, simplify, add_module, ServerReply, unfinished, implied, is_unfinished, read_run, read_state, nexts_of, executed_from, read_executed, read_implied, read_reply}
 use Rattle.kp_replies.specs.Replies.{IsReplyOf}
 use Rattle.kp_replies.specs.Written.{state_tree}
 use Rattle.kp_replies.proofs.Lines.{same_front}
-use Rattle.kp_program.proofs.ResultTrees.{same}
-use Rattle.kp_program.proofs.ResultsBack.{state_tree_back}
+use Rattle.kp_replies.proofs.Texts.{state_back}
 use Rattle.kp_program.proofs.WideNumbers.{IsWide, decimal_kinds, lexemes, lex_up_to, read_outline, unread}
+
+same : {A : Type 0} (x y : A) → Some x ≡ Some y → x ≡ y
+same x y e = cc e
+
+state_tree_back : (term : KorePattern) (o : Option KorePattern) (d : Data) → state_tree (record { term = term; predicate = o }) ≡ Some d → Back d
+state_tree_back term o d made = plain_back (state_tree (record { term = term; predicate = o })) d (state_back term o) made
 
 -- ---- the tree, with a limit or without, and with a predicate or without
 

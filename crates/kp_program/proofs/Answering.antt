@@ -1,12 +1,10 @@
 -- From what the service tells of an answer to what a link keeps and tells.
-use Rattle.std.proofs.Common.{◌≡◌, ℕ, List, [], ◌∷◌, ◌++◌, Option, Some, None, Bool, true, false, sym, ap, ◌∙◌, subst, arith}
+use Rattle.std.proofs.Common.{◌≡◌, ℕ, List, [], ◌∷◌, ◌++◌, Option, Some, None, sym, subst, arith}
 use Rattle.std.specs.Prelude.{Result, Ok, Err, IfOk, OnErr, Vec}
 use Rattle.std.specs.Option.{option_map}
 use Rattle.std.specs.List.{AllZip}
 use Rattle.std.specs.declared.alloc.AllocError.{AllocError}
 use Rattle.std.specs.declared.alloc.Global.{Global}
-use Rattle.serde_json.specs.Data.{Data}
-use Rattle.kp_rpc.specs.Frame.{IsFrame}
 use Rattle.kp_book.specs.Books.{Opening, Registration}
 use Rattle.kp_modules.specs.Openings.{IsTableOf}
 use Rattle.kp_registry.specs.Passes.{HasSeen, IsEntryOf, IsPass}
@@ -17,8 +15,7 @@ use Rattle.kp_conn.specs.Conversations.{ForEachSeen}
 use Rattle.kp_service.specs.Answers.{IsAnswer, IsBegun}
 use Rattle.kp_service.specs.declared.service.Service.{Service}
 use Rattle.kp_program.specs.LocalTold.{IsAnsweredBy, IsPassOver, IsReadyService, table_of}
-use Rattle.kp_program.specs.Proofs.{IsFullText, IsHandedOn, handed_on, held_back, no_reply, IsRepliedBy}
-use Rattle.kp_program.specs.Lists.{lists_two}
+use Rattle.kp_program.specs.Proofs.{IsRepliedBy}
 
 -- an answer of the service: a text, or none
 abbrev pub Text : Type 0
@@ -63,29 +60,10 @@ empty_pass service pass ready is none = record {
 
 -- ---- lines
 
-one_tree : (d e : Data) → Some d ≡ Some e → d ≡ e
-one_tree d e same = cc same
-
--- what the one tree that is read of a text tells of the text
-pub full_text : (text : List ℕ) (tree : Data) (full : Bool) → IsFrame text tree → full ≡ lists_two tree → full ≡ true → IsFullText text
-full_text text tree full frame is holds d other =
-    let same : tree ≡ d = one_tree tree d (sym frame.reads ∙ other.reads) in
-    ap lists_two (sym same) ∙ (sym is ∙ holds)
-
-pub short_text : (text : List ℕ) (tree : Data) (full : Bool) → IsFrame text tree → full ≡ lists_two tree → full ≡ false → (d : Data) × IsFrame text d × (lists_two d ≡ false)
-short_text text tree full frame is fails = (tree, frame, sym is ∙ fails)
-
-pub held : (seen text line : List ℕ) → seen ≡ text → line ≡ [] → (d : Data) × IsFrame seen d × (lists_two d ≡ false) → IsHandedOn (Some text) line
-held seen text line same none (d, frame, short) = subst (IsHandedOn (Some text)) (sym none) (subst (λ (x : List ℕ). IsHandedOn (Some x) []) same (held_back seen d frame short))
-
--- a line that ends in a line feed, of a text whose lists are full
-pub line_is : (seen text line : List ℕ) → seen ≡ text → line ≡ text ++ 10 ∷ [] → IsFullText seen → IsHandedOn (Some text) line
-line_is seen text line same is full = subst (IsHandedOn (Some text)) (sym is) (handed_on text (subst IsFullText same full))
-
-pub replied_with : (o : Opening) (frame text : List ℕ) (r : Result (Vec ℕ Global) AllocError) → IsAnsweredBy o frame (Some text) → IfOk r (λ line. IsHandedOn (Some text) line.items) →
+pub replied_with : (o : Opening) (frame text : List ℕ) (r : Result (Vec ℕ Global) AllocError) → IsAnsweredBy o frame (Some text) → IfOk r (λ line. line.items ≡ text ++ 10 ∷ []) →
     IfOk r (λ line. IsRepliedBy o (record { frame = frame; reply = line.items }))
 replied_with o frame text (Ok line) a is = record { before = a.before; legal = a.legal; reply = Some text; after = a.after; answer = a.answer; line = is }
 replied_with o frame text (Err e) a is = tt
 
 pub replied_not : (o : Opening) (frame line : List ℕ) → line ≡ [] → IsAnsweredBy o frame None → IsRepliedBy o (record { frame = frame; reply = line })
-replied_not o frame line none a = record { before = a.before; legal = a.legal; reply = None; after = a.after; answer = a.answer; line = subst (IsHandedOn None) (sym none) no_reply }
+replied_not o frame line none a = record { before = a.before; legal = a.legal; reply = None; after = a.after; answer = a.answer; line = none }

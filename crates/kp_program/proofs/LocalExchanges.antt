@@ -1,30 +1,28 @@
 -- The line with which the service replies to a frame makes a right exchange for the theory of the main module.
-use Rattle.std.proofs.Common.{◌≡◌, ◌<◌, ◌≤◌, ◌^◌, ◌++◌, ℕ, Bool, true, false, List, [], ◌∷◌, Option, Some, None, IfSome, option_map, refl, sym, ap, subst, ◌∙◌, arith}
+use Rattle.std.proofs.Common.{◌≡◌, ◌<◌, ◌≤◌, ◌^◌, ◌++◌, ℕ, Bool, List, [], ◌∷◌, Option, Some, None, option_map, refl, sym, ap, subst, ◌∙◌, arith}
 use Rattle.std.specs.Prelude.{ℤ, codes}
 use Rattle.serde_json.specs.Data.{Data, object, Members, no_members, put}
 use Rattle.serde_json.specs.Written.{compact_text}
-use Rattle.kp_kore.specs.Syntax.{Text, KoreSort, KorePattern, top, bottom}
-use Rattle.kp_kore.specs.Parts.{is_term}
-use Rattle.kp_kore.specs.Implied.{Implied, Simplified, not_valid, valid, IsCondition, witnessed, vacuous, IsRightImplied}
-use Rattle.kp_kore.specs.Rules.{top_binders}
+use Rattle.kp_kore.specs.Syntax.{Text, KorePattern}
+use Rattle.kp_kore.specs.Implied.{Implied, Simplified, IsRightImplied}
+use Rattle.kp_kore.specs.Cases.{NextState}
+use Rattle.kp_kore.specs.Executions as theory
 use Rattle.kp_kore.specs.Theory.{Theory}
+use Rattle.std.specs.List.{AllZip}
 use Rattle.kp_json.specs.Faults.{Reading, read}
 use Rattle.kp_json.specs.Written.{wrapped_pattern}
-use Rattle.kp_compile.specs.Spelled.{no_term}
 use Rattle.kp_rpc.specs.Frame.{IsFrame}
-use Rattle.kp_rpc.specs.Questions.{IsReadBack}
 use Rattle.kp_rpc.specs.Request.{RequestId, id_null, IsReadId, ExecuteOptions, ExecuteRequest, bound_of, most_steps}
 use Rattle.kp_rpc.specs.Reply.{RequestError, foreign_symbol, other_shape, no_module, no_pattern, not_verified, error_reply, error_tree, result_reply, reply_bytes}
 use Rattle.kp_rpc.proofs.ReadBack.{Back, IsBack, reply_back, wrapped_back}
-use Rattle.kp_rpc.proofs.TermsBack.{top_back, bottom_back}
-use Rattle.kp_results.specs.Results.{ExecutedParts, StateParts, Undecided}
+use Rattle.kp_results.specs.Results.{NextParts, Ending, vacuous, depth_bound, stuck, branching, cut_point, terminal, aborted, ExecutedParts, IsNextOf, IsReasonOf, StateParts, Undecided}
 use Rattle.kp_replies.specs.Aborted.{aborted_tree}
 use Rattle.kp_replies.specs.Failures.{Failure, undecided, failure_data, failure_error, failed_reply, failure_reply}
 use Rattle.kp_replies.specs.Read.{execute, implies, executed, unfinished, implied, failed, read_reply}
-use Rattle.kp_replies.specs.Replies.{IsReplyOf, IsImpliedReadBack}
+use Rattle.kp_replies.specs.Replies.{IsReplyOf, StandWith}
 use Rattle.kp_replies.specs.Right.{asked_options, IsMainAsked}
 use Rattle.kp_replies.specs.Written.{executed_tree, simplified_tree, added_tree}
-use Rattle.kp_replies.proofs.Alone.{implication_line_alone, implication_line_no_run}
+use Rattle.kp_replies.proofs.Alone.{run_line_alone, run_line_no_implication, implication_line_alone, implication_line_no_run}
 use Rattle.kp_replies.proofs.Texts.{line_read}
 use Rattle.kp_requests.specs.Requests as requests
 use Rattle.kp_requests.specs.Requests.{Asked, asks, refused, Call, Frame, single}
@@ -42,21 +40,16 @@ use Rattle.kp_symbolic.specs.Endings.{Result, answered}
 use Rattle.kp_simplify.specs.Spelled.{parts_of_cause}
 use Rattle.kp_simplify_reply.specs.Answered as simplification
 use Rattle.kp_simplify_reply.specs.Answered.{IsSimplifiedAs}
-use Rattle.kp_server.proofs.Implied.{binds_nothing}
 use Rattle.kp_server.specs.Setting.{Setting}
-use Rattle.kp_server.specs.Untold.{IsImpliesUntold, no_consequent}
 use Rattle.kp_service.specs.Answered as implication
 use Rattle.kp_service.specs.Answered.{IsImpliedAs, IsReplyIn, no_such_module, in_module}
 use Rattle.kp_service.specs.Answers.{Adds, IsReplyTo, IsMember, told, added, silent, added_silently, IsAnswer, refusal, alone, together, items_of, batch_reply}
 use Rattle.kp_service.specs.Meant.{IsServedAt}
-use Rattle.kp_program.specs.Lists.{lists_two}
-use Rattle.kp_program.specs.Proofs.{IsMainTheory, told_theory, IsFullText, IsHandedOn, handed_on, held_back, no_reply, IsRepliedBy}
+use Rattle.kp_program.specs.Proofs.{IsMainTheory, told_theory, IsRepliedBy}
 use Rattle.kp_program.proofs.AnySort.{right_run}
 use Rattle.kp_program.proofs.PlainTexts.{error_tells, array_tells}
 use Rattle.kp_program.proofs.RequestsRead.{IsAsked, frame_asked, asked_id, run_request, implication_request}
 use Rattle.kp_program.proofs.AbortedBack.{aborted_back, aborted_no_implication}
-use Rattle.kp_program.proofs.ResultTrees.{reason_stands}
-use Rattle.kp_program.proofs.ResultsBack.{run_back, run_no_implication}
 use Rattle.kp_program.proofs.Theories.{served_main}
 
 from_some : {A : Type 0} (x y : A) → Some x ≡ Some y → x ≡ y
@@ -152,9 +145,20 @@ short_run t options p x m =
 same_run : (x y : ExecutedParts) → executed y ≡ executed x → y ≡ x
 same_run x y e = cc e
 
--- of a reply, where there is one
-abbrev ReadsLists : Option (List ℕ) → Type 0
-ReadsLists reply = IfSome reply IsFullText
+-- next states stand with the ending of a result that means something
+reason_stands : (e : Ending) (ns : List NextParts) (r : theory.Reason) → IsReasonOf e ns r → StandWith e ns
+reason_stands vacuous ns r h = h.0
+reason_stands depth_bound ns r h = h.0
+reason_stands stuck ns r h = h.0
+reason_stands branching ns r h = tt
+reason_stands (cut_point id) ns r h = alone ns h.0 h.1
+  where
+    alone : (xs : List NextParts) (m : NextState) → AllZip IsNextOf xs (m ∷ []) → (n : NextParts) × (xs ≡ n ∷ [])
+    alone [] m all = absurd all
+    alone (n ∷ []) m all = (n, refl)
+    alone (n ∷ k ∷ xs) m all = absurd all.1
+reason_stands (terminal id) ns r h = h.0
+reason_stands (aborted cause) ns r h = h.0
 
 -- what was asked, and what is served at this book
 record Setup (o : Opening) (t : Theory) (frame : List ℕ) (book : List Registration) (s : Setting) (name : Option Text) : Type 0 where
@@ -168,14 +172,12 @@ theory_is o t frame book s name u asked = served_main o t book name s u.main ask
 
 -- a right result, as it is written
 run_told : (o : Opening) (t : Theory) (frame : List ℕ) (book : List Registration) (s : Setting) (id : RequestId) (options : ExecuteOptions) (p : KorePattern) (x : ExecutedParts) (tree d : Data) →
-    (u : Setup o t frame book s options.module_name) → IsAsked u.tree id (requests.execute (read p) options) → MeansRight s.theory (asked_options options) p x → executed_tree x ≡ Some tree → d ≡ result_reply id tree →
-    ReadsLists (Some (compact_text d)) → IsRightExchange (told_theory o t) (record { frame = frame; reply = reply_bytes d })
-run_told o t frame book s id options p x tree d u a means written is lists =
+    (u : Setup o t frame book s options.module_name) → IsAsked u.tree id (requests.execute (read p) options) → MeansRight s.theory (asked_options options) p x → executed_tree x ≡ Some tree → d ≡ result_reply id tree → IsRightExchange (told_theory o t) (record { frame = frame; reply = reply_bytes d })
+run_told o t frame book s id options p x tree d u a means written is =
     let q : ExecuteRequest = record { id = id; state = p; options = options } in
     let lawful = asked_id frame u.tree id _ u.is_frame a in
     let short = short_run s.theory options p x means in
     let stands = reason_stands x.ending x.nexts means.result.reason means.is.reason in
-    let two = subst (λ (y : Data). (e : Data) → IsFrame (compact_text y) e → lists_two e ≡ true) is lists in
     let asked = run_request u.tree id p options a in
     let right : IsRightRun s.theory q x = right_run s.theory q x means in
     record {
@@ -185,10 +187,10 @@ run_told o t frame book s id options p x tree d u a means written is lists =
         is_frame = subst (λ (e : Data). IsFrame frame e) asked.1 u.is_frame;
         is_request = asked.2;
         right = λ main.
-            let same : y ≡ x = same_run x y (run_back id x tree (executed y) lawful short stands written two (subst (λ (e : Data). IsReplyOf execute (reply_bytes e) (executed y)) is h)) in
+            let same : y ≡ x = same_run x y (run_line_alone id x tree (executed y) lawful short stands written (subst (λ (e : Data). IsReplyOf execute (reply_bytes e) (executed y)) is h)) in
             subst (λ (v : Theory). IsRightRun v q y) (theory_is o t frame book s options.module_name u main) (subst (λ (z : ExecutedParts). IsRightRun s.theory q z) (sym same) right);
       };
-      implies_so = λ y h. absurd (run_no_implication id x tree (implied y) lawful short written (subst (λ (e : Data). IsReplyOf implies (reply_bytes e) (implied y)) is h));
+      implies_so = λ y h. absurd (run_line_no_implication id x tree (implied y) lawful short written (subst (λ (e : Data). IsReplyOf implies (reply_bytes e) (implied y)) is h));
     }
 
 left_open : (id : RequestId) (depth : ℕ) (state : StateParts) (u : Undecided) (d : Data) → IsReadId id → depth < 2 ^ 64 → execution.reply_of id (runs.left_open depth state u) ≡ Some d → TellsNothing (reply_bytes d)
@@ -204,53 +206,29 @@ below_bound depth options below =
     fits depth (bound_of options) (omega (arith, below)) (bounded options.max_depth options.module_name options.cut_points options.terminals)
 
 answer_told : (o : Opening) (t : Theory) (frame : List ℕ) (book : List Registration) (s : Setting) (id : RequestId) (options : ExecuteOptions) (p : KorePattern) (r : runs.RunAnswer) (d : Data) →
-    (u : Setup o t frame book s options.module_name) → IsAsked u.tree id (requests.execute (read p) options) → runs.IsRightAnswer s.theory (asked_options options) p r → execution.reply_of id r ≡ Some d →
-    ReadsLists (Some (compact_text d)) → IsRightExchange (told_theory o t) (record { frame = frame; reply = reply_bytes d })
-answer_told o t frame book s id options p (runs.executed x) d u a right made lists =
+    (u : Setup o t frame book s options.module_name) → IsAsked u.tree id (requests.execute (read p) options) → runs.IsRightAnswer s.theory (asked_options options) p r → execution.reply_of id r ≡ Some d → IsRightExchange (told_theory o t) (record { frame = frame; reply = reply_bytes d })
+answer_told o t frame book s id options p (runs.executed x) d u a right made =
     let m = mapped (result_reply id) (executed_tree x) d made in
-    run_told o t frame book s id options p x m.0 d u a right.means m.1 (sym m.2) lists
-answer_told o t frame book s id options p (runs.left_open depth state cause) d u a right made lists =
+    run_told o t frame book s id options p x m.0 d u a right.means m.1 (sym m.2)
+answer_told o t frame book s id options p (runs.left_open depth state cause) d u a right made =
     with_nothing (told_theory o t) frame (reply_bytes d) (left_open id depth state cause d (asked_id frame u.tree id _ u.is_frame a) (below_bound depth options right.below) made)
 
 understood : (o : Opening) (t : Theory) (frame : List ℕ) (book : List Registration) (s : Setting) (id : RequestId) (options : ExecuteOptions) (p : KorePattern) (d : Data) →
-    (u : Setup o t frame book s options.module_name) → IsAsked u.tree id (requests.execute (read p) options) → IsUnderstoodAs s id options p d →
-    ReadsLists (Some (compact_text d)) → IsRightExchange (told_theory o t) (record { frame = frame; reply = reply_bytes d })
-understood o t frame book s id options p _ u a (execution.by_values d x) lists =
+    (u : Setup o t frame book s options.module_name) → IsAsked u.tree id (requests.execute (read p) options) → IsUnderstoodAs s id options p d → IsRightExchange (told_theory o t) (record { frame = frame; reply = reply_bytes d })
+understood o t frame book s id options p _ u a (execution.by_values d x) =
     let r = x.right in
-    run_told o t frame book s id options p r.result r.tree d u a (record { result = r.meant; is = r.means; right = r.right }) r.written r.reply_is lists
-understood o t frame book s id options p _ u a (execution.told r d clear right made) lists = answer_told o t frame book s id options p r d u a right made lists
-understood o t frame book s id options p _ u a (execution.foreign name found) lists = with_nothing (told_theory o t) frame _ (error_told id (not_verified (foreign_symbol name)))
-understood o t frame book s id options p _ u a (execution.left_out untold) lists = with_nothing (told_theory o t) frame _ (error_told id (not_verified other_shape))
+    run_told o t frame book s id options p r.result r.tree d u a (record { result = r.meant; is = r.means; right = r.right }) r.written r.reply_is
+understood o t frame book s id options p _ u a (execution.told r d clear right made) = answer_told o t frame book s id options p r d u a right made
+understood o t frame book s id options p _ u a (execution.foreign name found) = with_nothing (told_theory o t) frame _ (error_told id (not_verified (foreign_symbol name)))
+understood o t frame book s id options p _ u a (execution.left_out untold) = with_nothing (told_theory o t) frame _ (error_told id (not_verified other_shape))
 
 run_replied : (o : Opening) (t : Theory) (frame : List ℕ) (book : List Registration) (s : Setting) (id : RequestId) (options : ExecuteOptions) (state : Reading KorePattern) (d : Data) →
-    (u : Setup o t frame book s options.module_name) → IsAsked u.tree id (requests.execute state options) → IsExecutedAs s id options state d →
-    ReadsLists (Some (compact_text d)) → IsRightExchange (told_theory o t) (record { frame = frame; reply = reply_bytes d })
-run_replied o t frame book s id options _ _ u a (execution.unread f) lists = with_nothing (told_theory o t) frame _ (error_told id (no_pattern f))
-run_replied o t frame book s id options _ _ u a (execution.faulty p f first) lists = with_nothing (told_theory o t) frame _ (error_told id (not_verified f))
-run_replied o t frame book s id options _ _ u a (execution.understood p sort d verifies x) lists = understood o t frame book s id options p d u a x lists
+    (u : Setup o t frame book s options.module_name) → IsAsked u.tree id (requests.execute state options) → IsExecutedAs s id options state d → IsRightExchange (told_theory o t) (record { frame = frame; reply = reply_bytes d })
+run_replied o t frame book s id options _ _ u a (execution.unread f) = with_nothing (told_theory o t) frame _ (error_told id (no_pattern f))
+run_replied o t frame book s id options _ _ u a (execution.faulty p f first) = with_nothing (told_theory o t) frame _ (error_told id (not_verified f))
+run_replied o t frame book s id options _ _ u a (execution.understood p sort d verifies x) = understood o t frame book s id options p d u a x
 
 -- ---- implications
-
-is_true : (b : Bool) → ¬ (b ≡ false) → b ≡ true
-is_true true h = refl
-is_true false h = absurd (h refl)
-
--- the consequent is a term, so it binds nothing
-binds_none : (s : Setting) (name : Option Text) (a c : KorePattern) (sort other : KoreSort) → ¬ IsImpliesUntold s name a c sort other → top_binders c ≡ []
-binds_none s name a c sort other given = (binds_nothing c (is_true (is_term c) (λ h. given (no_consequent (no_term h))))).variables
-
-read_back_at : (p q : KorePattern) → p ≡ q → IsReadBack q → IsReadBack p
-read_back_at p q same h = subst IsReadBack (sym same) h
-
-condition_read_back : (s : Setting) (a c p q : KorePattern) → top_binders c ≡ [] → IsCondition s.theory.signature a c p q → IsImpliedReadBack (valid p q)
-condition_read_back s a c p q none (witnessed k sorted has is witness substitution) =
-    (read_back_at p (top k) is (top_back k), read_back_at q (top k) (substitution none) (top_back k))
-condition_read_back s a c p q none (vacuous k sorted has is substitution) =
-    (read_back_at p (bottom k) is (bottom_back k), read_back_at q (top k) substitution (top_back k))
-
-result_read_back : (s : Setting) (a c : KorePattern) (x : Implied) → top_binders c ≡ [] → IsRightImplied s.theory.signature a c x → IsImpliedReadBack x
-result_read_back s a c not_valid none right = tt
-result_read_back s a c (valid p q) none right = condition_read_back s a c p q none right.1
 
 same_implication : (x y : Implied) → implied y ≡ implied x → y ≡ x
 same_implication x y e = cc e
@@ -262,7 +240,6 @@ implication_told o t frame book s id name p q d u a r =
     let x = r.right.result in
     let is = r.right.reply_is in
     let lawful = asked_id frame u.tree id _ u.is_frame a in
-    let back = result_read_back s p q x (binds_none s name p q r.is_told.sort r.is_told.other r.is_told.told) r.right.right in
     let asked = implication_request u.tree id p q name a in
     record {
       executes = λ y h. absurd (implication_line_no_run id x r.right.tree (executed y) lawful r.right.written (subst (λ (e : Data). IsReplyOf execute (reply_bytes e) (executed y)) is h));
@@ -272,7 +249,7 @@ implication_told o t frame book s id name p q d u a r =
         is_frame = subst (λ (e : Data). IsFrame frame e) asked.1 u.is_frame;
         is_request = asked.2;
         right = λ main.
-            let same : y ≡ x = same_implication x y (implication_line_alone id x r.right.tree (implied y) lawful back r.right.written (subst (λ (e : Data). IsReplyOf implies (reply_bytes e) (implied y)) is h)) in
+            let same : y ≡ x = same_implication x y (implication_line_alone id x r.right.tree (implied y) lawful r.right.written (subst (λ (e : Data). IsReplyOf implies (reply_bytes e) (implied y)) is h)) in
             subst (λ (v : Theory). IsRightImplied v.signature p q y) (theory_is o t frame book s name u main) (subst (λ (z : Implied). IsRightImplied s.theory.signature p q z) (sym same) r.right.right);
       };
     }
@@ -332,22 +309,22 @@ in_reply o t frame book name id RightOver _ right (no_such_module missing unboun
 in_reply o t frame book name id RightOver _ right (in_module s d served over) = right s served over
 
 replied : (o : Opening) (t : Theory) (frame : List ℕ) (book : List Registration) (call : Call) (id : RequestId) (asked : Asked) (d : Data) → IsMainTheory o t → IsCallOf frame call → call.id ≡ Some id → call.asked ≡ asked →
-    IsReplyTo o book id asked d → ReadsLists (Some (compact_text d)) → IsRightExchange (told_theory o t) (record { frame = frame; reply = reply_bytes d })
-replied o t frame book call id (refused e) d main c named is right lists =
+    IsReplyTo o book id asked d → IsRightExchange (told_theory o t) (record { frame = frame; reply = reply_bytes d })
+replied o t frame book call id (refused e) d main c named is right =
     with_nothing (told_theory o t) frame (reply_bytes d) (subst (λ (y : Data). TellsNothing (reply_bytes y)) (sym right) (error_told id e))
-replied o t frame book call id (asks (requests.execute state options)) d main c named is right lists =
+replied o t frame book call id (asks (requests.execute state options)) d main c named is right =
     let a = call_asks frame call id (requests.execute state options) c named is in
     in_reply o t frame book options.module_name id (λ s. IsExecutedAs s id options state) d
-    (λ s served over. run_replied o t frame book s id options state d (record { main = main; tree = c.tree; is_frame = a.1; served = served }) a.0 over lists) right
-replied o t frame book call id (asks (requests.implies left right name)) d main c named is over lists =
+    (λ s served over. run_replied o t frame book s id options state d (record { main = main; tree = c.tree; is_frame = a.1; served = served }) a.0 over) right
+replied o t frame book call id (asks (requests.implies left right name)) d main c named is over =
     let a = call_asks frame call id (requests.implies left right name) c named is in
     in_reply o t frame book name id (λ s. IsImpliedAs s id name left right) d
     (λ s served reply. implication_replied o t frame book s id name left right d (record { main = main; tree = c.tree; is_frame = a.1; served = served }) a.0 reply) over
-replied o t frame book call id (asks (requests.simplify state name)) d main c named is right lists =
+replied o t frame book call id (asks (requests.simplify state name)) d main c named is right =
     let a = call_asks frame call id (requests.simplify state name) c named is in
     in_reply o t frame book name id (λ s. IsSimplifiedAs s.theory.signature id state) d
     (λ s served over. with_nothing (told_theory o t) frame (reply_bytes d) (simplify_replied s id state d (asked_id frame c.tree id _ a.1 a.0) over)) right
-replied o t frame book call id (asks (requests.add_module text name_as_id)) d main c named is right lists =
+replied o t frame book call id (asks (requests.add_module text name_as_id)) d main c named is right =
     with_nothing (told_theory o t) frame (reply_bytes d) (failure_told id right.0 d right.2)
 
 adds_by : (o : Opening) (book : List Registration) (asked : Asked) (r : Registration) → Adds o book asked r → (text : Text) × (named : Bool) × (asked ≡ asks (requests.add_module text named))
@@ -357,15 +334,14 @@ adds_by o book (asks (requests.implies left right name)) r h = absurd h
 adds_by o book (asks (requests.simplify state name)) r h = absurd h
 adds_by o book (asks (requests.add_module text named)) r h = (text, named, refl)
 
-member_right : (o : Opening) (t : Theory) (frame : List ℕ) (book after : List Registration) (call : Call) (reply : Option Data) → IsMainTheory o t → IsCallOf frame call → IsMember o book call reply after →
-    ReadsLists (option_map compact_text reply) → IsRightExchange (told_theory o t) (record { frame = frame; reply = line_of (option_map compact_text reply) })
-member_right o t frame book _ call _ main c (told id d named right) lists = replied o t frame book call id call.asked d main c named refl right lists
-member_right o t frame book _ call _ main c (added id r named adds) lists =
+member_right : (o : Opening) (t : Theory) (frame : List ℕ) (book after : List Registration) (call : Call) (reply : Option Data) → IsMainTheory o t → IsCallOf frame call → IsMember o book call reply after → IsRightExchange (told_theory o t) (record { frame = frame; reply = line_of (option_map compact_text reply) })
+member_right o t frame book _ call _ main c (told id d named right) = replied o t frame book call id call.asked d main c named refl right
+member_right o t frame book _ call _ main c (added id r named adds) =
     let what = adds_by o book call.asked r adds in
     let a = call_asks frame call id (requests.add_module what.0 what.1) c named what.2 in
     with_nothing (told_theory o t) frame _ (added_told id r.id (asked_id frame c.tree id _ a.1 a.0))
-member_right o t frame book _ call _ main c (silent none nothing) lists = with_nothing (told_theory o t) frame [] nothing_told
-member_right o t frame book _ call _ main c (added_silently r none adds) lists = with_nothing (told_theory o t) frame [] nothing_told
+member_right o t frame book _ call _ main c (silent none nothing) = with_nothing (told_theory o t) frame [] nothing_told
+member_right o t frame book _ call _ main c (added_silently r none adds) = with_nothing (told_theory o t) frame [] nothing_told
 
 -- ---- any reply
 
@@ -376,17 +352,12 @@ batch_told (d ∷ ds) = record {
   no_implication = λ x h. array_tells implies (items_of (d ∷ ds)) (implied x) h;
 }
 
-answer_right : (o : Opening) (t : Theory) (frame : List ℕ) (before after : List Registration) (reply : Option (List ℕ)) → IsMainTheory o t → IsAnswer o before frame reply after → ReadsLists reply →
+answer_right : (o : Opening) (t : Theory) (frame : List ℕ) (before after : List Registration) (reply : Option (List ℕ)) → IsMainTheory o t → IsAnswer o before frame reply after →
     IsRightExchange (told_theory o t) (record { frame = frame; reply = line_of reply })
-answer_right o t frame before _ _ main (refusal e whole) lists = with_nothing (told_theory o t) frame _ (error_told id_null e)
-answer_right o t frame before _ _ main (alone call reply after is member) lists = member_right o t frame before after call reply main (call_of frame (single call) call is refl) member lists
-answer_right o t frame before _ _ main (together calls replies after is members) lists = with_nothing (told_theory o t) frame _ (batch_told replies)
-
-handed_right : (o : Opening) (t : Theory) (frame : List ℕ) (before after : List Registration) (reply : Option (List ℕ)) (line : List ℕ) → IsMainTheory o t → IsAnswer o before frame reply after → IsHandedOn reply line →
-    IsRightExchange (told_theory o t) (record { frame = frame; reply = line })
-handed_right o t frame before after _ _ main answer (handed_on text full) = answer_right o t frame before after (Some text) main answer full
-handed_right o t frame before after _ _ main answer (held_back text d frame_read short) = with_nothing (told_theory o t) frame [] nothing_told
-handed_right o t frame before after _ _ main answer no_reply = with_nothing (told_theory o t) frame [] nothing_told
+answer_right o t frame before _ _ main (refusal e whole) = with_nothing (told_theory o t) frame _ (error_told id_null e)
+answer_right o t frame before _ _ main (alone call reply after is member) = member_right o t frame before after call reply main (call_of frame (single call) call is refl) member
+answer_right o t frame before _ _ main (together calls replies after is members) = with_nothing (told_theory o t) frame _ (batch_told replies)
 
 pub replied_is_right : (o : Opening) (t : Theory) (e : Exchange) → IsMainTheory o t → IsRepliedBy o e → IsRightExchange (told_theory o t) e
-replied_is_right o t e main r = handed_right o t e.frame r.before r.after r.reply e.reply main r.answer r.line
+replied_is_right o t e main r =
+    subst (λ (line : List ℕ). IsRightExchange (told_theory o t) (record { frame = e.frame; reply = line })) (sym r.line) (answer_right o t e.frame r.before r.after r.reply main r.answer)

@@ -15,7 +15,7 @@ use Rattle.kp_report.specs.Report.{IsReport, ReportLine}
 use Rattle.kp_client.specs.Rounds.{ProofOutcome, passed, failed_at}
 use Rattle.kp_client.specs.Sound.{IsStuckAt}
 use Rattle.kp_io.specs.Outside.{Names}
-use Rattle.kp_program.specs.ClaimFiles.{AreClaimsAt, IsProvableClaim}
+use Rattle.kp_program.specs.ClaimFiles.{AreClaimsAt, IsGroundClaim}
 use Rattle.kp_kore.specs.Theory.{Theory}
 use Rattle.kp_book.specs.Books.{Opening}
 use Rattle.kp_modules.specs.Openings.{IsTableOf, opening_of}
@@ -26,7 +26,7 @@ use Rattle.kp_program.specs.Proofs.{told_theory, IsRepliedBy, AreReported, IsLin
 use Rattle.kp_program.specs.Words.{ProveWords}
 use Rattle.kp_program.specs.declared.trouble.Trouble.{Trouble}
 use Rattle.kp_program.proofs.LocalExchanges.{replied_is_right}
-use Rattle.kp_program.proofs.ProvableClaims.{provable_claims}
+use Rattle.kp_program.proofs.GroundClaims.{ground_claims}
 use Rattle.kp_program.proofs.Theories.{main_theory}
 
 -- ---- one claim
@@ -127,26 +127,26 @@ proved_as names Gains c status l items at reported = record {
   reported = reported;
 }
 
-provable_at : (names : Option Names) (name : List ℕ) (g : KoreSignature) (items : List ClaimItem) → AreClaimsAt names name g items → AllByRecursion IsProvableClaim (items_view items)
-provable_at names name g items at = provable_claims g [] (counted at.claims_in.modules) (items_view items) at.claims_in.faultless at.claims_in.are
+ground_at : (names : Option Names) (name : List ℕ) (g : KoreSignature) (items : List ClaimItem) → AreClaimsAt names name g items → AllByRecursion IsGroundClaim (items_view items)
+ground_at names name g items at = ground_claims g [] (counted at.claims_in.modules) (items_view items) at.claims_in.faultless at.claims_in.are
 
 -- what is reported of the claims, as they are read, is reported of the file
 reported_on : (o : Opening) (t : Theory) (depth : ℕ) (items read : List ClaimItem) (Gains : List ℕ → Type 0) (status : ℕ) → read ≡ items → AreReported o t depth (items_view read) Gains status → AreReported o t depth (items_view items) Gains status
 reported_on o t depth items read Gains status same reported = subst (λ (l : List ClaimItem). AreReported o t depth (items_view l) Gains status) same reported
 
 pub proved_ok : (names : Option Names) (Gains : List ℕ → Type 0) (c : ProveWords) (l : IsLoaded names c.definition c.main) (items read : List ClaimItem) (r : Result ℕ Trouble) → read ≡ items → AreClaimsAt names c.claims l.setting.theory.signature items →
-    (AllByRecursion IsProvableClaim (items_view read) → IfOk r (AreReported (opening_of l.definition c.main) l.setting.theory c.depth (items_view read) Gains)) → IfOk r (Proved names Gains c)
+    (AllByRecursion IsGroundClaim (items_view read) → IfOk r (AreReported (opening_of l.definition c.main) l.setting.theory c.depth (items_view read) Gains)) → IfOk r (Proved names Gains c)
 proved_ok names Gains c l items read (Ok status) same at reported =
-    let provable = subst (λ (x : List ClaimItem). AllByRecursion IsProvableClaim (items_view x)) (sym same) (provable_at names c.claims l.setting.theory.signature items at) in
-    proved_as names Gains c status l items at (reported_on (opening_of l.definition c.main) l.setting.theory c.depth items read Gains status same (reported provable))
+    let ground = subst (λ (x : List ClaimItem). AllByRecursion IsGroundClaim (items_view x)) (sym same) (ground_at names c.claims l.setting.theory.signature items at) in
+    proved_as names Gains c status l items at (reported_on (opening_of l.definition c.main) l.setting.theory c.depth items read Gains status same (reported ground))
 proved_ok names Gains c l items read (Err t) same at reported = tt
 
 pub proved_front : (names : Option Names) (Same : Type 0) (Gains : List ℕ → Type 0) (c : ProveWords) (l : IsLoaded names c.definition c.main) (items read : List ClaimItem) (r : Result ℕ Trouble) → read ≡ items → AreClaimsAt names c.claims l.setting.theory.signature items →
-    (AllByRecursion IsProvableClaim (items_view read) → OnErr r (Same ⊎ ((status : ℕ) × AreReported (opening_of l.definition c.main) l.setting.theory c.depth (items_view read) Gains status))) → OnErr r (Same ⊎ ((status : ℕ) × Proved names Gains c status))
+    (AllByRecursion IsGroundClaim (items_view read) → OnErr r (Same ⊎ ((status : ℕ) × AreReported (opening_of l.definition c.main) l.setting.theory c.depth (items_view read) Gains status))) → OnErr r (Same ⊎ ((status : ℕ) × Proved names Gains c status))
 proved_front names Same Gains c l items read (Ok status) same at reported = tt
 proved_front names Same Gains c l items read (Err t) same at reported =
-    let provable = subst (λ (x : List ClaimItem). AllByRecursion IsProvableClaim (items_view x)) (sym same) (provable_at names c.claims l.setting.theory.signature items at) in
-    either (reported provable)
+    let ground = subst (λ (x : List ClaimItem). AllByRecursion IsGroundClaim (items_view x)) (sym same) (ground_at names c.claims l.setting.theory.signature items at) in
+    either (reported ground)
   where
     either : Same ⊎ ((status : ℕ) × AreReported (opening_of l.definition c.main) l.setting.theory c.depth (items_view read) Gains status) → Same ⊎ ((status : ℕ) × Proved names Gains c status)
     either (inl x) = inl x

@@ -9,7 +9,7 @@ use Rattle.kp_claims.specs.Faults.{AreFaultless}
 use Rattle.kp_claims.specs.Files.{SpellsFile}
 use Rattle.kp_claims.specs.Items.{items_view}
 use Rattle.kp_claims.specs.declared.item.ClaimItem.{ClaimItem}
-use Rattle.kp_client.specs.Sound.{IsGround, AreReadBack}
+use Rattle.kp_client.specs.Sound.{IsGround}
 use Rattle.kp_program.specs.Faults.{IsClaimsFault}
 use Rattle.kp_program.specs.Statuses.{IsNowhere}
 use Rattle.kp_program.specs.Troubles.{file_fault_view}
@@ -37,7 +37,6 @@ IsClaimsTrouble names name g failed (trouble.NoFile n) = (string_bytes n ≡ nam
 IsClaimsTrouble names name g failed trouble.Outside = failed
 IsClaimsTrouble names name g failed trouble.Memory = ⊤
 
--- both sides are ground terms, of which a server reads nothing else
-pub record IsProvableClaim (c : LabelledClaim) : Type 0 where
-  pub ground : IsGround c.claim
-  pub read_back : AreReadBack c.claim
+-- no side of the claim has a variable
+abbrev pub IsGroundClaim : LabelledClaim → Type 0
+IsGroundClaim c = IsGround c.claim

@@ -11,4 +11,3 @@ pub mod Statuses
 pub mod Troubles
 pub mod Words
 pub mod Headline
-pub mod Lists

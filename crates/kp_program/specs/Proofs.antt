@@ -1,13 +1,12 @@
 -- What the proofs of a claims' file come to: a line for each claim, and the status. A claim that is told as passed holds
 -- over the theory that the definition means for its main module.
 -- Source: All-Path Reachability Logic (a claim holds); pyk's APRProof (how a proof goes); the lines are this project's.
-use Rattle.std.specs.Prelude.{◌≡◌, ◌≤◌, ℕ, Bool, true, false, List, [], ◌∷◌, ◌++◌, length, Option, Some, None, IfSome, if◌then◌else◌}
+use Rattle.std.specs.Prelude.{◌≡◌, ◌≤◌, ℕ, Bool, true, false, List, [], length, Option, Some, IfSome, if◌then◌else◌}
 use Rattle.std.specs.List.{AllByRecursion, AllZip, list_all, list_any}
-use Rattle.serde_json.specs.Data.{Data}
 use Rattle.kp_kore.specs.Syntax.{Text, KoreModule}
 use Rattle.kp_kore.specs.Theory.{Theory, IsTheoryOfAxioms, NumberedAxiom}
 use Rattle.kp_io.specs.Outside.{Names, load_limit}
-use Rattle.kp_rpc.specs.Frame.{IsFrame}
+use Rattle.kp_conn.specs.Conversations.{line_of}
 use Rattle.kp_book.specs.Books.{Opening, Registration, rules_in}
 use Rattle.kp_modules.specs.Openings.{opening_of}
 use Rattle.kp_registry.specs.Legal.{IsLegal}
@@ -23,7 +22,6 @@ use Rattle.kp_report.specs.Report.{ReportLine, IsReport}
 use Rattle.kp_client.specs.Rounds.{Proves, ProofOutcome, passed, failed_at, pending_at, refused_with}
 use Rattle.kp_client.specs.Sound.{IsStuckAt}
 use Rattle.kp_program.specs.Loaded.{IsLoaded}
-use Rattle.kp_program.specs.Lists.{lists_two}
 use Rattle.kp_program.specs.Words.{ProveWords, SpellsProve}
 
 -- ---- the server
@@ -38,25 +36,15 @@ pub record IsMainTheory (o : Opening) (t : Theory) : Type 0 where
 abbrev pub told_theory : Opening → Theory → ToldTheory
 told_theory o t = record { theory = t; main = o.main }
 
--- each list of patterns that is read of the text has two or more
-abbrev pub IsFullText : List ℕ → Type 0
-IsFullText text = (d : Data) → IsFrame text d → lists_two d ≡ true
-
--- the line that is handed on of an answer: its text with a line feed; nothing where there is none, and where a list of
--- patterns in it has fewer than two, which is read as another pattern than it is written for
-pub data IsHandedOn : Option (List ℕ) → List ℕ → Type 0 where
-  handed_on : (text : List ℕ) → IsFullText text → IsHandedOn (Some text) (text ++ 10 ∷ [])
-  held_back : (text : List ℕ) (d : Data) → IsFrame text d → lists_two d ≡ false → IsHandedOn (Some text) []
-  no_reply : IsHandedOn None []
-
--- a frame, and the line that is handed on of what the service over this opening answers at some book that was seen
+-- a frame, and the line with which the service over this opening replies to it at some book that was seen; nothing, where it
+-- doesn't reply
 pub record IsRepliedBy (o : Opening) (e : Exchange) : Type 0 where
   pub before : List Registration
   pub legal : IsLegal o before
   pub reply : Option (List ℕ)
   pub after : List Registration
   pub answer : IsAnswer o before e.frame reply after
-  pub line : IsHandedOn reply e.reply
+  pub line : e.reply ≡ line_of reply
 
 -- ---- proofs
 

@@ -6,7 +6,6 @@
 mod claims;
 mod command;
 mod definition;
-mod lists;
 mod local;
 mod output;
 mod program;

@@ -1,18 +1,13 @@
 // A link to the program's service in the same process.
-ghost use Rattle.std.specs.Prelude.{◌≡◌, false, true, Some, IfOk, option_map};
-ghost use Rattle.serde_json.specs.Data.{Data};
+ghost use Rattle.std.specs.Prelude.{◌≡◌, ◌++◌, ◌∷◌, [], IfOk, option_map};
 ghost use Rattle.kp_book.specs.Books.{Opening};
 ghost use Rattle.kp_modules.specs.Openings.{IsTableOf};
-ghost use Rattle.kp_rpc.specs.Frame.{IsFrame};
-ghost use Rattle.kp_program.specs.Lists.{lists_two as has_full_lists};
 ghost use Rattle.kp_program.specs.LocalTold.{IsAnsweredBy, IsPassOver, IsReadyService, state_over, table_of};
-ghost use Rattle.kp_program.specs.Proofs.{IsFullText, IsHandedOn, IsRepliedBy};
+ghost use Rattle.kp_program.specs.Proofs.{IsRepliedBy};
 
-use crate::lists::lists_two;
 use kp_client::{Link, LinkError};
 use kp_conn::Answerer;
 use kp_registry::Pass;
-use kp_rpc::{FrameError, frame_of};
 use kp_service::Service;
 use std::alloc::{AllocError, Global};
 use std::marker::Model;
@@ -49,27 +44,10 @@ impl<'a> LocalLink<'a> {
     }
 }
 
-/// Whether each list of patterns that is read of a text has two or more.
-fn is_full(alloc: Global, text: &[u8]) -> Result<bool, AllocError>
-    ensures full { IfOk result (λ full. full ≡ true → IsFullText text.now) }
-    ensures short { IfOk result (λ full. full ≡ false → (d : Data) × IsFrame text.now d × (has_full_lists d ≡ false)) }
+/// A text as a line.
+fn line_with(text: Vec<u8>) -> Result<Vec<u8>, AllocError>
+    ensures { IfOk result (λ line. line.items ≡ text.items ++ 10 ∷ []) }
 {
-    match frame_of(alloc, text) {
-        Ok(tree) => Ok(lists_two(&tree)),
-        Err(FrameError::NoFrame) => Ok(true),
-        Err(FrameError::Memory) => Err(AllocError),
-    }
-}
-
-/// A text as a line; an empty one where a list of patterns in it has fewer than two, which is read as another pattern
-/// than it is written for.
-fn line_with(alloc: Global, text: Vec<u8>) -> Result<Vec<u8>, AllocError>
-    ensures { IfOk result (λ line. IsHandedOn (Some text.items) line.items) }
-{
-    let full = is_full(alloc, &text)?;
-    if !full {
-        return Ok(Vec::new(alloc));
-    }
     let mut line = text;
     line.push(b'\n')?;
     Ok(line)
@@ -89,7 +67,7 @@ fn text_to(
     service.answer(alloc, pass, frame)
 }
 
-/// The line that replies to a frame: an empty one where nothing is handed on.
+/// The line that replies to a frame: an empty one where there is no reply.
 fn line_to(
     alloc: Global,
     service: &Service,
@@ -101,7 +79,7 @@ fn line_to(
     ensures replied { (o : Opening) → IsTableOf o (table_of service.now) → IfOk result (λ line. IsRepliedBy o (record { frame = frame.now; reply = line.items })) }
 {
     match text_to(alloc, service, pass, frame)? {
-        Some(text) => line_with(alloc, text),
+        Some(text) => line_with(text),
         None => Ok(Vec::new(alloc)),
     }
 }

@@ -11,7 +11,7 @@ ghost use Rattle.kp_claims.specs.Items.{items_view};
 ghost use Rattle.kp_report.specs.Report.{IsReport};
 ghost use Rattle.kp_client.specs.View.{outcome_view};
 ghost use Rattle.kp_report.specs.View.{line_view};
-ghost use Rattle.kp_program.specs.ClaimFiles.{IsProvableClaim};
+ghost use Rattle.kp_program.specs.ClaimFiles.{IsGroundClaim};
 ghost use Rattle.kp_program.specs.Commands.{prove_view};
 ghost use Rattle.kp_server.specs.Setting.{IsSettingOf};
 ghost use Rattle.kp_program.specs.Loaded.{IsLoaded};
@@ -90,9 +90,9 @@ fn report_claims<O: Sink>(
     max_depth: u64,
     out: &mut O,
 ) -> Result<u8, Trouble>
-    ensures reported { (o : Opening) (t : Theory) → let claims' = items_view claims.now in IsTheoryOver table o t → AllByRecursion IsProvableClaim claims' → IfOk result (AreReported o t max_depth claims' (Appends (O.held out.old) (O.held out.new))) }
+    ensures reported { (o : Opening) (t : Theory) → let claims' = items_view claims.now in IsTheoryOver table o t → AllByRecursion IsGroundClaim claims' → IfOk result (AreReported o t max_depth claims' (Appends (O.held out.old) (O.held out.new))) }
     ensures late { IfErr result (IsLate (Rose (O.fault_count out.old) (O.fault_count out.new))) }
-    ensures front { (o : Opening) (t : Theory) → let claims' = items_view claims.now in IsTheoryOver table o t → AllByRecursion IsProvableClaim claims' → OnErr result ((O.held out.new ≡ O.held out.old) ⊎ ((status : ℕ) × AreReported o t max_depth claims' (GainsFront (O.held out.old) (O.held out.new)) status)) }
+    ensures front { (o : Opening) (t : Theory) → let claims' = items_view claims.now in IsTheoryOver table o t → AllByRecursion IsGroundClaim claims' → OnErr result ((O.held out.new ≡ O.held out.old) ⊎ ((status : ℕ) × AreReported o t max_depth claims' (GainsFront (O.held out.old) (O.held out.new)) status)) }
     ensures count { O.fault_count out.old ≤ O.fault_count out.new }
 {
     let lines = lines_over(alloc, table, claims, max_depth)?;
@@ -111,7 +111,7 @@ fn lines_over(
     claims: &[ClaimItem],
     max_depth: u64,
 ) -> Result<Vec<Line>, AllocError>
-    ensures { (o : Opening) (t : Theory) → let claims' = items_view claims.now in IsTheoryOver table o t → AllByRecursion IsProvableClaim claims' → IfOk result (λ lines. AllZip (IsLineFor o t max_depth) claims' (map line_view lines.items)) }
+    ensures { (o : Opening) (t : Theory) → let claims' = items_view claims.now in IsTheoryOver table o t → AllByRecursion IsGroundClaim claims' → IfOk result (λ lines. AllZip (IsLineFor o t max_depth) claims' (map line_view lines.items)) }
 {
     let (service, _pass) = Service::begin(alloc, table, 1)?;
     prove_all(alloc, &service, claims, max_depth)
@@ -125,7 +125,7 @@ fn prove_all(
     max_depth: u64,
 ) -> Result<Vec<Line>, AllocError>
     requires ready { IsReadyService service.now }
-    ensures { (o : Opening) (t : Theory) → let claims' = items_view claims.now in IsTheoryOver (table_of service.now) o t → AllByRecursion IsProvableClaim claims' → IfOk result (λ lines. AllZip (IsLineFor o t max_depth) claims' (map line_view lines.items)) }
+    ensures { (o : Opening) (t : Theory) → let claims' = items_view claims.now in IsTheoryOver (table_of service.now) o t → AllByRecursion IsGroundClaim claims' → IfOk result (λ lines. AllZip (IsLineFor o t max_depth) claims' (map line_view lines.items)) }
 {
     let mut lines = Vec::new(alloc);
     for place in 0..claims.len() {
@@ -145,7 +145,7 @@ fn prove_at(
 ) -> Result<Line, AllocError>
     requires ready { IsReadyService service.now }
     requires place { place < length claims.now }
-    ensures { (o : Opening) (t : Theory) (c : LabelledClaim) → let claims' = items_view claims.now in IsTheoryOver (table_of service.now) o t → slice_get claims' place ≡ Some c → IsProvableClaim c → IfOk result (λ line. IsLineFor o t max_depth c (line_view line)) }
+    ensures { (o : Opening) (t : Theory) (c : LabelledClaim) → let claims' = items_view claims.now in IsTheoryOver (table_of service.now) o t → slice_get claims' place ≡ Some c → IsGroundClaim c → IfOk result (λ line. IsLineFor o t max_depth c (line_view line)) }
 {
     let label = claims[place].label.clone()?;
     let options = ProveOptions { max_depth };

@@ -76,8 +76,15 @@ const COUNT: &str =
     r#"{"format":"KORE","term":{"args":[{"sort":{"args":[],"name":"SortInt","tag":"SortApp"},"tag":"DV","value":"2"}],"name":"Lblcount","sorts":[],"tag":"App"},"version":1}"#;
 
 /// Trees, and what they are written as, or the reply that tells the first fault.
-const ROWS: [(Tree, &str); 9] = [
+const ROWS: [(Tree, &str); 10] = [
     (Tree::Text(COUNT), COUNT),
+    // a list of one pattern spells that pattern
+    (
+        Tree::Text(
+            r#"{"format":"KORE","version":1,"term":{"tag":"And","sort":{"tag":"SortVar","name":"S"},"patterns":[{"args":[{"sort":{"args":[],"name":"SortInt","tag":"SortApp"},"tag":"DV","value":"2"}],"name":"Lblcount","sorts":[],"tag":"App"}]}}"#,
+        ),
+        COUNT,
+    ),
     (
         Tree::Text(
             r#"{"format":"KORE","term":{"tag":"And","sort":{"tag":"SortVar","name":"S"},"first":{"tag":"Top","sort":{"tag":"SortVar","name":"S"}},"second":{"tag":"Exists","sort":{"tag":"SortVar","name":"S"},"var":"X","varSort":{"tag":"SortVar","name":"T"},"arg":{"tag":"EVar","name":"X","sort":{"tag":"SortVar","name":"T"}}}},"version":1}"#,

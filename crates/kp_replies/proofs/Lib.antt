@@ -7,4 +7,5 @@ mod NextsRead
 mod NextsWritten
 pub mod PatternsRead
 mod Plain
+pub mod ResultTrees
 pub mod Texts

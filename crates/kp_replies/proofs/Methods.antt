@@ -8,11 +8,9 @@ use Rattle.serde_json.specs.Find.{get, as_i64, as_number}
 use Rattle.kp_kore.specs.Syntax.{Text, KorePattern}
 use Rattle.kp_json.specs.Faults.{wrapped_reading}
 use Rattle.kp_kore.specs.Causes.{foreign}
-use Rattle.kp_rpc.specs.Questions.{IsReadBack}
-use Rattle.kp_results.specs.Results.{StateParts, NextParts, Ending, vacuous, depth_bound, stuck, branching, cut_point, terminal, aborted, ExecutedParts, IsPatternOf}
+use Rattle.kp_results.specs.Results.{StateParts, NextParts, Ending, vacuous, depth_bound, stuck, branching, cut_point, terminal, aborted, ExecutedParts}
 use Rattle.kp_replies.specs.Read.{Method, execute, implies, simplify, add_module, ServerReply, executed, unfinished, implied, simplified, added, failed, is_unfinished, read_run, pattern_in, read_wrapped, read_optional, text_in, is_rule_id, if_rule_id, read_rule, if_module_id, state_from, read_state, ending_named, read_ending, one_alone, read_next_states, nexts_of, executed_from, read_executed, read_implied, read_code, read_result, read_either, is_two, read_reply}
 use Rattle.kp_replies.specs.Replies.{IsOfMethod, IsSpelled, IsSpelledState, StandWith, IsNamedEnding, IsReplyOf}
-use Rattle.kp_rpc.proofs.StatesBack.{spelled_back, pair_back}
 use Rattle.kp_replies.proofs.PatternsRead.{spelled_in}
 
 present : {A B : Type 0} (f : A → Option B) (x : Option A) (b : B) → option_and_then f x ≡ Some b → (a : A) × (x ≡ Some a) × (f a ≡ Some b)
@@ -200,11 +198,3 @@ told_state line x h =
     let r = run_of_line line x h in
     let s = present read_state (get (codes "state") r.0) x.state (run_parts _ _ _ (nexts_of r.0) x r.1).state_is in
     state_parts (get (codes "term") s.0) (get (codes "predicate") s.0) x.state s.2
-
--- a state that was read is read back
-parts_back : (term : KorePattern) (predicate : Option KorePattern) (p : KorePattern) → IsSpelledState term predicate → IsPatternOf (record { term = term; predicate = predicate }) p → IsReadBack p
-parts_back term None p (d, h) is = subst IsReadBack (sym is) (spelled_back d term h)
-parts_back term (Some q) p ((d, h), (e, k)) (s, is) = subst IsReadBack (sym is) (pair_back s term q d e h k)
-
-pub state_back : (s : StateParts) (p : KorePattern) → IsSpelledState s.term s.predicate → IsPatternOf s p → IsReadBack p
-state_back s p h is = parts_back s.term s.predicate p h is

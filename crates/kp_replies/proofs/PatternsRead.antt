@@ -12,7 +12,7 @@ use Rattle.kp_json.specs.declared.fault.JsonError.TheVariants as json_error
 use Rattle.kp_json.proofs.Sound.{wrapped_sound}
 use Rattle.kp_json.proofs.Complete.{wrapped_complete}
 use Rattle.kp_json.proofs.RoundTrip.{wrapped_written}
-use Rattle.kp_rpc.specs.Questions.{IsReadBack}
+use Rattle.kp_json.proofs.TreesBack.{tree_back}
 use Rattle.kp_replies.specs.Read.{pattern_in}
 use Rattle.kp_replies.specs.Replies.{IsSpelled}
 
@@ -26,9 +26,9 @@ spelled_in d p e = wrapped_sound d p (pattern_found (wrapped_reading d) p e)
 pub read_in : (d : Data) (p : KorePattern) → SpellsWrapped d p → pattern_in (wrapped_reading d) ≡ Some p
 read_in d p h = ap pattern_in (wrapped_complete d p h)
 
--- what is read of the tree that is written of a pattern is that pattern, where the tree spells no other
-pub only_in : (p q : KorePattern) (d : Data) → IsReadBack p → wrapped_pattern p ≡ Some d → pattern_in (wrapped_reading d) ≡ Some q → q ≡ p
-only_in p q d back is e = back d q is (spelled_in d q e)
+-- what is read of the tree that is written of a pattern is that pattern
+pub only_in : (p q : KorePattern) (d : Data) → wrapped_pattern p ≡ Some d → pattern_in (wrapped_reading d) ≡ Some q → q ≡ p
+only_in p q d is e = tree_back p q d is (spelled_in d q e)
 
 -- the tree that is written of a pattern spells it
 pub record Written (p : KorePattern) : Type 0 where

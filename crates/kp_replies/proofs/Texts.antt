@@ -17,10 +17,10 @@ use Rattle.kp_rpc.proofs.CompactRead.{compact_reads}
 use Rattle.kp_rpc.proofs.ReadBack.{Back, ItemsBack, IsBack, two_back, number_back, id_back, reply_back, wrapped_back, plain_back, read_compact}
 use Rattle.kp_replies.specs.Written.{state_tree, next_tree, first_item, next_trees, with_nexts, executed_members, executed_tree, valid_object, implied_tree, simplified_tree, added_tree}
 use Rattle.kp_replies.specs.Failures.{not_in_a_term, not_one_term, two_meanings, bad_text, unknown_import, bad_axiom, bad_sentence, full_book, Failure, bad_sides, undecided, bad_module, duplicate, limit_tree, failure_data, failure_code, failure_error, failed_reply, failure_reply}
-use Rattle.kp_replies.specs.Read.{Method, execute, implies, simplify, add_module, ServerReply, executed, implied, simplified, added, failed, is_module_id, read_reply}
-use Rattle.kp_replies.specs.Replies.{IsReplyOf, IsSpelled, IsSpelledImplied, IsWritable, Fits, FailureFits}
+use Rattle.kp_replies.specs.Read.{Method, execute, implies, simplify, add_module, ServerReply, added, failed, is_module_id, read_reply}
+use Rattle.kp_replies.specs.Replies.{IsReplyOf, Fits, FailureFits}
 use Rattle.kp_replies.proofs.Lines.{same_front}
-use Rattle.kp_replies.proofs.Back.{executed_read_back, implied_read_back, simplified_read_back, added_read_back, failure_read_back}
+use Rattle.kp_replies.proofs.Back.{added_read_back, failure_read_back}
 
 -- ---- states
 
@@ -125,11 +125,6 @@ pub executed_line_read : (method : Method) (id : RequestId) (x : ExecutedParts) 
     → IsReplyOf method (reply_bytes (result_reply id tree)) r → read_reply method (result_reply id tree) ≡ Some r
 executed_line_read method id x tree r lawful fits e h = line_read method (result_reply id tree) r (reply_back id tree lawful (plain_back (executed_tree x) tree (executed_back x fits) e)) h
 
-pub executed_line : (id : RequestId) (x : ExecutedParts) (tree : Data) (r : ServerReply) → IsReadId id → x.depth < 2 ^ 64 → IsWritable x → executed_tree x ≡ Some tree
-    → IsReplyOf execute (reply_bytes (result_reply id tree)) r → r ≡ executed x
-executed_line id x tree r lawful fits w e h =
-    one_reply execute (result_reply id tree) r (executed x) (executed_read_back id x tree w e) (executed_line_read execute id x tree r lawful fits e h)
-
 pub executed_read : (id : RequestId) (x : ExecutedParts) (tree : Data) → IsReadId id → x.depth < 2 ^ 64 → executed_tree x ≡ Some tree → depth (result_reply id tree) ≤ max_depth
     → read (compact_text (result_reply id tree)) ≡ Some (result_reply id tree)
 executed_read id x tree lawful fits e shallow = read_compact (result_reply id tree) (reply_back id tree lawful (plain_back (executed_tree x) tree (executed_back x fits) e)) shallow
@@ -149,11 +144,6 @@ pub implied_line_read : (method : Method) (id : RequestId) (x : Implied) (tree :
     → IsReplyOf method (reply_bytes (result_reply id tree)) r → read_reply method (result_reply id tree) ≡ Some r
 implied_line_read method id x tree r lawful e h = line_read method (result_reply id tree) r (reply_back id tree lawful (plain_back (implied_tree x) tree (implied_back x) e)) h
 
-pub implied_line : (id : RequestId) (x : Implied) (tree : Data) (r : ServerReply) → IsReadId id → IsSpelledImplied x → implied_tree x ≡ Some tree
-    → IsReplyOf implies (reply_bytes (result_reply id tree)) r → r ≡ implied x
-implied_line id x tree r lawful w e h =
-    one_reply implies (result_reply id tree) r (implied x) (implied_read_back id x tree w e) (implied_line_read implies id x tree r lawful e h)
-
 -- ---- simplify and add-module
 
 one_member_back : (x : Option Data) → IsBack x → IsBack (option_map object (more (codes "state") x no_members))
@@ -163,11 +153,9 @@ one_member_back (Some d) h = record { numbers = (h.numbers, tt); is = rw h.is re
 simplified_back : (p : KorePattern) → IsBack (simplified_tree p)
 simplified_back p = one_member_back (wrapped_pattern p) (wrapped_back p)
 
-pub simplified_line : (id : RequestId) (p : KorePattern) (tree : Data) (r : ServerReply) → IsReadId id → IsSpelled p → simplified_tree p ≡ Some tree
-    → IsReplyOf simplify (reply_bytes (result_reply id tree)) r → r ≡ simplified p
-simplified_line id p tree r lawful w e h =
-    let back : Back (result_reply id tree) = reply_back id tree lawful (plain_back (simplified_tree p) tree (simplified_back p) e) in
-    one_reply simplify (result_reply id tree) r (simplified p) (simplified_read_back id p tree w e) (line_read simplify (result_reply id tree) r back h)
+pub simplified_line_read : (id : RequestId) (p : KorePattern) (tree : Data) (r : ServerReply) → IsReadId id → simplified_tree p ≡ Some tree
+    → IsReplyOf simplify (reply_bytes (result_reply id tree)) r → read_reply simplify (result_reply id tree) ≡ Some r
+simplified_line_read id p tree r lawful e h = line_read simplify (result_reply id tree) r (reply_back id tree lawful (plain_back (simplified_tree p) tree (simplified_back p) e)) h
 
 added_back : (name : Text) → Back (added_tree name)
 added_back name = record { numbers = (tt, tt); is = refl }

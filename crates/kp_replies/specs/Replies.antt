@@ -9,7 +9,6 @@ use Rattle.kp_kore.specs.Causes.{foreign}
 use Rattle.kp_kore.specs.Implied.{Implied, not_valid, valid}
 use Rattle.kp_results.specs.Results.{NextParts, Ending, vacuous, depth_bound, stuck, branching, cut_point, terminal, aborted, ExecutedParts, Limit, weighed, wide_call, predicate, limit}
 use Rattle.kp_rpc.specs.Frame.{IsFrame}
-use Rattle.kp_rpc.specs.Questions.{IsReadBack}
 use Rattle.kp_replies.specs.Failures.{Failure, undecided, bad_module, duplicate, bad_text, bad_axiom, bad_sentence}
 use Rattle.kp_replies.specs.Read.{Method, execute, implies, simplify, add_module, ServerReply, executed, unfinished, implied, simplified, added, failed, is_rule_id, read_reply}
 
@@ -86,11 +85,6 @@ pub record IsWritable (x : ExecutedParts) : Type 0 where
 pub record IsBare (x : ExecutedParts) : Type 0 where
   pub predicate : x.state.predicate ≡ None
   pub nexts : x.nexts ≡ []
-
--- the trees that are written of the result's patterns spell no others
-abbrev pub IsImpliedReadBack : Implied → Type 0
-IsImpliedReadBack not_valid = Unit {0}
-IsImpliedReadBack (valid p q) = IsReadBack p × IsReadBack q
 
 -- the numbers are of 64 bits
 abbrev pub Fits : Limit → Type 0

@@ -7,14 +7,13 @@ ghost use Rattle.serde_json.specs.Written.{compact_text};
 ghost use Rattle.kp_kore.specs.Syntax.{Text, KorePattern};
 ghost use Rattle.kp_rpc.specs.Request.{RequestId};
 ghost use Rattle.kp_kore.specs.Implied.{Implied};
-ghost use Rattle.kp_rpc.specs.Questions.{IsReadBack};
 ghost use Rattle.kp_rpc.specs.Reply.{RequestError, error_parts, error_reply, result_reply, reply_bytes};
 ghost use Rattle.kp_rpc.specs.Request.{IsReadId};
-ghost use Rattle.kp_results.specs.Results.{ExecutedParts, StateParts, IsPatternOf};
+ghost use Rattle.kp_results.specs.Results.{ExecutedParts};
 ghost use Rattle.kp_replies.specs.Written.{executed_tree, implied_tree, simplified_tree, added_tree};
 ghost use Rattle.kp_replies.specs.Failures.{Failure, failure_code, failure_reply};
 ghost use Rattle.kp_replies.specs.Read.{Method, execute, implies, simplify, add_module, executed, implied, simplified, added, failed, ServerReply, is_module_id, read_reply};
-ghost use Rattle.kp_replies.specs.Replies.{IsReplyOf, IsOfMethod, IsSpelled, IsSpelledState, IsSpelledImplied, StandWith, IsNamedEnding, IsWritable, IsBare, IsImpliedReadBack, FailureFits};
+ghost use Rattle.kp_replies.specs.Replies.{IsReplyOf, IsOfMethod, IsSpelled, IsSpelledState, IsSpelledImplied, StandWith, IsNamedEnding, IsWritable, FailureFits};
 
 /// What is written of a result of execute is read as that result.
 pub fn what_is_executed_is_read_back()
@@ -68,11 +67,9 @@ pub fn next_states_that_are_read_stand_with_their_reason()
     ensures { (line : List ℕ) (x : ExecutedParts) → IsReplyOf execute line (executed x) → StandWith x.ending x.nexts }
 {}
 
-/// The state that is read of a line is spelled by trees; what is written of it is read back, of its term and of the
-/// conjunction of its term and its predicate at any sort.
-pub fn a_read_state_is_read_back()
-    ensures spelled { (line : List ℕ) (x : ExecutedParts) → IsReplyOf execute line (executed x) → IsSpelledState x.state.term x.state.predicate }
-    ensures back { (s : StateParts) (p : KorePattern) → IsSpelledState s.term s.predicate → IsPatternOf s p → IsReadBack p }
+/// The state that is read of a line is spelled by trees.
+pub fn a_read_state_is_spelled()
+    ensures { (line : List ℕ) (x : ExecutedParts) → IsReplyOf execute line (executed x) → IsSpelledState x.state.term x.state.predicate }
 {}
 
 /// Where the text of a tree is read as that tree, its line tells nothing but what the tree tells.
@@ -94,21 +91,27 @@ pub fn what_is_implied_is_read()
         → depth (result_reply id tree) ≤ max_depth → read (compact_text (result_reply id tree)) ≡ Some (result_reply id tree) }
 {}
 
-/// The line that is written of a result of execute tells that result and nothing else, however deep it nests.
+/// The line that is written of a result of execute tells that result and nothing else, however deep it nests; asked of implies, it
+/// tells nothing.
 pub fn a_runs_line_tells_the_run()
-    ensures { (id : RequestId) (x : ExecutedParts) (tree : Data) (r : ServerReply) → IsReadId id → x.depth < 2 ^ 64 → IsWritable x
+    ensures alone { (id : RequestId) (x : ExecutedParts) (tree : Data) (r : ServerReply) → IsReadId id → x.depth < 2 ^ 64 → StandWith x.ending x.nexts
         → executed_tree x ≡ Some tree → IsReplyOf execute (reply_bytes (result_reply id tree)) r → r ≡ executed x }
+    ensures nothing { (id : RequestId) (x : ExecutedParts) (tree : Data) (r : ServerReply) → IsReadId id → x.depth < 2 ^ 64
+        → executed_tree x ≡ Some tree → ¬ IsReplyOf implies (reply_bytes (result_reply id tree)) r }
 {}
 
-/// The line that is written of a result of implies tells that result and nothing else, however deep it nests.
+/// The line that is written of a result of implies tells that result and nothing else, however deep it nests; asked of execute, it
+/// tells nothing.
 pub fn an_implications_line_tells_the_implication()
-    ensures { (id : RequestId) (x : Implied) (tree : Data) (r : ServerReply) → IsReadId id → IsSpelledImplied x
-        → implied_tree x ≡ Some tree → IsReplyOf implies (reply_bytes (result_reply id tree)) r → r ≡ implied x }
+    ensures alone { (id : RequestId) (x : Implied) (tree : Data) (r : ServerReply) → IsReadId id → implied_tree x ≡ Some tree
+        → IsReplyOf implies (reply_bytes (result_reply id tree)) r → r ≡ implied x }
+    ensures nothing { (id : RequestId) (x : Implied) (tree : Data) (r : ServerReply) → IsReadId id → implied_tree x ≡ Some tree
+        → ¬ IsReplyOf execute (reply_bytes (result_reply id tree)) r }
 {}
 
 /// The line that is written of a simplified state tells that state and nothing else, however deep it nests.
 pub fn a_simplified_states_line_tells_the_state()
-    ensures { (id : RequestId) (p : KorePattern) (tree : Data) (r : ServerReply) → IsReadId id → IsSpelled p
+    ensures { (id : RequestId) (p : KorePattern) (tree : Data) (r : ServerReply) → IsReadId id
         → simplified_tree p ≡ Some tree → IsReplyOf simplify (reply_bytes (result_reply id tree)) r → r ≡ simplified p }
 {}
 
@@ -128,24 +131,4 @@ pub fn a_failures_line_tells_its_code()
 pub fn an_errors_line_tells_its_code()
     ensures { (method : Method) (id : RequestId) (e : RequestError) (r : ServerReply) → IsReadId id
         → IsReplyOf method (reply_bytes (error_reply id e)) r → (code : ℤ) × (as_i64 (error_parts e).code ≡ Some code) × (r ≡ failed code) }
-{}
-
-// ---- results that needn't have been read
-
-/// The line that is written of a result of execute without next states and predicates tells nothing but that result, where
-/// the tree of its term spells no other pattern; asked of implies, it tells nothing.
-pub fn a_bare_runs_line_tells_that_run_alone()
-    ensures alone { (id : RequestId) (x : ExecutedParts) (tree : Data) (r : ServerReply) → IsReadId id → x.depth < 2 ^ 64 → IsBare x → IsReadBack x.state.term
-        → executed_tree x ≡ Some tree → IsReplyOf execute (reply_bytes (result_reply id tree)) r → r ≡ executed x }
-    ensures nothing { (id : RequestId) (x : ExecutedParts) (tree : Data) (r : ServerReply) → IsReadId id → x.depth < 2 ^ 64 → IsBare x
-        → executed_tree x ≡ Some tree → ¬ IsReplyOf implies (reply_bytes (result_reply id tree)) r }
-{}
-
-/// The line that is written of a result of implies tells nothing but that result, where the trees of its patterns spell no
-/// other patterns; asked of execute, it tells nothing.
-pub fn an_implications_line_tells_it_alone()
-    ensures alone { (id : RequestId) (x : Implied) (tree : Data) (r : ServerReply) → IsReadId id → IsImpliedReadBack x → implied_tree x ≡ Some tree
-        → IsReplyOf implies (reply_bytes (result_reply id tree)) r → r ≡ implied x }
-    ensures nothing { (id : RequestId) (x : Implied) (tree : Data) (r : ServerReply) → IsReadId id → implied_tree x ≡ Some tree
-        → ¬ IsReplyOf execute (reply_bytes (result_reply id tree)) r }
 {}

@@ -3,7 +3,7 @@ use Rattle.std.proofs.Common.{◌≡◌, false, Option, Some, None, option_map, 
 use Rattle.serde_json.specs.Data.{Data, Items}
 use Rattle.serde_json.specs.Written.{has_float, items_have_float}
 use Rattle.kp_kore.specs.Syntax.{KoreSort, sort_of, sort_variable, KoreSorts, no_sorts, next_sort, KorePattern, KorePatterns, variable, application, literal, top, bottom, negation, conjunction, disjunction, implication, equivalence, rewriting, exists, forall, ceil, floor, equals, membership, no_patterns, next_pattern}
-use Rattle.kp_json.specs.Written.{sort_tree, sort_trees, one_part, one_list, first_and_rest, two_parts, pattern_tree, pattern_trees, wrapped, wrapped_pattern}
+use Rattle.kp_json.specs.Written.{sort_tree, sort_trees, one_part, one_list, first_and_rest, two_parts, of_two_or_more, pattern_tree, pattern_trees, wrapped, wrapped_pattern}
 
 mutual
   sort_plain : (s : KoreSort) → has_float (sort_tree s) ≡ false
@@ -36,6 +36,11 @@ two_plain make None y keeps h k = tt
 two_plain make (Some d) None keeps h k = tt
 two_plain make (Some d) (Some e) keeps h k = keeps d e h k
 
+two_or_more_plain : (ps : KorePatterns) (x : Option Items) → ArePlain x → ArePlain (of_two_or_more ps x)
+two_or_more_plain no_patterns x h = tt
+two_or_more_plain (next_pattern p no_patterns) x h = tt
+two_or_more_plain (next_pattern p (next_pattern q ps)) x h = h
+
 rest_plain : (x : Option Data) (y : Option Items) → IsPlain x → ArePlain y → ArePlain (first_and_rest x y)
 rest_plain None y h k = tt
 rest_plain (Some d) None h k = tt
@@ -49,8 +54,8 @@ mutual
   pattern_plain (top s) = rw (sort_plain s) refl
   pattern_plain (bottom s) = rw (sort_plain s) refl
   pattern_plain (negation s p) = one_plain _ (pattern_tree p) (λ d h. rw (h, sort_plain s) refl) (pattern_plain p)
-  pattern_plain (conjunction s ps) = list_plain _ (pattern_trees ps) (λ ds h. rw (h, sort_plain s) refl) (patterns_plain ps)
-  pattern_plain (disjunction s ps) = list_plain _ (pattern_trees ps) (λ ds h. rw (h, sort_plain s) refl) (patterns_plain ps)
+  pattern_plain (conjunction s ps) = list_plain _ (of_two_or_more ps (pattern_trees ps)) (λ ds h. rw (h, sort_plain s) refl) (two_or_more_plain ps (pattern_trees ps) (patterns_plain ps))
+  pattern_plain (disjunction s ps) = list_plain _ (of_two_or_more ps (pattern_trees ps)) (λ ds h. rw (h, sort_plain s) refl) (two_or_more_plain ps (pattern_trees ps) (patterns_plain ps))
   pattern_plain (implication s p q) = two_plain _ (pattern_tree p) (pattern_tree q) (λ d e h k. rw (h, k, sort_plain s) refl) (pattern_plain p) (pattern_plain q)
   pattern_plain (equivalence s p q) = two_plain _ (pattern_tree p) (pattern_tree q) (λ d e h k. rw (h, k, sort_plain s) refl) (pattern_plain p) (pattern_plain q)
   pattern_plain (rewriting s p q) = two_plain _ (pattern_tree p) (pattern_tree q) (λ d e h k. rw (h, k, sort_plain s) refl) (pattern_plain p) (pattern_plain q)

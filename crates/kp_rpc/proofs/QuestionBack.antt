@@ -51,4 +51,4 @@ sides_back (Some x) a c h k = record { numbers = (h.numbers, (k.numbers, (tt, tt
 pub implies_back : (q : ImpliesRequest) → IsAskable (to_imply q) → IsBack (question_tree (to_imply q))
 implies_back q h =
     two_back (λ a c. request_object q.id implies_method (implies_params q.module_name a c)) (wrapped_pattern q.antecedent) (wrapped_pattern q.consequent)
-    (λ a c b d. request_back q.id implies_method (implies_params q.module_name a c) h.0 (sides_back q.module_name a c b d)) (wrapped_back q.antecedent) (wrapped_back q.consequent)
+    (λ a c b d. request_back q.id implies_method (implies_params q.module_name a c) h (sides_back q.module_name a c b d)) (wrapped_back q.antecedent) (wrapped_back q.consequent)

@@ -9,15 +9,16 @@ use Rattle.kp_kore.specs.Syntax.{Text, KorePattern}
 use Rattle.kp_json.specs.Members.{Has}
 use Rattle.kp_json.specs.Trees.{SpellsWrapped}
 use Rattle.kp_json.specs.Written.{two_parts, wrapped_pattern}
+use Rattle.kp_json.proofs.SortsBack.{one_data, same_members}
+use Rattle.kp_json.proofs.TreesBack.{tree_back}
 use Rattle.kp_rpc.specs.Frame.{IsFrame}
 use Rattle.kp_rpc.specs.Request.{IsReadId, RequestId, id_text, id_number, id_null, id_tree, IsIdTree, HasId, TextAt, ExecuteOptions, HasOptions, ExecuteRequest, IsExecute, execute_method, ImpliesRequest, IsImplies, implies_method}
-use Rattle.kp_rpc.specs.Questions.{IsLawfulId, to_execute, to_imply, with_text, execute_params, implies_params, question_tree, IsReadBack, IsAskable}
+use Rattle.kp_rpc.specs.Questions.{IsLawfulId, to_execute, to_imply, with_text, execute_params, implies_params, question_tree, IsAskable}
 use Rattle.kp_rpc.proofs.Asked.{put_other, text_here, named, options_are, state_is, request_members}
 use Rattle.kp_rpc.proofs.CompactRead.{compact_reads}
 use Rattle.kp_rpc.proofs.OptionsRead.{options_told, text_told}
 use Rattle.kp_rpc.proofs.QuestionBack.{execute_back, implies_back}
 use Rattle.kp_rpc.proofs.ReadBack.{plain_back}
-use Rattle.kp_rpc.proofs.SortsBack.{one_data, same_members}
 
 from_some : {A : Type 0} (x y : A) → Some x ≡ Some y → x ≡ y
 from_some x y e = cc e
@@ -50,8 +51,8 @@ id_is m i j here fits (d, has, is) = one_id (id_tree j) i j (subst (λ t. IsIdTr
 
 -- ---- patterns
 
-pattern_is : (p q : KorePattern) (tree : Data) (o : Members) → IsReadBack p → wrapped_pattern p ≡ Some tree → object o ≡ tree → SpellsWrapped (object o) q → q ≡ p
-pattern_is p q tree o back e same h = back tree q e (subst (λ t. SpellsWrapped t q) same h)
+pattern_is : (p q : KorePattern) (tree : Data) (o : Members) → wrapped_pattern p ≡ Some tree → object o ≡ tree → SpellsWrapped (object o) q → q ≡ p
+pattern_is p q tree o e same h = tree_back p q tree e (subst (λ t. SpellsWrapped t q) same h)
 
 -- ---- execute
 
@@ -85,7 +86,7 @@ execute_is q r tree askable written asked =
     let has_state : Has params (codes "state") (object asked.state) = subst (λ p. Has p (codes "state") (object asked.state)) same h.has_state in
     let state : object asked.state ≡ tree = one_data params (codes "state") (object asked.state) tree has_state (state_is q.options tree) in
     let options : r.options ≡ q.options = options_is params r.options q.options (subst (λ p. HasOptions p r.options) same h.has_options) (options_are q.options tree) in
-    request_is r.id q.id r.state q.state r.options q.options (id_is m r.id q.id refl askable.0 asked.is_request.has_id) (pattern_is q.state r.state tree asked.state askable.2 written state asked.spells) options
+    request_is r.id q.id r.state q.state r.options q.options (id_is m r.id q.id refl askable.0 asked.is_request.has_id) (pattern_is q.state r.state tree asked.state written state asked.spells) options
 
 pub execute_read : (q r : ExecuteRequest) (d : Data) (o : Members) (frame : List ℕ) → IsAskable (to_execute q) → question_tree (to_execute q) ≡ Some d → frame ≡ compact_text d → IsFrame frame (object o)
     → IsExecute o r → r ≡ q
@@ -145,9 +146,9 @@ implies_is q r left right askable left_written right_written asked =
     let a : object asked.antecedent ≡ left = one_data params (codes "antecedent") (object asked.antecedent) left has_left (antecedent_here q.module_name left right) in
     let c : object asked.consequent ≡ right = one_data params (codes "consequent") (object asked.consequent) right has_right (consequent_here q.module_name left right) in
     let name : r.module_name ≡ q.module_name = name_is params r.module_name q.module_name (subst (λ p. TextAt p named r.module_name) same h.has_module) (module_here q.module_name left right) in
-    implication_is r.id q.id r.antecedent q.antecedent r.consequent q.consequent r.module_name q.module_name (id_is m r.id q.id refl askable.0 asked.is_request.has_id)
-    (pattern_is q.antecedent r.antecedent left asked.antecedent askable.1 left_written a asked.spells_antecedent)
-    (pattern_is q.consequent r.consequent right asked.consequent askable.2 right_written c asked.spells_consequent) name
+    implication_is r.id q.id r.antecedent q.antecedent r.consequent q.consequent r.module_name q.module_name (id_is m r.id q.id refl askable asked.is_request.has_id)
+    (pattern_is q.antecedent r.antecedent left asked.antecedent left_written a asked.spells_antecedent)
+    (pattern_is q.consequent r.consequent right asked.consequent right_written c asked.spells_consequent) name
 
 pub implies_read : (q r : ImpliesRequest) (d : Data) (o : Members) (frame : List ℕ) → IsAskable (to_imply q) → question_tree (to_imply q) ≡ Some d → frame ≡ compact_text d → IsFrame frame (object o)
     → IsImplies o r → r ≡ q

@@ -14,7 +14,7 @@ use Rattle.serde_json.specs.Written.{outline, items_outline, members_outline, co
 use Rattle.serde_json.proofs.Texts.{print-outline}
 use Rattle.serde_json.proofs.Numbers.{number_of-decimal, number_of-negative}
 use Rattle.kp_kore.specs.Syntax.{KoreSort, sort_of, sort_variable, KoreSorts, no_sorts, next_sort, KorePattern, KorePatterns, variable, application, literal, top, bottom, negation, conjunction, disjunction, implication, equivalence, rewriting, exists, forall, ceil, floor, equals, membership, no_patterns, next_pattern}
-use Rattle.kp_json.specs.Written.{sort_tree, sort_trees, one_part, one_list, first_and_rest, two_parts, pattern_tree, pattern_trees, wrapped, wrapped_pattern}
+use Rattle.kp_json.specs.Written.{sort_tree, sort_trees, one_part, one_list, first_and_rest, two_parts, of_two_or_more, pattern_tree, pattern_trees, wrapped, wrapped_pattern}
 use Rattle.kp_rpc.specs.Request.{RequestId, IsReadId, id_text, id_number, id_null, id_tree}
 use Rattle.kp_rpc.specs.Reply.{result_reply}
 
@@ -94,6 +94,11 @@ two_back make None y keeps h k = tt
 two_back make (Some d) None keeps h k = tt
 two_back make (Some d) (Some e) keeps h k = keeps d e h k
 
+two_or_more_back : (ps : KorePatterns) (x : Option Items) → AreBack x → AreBack (of_two_or_more ps x)
+two_or_more_back no_patterns x h = tt
+two_or_more_back (next_pattern p no_patterns) x h = tt
+two_or_more_back (next_pattern p (next_pattern q ps)) x h = h
+
 rest_back : (x : Option Data) (y : Option Items) → IsBack x → AreBack y → AreBack (first_and_rest x y)
 rest_back None y h k = tt
 rest_back (Some d) None h k = tt
@@ -107,8 +112,8 @@ mutual
   pattern_back (top s) = let s = sort_back s in record { numbers = (s.numbers, (tt, tt)); is = rw s.is refl }
   pattern_back (bottom s) = let s = sort_back s in record { numbers = (s.numbers, (tt, tt)); is = rw s.is refl }
   pattern_back (negation s p) = let s = sort_back s in one_back _ (pattern_tree p) (λ d h. record { numbers = (h.numbers, (s.numbers, (tt, tt))); is = rw (h.is, s.is) refl }) (pattern_back p)
-  pattern_back (conjunction s ps) = let s = sort_back s in list_back _ (pattern_trees ps) (λ ds h. record { numbers = (h.numbers, (s.numbers, (tt, tt))); is = rw (h.is, s.is) refl }) (patterns_back ps)
-  pattern_back (disjunction s ps) = let s = sort_back s in list_back _ (pattern_trees ps) (λ ds h. record { numbers = (h.numbers, (s.numbers, (tt, tt))); is = rw (h.is, s.is) refl }) (patterns_back ps)
+  pattern_back (conjunction s ps) = let s = sort_back s in list_back _ (of_two_or_more ps (pattern_trees ps)) (λ ds h. record { numbers = (h.numbers, (s.numbers, (tt, tt))); is = rw (h.is, s.is) refl }) (two_or_more_back ps (pattern_trees ps) (patterns_back ps))
+  pattern_back (disjunction s ps) = let s = sort_back s in list_back _ (of_two_or_more ps (pattern_trees ps)) (λ ds h. record { numbers = (h.numbers, (s.numbers, (tt, tt))); is = rw (h.is, s.is) refl }) (two_or_more_back ps (pattern_trees ps) (patterns_back ps))
   pattern_back (implication s p q) = let s = sort_back s in two_back _ (pattern_tree p) (pattern_tree q) (λ d e h k. record { numbers = (h.numbers, (k.numbers, (s.numbers, (tt, tt)))); is = rw (h.is, k.is, s.is) refl }) (pattern_back p) (pattern_back q)
   pattern_back (equivalence s p q) = let s = sort_back s in two_back _ (pattern_tree p) (pattern_tree q) (λ d e h k. record { numbers = (h.numbers, (k.numbers, (s.numbers, (tt, tt)))); is = rw (h.is, k.is, s.is) refl }) (pattern_back p) (pattern_back q)
   pattern_back (rewriting s p q) = let s = sort_back s in two_back _ (pattern_tree p) (pattern_tree q) (λ d e h k. record { numbers = (k.numbers, (s.numbers, (h.numbers, (tt, tt)))); is = rw (h.is, k.is, s.is) refl }) (pattern_back p) (pattern_back q)

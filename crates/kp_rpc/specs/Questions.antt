@@ -1,12 +1,11 @@
 -- What a client asks, as JSON trees: requests of execute and of implies, with the optional members that there are.
 -- Source: JSON-RPC 2.0 (request objects); the K Haskell backend's JSON-RPC documentation (execute, implies).
-use Rattle.std.specs.Prelude.{◌≡◌, ◌<◌, ◌^◌, ℕ, List, [], ◌∷◌, Option, Some, None, codes, ⊤}
+use Rattle.std.specs.Prelude.{◌<◌, ◌^◌, ℕ, List, [], ◌∷◌, Option, Some, None, codes, ⊤}
 use Rattle.std.specs.Option.{option_map}
 use Rattle.serde_json.specs.Data.{Data, unsigned, number, string, array, object, Items, no_items, item, Members, no_members, put}
-use Rattle.kp_kore.specs.Syntax.{Text, KorePattern}
+use Rattle.kp_kore.specs.Syntax.{Text}
 use Rattle.kp_json.specs.Members.{object_of}
 use Rattle.kp_json.specs.Written.{two_parts, wrapped_pattern}
-use Rattle.kp_json.specs.Trees.{SpellsWrapped}
 use Rattle.kp_rpc.specs.Request.{RequestId, IsReadId, id_tree, IsIdTree, ExecuteOptions, ExecuteRequest, execute_method, ImpliesRequest, implies_method}
 
 pub data Question : Type 0 where
@@ -57,16 +56,12 @@ question_tree (to_imply q) = two_parts (λ a c. request_object q.id implies_meth
 
 -- ---- questions that are read as they were asked
 
--- the tree that is written of the pattern spells no other pattern
-abbrev pub IsReadBack : KorePattern → Type 0
-IsReadBack p = (tree : Data) (q : KorePattern) → wrapped_pattern p ≡ Some tree → SpellsWrapped tree q → q ≡ p
-
 -- a number of 64 bits, or none
 abbrev pub IsReadNumber : Option ℕ → Type 0
 IsReadNumber None = ⊤
 IsReadNumber (Some n) = n < 2 ^ 64
 
--- what is read of the question's text, if anything, is the question
+-- its numbers are written so that they are read again: what is read of the question's text, if anything, is the question
 abbrev pub IsAskable : Question → Type 0
-IsAskable (to_execute q) = IsReadId q.id × IsReadNumber q.options.max_depth × IsReadBack q.state
-IsAskable (to_imply q) = IsReadId q.id × IsReadBack q.antecedent × IsReadBack q.consequent
+IsAskable (to_execute q) = IsReadId q.id × IsReadNumber q.options.max_depth
+IsAskable (to_imply q) = IsReadId q.id

@@ -1,13 +1,11 @@
-// Laws of requests, and of patterns that are read back.
-ghost use Rattle.std.specs.Prelude.{◌≡◌, Some, ℕ, List, true};
+// Laws of requests.
+ghost use Rattle.std.specs.Prelude.{◌≡◌, Some, ℕ, List};
 ghost use Rattle.serde_json.specs.Written.{compact_text};
 ghost use Rattle.serde_json.specs.Data.{Data, object, Members};
-ghost use Rattle.kp_kore.specs.Syntax.{KoreSort, KorePattern, top, bottom, conjunction, no_patterns, next_pattern};
-ghost use Rattle.kp_kore.specs.Parts.{is_term};
 ghost use Rattle.kp_json.specs.Trees.{SpellsWrapped};
 ghost use Rattle.kp_rpc.specs.Frame.{IsFrame};
 ghost use Rattle.kp_rpc.specs.Request.{ExecuteRequest, ImpliesRequest, IsExecute, IsImplies};
-ghost use Rattle.kp_rpc.specs.Questions.{IsAskable, IsLawfulId, IsReadBack, question_tree, to_execute, to_imply};
+ghost use Rattle.kp_rpc.specs.Questions.{IsAskable, IsLawfulId, question_tree, to_execute, to_imply};
 ghost use Rattle.kp_rpc.specs.View.{id_view};
 ghost use Rattle.kp_rpc.specs.declared.id.Id.{Id as SpecId};
 
@@ -29,35 +27,6 @@ pub fn what_is_asked_to_imply_is_that_request()
 #[tactic(auto, using(crate::proofs::Asked::ids_are_lawful))]
 pub fn each_id_is_lawful()
     ensures { (id : SpecId) → IsLawfulId (id_view id) }
-{}
-
-/// The tree that is written of a term spells no other pattern.
-#[tactic(auto, using(crate::proofs::TermsBack::term_back))]
-pub fn a_term_is_read_back()
-    ensures { (p : KorePattern) → is_term p ≡ true → IsReadBack p }
-{}
-
-/// The tree that is written of what a tree spells spells no other pattern.
-#[tactic(auto, using(crate::proofs::StatesBack::spelled_back))]
-pub fn what_was_read_is_read_back()
-    ensures { (d : Data) (p : KorePattern) → SpellsWrapped d p → IsReadBack p }
-{}
-
-/// The tree that is written of `\top` spells no other pattern.
-#[tactic(auto, using(crate::proofs::TermsBack::top_back))]
-pub fn top_is_read_back()
-    ensures { (s : KoreSort) → IsReadBack (top s) }
-{}
-
-/// The tree that is written of `\bottom` spells no other pattern.
-#[tactic(auto, using(crate::proofs::TermsBack::bottom_back))]
-pub fn bottom_is_read_back()
-    ensures { (s : KoreSort) → IsReadBack (bottom s) }
-{}
-
-/// The tree that is written of the conjunction of two patterns that trees spell spells no other pattern, at any sort.
-pub fn a_conjunction_of_what_was_read_is_read_back()
-    ensures { (s : KoreSort) (p q : KorePattern) (d e : Data) → SpellsWrapped d p → SpellsWrapped e q → IsReadBack (conjunction s (next_pattern p (next_pattern q no_patterns))) }
 {}
 
 /// What is read of the text of a question of execute is that question, however deep it nests.

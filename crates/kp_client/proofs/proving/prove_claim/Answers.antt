@@ -13,16 +13,16 @@ pub returns-clause-status : goal.returns-clause-status
 returns-clause-status g c e = let r = c.in_ok-play_rounds.ensures.proved in passed_proves _ _ r.exchanges _ _ r.proves e
 
 pub returns-clause-says : goal.returns-clause-says
-returns-clause-says g c t serves closed back =
+returns-clause-says g c t serves closed =
     let fits : c.args.options.now.max_depth < 2 ^ 64 = search rules in
-    proof_says _ _ t _ _ _ _ fits c.in_ok-play_rounds.ensures.proved serves closed back
+    proof_says _ _ t _ _ _ _ fits c.in_ok-play_rounds.ensures.proved serves closed
 
 pub returns-clause-holds : goal.returns-clause-holds
-returns-clause-holds g c t serves ground back e =
+returns-clause-holds g c t serves ground e =
     let fits : c.args.options.now.max_depth < 2 ^ 64 = search rules in
-    proof_holds _ _ t _ _ _ _ fits c.in_ok-play_rounds.ensures.proved serves ground back e
+    proof_holds _ _ t _ _ _ _ fits c.in_ok-play_rounds.ensures.proved serves ground e
 
 pub returns-clause-stuck : goal.returns-clause-stuck
-returns-clause-stuck g c t n serves back e =
+returns-clause-stuck g c t n serves e =
     let fits : c.args.options.now.max_depth < 2 ^ 64 = search rules in
-    proof_fails _ _ t _ _ _ _ n fits c.in_ok-play_rounds.ensures.proved serves back e
+    proof_fails _ _ t _ _ _ _ n fits c.in_ok-play_rounds.ensures.proved serves e

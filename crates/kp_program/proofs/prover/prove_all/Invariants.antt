@@ -2,7 +2,7 @@ use Rattle.std.proofs.Common.{map, take}
 use Rattle.std.specs.List.{AllByRecursion, AllZip}
 use Rattle.kp_claims.specs.Items.{items_view}
 use Rattle.kp_report.specs.View.{line_view}
-use Rattle.kp_program.specs.ClaimFiles.{IsProvableClaim}
+use Rattle.kp_program.specs.ClaimFiles.{IsGroundClaim}
 use Rattle.kp_kore.specs.Theory.{Theory}
 use Rattle.kp_book.specs.Books.{Opening}
 use Rattle.kp_program.specs.LocalTold.{IsTheoryOver, table_of}
@@ -11,4 +11,4 @@ use Rattle.kp_program.proofs.prover.prove_all.Given as goal
 
 abbrev pub invariant-loop-place : goal.invariant-loop-place
 invariant-loop-place l =
-    (o : Opening) (t : Theory) → IsTheoryOver (table_of l.service) o t → AllByRecursion IsProvableClaim (items_view l.claims) → AllZip (IsLineFor o t l.max_depth) (take l.place (items_view l.claims)) (map line_view l.lines.items)
+    (o : Opening) (t : Theory) → IsTheoryOver (table_of l.service) o t → AllByRecursion IsGroundClaim (items_view l.claims) → AllZip (IsLineFor o t l.max_depth) (take l.place (items_view l.claims)) (map line_view l.lines.items)

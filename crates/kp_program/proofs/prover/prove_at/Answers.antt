@@ -9,7 +9,7 @@ use Rattle.kp_program.proofs.Proving.{item_at, outcome_is, serves_theory}
 use Rattle.kp_program.proofs.prover.prove_at.Goals as goal
 
 pub returns-in-Ok : goal.returns-in-Ok
-returns-in-Ok c = λ o t x is at provable.
+returns-in-Ok c = λ o t x is at ground.
     let table = c.in_ok-link.link in
     let here : IsTheoryOver table o t = subst (λ (a : Table). IsTheoryOver a o t) (sym c.in_ok-link.ensures) is in
     let serves = serves_theory o t table here in
@@ -19,7 +19,7 @@ returns-in-Ok c = λ o t x is at provable.
       label = copied ∙ ap (λ (i : LabelledClaim). i.label) (item_at c.args.claims.now c.args.place c.index-claims-place.result x c.index-claims-place.is c.requires.place at);
       outcome = outcome_is o t table c.args.max_depth x.claim _ (tree_view c.in-Ok._tree) (outcome_view c.in-Ok.outcome) here
           (c.in-Ok.ensures.proved x at)
-          (c.in-Ok.ensures.says x told at serves provable.ground.right provable.read_back)
-          (c.in-Ok.ensures.holds x told at serves provable.ground provable.read_back)
-          (λ n. c.in-Ok.ensures.stuck x told n at serves provable.read_back);
+          (c.in-Ok.ensures.says x told at serves ground.right)
+          (c.in-Ok.ensures.holds x told at serves ground)
+          (λ n. c.in-Ok.ensures.stuck x told n at serves);
     }

@@ -1,41 +1,20 @@
 -- What is read of the tree of a result, with its predicate and its next states, is that result alone.
 use Rattle.std.proofs.Common.{◌≡◌, ℕ, List, [], ◌∷◌, Bool, true, false, Option, Some, None, option_map, option_and_then, refl, sym, ap, ap₂, ◌∙◌}
 use Rattle.std.specs.Prelude.{if◌then◌else◌, codes}
-use Rattle.std.specs.List.{AllByRecursion, AllZip}
 use Rattle.serde_json.specs.Data.{Data, array, object, Items, no_items, item, Members, no_members, put}
-use Rattle.serde_json.specs.Read.{read}
 use Rattle.kp_kore.specs.Syntax.{Text, KorePattern}
-use Rattle.kp_kore.specs.Cases.{NextState}
 use Rattle.kp_kore.specs.Causes.{foreign}
-use Rattle.kp_kore.specs.Executions as theory
 use Rattle.kp_json.specs.Faults.{wrapped_reading}
 use Rattle.kp_json.specs.Written.{wrapped_pattern}
-use Rattle.kp_rpc.specs.Questions.{IsReadBack, with_text}
-use Rattle.kp_results.specs.Results.{StateParts, NextParts, Ending, vacuous, depth_bound, stuck, branching, cut_point, terminal, aborted, ExecutedParts, IsNextOf, IsReasonOf}
+use Rattle.kp_rpc.specs.Questions.{with_text}
+use Rattle.kp_results.specs.Results.{StateParts, NextParts, Ending, vacuous, depth_bound, stuck, branching, cut_point, terminal, aborted, ExecutedParts}
 use Rattle.kp_replies.specs.Read.{pattern_in, is_rule_id, if_rule_id, state_from, read_state, next_from, read_next, first_next, read_nexts, one_alone, nexts_of, executed_from, read_executed, read_implied}
 use Rattle.kp_replies.specs.Replies.{StandWith}
 use Rattle.kp_replies.specs.Written.{state_tree, next_tree, first_item, next_trees, with_nexts, executed_members, executed_tree}
 use Rattle.kp_replies.proofs.PatternsRead.{only_in}
 
-pub same : {A : Type 0} (x y : A) → Some x ≡ Some y → x ≡ y
+same : {A : Type 0} (x y : A) → Some x ≡ Some y → x ≡ y
 same x y e = cc e
-
--- ---- results whose patterns are read back
-
--- the trees of the patterns of a state spell no others
-abbrev pub IsStateReadBack : KorePattern → Option KorePattern → Type 0
-IsStateReadBack term None = IsReadBack term
-IsStateReadBack term (Some q) = IsReadBack term × IsReadBack q
-
--- of a next state
-pub record IsNextReadBack (n : NextParts) : Type 0 where
-  pub predicate : IsReadBack n.predicate
-  pub state : IsStateReadBack n.state.term n.state.predicate
-
--- of a result
-pub record AreReadBack (x : ExecutedParts) : Type 0 where
-  pub state : IsStateReadBack x.state.term x.state.predicate
-  pub nexts : AllByRecursion IsNextReadBack x.nexts
 
 -- ---- trees
 
@@ -47,17 +26,17 @@ found t = pattern_in (wrapped_reading t)
 abbrev more : Text → Option Data → Members → Option Members
 more key x o = option_map (λ d. put key d o) x
 
-abbrev pub one_state : Data → Data
+abbrev one_state : Data → Data
 one_state t = object (put (codes "term") t no_members)
 
-abbrev pub two_state : Data → Data → Data
+abbrev two_state : Data → Data → Data
 two_state p t = object (put (codes "predicate") p (put (codes "term") t no_members))
 
-pub one_made : (x : Option Data) (d : Data) → option_map object (option_and_then (λ o. Some o) (more (codes "term") x no_members)) ≡ Some d → (t : Data) × (x ≡ Some t) × (one_state t ≡ d)
+one_made : (x : Option Data) (d : Data) → option_map object (option_and_then (λ o. Some o) (more (codes "term") x no_members)) ≡ Some d → (t : Data) × (x ≡ Some t) × (one_state t ≡ d)
 one_made None d e = absurd (cc e)
 one_made (Some t) d e = (t, refl, same (one_state t) d e)
 
-pub two_made : (x y : Option Data) (d : Data) → option_map object (option_and_then (more (codes "predicate") y) (more (codes "term") x no_members)) ≡ Some d
+two_made : (x y : Option Data) (d : Data) → option_map object (option_and_then (more (codes "predicate") y) (more (codes "term") x no_members)) ≡ Some d
     → (t : Data) × (p : Data) × (x ≡ Some t) × (y ≡ Some p) × (two_state p t ≡ d)
 two_made None y d e = absurd (cc e)
 two_made (Some t) None d e = absurd (cc e)
@@ -84,32 +63,32 @@ some_found : (x : Option KorePattern) (y : Option KorePattern) (q : KorePattern)
 some_found None y q only e = absurd (cc e)
 some_found (Some k) y q only e = sym (same (Some k) y e) ∙ ap Some (only k refl)
 
-pub state_only : (term : KorePattern) (predicate : Option KorePattern) (d : Data) (s : StateParts) → IsStateReadBack term predicate → state_tree (record { term = term; predicate = predicate }) ≡ Some d
+state_only : (term : KorePattern) (predicate : Option KorePattern) (d : Data) (s : StateParts) → state_tree (record { term = term; predicate = predicate }) ≡ Some d
     → read_state d ≡ Some s → s ≡ record { term = term; predicate = predicate }
-state_only term None d s back made read =
+state_only term None d s made read =
     let m = one_made (wrapped_pattern term) d made in
     let f = state_found (found m.0) (Some None) s (ap read_state m.2 ∙ read) in
-    ap₂ state_of (only_in term s.term m.0 back m.1 f.term) (sym (same None s.predicate f.predicate))
-state_only term (Some q) d s back made read =
+    ap₂ state_of (only_in term s.term m.0 m.1 f.term) (sym (same None s.predicate f.predicate))
+state_only term (Some q) d s made read =
     let m = two_made (wrapped_pattern term) (wrapped_pattern q) d made in
     let f = state_found (found m.0) (option_map Some (found m.1)) s (ap read_state m.4 ∙ read) in
-    ap₂ state_of (only_in term s.term m.0 back.0 m.2 f.term) (some_found (found m.1) s.predicate q (λ k. only_in q k m.1 back.1 m.3) f.predicate)
+    ap₂ state_of (only_in term s.term m.0 m.2 f.term) (some_found (found m.1) s.predicate q (λ k. only_in q k m.1 m.3) f.predicate)
 
 -- ---- next states
 
-abbrev pub one_next : Option Text → Data → Data → Data
+abbrev one_next : Option Text → Data → Data → Data
 one_next rule w t = object (put (codes "rule-predicate") w (put (codes "term") t (with_text (codes "rule-id") rule no_members)))
 
-abbrev pub two_next : Option Text → Data → Data → Data → Data
+abbrev two_next : Option Text → Data → Data → Data → Data
 two_next rule w p t = object (put (codes "rule-predicate") w (put (codes "predicate") p (put (codes "term") t (with_text (codes "rule-id") rule no_members))))
 
-pub one_next_made : (rule : Option Text) (x z : Option Data) (d : Data) → option_map object (option_and_then (more (codes "rule-predicate") z) (option_and_then (λ o. Some o) (more (codes "term") x (with_text (codes "rule-id") rule no_members)))) ≡ Some d
+one_next_made : (rule : Option Text) (x z : Option Data) (d : Data) → option_map object (option_and_then (more (codes "rule-predicate") z) (option_and_then (λ o. Some o) (more (codes "term") x (with_text (codes "rule-id") rule no_members)))) ≡ Some d
     → (t : Data) × (w : Data) × (x ≡ Some t) × (z ≡ Some w) × (one_next rule w t ≡ d)
 one_next_made rule None z d e = absurd (cc e)
 one_next_made rule (Some t) None d e = absurd (cc e)
 one_next_made rule (Some t) (Some w) d e = (t, w, refl, refl, same (one_next rule w t) d e)
 
-pub two_next_made : (rule : Option Text) (x y z : Option Data) (d : Data)
+two_next_made : (rule : Option Text) (x y z : Option Data) (d : Data)
     → option_map object (option_and_then (more (codes "rule-predicate") z) (option_and_then (more (codes "predicate") y) (more (codes "term") x (with_text (codes "rule-id") rule no_members)))) ≡ Some d
     → (t : Data) × (p : Data) × (w : Data) × (x ≡ Some t) × (y ≡ Some p) × (z ≡ Some w) × (two_next rule w p t ≡ d)
 two_next_made rule None y z d e = absurd (cc e)
@@ -154,23 +133,23 @@ rule_only (Some id) r e = id_found id (is_rule_id id) r e
 next_is : (n : NextParts) (rule : Option Text) (when : KorePattern) (s : StateParts) → n.rule ≡ rule → n.predicate ≡ when → n.state ≡ s → n ≡ record { rule = rule; predicate = when; state = s }
 next_is n rule when s a b c = rw (sym a, sym b, sym c) refl
 
-next_only : (rule : Option Text) (when term : KorePattern) (predicate : Option KorePattern) (d : Data) (n : NextParts) → IsReadBack when → IsStateReadBack term predicate
+next_only : (rule : Option Text) (when term : KorePattern) (predicate : Option KorePattern) (d : Data) (n : NextParts)
     → next_tree (record { rule = rule; predicate = when; state = record { term = term; predicate = predicate } }) ≡ Some d → read_next d ≡ Some n
     → n ≡ record { rule = rule; predicate = when; state = record { term = term; predicate = predicate } }
-next_only rule when term None d n back state made read =
+next_only rule when term None d n made read =
     let m = one_next_made rule (wrapped_pattern term) (wrapped_pattern when) d made in
     let f = next_found (rule_of rule) (found m.1) (state_from (found m.0) (Some None)) n (sym (one_next_read rule m.1 m.0) ∙ (ap read_next m.4 ∙ read)) in
     let g = state_found (found m.0) (Some None) n.state f.state_is in
-    next_is n rule when (state_of term None) (rule_only rule n.rule f.rule_is) (only_in when n.predicate m.1 back m.3 f.predicate_is)
-    (ap₂ state_of (only_in term n.state.term m.0 state m.2 g.term) (sym (same None n.state.predicate g.predicate)))
-next_only rule when term (Some q) d n back state made read =
+    next_is n rule when (state_of term None) (rule_only rule n.rule f.rule_is) (only_in when n.predicate m.1 m.3 f.predicate_is)
+    (ap₂ state_of (only_in term n.state.term m.0 m.2 g.term) (sym (same None n.state.predicate g.predicate)))
+next_only rule when term (Some q) d n made read =
     let m = two_next_made rule (wrapped_pattern term) (wrapped_pattern q) (wrapped_pattern when) d made in
     let f = next_found (rule_of rule) (found m.2) (state_from (found m.0) (option_map Some (found m.1))) n (sym (two_next_read rule m.2 m.1 m.0) ∙ (ap read_next m.6 ∙ read)) in
     let g = state_found (found m.0) (option_map Some (found m.1)) n.state f.state_is in
-    next_is n rule when (state_of term (Some q)) (rule_only rule n.rule f.rule_is) (only_in when n.predicate m.2 back m.5 f.predicate_is)
-    (ap₂ state_of (only_in term n.state.term m.0 state.0 m.3 g.term) (some_found (found m.1) n.state.predicate q (λ k. only_in q k m.1 state.1 m.4) g.predicate))
+    next_is n rule when (state_of term (Some q)) (rule_only rule n.rule f.rule_is) (only_in when n.predicate m.2 m.5 f.predicate_is)
+    (ap₂ state_of (only_in term n.state.term m.0 m.3 g.term) (some_found (found m.1) n.state.predicate q (λ k. only_in q k m.1 m.4) g.predicate))
 
-pub first_made : (x : Option Data) (y : Option Items) (ds : Items) → first_item x y ≡ Some ds → (d : Data) × (es : Items) × (x ≡ Some d) × (y ≡ Some es) × (item d es ≡ ds)
+first_made : (x : Option Data) (y : Option Items) (ds : Items) → first_item x y ≡ Some ds → (d : Data) × (es : Items) × (x ≡ Some d) × (y ≡ Some es) × (item d es ≡ ds)
 first_made None y ds e = absurd (cc e)
 first_made (Some d) None ds e = absurd (cc e)
 first_made (Some d) (Some es) ds e = (d, es, refl, refl, same (item d es) ds e)
@@ -180,13 +159,13 @@ first_found None y ns e = absurd (cc e)
 first_found (Some n) None ns e = absurd (cc e)
 first_found (Some n) (Some ms) ns e = (n, ms, refl, refl, same (n ∷ ms) ns e)
 
-pub nexts_only : (ns : List NextParts) (ds : Items) (ms : List NextParts) → AllByRecursion IsNextReadBack ns → next_trees ns ≡ Some ds → read_nexts ds ≡ Some ms → ms ≡ ns
-nexts_only [] ds ms back made read = sym (same [] ms (ap read_nexts (same no_items ds made) ∙ read))
-nexts_only (n ∷ ns) ds ms back made read =
+nexts_only : (ns : List NextParts) (ds : Items) (ms : List NextParts) → next_trees ns ≡ Some ds → read_nexts ds ≡ Some ms → ms ≡ ns
+nexts_only [] ds ms made read = sym (same [] ms (ap read_nexts (same no_items ds made) ∙ read))
+nexts_only (n ∷ ns) ds ms made read =
     let m = first_made (next_tree n) (next_trees ns) ds made in
     let f = first_found (read_next m.0) (read_nexts m.1) ms (ap read_nexts m.4 ∙ read) in
-    let first : f.0 ≡ n = next_only n.rule n.predicate n.state.term n.state.predicate m.0 f.0 back.0.predicate back.0.state m.2 f.2 in
-    sym f.4 ∙ (ap (λ z. z ∷ f.1) first ∙ ap (λ l. n ∷ l) (nexts_only ns m.1 f.1 back.1 m.3 f.3))
+    let first : f.0 ≡ n = next_only n.rule n.predicate n.state.term n.state.predicate m.0 f.0 m.2 f.2 in
+    sym f.4 ∙ (ap (λ z. z ∷ f.1) first ∙ ap (λ l. n ∷ l) (nexts_only ns m.1 f.1 m.3 f.3))
 
 -- ---- results
 
@@ -196,7 +175,7 @@ record RunFound (depth : Option ℕ) (state : Option StateParts) (ending : Optio
   ending_is : ending ≡ Some x.ending
   nexts_are : nexts x.ending ≡ Some x.nexts
 
-pub mapped : {A B : Type 0} (f : A → B) (x : Option A) (b : B) → option_map f x ≡ Some b → (a : A) × (x ≡ Some a) × (f a ≡ b)
+mapped : {A B : Type 0} (f : A → B) (x : Option A) (b : B) → option_map f x ≡ Some b → (a : A) × (x ≡ Some a) × (f a ≡ b)
 mapped f None b e = absurd (cc e)
 mapped f (Some a) b e = (a, refl, cc e)
 
@@ -235,10 +214,10 @@ ending_only (terminal id) f h = named_only terminal id (is_rule_id id) f h
 ending_only (aborted (foreign id)) f h = named_only (λ i. aborted (foreign i)) id (is_rule_id id) f h
 
 -- the tree of a result, from that of its state and those of its next states
-abbrev pub plain_tree : ℕ → Ending → Data → Data
+abbrev plain_tree : ℕ → Ending → Data → Data
 plain_tree n e d = object (executed_members n e d)
 
-abbrev pub tree_with : ℕ → Ending → Data → Items → Data
+abbrev tree_with : ℕ → Ending → Data → Items → Data
 tree_with n e d ds = object (put (codes "next-states") (array ds) (executed_members n e d))
 
 abbrev result : ℕ → Ending → StateParts → List NextParts → ExecutedParts
@@ -255,7 +234,7 @@ parts_only x n e s ns d nexts state later h =
     let is : x.ending ≡ e = ending_only e x.ending f.ending_is in
     whole x n e s ns (sym (same n x.depth f.depth_is)) is (state x.state f.state_is) (later x.nexts (ap nexts (sym is) ∙ f.nexts_are))
 
-pub items_made : (x : Option Items) (o : Members) (tree : Data) → option_map object (option_map (λ ds. put (codes "next-states") (array ds) o) x) ≡ Some tree
+items_made : (x : Option Items) (o : Members) (tree : Data) → option_map object (option_map (λ ds. put (codes "next-states") (array ds) o) x) ≡ Some tree
     → (ds : Items) × (x ≡ Some ds) × (object (put (codes "next-states") (array ds) o) ≡ tree)
 items_made None o tree e = absurd (cc e)
 items_made (Some ds) o tree e = (ds, refl, same (object (put (codes "next-states") (array ds) o)) tree e)
@@ -270,35 +249,35 @@ one_only (Some []) ms ns only e = absurd (cc e)
 one_only (Some (n ∷ [])) ms ns only e = sym (same (n ∷ []) ms e) ∙ only (n ∷ []) refl
 one_only (Some (n ∷ m ∷ l)) ms ns only e = absurd (cc e)
 
-run_only : (x : ExecutedParts) (n : ℕ) (e : Ending) (s : StateParts) (ns : List NextParts) (d tree : Data) → ((z : StateParts) → read_state d ≡ Some z → z ≡ s) → AllByRecursion IsNextReadBack ns → StandWith e ns
+run_only : (x : ExecutedParts) (n : ℕ) (e : Ending) (s : StateParts) (ns : List NextParts) (d tree : Data) → ((z : StateParts) → read_state d ≡ Some z → z ≡ s) → StandWith e ns
     → option_map object (with_nexts e ns (executed_members n e d)) ≡ Some tree → read_executed tree ≡ Some x → x ≡ result n e s ns
-run_only x n vacuous s ns d tree state back stand made read =
+run_only x n vacuous s ns d tree state stand made read =
     parts_only x n vacuous s ns d (nexts_of (plain_tree n vacuous d)) state (λ ms. none_only ms ns stand) (ap read_executed (same (plain_tree n vacuous d) tree made) ∙ read)
-run_only x n depth_bound s ns d tree state back stand made read =
+run_only x n depth_bound s ns d tree state stand made read =
     parts_only x n depth_bound s ns d (nexts_of (plain_tree n depth_bound d)) state (λ ms. none_only ms ns stand) (ap read_executed (same (plain_tree n depth_bound d) tree made) ∙ read)
-run_only x n stuck s ns d tree state back stand made read =
+run_only x n stuck s ns d tree state stand made read =
     parts_only x n stuck s ns d (nexts_of (plain_tree n stuck d)) state (λ ms. none_only ms ns stand) (ap read_executed (same (plain_tree n stuck d) tree made) ∙ read)
-run_only x n branching s ns d tree state back stand made read =
+run_only x n branching s ns d tree state stand made read =
     let m = items_made (next_trees ns) (executed_members n branching d) tree made in
-    parts_only x n branching s ns d (nexts_of (tree_with n branching d m.0)) state (λ ms. nexts_only ns m.0 ms back m.1) (ap read_executed m.2 ∙ read)
-run_only x n (cut_point id) s ns d tree state back stand made read =
+    parts_only x n branching s ns d (nexts_of (tree_with n branching d m.0)) state (λ ms. nexts_only ns m.0 ms m.1) (ap read_executed m.2 ∙ read)
+run_only x n (cut_point id) s ns d tree state stand made read =
     let m = items_made (next_trees ns) (executed_members n (cut_point id) d) tree made in
-    parts_only x n (cut_point id) s ns d (nexts_of (tree_with n (cut_point id) d m.0)) state (λ ms. one_only (read_nexts m.0) ms ns (λ l. nexts_only ns m.0 l back m.1)) (ap read_executed m.2 ∙ read)
-run_only x n (terminal id) s ns d tree state back stand made read =
+    parts_only x n (cut_point id) s ns d (nexts_of (tree_with n (cut_point id) d m.0)) state (λ ms. one_only (read_nexts m.0) ms ns (λ l. nexts_only ns m.0 l m.1)) (ap read_executed m.2 ∙ read)
+run_only x n (terminal id) s ns d tree state stand made read =
     parts_only x n (terminal id) s ns d (nexts_of (plain_tree n (terminal id) d)) state (λ ms. none_only ms ns stand) (ap read_executed (same (plain_tree n (terminal id) d) tree made) ∙ read)
-run_only x n (aborted (foreign id)) s ns d tree state back stand made read =
+run_only x n (aborted (foreign id)) s ns d tree state stand made read =
     parts_only x n (aborted (foreign id)) s ns d (nexts_of (plain_tree n (aborted (foreign id)) d)) state (λ ms. none_only ms ns stand) (ap read_executed (same (plain_tree n (aborted (foreign id)) d) tree made) ∙ read)
 
-pub state_made : (x : ExecutedParts) (y : Option Data) (tree : Data) → option_and_then (λ d. option_map object (with_nexts x.ending x.nexts (executed_members x.depth x.ending d))) y ≡ Some tree
+state_made : (x : ExecutedParts) (y : Option Data) (tree : Data) → option_and_then (λ d. option_map object (with_nexts x.ending x.nexts (executed_members x.depth x.ending d))) y ≡ Some tree
     → (d : Data) × (y ≡ Some d) × (option_map object (with_nexts x.ending x.nexts (executed_members x.depth x.ending d)) ≡ Some tree)
 state_made x None tree e = absurd (cc e)
 state_made x (Some d) tree e = (d, refl, e)
 
 -- what is read of the tree of a result, if anything, is the result
-pub result_only : (x y : ExecutedParts) (tree : Data) → StandWith x.ending x.nexts → AreReadBack x → executed_tree x ≡ Some tree → read_executed tree ≡ Some y → y ≡ x
-result_only x y tree stand back made read =
+pub result_only : (x y : ExecutedParts) (tree : Data) → StandWith x.ending x.nexts → executed_tree x ≡ Some tree → read_executed tree ≡ Some y → y ≡ x
+result_only x y tree stand made read =
     let m = state_made x (state_tree x.state) tree made in
-    run_only y x.depth x.ending x.state x.nexts m.0 tree (λ z. state_only x.state.term x.state.predicate m.0 z back.state m.1) back.nexts stand m.2 read
+    run_only y x.depth x.ending x.state x.nexts m.0 tree (λ z. state_only x.state.term x.state.predicate m.0 z m.1) stand m.2 read
 
 -- and no result of implies is read of it
 no_validity : (n : ℕ) (e : Ending) (ns : List NextParts) (d tree : Data) → option_map object (with_nexts e ns (executed_members n e d)) ≡ Some tree → read_implied tree ≡ None
@@ -314,18 +293,3 @@ pub result_is_no_implication : (x : ExecutedParts) (tree : Data) → executed_tr
 result_is_no_implication x tree made =
     let m = state_made x (state_tree x.state) tree made in
     no_validity x.depth x.ending x.nexts m.0 tree m.2
-
--- next states stand with the ending of a result that means something
-pub reason_stands : (e : Ending) (ns : List NextParts) (r : theory.Reason) → IsReasonOf e ns r → StandWith e ns
-reason_stands vacuous ns r h = h.0
-reason_stands depth_bound ns r h = h.0
-reason_stands stuck ns r h = h.0
-reason_stands branching ns r h = tt
-reason_stands (cut_point id) ns r h = alone ns h.0 h.1
-  where
-    alone : (xs : List NextParts) (m : NextState) → AllZip IsNextOf xs (m ∷ []) → (n : NextParts) × (xs ≡ n ∷ [])
-    alone [] m all = absurd all
-    alone (n ∷ []) m all = (n, refl)
-    alone (n ∷ k ∷ xs) m all = absurd all.1
-reason_stands (terminal id) ns r h = h.0
-reason_stands (aborted cause) ns r h = h.0

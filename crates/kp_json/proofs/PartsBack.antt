@@ -9,13 +9,13 @@ use Rattle.kp_json.specs.Faults.{Reading, read, after, pattern_items, sort_alone
 use Rattle.kp_json.specs.Written.{sort_tree, sort_trees}
 use Rattle.kp_json.proofs.Readings.{tree_found, trees_found}
 use Rattle.kp_json.proofs.Sound.{Gives, gives_next, gives_read, sort_sound, alone_sound, name_and_sort_sound, sort_and_value_sound, symbol_and_lists_sound}
-use Rattle.kp_rpc.proofs.SortsBack.{one_text, one_array, one_sort, one_sorts, sort_alone_at}
+use Rattle.kp_json.proofs.SortsBack.{one_text, one_array, one_sort, one_sorts, sort_alone_at}
 
 -- if anything is read, it is this
 abbrev pub Only : {A : Type 0} → Reading A → A → Type 0
 Only r a = Gives r (λ b. b ≡ a)
 
-only_by : {A : Type 0} (r s : Reading A) (a : A) → r ≡ s → Only s a → Only r a
+pub only_by : {A : Type 0} (r s : Reading A) (a : A) → r ≡ s → Only s a → Only r a
 only_by r s a e h = subst (λ x. Only x a) (sym e) h
 
 -- ---- forms without parts
@@ -56,7 +56,7 @@ AreOnly n no_items (next_pattern p ps) = ⊥
 AreOnly n (item d ds) no_patterns = ⊥
 AreOnly n (item d ds) (next_pattern p ps) = IsOnly n d p × AreOnly n ds ps
 
-items_only : (n : ℕ) (key : Text) (ds : Items) (ps : KorePatterns) → AreOnly n ds ps → Only (pattern_items (pattern_within n) key ds) ps
+pub items_only : (n : ℕ) (key : Text) (ds : Items) (ps : KorePatterns) → AreOnly n ds ps → Only (pattern_items (pattern_within n) key ds) ps
 items_only n key no_items no_patterns h = gives_read no_patterns (λ qs. qs ≡ no_patterns) refl
 items_only n key no_items (next_pattern p ps) h = absurd h
 items_only n key (item d ds) no_patterns h = absurd h
@@ -77,7 +77,7 @@ application_only n o f ss ds ps tag name sorts args only =
     gives_read (application r.0 r.1 qs) (λ q. q ≡ application f ss ps)
     (application_is r.0 f r.1 ss qs ps (one_text o (codes "name") r.0 f h.0.text name) (one_sorts o (codes "sorts") ss r.1 h.1.0 sorts h.1.1 h.1.2) rest))))
 
-same_array : (ds es : Items) → array ds ≡ array es → ds ≡ es
+pub same_array : (ds es : Items) → array ds ≡ array es → ds ≡ es
 same_array ds es e = cc e
 
 pub conjunction_only : (n : ℕ) (o : Members) (s : KoreSort) (ds : Items) (ps : KorePatterns) → HasText o (codes "tag") (codes "And") → Has o (codes "sort") (sort_tree s) → Has o (codes "patterns") (array ds)

@@ -1,19 +1,16 @@
--- What is read of the tree of a form, where what is read of its parts' trees is the parts.
+-- The same of the forms with one part or two, and of \or.
 use Rattle.std.proofs.Common.{◌≡◌, ℕ, suc, refl, sym, ap, ap₂, ◌∙◌, subst}
 use Rattle.std.specs.Prelude.{codes}
-use Rattle.serde_json.specs.Data.{Data, array, object, Items, no_items, item, Members}
-use Rattle.kp_kore.specs.Syntax.{Text, KoreSort, KorePattern, negation, implication, equivalence, rewriting, exists, forall, ceil, floor, equals, membership, KorePatterns, no_patterns, next_pattern}
+use Rattle.serde_json.specs.Data.{Data, array, object, Items, Members}
+use Rattle.kp_kore.specs.Syntax.{Text, KoreSort, KorePattern, negation, implication, equivalence, rewriting, exists, forall, ceil, floor, equals, membership, KorePatterns}
 use Rattle.kp_kore.specs.Folds.{disjunction_of}
 use Rattle.kp_json.specs.Members.{Has, HasText}
-use Rattle.kp_json.specs.Faults.{Reading, read, after, pattern_items, sort_and_one, sort_and_two, sorts_and_one, sorts_and_two, bound_and_one, one_read, two_read, single_tagged, double_tagged, sort_and_list, pattern_within}
+use Rattle.kp_json.specs.Faults.{read, after, sort_and_one, sort_and_two, sorts_and_one, sorts_and_two, bound_and_one, one_read, two_read, single_tagged, double_tagged, sort_and_list, pattern_within}
 use Rattle.kp_json.specs.Written.{sort_tree}
 use Rattle.kp_json.proofs.Readings.{tree_found, trees_found}
 use Rattle.kp_json.proofs.Sound.{Gives, gives_next, gives_read, sort_sound, sort_and_one_sound, sort_and_two_sound, sorts_and_one_sound, sorts_and_two_sound, bound_and_one_sound}
-use Rattle.kp_rpc.proofs.SortsBack.{one_data, one_text, one_sort, sort_alone_at}
-use Rattle.kp_rpc.proofs.PartsBack.{Only, IsOnly, AreOnly}
-
-only_by : (r s : Reading KorePattern) (p : KorePattern) → r ≡ s → Only s p → Only r p
-only_by r s p e h = subst (λ x. Only x p) (sym e) h
+use Rattle.kp_json.proofs.SortsBack.{one_data, one_text, one_sort, sort_alone_at}
+use Rattle.kp_json.proofs.PartsBack.{Only, only_by, IsOnly, AreOnly, items_only, same_array}
 
 -- ---- one part, and two
 
@@ -139,17 +136,6 @@ unfolding single_tagged double_tagged
 membership_only n o a s d e p q tag below sort one two left right =
     let here : pattern_within (suc n) o ≡ after (sorts_and_two o) (λ r. two_read (pattern_within n) (membership r.0 r.1) r.2 r.3) = rw tag refl in
     only_by _ _ (membership a s p q) here (sorts_and_two_only n o a s d e p q membership below sort one two left right)
-
-items_only : (n : ℕ) (key : Text) (ds : Items) (ps : KorePatterns) → AreOnly n ds ps → Only (pattern_items (pattern_within n) key ds) ps
-items_only n key no_items no_patterns h = gives_read no_patterns (λ qs. qs ≡ no_patterns) refl
-items_only n key no_items (next_pattern p ps) h = absurd h
-items_only n key (item d ds) no_patterns h = absurd h
-items_only n key (item d ds) (next_pattern p ps) h =
-    gives_next (tree_found key d) (λ o is. gives_next (h.0 o is) (λ q first. gives_next (items_only n key ds ps h.1) (λ qs rest.
-    gives_read (next_pattern q qs) (λ rs. rs ≡ next_pattern p ps) (ap₂ next_pattern first rest))))
-
-same_array : (ds es : Items) → array ds ≡ array es → ds ≡ es
-same_array ds es e = cc e
 
 pub disjunction_only : (n : ℕ) (o : Members) (s : KoreSort) (ds : Items) (ps : KorePatterns) → HasText o (codes "tag") (codes "Or") → Has o (codes "sort") (sort_tree s) → Has o (codes "patterns") (array ds)
     → AreOnly n ds ps → Only (pattern_within (suc n) o) (disjunction_of s ps)

@@ -1,5 +1,6 @@
 -- The tree that is written of a sort spells no other sort.
-use Rattle.std.proofs.Common.{◌≡◌, [], ◌∷◌, Some, refl, sym, ap, ap₂, ◌∙◌}
+use Rattle.std.proofs.Common.{◌≡◌, [], ◌∷◌, Some, false, true≢false, bytes_eq, refl, sym, ap, ap₂, ◌∙◌}
+use Rattle.std.proofs.lemmas.Slice.Eq.{bytes_eq-Decides}
 use Rattle.std.specs.Prelude.{codes}
 use Rattle.serde_json.specs.Data.{Data, string, array, object, Items, item, Members}
 use Rattle.serde_json.specs.Find.{get_member}
@@ -7,7 +8,6 @@ use Rattle.kp_kore.specs.Syntax.{Text, KoreSort, sort_of, sort_variable, KoreSor
 use Rattle.kp_json.specs.Members.{Has, HasText, members_of}
 use Rattle.kp_json.specs.Trees.{SpellsSort, sort_app, sort_var, SpellSorts, sorts_end, sorts_more, SortAt}
 use Rattle.kp_json.specs.Written.{sort_tree, sort_trees}
-use Rattle.kp_rpc.proofs.Asked.{apart}
 
 -- ---- a member is one thing
 
@@ -21,6 +21,9 @@ pub one_array : (o : Members) (key : Text) (ds es : Items) → Has o key (array 
 one_array o key ds es h k = let same : array ds ≡ array es = one_data o key (array ds) (array es) h k in cc same
 
 -- ---- sorts
+
+apart : (q k : Text) → bytes_eq q k ≡ false → q ≡ k → ⊥
+apart q k e h = true≢false (sym ((bytes_eq-Decides q k).1 h) ∙ e)
 
 two_tags : (o : Members) → HasText o (codes "tag") (codes "SortApp") → HasText o (codes "tag") (codes "SortVar") → ⊥
 two_tags o h k = apart (codes "SortApp") (codes "SortVar") refl (one_text o (codes "tag") _ _ h k)

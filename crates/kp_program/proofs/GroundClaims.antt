@@ -7,9 +7,8 @@ use Rattle.kp_signature.specs.Places.{earlier}
 use Rattle.kp_claims.specs.Claims.{ClaimSides, LabelledClaim, IsClaimOf, IsClaimOfSentence, ground_sides, is_one_path, is_ground, label_of}
 use Rattle.kp_claims.specs.Faults.{AreFaultless, IsFaultless, claim_fault, label_at, label_fault, meaning_fault, one_path, other_shape, outline_fault}
 use Rattle.kp_claims.proofs.Claimed.{grounds}
-use Rattle.kp_claims.proofs.Meanings.{ground_is_term, ground_is_closed}
-use Rattle.kp_rpc.proofs.TermsBack.{term_back}
-use Rattle.kp_program.specs.ClaimFiles.{IsProvableClaim}
+use Rattle.kp_claims.proofs.Meanings.{ground_is_closed}
+use Rattle.kp_program.specs.ClaimFiles.{IsGroundClaim}
 
 first_none : {A : Type 0} (a b : Option A) → earlier a b ≡ None → a ≡ None
 first_none None b h = refl
@@ -21,8 +20,8 @@ outlined true o h = absurd (cc h)
 outlined false None h = absurd (cc h)
 outlined false (Some c) h = (c, refl)
 
-provable_claim : (g : KoreSignature) (labels : List Text) (s : Statement) (c : LabelledClaim) → claim_fault g labels s ≡ None → IsClaimOf s c → IsProvableClaim c
-provable_claim g labels s c none is =
+ground_claim : (g : KoreSignature) (labels : List Text) (s : Statement) (c : LabelledClaim) → claim_fault g labels s ≡ None → IsClaimOf s c → IsGroundClaim c
+ground_claim g labels s c none is =
     let outline = first_none (outline_fault s) (earlier (label_fault labels (label_of s.attributes)) (meaning_fault g (ground_sides s))) none in
     let sides = outlined (is_one_path s.pattern) (ground_sides s) outline in
     let ground = grounds s sides.0 sides.1 in
@@ -31,21 +30,18 @@ provable_claim g labels s c none is =
     let right_is : sides.0.right ≡ c.claim.right = cc both in
     let left = subst (λ (p : KorePattern). is_ground p ≡ true) left_is ground.1 in
     let right = subst (λ (p : KorePattern). is_ground p ≡ true) right_is ground.2 in
-    record {
-      ground = record { left = ground_is_closed c.claim.left left; right = ground_is_closed c.claim.right right };
-      read_back = record { left = term_back c.claim.left (ground_is_term c.claim.left left); right = term_back c.claim.right (ground_is_term c.claim.right right) };
-    }
+    record { left = ground_is_closed c.claim.left left; right = ground_is_closed c.claim.right right }
 
-provable_at : (g : KoreSignature) (labels : List Text) (s : KoreSentence) (c : LabelledClaim) → IsFaultless g labels s → IsClaimOfSentence s c → IsProvableClaim c
-provable_at g labels (import_sentence n as_) c none is = absurd is
-provable_at g labels (sort_sentence d) c none is = absurd is
-provable_at g labels (symbol_sentence d) c none is = absurd is
-provable_at g labels (alias_sentence d) c none is = absurd is
-provable_at g labels (axiom_sentence s) c none is = absurd is
-provable_at g labels (claim_sentence s) c none is = provable_claim g labels s c none.0 is
+ground_at : (g : KoreSignature) (labels : List Text) (s : KoreSentence) (c : LabelledClaim) → IsFaultless g labels s → IsClaimOfSentence s c → IsGroundClaim c
+ground_at g labels (import_sentence n as_) c none is = absurd is
+ground_at g labels (sort_sentence d) c none is = absurd is
+ground_at g labels (symbol_sentence d) c none is = absurd is
+ground_at g labels (alias_sentence d) c none is = absurd is
+ground_at g labels (axiom_sentence s) c none is = absurd is
+ground_at g labels (claim_sentence s) c none is = ground_claim g labels s c none.0 is
 
-pub provable_claims : (g : KoreSignature) (labels : List Text) (ss : List KoreSentence) (cs : List LabelledClaim) → AreFaultless g labels ss → AllZip IsClaimOfSentence ss cs → AllByRecursion IsProvableClaim cs
-provable_claims g labels [] [] none are = tt
-provable_claims g labels [] (c ∷ cs) none are = absurd are
-provable_claims g labels (s ∷ ss) [] none are = absurd are
-provable_claims g labels (s ∷ ss) (c ∷ cs) none are = (provable_at g labels s c none.0 are.0, provable_claims g (labels ++ label_at s) ss cs none.1 are.1)
+pub ground_claims : (g : KoreSignature) (labels : List Text) (ss : List KoreSentence) (cs : List LabelledClaim) → AreFaultless g labels ss → AllZip IsClaimOfSentence ss cs → AllByRecursion IsGroundClaim cs
+ground_claims g labels [] [] none are = tt
+ground_claims g labels [] (c ∷ cs) none are = absurd are
+ground_claims g labels (s ∷ ss) [] none are = absurd are
+ground_claims g labels (s ∷ ss) (c ∷ cs) none are = (ground_at g labels s c none.0 are.0, ground_claims g (labels ++ label_at s) ss cs none.1 are.1)

@@ -1,4 +1,0 @@
-pub mod ClaimsBack
-pub mod FormsBack
-pub mod OfText
-pub mod TextsBack
