@@ -40,3 +40,4 @@ pub mod TriedLemmas
 pub mod HeardLemmas
 pub mod FollowedLemmas
 pub mod LimitLemmas
+pub mod ImpliedLemmas

@@ -11,6 +11,7 @@ pub mod Views
 pub mod Outcomes
 pub mod Tries
 pub mod Answers
+pub mod Implied
 pub mod Rights
 pub mod Chosen
 pub mod Promises

@@ -12,7 +12,8 @@ ghost use Rattle.kp_step.specs.Answers.{TellsForeign, TellsKnown, IsOpenAt};
 ghost use Rattle.kp_step.specs.Outcomes.{IsRightStep};
 ghost use Rattle.kp_step.specs.Promises.{TellsMet, TellsSkeletonMeets, OfEachStep};
 
-use crate::answers::{Answer, Open, answer_of};
+use crate::answers::{Answer, Open};
+use crate::implied::answer_with_implied;
 use crate::lowered::lowered;
 use crate::outcome::StepOutcome;
 use crate::rules::foreign_at;
@@ -25,7 +26,7 @@ use kp_rules::Skeleton;
 use kp_unify::{MetPart, Part, Setting, meet};
 use std::alloc::Global;
 
-/// Whether the part that the left side meets has an instance.
+/// Whether the part that the left side meets has an instance, by its equations and what follows of them.
 fn met_answer(
     alloc: Global,
     setting: Setting<'_>,
@@ -36,10 +37,10 @@ fn met_answer(
     ensures { TellsMet (signature_of setting.entry) whole.now met.now result }
 {
     let part = constrained(alloc, &met.part, &met.equations)?;
-    Ok(answer_of(alloc, setting, &whole.state, &part.state)?)
+    Ok(answer_with_implied(alloc, setting, &whole.state, &part.state)?)
 }
 
-/// The same of a left side in which each name stands at one sort.
+/// Whether a left side in which each name stands at one sort stands for an instance of the part.
 fn meets_at_one_sort(
     alloc: Global,
     setting: Setting<'_>,
@@ -55,8 +56,8 @@ fn meets_at_one_sort(
     }
 }
 
-/// The same of a left side with one name at two sorts. It stands for nothing, where two such sorts share no value. Refused where
-/// there is no sort of what they share.
+/// Whether a left side with one name at two sorts stands for an instance of the part. It stands for nothing, where two such sorts
+/// share no value. Refused where there is no sort of what they share.
 fn meets_at_two_sorts(
     alloc: Global,
     setting: Setting<'_>,

@@ -5,6 +5,7 @@
 pub mod answers;
 pub mod chosen;
 pub mod foreign;
+pub mod implied;
 pub mod left;
 pub mod limits;
 pub mod lowered;

@@ -6,6 +6,7 @@ ghost use Rattle.kp_step.specs.Answers.{TellsTurns, firing_model};
 ghost use Rattle.kp_step.specs.Promises.{LeavesTo, TellsMayMeet, TellsWideCondition, TellsTurnParts, MakesTurn, TriesRule, TriesSides, TriesFiring, OfEachStep};
 
 use crate::answers::{Answer, Decided, answer_of, decided_parts};
+use crate::implied::answer_with_implied;
 use crate::left::left_after;
 use crate::limits::wide_in;
 use crate::outcome::{Limit, StepOutcome};
@@ -121,7 +122,7 @@ fn turn_parts(
     requires { HasItsTable setting }
     ensures { TellsTurnParts setting.entry rules.now turns.now whole.now priority part result }
 {
-    if let Answer::Nothing = answer_of(alloc, setting, &whole.state, &part.state)? {
+    if let Answer::Nothing = answer_with_implied(alloc, setting, &whole.state, &part.state)? {
         let parts = Vec::new(alloc);
         return Ok(Decided::Parts { parts });
     }

@@ -8,7 +8,7 @@ use Rattle.kp_step.proofs.turns.turn_parts.Goals as goal
 
 pub returns-in-Nothing : goal.returns-in-Nothing
 returns-in-Nothing c t used s place found k number z f i same =
-    nothing_told t used s (state_view c.args.whole.now.state) place found f (signature_of c.args.setting) (numbered_view c.args.part) c.in_ok-answer_of.field-0 c.new-parts.result.items k.steps.signature i same c.in_ok-answer_of.ensures c.in-Nothing.is c.new-parts.ensures.items
+    nothing_told t used s (state_view c.args.whole.now.state) place found f (signature_of c.args.setting) (numbered_view c.args.part) c.in_ok-answer_with_implied.field-0 c.new-parts.result.items k.steps.signature i same c.in_ok-answer_with_implied.ensures c.in-Nothing.is c.new-parts.ensures.items
 
 pub returns : goal.returns
 returns c t used s place found k number z f i same =
