@@ -1,6 +1,6 @@
 -- What follows of two equalities with a side in common: the other sides are equal, where the clauses have the sorts of their places.
-use Rattle.std.proofs.Common.{◌≡◌, refl, sym, ◌∙◌, subst, arith, ℕ, zero, suc, ◌<◌, ap, true, length, get_or, List, [], ◌∷◌, ◌++◌, map, Result, Ok, Err, IfOk, inl, inr, ◌⊎◌, ◌↔◌}
-use Rattle.std.specs.Prelude.{Vec, if◌then◌else◌}
+use Rattle.std.proofs.Common.{◌≡◌, refl, sym, ◌∙◌, subst, arith, ℕ, zero, suc, ◌<◌, ap, Bool, true, length, get_or, List, [], ◌∷◌, ◌++◌, map, Option, Some, None, Result, Ok, Err, IfOk, inl, inr, ◌⊎◌, ◌↔◌}
+use Rattle.std.specs.Prelude.{Vec, IfSome, if◌then◌else◌}
 use Rattle.std.specs.List.{AllByRecursion, Contains}
 use Rattle.std.specs.declared.alloc.Global.{Global}
 use Rattle.std.proofs.lemmas.List.{map-append}
@@ -15,8 +15,9 @@ use Rattle.kp_symbolic.specs.WellFormed.{IsWellSortedAtom, AreAtHand}
 use Rattle.kp_symbolic.specs.Alike.{literals_same}
 use Rattle.kp_symbolic.specs.Opening.{opened_same}
 use Rattle.kp_symbolic.specs.Clauses.{distributed, is_too_large, without_repeats}
-use Rattle.kp_symbolic.specs.View.{clause_view, clauses_view}
+use Rattle.kp_symbolic.specs.View.{clause_view, clauses_view, state_view}
 use Rattle.kp_symbolic.specs.declared.clause.Clause.{Clause}
+use Rattle.kp_symbolic.specs.declared.state.State.{State}
 use Rattle.kp_symbolic.proofs.Distribution.{kept_are}
 use Rattle.kp_symbolic.proofs.Facts.{Good, GoodTerm, clauses_have, opened_same_good}
 use Rattle.kp_symbolic.proofs.Leaf.{one_literal, formula_says, then_says, once_says}
@@ -29,7 +30,9 @@ use Rattle.kp_solving.specs.Further.{constrained}
 use Rattle.kp_cases.specs.Courses.{Equality, equality_clauses}
 use Rattle.kp_decide.specs.Read.{HasSortedClauses}
 use Rattle.kp_unify.specs.Replaced.{equality_of}
-use Rattle.kp_step.specs.Implied.{equality_alone, SaysEqual, IsSaidEqual, StandsAmong, AreSortedClauses, FollowFrom, CanBeAsWell}
+use Rattle.kp_unify.specs.Views.{signature_of}
+use Rattle.kp_unify.specs.declared.part.Setting.{Setting}
+use Rattle.kp_step.specs.Implied.{equality_alone, SaysEqual, IsSaidEqual, StandsAmong, AreSortedClauses, FollowFrom, CanBeAsWell, TellsNever}
 
 -- ---- which terms are equal
 
@@ -190,5 +193,21 @@ constrained_can g s more f k can = record {
 can_as_well : (g : KoreSignature) (s : SymbolicState) (more : List (List Literal)) → FollowFrom g s.clauses more → CanBeAsWell g s (constrained s more)
 can_as_well g s more f = record { sorted = constrained_sorted g s more f; can_be = constrained_can g s more f }
 
-pub constrained_as_well : (g : KoreSignature) (s : SymbolicState) (cs more : List Clause) (r : SymbolicState) → clauses_view cs ≡ s.clauses → FollowFrom g (clauses_view cs) (clauses_view more) → r ≡ constrained s (clauses_view more) → CanBeAsWell g s r
-constrained_as_well g s cs more r e f is = subst (CanBeAsWell g s) (sym is) (can_as_well g s (clauses_view more) (subst (λ xs. FollowFrom g xs (clauses_view more)) e f))
+-- where the state is grown by them
+pub constrained_as_well : {E : Type 0} (g : KoreSignature) (s : SymbolicState) (cs : List Clause) (more found : List Clause) (x : Result (Option State) E) → clauses_view cs ≡ s.clauses → FollowFrom g (clauses_view cs) (clauses_view found) → more ≡ found →
+    IfOk x (λ o. IfSome o (λ r. state_view r ≡ constrained s (clauses_view more))) → IfOk x (λ o. IfSome o (λ r. CanBeAsWell g s (state_view r)))
+constrained_as_well g s cs more found (Ok (Some r)) e f alike is =
+    subst (CanBeAsWell g s) (sym (is ∙ ap (λ xs. constrained s (clauses_view xs)) alike)) (can_as_well g s (clauses_view found) (subst (λ xs. FollowFrom g xs (clauses_view found)) e f))
+constrained_as_well g s cs more found (Ok None) e f alike is = tt
+constrained_as_well g s cs more found (Err x) e f alike is = tt
+
+pub as_well_itself : (g : KoreSignature) (s : SymbolicState) → CanBeAsWell g s s
+as_well_itself g s = record { sorted = λ k. k; can_be = λ k can. can }
+
+pub as_well_on : (g : KoreSignature) (s r x : SymbolicState) → CanBeAsWell g s r → CanBeAsWell g r x → CanBeAsWell g s x
+as_well_on g s r x i j = record { sorted = λ k. j.sorted (i.sorted k); can_be = λ k can. j.can_be (i.sorted k) (i.can_be k can) }
+
+-- where that can't be true, the state's can't
+pub never_through : {E : Type 0} (setting : Setting) (s r : State) (x : Result Bool E) → CanBeAsWell (signature_of setting) (state_view s) (state_view r) → TellsNever setting r x → TellsNever setting s x
+never_through setting s r (Ok b) k never = λ sorted yes can. never (k.sorted sorted) yes (k.can_be sorted can)
+never_through setting s r (Err e) k never = tt

@@ -3,6 +3,7 @@ ghost use Rattle.std.specs.Prelude.{◌≡◌, ◌∷◌, [], IfOk, IfSome};
 ghost use Rattle.kp_kore.specs.View.{sort_view};
 ghost use Rattle.kp_signature.specs.View.{signature_view};
 ghost use Rattle.kp_symbolic.specs.View.{term_view, literal_view, clause_view, clauses_view, state_view};
+ghost use Rattle.kp_solving.specs.Further.{constrained};
 ghost use Rattle.kp_decide.specs.Read.{HasSortedClauses};
 ghost use Rattle.kp_unify.specs.Views.{signature_of, HasItsTable};
 ghost use Rattle.kp_step.specs.Answers.{IsRightAnswerOf};
@@ -17,6 +18,12 @@ use kp_symbolic::{Atom, Clause, Literal, State, Term};
 use kp_unify::Setting;
 use kp_unify::literals::equal_clauses;
 use std::alloc::{AllocError, Global};
+
+/// So often what follows is added to a state.
+const MOST_ROUNDS: usize = 4;
+
+/// What follows of more clauses isn't looked for.
+const MOST_CLAUSES: usize = 1_000;
 
 /// An equality of two terms of a sort. `equal_sides_view` in specs/Implied.antt says which one it is.
 #[derive(Clone, Copy)]
@@ -77,24 +84,42 @@ fn equal_to<'a>(sort: &Sort, term: &Term, clause: &'a Clause) -> Option<&'a Term
     }
 }
 
-/// What the first of the clauses that says so says that the term is equal to, at the sort.
-fn first_equal<'a>(sort: &Sort, term: &Term, clauses: &'a [Clause]) -> Option<&'a Term>
+/// The same, but for a call or a constructor's term where none is asked for.
+fn equal_if<'a>(sort: &Sort, term: &Term, clause: &'a Clause, calls: bool) -> Option<&'a Term>
+    ensures { IfSome result (λ u. SaysEqual (sort_view sort.now) (term_view term.now) (term_view u.now) (clause_view clause.now)) }
+{
+    match equal_to(sort, term, clause) {
+        Some(other) => {
+            if !calls && matches!(other, Term::Headed { .. }) {
+                return None;
+            }
+            Some(other)
+        }
+        None => None,
+    }
+}
+
+/// The first that one of the clauses says so.
+fn first_equal<'a>(sort: &Sort, term: &Term, clauses: &'a [Clause], calls: bool) -> Option<&'a Term>
     ensures { IfSome result (λ u. IsSaidEqual (clauses_view clauses.now) (sort_view sort.now) (term_view term.now) (term_view u.now)) }
 {
     for clause in clauses {
-        if let Some(other) = equal_to(sort, term, clause) {
+        if let Some(other) = equal_if(sort, term, clause, calls) {
             return Some(other);
         }
     }
     None
 }
 
-/// The same, where the term is a call or a constructor's.
+/// What a call or a constructor's term is equal to, by the first clause that says that of it: of what is neither, if there is one.
 fn first_of_call<'a>(sort: &Sort, term: &Term, clauses: &'a [Clause]) -> Option<&'a Term>
     ensures { IfSome result (λ u. IsSaidEqual (clauses_view clauses.now) (sort_view sort.now) (term_view term.now) (term_view u.now)) }
 {
     match term {
-        Term::Headed { .. } => first_equal(sort, term, clauses),
+        Term::Headed { .. } => match first_equal(sort, term, clauses, false) {
+            Some(other) => Some(other),
+            None => first_equal(sort, term, clauses, true),
+        },
         Term::Unknown { .. } | Term::Offset { .. } | Term::Known { .. } => None,
     }
 }
@@ -169,36 +194,61 @@ fn implied(
     Ok(found)
 }
 
-/// The state with what follows of its clauses, if anything does.
+/// The state with these clauses, if it has more clauses so.
+fn with_more(alloc: Global, state: &State, more: &[Clause]) -> Result<Option<State>, AllocError>
+    ensures { IfOk result (λ o. IfSome o (λ r. state_view r ≡ constrained (state_view state.now) (clauses_view more.now))) }
+{
+    let grown = constrain(alloc, state, more)?;
+    if grown.clauses.len() == state.clauses.len() {
+        return Ok(None);
+    }
+    Ok(Some(grown))
+}
+
+/// The state with what follows of its clauses, if anything is found that does.
 fn further(alloc: Global, signature: &Signature, state: &State) -> Result<Option<State>, AllocError>
     ensures { IfOk result (λ o. IfSome o (λ r. CanBeAsWell (signature_view signature.now) (state_view state.now) (state_view r))) }
 {
+    if state.clauses.len() > MOST_CLAUSES {
+        return Ok(None);
+    }
     let more = implied(alloc, signature, &state.clauses)?;
     if more.is_empty() {
         return Ok(None);
     }
-    Ok(Some(constrain(alloc, state, &more)?))
+    with_more(alloc, state, &more)
+}
+
+/// The same again and again, with what is found so far.
+fn all_further(alloc: Global, signature: &Signature, state: State) -> Result<State, AllocError>
+    ensures { IfOk result (λ r. CanBeAsWell (signature_view signature.now) (state_view state) (state_view r)) }
+{
+    let mut all = state;
+    for _round in 1..MOST_ROUNDS {
+        match further(alloc, signature, &all)? {
+            Some(more) => all = more,
+            None => return Ok(all),
+        }
+    }
+    Ok(all)
 }
 
 /// Whether it is known that the state's clauses can't be true, with what follows of them.
-fn never_further(alloc: Global, setting: Setting<'_>, state: &State) -> Result<bool, AllocError>
+fn never_further(alloc: Global, setting: Setting<'_>, state: State) -> Result<bool, AllocError>
     requires { HasItsTable setting }
-    ensures { TellsNever setting.entry state.now result }
+    ensures { TellsNever setting.entry state result }
 {
-    let signature = setting.language.signature;
-    match further(alloc, signature, state)? {
-        Some(more) => is_empty(alloc, signature, setting.table, &more),
-        None => is_empty(alloc, signature, setting.table, state),
-    }
+    let all = all_further(alloc, setting.language.signature, state)?;
+    is_empty(alloc, setting.language.signature, setting.table, &all)
 }
 
-/// The same, where anything follows of them: with what follows of that, too.
+/// The same, where anything follows of them.
 fn never_together(alloc: Global, setting: Setting<'_>, state: &State) -> Result<bool, AllocError>
     requires { HasItsTable setting }
     ensures { TellsNever setting.entry state.now result }
 {
     match further(alloc, setting.language.signature, state)? {
-        Some(more) => never_further(alloc, setting, &more),
+        Some(more) => never_further(alloc, setting, more),
         None => Ok(false),
     }
 }

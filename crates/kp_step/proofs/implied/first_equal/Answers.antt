@@ -12,7 +12,7 @@ returns-in-Some c =
     let t = term_view c.args.term.now in
     let x = c.clause-item.result in
     let u = term_view c.in-Some.other.now in
-    let said = subst (λ o. IfSome o (λ y. SaysEqual s t (term_view y.now) (clause_view x))) c.in-Some.is c.equal_to.ensures in
+    let said = subst (λ o. IfSome o (λ y. SaysEqual s t (term_view y.now) (clause_view x))) c.in-Some.is c.equal_if.ensures in
     any_here (SaysEqual s t u) clause_view c.args.clauses.now c.loop-clause.clause-index x c.loop-clause-test.true c.clause-item.is said (c.loop-clause.invariant u)
 
 pub loop-clause-preserved : goal.loop-clause-preserved
