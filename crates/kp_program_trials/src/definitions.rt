@@ -95,6 +95,21 @@ module TWICE
 endmodule []
 "#;
 
+/// A rule that is read and a foreign one with the same left side, in which two names stand three times each; a call of two numbers.
+const REPEATED: &str = r#"[]
+module REPEATED
+  hooked-sort SortInt{} [hook{}("INT.Int"), hasDomainValues{}()]
+  sort SortS{} []
+  hooked-symbol Lblmul{}(SortInt{}, SortInt{}) : SortInt{} [hook{}("INT.mul"), function{}()]
+  symbol Lblg{}(SortInt{}, SortInt{}, SortInt{}, SortInt{}, SortInt{}, SortInt{}) : SortS{} [constructor{}()]
+  symbol Lblh{}(SortInt{}, SortInt{}, SortInt{}, SortInt{}, SortInt{}, SortInt{}) : SortS{} [constructor{}()]
+  symbol Lbldone{}() : SortS{} [constructor{}()]
+  symbol Lblother{}(SortInt{}) : SortS{} [function{}()]
+  axiom{} \rewrites{SortS{}}(Lblg{}(L:SortInt{}, L:SortInt{}, L:SortInt{}, M:SortInt{}, M:SortInt{}, M:SortInt{}), Lbldone{}()) [label{}("read")]
+  axiom{} \rewrites{SortS{}}(Lblh{}(L:SortInt{}, L:SortInt{}, L:SortInt{}, M:SortInt{}, M:SortInt{}, M:SortInt{}), Lblother{}(L:SortInt{})) [label{}("foreign")]
+endmodule []
+"#;
+
 /// Two sorts above the same two sorts, no one of which has all that is in both; a rule's left term is a variable of the one.
 const LONE: &str = r#"[]
 module LONE
@@ -239,6 +254,8 @@ pub(crate) enum Asked {
     Lone,
     /// The one with foreign rules that have one name at two sorts.
     Twice,
+    /// The one with rules whose left sides have two names three times each.
+    Repeated,
     /// The one with calls on whole numbers.
     Numbers,
     /// The one whose main module imports the rules that count down and choose.
@@ -258,6 +275,7 @@ pub(crate) fn definition_of(asked: Asked) -> (&'static str, &'static str) {
         Asked::Choices => ("CHOICES", CHOICES),
         Asked::Lone => ("LONE", LONE),
         Asked::Twice => ("TWICE", TWICE),
+        Asked::Repeated => ("REPEATED", REPEATED),
         Asked::Numbers => ("TOYS", NUMBERS),
         Asked::Counting => ("COUNTING", COUNTING),
         Asked::Small => ("TOYS", SMALL),

@@ -50,6 +50,8 @@ mod lone;
 #[cfg(test)]
 mod refused;
 #[cfg(test)]
+mod repeated;
+#[cfg(test)]
 mod stopping;
 #[cfg(test)]
 mod twice;
