@@ -17,8 +17,8 @@ use Rattle.kp_decide.specs.Read.{HasSortedClauses}
 use Rattle.kp_step.specs.Ready.{IsReadyState}
 use Rattle.kp_step.specs.Causes.{IsShownOf}
 use Rattle.kp_step.specs.Answers.{ShowsOf, IsRightAnswerOf}
-use Rattle.kp_step.specs.declared.answers.Answer.{Answer}
-use Rattle.kp_step.specs.declared.answers.Answer.TheVariants as answer
+use Rattle.kp_step.specs.declared.answers.PartAnswer.{PartAnswer}
+use Rattle.kp_step.specs.declared.answers.PartAnswer.TheVariants as answer
 use Rattle.kp_step.specs.declared.answers.Open.{Open}
 use Rattle.kp_step.proofs.SortedLemmas.{sorted_clauses}
 use Rattle.kp_execute.specs.Endings.{IsUndecided, IsEndAtBound, IsEndOfStep, IsRightEnding, IsUnderWay, IsRightRun}
@@ -38,7 +38,7 @@ shown_undecided g s shown (Some h) r = record { shown = shown; over = Some h; ri
 left_undecided : (g : KoreSignature) (s : SymbolicState) (o : Open) → ShowsOf g s s o → IsUndecided g s
 left_undecided g s o x = shown_undecided g s (clauses_view o.shown.items) x.0 x.2
 
-pub open_undecided : (g : KoreSignature) (s : SymbolicState) (a : Answer) (o : Open) → a ≡ answer.Open o → IsRightAnswerOf g s s a → IsUndecided g s
+pub open_undecided : (g : KoreSignature) (s : SymbolicState) (a : PartAnswer) (o : Open) → a ≡ answer.Open o → IsRightAnswerOf g s s a → IsUndecided g s
 open_undecided g s a o e right = left_undecided g s o (subst (IsRightAnswerOf g s s) e right)
 
 -- ---- on its way

@@ -17,19 +17,19 @@ use crate::steps::{Onward, after_step};
 use kp_compile::CompileError;
 use kp_results::Options;
 use kp_rule_sets::RuleSet;
-use kp_step::answers::{Answer, answer_of};
+use kp_step::answers::{PartAnswer, answer_of};
 use kp_symbolic::State;
 use kp_unify::Setting;
 use std::alloc::{AllocError, Global};
 
 /// How a run ends in a state at its bound of which this is answered.
-fn ending_of(answer: &Answer) -> Ending
+fn ending_of(answer: &PartAnswer) -> Ending
     ensures { (g : KoreSignature) (s : SymbolicState) → IsRightAnswerOf g s s answer.now → IsEndAtBound g s result }
 {
     match answer {
-        Answer::Nothing => Ending::Vacuous,
-        Answer::Instance => Ending::DepthBound,
-        Answer::Open { .. } => Ending::DepthBound,
+        PartAnswer::Nothing => Ending::Vacuous,
+        PartAnswer::Instance => Ending::DepthBound,
+        PartAnswer::Open { .. } => Ending::DepthBound,
     }
 }
 

@@ -21,7 +21,7 @@ use Rattle.kp_imports.specs.declared.fault.LoadError.{LoadError}
 use Rattle.kp_imports.specs.declared.imports.Import.{Import}
 use Rattle.kp_imports.specs.declared.imports.Mark.TheVariants as mark
 use Rattle.kp_imports.specs.declared.walk.Parent.{Parent}
-use Rattle.kp_imports.specs.declared.walk.Walk.{Walk}
+use Rattle.kp_imports.specs.declared.walk.ImportWalk.{ImportWalk}
 use Rattle.kp_imports.proofs.Collect.{false_true, or_true, or_cases, has_more}
 use Rattle.kp_imports.proofs.Sentences.{imports_in-append, one_further}
 use Rattle.kp_imports.proofs.Walking.{bytes_same, imports_at}
@@ -78,7 +78,7 @@ from_open rows main (f ∷ fs) (x ∷ xs) name before y h k =
 pub no_name : (rows : List Module) (n : Text) → first_place n (module_names rows) ≡ None → module_named (map module_view rows) n ≡ None
 no_name rows n h = sym (no_row module_view (λ m. m.name) n rows (sym h))
 
-pub on_way : {S : Type 0} (rows : List Module) (main : Text) (places : IndexMap (String Global) ℕ S) (w : Walk) (ss : List Sentence) → Indexes (module_names rows) places → IsWalkOf rows main w → ss ≡ sentences_at rows w.current → Stands rows main places ss
+pub on_way : {S : Type 0} (rows : List Module) (main : Text) (places : IndexMap (String Global) ℕ S) (w : ImportWalk) (ss : List Sentence) → Indexes (module_names rows) places → IsWalkOf rows main w → ss ≡ sentences_at rows w.current → Stands rows main places ss
 on_way rows main places w ss is way e = record {
   name = way.name;
   reached = to_open rows main (backwards w.parents.items) way.above way.name way.before way.opens;
@@ -87,7 +87,7 @@ on_way rows main places w ss is way e = record {
 }
 
 -- an import of an open module
-pub cycle : (rows : List Module) (main : Text) (w : Walk) (i : Import) (h : ComesTo rows main w i) → is_open (get_or w.marks.items i.place mark.Open) ≡ true → IsCyclic (map module_view rows) main
+pub cycle : (rows : List Module) (main : Text) (w : ImportWalk) (i : Import) (h : ComesTo rows main w i) → is_open (get_or w.marks.items i.place mark.Open) ≡ true → IsCyclic (map module_view rows) main
 cycle rows main w i h opened = record {
   name = h.way.name;
   next = h.name;

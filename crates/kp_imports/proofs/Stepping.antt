@@ -11,10 +11,10 @@ use Rattle.kp_imports.specs.Reaching.{has}
 use Rattle.kp_imports.specs.Walks.{is_done, import_names, sentences_in, sentences_at, ArePassed, IsNext, IsWalkOf, ComesTo, ComesToEnd}
 use Rattle.kp_imports.specs.declared.imports.Import.{Import}
 use Rattle.kp_imports.specs.declared.imports.Mark.{Mark}
-use Rattle.kp_imports.specs.declared.walk.Walk.{Walk}
+use Rattle.kp_imports.specs.declared.walk.ImportWalk.{ImportWalk}
 use Rattle.kp_imports.proofs.Walking.{names_done}
 
-pub comes_to : {S : Type 0} (rows : List Module) (main : Text) (places : IndexMap (String Global) ℕ S) (w : Walk) (i : Import) (marks : List Mark) (ss : List Sentence) → Indexes (module_names rows) places → IsWalkOf rows main w →
+pub comes_to : {S : Type 0} (rows : List Module) (main : Text) (places : IndexMap (String Global) ℕ S) (w : ImportWalk) (i : Import) (marks : List Mark) (ss : List Sentence) → Indexes (module_names rows) places → IsWalkOf rows main w →
     marks ≡ w.marks.items → ss ≡ sentences_at rows w.current → IsNext places marks ss w.from i → ComesTo rows main w i
 comes_to rows main places w i marks ss is way e f n = record {
   way = way;
@@ -30,7 +30,7 @@ comes_to rows main places w i marks ss is way e f n = record {
     Tells : List Mark → Text → ℕ → Mark → Type 0
     Tells ms m p d = first_place m (module_names rows) ≡ Some p → is_done (get_or ms p d) ≡ has m way.names
 
-pub comes_to_end : {S : Type 0} (rows : List Module) (main : Text) (places : IndexMap (String Global) ℕ S) (w : Walk) (marks : List Mark) (ss : List Sentence) → Indexes (module_names rows) places → IsWalkOf rows main w →
+pub comes_to_end : {S : Type 0} (rows : List Module) (main : Text) (places : IndexMap (String Global) ℕ S) (w : ImportWalk) (marks : List Mark) (ss : List Sentence) → Indexes (module_names rows) places → IsWalkOf rows main w →
     marks ≡ w.marks.items → ss ≡ sentences_at rows w.current → ArePassed places marks (import_names (take w.from ss)) (import_names ss) → ComesToEnd rows main w
 comes_to_end rows main places w marks ss is way e f n = record {
   way = way;

@@ -17,7 +17,7 @@ use Rattle.kp_imports.specs.declared.imports.Import.{Import}
 use Rattle.kp_imports.specs.declared.imports.Mark.{Mark}
 use Rattle.kp_imports.specs.declared.imports.Mark.TheVariants as mark
 use Rattle.kp_imports.specs.declared.walk.Parent.{Parent}
-use Rattle.kp_imports.specs.declared.walk.Walk.{Walk}
+use Rattle.kp_imports.specs.declared.walk.ImportWalk.{ImportWalk}
 
 abbrev pub is_unseen : Mark → Bool
 is_unseen mark.Unseen = true
@@ -38,11 +38,11 @@ abbrev pub unseen_in : List Mark → ℕ
 unseen_in = count_by is_unseen
 
 -- how many modules are to be entered or left at most
-abbrev pub work_left : Walk → ℕ
+abbrev pub work_left : ImportWalk → ℕ
 work_left w = 2 * unseen_in w.marks.items + length w.parents.items
 
 -- the places of a walk are below the number of marks
-pub record IsWithin (w : Walk) : Type 0 where
+pub record IsWithin (w : ImportWalk) : Type 0 where
   pub current : w.current < length w.marks.items
   pub parents : AllByRecursion (λ p. p.place < length w.marks.items) w.parents.items
   pub finished : AllByRecursion (λ p. p < length w.marks.items) w.done.items
@@ -170,11 +170,11 @@ pub record IsOver (rows : List Module) (main : Text) (done : List ℕ) : Type 0 
   pub settled : IsSettled (map module_view rows) (names_reached (length rows) (map module_view rows) main)
   pub room : length (names_reached (length rows) (map module_view rows) main) ≤ length rows
 
-abbrev pub IsWalkOf : List Module → Text → Walk → Type 0
+abbrev pub IsWalkOf : List Module → Text → ImportWalk → Type 0
 IsWalkOf rows main w = IsOnWay rows main w.parents.items w.current w.from w.done.items w.marks.items
 
 -- the walk comes to an import that isn't done
-pub record ComesTo (rows : List Module) (main : Text) (w : Walk) (i : Import) : Type 0 where
+pub record ComesTo (rows : List Module) (main : Text) (w : ImportWalk) (i : Import) : Type 0 where
   pub way : IsWalkOf rows main w
   pub name : Text
   pub passed : List Text
@@ -185,7 +185,7 @@ pub record ComesTo (rows : List Module) (main : Text) (w : Walk) (i : Import) : 
   pub found : first_place name (module_names rows) ≡ Some i.place
 
 -- all further imports of the open module are done
-pub record ComesToEnd (rows : List Module) (main : Text) (w : Walk) : Type 0 where
+pub record ComesToEnd (rows : List Module) (main : Text) (w : ImportWalk) : Type 0 where
   pub way : IsWalkOf rows main w
   pub more : List Text
   pub is : import_names (sentences_at rows w.current) ≡ import_names (take w.from (sentences_at rows w.current)) ++ more

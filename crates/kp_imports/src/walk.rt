@@ -23,7 +23,7 @@ pub struct Parent {
 
 /// Where a walk stands: the open module and the sentence to go on from, those above it, and the places that are done.
 #[derive(Drop)]
-pub struct Walk {
+pub struct ImportWalk {
     pub marks: Vec<Mark>,
     pub parents: Vec<Parent>,
     pub current: usize,
@@ -31,7 +31,7 @@ pub struct Walk {
     pub done: Vec<usize>,
 }
 
-impl Walk {
+impl ImportWalk {
     ghost use Rattle.std.specs.Prelude.{◌≡◌, ◌<◌, OnOk, IfOk, IfErr, map, IsTrue, MatchBool, List, Some, length, false, slice_index_or};
     ghost use Rattle.kp_imports.specs.declared.imports.Mark.{Mark};
     ghost use Rattle.kp_imports.specs.Walks.{IsWithin, IsWalkOf, ComesTo, ComesToEnd, IsOver, work_left, is_done};
@@ -43,7 +43,7 @@ impl Walk {
     ghost use Rattle.kp_kore.specs.declared.sentence.Module.{Module};
 
     /// At the first sentence of one of so many modules.
-    pub fn start(alloc: Global, modules: usize, start: usize) -> Result<Walk, AllocError>
+    pub fn start(alloc: Global, modules: usize, start: usize) -> Result<ImportWalk, AllocError>
         requires { start < modules }
         ensures within { IfOk result IsWithin }
         ensures len { IfOk result (λ w. length w.marks.items ≡ modules) }
@@ -51,7 +51,7 @@ impl Walk {
     {
         let mut marks = unseen(alloc, modules)?;
         marks[start] = Mark::Open;
-        Ok(Walk {
+        Ok(ImportWalk {
             marks,
             parents: Vec::new(alloc),
             current: start,
@@ -118,7 +118,7 @@ pub fn places_in_order(
     ensures order { (main : Text) → let the_module_names = module_names modules.now in Indexes the_module_names places.now → first_place main the_module_names ≡ Some start → IfOk result (λ order. IsOver modules.now main order.items) }
     ensures err { (main : Text) → let the_module_names = module_names modules.now in Indexes the_module_names places.now → first_place main the_module_names ≡ Some start → IfErr result (TellsImport (map module_view modules.now) main) }
 {
-    let mut walk = Walk::start(alloc, modules.len(), start)?;
+    let mut walk = ImportWalk::start(alloc, modules.len(), start)?;
     loop {
         let module = &modules[walk.current];
         match next_import(places, &walk.marks, &module.sentences, walk.from)? {

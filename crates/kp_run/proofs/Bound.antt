@@ -14,24 +14,24 @@ use Rattle.kp_ground.specs.TermView.{term_view}
 use Rattle.kp_ground.proofs.SlotLemmas.{first_so}
 use Rattle.kp_depths.specs.View.{AreDepthsOf, AreDepthsUnder}
 use Rattle.kp_depths.specs.declared.depths.Depths.{Depths}
-use Rattle.kp_run.specs.declared.firing.Firing.{Firing}
+use Rattle.kp_run.specs.declared.firing.GroundFiring.{GroundFiring}
 
 last_so : (a b c : Bool) → a ≡ false → (a && b) || c ≡ true → c ≡ true
 last_so true b c e h = absurd (cc)
 last_so false b c e h = h
 
-reads_left : (f : Firing) → f.rewrite.now.chooses ≡ false → term_reads (left_variables f.rewrite.now.left) f.rewrite.now.right ≡ true
+reads_left : (f : GroundFiring) → f.rewrite.now.chooses ≡ false → term_reads (left_variables f.rewrite.now.left) f.rewrite.now.right ≡ true
 reads_left f plain =
     last_so f.rewrite.now.chooses (is_some f.rewrite.now.choice) (term_reads (left_variables f.rewrite.now.left) f.rewrite.now.right) plain f.rewrite.now.right_bound
 
-pub right_reads : (f : Firing) → f.rewrite.now.chooses ≡ false → term_reads (bound_names f.bindings.items) f.rewrite.now.right ≡ true
+pub right_reads : (f : GroundFiring) → f.rewrite.now.chooses ≡ false → term_reads (bound_names f.bindings.items) f.rewrite.now.right ≡ true
 right_reads f plain = subst (λ xs. term_reads xs f.rewrite.now.right ≡ true) (sym f.bound) (reads_left f plain)
 
-left_numbered : (f : Firing) → is_numbered [] (left_places f.rewrite.now.left) ≡ true
+left_numbered : (f : GroundFiring) → is_numbered [] (left_places f.rewrite.now.left) ≡ true
 left_numbered f = first_so (is_numbered [] (left_places f.rewrite.now.left)) _ f.rewrite.now.left_bound
 
 -- the depths before a step give those after it
-pub depths_follow : {E : Type 0} (g : KoreSignature) (f : Firing) (r : Result Depths E) (u : model.Value) (before : Depths) (bound same : List Depths) → f.rewrite.now.chooses ≡ false → same ≡ bound →
+pub depths_follow : {E : Type 0} (g : KoreSignature) (f : GroundFiring) (r : Result Depths E) (u : model.Value) (before : Depths) (bound same : List Depths) → f.rewrite.now.chooses ≡ false → same ≡ bound →
     ((h : KoreSignature) (v : Valuation) → is_numbered [] (left_places f.rewrite.now.left) ≡ true → AreDepthsOf h (left_value v (left_view f.rewrite.now.left)) before → AreDepthsUnder h v (left_variables f.rewrite.now.left) bound) →
     IfOk r (λ d. (v : Valuation) (xs : List Text) → AreDepthsUnder g v xs same → term_reads xs f.rewrite.now.right ≡ true → u ≡ term_value v (term_view f.rewrite.now.right) → AreDepthsOf g u d) →
     IfOk r (λ d. (v : Valuation) → AreDepthsOf g (left_value v (left_view f.rewrite.now.left)) before → u ≡ term_value v (term_view f.rewrite.now.right) → AreDepthsOf g u d)

@@ -22,7 +22,7 @@ use Rattle.kp_rules.specs.declared.rule.RuleBody.TheVariants.{Rewrite, Foreign}
 use Rattle.kp_rule_sets.specs.declared.rule_set.RuleSet.{RuleSet}
 use Rattle.kp_rules.proofs.Fired.{fired_under}
 use Rattle.kp_compile.specs.declared.state.State.{State}
-use Rattle.kp_run.specs.declared.firing.Firing.{Firing}
+use Rattle.kp_run.specs.declared.firing.GroundFiring.{GroundFiring}
 use Rattle.kp_run.specs.declared.step.Turn.TheVariants.{Several}
 use Rattle.kp_run.specs.Causes.{HasWideCondition, HasWideRight, Chooses, IsWrittenAt, IsWrittenBy, StepsTooDeep, IsNotStepped, wide_condition, several, chooses, wide_right, deep}
 use Rattle.kp_run.specs.Runs.{written_of}
@@ -85,15 +85,15 @@ several_stop t rules s n runs sorted turn =
 
 -- ---- the rule that has its turn
 
-before_it : (t : Theory) (u : Value) (f : Firing) (m : model.RewriteRule) → IsOneOf t u f → FiresWith t.signature u f m → NoneBefore t m.priority u
+before_it : (t : Theory) (u : Value) (f : GroundFiring) (m : model.RewriteRule) → IsOneOf t u f → FiresWith t.signature u f m → NoneBefore t m.priority u
 before_it t u f m one k = subst (λ n. NoneBefore t n u) (sym k.priority) (none_before t u f one)
 
-turn_of : (t : Theory) (u : Value) (f : Firing) (m : model.RewriteRule) → IsSorted t.signature u → IsOneOf t u f → FiresWith t.signature u f m → HasTurn t m u
+turn_of : (t : Theory) (u : Value) (f : GroundFiring) (m : model.RewriteRule) → IsSorted t.signature u → IsOneOf t u f → FiresWith t.signature u f m → HasTurn t m u
 turn_of t u f m s one k =
     let h = fired t.signature u f m s k in
     record { fires = subst (λ b. Fires t.signature b u) (sym k.meant.body) (h.valuation, h.fires); none_before = before_it t u f m one k }
 
-pub wide_at : (g : KoreSignature) (u : Value) (f : Firing) (m : model.RewriteRule) → IsSorted g u → ((v : Valuation) → Solves v f.bindings.items → stays_narrow v (term_view f.rewrite.now.right) ≡ false) →
+pub wide_at : (g : KoreSignature) (u : Value) (f : GroundFiring) (m : model.RewriteRule) → IsSorted g u → ((v : Valuation) → Solves v f.bindings.items → stays_narrow v (term_view f.rewrite.now.right) ≡ false) →
     FiresWith g u f m → HasWideRight g u m.body
 wide_at g u f m s wide k =
     let h = fired g u f m s k in
@@ -104,13 +104,13 @@ wide_at g u f m s wide k =
     })
 
 -- the sort that a firing's right side is written at
-pub written_by : (g : KoreSignature) (u : Value) (f : Firing) (m : model.RewriteRule) (s next : State) → FiresWith g u f m →
+pub written_by : (g : KoreSignature) (u : Value) (f : GroundFiring) (m : model.RewriteRule) (s next : State) → FiresWith g u f m →
     IsWrittenAt g (sort_view f.rewrite.now.right_sort) (sort_view s.sort) (sort_view next.sort) → IsWrittenBy g m.body (sort_view s.sort) (sort_view next.sort)
 written_by g u f m s next k at =
     subst (λ b. IsWrittenBy g b (sort_view s.sort) (sort_view next.sort)) (sym k.meant.body)
     (record { right = sort_view f.rewrite.now.right_sort; is_right = k.meant.is.right_sort; place = at })
 
-deep_at : (t : Theory) (s : State) (f : Firing) (m : model.RewriteRule) → IsSorted t.signature (value_view s.value) → ¬ IsUnknown t (value_view s.value) → IsOneOf t (value_view s.value) f →
+deep_at : (t : Theory) (s : State) (f : GroundFiring) (m : model.RewriteRule) → IsSorted t.signature (value_view s.value) → ¬ IsUnknown t (value_view s.value) → IsOneOf t (value_view s.value) f →
     IsDeep t.signature f (sort_view s.sort) → FiresWith t.signature (value_view s.value) f m → StepsTooDeep t (written_of s) m
 deep_at t s f m sorted known one d k = record {
   next = value_view d.next.value;
@@ -120,7 +120,7 @@ deep_at t s f m sorted known one d k = record {
   deep = d.deep;
 }
 
-not_followed_there : (t : Theory) (s : State) (f : Firing) → IsSorted t.signature (value_view s.value) → ¬ IsUnknown t (value_view s.value) →
+not_followed_there : (t : Theory) (s : State) (f : GroundFiring) → IsSorted t.signature (value_view s.value) → ¬ IsUnknown t (value_view s.value) →
     IsOneOf t (value_view s.value) f → NotFollowed t.signature f (sort_view s.sort) → IsNotStepped t (written_of s)
 not_followed_there t s f sorted known one (turns.chooses e) =
     let g = t.signature in
@@ -139,19 +139,19 @@ not_followed_there t s f sorted known one (turns.deep d) =
     (λ m k. deep_at t s f m sorted known one d k) t.rules one)
 
 -- one rule fires before all others, as the code found
-pub one_here : (t : Theory) (rules : RuleSet) (u : Value) (f : Firing) → RunsAs t rules → IsSorted t.signature u →
+pub one_here : (t : Theory) (rules : RuleSet) (u : Value) (f : GroundFiring) → RunsAs t rules → IsSorted t.signature u →
     OneAmong (IsFiring (signature_view rules.signature.value) u f) (GoesAfter (signature_view rules.signature.value) u f.priority) rules.rules.items → IsOneOf t u f
 one_here t rules u f runs sorted one =
     one_of t rules u f runs sorted (subst (λ g. OneAmong (IsFiring g u f) (GoesAfter g u f.priority) rules.rules.items) runs.signature one)
 
-pub not_followed_stops : (t : Theory) (rules : RuleSet) (s : State) (f : Firing) → RunsAs t rules → IsSorted t.signature (value_view s.value) → ¬ IsUnknown t (value_view s.value) →
+pub not_followed_stops : (t : Theory) (rules : RuleSet) (s : State) (f : GroundFiring) → RunsAs t rules → IsSorted t.signature (value_view s.value) → ¬ IsUnknown t (value_view s.value) →
     OneAmong (IsFiring (signature_view rules.signature.value) (value_view s.value) f) (GoesAfter (signature_view rules.signature.value) (value_view s.value) f.priority) rules.rules.items →
     NotFollowed (signature_view rules.signature.value) f (sort_view s.sort) → IsNotStepped t (written_of s)
 not_followed_stops t rules s f runs sorted known one h =
     not_followed_there t s f sorted known (one_here t rules (value_view s.value) f runs sorted one)
     (subst (λ g. NotFollowed g f (sort_view s.sort)) runs.signature h)
 
-pub next_written : (t : Theory) (rules : RuleSet) (s next : State) (f : Firing) → RunsAs t rules → IsSorted t.signature (value_view s.value) →
+pub next_written : (t : Theory) (rules : RuleSet) (s next : State) (f : GroundFiring) → RunsAs t rules → IsSorted t.signature (value_view s.value) →
     OneAmong (IsFiring (signature_view rules.signature.value) (value_view s.value) f) (GoesAfter (signature_view rules.signature.value) (value_view s.value) f.priority) rules.rules.items →
     IsWrittenAt (signature_view rules.signature.value) (sort_view f.rewrite.now.right_sort) (sort_view s.sort) (sort_view next.sort) →
     AnyByRecursion (λ m. HasTurn t m (value_view s.value) × IsWrittenBy t.signature m.body (sort_view s.sort) (sort_view next.sort)) t.rules

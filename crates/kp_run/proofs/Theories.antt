@@ -26,7 +26,7 @@ use Rattle.kp_rules.specs.declared.rule.Rewrite as code
 use Rattle.kp_rule_sets.specs.declared.rule_set.RuleSet.{RuleSet}
 use Rattle.kp_rules.proofs.Fired.{fired_under}
 use Rattle.kp_compile.specs.declared.state.State.{State}
-use Rattle.kp_run.specs.declared.firing.Firing.{Firing}
+use Rattle.kp_run.specs.declared.firing.GroundFiring.{GroundFiring}
 use Rattle.kp_rules.specs.declared.skeleton.Skeleton.{Skeleton}
 use Rattle.kp_run.specs.Runs.{IsAt, IsStuck, IsUnknownAs, IsFirstUnknown, kept_priority, GoesOnlyTo}
 use Rattle.kp_run.specs.Turns.{BodyFires, MightRewrite, NoneMight, IsFirstForeign, GoesAfter, IsFiring, OneAmong, IsAfterFiring}
@@ -121,7 +121,7 @@ none_fires_here t rules u runs s none =
     zip_all (IsCodeOf g) (λ r. ¬ BodyFires g u r.body.value) (λ m. ¬ Fires g m.body u) (λ m r is no f. no ((same_firing g m.body r.body.value u s is.is_body).1 f)) t.rules rules.rules.items runs.each none
 
 -- the rule of the theory whose firing it is
-pub record FiresWith (g : KoreSignature) (u : Value) (f : Firing) (m : model.RewriteRule) : Type 0 where
+pub record FiresWith (g : KoreSignature) (u : Value) (f : GroundFiring) (m : model.RewriteRule) : Type 0 where
   pub priority : m.priority ≡ f.priority
   pub meant : MeantBy g m.body f.rewrite.now
   pub solved : (v : Valuation) → Solves v f.bindings.items ↔ FiresAs g f.rewrite.now u v
@@ -130,7 +130,7 @@ pub record FiresWith (g : KoreSignature) (u : Value) (f : Firing) (m : model.Rew
 abbrev pub FiresAfter : KoreSignature → Value → ℕ → model.RewriteRule → Type 0
 FiresAfter g u n m = Fires g m.body u → n < m.priority
 
-pub fires_with : (g : KoreSignature) (u : Value) (f : Firing) (m : model.RewriteRule) (r : Rule) → IsCodeOf g m r → IsFiring g u f r → FiresWith g u f m
+pub fires_with : (g : KoreSignature) (u : Value) (f : GroundFiring) (m : model.RewriteRule) (r : Rule) → IsCodeOf g m r → IsFiring g u f r → FiresWith g u f m
 fires_with g u f m r is h = record {
   priority = is.is_priority f.rewrite.now h.body ∙ h.priority;
   meant = meant_by g m.body f.rewrite.now (subst (IsBodyOf g m.body) h.body is.is_body);
@@ -144,10 +144,10 @@ fires_after g u n m r s is h = λ f.
     let e = only_rewrites_fire g u r.body.value b in
     subst (λ k. n < k) (sym (is.is_priority e.0 e.1)) (h b)
 
-abbrev pub IsOneOf : Theory → Value → Firing → Type 0
+abbrev pub IsOneOf : Theory → Value → GroundFiring → Type 0
 IsOneOf t u f = OneAmong (FiresWith t.signature u f) (FiresAfter t.signature u f.priority) t.rules
 
-pub one_of : (t : Theory) (rules : RuleSet) (u : Value) (f : Firing) → RunsAs t rules → IsSorted t.signature u →
+pub one_of : (t : Theory) (rules : RuleSet) (u : Value) (f : GroundFiring) → RunsAs t rules → IsSorted t.signature u →
     OneAmong (IsFiring t.signature u f) (GoesAfter t.signature u f.priority) rules.rules.items → IsOneOf t u f
 one_of t rules u f runs s one =
     let g = t.signature in
@@ -157,7 +157,7 @@ one_of t rules u f runs s one =
 -- ---- where a firing leads
 
 -- under each valuation that fires, the next value is the right term's instance
-right_value : (g : KoreSignature) (u : Value) (f : Firing) (next : State) (w : model.Rewrite) → IsRewriteOf g w f.rewrite.now → IsSorted g u → ((v : Valuation) → Solves v f.bindings.items ↔ FiresAs g f.rewrite.now u v) →
+right_value : (g : KoreSignature) (u : Value) (f : GroundFiring) (next : State) (w : model.Rewrite) → IsRewriteOf g w f.rewrite.now → IsSorted g u → ((v : Valuation) → Solves v f.bindings.items ↔ FiresAs g f.rewrite.now u v) →
     IsAfterFiring g f next → (v : Valuation) → FiresUnder g w v u → value_view next.value ≡ instance g v w.right
 right_value g u f next w is s solved after v fires = after.value v ((solved v).1 ((fired_under g w f.rewrite.now is u s v).1 fires)) ∙ is.right v
 
@@ -166,7 +166,7 @@ pub record Fired (g : KoreSignature) (u : Value) (w : model.Rewrite) : Type 0 wh
   pub valuation : Valuation
   pub fires : FiresUnder g w valuation u
 
-pub fired : (g : KoreSignature) (u : Value) (f : Firing) (m : model.RewriteRule) → IsSorted g u → (h : FiresWith g u f m) → Fired g u h.meant.meant
+pub fired : (g : KoreSignature) (u : Value) (f : GroundFiring) (m : model.RewriteRule) → IsSorted g u → (h : FiresWith g u f m) → Fired g u h.meant.meant
 fired g u f m s h = record {
   valuation = h.solvable.0;
   fires = (fired_under g h.meant.meant f.rewrite.now h.meant.is u s h.solvable.0).0 ((h.solved h.solvable.0).0 h.solvable.1);
@@ -193,7 +193,7 @@ leads_only_to g w v other plain to =
     let off : AgreesOff [] v to.chosen = subst (λ xs. AgreesOff xs v to.chosen) plain.new_variables to.agrees in
     to.result ∙ same_instance g v to.chosen w.right (agree_everywhere v to.chosen (free_variables w.right) (λ x. off x refl))
 
-pub rewrites_to : (g : KoreSignature) (u : Value) (f : Firing) (next : State) (m : model.RewriteRule) → IsSorted g u → IsAfterFiring g f next → FiresWith g u f m → Rewrites g m.body u (value_view next.value)
+pub rewrites_to : (g : KoreSignature) (u : Value) (f : GroundFiring) (next : State) (m : model.RewriteRule) → IsSorted g u → IsAfterFiring g f next → FiresWith g u f m → Rewrites g m.body u (value_view next.value)
 rewrites_to g u f next m s after h =
     let w = h.meant.meant in
     let k = fired g u f m s h in
@@ -201,7 +201,7 @@ rewrites_to g u f next m s after h =
     subst (λ b. Rewrites g b u (value_view next.value)) (sym h.meant.body)
     (k.valuation, k.fires, leads_to g w k.valuation (value_view next.value) plain (right_value g u f next w h.meant.is s h.solved after k.valuation k.fires))
 
-pub rewrites_only_to : (g : KoreSignature) (u : Value) (f : Firing) (next : State) (m : model.RewriteRule) (other : Value) → IsSorted g u → IsAfterFiring g f next → FiresWith g u f m → Rewrites g m.body u other → other ≡ value_view next.value
+pub rewrites_only_to : (g : KoreSignature) (u : Value) (f : GroundFiring) (next : State) (m : model.RewriteRule) (other : Value) → IsSorted g u → IsAfterFiring g f next → FiresWith g u f m → Rewrites g m.body u other → other ≡ value_view next.value
 rewrites_only_to g u f next m other s after h r =
     let w = h.meant.meant in
     let k : Rewrites g (model.rewrite w) u other = subst (λ b. Rewrites g b u other) h.meant.body r in
@@ -209,21 +209,21 @@ rewrites_only_to g u f next m other s after h r =
 
 -- ---- the one step
 
-pub none_before : (t : Theory) (u : Value) (f : Firing) → IsOneOf t u f → NoneBefore t f.priority u
+pub none_before : (t : Theory) (u : Value) (f : GroundFiring) → IsOneOf t u f → NoneBefore t f.priority u
 none_before t u f one =
     let g = t.signature in
     one_all (FiresWith g u f) (FiresAfter g u f.priority) (λ m. m.priority < f.priority → ¬ Fires g m.body u)
     (λ m h lt k. let same : m.priority ≡ f.priority = h.priority in absurd (omega arith))
     (λ m h lt k. let later : f.priority < m.priority = h k in absurd (omega arith)) t.rules one
 
-some_step : (t : Theory) (u : Value) (f : Firing) (next : State) → IsSorted t.signature u → ¬ IsUnknown t u → IsOneOf t u f → IsAfterFiring t.signature f next → Steps t u (value_view next.value)
+some_step : (t : Theory) (u : Value) (f : GroundFiring) (next : State) → IsSorted t.signature u → ¬ IsUnknown t u → IsOneOf t u f → IsAfterFiring t.signature f next → Steps t u (value_view next.value)
 some_step t u f next s known one after =
     let g = t.signature in
     one_any (FiresWith g u f) (FiresAfter g u f.priority) (λ m. StepsBy t m u (value_view next.value))
     (λ m h. record { known = known; none_before = subst (λ n. NoneBefore t n u) (sym h.priority) (none_before t u f one); rewrites = rewrites_to g u f next m s after h }) t.rules one
 
 -- a rule that goes after it has no step
-pub no_step_after : (t : Theory) (u : Value) (f : Firing) (m : model.RewriteRule) (other : Value) → IsSorted t.signature u → IsOneOf t u f → FiresAfter t.signature u f.priority m → ¬ StepsBy t m u other
+pub no_step_after : (t : Theory) (u : Value) (f : GroundFiring) (m : model.RewriteRule) (other : Value) → IsSorted t.signature u → IsOneOf t u f → FiresAfter t.signature u f.priority m → ¬ StepsBy t m u other
 no_step_after t u f m other s one later step =
     let g = t.signature in
     let lt : f.priority < m.priority = later (fires_first g m.body u other step.rewrites) in
@@ -232,7 +232,7 @@ no_step_after t u f m other s one later step =
     (subst (λ b. Fires g b u) (sym h.meant.body) (let k = fired g u f n s h in (k.valuation, k.fires))))
     t.rules step.none_before (one_any (FiresWith g u f) (FiresAfter g u f.priority) (FiresWith g u f) (λ n h. h) t.rules one)
 
-only_step : (t : Theory) (u : Value) (f : Firing) (next : State) (other : Value) → IsSorted t.signature u → IsOneOf t u f → IsAfterFiring t.signature f next → Steps t u other → other ≡ value_view next.value
+only_step : (t : Theory) (u : Value) (f : GroundFiring) (next : State) (other : Value) → IsSorted t.signature u → IsOneOf t u f → IsAfterFiring t.signature f next → Steps t u other → other ≡ value_view next.value
 only_step t u f next other s one after steps =
     let g = t.signature in
     of_some (λ m. StepsBy t m u other → other ≡ value_view next.value) (λ m. StepsBy t m u other) (other ≡ value_view next.value) (λ m k b. k b) t.rules
@@ -242,7 +242,7 @@ only_step t u f next other s one after steps =
     steps
 
 -- and the sort of what it leads to
-next_is_at : (t : Theory) (u : Value) (f : Firing) (next : State) → IsSorted t.signature u → IsOneOf t u f → IsAfterFiring t.signature f next → IsAt t next
+next_is_at : (t : Theory) (u : Value) (f : GroundFiring) (next : State) → IsSorted t.signature u → IsOneOf t u f → IsAfterFiring t.signature f next → IsAt t next
 next_is_at t u f next s one after =
     let g = t.signature in
     of_the_one (FiresWith g u f) (FiresAfter g u f.priority) (IsAt t next)
@@ -252,7 +252,7 @@ next_is_at t u f next s one after =
     after.sort (subst (HasSort g (sort_view f.rewrite.now.right_sort)) (sym (right_value g u f next w h.meant.is s h.solved after k.valuation k.fires))
     (h.meant.is.sorted k.valuation k.fires.sorts plain.new_variables))) t.rules one
 
-goes_there : (t : Theory) (rules : RuleSet) (u : Value) (f : Firing) (next : State) → RunsAs t rules → IsSorted t.signature u → ¬ IsUnknown t u →
+goes_there : (t : Theory) (rules : RuleSet) (u : Value) (f : GroundFiring) (next : State) → RunsAs t rules → IsSorted t.signature u → ¬ IsUnknown t u →
     OneAmong (IsFiring t.signature u f) (GoesAfter t.signature u f.priority) rules.rules.items → IsAfterFiring t.signature f next →
     GoesOnlyTo t u (value_view next.value) × IsAt t next
 goes_there t rules u f next runs s known one after =
@@ -266,7 +266,7 @@ pub stuck_here : (t : Theory) (rules : RuleSet) (u : Value) → RunsAs t rules �
 stuck_here t rules u runs s known none =
     (none_fires_here t rules u runs s (subst (λ g. AllByRecursion (λ r. ¬ BodyFires g u r.body.value) rules.rules.items) runs.signature none), known)
 
-pub goes_here : (t : Theory) (rules : RuleSet) (u : Value) (f : Firing) (next : State) → RunsAs t rules → IsSorted t.signature u → ¬ IsUnknown t u →
+pub goes_here : (t : Theory) (rules : RuleSet) (u : Value) (f : GroundFiring) (next : State) → RunsAs t rules → IsSorted t.signature u → ¬ IsUnknown t u →
     OneAmong (IsFiring (signature_view rules.signature.value) u f) (GoesAfter (signature_view rules.signature.value) u f.priority) rules.rules.items → IsAfterFiring (signature_view rules.signature.value) f next →
     GoesOnlyTo t u (value_view next.value) × IsAt t next
 goes_here t rules u f next runs s known one after =

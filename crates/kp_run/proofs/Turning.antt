@@ -7,7 +7,7 @@ use Rattle.kp_kore.specs.Value.{Value}
 use Rattle.kp_rules.specs.declared.rule.Rule.{Rule}
 use Rattle.kp_rule_sets.specs.Turns.{with_first}
 use Rattle.std.proofs.lemmas.List.{append-nil}
-use Rattle.kp_run.specs.declared.firing.Firing.{Firing}
+use Rattle.kp_run.specs.declared.firing.GroundFiring.{GroundFiring}
 use Rattle.kp_run.specs.declared.step.Turn.{Turn}
 use Rattle.kp_run.specs.declared.step.Turn.TheVariants.{Nobody, One, Several}
 use Rattle.kp_run.specs.Causes.{TwoAmong}
@@ -18,20 +18,20 @@ use Rattle.kp_run.proofs.Among.{all_along, all_and_last, one_all, one_any, one_a
 abbrev pub NoneSmaller : KoreSignature → Value → ℕ → List Rule → Type 0
 NoneSmaller g u n rules = AllByRecursion (λ r. BodyFires g u r.body.value → n ≤ r.priority) rules
 
-abbrev pub IsOne : KoreSignature → Value → Firing → List Rule → Type 0
+abbrev pub IsOne : KoreSignature → Value → GroundFiring → List Rule → Type 0
 IsOne g u f rules = OneAmong (IsFiring g u f) (GoesAfter g u f.priority) rules
 
-pub first_stays : (g : KoreSignature) (u : Value) (f n : Firing) (rules : List Rule) (r : Rule) → IsOne g u f rules → IsFiring g u n r → f.priority < n.priority → IsOne g u f (rules ++ r ∷ [])
+pub first_stays : (g : KoreSignature) (u : Value) (f n : GroundFiring) (rules : List Rule) (r : Rule) → IsOne g u f rules → IsFiring g u n r → f.priority < n.priority → IsOne g u f (rules ++ r ∷ [])
 first_stays g u f n rules r one h lt = one_and_last (IsFiring g u f) (GoesAfter g u f.priority) rules r one (λ _. subst (λ m. f.priority < m) (sym h.priority) lt)
 
-pub second_leads : (g : KoreSignature) (u : Value) (f n : Firing) (rules : List Rule) (r : Rule) → IsOne g u f rules → IsFiring g u n r → n.priority < f.priority → IsOne g u n (rules ++ r ∷ [])
+pub second_leads : (g : KoreSignature) (u : Value) (f n : GroundFiring) (rules : List Rule) (r : Rule) → IsOne g u f rules → IsFiring g u n r → n.priority < f.priority → IsOne g u n (rules ++ r ∷ [])
 second_leads g u f n rules r one h lt =
     last_is_the_one (IsFiring g u n) (GoesAfter g u n.priority) rules r
     (one_all (IsFiring g u f) (GoesAfter g u f.priority) (GoesAfter g u n.priority) (λ q k _. subst (λ m. n.priority < m) (sym k.priority) lt)
     (λ q k b. let after : f.priority < q.priority = k b in omega arith) rules one)
     h
 
-pub are_several : (g : KoreSignature) (u : Value) (f n : Firing) (rules : List Rule) (r : Rule) → IsOne g u f rules → IsFiring g u n r → f.priority ≤ n.priority → NoneSmaller g u f.priority (rules ++ r ∷ [])
+pub are_several : (g : KoreSignature) (u : Value) (f n : GroundFiring) (rules : List Rule) (r : Rule) → IsOne g u f rules → IsFiring g u n r → f.priority ≤ n.priority → NoneSmaller g u f.priority (rules ++ r ∷ [])
 are_several g u f n rules r one h le =
     all_and_last (λ q. BodyFires g u q.body.value → f.priority ≤ q.priority) rules r
     (one_all (IsFiring g u f) (GoesAfter g u f.priority) (λ q. BodyFires g u q.body.value → f.priority ≤ q.priority)
@@ -39,27 +39,27 @@ are_several g u f n rules r one h le =
     (λ q k b. let after : f.priority < q.priority = k b in omega arith) rules one)
     (λ _. subst (λ m. f.priority ≤ m) (sym h.priority) le)
 
-pub leads_several : (g : KoreSignature) (u : Value) (n : ℕ) (f : Firing) (rules : List Rule) (r : Rule) → NoneSmaller g u n rules → IsFiring g u f r → f.priority < n → IsOne g u f (rules ++ r ∷ [])
+pub leads_several : (g : KoreSignature) (u : Value) (n : ℕ) (f : GroundFiring) (rules : List Rule) (r : Rule) → NoneSmaller g u n rules → IsFiring g u f r → f.priority < n → IsOne g u f (rules ++ r ∷ [])
 leads_several g u n f rules r none h lt =
     last_is_the_one (IsFiring g u f) (GoesAfter g u f.priority) rules r
     (all_along (λ q. BodyFires g u q.body.value → n ≤ q.priority) (GoesAfter g u f.priority) (λ q k b. let after : n ≤ q.priority = k b in omega arith) rules none)
     h
 
-pub stay_several : (g : KoreSignature) (u : Value) (n : ℕ) (f : Firing) (rules : List Rule) (r : Rule) → NoneSmaller g u n rules → IsFiring g u f r → n ≤ f.priority → NoneSmaller g u n (rules ++ r ∷ [])
+pub stay_several : (g : KoreSignature) (u : Value) (n : ℕ) (f : GroundFiring) (rules : List Rule) (r : Rule) → NoneSmaller g u n rules → IsFiring g u f r → n ≤ f.priority → NoneSmaller g u n (rules ++ r ∷ [])
 stay_several g u n f rules r none h le =
     all_and_last (λ q. BodyFires g u q.body.value → n ≤ q.priority) rules r none (λ _. subst (λ m. n ≤ m) (sym h.priority) le)
 
-pub first_fires : (g : KoreSignature) (u : Value) (f : Firing) (rules : List Rule) (r : Rule) → AllByRecursion (λ q. ¬ BodyFires g u q.body.value) rules → IsFiring g u f r → IsOne g u f (rules ++ r ∷ [])
+pub first_fires : (g : KoreSignature) (u : Value) (f : GroundFiring) (rules : List Rule) (r : Rule) → AllByRecursion (λ q. ¬ BodyFires g u q.body.value) rules → IsFiring g u f r → IsOne g u f (rules ++ r ∷ [])
 first_fires g u f rules r none h =
     last_is_the_one (IsFiring g u f) (GoesAfter g u f.priority) rules r
     (all_along (λ q. ¬ BodyFires g u q.body.value) (GoesAfter g u f.priority) (λ q k b. absurd (k b)) rules none)
     h
 
 -- a firing's rule fires, at its number
-fires_at : (g : KoreSignature) (u : Value) (f : Firing) (r : Rule) (n : ℕ) → IsFiring g u f r → f.priority ≡ n → FiresAt g u n r
+fires_at : (g : KoreSignature) (u : Value) (f : GroundFiring) (r : Rule) (n : ℕ) → IsFiring g u f r → f.priority ≡ n → FiresAt g u n r
 fires_at g u f r n h e = (subst (BodyFires g u) (sym h.body) (h.solvable.0, (h.solved h.solvable.0).0 h.solvable.1), h.priority ∙ e)
 
-pub are_two : (g : KoreSignature) (u : Value) (f n : Firing) (rules : List Rule) (r : Rule) → IsOne g u f rules → IsFiring g u n r → n.priority ≡ f.priority → TwoAmong (FiresAt g u f.priority) (rules ++ r ∷ [])
+pub are_two : (g : KoreSignature) (u : Value) (f n : GroundFiring) (rules : List Rule) (r : Rule) → IsOne g u f rules → IsFiring g u n r → n.priority ≡ f.priority → TwoAmong (FiresAt g u f.priority) (rules ++ r ∷ [])
 are_two g u f n rules r one h e =
     two_and_last (FiresAt g u f.priority) rules r
     (one_any (IsFiring g u f) (GoesAfter g u f.priority) (FiresAt g u f.priority) (λ q k. fires_at g u f q f.priority k refl) rules one)

@@ -18,8 +18,8 @@ use Rattle.kp_compile.specs.declared.state.State.{State}
 use Rattle.kp_run.specs.declared.run.RunEnd.{RunEnd}
 use Rattle.kp_run.specs.declared.run.Stop.{Stop}
 use Rattle.kp_run.specs.declared.run.Stop.TheVariants.{Stuck, DepthBound, ForeignRule}
-use Rattle.kp_run.specs.declared.step.Next.{Next}
-use Rattle.kp_run.specs.declared.step.Next.TheVariants as after
+use Rattle.kp_run.specs.declared.step.GroundNext.{GroundNext}
+use Rattle.kp_run.specs.declared.step.GroundNext.TheVariants as after
 use Rattle.kp_run.specs.Causes.{Written, IsNextState}
 
 -- the value has the sort that the state is written at
@@ -57,7 +57,7 @@ abbrev pub GoesOnlyTo : Theory → Value → Value → Type 0
 GoesOnlyTo t c next = Steps t c next × ((other : Value) → Steps t c other → other ≡ next)
 
 -- what comes after a configuration
-abbrev pub IsNext : Theory → Value → Next → Type 0
+abbrev pub IsNext : Theory → Value → GroundNext → Type 0
 IsNext t c after.Stuck = IsStuck t c
 IsNext t c (after.ForeignRule id) = IsFirstUnknown t c (string_bytes id)
 IsNext t c (after.Stepped s ds) = GoesOnlyTo t c (value_view s.value) × IsAt t s
@@ -66,7 +66,7 @@ IsNext t c (after.Stepped s ds) = GoesOnlyTo t c (value_view s.value) × IsAt t 
 abbrev pub written_of : State → Written
 written_of s = record { value = value_view s.value; sort = sort_view s.sort }
 
-abbrev pub IsWrittenNext : Theory → Written → Next → Type 0
+abbrev pub IsWrittenNext : Theory → Written → GroundNext → Type 0
 IsWrittenNext t s (after.Stepped next ds) = IsNextState t s (written_of next)
 IsWrittenNext t s _ = ⊤
 

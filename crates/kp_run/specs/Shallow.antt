@@ -9,16 +9,16 @@ use Rattle.kp_ground.specs.Solves.{Solves}
 use Rattle.kp_ground.specs.Terms.{left_value}
 use Rattle.kp_ground.specs.View.{value_view}
 use Rattle.kp_depths.specs.View.{AreDepthsOf}
-use Rattle.kp_run.specs.declared.firing.Firing.{Firing}
-use Rattle.kp_run.specs.declared.step.Next.{Next}
-use Rattle.kp_run.specs.declared.step.Next.TheVariants as after
+use Rattle.kp_run.specs.declared.firing.GroundFiring.{GroundFiring}
+use Rattle.kp_run.specs.declared.step.GroundNext.{GroundNext}
+use Rattle.kp_run.specs.declared.step.GroundNext.TheVariants as after
 
 -- the state that follows stands beside the depths of its value
-abbrev pub HasDepths : KoreSignature → Next → Type 0
+abbrev pub HasDepths : KoreSignature → GroundNext → Type 0
 HasDepths g (after.Stepped s ds) = AreDepthsOf g (value_view s.value) ds
 HasDepths g _ = ⊤
 
 -- under every valuation that the bindings allow the left term's instance is the value, and there is such a valuation
-pub record IsMatchOf (f : Firing) (u : Value) : Type 0 where
+pub record IsMatchOf (f : GroundFiring) (u : Value) : Type 0 where
   pub same : (v : Valuation) → Solves v f.bindings.items → left_value v (left_view f.rewrite.now.left) ≡ u
   pub solvable : (v : Valuation) × Solves v f.bindings.items

@@ -22,7 +22,7 @@ use Rattle.kp_compile.specs.Spelled.{spelling}
 use Rattle.kp_compile.specs.declared.state.State.{State}
 use Rattle.kp_run.specs.Causes.{TwoAmong, IsWrittenAt}
 use Rattle.kp_run.specs.Runs.{OneBetween}
-use Rattle.kp_run.specs.declared.firing.Firing.{Firing}
+use Rattle.kp_run.specs.declared.firing.GroundFiring.{GroundFiring}
 use Rattle.kp_run.specs.declared.step.Turn.{Turn}
 use Rattle.kp_run.specs.declared.step.Turn.TheVariants.{Nobody, One, Several}
 
@@ -56,7 +56,7 @@ abbrev pub GoesAfter : KoreSignature → Value → ℕ → Rule → Type 0
 GoesAfter g u n r = BodyFires g u r.body.value → n < r.priority
 
 -- the rule fires, under exactly the valuations that the bindings allow, and there are some
-pub record IsFiring (g : KoreSignature) (u : Value) (f : Firing) (r : Rule) : Type 0 where
+pub record IsFiring (g : KoreSignature) (u : Value) (f : GroundFiring) (r : Rule) : Type 0 where
   pub body : r.body.value ≡ Rewrite f.rewrite.now
   pub priority : r.priority ≡ f.priority
   pub solved : (v : Valuation) → Solves v f.bindings.items ↔ FiresAs g f.rewrite.now u v
@@ -80,7 +80,7 @@ IsTurn g u rules (Several n) = AllByRecursion (λ r. BodyFires g u r.body.value 
 
 -- the state after a firing: its value is the right term's under the bindings, and it has the sort that it is written
 -- at where it has the right term's
-pub record IsAfterFiring (g : KoreSignature) (f : Firing) (next : State) : Type 0 where
+pub record IsAfterFiring (g : KoreSignature) (f : GroundFiring) (next : State) : Type 0 where
   pub chooses : f.rewrite.now.chooses ≡ false
   pub value : (v : Valuation) → Solves v f.bindings.items → value_view next.value ≡ term_value v (term_view f.rewrite.now.right)
   pub sort : HasSort g (sort_view f.rewrite.now.right_sort) (value_view next.value) → HasSort g (sort_view next.sort) (value_view next.value)
@@ -93,19 +93,19 @@ BodyIsWide g u (Rewrite r) = IsWide g r u
 BodyIsWide g u (Foreign k) = ⊥
 
 -- the state after the firing has a written term deeper than a state may be
-pub record IsDeep (g : KoreSignature) (f : Firing) (state : KoreSort) : Type 0 where
+pub record IsDeep (g : KoreSignature) (f : GroundFiring) (state : KoreSort) : Type 0 where
   pub next : State
   pub after : IsAfterFiring g f next
   pub written : IsWrittenAt g (sort_view f.rewrite.now.right_sort) state (sort_view next.sort)
   pub deep : most_depth < term_depth (spelling g (sort_view next.sort) (value_view next.value))
 
 -- why no state follows a firing: it chooses, its right side computes a number beyond 128 bits, or it is deep
-pub data NotFollowed (g : KoreSignature) (f : Firing) (state : KoreSort) : Type 0 where
+pub data NotFollowed (g : KoreSignature) (f : GroundFiring) (state : KoreSort) : Type 0 where
   chooses : f.rewrite.now.chooses ≡ true → NotFollowed g f state
   wide : ((v : Valuation) → Solves v f.bindings.items → stays_narrow v (term_view f.rewrite.now.right) ≡ false) → NotFollowed g f state
   deep : IsDeep g f state → NotFollowed g f state
 
 -- and of a state that does follow: no number in the right side is beyond 128 bits, and it isn't too deep
-pub record IsFollowed (g : KoreSignature) (f : Firing) (next : State) : Type 0 where
+pub record IsFollowed (g : KoreSignature) (f : GroundFiring) (next : State) : Type 0 where
   pub narrow : (v : Valuation) → Solves v f.bindings.items → stays_narrow v (term_view f.rewrite.now.right) ≡ true
   pub within : term_depth (spelling g (sort_view next.sort) (value_view next.value)) ≤ most_depth

@@ -8,7 +8,7 @@ use kp_rules::Rewrite;
 
 /// A rule that fires, with its priority and what its left term's variables are bound to.
 #[derive(Drop)]
-pub struct Firing<'a> {
+pub struct GroundFiring<'a> {
     pub priority: u32,
     pub rewrite: &'a Rewrite,
     pub bindings: Vec<Binding>,

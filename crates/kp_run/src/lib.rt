@@ -11,4 +11,4 @@ mod step;
 
 pub use error::RunError;
 pub use run::{RunEnd, Stop, execute};
-pub use step::{Next, foreign_on, next_state};
+pub use step::{GroundNext, foreign_on, next_state};

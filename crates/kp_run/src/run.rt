@@ -8,7 +8,7 @@ ghost use Rattle.kp_run.specs.declared.error.RunError.TheVariants.{NotAnswered};
 ghost use Rattle.kp_run.specs.declared.run.Stop.TheVariants.{Stuck, DepthBound, ForeignRule};
 
 use crate::error::RunError;
-use crate::step::{Next, next_of};
+use crate::step::{GroundNext, next_of};
 use kp_compile::State;
 use kp_depths::depths_of;
 use kp_rule_sets::RuleSet;
@@ -48,21 +48,21 @@ pub fn execute(alloc: Global, rules: &RuleSet, state: State, bound: u64) -> Resu
     let mut depths = depths_of(&state.value, alloc, &rules.signature)?;
     for depth in 0..bound {
         match next_of(alloc, rules, &state, &depths)? {
-            Next::Stepped {
+            GroundNext::Stepped {
                 state: next,
                 depths: levels,
             } => {
                 state = next;
                 depths = levels;
             }
-            Next::Stuck => {
+            GroundNext::Stuck => {
                 return Ok(RunEnd {
                     depth,
                     stop: Stop::Stuck,
                     state,
                 });
             }
-            Next::ForeignRule { id } => {
+            GroundNext::ForeignRule { id } => {
                 return Ok(RunEnd {
                     depth,
                     stop: Stop::ForeignRule { id },

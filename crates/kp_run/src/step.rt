@@ -22,11 +22,11 @@ ghost use Rattle.kp_run.specs.Runs.{IsNext, IsWrittenNext, written_of};
 ghost use Rattle.kp_run.specs.Shallow.{HasDepths, IsMatchOf};
 ghost use Rattle.kp_run.specs.Turns.{BodyFires, BodyIsWide, MightRewrite, IsFirstForeign, TellsForeign, GoesAfter, FiresAt, IsFiring, OneAmong, IsTurn, IsAfterFiring, IsFollowed, NotFollowed};
 ghost use Rattle.kp_depths.specs.View.{AreDepthsOf};
-ghost use Rattle.kp_run.specs.declared.step.Next.TheVariants.{Stepped};
+ghost use Rattle.kp_run.specs.declared.step.GroundNext.TheVariants.{Stepped};
 ghost use Rattle.kp_run.specs.declared.error.RunError.TheVariants.{NotAnswered};
 
 use crate::error::RunError;
-use crate::firing::Firing;
+use crate::firing::GroundFiring;
 use crate::fit::parts_fit;
 use kp_compile::State;
 use kp_depths::{Depths, bound_depths, depths_of, is_shallow_at, right_depths};
@@ -39,7 +39,7 @@ use std::alloc::{AllocError, Global};
 
 /// What comes after a state.
 #[derive(Drop)]
-pub enum Next {
+pub enum GroundNext {
     /// Nothing: no rule fires, and no foreign rule might.
     Stuck,
     /// A foreign rule might rewrite it: the rule's id.
@@ -52,7 +52,7 @@ pub enum Next {
 #[derive(Drop)]
 enum Turn<'a> {
     Nobody,
-    One(Firing<'a>),
+    One(GroundFiring<'a>),
     Several(u32),
 }
 
@@ -135,7 +135,7 @@ pub fn foreign_on<'a>(
 }
 
 /// Who has the turn of two rules that fire: the smaller priority number.
-fn sooner<'a>(first: Firing<'a>, second: Firing<'a>) -> Turn<'a>
+fn sooner<'a>(first: GroundFiring<'a>, second: GroundFiring<'a>) -> Turn<'a>
     ensures { (g : KoreSignature) (u : model.Value) (rules : List Rule) (r : Rule) → OneAmong (IsFiring g u first.entry) (GoesAfter g u first.entry.priority) rules → IsFiring g u second.entry r → IsTurn g u (rules ++ r ∷ []) result }
 {
     if first.priority < second.priority {
@@ -148,7 +148,7 @@ fn sooner<'a>(first: Firing<'a>, second: Firing<'a>) -> Turn<'a>
 }
 
 /// Who has the turn when one more rule fires beside several of this priority number.
-fn beside_several<'a>(priority: u32, firing: Firing<'a>) -> Turn<'a>
+fn beside_several<'a>(priority: u32, firing: GroundFiring<'a>) -> Turn<'a>
     ensures { (g : KoreSignature) (u : model.Value) (rules : List Rule) (r : Rule) → AllByRecursion (λ r. BodyFires g u r.body.value → priority ≤ r.priority) rules → TwoAmong (FiresAt g u priority) rules → IsFiring g u firing.entry r → IsTurn g u (rules ++ r ∷ []) result }
 {
     if firing.priority < priority {
@@ -158,7 +158,7 @@ fn beside_several<'a>(priority: u32, firing: Firing<'a>) -> Turn<'a>
 }
 
 /// Who has the turn when one more rule fires.
-fn joined<'a>(turn: Turn<'a>, firing: Firing<'a>) -> Turn<'a>
+fn joined<'a>(turn: Turn<'a>, firing: GroundFiring<'a>) -> Turn<'a>
     ensures { (g : KoreSignature) (u : model.Value) (rules : List Rule) (r : Rule) → IsTurn g u rules turn.entry → IsFiring g u firing.entry r → IsTurn g u (rules ++ r ∷ []) result }
 {
     match turn {
@@ -174,7 +174,7 @@ fn firing_of<'a>(
     signature: &Signature,
     rule: &'a Rule,
     value: &Value,
-) -> Result<Option<Firing<'a>>, RunError>
+) -> Result<Option<GroundFiring<'a>>, RunError>
     ensures firing { IfOk result (λ o. MatchOption o (¬ BodyFires (signature_view signature.now) (value_view value.now) rule.now.body.value) (λ f. IsFiring (signature_view signature.now) (value_view value.now) f rule.now)) }
     ensures wide { IfErr result (λ e. e ≡ NotAnswered → BodyIsWide (signature_view signature.now) (value_view value.now) rule.now.body.value) }
     ensures narrow { IfOk result (λ _. ¬ BodyIsWide (signature_view signature.now) (value_view value.now) rule.now.body.value) }
@@ -182,7 +182,7 @@ fn firing_of<'a>(
     match &*rule.body {
         RuleBody::Foreign(_) => Ok(None),
         RuleBody::Rewrite(rewrite) => match rewrite.fires(alloc, signature, value)? {
-            Some(bindings) => Ok(Some(Firing {
+            Some(bindings) => Ok(Some(GroundFiring {
                 priority: rule.priority,
                 rewrite,
                 bindings,
@@ -193,7 +193,7 @@ fn firing_of<'a>(
 }
 
 /// Who has the turn when one more rule is asked.
-fn turn_after<'a>(turn: Turn<'a>, firing: Option<Firing<'a>>) -> Turn<'a>
+fn turn_after<'a>(turn: Turn<'a>, firing: Option<GroundFiring<'a>>) -> Turn<'a>
     ensures { (g : KoreSignature) (u : model.Value) (rules : List Rule) (r : Rule) → IsTurn g u rules turn.entry → MatchOption firing.entry (¬ BodyFires g u r.body.value) (λ f. IsFiring g u f r) → IsTurn g u (rules ++ r ∷ []) result }
 {
     match firing {
@@ -282,7 +282,7 @@ fn written_sort(
 }
 
 /// What comes after a state: a foreign rule is told before any condition is looked at.
-pub fn next_state(alloc: Global, rules: &RuleSet, state: &State) -> Result<Next, RunError>
+pub fn next_state(alloc: Global, rules: &RuleSet, state: &State) -> Result<GroundNext, RunError>
     ensures next { (t : Theory) → RunsAs t rules.now → IsSorted t.signature (value_view state.now.value) → IfOk result (IsNext t (value_view state.now.value)) }
     ensures written { (t : Theory) → RunsAs t rules.now → IsSorted t.signature (value_view state.now.value) → IfOk result (IsWrittenNext t (written_of state.now)) }
     ensures answered { (t : Theory) → RunsAs t rules.now → IsSorted t.signature (value_view state.now.value) → IfOk result (λ _. ¬ StopsUntold t (written_of state.now) 1) }
@@ -298,7 +298,7 @@ pub fn next_of(
     rules: &RuleSet,
     state: &State,
     depths: &Depths,
-) -> Result<Next, RunError>
+) -> Result<GroundNext, RunError>
     requires counted { AreDepthsOf (signature_view rules.now.signature.value) (value_view state.now.value) depths.now }
     ensures next { (t : Theory) → RunsAs t rules.now → IsSorted t.signature (value_view state.now.value) → IfOk result (IsNext t (value_view state.now.value)) }
     ensures written { (t : Theory) → RunsAs t rules.now → IsSorted t.signature (value_view state.now.value) → IfOk result (IsWrittenNext t (written_of state.now)) }
@@ -307,7 +307,7 @@ pub fn next_of(
     ensures counted { IfOk result (HasDepths (signature_view rules.now.signature.value)) }
 {
     match foreign_on(alloc, rules, &state.value)? {
-        Some(rule) => Ok(Next::ForeignRule {
+        Some(rule) => Ok(GroundNext::ForeignRule {
             id: String::from_str(alloc, rule.id.as_str())?,
         }),
         None => known_next(alloc, rules, state, depths),
@@ -320,7 +320,7 @@ fn known_next(
     rules: &RuleSet,
     state: &State,
     depths: &Depths,
-) -> Result<Next, RunError>
+) -> Result<GroundNext, RunError>
     requires counted { AreDepthsOf (signature_view rules.now.signature.value) (value_view state.now.value) depths.now }
     ensures next { (t : Theory) → RunsAs t rules.now → IsSorted t.signature (value_view state.now.value) → ¬ IsUnknown t (value_view state.now.value) → IfOk result (IsNext t (value_view state.now.value)) }
     ensures written { (t : Theory) → RunsAs t rules.now → IsSorted t.signature (value_view state.now.value) → ¬ IsUnknown t (value_view state.now.value) → IfOk result (IsWrittenNext t (written_of state.now)) }
@@ -329,18 +329,18 @@ fn known_next(
     ensures counted { IfOk result (HasDepths (signature_view rules.now.signature.value)) }
 {
     match turn_on(alloc, rules, &state.value)? {
-        Turn::Nobody => Ok(Next::Stuck),
+        Turn::Nobody => Ok(GroundNext::Stuck),
         Turn::Several(_) => Err(RunError::NotAnswered),
         Turn::One(firing) => Ok(stepped(after(alloc, &rules.signature, state, &firing, depths)?)),
     }
 }
 
 /// That a state follows, of which the depths are at hand.
-fn stepped(after: (State, Depths)) -> Next
+fn stepped(after: (State, Depths)) -> GroundNext
     ensures { result ≡ Stepped after.0 after.1 }
 {
     let (state, depths) = after;
-    Next::Stepped { state, depths }
+    GroundNext::Stepped { state, depths }
 }
 
 /// The state after the step by a rule that has its turn, and the depths of its value.
@@ -348,7 +348,7 @@ fn after(
     alloc: Global,
     signature: &Signature,
     state: &State,
-    firing: &Firing,
+    firing: &GroundFiring,
     depths: &Depths,
 ) -> Result<(State, Depths), RunError>
     requires counted { AreDepthsOf (signature_view signature.now) (value_view state.now.value) depths.now }
@@ -375,7 +375,7 @@ fn after(
 fn depths_after(
     alloc: Global,
     signature: &Signature,
-    firing: &Firing,
+    firing: &GroundFiring,
     value: &Value,
     depths: &Depths,
 ) -> Result<Depths, AllocError>

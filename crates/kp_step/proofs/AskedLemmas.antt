@@ -36,8 +36,8 @@ use Rattle.kp_step.specs.Places.{IsAt}
 use Rattle.kp_step.specs.Ready.{IsWholeReady}
 use Rattle.kp_step.specs.Rules.{IsForeignAt}
 use Rattle.kp_step.specs.Answers.{IsRightAnswerOf, TellsForeign}
-use Rattle.kp_step.specs.declared.answers.Answer as answers
-use Rattle.kp_step.specs.declared.answers.Answer.TheVariants as answer
+use Rattle.kp_step.specs.declared.answers.PartAnswer as answers
+use Rattle.kp_step.specs.declared.answers.PartAnswer.TheVariants as answer
 use Rattle.kp_step.proofs.CauseLemmas.{open_foreign}
 use Rattle.kp_step.proofs.ForeignLemmas.{unknown_where, unknown_nowhere, nothing_unknown, meets_foreign}
 use Rattle.kp_step.proofs.FoundLemmas.{one_at, at_contains}
@@ -84,7 +84,7 @@ met_comes t used s place k q m next apart w f met =
 instance_there : (g : KoreSignature) (p : StatePart) → HasInstance g (whole p.state) → HasInstance g p
 instance_there g p i = record { valuation = i.valuation; configuration = i.configuration; sorts = i.sorts; met = i.met }
 
-pub tells_met : (t : Theory) (used : List Text) (s : SymbolicState) (place : ℕ) (k : Skeleton) (q : NumberedPart) (m : MetPart) (next : ℕ) (apart : List NumberedPart) (a : answers.Answer) → IsWholeReady t.signature used s q → IsForeignAt t place k → IsMeeting t.signature used (skeleton_view k) q.part m next apart →
+pub tells_met : (t : Theory) (used : List Text) (s : SymbolicState) (place : ℕ) (k : Skeleton) (q : NumberedPart) (m : MetPart) (next : ℕ) (apart : List NumberedPart) (a : answers.PartAnswer) → IsWholeReady t.signature used s q → IsForeignAt t place k → IsMeeting t.signature used (skeleton_view k) q.part m next apart →
     IsRightAnswerOf t.signature s (with_clauses m.part m.equations).state a → TellsForeign t s place a
 tells_met t used s place k q m next apart answer.Instance w f met i =
     let r = with_clauses m.part m.equations in
@@ -124,12 +124,12 @@ tells_read t s place none rule at w c h i u = by rule.body refl u
     by (foreign_rule l) e f = none rule l at e
 
 -- of the part as the code has it
-pub answer_by : (g : KoreSignature) (s : SymbolicState) (p r x : StatePart) (a : answers.Answer) → p ≡ whole s → r ≡ x → HasSortedClauses g x.state → (HasSortedClauses g r.state → IsRightAnswerOf g p.state r.state a) → IsRightAnswerOf g s x.state a
+pub answer_by : (g : KoreSignature) (s : SymbolicState) (p r x : StatePart) (a : answers.PartAnswer) → p ≡ whole s → r ≡ x → HasSortedClauses g x.state → (HasSortedClauses g r.state → IsRightAnswerOf g p.state r.state a) → IsRightAnswerOf g s x.state a
 answer_by g s p r x a e f sorted told =
     subst (λ q. IsRightAnswerOf g q.state x.state a) e (subst (λ q. IsRightAnswerOf g p.state q.state a) f (told (subst (λ q. HasSortedClauses g q.state) (sym f) sorted)))
 
 -- over the setting's signature
-pub tells_met_at : (t : Theory) (used : List Text) (s : SymbolicState) (g : KoreSignature) (place : ℕ) (k : Skeleton) (q : NumberedPart) (m : MetPart) (next : ℕ) (apart : List NumberedPart) (a : answers.Answer) → g ≡ t.signature → IsWholeReady g used s q → IsForeignAt t place k → IsMeeting g used (skeleton_view k) q.part m next apart →
+pub tells_met_at : (t : Theory) (used : List Text) (s : SymbolicState) (g : KoreSignature) (place : ℕ) (k : Skeleton) (q : NumberedPart) (m : MetPart) (next : ℕ) (apart : List NumberedPart) (a : answers.PartAnswer) → g ≡ t.signature → IsWholeReady g used s q → IsForeignAt t place k → IsMeeting g used (skeleton_view k) q.part m next apart →
     IsRightAnswerOf g s (with_clauses m.part m.equations).state a → TellsForeign t s place a
 tells_met_at t used s g place k q m next apart a e w f met right =
     tells_met t used s place k q m next apart a (subst (λ h. IsWholeReady h used s q) e w) f (subst (λ h. IsMeeting h used (skeleton_view k) q.part m next apart) e met) (subst (λ h. IsRightAnswerOf h s (with_clauses m.part m.equations).state a) e right)

@@ -32,7 +32,7 @@ use Rattle.kp_step.specs.Tries.{OneFiresOnAll, AreRemaining}
 use Rattle.kp_step.specs.Answers.{ShowsOf, IsRightAnswerOf, AreDecided, TellsRemainder}
 use Rattle.kp_step.specs.Outcomes.{IsCaseOf, IsRemainderOf, AreCasesOf, IsToldOpen}
 use Rattle.kp_step.specs.Views.{numbered_views, next_view, next_told, part_told, limit_view}
-use Rattle.kp_step.specs.declared.answers.Answer as answers
+use Rattle.kp_step.specs.declared.answers.PartAnswer as answers
 use Rattle.kp_step.specs.declared.outcome.Limit.{Limit}
 use Rattle.kp_step.specs.declared.answers.Open.{Open}
 use Rattle.kp_step.specs.declared.answers.Decided as decisions
@@ -204,5 +204,5 @@ pub step_from : (t : Theory) (used : List Text) (s : SymbolicState) (k : Setting
 step_from t used s k rules next q steps setting e f ready = record { steps = steps; setting = setting; whole = is_whole t.signature used s next q e f ready }
 
 -- what is answered of it
-pub answer_at : (t : Theory) (used : List Text) (s : SymbolicState) (g : KoreSignature) (next : ℕ) (a : answers.Answer) → g ≡ t.signature → IsReadyState t.signature used s next → (HasSortedClauses g s → IsRightAnswerOf g s s a) → IsRightAnswerOf t.signature s s a
+pub answer_at : (t : Theory) (used : List Text) (s : SymbolicState) (g : KoreSignature) (next : ℕ) (a : answers.PartAnswer) → g ≡ t.signature → IsReadyState t.signature used s next → (HasSortedClauses g s → IsRightAnswerOf g s s a) → IsRightAnswerOf t.signature s s a
 answer_at t used s g next a e ready told = subst (λ h. HasSortedClauses h s → IsRightAnswerOf h s s a) e told (sorted_clauses t.signature s ready.safe.sorted)

@@ -21,7 +21,7 @@ use Rattle.kp_step.specs.Answers.{TellsForeign, TellsKnown, IsOpenAt}
 use Rattle.kp_step.specs.declared.outcome.StepOutcome.{StepOutcome}
 use Rattle.kp_step.specs.Outcomes.{IsToldOpen, IsRightStep}
 use Rattle.kp_step.specs.declared.answers.Open.{Open}
-use Rattle.kp_step.specs.declared.answers.Answer.TheVariants as answer
+use Rattle.kp_step.specs.declared.answers.PartAnswer.TheVariants as answer
 use Rattle.kp_step.specs.declared.foreign.OpenAt.{OpenAt}
 use Rattle.kp_step.proofs.ForeignLemmas.{all_known}
 use Rattle.kp_step.proofs.FoundLemmas.{one_at, contains_at}

@@ -18,8 +18,8 @@ use Rattle.kp_step.specs.Ready.{IsWholeReady}
 use Rattle.kp_step.specs.Rules.{IsForeignAt}
 use Rattle.kp_step.specs.Answers.{IsRightAnswerOf, TellsForeign, TellsKnown}
 use Rattle.kp_step.specs.Outcomes.{IsRightStep}
-use Rattle.kp_step.specs.declared.answers.Answer as answers
-use Rattle.kp_step.specs.declared.answers.Answer.TheVariants as answer
+use Rattle.kp_step.specs.declared.answers.PartAnswer as answers
+use Rattle.kp_step.specs.declared.answers.PartAnswer.TheVariants as answer
 use Rattle.kp_step.specs.declared.foreign.OpenAt.{OpenAt}
 use Rattle.kp_step.specs.declared.outcome.StepOutcome.{StepOutcome}
 use Rattle.kp_step.proofs.AskedLemmas.{met_sorted, tells_met, tells_apart}
@@ -27,14 +27,14 @@ use Rattle.kp_step.proofs.FirstLemmas.{Asking, asks_all}
 use Rattle.kp_step.proofs.OrderLemmas.{InTurn}
 
 -- what is answered of the part that is met
-pub answered_met : (g : KoreSignature) (used : List Text) (s : SymbolicState) (left : Form) (q : NumberedPart) (m : MetPart) (next : ℕ) (apart : List NumberedPart) (r : StatePart) (a : answers.Answer) → IsWholeReady g used s q → IsMeeting g used left q.part m next apart → r ≡ with_clauses m.part m.equations →
+pub answered_met : (g : KoreSignature) (used : List Text) (s : SymbolicState) (left : Form) (q : NumberedPart) (m : MetPart) (next : ℕ) (apart : List NumberedPart) (r : StatePart) (a : answers.PartAnswer) → IsWholeReady g used s q → IsMeeting g used left q.part m next apart → r ≡ with_clauses m.part m.equations →
     (HasSortedClauses g r.state → IsRightAnswerOf g q.part.state r.state a) → IsRightAnswerOf g s (with_clauses m.part m.equations).state a
 answered_met g used s left q m next apart r a w met e told =
     let sorted : HasSortedClauses g r.state = subst (λ x. HasSortedClauses g x.state) (sym e) (met_sorted g used left q.part m next apart met) in
     subst (λ x. IsRightAnswerOf g s x.state a) e (subst (λ x. IsRightAnswerOf g x r.state a) (ap (λ p. p.state) w.is) (told sorted))
 
 -- tells of the rule
-pub tells_answer : {E : Type 0} (t : Theory) (used : List Text) (s : SymbolicState) (place : ℕ) (k : Skeleton) (q : NumberedPart) (m : MetPart) (next : ℕ) (apart : List NumberedPart) (g : KoreSignature) (r : Result answers.Answer E) → g ≡ t.signature → IsWholeReady g used s q → IsForeignAt t place k →
+pub tells_answer : {E : Type 0} (t : Theory) (used : List Text) (s : SymbolicState) (place : ℕ) (k : Skeleton) (q : NumberedPart) (m : MetPart) (next : ℕ) (apart : List NumberedPart) (g : KoreSignature) (r : Result answers.PartAnswer E) → g ≡ t.signature → IsWholeReady g used s q → IsForeignAt t place k →
     IsMeeting g used (skeleton_view k) q.part m next apart → IfOk r (IsRightAnswerOf g s (with_clauses m.part m.equations).state) → IfOk r (TellsForeign t s place)
 tells_answer t used s place k q m next apart g (Ok a) e w f met i = tells_met t used s place k q m next apart a (subst (λ h. IsWholeReady h used s q) e w) f (subst (λ h. IsMeeting h used (skeleton_view k) q.part m next apart) e met)
     (subst (λ h. IsRightAnswerOf h s (with_clauses m.part m.equations).state a) e i)

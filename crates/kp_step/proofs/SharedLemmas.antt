@@ -20,7 +20,7 @@ use Rattle.kp_step.specs.OneSort.{SharesWith, ShareWithAll}
 use Rattle.kp_step.specs.Ready.{IsWholeReady}
 use Rattle.kp_step.specs.Rules.{IsForeignAt}
 use Rattle.kp_step.specs.Answers.{TellsForeign}
-use Rattle.kp_step.specs.declared.answers.Answer.TheVariants as answer
+use Rattle.kp_step.specs.declared.answers.PartAnswer.TheVariants as answer
 use Rattle.kp_step.proofs.AskedLemmas.{tells_never}
 use Rattle.kp_step.proofs.OneSortLemmas.{part_more, part_fails, so_false}
 

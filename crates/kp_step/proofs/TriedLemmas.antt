@@ -40,8 +40,8 @@ use Rattle.kp_step.specs.Views.{numbered_views, limit_view}
 use Rattle.kp_step.specs.Outcomes.{IsToldOpen}
 use Rattle.kp_step.specs.Answers.{IsRightAnswerOf, firing_model, AreDecided, TellsParts}
 use Rattle.kp_step.specs.declared.answers.Open.{Open}
-use Rattle.kp_step.specs.declared.answers.Answer as answers
-use Rattle.kp_step.specs.declared.answers.Answer.TheVariants as answer
+use Rattle.kp_step.specs.declared.answers.PartAnswer as answers
+use Rattle.kp_step.specs.declared.answers.PartAnswer.TheVariants as answer
 use Rattle.kp_step.specs.declared.answers.Decided as decisions
 use Rattle.kp_step.specs.declared.answers.Decided.TheVariants as decided
 use Rattle.kp_step.specs.declared.outcome.Limit.{Limit}
@@ -53,16 +53,16 @@ use Rattle.kp_step.proofs.TurnLemmas.{can_meet, met_sorted, narrowed_sorted, not
 
 -- ---- whether its left side may meet the part
 
-may_be : (g : KoreSignature) (s x : SymbolicState) (a : answers.Answer) → ¬ (a ≡ answer.Nothing) → IsRightAnswerOf g s x a → MayBe g x
+may_be : (g : KoreSignature) (s x : SymbolicState) (a : answers.PartAnswer) → ¬ (a ≡ answer.Nothing) → IsRightAnswerOf g s x a → MayBe g x
 may_be g s x answer.Instance some i = may_by_instance g x i
 may_be g s x answer.Nothing some i = absurd (some refl)
 may_be g s x (answer.Open o) some i = may_by_open g s x o i
 
-pub some_answer : (a : answers.Answer) → (a ≡ answer.Instance) ⊎ ((o : Open) × (a ≡ answer.Open o)) → ¬ (a ≡ answer.Nothing)
+pub some_answer : (a : answers.PartAnswer) → (a ≡ answer.Instance) ⊎ ((o : Open) × (a ≡ answer.Open o)) → ¬ (a ≡ answer.Nothing)
 some_answer a (inl i) e = let f : answer.Instance ≡ answer.Nothing = sym i ∙ e in absurd (cc)
 some_answer a (inr i) e = let f : answer.Open i.0 ≡ answer.Nothing = sym i.1 ∙ e in absurd (cc)
 
-pub may_meet : (t : Theory) (used : List Text) (s y : SymbolicState) (place : ℕ) (f : PlacedFiring) (g : KoreSignature) (x : SymbolicState) (a : answers.Answer) → g ≡ t.signature → IsFiringOf t used s place f → x ≡ (with_clauses f.part.part f.equations).state → (HasSortedClauses g x → IsRightAnswerOf g y x a) → ¬ (a ≡ answer.Nothing) → CanMeet t f
+pub may_meet : (t : Theory) (used : List Text) (s y : SymbolicState) (place : ℕ) (f : PlacedFiring) (g : KoreSignature) (x : SymbolicState) (a : answers.PartAnswer) → g ≡ t.signature → IsFiringOf t used s place f → x ≡ (with_clauses f.part.part f.equations).state → (HasSortedClauses g x → IsRightAnswerOf g y x a) → ¬ (a ≡ answer.Nothing) → CanMeet t f
 may_meet t used s y place f g x a e i same told some =
     let z = (with_clauses f.part.part f.equations).state in
     let sorted : HasSortedClauses g x = subst (λ h. HasSortedClauses h x) (sym e) (subst (λ u. HasSortedClauses t.signature u) (sym same) (met_sorted t used s place f i)) in
@@ -103,7 +103,7 @@ nothing_in : (g : KoreSignature) (p : StatePart) → HasNoInstance g (whole p.st
 nothing_in g p none = λ w c h k. none w c h k
 
 -- where it is known that it has no instance, nothing is left to the rule
-pub nothing_told : (t : Theory) (used : List Text) (s y : SymbolicState) (place : ℕ) (found : List RewriteRule) (f : PlacedFiring) (g : KoreSignature) (q : NumberedPart) (a : answers.Answer) (parts : List Part) → g ≡ t.signature → IsFiringOf t used s place f → q ≡ narrowed_of f →
+pub nothing_told : (t : Theory) (used : List Text) (s y : SymbolicState) (place : ℕ) (found : List RewriteRule) (f : PlacedFiring) (g : KoreSignature) (q : NumberedPart) (a : answers.PartAnswer) (parts : List Part) → g ≡ t.signature → IsFiringOf t used s place f → q ≡ narrowed_of f →
     (HasSortedClauses g q.part.state → IsRightAnswerOf g y q.part.state a) → a ≡ answer.Nothing → parts ≡ [] → AreTurnParts t used s place found f.part.part (numbered_views parts)
 nothing_told t used s y place found f g q a parts e i same told nothing none =
     let n = narrowed_of f in

@@ -25,8 +25,8 @@ use Rattle.kp_step.specs.Views.{numbered_views, turn_view}
 use Rattle.kp_step.specs.Outcomes.{IsRightStep}
 use Rattle.kp_step.specs.declared.answers.Open.{Open}
 use Rattle.kp_step.specs.declared.foreign.OpenAt.{OpenAt}
-use Rattle.kp_step.specs.declared.answers.Answer as answers
-use Rattle.kp_step.specs.declared.answers.Answer.TheVariants as answer
+use Rattle.kp_step.specs.declared.answers.PartAnswer as answers
+use Rattle.kp_step.specs.declared.answers.PartAnswer.TheVariants as answer
 use Rattle.kp_step.specs.declared.answers.Decided as decisions
 use Rattle.kp_step.specs.declared.answers.Decided.TheVariants as decided
 use Rattle.kp_step.specs.declared.turns.Tried as trials
@@ -45,7 +45,7 @@ IsRightOpen g p o = (h : Option Weighed) × IsWeighedAs h o.over × IsRightVerdi
 abbrev pub ShowsOf : KoreSignature → SymbolicState → SymbolicState → Open → Type 0
 ShowsOf g s p o = (h : Option Weighed) × IsWeighedAs h o.over × IsShownOf g s p (clauses_view o.shown.items) h
 
-abbrev pub IsRightAnswerOf : KoreSignature → SymbolicState → SymbolicState → answers.Answer → Type 0
+abbrev pub IsRightAnswerOf : KoreSignature → SymbolicState → SymbolicState → answers.PartAnswer → Type 0
 IsRightAnswerOf g s p answer.Instance = HasInstance g (whole p)
 IsRightAnswerOf g s p answer.Nothing = HasNoInstance g (whole p)
 IsRightAnswerOf g s p (answer.Open o) = ShowsOf g s p o
@@ -65,7 +65,7 @@ pub record AreWithout (g : KoreSignature) (used : List Text) (o : Option Rewrite
 -- ---- rules
 
 -- what is told of the foreign rule of the place: that it might rewrite an instance, none, or what is left open
-abbrev pub TellsForeign : Theory → SymbolicState → ℕ → answers.Answer → Type 0
+abbrev pub TellsForeign : Theory → SymbolicState → ℕ → answers.PartAnswer → Type 0
 TellsForeign t s place answer.Instance = (r : RewriteRule) × IsAt t place r × MeetsForeign t s r
 TellsForeign t s place answer.Nothing = (r : RewriteRule) → IsAt t place r → OfEachInstance t.signature (whole s) (λ w c. ¬ IsUnknownBy t.signature r.body c)
 TellsForeign t s place (answer.Open o) = (r : RewriteRule) × IsAt t place r × (h : Option Weighed) × IsWeighedAs h o.over × IsLeftOpen t s (Some r) (clauses_view o.shown.items) h

@@ -20,7 +20,7 @@ use Rattle.kp_decide.specs.Read.{HasSortedClauses}
 use Rattle.kp_unify.specs.Views.{signature_of}
 use Rattle.kp_unify.specs.declared.part.Setting.{Setting}
 use Rattle.kp_step.specs.Answers.{ShowsOf, IsRightAnswerOf}
-use Rattle.kp_step.specs.declared.answers.Answer.{Answer}
+use Rattle.kp_step.specs.declared.answers.PartAnswer.{PartAnswer}
 use Rattle.kp_step.specs.declared.answers.Open.{Open}
 use Rattle.kp_step.specs.declared.implied.EqualSides.{EqualSides}
 
@@ -79,7 +79,7 @@ TellsNever setting state result =
     IfOk result (λ b. HasSortedClauses g s → IsTrue b → ¬ CanBeTrue g s.variables s.clauses)
 
 -- whether the part has an instance, where this is left open of it
-abbrev pub TellsOfOpen : {E : Type 0} → Setting → State → Open → Result Answer E → Type 0
+abbrev pub TellsOfOpen : {E : Type 0} → Setting → State → Open → Result PartAnswer E → Type 0
 TellsOfOpen setting part told result =
     let g = signature_of setting in let p = state_view part in
     IfOk result (λ a. (s : SymbolicState) → HasSortedClauses g p → ShowsOf g s p told → IsRightAnswerOf g s p a)

@@ -47,7 +47,7 @@ use Rattle.kp_step.specs.Rights.{moved_state}
 use Rattle.kp_step.specs.Answers.{IsRightAnswerOf, ShowsOf, AreDecided, AreWithout, TellsForeign, TellsTurn, TellsParts, TellsRemainder, firing_model}
 use Rattle.kp_step.specs.Views.{numbered_views, turn_view, next_view, limit_view}
 use Rattle.kp_step.specs.Outcomes.{IsRightStep}
-use Rattle.kp_step.specs.declared.answers.Answer.{Answer}
+use Rattle.kp_step.specs.declared.answers.PartAnswer.{PartAnswer}
 use Rattle.kp_step.specs.declared.answers.Decided.{Decided}
 use Rattle.kp_step.specs.declared.answers.Open.{Open}
 use Rattle.kp_step.specs.declared.outcome.Limit.{Limit}
@@ -78,14 +78,14 @@ abbrev pub OfEachStep : Setting → RuleSet → Part → (Theory → List Text �
 OfEachStep setting rules p Told = (t : Theory) (used : List Text) (s : SymbolicState) → IsStepFrom t used s setting rules (numbered_view p) → Told t used s
 
 -- of a part that a left side meets: whether it has an instance, where the equations are true
-abbrev pub TellsMet : {E : Type 0} → KoreSignature → Part → MetPart → Result Answer E → Type 0
+abbrev pub TellsMet : {E : Type 0} → KoreSignature → Part → MetPart → Result PartAnswer E → Type 0
 TellsMet g p met result =
     (used : List Text) (s : SymbolicState) (left : Form) (apart : List NumberedPart) →
     IsWholeReady g used s (numbered_view p) → IsMeeting g used left (part_view p) (met_view met) met.part.next apart →
     IfOk result (IsRightAnswerOf g s (with_clauses (part_view met.part) (clauses_view met.equations.items)).state)
 
 -- whether the foreign rule of each place whose left side this skeleton is might rewrite an instance of the whole of a state
-abbrev pub TellsSkeletonMeets : {E : Type 0} → Setting → Part → Skeleton → Result Answer E → Type 0
+abbrev pub TellsSkeletonMeets : {E : Type 0} → Setting → Part → Skeleton → Result PartAnswer E → Type 0
 TellsSkeletonMeets setting p k result =
     (t : Theory) (used : List Text) (s : SymbolicState) (place : ℕ) → let g = signature_of setting in
     g ≡ t.signature → IsSetting used setting → IsWholeReady g used s (numbered_view p) → IsForeignAt t place k →

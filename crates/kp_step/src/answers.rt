@@ -25,7 +25,7 @@ pub struct Open {
 
 /// Whether a part has an instance.
 #[derive(Drop)]
-pub enum Answer {
+pub enum PartAnswer {
     Instance,
     Nothing,
     Open { told: Open },
@@ -67,16 +67,16 @@ pub fn answer_of(
     setting: Setting<'_>,
     state: &State,
     part: &State,
-) -> Result<Answer, AllocError>
+) -> Result<PartAnswer, AllocError>
     requires { HasItsTable setting }
     ensures { let g = signature_of setting.entry in let p = state_view part.now in IfOk result (λ a. HasSortedClauses g p → IsRightAnswerOf g (state_view state.now) p a) }
 {
     match decide(alloc, setting.language.signature, setting.table, part)? {
-        Verdict::SomeValuation => Ok(Answer::Instance),
-        Verdict::NoValuation => Ok(Answer::Nothing),
+        Verdict::SomeValuation => Ok(PartAnswer::Instance),
+        Verdict::NoValuation => Ok(PartAnswer::Nothing),
         Verdict::Undecided { shown, over } => {
             let told = shown_of(alloc, setting, state, Open { shown, over })?;
-            Ok(Answer::Open { told })
+            Ok(PartAnswer::Open { told })
         }
     }
 }
@@ -94,9 +94,9 @@ pub fn decided_parts(
     let mut found = Vec::new(alloc);
     for part in parts {
         match answer_of(alloc, setting, state, &part.state)? {
-            Answer::Instance => found.push(part)?,
-            Answer::Nothing => {}
-            Answer::Open { told } => return Ok(Decided::Open { told }),
+            PartAnswer::Instance => found.push(part)?,
+            PartAnswer::Nothing => {}
+            PartAnswer::Open { told } => return Ok(Decided::Open { told }),
         }
     }
     Ok(Decided::Parts { parts: found })

@@ -12,7 +12,7 @@ ghost use Rattle.kp_step.specs.Answers.{TellsForeign, TellsKnown, IsOpenAt};
 ghost use Rattle.kp_step.specs.Outcomes.{IsRightStep};
 ghost use Rattle.kp_step.specs.Promises.{TellsMet, TellsSkeletonMeets, OfEachStep};
 
-use crate::answers::{Answer, Open};
+use crate::answers::{Open, PartAnswer};
 use crate::implied::answer_with_implied;
 use crate::lowered::lowered;
 use crate::outcome::StepOutcome;
@@ -32,7 +32,7 @@ fn met_answer(
     setting: Setting<'_>,
     whole: &Part,
     met: &MetPart,
-) -> Result<Answer, CompileError>
+) -> Result<PartAnswer, CompileError>
     requires { HasItsTable setting }
     ensures { TellsMet (signature_of setting.entry) whole.now met.now result }
 {
@@ -46,13 +46,13 @@ fn meets_at_one_sort(
     setting: Setting<'_>,
     whole: &Part,
     skeleton: &Skeleton,
-) -> Result<Answer, CompileError>
+) -> Result<PartAnswer, CompileError>
     requires { HasItsTable setting }
     ensures { HasOneSortEach (form_variables (skeleton_view skeleton.now)) → TellsSkeletonMeets setting.entry whole.now skeleton.now result }
 {
     match meet(alloc, &setting, whole, skeleton)? {
         Some(meeting) => met_answer(alloc, setting, whole, &meeting.met),
-        None => Ok(Answer::Nothing),
+        None => Ok(PartAnswer::Nothing),
     }
 }
 
@@ -63,12 +63,12 @@ fn meets_at_two_sorts(
     setting: Setting<'_>,
     whole: &Part,
     skeleton: &Skeleton,
-) -> Result<Answer, CompileError>
+) -> Result<PartAnswer, CompileError>
     requires { HasItsTable setting }
     ensures { TellsSkeletonMeets setting.entry whole.now skeleton.now result }
 {
     if !has_shared_sorts(setting.table, setting.language.signature, skeleton) {
-        return Ok(Answer::Nothing);
+        return Ok(PartAnswer::Nothing);
     }
     let low = lowered(alloc, setting.language.signature, skeleton, skeleton)?;
     if !has_one_sort_each(&low) {
@@ -84,7 +84,7 @@ fn meets(
     setting: Setting<'_>,
     whole: &Part,
     skeleton: &Skeleton,
-) -> Result<Answer, CompileError>
+) -> Result<PartAnswer, CompileError>
     requires { HasItsTable setting }
     ensures { TellsSkeletonMeets setting.entry whole.now skeleton.now result }
 {
@@ -101,13 +101,13 @@ fn answer_at(
     rules: &RuleSet,
     whole: &Part,
     place: usize,
-) -> Result<Answer, CompileError>
+) -> Result<PartAnswer, CompileError>
     requires { HasItsTable setting }
     ensures { OfEachStep setting.entry rules.now whole.now (λ t used s. IfOk result (TellsForeign t s place)) }
 {
     match foreign_at(rules, place) {
         Some(skeleton) => meets(alloc, setting, whole, skeleton),
-        None => Ok(Answer::Nothing),
+        None => Ok(PartAnswer::Nothing),
     }
 }
 
@@ -155,9 +155,9 @@ pub fn foreign(
     for place in rules.in_turn() {
         let place = *place;
         match answer_at(alloc, setting, rules, whole, place)? {
-            Answer::Instance => return Ok(Some(StepOutcome::Foreign { rule: place })),
-            Answer::Nothing => {}
-            Answer::Open { told } => opened.push(OpenAt { told, place })?,
+            PartAnswer::Instance => return Ok(Some(StepOutcome::Foreign { rule: place })),
+            PartAnswer::Nothing => {}
+            PartAnswer::Open { told } => opened.push(OpenAt { told, place })?,
         }
     }
     Ok(open_rule(opened))

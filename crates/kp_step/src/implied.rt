@@ -9,7 +9,7 @@ ghost use Rattle.kp_unify.specs.Views.{signature_of, HasItsTable};
 ghost use Rattle.kp_step.specs.Answers.{IsRightAnswerOf};
 ghost use Rattle.kp_step.specs.Implied.{equality_alone, equal_sides_view, SaysEqual, IsSaidEqual, FollowFrom, FollowIfSaid, FollowIfAmong, CanBeAsWell, TellsNever, TellsOfOpen};
 
-use crate::answers::{Answer, Open, answer_of};
+use crate::answers::{Open, PartAnswer, answer_of};
 use kp_firing::parts::is_empty;
 use kp_kore::Sort;
 use kp_signature::Signature;
@@ -259,14 +259,14 @@ fn open_answer(
     setting: Setting<'_>,
     part: &State,
     told: Open,
-) -> Result<Answer, AllocError>
+) -> Result<PartAnswer, AllocError>
     requires { HasItsTable setting }
     ensures { TellsOfOpen setting.entry part.now told result }
 {
     if never_together(alloc, setting, part)? {
-        return Ok(Answer::Nothing);
+        return Ok(PartAnswer::Nothing);
     }
-    Ok(Answer::Open { told })
+    Ok(PartAnswer::Open { told })
 }
 
 /// Whether a part of the state has an instance, with what follows of its clauses.
@@ -275,13 +275,13 @@ pub fn answer_with_implied(
     setting: Setting<'_>,
     state: &State,
     part: &State,
-) -> Result<Answer, AllocError>
+) -> Result<PartAnswer, AllocError>
     requires { HasItsTable setting }
     ensures { let g = signature_of setting.entry in let p = state_view part.now in IfOk result (λ a. HasSortedClauses g p → IsRightAnswerOf g (state_view state.now) p a) }
 {
     match answer_of(alloc, setting, state, part)? {
-        Answer::Instance => Ok(Answer::Instance),
-        Answer::Nothing => Ok(Answer::Nothing),
-        Answer::Open { told } => open_answer(alloc, setting, part, told),
+        PartAnswer::Instance => Ok(PartAnswer::Instance),
+        PartAnswer::Nothing => Ok(PartAnswer::Nothing),
+        PartAnswer::Open { told } => open_answer(alloc, setting, part, told),
     }
 }

@@ -3,7 +3,7 @@ ghost use Rattle.kp_symbolic.specs.View.{state_view};
 ghost use Rattle.kp_step.specs.Promises.{StepsFrom, StepsFromInstance, StepsFromOpen, StepsByRules, StepsBySearch, StepsByTurns, StepsByCases, LeavesRemainder};
 ghost use Rattle.kp_unify.specs.Views.{HasItsTable};
 
-use crate::answers::{Answer, Decided, Open, answer_of, decided_parts};
+use crate::answers::{Decided, Open, PartAnswer, answer_of, decided_parts};
 use crate::foreign::foreign;
 use crate::left::left_after;
 use crate::limits::{first_limit, limit_of, wide_in};
@@ -143,8 +143,8 @@ pub fn step(
     ensures { StepsFrom setting.entry rules.now (state_view state.now) next result }
 {
     match answer_of(alloc, setting, state, state)? {
-        Answer::Nothing => Ok(StepOutcome::Empty),
-        Answer::Instance => from_state(alloc, setting, rules, state, next),
-        Answer::Open { told } => Ok(from_open(setting, state, told)?),
+        PartAnswer::Nothing => Ok(StepOutcome::Empty),
+        PartAnswer::Instance => from_state(alloc, setting, rules, state, next),
+        PartAnswer::Open { told } => Ok(from_open(setting, state, told)?),
     }
 }

@@ -5,7 +5,7 @@ ghost use Rattle.kp_step.specs.Tries.{narrowed_of};
 ghost use Rattle.kp_step.specs.Answers.{TellsTurns, firing_model};
 ghost use Rattle.kp_step.specs.Promises.{LeavesTo, TellsMayMeet, TellsWideCondition, TellsTurnParts, MakesTurn, TriesRule, TriesSides, TriesFiring, OfEachStep};
 
-use crate::answers::{Answer, Decided, answer_of, decided_parts};
+use crate::answers::{Decided, PartAnswer, answer_of, decided_parts};
 use crate::implied::answer_with_implied;
 use crate::left::left_after;
 use crate::limits::wide_in;
@@ -57,8 +57,8 @@ fn may_meet(
 {
     let met = constrain(alloc, &firing.part.state, &firing.equations)?;
     match answer_of(alloc, setting, &whole.state, &met)? {
-        Answer::Nothing => Ok(false),
-        Answer::Instance | Answer::Open { .. } => Ok(true),
+        PartAnswer::Nothing => Ok(false),
+        PartAnswer::Instance | PartAnswer::Open { .. } => Ok(true),
     }
 }
 
@@ -122,7 +122,7 @@ fn turn_parts(
     requires { HasItsTable setting }
     ensures { TellsTurnParts setting.entry rules.now turns.now whole.now priority part result }
 {
-    if let Answer::Nothing = answer_with_implied(alloc, setting, &whole.state, &part.state)? {
+    if let PartAnswer::Nothing = answer_with_implied(alloc, setting, &whole.state, &part.state)? {
         let parts = Vec::new(alloc);
         return Ok(Decided::Parts { parts });
     }

@@ -1,7 +1,7 @@
 use Rattle.std.proofs.Common.{arith, sym, subst, refl, ℕ, ◌+◌, ◌≤◌, length, get_or}
 use Rattle.std.proofs.lemmas.List.{get_or_default}
 use Rattle.kp_step.specs.Answers.{TellsForeign}
-use Rattle.kp_step.specs.declared.answers.Answer.TheVariants as answer
+use Rattle.kp_step.specs.declared.answers.PartAnswer.TheVariants as answer
 use Rattle.kp_step.proofs.FirstLemmas.{Asking, asks_none, asks_open, asks_met}
 use Rattle.kp_step.proofs.HeardLemmas.{asks_known}
 use Rattle.kp_step.proofs.foreign.foreign.Goals.{in-Nothing, in-Open+in_ok-push-in-Open}

@@ -2,7 +2,7 @@ use Rattle.std.proofs.Common.{◌≡◌, sym, subst, set, replicate, []}
 use Rattle.kp_imports.specs.declared.imports.Mark.TheVariants as mark
 use Rattle.kp_imports.specs.Walks.{IsOnWay}
 use Rattle.kp_imports.proofs.Starting.{started}
-use Rattle.kp_imports.proofs.walk.Walk.start.Goals as goal
+use Rattle.kp_imports.proofs.walk.ImportWalk.start.Goals as goal
 
 pub returns-clause-way : goal.returns-clause-way
 returns-clause-way c rows main len found =

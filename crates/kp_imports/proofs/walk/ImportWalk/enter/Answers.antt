@@ -10,7 +10,7 @@ use Rattle.kp_imports.proofs.Collect.{false_true, all_append}
 use Rattle.kp_imports.proofs.Places.{named_below}
 use Rattle.kp_imports.proofs.Walking.{some_same, entered}
 use Rattle.kp_imports.proofs.Chains.{cycle}
-use Rattle.kp_imports.proofs.walk.Walk.enter.Goals as goal
+use Rattle.kp_imports.proofs.walk.ImportWalk.enter.Goals as goal
 
 pub returns-then-is_entered-clause-err : goal.returns-then-is_entered-clause-err
 returns-then-is_entered-clause-err c rows main h f e =

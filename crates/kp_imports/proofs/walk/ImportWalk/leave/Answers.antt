@@ -6,7 +6,7 @@ use Rattle.kp_imports.specs.Reaching.{AllIn}
 use Rattle.kp_imports.specs.Walks.{IsOnWay, IsOver}
 use Rattle.kp_imports.proofs.Collect.{all_append}
 use Rattle.kp_imports.proofs.Leaving.{left, ended}
-use Rattle.kp_imports.proofs.walk.Walk.leave.Goals as goal
+use Rattle.kp_imports.proofs.walk.ImportWalk.leave.Goals as goal
 
 pub returns-in-Some-clause-way : goal.returns-in-Some-clause-way
 returns-in-Some-clause-way c rows main h =
