@@ -33,6 +33,7 @@ use Rattle.kp_unify.specs.Replaced.{equality_of}
 use Rattle.kp_unify.specs.Views.{signature_of}
 use Rattle.kp_unify.specs.declared.part.Setting.{Setting}
 use Rattle.kp_step.specs.Implied.{equality_alone, SaysEqual, IsSaidEqual, StandsAmong, AreSortedClauses, FollowFrom, CanBeAsWell, TellsNever}
+use Rattle.kp_step.proofs.SortedLemmas.{has_sorted}
 
 -- ---- which terms are equal
 
@@ -101,9 +102,6 @@ equality_true g hand w e i j sorts is =
 
 -- ---- what follows
 
-none_follow : (g : KoreSignature) (cs : List (List Literal)) → FollowFrom g cs []
-none_follow g cs = record { sorted = λ hand h. tt; are_true = λ hand w h sorts t. tt }
-
 -- what is equal to one term is equal
 others_follow : (g : KoreSignature) (cs : List (List Literal)) (s : KoreSort) (t u v : SymbolicTerm) → IsSaidEqual cs s t u → IsSaidEqual cs s t v → FollowFrom g cs (equality_clauses g (equality_of s u v))
 others_follow g cs s t u v e f = record {
@@ -119,9 +117,6 @@ both_follow g cs first second i j = record {
 }
 
 -- the same of the code's clauses
-pub nothing_follows : (g : KoreSignature) (cs : List (List Literal)) (more : List Clause) → more ≡ [] → FollowFrom g cs (clauses_view more)
-nothing_follows g cs more none = subst (λ xs. FollowFrom g cs (clauses_view xs)) (sym none) (none_follow g cs)
-
 both_lists : (g : KoreSignature) (cs : List (List Literal)) (first second all : List Clause) → all ≡ first ++ second → FollowFrom g cs (clauses_view first) → FollowFrom g cs (clauses_view second) → FollowFrom g cs (clauses_view all)
 both_lists g cs first second all e i j =
     subst (FollowFrom g cs) (sym (ap clauses_view e ∙ map-append clause_view first second)) (both_follow g cs (clauses_view first) (clauses_view second) i j)
@@ -155,32 +150,11 @@ clauses_sorted g hand (c ∷ cs) i j = (clause_sorted g hand c i.0 j.0, clauses_
 are_sorted : (g : KoreSignature) (s : SymbolicState) → HasSortedClauses g s → AreSortedClauses g s.variables s.clauses
 are_sorted g s k = clauses_sorted g s.variables s.clauses k.literals k.clauses_at_hand
 
-literals_sorted : (g : KoreSignature) (hand : List SortedName) (c : List Literal) → AllByRecursion (IsSortedLiteral g hand) c → AllByRecursion (λ l. IsWellSortedAtom g l.atom) c
-literals_sorted g hand [] h = tt
-literals_sorted g hand (l ∷ c) h = (h.0.0, literals_sorted g hand c h.1)
-
-literals_at_hand : (g : KoreSignature) (hand : List SortedName) (c : List Literal) → AllByRecursion (IsSortedLiteral g hand) c → AreAtHand (clause_variables c) hand
-literals_at_hand g hand [] h = tt
-literals_at_hand g hand (l ∷ c) h = all_append (Contains hand) (atom_variables l.atom) (clause_variables c) h.0.1 (literals_at_hand g hand c h.1)
-
-atoms_sorted : (g : KoreSignature) (hand : List SortedName) (cs : List (List Literal)) → AreSortedClauses g hand cs → AllByRecursion (AllByRecursion (λ l. IsWellSortedAtom g l.atom)) cs
-atoms_sorted g hand [] h = tt
-atoms_sorted g hand (c ∷ cs) h = (literals_sorted g hand c h.0, atoms_sorted g hand cs h.1)
-
-all_at_hand : (g : KoreSignature) (hand : List SortedName) (cs : List (List Literal)) → AreSortedClauses g hand cs → AllByRecursion (λ c. AreAtHand (clause_variables c) hand) cs
-all_at_hand g hand [] h = tt
-all_at_hand g hand (c ∷ cs) h = (literals_at_hand g hand c h.0, all_at_hand g hand cs h.1)
-
 constrained_sorted : (g : KoreSignature) (s : SymbolicState) (more : List (List Literal)) → FollowFrom g s.clauses more → HasSortedClauses g s → HasSortedClauses g (constrained s more)
 constrained_sorted g s more f k =
     let own = are_sorted g s k in
     let all = all_append (AllByRecursion (IsSortedLiteral g s.variables)) s.clauses more own (f.sorted s.variables own) in
-    let once = kept_are literals_same (AllByRecursion (IsSortedLiteral g s.variables)) [] 0 (s.clauses ++ more) all in
-    record {
-      literals = atoms_sorted g s.variables (without_repeats (s.clauses ++ more)) once;
-      clauses_at_hand = all_at_hand g s.variables (without_repeats (s.clauses ++ more)) once;
-      one_sort_each = k.one_sort_each;
-    }
+    has_sorted g (constrained s more) (kept_are literals_same (AllByRecursion (IsSortedLiteral g s.variables)) [] 0 (s.clauses ++ more) all) k.one_sort_each
 
 constrained_can : (g : KoreSignature) (s : SymbolicState) (more : List (List Literal)) → FollowFrom g s.clauses more → HasSortedClauses g s → CanBeTrue g s.variables s.clauses → CanBeTrue g s.variables (without_repeats (s.clauses ++ more))
 constrained_can g s more f k can = record {
