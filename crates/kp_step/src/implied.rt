@@ -23,7 +23,7 @@ use std::alloc::{AllocError, Global};
 const MOST_ROUNDS: usize = 4;
 
 /// What follows of more clauses isn't looked for.
-const MOST_CLAUSES: usize = 500;
+const MOST_CLAUSES: usize = 128;
 
 /// An equality of two terms of a sort. `equal_sides_view` in specs/Implied.antt says which one it is.
 #[derive(Clone, Copy)]

@@ -30,7 +30,7 @@ fn lower<'a>(
     name: &Arc<String>,
     sort: &'a Sort,
 ) -> Option<&'a Sort>
-    ensures { MatchOption result ⊤ (λ low. IsLowest (signature_view signature.now) (string_bytes name.now.value) (sort_view sort.now) (record { name = string_bytes own.now.value; sort = sort_view of.now } ∷ []) (sort_view low.now)) }
+    ensures { let g = signature_view signature.now in MatchOption result ⊤ (λ low. IsLowest g (string_bytes name.now.value) (sort_view sort.now) (record { name = string_bytes own.now.value; sort = sort_view of.now } ∷ []) (sort_view low.now)) }
 {
     if is_same(own, name) {
         return meet_of(signature, sort, of);
@@ -67,7 +67,7 @@ fn lowest_among<'a>(
     name: &Arc<String>,
     sort: &'a Sort,
 ) -> Option<&'a Sort>
-    ensures { MatchOption result ⊤ (λ low. IsLowest (signature_view signature.now) (string_bytes name.now.value) (sort_view sort.now) (all_form_variables (forms_of (map skeleton_view skeletons.now))) (sort_view low.now)) }
+    ensures { let g = signature_view signature.now in MatchOption result ⊤ (λ low. IsLowest g (string_bytes name.now.value) (sort_view sort.now) (all_form_variables (forms_of (map skeleton_view skeletons.now))) (sort_view low.now)) }
 {
     let mut low = sort;
     for skeleton in skeletons {

@@ -5,7 +5,7 @@ ghost use Rattle.kp_step.specs.Tries.{narrowed_of};
 ghost use Rattle.kp_step.specs.Answers.{TellsTurns, firing_model};
 ghost use Rattle.kp_step.specs.Promises.{LeavesTo, TellsMayMeet, TellsWideCondition, TellsTurnParts, MakesTurn, TriesRule, TriesSides, TriesFiring, OfEachStep};
 
-use crate::answers::{Decided, PartAnswer, answer_of, decided_parts};
+use crate::answers::{Decided, PartAnswer, decided_parts};
 use crate::implied::answer_with_implied;
 use crate::left::left_after;
 use crate::limits::wide_in;
@@ -56,7 +56,7 @@ fn may_meet(
     ensures { TellsMayMeet setting.entry whole.now firing.now result }
 {
     let met = constrain(alloc, &firing.part.state, &firing.equations)?;
-    match answer_of(alloc, setting, &whole.state, &met)? {
+    match answer_with_implied(alloc, setting, &whole.state, &met)? {
         PartAnswer::Nothing => Ok(false),
         PartAnswer::Instance | PartAnswer::Open { .. } => Ok(true),
     }

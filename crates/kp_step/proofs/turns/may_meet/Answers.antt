@@ -10,4 +10,4 @@ pub returns : goal.returns
 returns c t used s place e setting w i holds =
     let f = firing_model c.args.firing.now in
     let same : state_view c.in_ok-met.met ≡ (with_clauses f.part.part f.equations).state = c.in_ok-met.ensures ∙ ap (λ cs. (with_clauses f.part.part (clauses_view cs)).state) c.deref.ensures.value in
-    may_meet t used s (state_view c.args.whole.now.state) place f (signature_of c.args.setting) (state_view c.in_ok-met.met) c.in_ok-answer_of.field-0 e i same c.in_ok-answer_of.ensures (some_answer c.in_ok-answer_of.field-0 c.in-Instance.is)
+    may_meet t used s (state_view c.args.whole.now.state) place f (signature_of c.args.setting) (state_view c.in_ok-met.met) c.in_ok-answer_with_implied.field-0 e i same c.in_ok-answer_with_implied.ensures (some_answer c.in_ok-answer_with_implied.field-0 c.in-Instance.is)
