@@ -32,7 +32,7 @@ pub fn clauses_told(
     told: &Open,
     place: Option<usize>,
 ) -> Result<Undecided, WritingError>
-    ensures told { (t : Theory) → language_view language.now ≡ t.signature → IsToldOpen t (state_view state.now) (clauses_view told.now.shown.items) told.now.over place → IfOk result (λ u. IsOpenBy t (state_view state.now) (undecided_view u)) }
+    ensures told { let state' = state_view state.now in (t : Theory) → language_view language.now ≡ t.signature → IsToldOpen t state' (clauses_view told.now.shown.items) told.now.over place → IfOk result (λ u. IsOpenBy t state' (undecided_view u)) }
     ensures wants { IfErr result (λ e. IsNoInjection e → ClausesWant (language_view language.now) (state_view state.now).sort (clauses_view told.now.shown.items)) }
 {
     match predicate_of(alloc, language, &state.sort, &told.shown)? {

@@ -41,8 +41,9 @@ fn end_from(
     state: State,
     options: &ExecuteOptions,
 ) -> Result<Option<RunEnd>, AllocError>
-    ensures { (t : Theory) (p : KorePattern) → RunsAs t rules.now → IsStateOf t.signature p state → ListsNone (options_view options.now) →
-        IfOk result (λ found. IfSome found (IsEndOf t (options_view options.now) p)) }
+    ensures { let options' = options_view options.now in
+        (t : Theory) (p : KorePattern) → RunsAs t rules.now → IsStateOf t.signature p state → ListsNone options' →
+        IfOk result (λ found. IfSome found (IsEndOf t options' p)) }
 {
     match execute(alloc, rules, state, bound_of(options)) {
         Ok(end) => Ok(Some(end)),
@@ -59,8 +60,9 @@ fn end_of(
     sort: Sort,
     options: &ExecuteOptions,
 ) -> Result<Option<RunEnd>, AllocError>
-    ensures { (t : Theory) → RunsAs t rules.now → VerifiesAs t.signature (view pattern.now) (sort_view sort) →
-        IfOk result (λ found. IfSome found (IsEndOf t (options_view options.now) (view pattern.now))) }
+    ensures { let pattern' = view pattern.now in
+        (t : Theory) → RunsAs t rules.now → VerifiesAs t.signature pattern' (sort_view sort) →
+        IfOk result (λ found. IfSome found (IsEndOf t (options_view options.now) pattern')) }
 {
     if lists_rules(options) {
         return Ok(None);

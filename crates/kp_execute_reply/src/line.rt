@@ -35,8 +35,9 @@ pub fn executed_line(
     options: ExecuteOptions,
 ) -> Result<Vec<u8>, AllocError>
     requires { IsPrepared prepared.now }
-    ensures { (s : Setting) → RunsAs s.theory rules.now → signature_in prepared.now ≡ s.theory.signature → ¬ IsElsewhere s.main (options_view options).module_name →
-        IfOk result (λ line. IsReplyLine (IsExecutedAs s (id_view id.now) (options_view options) (reading_view state)) line.items) }
+    ensures { let options' = options_view options in
+        (s : Setting) → RunsAs s.theory rules.now → signature_in prepared.now ≡ s.theory.signature → ¬ IsElsewhere s.main options'.module_name →
+        IfOk result (λ line. IsReplyLine (IsExecutedAs s (id_view id.now) options' (reading_view state)) line.items) }
 {
     match state {
         Reading::Pattern(pattern) => pattern_line(alloc, prepared, rules, id, &pattern, options),
@@ -54,8 +55,9 @@ fn pattern_line(
     options: ExecuteOptions,
 ) -> Result<Vec<u8>, AllocError>
     requires { IsPrepared prepared.now }
-    ensures { (s : Setting) → RunsAs s.theory rules.now → signature_in prepared.now ≡ s.theory.signature → ¬ IsElsewhere s.main (options_view options).module_name →
-        IfOk result (λ line. IsReplyLine (IsExecutedAs s (id_view id.now) (options_view options) (faults.read (view pattern.now))) line.items) }
+    ensures { let options' = options_view options in
+        (s : Setting) → RunsAs s.theory rules.now → signature_in prepared.now ≡ s.theory.signature → ¬ IsElsewhere s.main options'.module_name →
+        IfOk result (λ line. IsReplyLine (IsExecutedAs s (id_view id.now) options' (faults.read (view pattern.now))) line.items) }
 {
     match verify(alloc, &rules.signature, pattern) {
         Ok(sort) => verified_line(alloc, prepared, rules, id, pattern, sort, options),
@@ -74,8 +76,9 @@ fn verified_line(
     options: ExecuteOptions,
 ) -> Result<Vec<u8>, AllocError>
     requires { IsPrepared prepared.now }
-    ensures { (s : Setting) → RunsAs s.theory rules.now → signature_in prepared.now ≡ s.theory.signature → ¬ IsElsewhere s.main (options_view options).module_name → VerifiesAs s.theory.signature (view pattern.now) (sort_view sort) →
-        IfOk result (λ line. IsReplyLine (IsUnderstoodAs s (id_view id.now) (options_view options) (view pattern.now)) line.items) }
+    ensures { let options' = options_view options in let pattern' = view pattern.now in
+        (s : Setting) → RunsAs s.theory rules.now → signature_in prepared.now ≡ s.theory.signature → ¬ IsElsewhere s.main options'.module_name → VerifiesAs s.theory.signature pattern' (sort_view sort) →
+        IfOk result (λ line. IsReplyLine (IsUnderstoodAs s (id_view id.now) options' pattern') line.items) }
 {
     let own = sort.copy(alloc)?;
     match ground_line(alloc, rules, id, pattern, own, &options)? {

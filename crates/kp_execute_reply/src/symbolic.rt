@@ -107,8 +107,9 @@ fn asked_line(
     asked: &Options,
 ) -> Result<Vec<u8>, AllocError>
     requires { IsHeadTableOf (language_view language.now) table.now }
-    ensures { (s : Setting) (options : RequestOptions) → RunsAs s.theory rules.now → language_view language.now ≡ s.theory.signature → results.options_view asked.now ≡ asked_options options →
-        VerifiesAs s.theory.signature (view pattern.now) (sort_view sort) → IfOk result (λ line. IsReplyLine (IsUnderstoodAs s (id_view id.now) options (view pattern.now)) line.items) }
+    ensures { let pattern' = view pattern.now in
+        (s : Setting) (options : RequestOptions) → RunsAs s.theory rules.now → language_view language.now ≡ s.theory.signature → results.options_view asked.now ≡ asked_options options →
+        VerifiesAs s.theory.signature pattern' (sort_view sort) → IfOk result (λ line. IsReplyLine (IsUnderstoodAs s (id_view id.now) options pattern') line.items) }
 {
     match execute(alloc, language, table, rules, pattern, sort, asked) {
         Ok(answer) => answer_line(alloc, id, &answer),
@@ -128,8 +129,9 @@ fn line_over(
     options: ExecuteOptions,
 ) -> Result<Vec<u8>, AllocError>
     requires { IsHeadTableOf (language_view language.now) table.now }
-    ensures { (s : Setting) → RunsAs s.theory rules.now → language_view language.now ≡ s.theory.signature → VerifiesAs s.theory.signature (view pattern.now) (sort_view sort) →
-        IfOk result (λ line. IsReplyLine (IsUnderstoodAs s (id_view id.now) (options_view options) (view pattern.now)) line.items) }
+    ensures { let pattern' = view pattern.now in
+        (s : Setting) → RunsAs s.theory rules.now → language_view language.now ≡ s.theory.signature → VerifiesAs s.theory.signature pattern' (sort_view sort) →
+        IfOk result (λ line. IsReplyLine (IsUnderstoodAs s (id_view id.now) (options_view options) pattern') line.items) }
 {
     let asked = asked_of(options);
     asked_line(alloc, language, table, rules, id, pattern, sort, &asked)
@@ -146,8 +148,9 @@ pub fn symbolic_line(
     options: ExecuteOptions,
 ) -> Result<Vec<u8>, AllocError>
     requires { IsPrepared prepared.now }
-    ensures { (s : Setting) → RunsAs s.theory rules.now → signature_in prepared.now ≡ s.theory.signature → VerifiesAs s.theory.signature (view pattern.now) (sort_view sort) →
-        IfOk result (λ line. IsReplyLine (IsUnderstoodAs s (id_view id.now) (options_view options) (view pattern.now)) line.items) }
+    ensures { let pattern' = view pattern.now in
+        (s : Setting) → RunsAs s.theory rules.now → signature_in prepared.now ≡ s.theory.signature → VerifiesAs s.theory.signature pattern' (sort_view sort) →
+        IfOk result (λ line. IsReplyLine (IsUnderstoodAs s (id_view id.now) (options_view options) pattern') line.items) }
 {
     let language = prepared.language()?;
     line_over(

@@ -26,8 +26,9 @@ pub fn joined(
     sets: &[Arc<RuleSet>],
     own: &[Rule],
 ) -> Result<RuleSet, AllocError>
-    ensures { (lists : List (List NumberedAxiom)) (axioms : List NumberedAxiom) → AreSetsOf (signature_view signature.now.value) lists sets.now → AllZip (IsTakenFrom (signature_view signature.now.value)) axioms own.now →
-        IfOk result (IsSetOf (signature_view signature.now.value) (each_axiom_once [] (flat_map (λ l. l) lists) ++ axioms)) }
+    ensures { let g = signature_view signature.now.value in
+        (lists : List (List NumberedAxiom)) (axioms : List NumberedAxiom) → AreSetsOf g lists sets.now → AllZip (IsTakenFrom g) axioms own.now →
+        IfOk result (IsSetOf g (each_axiom_once [] (flat_map (λ l. l) lists) ++ axioms)) }
 {
     let mut found = rules_once(alloc, sets)?;
     add_own(&mut found, own)?;
@@ -40,7 +41,7 @@ pub fn called(
     signature: &Arc<Signature>,
     rules: &[&Rule],
 ) -> Result<RuleSet, AllocError>
-    ensures { (axioms : List NumberedAxiom) → AreTakenFrom (signature_view signature.now.value) axioms rules.now → IfOk result (IsSetOf (signature_view signature.now.value) axioms) }
+    ensures { let g = signature_view signature.now.value in (axioms : List NumberedAxiom) → AreTakenFrom g axioms rules.now → IfOk result (IsSetOf g axioms) }
 {
     let labels = labels_in(alloc, rules)?;
     let named = all_named(alloc, &labels, rules)?;

@@ -63,7 +63,7 @@ fn might_rewrite(
     body: &RuleBody,
     value: &Value,
 ) -> Result<bool, AllocError>
-    ensures { IsSorted (signature_view signature.now) (value_view value.now) → IfOk result (λ b. IsTrue b ↔ MightRewrite (signature_view signature.now) (value_view value.now) body.now) }
+    ensures { let g = signature_view signature.now in let value' = value_view value.now in IsSorted g value' → IfOk result (λ b. IsTrue b ↔ MightRewrite g value' body.now) }
 {
     match body {
         RuleBody::Rewrite(_) => Ok(false),
@@ -105,8 +105,9 @@ fn told_with<'a>(
     value: &Value,
     first: Option<&'a Rule>,
 ) -> Result<Option<&'a Rule>, AllocError>
-    ensures { IsSorted (signature_view rules.now.signature.value) (value_view value.now) →
-        IfOk result (λ next. (before : List Rule) → TellsForeign (signature_view rules.now.signature.value) (value_view value.now) before first.entry → TellsForeign (signature_view rules.now.signature.value) (value_view value.now) (before ++ with_first (slice_get rules.now.rules.items place) []) next) }
+    ensures { let g = signature_view rules.now.signature.value in let value' = value_view value.now in
+        IsSorted g value' →
+        IfOk result (λ next. (before : List Rule) → TellsForeign g value' before first.entry → TellsForeign g value' (before ++ with_first (slice_get rules.now.rules.items place) []) next) }
 {
     match rules.rule_at(place) {
         Some(rule) => {
@@ -124,7 +125,7 @@ pub fn foreign_on<'a>(
     rules: &'a RuleSet,
     value: &Value,
 ) -> Result<Option<&'a Rule>, AllocError>
-    ensures { IsSorted (signature_view rules.now.signature.value) (value_view value.now) → IfOk result (TellsForeign (signature_view rules.now.signature.value) (value_view value.now) rules.now.rules.items) }
+    ensures { let g = signature_view rules.now.signature.value in let value' = value_view value.now in IsSorted g value' → IfOk result (TellsForeign g value' rules.now.rules.items) }
 {
     let mut places = rules.rules_at(&head_of(value));
     let mut first = None;
@@ -175,7 +176,7 @@ fn firing_of<'a>(
     rule: &'a Rule,
     value: &Value,
 ) -> Result<Option<GroundFiring<'a>>, RunError>
-    ensures firing { IfOk result (λ o. MatchOption o (¬ BodyFires (signature_view signature.now) (value_view value.now) rule.now.body.value) (λ f. IsFiring (signature_view signature.now) (value_view value.now) f rule.now)) }
+    ensures firing { let g = signature_view signature.now in let value' = value_view value.now in IfOk result (λ o. MatchOption o (¬ BodyFires g value' rule.now.body.value) (λ f. IsFiring g value' f rule.now)) }
     ensures wide { IfErr result (λ e. e ≡ NotAnswered → BodyIsWide (signature_view signature.now) (value_view value.now) rule.now.body.value) }
     ensures narrow { IfOk result (λ _. ¬ BodyIsWide (signature_view signature.now) (value_view value.now) rule.now.body.value) }
 {
@@ -210,7 +211,7 @@ fn turn_with<'a>(
     value: &Value,
     turn: Turn<'a>,
 ) -> Result<Turn<'a>, RunError>
-    ensures turn { IfOk result (λ next. (before : List Rule) → IsTurn (signature_view rules.now.signature.value) (value_view value.now) before turn.entry → IsTurn (signature_view rules.now.signature.value) (value_view value.now) (before ++ with_first (slice_get rules.now.rules.items place) []) next) }
+    ensures turn { let g = signature_view rules.now.signature.value in let value' = value_view value.now in IfOk result (λ next. (before : List Rule) → IsTurn g value' before turn.entry → IsTurn g value' (before ++ with_first (slice_get rules.now.rules.items place) []) next) }
     ensures wide { IfErr result (λ e. e ≡ NotAnswered → AnyByRecursion (λ r. BodyIsWide (signature_view rules.now.signature.value) (value_view value.now) r.body.value) rules.now.rules.items) }
     ensures narrow { IfOk result (λ _. AllByRecursion (λ r. ¬ BodyIsWide (signature_view rules.now.signature.value) (value_view value.now) r.body.value) (with_first (slice_get rules.now.rules.items place) [])) }
 {

@@ -30,8 +30,8 @@ pub fn side_state(
     pattern: &Pattern,
     sort: Sort,
 ) -> Result<Option<State>, Failure>
-    ensures found { VerifiesAs (signature_view signature.now) (view pattern.now) (sort_view sort) → IfOk result (IsSideState (signature_view signature.now) (view pattern.now) (sort_view sort)) }
-    ensures failed { VerifiesAs (signature_view signature.now) (view pattern.now) (sort_view sort) → IfErr result (IsWrongPattern (signature_view signature.now) NoneLeftOut (view pattern.now)) }
+    ensures found { let g = signature_view signature.now in let pattern' = view pattern.now in let sort' = sort_view sort in VerifiesAs g pattern' sort' → IfOk result (IsSideState g pattern' sort') }
+    ensures failed { let g = signature_view signature.now in let pattern' = view pattern.now in VerifiesAs g pattern' (sort_view sort) → IfErr result (IsWrongPattern g NoneLeftOut pattern') }
 {
     match state_of(alloc, signature, pattern, sort) {
         Ok(state) => Ok(Some(state)),

@@ -206,7 +206,7 @@ fn execute_line(
     requires pass { IsPass pass.old }
     requires prepared { IsReadyFor registry.now prepared.now }
     ensures pass { pass.new ≡ pass.old }
-    ensures line { IfOk result (λ line. AtEachBookSeen registry.now pass.old (λ o book. IsLineOf (IsReplyIn o book (options_view options).module_name (id_view id.now) (λ s. IsExecutedAs s (id_view id.now) (options_view options) (reading_view state))) line.items)) }
+    ensures line { let options' = options_view options in let id' = id_view id.now in IfOk result (λ line. AtEachBookSeen registry.now pass.old (λ o book. IsLineOf (IsReplyIn o book options'.module_name id' (λ s. IsExecutedAs s id' options' (reading_view state))) line.items)) }
 {
     match rules_at(alloc, registry, pass, &options.module_name)? {
         Some(rules) => executed_line(alloc, prepared, &rules, id, state, options),
@@ -226,7 +226,7 @@ fn implies_line(
 ) -> Result<Vec<u8>, AllocError>
     requires pass { IsPass pass.old }
     ensures pass { pass.new ≡ pass.old }
-    ensures line { IfOk result (λ line. AtEachBookSeen registry.now pass.old (λ o book. IsLineOf (IsReplyIn o book (name_view module_name) (id_view id.now) (λ s. IsImpliedAs s (id_view id.now) (name_view module_name) (reading_view antecedent) (reading_view consequent))) line.items)) }
+    ensures line { let module_name' = name_view module_name in let id' = id_view id.now in IfOk result (λ line. AtEachBookSeen registry.now pass.old (λ o book. IsLineOf (IsReplyIn o book module_name' id' (λ s. IsImpliedAs s id' module_name' (reading_view antecedent) (reading_view consequent))) line.items)) }
 {
     match rules_at(alloc, registry, pass, &module_name)? {
         Some(rules) => implied_line(alloc, &rules, id, antecedent, consequent),
@@ -247,7 +247,7 @@ fn simplify_line(
     requires pass { IsPass pass.old }
     requires prepared { IsReadyFor registry.now prepared.now }
     ensures pass { pass.new ≡ pass.old }
-    ensures line { IfOk result (λ line. AtEachBookSeen registry.now pass.old (λ o book. IsLineOf (IsReplyIn o book (name_view module_name) (id_view id.now) (λ s. IsSimplifiedAs s.theory.signature (id_view id.now) (reading_view state))) line.items)) }
+    ensures line { let id' = id_view id.now in IfOk result (λ line. AtEachBookSeen registry.now pass.old (λ o book. IsLineOf (IsReplyIn o book (name_view module_name) id' (λ s. IsSimplifiedAs s.theory.signature id' (reading_view state))) line.items)) }
 {
     match rules_at(alloc, registry, pass, &module_name)? {
         Some(_rules) => simplified_line(alloc, prepared, id, state),

@@ -63,10 +63,11 @@ fn least_with(
     value: &Value,
     least: Option<u32>,
 ) -> Result<Option<u32>, GroundError>
-    ensures least { IfOk result (λ next. (before : List Rule) → IsLeast (signature_view rules.now.signature.value) (value_view value.now) before least →
-        IsLeast (signature_view rules.now.signature.value) (value_view value.now) (before ++ with_first (slice_get rules.now.rules.items place) []) next) }
+    ensures least { let g = signature_view rules.now.signature.value in let value' = value_view value.now in
+        IfOk result (λ next. (before : List Rule) → IsLeast g value' before least →
+        IsLeast g value' (before ++ with_first (slice_get rules.now.rules.items place) []) next) }
     ensures narrow { OnOk result (AllByRecursion (λ r. ¬ BodyIsWide (signature_view rules.now.signature.value) (value_view value.now) r.body.value) (with_first (slice_get rules.now.rules.items place) [])) }
-    ensures refused { IfErr result (IsCausedBy (signature_view rules.now.signature.value) (AnyByRecursion (λ r. BodyIsWide (signature_view rules.now.signature.value) (value_view value.now) r.body.value) rules.now.rules.items)) }
+    ensures refused { let g = signature_view rules.now.signature.value in IfErr result (IsCausedBy g (AnyByRecursion (λ r. BodyIsWide g (value_view value.now) r.body.value) rules.now.rules.items)) }
 {
     match rules.rule_at(place) {
         Some(rule) => {
@@ -85,7 +86,7 @@ pub fn least_priority(
 ) -> Result<Option<u32>, GroundError>
     ensures least { IfOk result (λ o. IsLeast (signature_view rules.now.signature.value) (value_view value.now) rules.now.rules.items o) }
     ensures narrow { OnOk result (AllByRecursion (λ r. ¬ BodyIsWide (signature_view rules.now.signature.value) (value_view value.now) r.body.value) rules.now.rules.items) }
-    ensures refused { IfErr result (IsCausedBy (signature_view rules.now.signature.value) (AnyByRecursion (λ r. BodyIsWide (signature_view rules.now.signature.value) (value_view value.now) r.body.value) rules.now.rules.items)) }
+    ensures refused { let g = signature_view rules.now.signature.value in IfErr result (IsCausedBy g (AnyByRecursion (λ r. BodyIsWide g (value_view value.now) r.body.value) rules.now.rules.items)) }
 {
     let mut places = rules.rules_at(&head_of(value));
     let mut least = None;

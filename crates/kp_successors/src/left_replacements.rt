@@ -68,9 +68,10 @@ fn replacement_of(
     requires names { names_seen names.now ≡ bound_names bindings.now }
     requires named { is_one_of (string_bytes variable.now.name) (names_seen names.now) ≡ true }
     ensures name { IfOk result (λ r. string_bytes r.name ≡ string_bytes variable.now.name) }
-    ensures spelled { IfOk result (λ r. (v : Valuation) → Solves v bindings.now →
-        HasSort (signature_view signature.now) (sort_view variable.now.sort) (v (string_bytes variable.now.name)) →
-        IsSpellingOf (signature_view signature.now) (v (string_bytes variable.now.name)) (view r.term)) }
+    ensures spelled { let g = signature_view signature.now in
+        IfOk result (λ r. (v : Valuation) → Solves v bindings.now →
+        HasSort g (sort_view variable.now.sort) (v (string_bytes variable.now.name)) →
+        IsSpellingOf g (v (string_bytes variable.now.name)) (view r.term)) }
     ensures refused { IfErr result (IsCausedBy (signature_view signature.now) ⊥) }
 {
     let value = bound_at(bindings, slot_of(names, variable.name.as_str()));

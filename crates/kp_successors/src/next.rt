@@ -94,10 +94,11 @@ fn next_on(
     rewrite: &Rewrite,
     value: &Value,
 ) -> Result<Option<Pattern>, GroundError>
-    ensures next { IfOk result (λ o. MatchOption o (¬ ((v : Valuation) × FiresAs (signature_view signature.now) rewrite.now (value_view value.now) v))
-        (λ p. ((v : Valuation) × FiresAs (signature_view signature.now) rewrite.now (value_view value.now) v) × IsNextOf (signature_view signature.now) rewrite.now (FiresAs (signature_view signature.now) rewrite.now (value_view value.now)) (view p))) }
+    ensures next { let g = signature_view signature.now in let value' = value_view value.now in
+        IfOk result (λ o. MatchOption o (¬ ((v : Valuation) × FiresAs g rewrite.now value' v))
+        (λ p. ((v : Valuation) × FiresAs g rewrite.now value' v) × IsNextOf g rewrite.now (FiresAs g rewrite.now value') (view p))) }
     ensures narrow { OnOk result (¬ RightIsWide (signature_view signature.now) (value_view value.now) (body.Rewrite rewrite.now)) }
-    ensures refused { IfErr result (IsCausedBy (signature_view signature.now) (BodyIsWide (signature_view signature.now) (value_view value.now) (body.Rewrite rewrite.now) ⊎ RightIsWide (signature_view signature.now) (value_view value.now) (body.Rewrite rewrite.now))) }
+    ensures refused { let g = signature_view signature.now in let value' = value_view value.now in IfErr result (IsCausedBy g (BodyIsWide g value' (body.Rewrite rewrite.now) ⊎ RightIsWide g value' (body.Rewrite rewrite.now))) }
 {
     match rewrite.fires(alloc, signature, value)? {
         Some(bindings) => Ok(Some(next_of(alloc, signature, rewrite, &bindings)?)),
@@ -113,10 +114,11 @@ fn next_at(
     value: &Value,
     priority: u32,
 ) -> Result<Option<Pattern>, GroundError>
-    ensures next { IfOk result (λ o. MatchOption o (¬ FiresAt (signature_view signature.now) (value_view value.now) priority rule.now)
-        (λ p. FiresAt (signature_view signature.now) (value_view value.now) priority rule.now × Follows (signature_view signature.now) (value_view value.now) rule.now.body.value (view p))) }
+    ensures next { let g = signature_view signature.now in let value' = value_view value.now in
+        IfOk result (λ o. MatchOption o (¬ FiresAt g value' priority rule.now)
+        (λ p. FiresAt g value' priority rule.now × Follows g value' rule.now.body.value (view p))) }
     ensures narrow { OnOk result (¬ IsWideAt (signature_view signature.now) (value_view value.now) priority rule.now) }
-    ensures refused { IfErr result (IsCausedBy (signature_view signature.now) (BodyIsWide (signature_view signature.now) (value_view value.now) rule.now.body.value ⊎ IsWideAt (signature_view signature.now) (value_view value.now) priority rule.now)) }
+    ensures refused { let g = signature_view signature.now in let value' = value_view value.now in IfErr result (IsCausedBy g (BodyIsWide g value' rule.now.body.value ⊎ IsWideAt g value' priority rule.now)) }
 {
     if rule.priority != priority {
         return Ok(None);
@@ -135,10 +137,11 @@ fn next_with(
     value: &Value,
     priority: u32,
 ) -> Result<Option<Pattern>, GroundError>
-    ensures next { IfOk result (λ o. (before : List Rule) (ps : List KorePattern) → AreNexts (signature_view rules.now.signature.value) (value_view value.now) priority before ps →
-        AreNexts (signature_view rules.now.signature.value) (value_view value.now) priority (before ++ with_first (slice_get rules.now.rules.items place) []) (ps ++ next_list o)) }
+    ensures next { let g = signature_view rules.now.signature.value in let value' = value_view value.now in
+        IfOk result (λ o. (before : List Rule) (ps : List KorePattern) → AreNexts g value' priority before ps →
+        AreNexts g value' priority (before ++ with_first (slice_get rules.now.rules.items place) []) (ps ++ next_list o)) }
     ensures narrow { OnOk result (AllByRecursion (λ r. ¬ IsWideAt (signature_view rules.now.signature.value) (value_view value.now) priority r) (with_first (slice_get rules.now.rules.items place) [])) }
-    ensures refused { IfErr result (IsCausedBy (signature_view rules.now.signature.value) (AnyByRecursion (λ r. BodyIsWide (signature_view rules.now.signature.value) (value_view value.now) r.body.value ⊎ IsWideAt (signature_view rules.now.signature.value) (value_view value.now) priority r) rules.now.rules.items)) }
+    ensures refused { let g = signature_view rules.now.signature.value in let value' = value_view value.now in IfErr result (IsCausedBy g (AnyByRecursion (λ r. BodyIsWide g value' r.body.value ⊎ IsWideAt g value' priority r) rules.now.rules.items)) }
 {
     match rules.rule_at(place) {
         Some(rule) => next_at(alloc, &rules.signature, rule, value, priority),
@@ -156,7 +159,7 @@ pub fn nexts_at(
 ) -> Result<Vec<Pattern>, GroundError>
     ensures nexts { IfOk result (λ ps. AreNexts (signature_view rules.now.signature.value) (value_view value.now) priority rules.now.rules.items (map view ps.items)) }
     ensures narrow { OnOk result (AllByRecursion (λ r. ¬ IsWideAt (signature_view rules.now.signature.value) (value_view value.now) priority r) rules.now.rules.items) }
-    ensures refused { IfErr result (IsCausedBy (signature_view rules.now.signature.value) (AnyByRecursion (λ r. BodyIsWide (signature_view rules.now.signature.value) (value_view value.now) r.body.value ⊎ IsWideAt (signature_view rules.now.signature.value) (value_view value.now) priority r) rules.now.rules.items)) }
+    ensures refused { let g = signature_view rules.now.signature.value in let value' = value_view value.now in IfErr result (IsCausedBy g (AnyByRecursion (λ r. BodyIsWide g value' r.body.value ⊎ IsWideAt g value' priority r) rules.now.rules.items)) }
 {
     let mut places = rules.rules_at(&head_of(value));
     let mut found = Vec::new(alloc);

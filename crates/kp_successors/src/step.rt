@@ -37,8 +37,8 @@ pub fn ground_step(
     ensures successors { (t : Theory) (s : KoreSort) (c : model.Value) → RunsAs t rules.now → IsGroundState t.signature (view pattern.now) s c →
         IfOk result (λ ps. AreSuccessors t c t.rules (map view ps.items)) }
     ensures known { (t : Theory) (s : KoreSort) (c : model.Value) → RunsAs t rules.now → IsGroundState t.signature (view pattern.now) s c → OnOk result (¬ IsUnknown t c) }
-    ensures narrow { (t : Theory) (s : KoreSort) (c : model.Value) → RunsAs t rules.now → IsGroundState t.signature (view pattern.now) s c → OnOk result (¬ IsTooWide t (view pattern.now) c) }
-    ensures refused { (t : Theory) (s : KoreSort) (c : model.Value) → RunsAs t rules.now → IsGroundState t.signature (view pattern.now) s c → IfErr result (IsRefusedFor t (view pattern.now) c) }
+    ensures narrow { let pattern' = view pattern.now in (t : Theory) (s : KoreSort) (c : model.Value) → RunsAs t rules.now → IsGroundState t.signature pattern' s c → OnOk result (¬ IsTooWide t pattern' c) }
+    ensures refused { let pattern' = view pattern.now in (t : Theory) (s : KoreSort) (c : model.Value) → RunsAs t rules.now → IsGroundState t.signature pattern' s c → IfErr result (IsRefusedFor t pattern' c) }
 {
     let value = value_of(alloc, &rules.signature, pattern)?;
     let nexts = nexts_of(alloc, rules, &value)?;
@@ -59,8 +59,9 @@ fn foreign(alloc: Global, rule: &Rule) -> Result<GroundError, AllocError>
 
 /// The patterns of the rules that fire and have the least priority number of these.
 fn nexts_of(alloc: Global, rules: &RuleSet, value: &Value) -> Result<Vec<Pattern>, GroundError>
-    ensures successors { (t : Theory) → RunsAs t rules.now → IsSorted t.signature (value_view value.now) →
-        IfOk result (λ ps. (¬ IsUnknown t (value_view value.now)) → AreSuccessors t (value_view value.now) t.rules (map view ps.items)) }
+    ensures successors { let value' = value_view value.now in
+        (t : Theory) → RunsAs t rules.now → IsSorted t.signature value' →
+        IfOk result (λ ps. (¬ IsUnknown t value') → AreSuccessors t value' t.rules (map view ps.items)) }
     ensures narrow { (t : Theory) → RunsAs t rules.now → IsSorted t.signature (value_view value.now) → OnOk result (¬ HasWideRule t (value_view value.now)) }
     ensures refused { (t : Theory) → RunsAs t rules.now → IsSorted t.signature (value_view value.now) → IfErr result (IsCausedBy t.signature (HasWideRule t (value_view value.now))) }
 {
