@@ -21,7 +21,7 @@ use Rattle.kp_symbolic.specs.Weights.{bounds_of}
 use Rattle.kp_demands.specs.Demands.{Sizes, IsSized}
 use Rattle.kp_demands.proofs.Lists.{all_append}
 use Rattle.kp_conditions.specs.Comparing.{ways_of}
-use Rattle.kp_conditions.specs.declared.comparing.Part.{Part}
+use Rattle.kp_conditions.specs.declared.comparing.ComparedPart.{ComparedPart}
 use Rattle.kp_symbolic.specs.declared.variable.Variable.{Variable}
 use Rattle.kp_deciding.specs.Forms.{whole_part_view, token_part_view}
 use Rattle.kp_deciding.specs.declared.form.Form.{Form}
@@ -116,7 +116,7 @@ number_within names (Some x) n e = less (length names) (place_by bytes_eq names 
     less : (l p n : ℕ) → n ≡ l → l - p ≤ n
     less l p n e = omega (arith, e)
 
-compared_sized : (s : Sizes) (names : List Text) (bits : ℕ) (c : Comparison) (x y : Part) (m n : model.WholePart) → s.bits ≡ bits → x.place ≤ s.wholes → y.place ≤ s.wholes → x.constant ≡ m.constant → y.constant ≡ n.constant →
+compared_sized : (s : Sizes) (names : List Text) (bits : ℕ) (c : Comparison) (x y : ComparedPart) (m n : model.WholePart) → s.bits ≡ bits → x.place ≤ s.wholes → y.place ≤ s.wholes → x.constant ≡ m.constant → y.constant ≡ n.constant →
     AllByRecursion (IsBounded names bits) (bounds_of (model.compares c m n)) → AreWaysSized s (ways_of c x y)
 compared_sized s names bits c x y m n d hx hy ex ey h = by c h
   where

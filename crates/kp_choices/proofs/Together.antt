@@ -14,7 +14,7 @@ use Rattle.kp_deciding.specs.Unknowns.{all_unknowns}
 use Rattle.kp_choices.specs.Holding.{AreLight, CanBeDecided, CanBeAsked}
 use Rattle.kp_choices.specs.Numbers.{texts, all_tokens, AreUnknownsOf}
 use Rattle.kp_choices.specs.Ways.{HasWays, clause_ways, AreNearIn, IsAskedMet, IsAskedSized, AreWaysSized}
-use Rattle.kp_choices.specs.declared.asked.Asked.{Asked}
+use Rattle.kp_choices.specs.declared.asked.AskedDemands.{AskedDemands}
 use Rattle.kp_choices.specs.declared.unknowns.Unknowns.{Unknowns}
 use Rattle.kp_choices.proofs.Agreeing.{met_are_asked, refute_asked}
 use Rattle.kp_choices.proofs.FromNumbers.{from_numbers, all_valued, all_sorted, values_agree}
@@ -44,10 +44,10 @@ are_sized g cs u d s hu z = all_sized g u d.bits s cs z (numbered cs u d hu).pla
 pub size_within : (cs : List (Vec ReadLiteral Global)) (u : Unknowns) (d : AreLight cs) → AreUnknownsOf cs u → length (texts u.wholes.items) + d.bits ≤ 126
 size_within cs u d hu = (numbered cs u d hu).light
 
-abbrev pub MetAs : KoreSignature → Unknowns → List (Vec ReadLiteral Global) → Asked → Type 0
+abbrev pub MetAs : KoreSignature → Unknowns → List (Vec ReadLiteral Global) → AskedDemands → Type 0
 MetAs g u cs x = (a : Assignment) → IsAskedMet a x ↔ HasWays g a u cs
 
-pub can_be_asked : (g : KoreSignature) (cs : List (Vec ReadLiteral Global)) (u : Unknowns) (x : Asked) (d : CanBeDecided g cs) → AreUnknownsOf cs u → MetAs g u cs x → CanBeMet u.written x.demands.items (choices_of x.choices.items) → CanBeAsked g cs
+pub can_be_asked : (g : KoreSignature) (cs : List (Vec ReadLiteral Global)) (u : Unknowns) (x : AskedDemands) (d : CanBeDecided g cs) → AreUnknownsOf cs u → MetAs g u cs x → CanBeMet u.written x.demands.items (choices_of x.choices.items) → CanBeAsked g cs
 can_be_asked g cs u x d hu met h =
     let n = numbered cs u d.light hu in
     let a = h.values in
@@ -59,7 +59,7 @@ can_be_asked g cs u x d hu met h =
       are_true = met_are_asked g a v u cs (values_agree g a u n.front v d.light.bits cs h.lawful n.placed d.forms valued) ((met a).0 (h.demands_met, h.choices_met));
     }
 
-pub can_be_met : (g : KoreSignature) (cs : List (Vec ReadLiteral Global)) (u : Unknowns) (x : Asked) (d : CanBeDecided g cs) → AreUnknownsOf cs u → MetAs g u cs x → ¬ CanBeMet u.written x.demands.items (choices_of x.choices.items) → ¬ CanBeAsked g cs
+pub can_be_met : (g : KoreSignature) (cs : List (Vec ReadLiteral Global)) (u : Unknowns) (x : AskedDemands) (d : CanBeDecided g cs) → AreUnknownsOf cs u → MetAs g u cs x → ¬ CanBeMet u.written x.demands.items (choices_of x.choices.items) → ¬ CanBeAsked g cs
 can_be_met g cs u x d hu met none h =
     let n = numbered cs u d.light hu in
     let v = h.valuation in
@@ -72,7 +72,7 @@ can_be_met g cs u x d hu met none h =
 abbrev pub sizes_of : Unknowns → ℕ → Sizes
 sizes_of u bits = record { wholes = length (texts u.wholes.items); truths = length (texts u.truths.items); classes = length (map token_part_view u.tokens.items); bits = bits }
 
-pub ready : (g : KoreSignature) (cs : List (Vec ReadLiteral Global)) (u : Unknowns) (d : AreLight cs) (t : Tables) (x : Asked) → AreUnknownsOf cs u →
+pub ready : (g : KoreSignature) (cs : List (Vec ReadLiteral Global)) (u : Unknowns) (d : AreLight cs) (t : Tables) (x : AskedDemands) → AreUnknownsOf cs u →
     ((s : Sizes) → s.wholes ≡ length u.wholes.items → s.truths ≡ length u.truths.items → s.classes ≡ length u.tokens.items → AreSizesOf s t) →
     ((s : Sizes) → IsAskedSized s x ↔ AllByRecursion (λ c. AreWaysSized s (clause_ways g u c.items)) cs) → (s : Sizes) × AreSizesOf s t × (s.wholes + s.bits ≤ 126) × IsAskedSized s x
 ready g cs u d t x hu sizes sized =
@@ -87,8 +87,8 @@ pub if_ok : {A E : Type 0} (r : Result A E) (P Q : A → Type 0) → ((x : A) �
 if_ok (Ok x) P Q f h = f x h
 if_ok (Err e) P Q f h = tt
 
-pub yes_where_met : (g : KoreSignature) (cs : List (Vec ReadLiteral Global)) (u : Unknowns) (x : Asked) (fixed : ℕ) → AreUnknownsOf cs u → MetAs g u cs x → fixed ≡ u.written → (b : Bool) → (IsTrue b → CanBeMet fixed x.demands.items (choices_of x.choices.items)) → IsTrue b → CanBeDecided g cs → CanBeAsked g cs
+pub yes_where_met : (g : KoreSignature) (cs : List (Vec ReadLiteral Global)) (u : Unknowns) (x : AskedDemands) (fixed : ℕ) → AreUnknownsOf cs u → MetAs g u cs x → fixed ≡ u.written → (b : Bool) → (IsTrue b → CanBeMet fixed x.demands.items (choices_of x.choices.items)) → IsTrue b → CanBeDecided g cs → CanBeAsked g cs
 yes_where_met g cs u x fixed hu met e b h t d = can_be_asked g cs u x d hu met (subst (λ n. CanBeMet n x.demands.items (choices_of x.choices.items)) e (h t))
 
-pub no_where_not : (g : KoreSignature) (cs : List (Vec ReadLiteral Global)) (u : Unknowns) (x : Asked) (fixed : ℕ) → AreUnknownsOf cs u → MetAs g u cs x → fixed ≡ u.written → (b : Bool) → (b ≡ false → ¬ CanBeMet fixed x.demands.items (choices_of x.choices.items)) → b ≡ false → CanBeDecided g cs → ¬ CanBeAsked g cs
+pub no_where_not : (g : KoreSignature) (cs : List (Vec ReadLiteral Global)) (u : Unknowns) (x : AskedDemands) (fixed : ℕ) → AreUnknownsOf cs u → MetAs g u cs x → fixed ≡ u.written → (b : Bool) → (b ≡ false → ¬ CanBeMet fixed x.demands.items (choices_of x.choices.items)) → b ≡ false → CanBeDecided g cs → ¬ CanBeAsked g cs
 no_where_not g cs u x fixed hu met e b h f d = can_be_met g cs u x d hu met (subst (λ n. ¬ CanBeMet n x.demands.items (choices_of x.choices.items)) e (h f))

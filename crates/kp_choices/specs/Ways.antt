@@ -15,7 +15,7 @@ use Rattle.kp_demands.specs.declared.tables.Tables.{Tables}
 use Rattle.kp_demands.specs.declared.demand.Demand.{Demand}
 use Rattle.kp_demands.specs.declared.demand.Demand.TheVariants as demand
 use Rattle.kp_conditions.specs.Comparing.{ways_of, AreNear}
-use Rattle.kp_conditions.specs.declared.comparing.Part.{Part}
+use Rattle.kp_conditions.specs.declared.comparing.ComparedPart.{ComparedPart}
 use Rattle.kp_deciding.specs.Forms.{whole_part_view, token_part_view}
 use Rattle.kp_symbolic.specs.declared.variable.Variable.{Variable}
 use Rattle.kp_deciding.specs.declared.form.Form.{Form}
@@ -25,14 +25,14 @@ use Rattle.kp_deciding.specs.declared.form.TokenPart.{TokenPart}
 use Rattle.kp_deciding.specs.declared.reading.ReadLiteral.{ReadLiteral}
 use Rattle.kp_choices.specs.Kinds.{are_alike}
 use Rattle.kp_choices.specs.Numbers.{texts, place_by, parts_same, whole_number}
-use Rattle.kp_choices.specs.declared.asked.Asked.{Asked}
+use Rattle.kp_choices.specs.declared.asked.AskedDemands.{AskedDemands}
 use Rattle.kp_choices.specs.declared.unknowns.Unknowns.{Unknowns}
 
 -- one way without demands where it holds, else none
 abbrev pub decided : Bool → List (List Demand)
 decided b = if b then [] ∷ [] else []
 
-abbrev pub part_of : Unknowns → WholePart → Part
+abbrev pub part_of : Unknowns → WholePart → ComparedPart
 part_of u m = record { place = whole_number (texts u.wholes.items) (whole_part_view m).variable; constant = m.constant }
 
 abbrev pub is_constant : WholePart → Bool
@@ -95,13 +95,13 @@ items_of_ways ways = map (λ w. w.items) ways
 
 -- ---- what is asked by all clauses
 
-abbrev pub IsAskedMet : Assignment → Asked → Type 0
+abbrev pub IsAskedMet : Assignment → AskedDemands → Type 0
 IsAskedMet a x = AllByRecursion (IsMetBy a) x.demands.items × AllByRecursion (HasWay a) (choices_of x.choices.items)
 
 abbrev pub AreWaysSized : Sizes → List (List Demand) → Type 0
 AreWaysSized s = AllByRecursion (AllByRecursion (IsSized s))
 
-abbrev pub IsAskedSized : Sizes → Asked → Type 0
+abbrev pub IsAskedSized : Sizes → AskedDemands → Type 0
 IsAskedSized s x = AllByRecursion (IsSized s) x.demands.items × AllByRecursion (AreWaysSized s) (choices_of x.choices.items)
 
 -- each clause has a way whose demands are met

@@ -16,13 +16,13 @@ use std::alloc::{AllocError, Global};
 
 /// Demands of clauses with one way, and the ways of the others.
 #[derive(Drop)]
-pub struct Asked {
+pub struct AskedDemands {
     pub demands: Vec<Demand>,
     pub choices: Vec<Vec<Vec<Demand>>>,
 }
 
 /// Adds the ways of a clause: where there is one, its demands.
-fn add_ways(asked: &mut Asked, ways: Vec<Vec<Demand>>) -> Result<(), AllocError>
+fn add_ways(asked: &mut AskedDemands, ways: Vec<Vec<Demand>>) -> Result<(), AllocError>
     ensures met { OnOk result ((a : Assignment) → IsAskedMet a asked.new ↔ (IsAskedMet a asked.old × HasWay a (items_of_ways ways.items))) }
     ensures sized { OnOk result ((s : Sizes) → IsAskedSized s asked.new ↔ (IsAskedSized s asked.old × AreWaysSized s (items_of_ways ways.items))) }
 {
@@ -40,12 +40,12 @@ pub fn asked_by(
     signature: &Signature,
     unknowns: &Unknowns,
     clauses: &[Vec<ReadLiteral>],
-) -> Result<Asked, AllocError>
+) -> Result<AskedDemands, AllocError>
     requires { AllByRecursion (λ c. AreNearIn unknowns.now c.items) clauses.now }
     ensures met { IfOk result (λ asked. (a : Assignment) → IsAskedMet a asked ↔ spec.HasWays (signature_view signature.now) a unknowns.now clauses.now) }
     ensures sized { IfOk result (λ asked. (s : Sizes) → IsAskedSized s asked ↔ spec.HasSizedWays (signature_view signature.now) s unknowns.now clauses.now) }
 {
-    let mut asked = Asked {
+    let mut asked = AskedDemands {
         demands: Vec::new(alloc),
         choices: Vec::new(alloc),
     };
@@ -58,7 +58,7 @@ pub fn asked_by(
 /// Whether some values meet all that is asked.
 pub fn can_all_be_met(
     alloc: Global,
-    asked: &mut Asked,
+    asked: &mut AskedDemands,
     tables: &mut Tables,
 ) -> Result<bool, AllocError>
     requires { (s : Sizes) × AreSizesOf s tables.old × (s.wholes + s.bits ≤ 126) × IsAskedSized s asked.old }

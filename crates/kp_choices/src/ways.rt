@@ -8,7 +8,7 @@ ghost use Rattle.kp_choices.specs.Ways.{items_of_ways, IsNear, AreNearIn};
 use crate::places::{place_of_name, place_of_part, whole_number};
 use crate::tokens::are_alike;
 use crate::unknowns::Unknowns;
-use kp_conditions::{Part, comparison_ways};
+use kp_conditions::{ComparedPart, comparison_ways};
 use kp_deciding::{Form, ReadLiteral, TokenPart, WholePart};
 use kp_demands::Demand;
 use kp_kore::Comparison;
@@ -39,10 +39,10 @@ fn one(alloc: Global, demand: Demand) -> Result<Vec<Vec<Demand>>, AllocError>
 }
 
 /// A side with its number.
-fn part(unknowns: &Unknowns, side: WholePart) -> Part
+fn part(unknowns: &Unknowns, side: WholePart) -> ComparedPart
     ensures { result ≡ spec.part_of unknowns.now side.entry }
 {
-    Part {
+    ComparedPart {
         place: whole_number(&unknowns.wholes, side.variable),
         constant: side.constant,
     }

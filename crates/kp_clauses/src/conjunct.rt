@@ -60,7 +60,7 @@ fn add_conjunct(
     pattern: &Pattern,
     found: &mut Vec<Clause>,
 ) -> Result<u64, CompileError>
-    ensures clauses { (n : ℕ) → so_far ≡ min n most_counted → OnOk result (clauses_view found.new.items ≡ clauses_view found.old.items ++ model.clauses_of_conjunct (language_view language.now) (map replaced_view replaced.now) n (view pattern.now)) }
+    ensures clauses { let g = language_view language.now in (n : ℕ) → so_far ≡ min n most_counted → OnOk result (clauses_view found.new.items ≡ clauses_view found.old.items ++ model.clauses_of_conjunct g (map replaced_view replaced.now) n (view pattern.now)) }
     ensures literals { (n : ℕ) → so_far ≡ min n most_counted → IfOk result (λ m. m ≡ min (n + model.literals_of_conjunct (language_view language.now) (map replaced_view replaced.now) n (view pattern.now)) most_counted) }
     ensures refused { IfErr result (λ e. IsFaultless (language_view language.now) (view pattern.now) → e ≡ Memory) }
 {

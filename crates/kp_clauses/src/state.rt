@@ -160,7 +160,7 @@ fn open_term(
     predicates: &[&Pattern],
 ) -> Result<State, CompileError>
     ensures opened { IfOk result (λ s. state_view s ≡ opened_of (language_view language.now) (view pattern.now) (sort_view sort) (view term.now) (seen predicates.now)) }
-    ensures refused { IfErr result (λ e. IsFaultless (language_view language.now) (view term.now) → AllByRecursion (IsFaultless (language_view language.now)) (seen predicates.now) → e ≡ Memory) }
+    ensures refused { let g = language_view language.now in IfErr result (λ e. IsFaultless g (view term.now) → AllByRecursion (IsFaultless g) (seen predicates.now) → e ≡ Memory) }
 {
     let sort = Arc::new(alloc, sort)?;
     let variables = variables_of(alloc, pattern)?;
@@ -200,8 +200,8 @@ pub fn open_state(
     pattern: &Pattern,
     sort: Sort,
 ) -> Result<State, TermFault>
-    ensures state { VerifiesAs (language_view language.now) (view pattern.now) (sort_view sort) → IfOk result (λ s. opened_state (language_view language.now) (view pattern.now) ≡ Some (state_view s)) }
-    ensures instances { VerifiesAs (language_view language.now) (view pattern.now) (sort_view sort) → IfOk result (λ s. HasInstancesOf (language_view language.now) (view pattern.now) (state_view s)) }
+    ensures state { let g = language_view language.now in let pattern' = view pattern.now in VerifiesAs g pattern' (sort_view sort) → IfOk result (λ s. opened_state g pattern' ≡ Some (state_view s)) }
+    ensures instances { let g = language_view language.now in let pattern' = view pattern.now in VerifiesAs g pattern' (sort_view sort) → IfOk result (λ s. HasInstancesOf g pattern' (state_view s)) }
     ensures clear { OnOk result (model.state_fault (language_view language.now) (view pattern.now) ≡ None) }
     ensures refused { IfErr result (IsToldOf (model.state_fault (language_view language.now) (view pattern.now))) }
     ensures unread { IfErr result (λ e. IsUnread e → ¬ IsFaultless (language_view language.now) (view pattern.now)) }

@@ -20,7 +20,7 @@ use crate::link::Link;
 use crate::outcome::ProveFault;
 use kp_kore::{Pattern, Sort};
 use kp_replies::{Method, ServerReply};
-use kp_results::{Executed, Reason, State};
+use kp_results::{Executed, Reason, ReplyState};
 use kp_rpc::{ExecuteOptions, Id, Question};
 use std::alloc::{AllocError, Global};
 
@@ -121,10 +121,10 @@ fn joined(alloc: Global, term: Pattern, predicate: Pattern) -> Result<Pattern, A
 }
 
 /// The state that a run ends in.
-fn state_of(alloc: Global, state: State) -> Result<Pattern, AllocError>
+fn state_of(alloc: Global, state: ReplyState) -> Result<Pattern, AllocError>
     ensures { IfOk result (λ p. IsPatternOf (state_view state) (view p)) }
 {
-    let State { term, predicate } = state;
+    let ReplyState { term, predicate } = state;
     match predicate {
         None => Ok(term),
         Some(predicate) => joined(alloc, term, predicate),

@@ -18,7 +18,7 @@ use Rattle.kp_ground.specs.TermView.{term_view, terms_of}
 use Rattle.kp_ground.specs.LeftView.{left_view, lefts_of}
 use Rattle.kp_ground.specs.Conditions.{all_hold, any_holds}
 use Rattle.kp_ground.specs.ConditionView.{condition_view, conditions_of}
-use Rattle.kp_ground.specs.declared.term.Term.{Term}
+use Rattle.kp_ground.specs.declared.term.CompiledTerm.{CompiledTerm}
 use Rattle.kp_ground.specs.declared.left.Left.{Left}
 use Rattle.kp_ground.specs.declared.condition.Condition.{Condition}
 use Rattle.kp_compile.specs.Exact.{IsConditionOf, AreTermsOf, AreLeftsOf, AreConditionsOf}
@@ -44,7 +44,7 @@ zip_push R i xs ys x y h is z r = rw add-one (zip_more R i xs ys x y h is z r)
 
 -- ---- lists of arguments
 
-pub each_term : (g : KoreSignature) (v : Valuation) (ps : List Pattern) (ts : List Term) → AreTermsOf g ps ts → term_values v (terms_of (map term_view ts)) ≡ instances g v (patterns_view ps)
+pub each_term : (g : KoreSignature) (v : Valuation) (ps : List Pattern) (ts : List CompiledTerm) → AreTermsOf g ps ts → term_values v (terms_of (map term_view ts)) ≡ instances g v (patterns_view ps)
 each_term g v [] [] z = refl
 each_term g v [] (t ∷ ts) z = absurd z
 each_term g v (p ∷ ps) [] z = absurd z

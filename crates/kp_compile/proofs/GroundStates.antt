@@ -7,7 +7,7 @@ use Rattle.kp_ground.specs.Terms.{stays_narrow, term_value}
 use Rattle.kp_ground.specs.TermView.{term_view}
 use Rattle.kp_ground.specs.View.{value_view}
 use Rattle.kp_ground.specs.declared.value.Value.{Value as Ground}
-use Rattle.kp_ground.specs.declared.term.Term.{Term}
+use Rattle.kp_ground.specs.declared.term.CompiledTerm.{CompiledTerm}
 use Rattle.kp_compile.specs.Exact.{IsTermOf, IsNarrowAs}
 use Rattle.std.specs.List.{list_all, filter_map, cons_option}
 use Rattle.std.proofs.lemmas.Bool.Decides.{Decides-eqb}
@@ -101,7 +101,7 @@ found g i ps p x h e n k = sym (k ∙ open_at g i ps p h e ∙ ap (λ o. first_m
 
 -- ---- the value of a compiled term
 
-pub value_meant : {E : Type 0} (r : Result Ground E) (g : KoreSignature) (p : KorePattern) (t : Term) → IsTermOf g p t → IfOk r (λ u. (v : Valuation) → value_view u ≡ term_value v (term_view t)) → IfOk r (λ u. (v : Valuation) → instance g v p ≡ value_view u)
+pub value_meant : {E : Type 0} (r : Result Ground E) (g : KoreSignature) (p : KorePattern) (t : CompiledTerm) → IsTermOf g p t → IfOk r (λ u. (v : Valuation) → value_view u ≡ term_value v (term_view t)) → IfOk r (λ u. (v : Valuation) → instance g v p ≡ value_view u)
 value_meant (Ok u) g p t h k = λ v. sym (h v) ∙ sym (k v)
 value_meant (Err e) g p t h k = tt
 
@@ -118,11 +118,11 @@ wide_is_not_narrow : (narrow wide : Bool) → narrow ≡ not wide → narrow ≡
 wide_is_not_narrow narrow true e f = refl
 wide_is_not_narrow narrow false e f = absurd (cc)
 
-pub value_narrow : {E : Type 0} (r : Result Ground E) (g : KoreSignature) (p : KorePattern) (t : Term) → IsNarrowAs g p t → OnOk r ((v : Valuation) → stays_narrow v (term_view t) ≡ true) → OnOk r ((v : Valuation) → computes_wide g v p ≡ false)
+pub value_narrow : {E : Type 0} (r : Result Ground E) (g : KoreSignature) (p : KorePattern) (t : CompiledTerm) → IsNarrowAs g p t → OnOk r ((v : Valuation) → stays_narrow v (term_view t) ≡ true) → OnOk r ((v : Valuation) → computes_wide g v p ≡ false)
 value_narrow (Ok u) g p t h k = λ v. narrow_is_not_wide _ _ (h v) (k v)
 value_narrow (Err e) g p t h k = tt
 
-pub value_wide : (r : Result Ground StateError) (g : KoreSignature) (p : KorePattern) (t : Term) → IsNarrowAs g p t → IfErr r (λ e. e ≡ OtherShape → (v : Valuation) → stays_narrow v (term_view t) ≡ false) → IfErr r (λ e. e ≡ OtherShape → IsOtherShape g p)
+pub value_wide : (r : Result Ground StateError) (g : KoreSignature) (p : KorePattern) (t : CompiledTerm) → IsNarrowAs g p t → IfErr r (λ e. e ≡ OtherShape → (v : Valuation) → stays_narrow v (term_view t) ≡ false) → IfErr r (λ e. e ≡ OtherShape → IsOtherShape g p)
 value_wide (Ok u) g p t h k = tt
 value_wide (Err e) g p t h k = λ is. wide (λ v. wide_is_not_narrow _ _ (h v) (k is v))
 

@@ -22,7 +22,7 @@ use Rattle.kp_ground.specs.Terms.{RuleTerm, call, opposite, term_value, is_narro
 use Rattle.kp_ground.specs.TermView.{term_view, terms_of}
 use Rattle.kp_ground.specs.Conditions.{all_narrow}
 use Rattle.kp_ground.specs.ConditionView.{condition_view, conditions_of}
-use Rattle.kp_ground.specs.declared.term.Term.{Term}
+use Rattle.kp_ground.specs.declared.term.CompiledTerm.{CompiledTerm}
 use Rattle.kp_ground.specs.declared.condition.Condition.{Condition}
 use Rattle.kp_compile.specs.Exact.{AreTermsNarrowAs, AreConditionsNarrowAs, IsConditionNarrowAs}
 use Rattle.kp_compile.specs.Parts.{seen}
@@ -56,7 +56,7 @@ both_terms g v p q a b e f = none_of_two a b (computes_wide g v p) (computes_wid
 
 -- ---- lists
 
-pub each_term_narrow : (g : KoreSignature) (v : Valuation) (ps : List Pattern) (ts : List Term) → AreTermsNarrowAs g ps ts →
+pub each_term_narrow : (g : KoreSignature) (v : Valuation) (ps : List Pattern) (ts : List CompiledTerm) → AreTermsNarrowAs g ps ts →
     all_stay_narrow v (terms_of (map term_view ts)) ≡ not (list_any (is_wide_call g v) (all_subpatterns (patterns_view ps)))
 each_term_narrow g v [] [] z = refl
 each_term_narrow g v [] (t ∷ ts) z = absurd z
@@ -95,7 +95,7 @@ injected_narrow g v f ss (q ∷ []) p b h e m n =
     ∙ ap not (sym (by_meaning g v f ss (patterns_view (q ∷ [])) injection m))
 injected_narrow g v f ss (q ∷ r ∷ ps) p b h e m n = absurd (cc)
 
-pub built_narrow : (g : KoreSignature) (v : Valuation) (f : Text) (ss : KoreSorts) (ps : List Pattern) (ts : List Term) → meaning_of g f ≡ construction → AreTermsNarrowAs g ps ts →
+pub built_narrow : (g : KoreSignature) (v : Valuation) (f : Text) (ss : KoreSorts) (ps : List Pattern) (ts : List CompiledTerm) → meaning_of g f ≡ construction → AreTermsNarrowAs g ps ts →
     all_stay_narrow v (terms_of (map term_view ts)) ≡ not (computes_wide g v (application f ss (patterns_view ps)))
 built_narrow g v f ss ps ts m z = each_term_narrow g v ps ts z ∙ ap not (sym (by_meaning g v f ss (patterns_view ps) construction m))
 

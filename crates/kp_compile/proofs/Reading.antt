@@ -12,7 +12,7 @@ use Rattle.kp_kore.specs.Parts.{SortedName, free_variables, all_free_variables}
 use Rattle.kp_kore.specs.View.{view, patterns_view}
 use Rattle.kp_kore.specs.declared.pattern.Pattern.{Pattern}
 use Rattle.kp_ground.specs.Slots.{Place, is_one_of, stands_at, with_name, names_after, is_numbered, joined, left_places, left_variables, term_reads, condition_reads}
-use Rattle.kp_ground.specs.declared.term.Term.{Term}
+use Rattle.kp_ground.specs.declared.term.CompiledTerm.{CompiledTerm}
 use Rattle.kp_ground.specs.declared.left.Left.{Left}
 use Rattle.kp_ground.specs.declared.condition.Condition.{Condition}
 use Rattle.kp_ground.proofs.SlotLemmas.{first_so, second_so, numbered_both, names_both}
@@ -32,7 +32,7 @@ second_named xs vs ws h = second_so (are_named xs vs) (are_named xs ws) (sym (li
 
 -- ---- lists
 
-pub each_reads : (xs : List Text) (ps : List Pattern) (ts : List Term) → ReadAllAs xs ps ts → are_named xs (all_free_variables (patterns_view ps)) ≡ true → list_all (λ b. b) (map (term_reads xs) ts) ≡ true
+pub each_reads : (xs : List Text) (ps : List Pattern) (ts : List CompiledTerm) → ReadAllAs xs ps ts → are_named xs (all_free_variables (patterns_view ps)) ≡ true → list_all (λ b. b) (map (term_reads xs) ts) ≡ true
 each_reads xs [] [] z named = refl
 each_reads xs [] (t ∷ ts) z named = absurd z
 each_reads xs (p ∷ ps) [] z named = absurd z

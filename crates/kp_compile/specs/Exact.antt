@@ -15,16 +15,16 @@ use Rattle.kp_ground.specs.TermView.{term_view}
 use Rattle.kp_ground.specs.LeftView.{left_view}
 use Rattle.kp_ground.specs.Conditions.{condition_holds, condition_narrow}
 use Rattle.kp_ground.specs.ConditionView.{condition_view}
-use Rattle.kp_ground.specs.declared.term.Term.{Term}
+use Rattle.kp_ground.specs.declared.term.CompiledTerm.{CompiledTerm}
 use Rattle.kp_ground.specs.declared.left.Left.{Left}
 use Rattle.kp_ground.specs.declared.condition.Condition.{Condition}
 
 -- under every valuation the term has the pattern's instance
-abbrev pub IsTermOf : KoreSignature → KorePattern → Term → Type 0
+abbrev pub IsTermOf : KoreSignature → KorePattern → CompiledTerm → Type 0
 IsTermOf g p t = (v : Valuation) → term_value v (term_view t) ≡ instance g v p
 
 -- the numbers beyond 128 bits that the term computes are those of the pattern's calls
-abbrev pub IsNarrowAs : KoreSignature → KorePattern → Term → Type 0
+abbrev pub IsNarrowAs : KoreSignature → KorePattern → CompiledTerm → Type 0
 IsNarrowAs g p t = (v : Valuation) → stays_narrow v (term_view t) ≡ not (computes_wide g v p)
 
 -- each of the variables is one of these names
@@ -32,7 +32,7 @@ abbrev pub are_named : List Text → List SortedName → Bool
 are_named xs vs = list_all (λ x. is_one_of x.name xs) vs
 
 -- where the pattern's variables are among these names, the term tells the number of each
-abbrev pub ReadsAs : List Text → KorePattern → Term → Type 0
+abbrev pub ReadsAs : List Text → KorePattern → CompiledTerm → Type 0
 ReadsAs xs p t = are_named xs (free_variables p) ≡ true → term_reads xs t ≡ true
 
 -- the same of a condition
@@ -60,7 +60,7 @@ abbrev pub IsConditionOf : KoreSignature → KorePattern → Condition → Type 
 IsConditionOf g p c = (v : Valuation) → Decides (condition_holds v (condition_view c)) (IsTrueUnder g v p)
 
 -- the same of lists, one by one
-abbrev pub AreTermsOf : KoreSignature → List Pattern → List Term → Type 0
+abbrev pub AreTermsOf : KoreSignature → List Pattern → List CompiledTerm → Type 0
 AreTermsOf g = AllZip (λ p t. IsTermOf g (view p) t)
 
 abbrev pub AreLeftsOf : KoreSignature → List Pattern → List Left → Type 0
@@ -69,10 +69,10 @@ AreLeftsOf g = AllZip (λ p l. IsLeftOf g (view p) l)
 abbrev pub AreConditionsOf : KoreSignature → List Pattern → List Condition → Type 0
 AreConditionsOf g = AllZip (λ p c. IsConditionOf g (view p) c)
 
-abbrev pub AreTermsNarrowAs : KoreSignature → List Pattern → List Term → Type 0
+abbrev pub AreTermsNarrowAs : KoreSignature → List Pattern → List CompiledTerm → Type 0
 AreTermsNarrowAs g = AllZip (λ p t. IsNarrowAs g (view p) t)
 
-abbrev pub ReadAllAs : List Text → List Pattern → List Term → Type 0
+abbrev pub ReadAllAs : List Text → List Pattern → List CompiledTerm → Type 0
 ReadAllAs xs = AllZip (λ p t. ReadsAs xs (view p) t)
 
 abbrev pub ConditionsReadAs : List Text → List Pattern → List Condition → Type 0

@@ -21,7 +21,7 @@ use crate::error::CompileError;
 use crate::names::NameSet;
 use crate::shape::is_term;
 use crate::term::compile_term;
-use kp_ground::{Condition, Term};
+use kp_ground::{CompiledTerm, Condition};
 use kp_kore::Pattern;
 use kp_signature::Signature;
 use std::alloc::{AllocError, Global};
@@ -53,7 +53,7 @@ fn make_any(conditions: Vec<Condition>) -> Condition
 }
 
 /// The terms have the same value.
-fn make_equality(left: Term, right: Term) -> Condition
+fn make_equality(left: CompiledTerm, right: CompiledTerm) -> Condition
     ensures seen { condition_view result ≡ same (term_view left) (term_view right) }
     ensures reads { (xs : List Text) → condition_reads xs result ≡ (term_reads xs left && term_reads xs right) }
 {

@@ -30,7 +30,7 @@ pub use own::own_sort;
 pub use parts::{add_subpatterns, subpatterns};
 pub use shape::is_term;
 pub use spell::{has_injection, injects, placed_at, places_of, spelled, spelled_at};
-pub use state::{State, first_foreign, state_of};
+pub use state::{GroundState, first_foreign, state_of};
 pub use state_error::{SpellingError, StateError};
 pub use term::compile_term;
 pub use within::is_home;

@@ -22,14 +22,14 @@ ghost use Rattle.kp_compile.specs.States.{IsNoForeign, IsTold};
 
 use crate::state_error::StateError;
 use crate::{CompileError, compile_term, is_term, no_names, subpatterns};
-use kp_ground::{EvaluationError, Term, Value};
+use kp_ground::{CompiledTerm, EvaluationError, Value};
 use kp_kore::{Name, Pattern, Sort};
 use kp_signature::{Meaning, Signature, meaning_of};
 use std::alloc::{AllocError, Global};
 
 /// A configuration and the sort that it is written at.
 #[derive(Drop)]
-pub struct State {
+pub struct GroundState {
     pub value: Value,
     pub sort: Sort,
 }
@@ -41,7 +41,7 @@ pub fn state_of(
     signature: &Signature,
     pattern: &Pattern,
     sort: Sort,
-) -> Result<State, StateError>
+) -> Result<GroundState, StateError>
     ensures state { let g = signature_view signature.now in let sort' = sort_view sort in let pattern' = view pattern.now in VerifiesAs g pattern' sort' → IfOk result (λ state. IsGroundState g pattern' (sort_view state.sort) (value_view state.value)) }
     ensures sort { IfOk result (λ state. state.sort ≡ sort) }
     ensures no_foreign { OnOk result (first_foreign_in (signature_view signature.now) (view pattern.now) ≡ None) }
@@ -51,7 +51,7 @@ pub fn state_of(
 {
     match first_foreign(alloc, signature, pattern)? {
         Some(name) => Err(StateError::ForeignSymbol { name }),
-        None => Ok(State {
+        None => Ok(GroundState {
             value: value_of(alloc, signature, pattern)?,
             sort,
         }),
@@ -131,7 +131,7 @@ fn refused(error: CompileError) -> StateError
 }
 
 /// The value of a term without variables.
-fn evaluated(alloc: Global, term: &Term) -> Result<Value, StateError>
+fn evaluated(alloc: Global, term: &CompiledTerm) -> Result<Value, StateError>
     requires { term_reads [] term.now ≡ true }
     ensures meant { IfOk result (λ u. (v : Valuation) → value_view u ≡ term_value v (term_view term.now)) }
     ensures narrow { OnOk result ((v : Valuation) → stays_narrow v (term_view term.now) ≡ true) }

@@ -18,7 +18,7 @@ ghost use Rattle.kp_compile.specs.declared.error.CompileError.TheVariants.{Memor
 use crate::error::CompileError;
 use crate::literal::literal_value;
 use crate::names::{NameSet, slot_of};
-use kp_ground::Term;
+use kp_ground::CompiledTerm;
 use kp_kore::{Hook, Name, Pattern};
 use kp_signature::{Function, Meaning, Signature, meaning_of};
 use std::alloc::{AllocError, Global};
@@ -32,22 +32,27 @@ pub fn shared_name(alloc: Global, name: &Name) -> Result<Arc<String>, AllocError
 }
 
 /// A constructor with its arguments.
-fn make_built(constructor: Arc<String>, arguments: Vec<Term>) -> Term
+fn make_built(constructor: Arc<String>, arguments: Vec<CompiledTerm>) -> CompiledTerm
     ensures seen { term_view result ≡ built (string_bytes constructor.value) (terms_of (map term_view arguments.items)) }
     ensures reads { (xs : List Text) → term_reads xs result ≡ list_all (λ b. b) (map (term_reads xs) arguments.items) }
 {
-    Term::Built {
+    CompiledTerm::Built {
         constructor,
         arguments,
     }
 }
 
 /// A call of two terms.
-fn make_call(alloc: Global, hook: Hook, left: Term, right: Term) -> Result<Term, AllocError>
+fn make_call(
+    alloc: Global,
+    hook: Hook,
+    left: CompiledTerm,
+    right: CompiledTerm,
+) -> Result<CompiledTerm, AllocError>
     ensures seen { IfOk result (λ t. term_view t ≡ call (hook_view hook) (term_view left) (term_view right)) }
     ensures reads { (xs : List Text) → IfOk result (λ t. term_reads xs t ≡ (term_reads xs left && term_reads xs right)) }
 {
-    Ok(Term::Call {
+    Ok(CompiledTerm::Call {
         hook,
         left: Box::new(alloc, left)?,
         right: Box::new(alloc, right)?,
@@ -55,11 +60,11 @@ fn make_call(alloc: Global, hook: Hook, left: Term, right: Term) -> Result<Term,
 }
 
 /// The opposite of a term.
-fn make_opposite(alloc: Global, term: Term) -> Result<Term, AllocError>
+fn make_opposite(alloc: Global, term: CompiledTerm) -> Result<CompiledTerm, AllocError>
     ensures seen { IfOk result (λ t. term_view t ≡ opposite (term_view term)) }
     ensures reads { (xs : List Text) → IfOk result (λ t. term_reads xs t ≡ term_reads xs term) }
 {
-    Ok(Term::Opposite {
+    Ok(CompiledTerm::Opposite {
         term: Box::new(alloc, term)?,
     })
 }
@@ -71,18 +76,18 @@ fn term_of(
     alloc: Global,
     signature: &Signature,
     names: &NameSet,
-) -> Result<Term, CompileError>
+) -> Result<CompiledTerm, CompileError>
     ensures meaning { IfOk result (IsTermOf (signature_view signature.now) (view pattern.now)) }
     ensures narrow { IfOk result (IsNarrowAs (signature_view signature.now) (view pattern.now)) }
     ensures reads { IfOk result (ReadsAs (names_seen names.now) (view pattern.now)) }
     ensures refused { IfErr result (λ e. IsVerifiedTerm (signature_view signature.now) (view pattern.now) → e ≡ Memory) }
 {
     match pattern {
-        Pattern::Variable { name, .. } => Ok(Term::Variable {
+        Pattern::Variable { name, .. } => Ok(CompiledTerm::Variable {
             name: name.clone()?,
             slot: slot_of(names, name.as_str()),
         }),
-        Pattern::Literal { sort, text } => Ok(Term::Fixed {
+        Pattern::Literal { sort, text } => Ok(CompiledTerm::Fixed {
             value: literal_value(alloc, signature, sort, text)?,
         }),
         Pattern::Application {
@@ -102,7 +107,7 @@ fn compile_applied(
     signature: &Signature,
     name: &Name,
     names: &NameSet,
-) -> Result<Term, CompileError>
+) -> Result<CompiledTerm, CompileError>
     ensures meaning { let g = signature_view signature.now in let the_string_bytes = string_bytes name.now in let arguments' = patterns_view arguments.now in IfOk result (λ t. (v : Valuation) → term_value v (term_view t) ≡ applied (meaning_named g the_string_bytes) the_string_bytes (instances g v arguments')) }
     ensures narrow { let g = signature_view signature.now in IfOk result (λ t. (ss : KoreSorts) → IsNarrowAs g (application (string_bytes name.now) ss (patterns_view arguments.now)) t) }
     ensures reads { IfOk result (λ t. are_named (names_seen names.now) (all_free_variables (patterns_view arguments.now)) ≡ true → term_reads (names_seen names.now) t ≡ true) }
@@ -144,7 +149,7 @@ fn compile_each(
     alloc: Global,
     signature: &Signature,
     names: &NameSet,
-) -> Result<Vec<Term>, CompileError>
+) -> Result<Vec<CompiledTerm>, CompileError>
     ensures meaning { IfOk result (λ ts. AreTermsOf (signature_view signature.now) patterns.now ts.items) }
     ensures narrow { IfOk result (λ ts. AreTermsNarrowAs (signature_view signature.now) patterns.now ts.items) }
     ensures reads { IfOk result (λ ts. ReadAllAs (names_seen names.now) patterns.now ts.items) }
@@ -165,7 +170,7 @@ pub fn compile_term(
     signature: &Signature,
     names: &NameSet,
     pattern: &Pattern,
-) -> Result<Term, CompileError>
+) -> Result<CompiledTerm, CompileError>
     ensures meaning { IfOk result (IsTermOf (signature_view signature.now) (view pattern.now)) }
     ensures narrow { IfOk result (IsNarrowAs (signature_view signature.now) (view pattern.now)) }
     ensures reads { IfOk result (ReadsAs (names_seen names.now) (view pattern.now)) }

@@ -1,5 +1,5 @@
 use crate::demands::{Values, meets_one};
-use kp_conditions::{Part, comparison_ways};
+use kp_conditions::{ComparedPart, comparison_ways};
 use kp_demands::Demand;
 use kp_kore::Comparison;
 use std::alloc::{AllocError, Global};
@@ -19,11 +19,11 @@ fn holds(comparison: Comparison, first: i128, second: i128) -> bool {
 
 /// The ways for x + 3 and y - 2 to compare so.
 fn ways(alloc: Global, comparison: Comparison) -> Result<Vec<Vec<Demand>>, AllocError> {
-    let first = Part {
+    let first = ComparedPart {
         place: 1,
         constant: 3,
     };
-    let second = Part {
+    let second = ComparedPart {
         place: 2,
         constant: -2,
     };

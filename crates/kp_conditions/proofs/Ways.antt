@@ -7,7 +7,7 @@ use Rattle.kp_kore.specs.Hooks.{Comparison, equal, different, less, at_most, gre
 use Rattle.kp_kore.specs.Interpretation.{compared}
 use Rattle.kp_demands.specs.Demands.{Assignment, HasWay}
 use Rattle.kp_conditions.specs.Comparing.{part_number, ways_of}
-use Rattle.kp_conditions.specs.declared.comparing.Part.{Part}
+use Rattle.kp_conditions.specs.declared.comparing.ComparedPart.{ComparedPart}
 
 -- bounds of differences, of x and b against y and c
 most_says : (x y b c : ℤ) → ((x -ℤ y) ≤ℤ ((c -ℤ b) +ℤ pos 0)) ↔ ((x +ℤ b) ≤ℤ (y +ℤ c))
@@ -62,7 +62,7 @@ both_of_one {A} {B} {C} {D} f g = (to, λ h. inl (f.1 h.0, (g.1 h.1, tt)))
     to (inl h) = (f.0 h.0, g.0 h.1.0)
     to (inr h) = absurd h
 
-pub says : (a : Assignment) (c : Comparison) (m n : Part) → HasWay a (ways_of c m n) ↔ (compared c (part_number a.wholes m) (part_number a.wholes n) ≡ true)
+pub says : (a : Assignment) (c : Comparison) (m n : ComparedPart) → HasWay a (ways_of c m n) ↔ (compared c (part_number a.wholes m) (part_number a.wholes n) ≡ true)
 says a at_most m n = through alone (through (most_says (a.wholes m.place) (a.wholes n.place) m.constant n.constant) (le_test _ _))
 says a less m n = through alone (through (less_says (a.wholes m.place) (a.wholes n.place) m.constant n.constant) (lt_test _ _))
 says a at_least m n = through alone (through (most_says (a.wholes n.place) (a.wholes m.place) n.constant m.constant) (le_test _ _))

@@ -10,7 +10,7 @@ use std::alloc::{AllocError, Global};
 
 /// A side of a comparison: a whole number's place, 0 for none, and a constant.
 #[derive(Clone, Copy)]
-pub struct Part {
+pub struct ComparedPart {
     pub place: usize,
     pub constant: i128,
 }
@@ -26,7 +26,7 @@ fn gap(second: i128, first: i128, is_strict: bool) -> i128
 }
 
 /// That the first side is at most the second, or less.
-fn below(first: Part, second: Part, is_strict: bool) -> Demand
+fn below(first: ComparedPart, second: ComparedPart, is_strict: bool) -> Demand
     requires { spec.AreNear first second }
     ensures loose { is_strict ≡ false → result ≡ spec.below first second (pos 0) }
     ensures strict { is_strict ≡ true → result ≡ spec.below first second (negsuc 0) }
@@ -92,8 +92,8 @@ fn either(alloc: Global, demand: Demand, other: Demand) -> Result<Vec<Vec<Demand
 pub fn comparison_ways(
     alloc: Global,
     comparison: Comparison,
-    first: Part,
-    second: Part,
+    first: ComparedPart,
+    second: ComparedPart,
 ) -> Result<Vec<Vec<Demand>>, AllocError>
     requires { spec.AreNear first second × spec.AreNear second first }
     ensures { IfOk result (λ ways. map (λ w. w.items) ways.items ≡ spec.ways_of (comparison_view comparison) first second) }

@@ -10,11 +10,11 @@ ghost use Rattle.kp_symbolic.specs.Plain.{Form, form_of};
 ghost use Rattle.kp_demands.specs.Demands.{Assignment, HasWay};
 ghost use Rattle.kp_conditions.specs.Comparing.{part_number, ways_of};
 ghost use Rattle.kp_conditions.specs.Saying.{Says};
-ghost use Rattle.kp_conditions.specs.declared.comparing.Part.{Part};
+ghost use Rattle.kp_conditions.specs.declared.comparing.ComparedPart.{ComparedPart};
 
 /// A comparison holds exactly where one of its ways is met.
 pub fn comparisons_are_their_ways()
-    ensures { (a : Assignment) (c : Comparison) (m n : Part) → HasWay a (ways_of c m n) ↔ (compared c (part_number a.wholes m) (part_number a.wholes n) ≡ true) }
+    ensures { (a : Assignment) (c : Comparison) (m n : ComparedPart) → HasWay a (ways_of c m n) ↔ (compared c (part_number a.wholes m) (part_number a.wholes n) ≡ true) }
 {}
 
 /// A literal with a form is true exactly where its form says so, where its variables have values of their sorts.

@@ -5,4 +5,4 @@
 mod comparing;
 mod laws;
 
-pub use comparing::{Part, comparison_ways};
+pub use comparing::{ComparedPart, comparison_ways};

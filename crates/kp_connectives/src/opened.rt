@@ -222,8 +222,8 @@ fn open_conjunction(
     replaced: &[Replaced],
     alone: bool,
 ) -> Result<Opened, CompileError>
-    ensures yes { (s : KoreSort) → IfOk result (λ o. distributed_view o.yes ≡ distribution_of (opened_by (language_view language.now) (map replaced_view replaced.now) alone true (conjunction s (patterns_view patterns.now)))) }
-    ensures no { (s : KoreSort) (a : Bool) → IfOk result (λ o. distributed_view o.no ≡ distribution_of (opened_by (language_view language.now) (map replaced_view replaced.now) a false (conjunction s (patterns_view patterns.now)))) }
+    ensures yes { let g = language_view language.now in (s : KoreSort) → IfOk result (λ o. distributed_view o.yes ≡ distribution_of (opened_by g (map replaced_view replaced.now) alone true (conjunction s (patterns_view patterns.now)))) }
+    ensures no { let g = language_view language.now in (s : KoreSort) (a : Bool) → IfOk result (λ o. distributed_view o.no ≡ distribution_of (opened_by g (map replaced_view replaced.now) a false (conjunction s (patterns_view patterns.now)))) }
     ensures refused { IfErr result (λ e. AllByRecursion (λ p. IsFaultless (language_view language.now) (view p)) patterns.now → e ≡ Memory) }
 {
     let members = Alone {
@@ -246,8 +246,8 @@ fn open_disjunction(
     replaced: &[Replaced],
     alone: bool,
 ) -> Result<Opened, CompileError>
-    ensures yes { (s : KoreSort) (a : Bool) → IfOk result (λ o. distributed_view o.yes ≡ distribution_of (opened_by (language_view language.now) (map replaced_view replaced.now) a true (disjunction s (patterns_view patterns.now)))) }
-    ensures no { (s : KoreSort) → IfOk result (λ o. distributed_view o.no ≡ distribution_of (opened_by (language_view language.now) (map replaced_view replaced.now) alone false (disjunction s (patterns_view patterns.now)))) }
+    ensures yes { let g = language_view language.now in (s : KoreSort) (a : Bool) → IfOk result (λ o. distributed_view o.yes ≡ distribution_of (opened_by g (map replaced_view replaced.now) a true (disjunction s (patterns_view patterns.now)))) }
+    ensures no { let g = language_view language.now in (s : KoreSort) → IfOk result (λ o. distributed_view o.no ≡ distribution_of (opened_by g (map replaced_view replaced.now) alone false (disjunction s (patterns_view patterns.now)))) }
     ensures refused { IfErr result (λ e. AllByRecursion (λ p. IsFaultless (language_view language.now) (view p)) patterns.now → e ≡ Memory) }
 {
     let members = Alone {
@@ -270,8 +270,8 @@ fn open_each(
     replaced: &[Replaced],
     alone: Alone,
 ) -> Result<Parts, CompileError>
-    ensures yes { IfOk result (λ o. map distributed_view o.yes.items ≡ distributions_of (model.all_opened (model.opened_leaf (language_view language.now) (map replaced_view replaced.now)) alone.yes true (patterns_view patterns.now))) }
-    ensures no { IfOk result (λ o. map distributed_view o.no.items ≡ distributions_of (model.all_opened (model.opened_leaf (language_view language.now) (map replaced_view replaced.now)) alone.no false (patterns_view patterns.now))) }
+    ensures yes { let g = language_view language.now in IfOk result (λ o. map distributed_view o.yes.items ≡ distributions_of (model.all_opened (model.opened_leaf g (map replaced_view replaced.now)) alone.yes true (patterns_view patterns.now))) }
+    ensures no { let g = language_view language.now in IfOk result (λ o. map distributed_view o.no.items ≡ distributions_of (model.all_opened (model.opened_leaf g (map replaced_view replaced.now)) alone.no false (patterns_view patterns.now))) }
     ensures refused { IfErr result (λ e. AllByRecursion (λ p. IsFaultless (language_view language.now) (view p)) patterns.now → e ≡ Memory) }
 {
     let mut holding = Vec::new(alloc);

@@ -13,7 +13,7 @@ ghost use Rattle.kp_deciding.specs.Forms.{asked_view, form_view};
 ghost use Rattle.kp_deciding.specs.Readings.{read_view, clauses_view};
 ghost use Rattle.kp_decide.specs.Heads as spec;
 
-use kp_deciding::{Asked, Form, ReadLiteral};
+use kp_deciding::{AskedHeads, Form, ReadLiteral};
 use kp_heads::HeadTable;
 use kp_signature::Signature;
 use kp_sort_heads::{Head, heads, is_head};
@@ -30,12 +30,12 @@ fn is_named(head: &Head, name: &str) -> bool
 }
 
 /// Whether the head passes the test.
-fn passes(signature: &Signature, head: &Head, test: Asked) -> bool
+fn passes(signature: &Signature, head: &Head, test: AskedHeads) -> bool
     ensures { result ≡ passes_head (signature_view signature.now) (asked_view test.entry) (head_view head.now) }
 {
     match test {
-        Asked::Constructor { symbol } => is_named(head, symbol),
-        Asked::Sort { sort } => is_head(signature, sort, head),
+        AskedHeads::Constructor { symbol } => is_named(head, symbol),
+        AskedHeads::Sort { sort } => is_head(signature, sort, head),
     }
 }
 

@@ -14,8 +14,8 @@ use Rattle.kp_deciding.specs.declared.form.TokenPart.{TokenPart}
 use Rattle.kp_deciding.specs.declared.form.TokenPart.TheVariants as part
 use Rattle.kp_deciding.specs.declared.form.Form.{Form}
 use Rattle.kp_deciding.specs.declared.form.Form.TheVariants.{Compares, Truth, Equates, Asks, Gives}
-use Rattle.kp_deciding.specs.declared.form.Asked.{Asked}
-use Rattle.kp_deciding.specs.declared.form.Asked.TheVariants as asked
+use Rattle.kp_deciding.specs.declared.form.AskedHeads.{AskedHeads}
+use Rattle.kp_deciding.specs.declared.form.AskedHeads.TheVariants as asked
 
 abbrev pub whole_part_view : WholePart → model.WholePart
 whole_part_view m = record { variable = option_map (λ x. string_bytes x.now.name) m.variable; constant = m.constant }
@@ -24,7 +24,7 @@ abbrev pub token_part_view : TokenPart → model.TokenPart
 token_part_view (part.Unknown x) = model.some_token (string_bytes x.now.name)
 token_part_view (part.Known u) = model.one_token (value_view u.now)
 
-abbrev pub asked_view : Asked → states.HeadTest
+abbrev pub asked_view : AskedHeads → states.HeadTest
 asked_view (asked.Constructor f) = states.one_head f.now
 asked_view (asked.Sort s) = states.head_of_sort (sort_view s.now)
 

@@ -55,7 +55,7 @@ pub enum Form<'a> {
     /// The head of a variable passes a test, or doesn't.
     Asks {
         variable: &'a Variable,
-        test: Asked<'a>,
+        test: AskedHeads<'a>,
         passes: bool,
     },
     /// The equation of a variable that stands nowhere else.
@@ -67,7 +67,7 @@ pub enum Form<'a> {
 
 /// Which heads are asked for: a constructor's own, or any of a sort's.
 #[derive(Clone, Copy)]
-pub enum Asked<'a> {
+pub enum AskedHeads<'a> {
     Constructor { symbol: &'a str },
     Sort { sort: &'a Sort },
 }
@@ -210,7 +210,7 @@ fn compared<'a>(
     left: &'a Term,
     right: &'a Term,
 ) -> Option<Form<'a>>
-    ensures view { option_map form_view result ≡ model.comparing holds (comparison_view comparison) (model.whole_part (signature_view signature.now) (term_view left.now)) (model.whole_part (signature_view signature.now) (term_view right.now)) }
+    ensures view { let g = signature_view signature.now in option_map form_view result ≡ model.comparing holds (comparison_view comparison) (model.whole_part g (term_view left.now)) (model.whole_part g (term_view right.now)) }
     ensures kinds { IsSaidOfKind (signature_view signature.now) result }
     ensures unknowns { IsSaidOf (term_variables (term_view left.now) ++ term_variables (term_view right.now)) result }
 {
@@ -230,7 +230,7 @@ fn equated<'a>(
     left: &'a Term,
     right: &'a Term,
 ) -> Option<Form<'a>>
-    ensures view { option_map form_view result ≡ model.equating holds (model.token_part (signature_view signature.now) (term_view left.now)) (model.token_part (signature_view signature.now) (term_view right.now)) }
+    ensures view { let g = signature_view signature.now in option_map form_view result ≡ model.equating holds (model.token_part g (term_view left.now)) (model.token_part g (term_view right.now)) }
     ensures kinds { IsSaidOfKind (signature_view signature.now) result }
     ensures unknowns { IsSaidOf (term_variables (term_view left.now) ++ term_variables (term_view right.now)) result }
 {

@@ -42,7 +42,7 @@ pub fn has_only_tokens(signature: &Signature, sort: &Sort) -> bool
 
 /// Whether the sort has heads, and no others than tokens of one sort.
 fn has_tokens_at_most(signature: &Signature, sort: &Sort) -> bool
-    ensures { result ≡ (not (is_head (signature_view signature.now) (sort_view sort.now) head.integers) && not (is_head (signature_view signature.now) (sort_view sort.now) head.booleans) && (one_kind_of_tokens (signature_view signature.now) (sort_view sort.now) (lowers (signature_view signature.now) (sort_view sort.now)) && no_constructors_among (signature_view signature.now) (sort_view sort.now) (signature_view signature.now).symbols)) }
+    ensures { let g = signature_view signature.now in let sort' = sort_view sort.now in result ≡ (not (is_head g sort' head.integers) && not (is_head g sort' head.booleans) && (one_kind_of_tokens g sort' (lowers g sort') && no_constructors_among g sort' g.symbols)) }
 {
     !has_numbers(signature, sort)
         && !has_truths(signature, sort)
@@ -65,7 +65,7 @@ fn has_truths_at_most(signature: &Signature, sort: &Sort) -> bool
 
 /// Whether the sort's heads but whole numbers and truth values are tokens of one sort, and there are some.
 fn has_tokens_alone(signature: &Signature, sort: &Sort) -> bool
-    ensures { result ≡ (one_kind_of_tokens (signature_view signature.now) (sort_view sort.now) (lowers (signature_view signature.now) (sort_view sort.now)) && no_constructors_among (signature_view signature.now) (sort_view sort.now) (signature_view signature.now).symbols) }
+    ensures { let g = signature_view signature.now in let sort' = sort_view sort.now in result ≡ (one_kind_of_tokens g sort' (lowers g sort') && no_constructors_among g sort' g.symbols) }
 {
     has_tokens_of_one(signature, sort) && makes_none(signature, sort)
 }
@@ -79,7 +79,7 @@ pub fn has_numbers(signature: &Signature, sort: &Sort) -> bool
 
 /// Whether the sort of whole numbers is the sort, or is below it and on the left of one of these pairs.
 fn has_numbers_by(signature: &Signature, pairs: &[Subsort], sort: &Sort) -> bool
-    ensures { result ≡ (head.is_integer_sort (signature_view signature.now) (sort_view sort.now) || some_below (signature_view signature.now) (sort_view sort.now) (head.is_integer_sort (signature_view signature.now)) (lower_sorts (map subsort_view pairs.now))) }
+    ensures { let g = signature_view signature.now in let sort' = sort_view sort.now in result ≡ (head.is_integer_sort g sort' || some_below g sort' (head.is_integer_sort g) (lower_sorts (map subsort_view pairs.now))) }
 {
     signature.is_integer_sort(sort) || has_numbers_among(signature, pairs, sort)
 }
@@ -93,14 +93,14 @@ pub fn has_truths(signature: &Signature, sort: &Sort) -> bool
 
 /// Whether the sort of truth values is the sort, or is below it and on the left of one of these pairs.
 fn has_truths_by(signature: &Signature, pairs: &[Subsort], sort: &Sort) -> bool
-    ensures { result ≡ (head.is_boolean_sort (signature_view signature.now) (sort_view sort.now) || some_below (signature_view signature.now) (sort_view sort.now) (head.is_boolean_sort (signature_view signature.now)) (lower_sorts (map subsort_view pairs.now))) }
+    ensures { let g = signature_view signature.now in let sort' = sort_view sort.now in result ≡ (head.is_boolean_sort g sort' || some_below g sort' (head.is_boolean_sort g) (lower_sorts (map subsort_view pairs.now))) }
 {
     signature.is_boolean_sort(sort) || has_truths_among(signature, pairs, sort)
 }
 
 /// Whether the sort of whole numbers is on the left of one of these pairs, and below the sort.
 fn has_numbers_among(signature: &Signature, pairs: &[Subsort], sort: &Sort) -> bool
-    ensures { result ≡ some_below (signature_view signature.now) (sort_view sort.now) (head.is_integer_sort (signature_view signature.now)) (lower_sorts (map subsort_view pairs.now)) }
+    ensures { let g = signature_view signature.now in result ≡ some_below g (sort_view sort.now) (head.is_integer_sort g) (lower_sorts (map subsort_view pairs.now)) }
 {
     for pair in pairs {
         if signature.is_integer_sort(&pair.lower) && lies_below(signature, &pair.lower, sort) {
@@ -112,7 +112,7 @@ fn has_numbers_among(signature: &Signature, pairs: &[Subsort], sort: &Sort) -> b
 
 /// Whether the sort of truth values is on the left of one of these pairs, and below the sort.
 fn has_truths_among(signature: &Signature, pairs: &[Subsort], sort: &Sort) -> bool
-    ensures { result ≡ some_below (signature_view signature.now) (sort_view sort.now) (head.is_boolean_sort (signature_view signature.now)) (lower_sorts (map subsort_view pairs.now)) }
+    ensures { let g = signature_view signature.now in result ≡ some_below g (sort_view sort.now) (head.is_boolean_sort g) (lower_sorts (map subsort_view pairs.now)) }
 {
     for pair in pairs {
         if signature.is_boolean_sort(&pair.lower) && lies_below(signature, &pair.lower, sort) {

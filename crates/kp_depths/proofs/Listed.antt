@@ -14,7 +14,7 @@ use Rattle.kp_ground.specs.LeftView.{left_view, lefts_of}
 use Rattle.kp_ground.specs.TermView.{term_view, terms_of}
 use Rattle.kp_ground.specs.View.{value_view, values_of}
 use Rattle.kp_ground.specs.declared.left.Left.{Left}
-use Rattle.kp_ground.specs.declared.term.Term.{Term}
+use Rattle.kp_ground.specs.declared.term.CompiledTerm.{CompiledTerm}
 use Rattle.kp_ground.specs.declared.value.Value.{Value}
 use Rattle.kp_ground.proofs.SlotLemmas.{passes_at}
 use Rattle.kp_ground.proofs.TermLemmas.{term_values-terms_of}
@@ -76,11 +76,11 @@ no_leaf g c us e = cc
 constructed_inside : (c d : Text) (us vs : model.Values) → constructed c us ≡ constructed d vs → us ≡ vs
 constructed_inside c d us vs e = cc
 
-pub values_of_terms : (v : Valuation) (c d : Text) (ts : List Term) (us : List Value) → constructed d (values_of (map value_view us)) ≡ term_value v (built c (terms_of (map term_view ts))) → AreTermValues v ts us
+pub values_of_terms : (v : Valuation) (c d : Text) (ts : List CompiledTerm) (us : List Value) → constructed d (values_of (map value_view us)) ≡ term_value v (built c (terms_of (map term_view ts))) → AreTermValues v ts us
 values_of_terms v c d ts us e =
     same_values (map value_view us) (map (λ t. term_value v (term_view t)) ts) (constructed_inside d c _ _ e ∙ term_values-terms_of v ts)
 
-pub next_parts : (g : KoreSignature) (v : Valuation) (xs : List Text) (i : ℕ) (ts : List Term) (us : List Value) (ds : List Depths) (t : Term) (u : Value) (d : Depths) →
+pub next_parts : (g : KoreSignature) (v : Valuation) (xs : List Text) (i : ℕ) (ts : List CompiledTerm) (us : List Value) (ds : List Depths) (t : CompiledTerm) (u : Value) (d : Depths) →
     i < min (length ts) (length us) → t ≡ get_or ts i t → u ≡ get_or us i u → list_all (term_reads xs) ts ≡ true → AreTermValues v ts us →
     (term_reads xs t ≡ true → value_view u ≡ term_value v (term_view t) → AreDepthsOf g (value_view u) d) →
     AreDepthsOfAll g (take i us) ds → AreDepthsOfAll g (take (i + 1) us) (ds ++ d ∷ [])
@@ -95,7 +95,7 @@ next_parts g v xs i ts us ds t u d h e f reads are told z =
         let all = λ (x : Value). depths_in g (value_view x) in
         map-append depths_view ds (d ∷ []) ∙ ap₂ (λ l x. l ++ x ∷ []) z (told ∙ ap all f) ∙ sym (map_more all us i u h)
 
-pub all_parts : (g : KoreSignature) (v : Valuation) (i : ℕ) (ts : List Term) (us : List Value) (ds : List Depths) → min (length ts) (length us) ≤ i → AreTermValues v ts us →
+pub all_parts : (g : KoreSignature) (v : Valuation) (i : ℕ) (ts : List CompiledTerm) (us : List Value) (ds : List Depths) → min (length ts) (length us) ≤ i → AreTermValues v ts us →
     AreDepthsOfAll g (take i us) ds → AreDepthsOfAll g us ds
 all_parts g v i ts us ds h are z =
     let long : length us ≡ length ts = as_many value_view (λ t. term_value v (term_view t)) us ts are in

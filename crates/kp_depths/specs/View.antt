@@ -9,7 +9,7 @@ use Rattle.kp_ground.specs.TermView.{term_view}
 use Rattle.kp_ground.specs.Terms.{left_value, term_value}
 use Rattle.kp_ground.specs.View.{value_view}
 use Rattle.kp_ground.specs.declared.left.Left.{Left}
-use Rattle.kp_ground.specs.declared.term.Term.{Term}
+use Rattle.kp_ground.specs.declared.term.CompiledTerm.{CompiledTerm}
 use Rattle.kp_ground.specs.declared.value.Value.{Value}
 use Rattle.kp_depths.specs.Depths.{DepthTree, leaf, node, DepthTrees, no_trees, next_tree, depths_in}
 use Rattle.kp_depths.specs.declared.depths.Depths.{Depths, fold-Depths}
@@ -44,5 +44,5 @@ abbrev pub AreDepthsOfLefts : KoreSignature → Valuation → List Left → List
 AreDepthsOfLefts g v ls ds = map depths_view ds ≡ map (λ l. depths_in g (left_value v (left_view l))) ls
 
 -- the values are those of the terms, one by one
-abbrev pub AreTermValues : Valuation → List Term → List Value → Type 0
+abbrev pub AreTermValues : Valuation → List CompiledTerm → List Value → Type 0
 AreTermValues v ts us = map value_view us ≡ map (λ t. term_value v (term_view t)) ts

@@ -13,14 +13,14 @@ ghost use Rattle.kp_depths.specs.View.{AreDepthsOf, AreDepthsOfAll, AreDepthsUnd
 use crate::built::built;
 use crate::depths::Depths;
 use crate::whole::depths_of;
-use kp_ground::{Term, Value};
+use kp_ground::{CompiledTerm, Value};
 use kp_signature::Signature;
 use std::alloc::{AllocError, Global};
 
 /// The depths of a right term's value: those of what its variables are bound to are shared, and nothing of it is walked.
 #[cycle(right)]
 pub fn right_depths(
-    term: &Term,
+    term: &CompiledTerm,
     value: &Value,
     alloc: Global,
     signature: &Signature,
@@ -29,8 +29,8 @@ pub fn right_depths(
     ensures { let g = signature_view signature.now in let value' = value_view value.now in IfOk result (λ d. (v : Valuation) (xs : List Text) → AreDepthsUnder g v xs bound.now → term_reads xs term.now ≡ true → value' ≡ term_value v (term_view term.now) → AreDepthsOf g value' d) }
 {
     match term {
-        Term::Variable { slot, .. } => depths_at(value, alloc, signature, *slot, bound),
-        Term::Built {
+        CompiledTerm::Variable { slot, .. } => depths_at(value, alloc, signature, *slot, bound),
+        CompiledTerm::Built {
             arguments: terms,
             ..
         } => match value {
@@ -43,7 +43,7 @@ pub fn right_depths(
             }
             _ => depths_of(value, alloc, signature),
         },
-        Term::Fixed { .. } | Term::Call { .. } | Term::Opposite { .. } => {
+        CompiledTerm::Fixed { .. } | CompiledTerm::Call { .. } | CompiledTerm::Opposite { .. } => {
             depths_of(value, alloc, signature)
         }
     }
@@ -52,7 +52,7 @@ pub fn right_depths(
 /// The same of the terms of a list, one by one.
 #[cycle(right)]
 fn all_right_depths(
-    terms: &[Term],
+    terms: &[CompiledTerm],
     values: &[Value],
     alloc: Global,
     signature: &Signature,

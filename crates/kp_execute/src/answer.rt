@@ -1,6 +1,6 @@
 // What execute answers, and why it refuses.
 
-use kp_results::{Executed, State, Undecided};
+use kp_results::{Executed, ReplyState, Undecided};
 use std::alloc::AllocError;
 
 /// What execute answers: the result of a run; or, after so many steps, in this state, what isn't decided.
@@ -12,7 +12,7 @@ pub enum Answer {
     },
     LeftOpen {
         depth: u64,
-        state: State,
+        state: ReplyState,
         undecided: Undecided,
     },
 }

@@ -23,14 +23,14 @@ use crate::order::is_end_in_turn;
 use crate::result::{Ended, run_parts};
 use crate::tested::{is_end_right, is_state_computed};
 use kp_outward::WritingError;
-use kp_results::{Cause, Executed, Reason, State as Parts, Undecided};
+use kp_results::{Cause, Executed, Reason, ReplyState, Undecided};
 use kp_rule_sets::RuleSet;
 use kp_step::StepOutcome;
 use kp_symbolic::Language;
 use std::alloc::Global;
 
 /// The answer that names a foreign rule.
-fn aborted(alloc: Global, depth: u64, state: Parts, id: String) -> Answer
+fn aborted(alloc: Global, depth: u64, state: ReplyState, id: String) -> Answer
     ensures { answer_view result ≡ aborted_with depth (parts_view state) (string_bytes id) }
 {
     Answer::Executed {
@@ -50,7 +50,7 @@ fn by_foreign(
     alloc: Global,
     rules: &RuleSet,
     run: &Run,
-    state: Parts,
+    state: ReplyState,
     place: usize,
 ) -> Result<Answer, WritingError>
     ensures answered { (t : Theory) (o : model.Options) (p : KorePattern) → RunsAs t rules.now → EndsOpen t o p run.now (parts_view state) (Foreign place) → IfOk result (λ a. IsRightAnswer t o p (answer_view a)) }
@@ -91,7 +91,7 @@ fn left_open(
     alloc: Global,
     language: &Language,
     run: &Run,
-    state: Parts,
+    state: ReplyState,
     why: &StepOutcome,
 ) -> Result<Answer, WritingError>
     ensures answered { (t : Theory) (o : model.Options) (p : KorePattern) → language_view language.now ≡ t.signature → EndsOpen t o p run.now (parts_view state) why.now → IfOk result (λ a. IsRightAnswer t o p (answer_view a)) }
@@ -113,7 +113,7 @@ fn by_cause(
     language: &Language,
     rules: &RuleSet,
     run: &Run,
-    state: Parts,
+    state: ReplyState,
     why: &StepOutcome,
 ) -> Result<Answer, WritingError>
     ensures answered { (t : Theory) (o : model.Options) (p : KorePattern) → RunsAs t rules.now → language_view language.now ≡ t.signature → EndsOpen t o p run.now (parts_view state) why.now → IfOk result (λ a. IsRightAnswer t o p (answer_view a)) }
@@ -135,7 +135,7 @@ fn open_end(
     language: &Language,
     rules: &RuleSet,
     run: &Run,
-    state: Parts,
+    state: ReplyState,
 ) -> Result<Answer, WritingError>
     ensures answered { (t : Theory) (o : model.Options) (p : KorePattern) → RunsAs t rules.now → language_view language.now ≡ t.signature → IsRunOf t o p run.now → IsStateWritten t.signature (state_view run.now.state) (parts_view state) →
         IfOk result (λ a. IsRightAnswer t o p (answer_view a)) }

@@ -11,7 +11,7 @@ ghost use Rattle.kp_execute.specs.Written.{IsShown};
 
 use kp_forms::conjuncts;
 use kp_kore::SortedVariable;
-use kp_results::{NextState, State};
+use kp_results::{NextState, ReplyState};
 use kp_symbolic::Variable;
 use std::alloc::{AllocError, Global};
 use std::sync::Arc;
@@ -74,7 +74,7 @@ fn are_kept(hand: &[Arc<Variable>], shown: &[SortedVariable], variables: &[Sorte
 }
 
 /// The variables of a state's term and predicate.
-fn variables_of(alloc: Global, state: &State) -> Result<Vec<SortedVariable>, AllocError>
+fn variables_of(alloc: Global, state: &ReplyState) -> Result<Vec<SortedVariable>, AllocError>
     ensures { IfOk result (λ xs. map sorted_variable_view xs.items ≡ parts_variables (state_view state.now)) }
 {
     let mut found = state.term.free_vars(alloc)?;
@@ -106,7 +106,7 @@ fn keeps(
 pub fn none_lost(
     alloc: Global,
     hand: &[Arc<Variable>],
-    state: &State,
+    state: &ReplyState,
     nexts: &[NextState],
 ) -> Result<bool, AllocError>
     ensures { IfOk result (λ b. b ≡ list_all (mentions_none_lost (variables_view hand.now) (parts_variables (state_view state.now))) (nexts_view nexts.now)) }
@@ -121,7 +121,7 @@ pub fn none_lost(
 }
 
 /// Whether the predicate that is written has a member.
-pub fn is_predicate_shown(alloc: Global, state: &State) -> Result<bool, AllocError>
+pub fn is_predicate_shown(alloc: Global, state: &ReplyState) -> Result<bool, AllocError>
     ensures { IfOk result (λ b. b ≡ true → IsShown (state_view state.now).predicate) }
 {
     match &state.predicate {

@@ -17,7 +17,7 @@ use crate::written::predicate_of;
 use kp_outward::WritingError;
 use kp_results::Undecided;
 use kp_simplify::limits::{deep_term, limit_of, wide_number};
-use kp_step::Limit;
+use kp_step::StepLimit;
 use kp_step::answers::Open;
 use kp_symbolic::{Language, State};
 use kp_wide::WideCall;
@@ -56,15 +56,15 @@ fn wide_call(symbol: &Arc<String>, first: i128, second: i128) -> WideCall<'_>
 }
 
 /// A limit that is passed.
-pub fn limit_told(alloc: Global, limit: &Limit) -> Result<Undecided, AllocError>
+pub fn limit_told(alloc: Global, limit: &StepLimit) -> Result<Undecided, AllocError>
     ensures { (t : Theory) (s : SymbolicState) → IsPassed t s (limit_view limit.now) → IfOk result (λ u. IsOpenBy t s (undecided_view u)) }
 {
     match limit {
-        Limit::Number {
+        StepLimit::Number {
             symbol,
             first,
             second,
         } => wide_number(alloc, wide_call(symbol, *first, *second)),
-        Limit::Depth { levels } => Ok(deep_term(*levels)),
+        StepLimit::Depth { levels } => Ok(deep_term(*levels)),
     }
 }

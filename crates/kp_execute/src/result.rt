@@ -19,7 +19,7 @@ use crate::lost::{is_predicate_shown, none_lost};
 use crate::written::state_parts;
 use crate::{Ending, Run};
 use kp_outward::WritingError;
-use kp_results::{Executed, NextState, Reason, State as Parts};
+use kp_results::{Executed, NextState, Reason, ReplyState};
 use kp_rule_sets::RuleSet;
 use kp_step::Next;
 use kp_symbolic::{Language, State};
@@ -37,7 +37,7 @@ pub struct End {
 #[derive(Drop)]
 pub enum Ended {
     Result { executed: Executed },
-    Open { state: Parts },
+    Open { state: ReplyState },
 }
 
 /// A reason without next states.
@@ -128,7 +128,7 @@ fn end_of(
 fn test_told(
     alloc: Global,
     state: &State,
-    written: &Parts,
+    written: &ReplyState,
     nexts: &[NextState],
 ) -> Result<(), AllocError>
     ensures shown { OnOk result (IsShown (parts_view written.now).predicate) }
@@ -148,7 +148,7 @@ fn result_of(
     alloc: Global,
     state: &State,
     depth: u64,
-    written: Parts,
+    written: ReplyState,
     end: End,
 ) -> Result<Executed, WritingError>
     ensures same { IfOk result (λ x. executed_view x ≡ result_with depth (parts_view written) (reason_view end.reason) (nexts_view end.nexts.items)) }

@@ -13,7 +13,7 @@ ghost use Rattle.kp_execute.specs.Written.{pattern_of};
 
 use crate::checks::{are_added_right, is_computed};
 use crate::ending::Ending;
-use kp_results::State as Parts;
+use kp_results::ReplyState;
 use kp_signature::Signature;
 use kp_step::Next;
 use kp_symbolic::Language;
@@ -68,7 +68,11 @@ pub fn is_end_right(alloc: Global, language: &Language, ending: &Ending) -> bool
 }
 
 /// Whether no open call stands in a state's term and predicate, but one of a number beyond 128 bits.
-fn are_computed(alloc: Global, signature: &Signature, state: &Parts) -> Result<bool, AllocError>
+fn are_computed(
+    alloc: Global,
+    signature: &Signature,
+    state: &ReplyState,
+) -> Result<bool, AllocError>
     ensures { IfOk result (λ all. all ≡ true → (sort : KoreSort) → IsComputed (signature_view signature.now) (pattern_of sort (parts_view state.now))) }
 {
     if !is_computed(alloc, signature, &state.term)? {
@@ -81,7 +85,7 @@ fn are_computed(alloc: Global, signature: &Signature, state: &Parts) -> Result<b
 }
 
 /// The same. False, too, for want of memory.
-pub fn is_state_computed(alloc: Global, signature: &Signature, state: &Parts) -> bool
+pub fn is_state_computed(alloc: Global, signature: &Signature, state: &ReplyState) -> bool
     ensures { IsTrue result → (sort : KoreSort) → IsComputed (signature_view signature.now) (pattern_of sort (parts_view state.now)) }
 {
     match are_computed(alloc, signature, state) {

@@ -13,7 +13,7 @@ ghost use Rattle.kp_execute.specs.Written.{AreWritten, IsAddedWritten, IsStateWr
 use kp_compile::{has_injection, injects};
 use kp_kore::{Pattern, Sort};
 use kp_outward::{WritingError, predicate_out};
-use kp_results::State as Parts;
+use kp_results::ReplyState;
 use kp_signature::Signature;
 use kp_symbolic::{Clause, Language, State};
 use kp_writing::boxed_term;
@@ -73,13 +73,17 @@ pub fn predicate_of(
 /// # Errors
 /// `NoInjection` where an `inj` would stand in them that the signature doesn't have; `Shape` where a number in a predicate that
 /// isn't opened can't be read.
-pub fn state_parts(alloc: Global, language: &Language, state: &State) -> Result<Parts, WritingError>
+pub fn state_parts(
+    alloc: Global,
+    language: &Language,
+    state: &State,
+) -> Result<ReplyState, WritingError>
     ensures written { IfOk result (λ x. IsStateWritten (language_view language.now) (state_view state.now) (results.state_view x)) }
     ensures wants { IfErr result (λ e. IsNoInjection e → StateWants (language_view language.now) (state_view state.now)) }
 {
     let predicate = predicate_of(alloc, language, &state.sort, &state.clauses)?;
     match term_of(alloc, language, state) {
-        Ok(term) => Ok(Parts { term, predicate }),
+        Ok(term) => Ok(ReplyState { term, predicate }),
         Err(error) => Err(error),
     }
 }

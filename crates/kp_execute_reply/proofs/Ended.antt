@@ -11,7 +11,7 @@ use Rattle.kp_kore.specs.Value.{HasSort}
 use Rattle.kp_ground.specs.View.{value_view}
 use Rattle.kp_signature.specs.Verify.{VerifiesAs}
 use Rattle.kp_compile.specs.Spelled.{first_foreign, IsGroundState, IsOtherShape, IsSpellingOf, spelling}
-use Rattle.kp_compile.specs.declared.state.State.{State}
+use Rattle.kp_compile.specs.declared.state.GroundState.{GroundState}
 use Rattle.kp_run.specs.Causes.{IsStateIn, StopsUntold}
 use Rattle.kp_run.specs.Runs.{written_of}
 use Rattle.kp_run.specs.declared.run.RunEnd.{RunEnd}
@@ -32,7 +32,7 @@ use Rattle.kp_execute_reply.specs.Ground.{IsEndOf, IsStateOf}
 -- ---- states
 
 -- what was read over an equal signature
-pub state_over : (g h : KoreSignature) → g ≡ h → (p : KorePattern) (sort : KoreSort) (found : State) → VerifiesAs h p sort → first_foreign g p ≡ None → ¬ IsOtherShape g p → sort_view found.sort ≡ sort →
+pub state_over : (g h : KoreSignature) → g ≡ h → (p : KorePattern) (sort : KoreSort) (found : GroundState) → VerifiesAs h p sort → first_foreign g p ≡ None → ¬ IsOtherShape g p → sort_view found.sort ≡ sort →
     (VerifiesAs g p sort → IsGroundState g p (sort_view found.sort) (value_view found.value)) → IsStateOf h p found
 state_over g h same p sort found v none shape is ground =
     subst (λ k. IsStateOf k p found) same (record {
@@ -42,7 +42,7 @@ state_over g h same p sort found v none shape is ground =
     })
 
 -- the state's value has the sort that it is written at
-pub sorted_start : (g : KoreSignature) (p : KorePattern) (found : State) → IsStateOf g p found → HasSort g (sort_view found.sort) (value_view found.value)
+pub sorted_start : (g : KoreSignature) (p : KorePattern) (found : GroundState) → IsStateOf g p found → HasSort g (sort_view found.sort) (value_view found.value)
 sorted_start g p found h = (h.is_state.ground h.verifies).sorted
 
 -- ---- ends

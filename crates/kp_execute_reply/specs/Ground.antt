@@ -6,7 +6,7 @@ use Rattle.kp_kore.specs.Signature.{KoreSignature}
 use Rattle.kp_kore.specs.Theory.{Theory}
 use Rattle.kp_ground.specs.View.{value_view}
 use Rattle.kp_signature.specs.Verify.{VerifiesAs}
-use Rattle.kp_compile.specs.declared.state.State.{State}
+use Rattle.kp_compile.specs.declared.state.GroundState.{GroundState}
 use Rattle.kp_run.specs.Causes.{IsStateIn, StopsUntold}
 use Rattle.kp_run.specs.Runs.{IsRunOf, written_of}
 use Rattle.kp_run.specs.declared.run.RunEnd.{RunEnd}
@@ -14,7 +14,7 @@ use Rattle.kp_rpc.specs.Request.{ExecuteOptions, bound_of}
 use Rattle.kp_server.specs.Ends.{IsStateAt}
 
 -- the pattern verifies, and is this ground state
-pub record IsStateOf (g : KoreSignature) (p : KorePattern) (found : State) : Type 0 where
+pub record IsStateOf (g : KoreSignature) (p : KorePattern) (found : GroundState) : Type 0 where
   pub sort : KoreSort
   pub verifies : VerifiesAs g p sort
   pub is_state : IsStateAt g p sort found
@@ -26,7 +26,7 @@ pub record ListsNone (options : ExecuteOptions) : Type 0 where
 
 -- the run from the state is told, and ends so
 pub record IsEndOf (t : Theory) (options : ExecuteOptions) (p : KorePattern) (end : RunEnd) : Type 0 where
-  pub start : State
+  pub start : GroundState
   pub is_start : IsStateOf t.signature p start
   pub plain : ListsNone options
   pub run : IsRunOf t (value_view start.value) (bound_of options) end

@@ -15,7 +15,7 @@ ghost use Rattle.kp_simplify_reply.specs.Answered.{IsReplyLine};
 ghost use Rattle.kp_execute_reply.specs.Answered.{IsExecuted};
 ghost use Rattle.kp_execute_reply.specs.Ground.{IsEndOf, IsStateOf, ListsNone};
 
-use kp_compile::{SpellingError, State, StateError, spelled, state_of};
+use kp_compile::{GroundState, SpellingError, StateError, spelled, state_of};
 use kp_kore::{Pattern, Sort};
 use kp_replies::executed_text;
 use kp_rpc::{ExecuteOptions, Id, bound_of};
@@ -38,7 +38,7 @@ fn lists_rules(options: &ExecuteOptions) -> bool
 fn end_from(
     alloc: Global,
     rules: &RuleSet,
-    state: State,
+    state: GroundState,
     options: &ExecuteOptions,
 ) -> Result<Option<RunEnd>, AllocError>
     ensures { let options' = options_view options.now in

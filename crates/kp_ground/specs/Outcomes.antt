@@ -6,7 +6,7 @@ use Rattle.kp_kore.specs.Instance.{Valuation}
 use Rattle.kp_ground.specs.Terms.{RuleTerm, is_narrow, stays_narrow, term_value}
 use Rattle.std.specs.List.{list_all}
 use Rattle.kp_ground.specs.TermView.{term_view}
-use Rattle.kp_ground.specs.declared.term.Term.{Term}
+use Rattle.kp_ground.specs.declared.term.CompiledTerm.{CompiledTerm}
 use Rattle.kp_ground.specs.Solves.{Solves}
 use Rattle.kp_ground.specs.View.{value_view}
 use Rattle.kp_ground.specs.declared.binding.Binding.{Binding}
@@ -27,7 +27,7 @@ Gives (Err Number) bindings t = (v : Valuation) → Solves v bindings → stays_
 Gives (Err Memory) bindings t = Unit {0}
 
 -- the same of a list of terms, one by one
-abbrev pub GiveAll : Result (Vec Value Global) EvaluationError → List Binding → List Term → Type 0
+abbrev pub GiveAll : Result (Vec Value Global) EvaluationError → List Binding → List CompiledTerm → Type 0
 GiveAll (Ok us) bindings ts = (v : Valuation) → Solves v bindings →
     (map value_view us.items ≡ map (λ t. term_value v (term_view t)) ts) × (list_all (λ t. stays_narrow v (term_view t)) ts ≡ true)
 GiveAll (Err Number) bindings ts = (v : Valuation) → Solves v bindings → list_all (λ t. stays_narrow v (term_view t)) ts ≡ false

@@ -6,8 +6,8 @@ use Rattle.std.specs.Str.{bytes_eq}
 use Rattle.kp_kore.specs.Syntax.{Text}
 use Rattle.kp_ground.specs.declared.left.Left.{Left, fold-Left}
 use Rattle.kp_ground.specs.declared.left.Left.TheOpen.{Left-F}
-use Rattle.kp_ground.specs.declared.term.Term.{Term, fold-Term}
-use Rattle.kp_ground.specs.declared.term.Term.TheOpen.{Term-F}
+use Rattle.kp_ground.specs.declared.term.CompiledTerm.{CompiledTerm, fold-CompiledTerm}
+use Rattle.kp_ground.specs.declared.term.CompiledTerm.TheOpen.{CompiledTerm-F}
 use Rattle.kp_ground.specs.declared.condition.Condition.{Condition, fold-Condition}
 use Rattle.kp_ground.specs.declared.condition.Condition.TheOpen.{Condition-F}
 
@@ -63,16 +63,16 @@ left_variables l = names_after [] (left_places l)
 -- ---- terms and conditions
 
 -- one level, where each argument is already known to tell the number of each name or not to
-abbrev pub term_reads_step : List Text → Term-F Bool → Bool
-term_reads_step xs (Term-F.Variable x i) = stands_at xs (string_bytes x) i
-term_reads_step xs (Term-F.Fixed u) = true
-term_reads_step xs (Term-F.Built c ts) = list_all (λ b. b) ts.items
-term_reads_step xs (Term-F.Call h t s) = t.value && s.value
-term_reads_step xs (Term-F.Opposite t) = t.value
+abbrev pub term_reads_step : List Text → CompiledTerm-F Bool → Bool
+term_reads_step xs (CompiledTerm-F.Variable x i) = stands_at xs (string_bytes x) i
+term_reads_step xs (CompiledTerm-F.Fixed u) = true
+term_reads_step xs (CompiledTerm-F.Built c ts) = list_all (λ b. b) ts.items
+term_reads_step xs (CompiledTerm-F.Call h t s) = t.value && s.value
+term_reads_step xs (CompiledTerm-F.Opposite t) = t.value
 
 -- each variable of the term is one of these names, and tells its number
-abbrev pub term_reads : List Text → Term → Bool
-term_reads xs = fold-Term Bool (term_reads_step xs)
+abbrev pub term_reads : List Text → CompiledTerm → Bool
+term_reads xs = fold-CompiledTerm Bool (term_reads_step xs)
 
 abbrev pub condition_reads_step : List Text → Condition-F Bool → Bool
 condition_reads_step xs Condition-F.Always = true

@@ -1,4 +1,4 @@
-use crate::term::Term;
+use crate::term::CompiledTerm;
 
 /// A condition of a rule. `condition_view` in specs/ConditionView.antt says which of specs/Conditions.antt it is.
 #[derive(Drop)]
@@ -24,7 +24,7 @@ pub enum Condition {
     },
     /// Two terms have the same value.
     Same {
-        left: Term,
-        right: Term,
+        left: CompiledTerm,
+        right: CompiledTerm,
     },
 }

@@ -14,7 +14,7 @@ ghost use Rattle.kp_ground.specs.Solves.{Solves, bound_names};
 ghost use Rattle.kp_ground.specs.Outcomes.{Gives, GivesCall, GiveAll};
 
 use crate::binding::{Binding, bound_at};
-use crate::term::Term;
+use crate::term::CompiledTerm;
 use crate::value::Value;
 use kp_kore::{Arithmetic, Comparison, Connective, Hook};
 use std::alloc::{AllocError, AllocFailed, Global};
@@ -148,7 +148,7 @@ pub fn call_of_two(hook: Hook, left: &Value, right: &Value) -> Result<Value, Eva
     }
 }
 
-impl Term {
+impl CompiledTerm {
     /// The term's value under the bindings of its variables.
     #[cycle(evaluate)]
     pub fn evaluate(&self, alloc: Global, bindings: &[Binding]) -> Result<Value, EvaluationError>
@@ -156,23 +156,23 @@ impl Term {
         ensures { Gives result bindings.now (term_view self.now) }
     {
         match self {
-            Term::Variable { slot, .. } => Ok(bound_at(bindings, *slot).share(alloc)?),
-            Term::Fixed { value } => Ok(value.share(alloc)?),
-            Term::Built {
+            CompiledTerm::Variable { slot, .. } => Ok(bound_at(bindings, *slot).share(alloc)?),
+            CompiledTerm::Fixed { value } => Ok(value.share(alloc)?),
+            CompiledTerm::Built {
                 constructor,
                 arguments,
             } => {
-                let values = Term::evaluate_all(alloc, arguments, bindings)?;
+                let values = CompiledTerm::evaluate_all(alloc, arguments, bindings)?;
                 let shared = Arc::new(alloc, values)?;
                 let name = share_name(constructor)?;
                 Ok(constructed_value(name, shared))
             }
-            Term::Call { hook, left, right } => {
+            CompiledTerm::Call { hook, left, right } => {
                 let left = left.evaluate(alloc, bindings)?;
                 let right = right.evaluate(alloc, bindings)?;
                 Ok(call_of_two(*hook, &left, &right)?)
             }
-            Term::Opposite { term } => {
+            CompiledTerm::Opposite { term } => {
                 let value = term.evaluate(alloc, bindings)?;
                 Ok(negation(&value))
             }
@@ -183,7 +183,7 @@ impl Term {
     #[cycle(evaluate)]
     fn evaluate_all(
         alloc: Global,
-        terms: &[Term],
+        terms: &[CompiledTerm],
         bindings: &[Binding],
     ) -> Result<Vec<Value>, EvaluationError>
         requires { list_all (term_reads (bound_names bindings.now)) terms.now ≡ true }

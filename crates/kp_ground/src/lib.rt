@@ -18,5 +18,5 @@ pub use binding::Binding;
 pub use condition::Condition;
 pub use evaluate::EvaluationError;
 pub use left::Left;
-pub use term::Term;
+pub use term::CompiledTerm;
 pub use value::Value;

@@ -4,7 +4,7 @@ use std::sync::Arc;
 
 /// A term of a rule. `term_view` in specs/TermView.antt says which term of specs/Terms.antt it is.
 #[derive(Drop)]
-pub enum Term {
+pub enum CompiledTerm {
     /// The value is found by the slot.
     Variable {
         name: String,
@@ -16,15 +16,15 @@ pub enum Term {
     },
     Built {
         constructor: Arc<String>,
-        arguments: Vec<Term>,
+        arguments: Vec<CompiledTerm>,
     },
     Call {
         hook: Hook,
-        left: Box<Term>,
-        right: Box<Term>,
+        left: Box<CompiledTerm>,
+        right: Box<CompiledTerm>,
     },
     /// The opposite of a truth value.
     Opposite {
-        term: Box<Term>,
+        term: Box<CompiledTerm>,
     },
 }

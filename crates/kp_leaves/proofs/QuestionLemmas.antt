@@ -13,7 +13,7 @@ use Rattle.kp_symbolic.specs.Opening.{HeadQuestion, are_variables, question_if, 
 use Rattle.kp_symbolic.specs.States.{head_of_sort}
 use Rattle.kp_leaves.specs.Answers.{is_variable_at, asked_sort}
 use Rattle.kp_leaves.specs.View.{bound_view}
-use Rattle.kp_leaves.specs.declared.bound.Bound.{Bound}
+use Rattle.kp_leaves.specs.declared.bound.BoundVariable.{BoundVariable}
 
 grouped : (a b c d e : Bool) → (a && b && c && d && e) ≡ ((a && b && c) && d && e)
 grouped true true c d e = refl
@@ -26,13 +26,13 @@ one_variable x xs s ss (variable y t) ps = grouped (bytes_eq x.name y) (sorts_eq
 one_variable x xs s ss p ps = refl
 
 -- the variables, sorts and arguments from a place on
-abbrev pub from_place : ℕ → List Bound → List Sort → List Pattern → Bool
+abbrev pub from_place : ℕ → List BoundVariable → List Sort → List Pattern → Bool
 from_place i xs ss ps = are_variables (map bound_view (drop i xs)) (sorts_view (drop i ss)) (patterns_view (drop i ps))
 
-abbrev pub at_place : Bound → Sort → Pattern → Bool
+abbrev pub at_place : BoundVariable → Sort → Pattern → Bool
 at_place x s p = is_variable_at (bound_view x) (sort_view s) (view p)
 
-one_more : (xs : List Bound) (ss : List Sort) (ps : List Pattern) (i : ℕ) (x : Bound) (s : Sort) (p : Pattern) → i < length xs → i < length ss → i < length ps → x ≡ get_or xs i x → s ≡ get_or ss i s → p ≡ get_or ps i p →
+one_more : (xs : List BoundVariable) (ss : List Sort) (ps : List Pattern) (i : ℕ) (x : BoundVariable) (s : Sort) (p : Pattern) → i < length xs → i < length ss → i < length ps → x ≡ get_or xs i x → s ≡ get_or ss i s → p ≡ get_or ps i p →
     from_place i xs ss ps ≡ (at_place x s p && not (is_named (string_bytes x.name.now) (map bound_view (drop (suc i) xs))) && from_place (suc i) xs ss ps)
 one_more [] ss ps i x s p h j k e d c = absurd (omega (arith, h))
 one_more (a ∷ xs) [] ps i x s p h j k e d c = absurd (omega (arith, j))
@@ -55,15 +55,15 @@ both_yes true false c e d = refl
 both_yes true true c e d = absurd (cc)
 both_yes false b c e d = absurd (cc)
 
-pub other_variable : (xs : List Bound) (ss : List Sort) (ps : List Pattern) (i : ℕ) (x : Bound) (s : Sort) (p : Pattern) → i < length xs → i < length ss → i < length ps → x ≡ get_or xs i x → s ≡ get_or ss i s → p ≡ get_or ps i p →
+pub other_variable : (xs : List BoundVariable) (ss : List Sort) (ps : List Pattern) (i : ℕ) (x : BoundVariable) (s : Sort) (p : Pattern) → i < length xs → i < length ss → i < length ps → x ≡ get_or xs i x → s ≡ get_or ss i s → p ≡ get_or ps i p →
     at_place x s p ≡ false → from_place i xs ss ps ≡ false
 other_variable xs ss ps i x s p h j k e d c not_it = one_more xs ss ps i x s p h j k e d c ∙ first_no (at_place x s p) _ _ not_it
 
-pub named_again : (xs : List Bound) (ss : List Sort) (ps : List Pattern) (i : ℕ) (x : Bound) (s : Sort) (p : Pattern) → i < length xs → i < length ss → i < length ps → x ≡ get_or xs i x → s ≡ get_or ss i s → p ≡ get_or ps i p →
+pub named_again : (xs : List BoundVariable) (ss : List Sort) (ps : List Pattern) (i : ℕ) (x : BoundVariable) (s : Sort) (p : Pattern) → i < length xs → i < length ss → i < length ps → x ≡ get_or xs i x → s ≡ get_or ss i s → p ≡ get_or ps i p →
     is_named (string_bytes x.name.now) (map bound_view (drop (suc i) xs)) ≡ true → from_place i xs ss ps ≡ false
 named_again xs ss ps i x s p h j k e d c again = one_more xs ss ps i x s p h j k e d c ∙ second_no (at_place x s p) _ _ again
 
-pub next_variable : (xs : List Bound) (ss : List Sort) (ps : List Pattern) (i : ℕ) (x : Bound) (s : Sort) (p : Pattern) → i < length xs → i < length ss → i < length ps → x ≡ get_or xs i x → s ≡ get_or ss i s → p ≡ get_or ps i p →
+pub next_variable : (xs : List BoundVariable) (ss : List Sort) (ps : List Pattern) (i : ℕ) (x : BoundVariable) (s : Sort) (p : Pattern) → i < length xs → i < length ss → i < length ps → x ≡ get_or xs i x → s ≡ get_or ss i s → p ≡ get_or ps i p →
     at_place x s p ≡ true → is_named (string_bytes x.name.now) (map bound_view (drop (suc i) xs)) ≡ false → from_place i xs ss ps ≡ from_place (suc i) xs ss ps
 next_variable xs ss ps i x s p h j k e d c is once = one_more xs ss ps i x s p h j k e d c ∙ both_yes (at_place x s p) _ _ is once
 
@@ -72,7 +72,7 @@ last_no true true c e = e
 last_no true false c e = refl
 last_no false b c e = refl
 
-pub sorts_differ : (xs : List Bound) (ss : List Sort) (ps : List Pattern) → (length xs ≡ length ss → ⊥) → from_place 0 xs ss ps ≡ false
+pub sorts_differ : (xs : List BoundVariable) (ss : List Sort) (ps : List Pattern) → (length xs ≡ length ss → ⊥) → from_place 0 xs ss ps ≡ false
 sorts_differ [] [] ps n = absurd (n refl)
 sorts_differ [] (s ∷ ss) [] n = refl
 sorts_differ [] (s ∷ ss) (p ∷ ps) n = refl
@@ -81,7 +81,7 @@ sorts_differ (x ∷ xs) (s ∷ ss) [] n = refl
 sorts_differ (x ∷ xs) (s ∷ ss) (p ∷ ps) n = one_variable (bound_view x) (map bound_view xs) (sort_view s) (sorts_view ss) (view p) (patterns_view ps)
     ∙ last_no (at_place x s p) _ _ (sorts_differ xs ss ps (λ e. n (ap suc e)))
 
-pub arguments_differ : (xs : List Bound) (ss : List Sort) (ps : List Pattern) → (length xs ≡ length ps → ⊥) → from_place 0 xs ss ps ≡ false
+pub arguments_differ : (xs : List BoundVariable) (ss : List Sort) (ps : List Pattern) → (length xs ≡ length ps → ⊥) → from_place 0 xs ss ps ≡ false
 arguments_differ [] ss [] n = absurd (n refl)
 arguments_differ [] [] (p ∷ ps) n = refl
 arguments_differ [] (s ∷ ss) (p ∷ ps) n = refl
@@ -90,7 +90,7 @@ arguments_differ (x ∷ xs) (s ∷ ss) [] n = refl
 arguments_differ (x ∷ xs) (s ∷ ss) (p ∷ ps) n = one_variable (bound_view x) (map bound_view xs) (sort_view s) (sorts_view ss) (view p) (patterns_view ps)
     ∙ last_no (at_place x s p) _ _ (arguments_differ xs ss ps (λ e. n (ap suc e)))
 
-pub no_more_variables : (xs : List Bound) (ss : List Sort) (ps : List Pattern) (i : ℕ) → length xs ≡ length ss → length xs ≡ length ps → length xs ≤ i → from_place i xs ss ps ≡ true
+pub no_more_variables : (xs : List BoundVariable) (ss : List Sort) (ps : List Pattern) (i : ℕ) → length xs ≡ length ss → length xs ≡ length ps → length xs ≤ i → from_place i xs ss ps ≡ true
 no_more_variables [] [] [] zero e d h = refl
 no_more_variables [] [] [] (suc i) e d h = refl
 no_more_variables [] (s ∷ ss) ps i e d h = absurd (cc)
@@ -102,32 +102,32 @@ no_more_variables (x ∷ xs) (s ∷ ss) (p ∷ ps) (suc i) e d h = no_more_varia
 
 -- ---- under inj
 
-pub not_one_bound : (xs : List Bound) (p : KorePattern) (ss : KoreSorts) (q : KorePattern) → (length xs ≡ 1 → ⊥) → None ≡ asked_sort (map bound_view xs) p ss q
+pub not_one_bound : (xs : List BoundVariable) (p : KorePattern) (ss : KoreSorts) (q : KorePattern) → (length xs ≡ 1 → ⊥) → None ≡ asked_sort (map bound_view xs) p ss q
 not_one_bound [] p ss q n = refl
 not_one_bound (x ∷ []) p ss q n = absurd (n refl)
 not_one_bound (x ∷ y ∷ xs) p ss q n = refl
 
-pub no_sort_given : (xs : List Bound) (p : KorePattern) (ss : List Sort) (q : KorePattern) → length ss ≡ 0 → None ≡ asked_sort (map bound_view xs) p (sorts_view ss) q
+pub no_sort_given : (xs : List BoundVariable) (p : KorePattern) (ss : List Sort) (q : KorePattern) → length ss ≡ 0 → None ≡ asked_sort (map bound_view xs) p (sorts_view ss) q
 no_sort_given xs p (s ∷ ss) q e = absurd (cc)
 no_sort_given [] p [] q e = refl
 no_sort_given (x ∷ []) p [] q e = refl
 no_sort_given (x ∷ y ∷ xs) p [] q e = refl
 
-abbrev at_place_of : Bound → Sort → KorePattern → Bool
+abbrev at_place_of : BoundVariable → Sort → KorePattern → Bool
 at_place_of x s q = is_variable_at (bound_view x) (sort_view s) q
 
-asked_by : (xs : List Bound) (p : KorePattern) (ss : List Sort) (q : KorePattern) (x : Bound) (s : Sort) → length xs ≡ 1 → (length ss ≡ 0 → ⊥) → x ≡ get_or xs 0 x → s ≡ get_or ss 0 s →
+asked_by : (xs : List BoundVariable) (p : KorePattern) (ss : List Sort) (q : KorePattern) (x : BoundVariable) (s : Sort) → length xs ≡ 1 → (length ss ≡ 0 → ⊥) → x ≡ get_or xs 0 x → s ≡ get_or ss 0 s →
     question_if (at_place_of x s q) p (head_of_sort (sort_view s)) ≡ asked_sort (map bound_view xs) p (sorts_view ss) q
 asked_by [] p ss q x s e n d c = absurd (cc)
 asked_by (y ∷ z ∷ xs) p ss q x s e n d c = absurd (cc)
 asked_by (y ∷ []) p [] q x s e n d c = absurd (n refl)
 asked_by (y ∷ []) p (t ∷ ss) q x s e n d c = ap₂ (λ a b. question_if (at_place_of a b q) p (head_of_sort (sort_view b))) d c
 
-pub sort_asked : (xs : List Bound) (p : KorePattern) (ss : List Sort) (q : KorePattern) (x : Bound) (s : Sort) → length xs ≡ 1 → (length ss ≡ 0 → ⊥) → x ≡ get_or xs 0 x → s ≡ get_or ss 0 s → is_variable_at (bound_view x) (sort_view s) q ≡ true →
+pub sort_asked : (xs : List BoundVariable) (p : KorePattern) (ss : List Sort) (q : KorePattern) (x : BoundVariable) (s : Sort) → length xs ≡ 1 → (length ss ≡ 0 → ⊥) → x ≡ get_or xs 0 x → s ≡ get_or ss 0 s → is_variable_at (bound_view x) (sort_view s) q ≡ true →
     Some (record { subject = p; test = head_of_sort (sort_view s) }) ≡ asked_sort (map bound_view xs) p (sorts_view ss) q
 sort_asked xs p ss q x s e n d c is = sym (ap (λ b. question_if b p (head_of_sort (sort_view s))) is) ∙ asked_by xs p ss q x s e n d c
 
-pub sort_not_asked : (xs : List Bound) (p : KorePattern) (ss : List Sort) (q : KorePattern) (x : Bound) (s : Sort) → length xs ≡ 1 → (length ss ≡ 0 → ⊥) → x ≡ get_or xs 0 x → s ≡ get_or ss 0 s → is_variable_at (bound_view x) (sort_view s) q ≡ false →
+pub sort_not_asked : (xs : List BoundVariable) (p : KorePattern) (ss : List Sort) (q : KorePattern) (x : BoundVariable) (s : Sort) → length xs ≡ 1 → (length ss ≡ 0 → ⊥) → x ≡ get_or xs 0 x → s ≡ get_or ss 0 s → is_variable_at (bound_view x) (sort_view s) q ≡ false →
     None ≡ asked_sort (map bound_view xs) p (sorts_view ss) q
 sort_not_asked xs p ss q x s e n d c is = sym (ap (λ b. question_if b p (head_of_sort (sort_view s))) is) ∙ asked_by xs p ss q x s e n d c
 

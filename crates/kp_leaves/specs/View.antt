@@ -7,8 +7,8 @@ use Rattle.kp_symbolic.specs.Opening as opening
 use Rattle.kp_symbolic.specs.View.{test_view}
 use Rattle.kp_leaves.specs.declared.head.Head.{Head}
 use Rattle.kp_leaves.specs.declared.head.Head.TheVariants.{Integers, Booleans, Tokens, Constructor}
-use Rattle.kp_leaves.specs.declared.bound.Bound.{Bound}
-use Rattle.kp_leaves.specs.declared.question.Question.{Question}
+use Rattle.kp_leaves.specs.declared.bound.BoundVariable.{BoundVariable}
+use Rattle.kp_leaves.specs.declared.question.HeadQuestion.{HeadQuestion}
 
 abbrev pub head_view : Head → model.Head
 head_view Integers = model.integers
@@ -16,8 +16,8 @@ head_view Booleans = model.booleans
 head_view (Tokens s) = model.tokens (sort_view s.now)
 head_view (Constructor f) = model.constructor_of f.now
 
-abbrev pub bound_view : Bound → SortedName
+abbrev pub bound_view : BoundVariable → SortedName
 bound_view x = record { name = string_bytes x.name.now; sort = sort_view x.sort.now }
 
-abbrev pub question_view : Question → opening.HeadQuestion
+abbrev pub question_view : HeadQuestion → opening.HeadQuestion
 question_view q = record { subject = view q.subject.now; test = test_view q.test }

@@ -2,7 +2,7 @@ use kp_kore::{Name, Sort};
 
 /// A variable that a quantifier binds.
 #[derive(Clone, Copy)]
-pub struct Bound<'a> {
+pub struct BoundVariable<'a> {
     pub name: &'a Name,
     pub sort: &'a Sort,
 }

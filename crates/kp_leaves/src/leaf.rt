@@ -15,7 +15,7 @@ ghost use Rattle.kp_opening.specs.View.{formula_view};
 ghost use Rattle.kp_leaves.specs.Leaves.{opened_question, IsFaultlessQuestion};
 ghost use Rattle.kp_leaves.specs.View.{question_view};
 
-use crate::question::{Question, head_question};
+use crate::question::{HeadQuestion, head_question};
 use crate::quotation::quoted_literal;
 use crate::test::open_test;
 use kp_compile::CompileError;
@@ -37,7 +37,7 @@ fn open_equality(
     left: &Pattern,
     right: &Pattern,
 ) -> Result<Formula, CompileError>
-    ensures opened { IfOk result (λ f. formula_view f ≡ model.opened_same (language_view language.now) alone sign (sort_view sort.now) (folded (language_view language.now) (map replaced_view replaced.now) (view left.now)) (folded (language_view language.now) (map replaced_view replaced.now) (view right.now))) }
+    ensures opened { let g = language_view language.now in IfOk result (λ f. formula_view f ≡ model.opened_same g alone sign (sort_view sort.now) (folded g (map replaced_view replaced.now) (view left.now)) (folded g (map replaced_view replaced.now) (view right.now))) }
     ensures refused { IfErr result (λ e. IsFaultless (language_view language.now) (view left.now) → IsFaultless (language_view language.now) (view right.now) → e ≡ Memory) }
 {
     let left = term_under(left, alloc, language, replaced)?;
@@ -55,7 +55,7 @@ fn open_beside(
     left: &Term,
     right: &Pattern,
 ) -> Result<Formula, CompileError>
-    ensures opened { IfOk result (λ f. formula_view f ≡ model.opened_same (language_view language.now) alone sign (sort_view sort.now) (term_view left.now) (folded (language_view language.now) (map replaced_view replaced.now) (view right.now))) }
+    ensures opened { let g = language_view language.now in IfOk result (λ f. formula_view f ≡ model.opened_same g alone sign (sort_view sort.now) (term_view left.now) (folded g (map replaced_view replaced.now) (view right.now))) }
     ensures refused { IfErr result (λ e. IsFaultless (language_view language.now) (view right.now) → e ≡ Memory) }
 {
     let right = term_under(right, alloc, language, replaced)?;
@@ -109,7 +109,7 @@ fn open_defined(
     sort: &Sort,
     members: &[Pattern],
 ) -> Result<Formula, CompileError>
-    ensures opened { (s : KoreSort) → IfOk result (λ f. formula_view f ≡ model.opened_ceil (language_view language.now) (map replaced_view replaced.now) alone sign (sort_view sort.now) (conjunction s (patterns_view members.now))) }
+    ensures opened { let g = language_view language.now in (s : KoreSort) → IfOk result (λ f. formula_view f ≡ model.opened_ceil g (map replaced_view replaced.now) alone sign (sort_view sort.now) (conjunction s (patterns_view members.now))) }
     ensures refused { IfErr result (λ e. AllByRecursion (λ p. IsFaultless (language_view language.now) (view p)) members.now → e ≡ Memory) }
 {
     if members.len() != 2 {
@@ -134,7 +134,7 @@ fn open_question(
     replaced: &[Replaced],
     sign: bool,
     pattern: &Pattern,
-    question: &Option<Question<'_>>,
+    question: &Option<HeadQuestion<'_>>,
 ) -> Result<Formula, CompileError>
     ensures opened { IfOk result (λ f. formula_view f ≡ opened_question (language_view language.now) (map replaced_view replaced.now) sign (view pattern.now) (option_map question_view question.now)) }
     ensures refused { IfErr result (λ e. IsFaultlessQuestion (language_view language.now) (option_map question_view question.now) → e ≡ Memory) }
@@ -152,7 +152,7 @@ fn open_asked(
     replaced: &[Replaced],
     sign: bool,
     pattern: &Pattern,
-    question: &Question<'_>,
+    question: &HeadQuestion<'_>,
 ) -> Result<Formula, CompileError>
     ensures opened { IfOk result (λ f. formula_view f ≡ opened_question (language_view language.now) (map replaced_view replaced.now) sign (view pattern.now) (Some (question_view question.now))) }
     ensures refused { IfErr result (λ e. IsFaultlessQuestion (language_view language.now) (Some (question_view question.now)) → e ≡ Memory) }
@@ -179,7 +179,7 @@ fn ask(
     test: &HeadTest,
     term: Term,
 ) -> Result<Formula, AllocError>
-    ensures { IfOk result (λ f. formula_view f ≡ model.opened_test (signature_view signature.now) sign (test_view test.now) (model.literal_fact sign (model.quotation (map replaced_view replaced.now) (view pattern.now))) (term_view term)) }
+    ensures { let g = signature_view signature.now in IfOk result (λ f. formula_view f ≡ model.opened_test g sign (test_view test.now) (model.literal_fact sign (model.quotation (map replaced_view replaced.now) (view pattern.now))) (term_view term)) }
 {
     match quoted_literal(alloc, replaced, sign, pattern) {
         Ok(kept) => open_test(alloc, signature, sign, test, &kept, &term),
@@ -195,7 +195,7 @@ fn open_exists(
     sign: bool,
     pattern: &Pattern,
 ) -> Result<Formula, CompileError>
-    ensures opened { IfOk result (λ f. formula_view f ≡ opened_question (language_view language.now) (map replaced_view replaced.now) sign (view pattern.now) (model.head_question (language_view language.now) [] (view pattern.now))) }
+    ensures opened { let g = language_view language.now in let pattern' = view pattern.now in IfOk result (λ f. formula_view f ≡ opened_question g (map replaced_view replaced.now) sign pattern' (model.head_question g [] pattern')) }
     ensures refused { IfErr result (λ e. IsFaultless (language_view language.now) (view pattern.now) → e ≡ Memory) }
 {
     let question = head_question(pattern, alloc, language.signature, Vec::new(alloc))?;

@@ -13,7 +13,7 @@ ghost use Rattle.kp_symbolic.specs.View.{test_view};
 ghost use Rattle.kp_leaves.specs.Answers.{is_variable_at, asked_sort};
 ghost use Rattle.kp_leaves.specs.View.{bound_view, question_view};
 
-use crate::bound::Bound;
+use crate::bound::BoundVariable;
 use kp_kore::{Name, Pattern, Sort};
 use kp_opening::same::is_same_sort;
 use kp_opening::sides::places_of;
@@ -24,13 +24,13 @@ use std::sync::Arc;
 
 /// A question for the head of a term. `question_view` in specs/View.antt says which question of kp_symbolic it is.
 #[derive(Drop)]
-pub struct Question<'a> {
+pub struct HeadQuestion<'a> {
     pub subject: &'a Pattern,
     pub test: HeadTest,
 }
 
 /// Whether a variable of this name is among them.
-fn is_bound(name: &str, bound: &[Bound<'_>]) -> bool
+fn is_bound(name: &str, bound: &[BoundVariable<'_>]) -> bool
     ensures { result ≡ named_among name.now (map bound_view bound.now) }
 {
     for variable in bound {
@@ -42,7 +42,7 @@ fn is_bound(name: &str, bound: &[Bound<'_>]) -> bool
 }
 
 /// Whether the pattern is this variable, at a place of its sort.
-fn is_variable(pattern: &Pattern, variable: Bound<'_>, sort: &Sort) -> bool
+fn is_variable(pattern: &Pattern, variable: BoundVariable<'_>, sort: &Sort) -> bool
     ensures { result ≡ is_variable_at (bound_view variable.entry) (sort_view sort.now) (view pattern.now) }
 {
     match pattern {
@@ -57,7 +57,7 @@ fn is_variable(pattern: &Pattern, variable: Bound<'_>, sort: &Sort) -> bool
 
 /// Whether the arguments are these variables, in order, each of another name, at these sorts.
 #[tactic(auto, using(crate::proofs::QuestionLemmas::sorts_differ, crate::proofs::QuestionLemmas::arguments_differ, crate::proofs::QuestionLemmas::other_variable, crate::proofs::QuestionLemmas::named_again, crate::proofs::QuestionLemmas::next_variable, crate::proofs::QuestionLemmas::no_more_variables))]
-fn are_variables(bound: &[Bound<'_>], sorts: &[Sort], arguments: &[Pattern]) -> bool
+fn are_variables(bound: &[BoundVariable<'_>], sorts: &[Sort], arguments: &[Pattern]) -> bool
     ensures { result ≡ model.are_variables (map bound_view bound.now) (sorts_view sorts.now) (patterns_view arguments.now) }
 {
     if bound.len() != sorts.len() {
@@ -99,19 +99,19 @@ fn sort_test(alloc: Global, sort: &Sort) -> Result<HeadTest, AllocError>
 fn ask_constructor<'a>(
     alloc: Global,
     signature: &Signature,
-    bound: &[Bound<'_>],
+    bound: &[BoundVariable<'_>],
     subject: &'a Pattern,
     meaning: Meaning,
     symbol: &Name,
     arguments: &[Pattern],
-) -> Result<Option<Question<'a>>, AllocError>
-    ensures { IfOk result (λ q. option_map question_view q ≡ model.asked_constructor (signature_view signature.now) (map bound_view bound.now) (view subject.now) (meaning_view meaning) (string_bytes symbol.now) (patterns_view arguments.now)) }
+) -> Result<Option<HeadQuestion<'a>>, AllocError>
+    ensures { let g = signature_view signature.now in IfOk result (λ q. option_map question_view q ≡ model.asked_constructor g (map bound_view bound.now) (view subject.now) (meaning_view meaning) (string_bytes symbol.now) (patterns_view arguments.now)) }
 {
     match meaning {
         Meaning::Constructor => {
             if are_variables(bound, places_of(signature, symbol), arguments) {
                 let test = constructor_test(alloc, symbol)?;
-                return Ok(Some(Question { subject, test }));
+                return Ok(Some(HeadQuestion { subject, test }));
             }
             Ok(None)
         }
@@ -123,11 +123,11 @@ fn ask_constructor<'a>(
 #[tactic(auto, using(crate::proofs::QuestionLemmas::not_one_bound, crate::proofs::QuestionLemmas::no_sort_given, crate::proofs::QuestionLemmas::sort_asked, crate::proofs::QuestionLemmas::sort_not_asked))]
 fn ask_sort<'a>(
     alloc: Global,
-    bound: &[Bound<'_>],
+    bound: &[BoundVariable<'_>],
     subject: &'a Pattern,
     sorts: &[Sort],
     argument: &Pattern,
-) -> Result<Option<Question<'a>>, AllocError>
+) -> Result<Option<HeadQuestion<'a>>, AllocError>
     ensures { IfOk result (λ q. option_map question_view q ≡ asked_sort (map bound_view bound.now) (view subject.now) (sorts_view sorts.now) (view argument.now)) }
 {
     if bound.len() != 1 {
@@ -138,7 +138,7 @@ fn ask_sort<'a>(
     }
     if is_variable(argument, bound[0], &sorts[0]) {
         let test = sort_test(alloc, &sorts[0])?;
-        return Ok(Some(Question { subject, test }));
+        return Ok(Some(HeadQuestion { subject, test }));
     }
     Ok(None)
 }
@@ -148,12 +148,12 @@ fn ask_sort<'a>(
 fn ask_argument<'a>(
     alloc: Global,
     signature: &Signature,
-    bound: &[Bound<'_>],
+    bound: &[BoundVariable<'_>],
     subject: &'a Pattern,
     sorts: &[Sort],
     argument: &Pattern,
-) -> Result<Option<Question<'a>>, AllocError>
-    ensures { IfOk result (λ q. option_map question_view q ≡ model.asked_under_inj (signature_view signature.now) (map bound_view bound.now) (view subject.now) (sorts_view sorts.now) (next_pattern (view argument.now) no_patterns)) }
+) -> Result<Option<HeadQuestion<'a>>, AllocError>
+    ensures { let g = signature_view signature.now in IfOk result (λ q. option_map question_view q ≡ model.asked_under_inj g (map bound_view bound.now) (view subject.now) (sorts_view sorts.now) (next_pattern (view argument.now) no_patterns)) }
 {
     match argument {
         Pattern::Application {
@@ -173,11 +173,11 @@ fn ask_argument<'a>(
 fn ask_under_injection<'a>(
     alloc: Global,
     signature: &Signature,
-    bound: &[Bound<'_>],
+    bound: &[BoundVariable<'_>],
     subject: &'a Pattern,
     sorts: &[Sort],
     arguments: &[Pattern],
-) -> Result<Option<Question<'a>>, AllocError>
+) -> Result<Option<HeadQuestion<'a>>, AllocError>
     ensures { IfOk result (λ q. option_map question_view q ≡ model.asked_under_inj (signature_view signature.now) (map bound_view bound.now) (view subject.now) (sorts_view sorts.now) (patterns_view arguments.now)) }
 {
     if arguments.len() == 1 {
@@ -190,13 +190,13 @@ fn ask_under_injection<'a>(
 fn ask_application<'a>(
     alloc: Global,
     signature: &Signature,
-    bound: &[Bound<'_>],
+    bound: &[BoundVariable<'_>],
     subject: &'a Pattern,
     symbol: &Name,
     sorts: &[Sort],
     arguments: &[Pattern],
-) -> Result<Option<Question<'a>>, AllocError>
-    ensures { IfOk result (λ q. option_map question_view q ≡ model.asked_of (signature_view signature.now) (map bound_view bound.now) (view subject.now) (named (signature_view signature.now) (string_bytes symbol.now)) (string_bytes symbol.now) (sorts_view sorts.now) (patterns_view arguments.now)) }
+) -> Result<Option<HeadQuestion<'a>>, AllocError>
+    ensures { let g = signature_view signature.now in IfOk result (λ q. option_map question_view q ≡ model.asked_of g (map bound_view bound.now) (view subject.now) (named g (string_bytes symbol.now)) (string_bytes symbol.now) (sorts_view sorts.now) (patterns_view arguments.now)) }
 {
     match meaning_of(signature, symbol) {
         Meaning::Injection => ask_under_injection(
@@ -210,10 +210,10 @@ fn ask_application<'a>(
 fn ask_equality<'a>(
     alloc: Global,
     signature: &Signature,
-    bound: &[Bound<'_>],
+    bound: &[BoundVariable<'_>],
     left: &'a Pattern,
     right: &Pattern,
-) -> Result<Option<Question<'a>>, AllocError>
+) -> Result<Option<HeadQuestion<'a>>, AllocError>
     ensures { (a s : KoreSort) → IfOk result (λ q. option_map question_view q ≡ model.head_question (signature_view signature.now) (map bound_view bound.now) (equals a s (view left.now) (view right.now))) }
 {
     match left {
@@ -240,8 +240,8 @@ pub fn head_question<'a>(
     pattern: &'a Pattern,
     alloc: Global,
     signature: &Signature,
-    mut bound: Vec<Bound<'a>>,
-) -> Result<Option<Question<'a>>, AllocError>
+    mut bound: Vec<BoundVariable<'a>>,
+) -> Result<Option<HeadQuestion<'a>>, AllocError>
     ensures { IfOk result (λ q. option_map question_view q ≡ model.head_question (signature_view signature.now) (map bound_view bound.entry.items) (view pattern.now)) }
 {
     match pattern {
@@ -251,7 +251,7 @@ pub fn head_question<'a>(
             pattern,
             ..
         } => {
-            bound.push(Bound {
+            bound.push(BoundVariable {
                 name,
                 sort: name_sort,
             })?;

@@ -96,7 +96,7 @@ fn first_agree(
     test: &HeadTest,
     wanted: bool,
 ) -> Result<bool, AllocError>
-    ensures { IfOk result (λ b. b ≡ all_agree_with (signature_view signature.now) (sort_view sort.now) (test_view test.now) wanted (head.integers ∷ head.booleans ∷ tokens (sort_view sort.now) ∷ [])) }
+    ensures { let sort' = sort_view sort.now in IfOk result (λ b. b ≡ all_agree_with (signature_view signature.now) sort' (test_view test.now) wanted (head.integers ∷ head.booleans ∷ tokens sort' ∷ [])) }
 {
     if !agrees(alloc, signature, sort, test, wanted, Head::Integers)? {
         return Ok(false);
@@ -115,7 +115,7 @@ fn all_agree(
     test: &HeadTest,
     wanted: bool,
 ) -> Result<bool, AllocError>
-    ensures { IfOk result (λ b. b ≡ all_agree_with (signature_view signature.now) (sort_view sort.now) (test_view test.now) wanted (possible_heads (signature_view signature.now) (sort_view sort.now))) }
+    ensures { let g = signature_view signature.now in let sort' = sort_view sort.now in IfOk result (λ b. b ≡ all_agree_with g sort' (test_view test.now) wanted (possible_heads g sort')) }
 {
     if !first_agree(alloc, signature, sort, test, wanted)? {
         return Ok(false);
@@ -168,7 +168,7 @@ fn open_variable(
     variable: &Arc<Variable>,
     test: &HeadTest,
 ) -> Result<Formula, AllocError>
-    ensures { IfOk result (λ f. formula_view f ≡ model.fixed_or (answer (signature_view signature.now) (sort_view variable.now.value.sort) (test_view test.now)) sign (model.literal_fact sign (has_head (variable_view variable.now.value) (test_view test.now)))) }
+    ensures { let test' = test_view test.now in let g = signature_view signature.now in IfOk result (λ f. formula_view f ≡ model.fixed_or (answer g (sort_view variable.now.value.sort) test') sign (model.literal_fact sign (has_head (variable_view variable.now.value) test'))) }
 {
     let decided = head_answer(alloc, signature, &variable.sort, test)?;
     let kept = head_literal(alloc, sign, variable, test)?;

@@ -2,7 +2,7 @@ use crate::provers::{COVERED, UNCOVERED};
 use crate::table::{Subject, bytes, each_is_told, text, written};
 use kp_kore::{Pattern, Sort};
 use kp_replies::{executed_text, implied_text};
-use kp_results::{Executed, Implied, Reason, State};
+use kp_results::{Executed, Implied, Reason, ReplyState};
 use kp_rpc::{Id, PatternFault, StateFault, fault_text, refusal_text};
 use kp_signature::VerifyError;
 use std::alloc::Global;
@@ -69,7 +69,7 @@ fn ran(
 ) -> Vec<u8> {
     let executed = Executed {
         depth,
-        state: State {
+        state: ReplyState {
             term,
             predicate: None,
         },

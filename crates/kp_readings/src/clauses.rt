@@ -59,7 +59,7 @@ fn read_alone<'a>(
     after: &[Clause],
     literal: &'a Literal,
 ) -> Result<Vec<ReadLiteral<'a>>, AllocError>
-    ensures view { IfOk result (λ c. map read_view c.items ≡ read_literal (literal_view literal.now) (model.own_form (signature_view signature.now) (state_view state.now) (clauses_view before.now ++ clauses_view after.now) (literal_view literal.now)) ∷ []) }
+    ensures view { let literal' = literal_view literal.now in let g = signature_view signature.now in IfOk result (λ c. map read_view c.items ≡ read_literal literal' (model.own_form g (state_view state.now) (clauses_view before.now ++ clauses_view after.now) literal') ∷ []) }
     ensures kinds { IfOk result (λ c. IsClauseOfKind (signature_view signature.now) c.items) }
 {
     let form = own_form(alloc, signature, state, before, after, literal)?;

@@ -49,7 +49,7 @@ fn makes_below(signature: &Signature, name: &str, sort: &Sort) -> bool
 
 /// Whether the sort that a constructor is declared to make is the sort or below it.
 fn constructs_below(signature: &Signature, constructor: &str, sort: &Sort) -> bool
-    ensures { result ≡ is_sort_below (signature_view signature.now) (option_map (λ d. d.result) (symbol_declared (signature_view signature.now) constructor.now)) (sort_view sort.now) }
+    ensures { let g = signature_view signature.now in result ≡ is_sort_below g (option_map (λ d. d.result) (symbol_declared g constructor.now)) (sort_view sort.now) }
 {
     match signature.symbol(constructor) {
         Some(declaration) => lies_below(signature, &declaration.result_sort, sort),
@@ -105,7 +105,7 @@ fn equation_if<'a>(
 
 /// Whether the variables have one sort, and the second is the one least by name.
 fn goes_first(first: &Variable, second: &Variable) -> bool
-    ensures { result ≡ (sorts_equal (variable_view first.now).sort (variable_view second.now).sort && is_text_before (variable_view second.now).name (variable_view first.now).name) }
+    ensures { let first' = variable_view first.now in let second' = variable_view second.now in result ≡ (sorts_equal first'.sort second'.sort && is_text_before second'.name first'.name) }
 {
     is_same(&first.sort, &second.sort) && is_before(&second.name, &first.name)
 }

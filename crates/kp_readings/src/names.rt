@@ -16,7 +16,7 @@ use std::alloc::{AllocError, Global};
 
 /// Whether the name stands for a variable of a predicate: it is its own, or stands in the term in its place.
 fn stands_for(variable: &SortedVariable, replaced: &[Replaced], name: &str) -> bool
-    ensures { result ≡ is_named name.now (variables_for (sorted_variable_view variable.now) (replacement_for (map replaced_view replaced.now) (sorted_variable_view variable.now).name)) }
+    ensures { let variable' = sorted_variable_view variable.now in result ≡ is_named name.now (variables_for variable' (replacement_for (map replaced_view replaced.now) variable'.name)) }
 {
     match replacement_of(replaced, &variable.name) {
         Some(term) => term.has_name(name),

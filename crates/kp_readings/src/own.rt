@@ -14,19 +14,19 @@ ghost use Rattle.kp_readings.specs.Own.{constant_said, constant_known, asks_cons
 
 use crate::equation::{Equation, equation_of};
 use crate::names::stands_alone;
-use kp_deciding::{Asked, Form, form_of, has_only_numbers};
+use kp_deciding::{AskedHeads, Form, form_of, has_only_numbers};
 use kp_ground::Value;
 use kp_signature::Signature;
 use kp_symbolic::{Atom, Clause, HeadTest, Literal, State, Term, Variable};
 use std::alloc::{AllocError, Global};
 
 /// The test of a head, borrowed.
-fn borrowed_test(test: &HeadTest) -> Asked<'_>
+fn borrowed_test(test: &HeadTest) -> AskedHeads<'_>
     ensures { asked_view result ≡ test_view test.now }
 {
     match test {
-        HeadTest::Constructor { symbol } => Asked::Constructor { symbol },
-        HeadTest::Sort { sort } => Asked::Sort { sort },
+        HeadTest::Constructor { symbol } => AskedHeads::Constructor { symbol },
+        HeadTest::Sort { sort } => AskedHeads::Sort { sort },
     }
 }
 
@@ -72,7 +72,7 @@ fn asks_for<'a>(variable: &'a Variable, constant: Option<&'a str>) -> Option<For
     match constant {
         Some(symbol) => Some(Form::Asks {
             variable,
-            test: Asked::Constructor { symbol },
+            test: AskedHeads::Constructor { symbol },
             passes: false,
         }),
         None => None,
@@ -124,7 +124,7 @@ fn solved_if<'a>(
     after: &[Clause],
     equation: Equation<'a>,
 ) -> Result<Option<Form<'a>>, AllocError>
-    ensures view { IfOk result (λ f. option_map form_view f ≡ model.solved_form (signature_view signature.now) (state_view state.now) (clauses_view before.now ++ clauses_view after.now) (Some (equation_view equation.entry))) }
+    ensures view { let g = signature_view signature.now in IfOk result (λ f. option_map form_view f ≡ model.solved_form g (state_view state.now) (clauses_view before.now ++ clauses_view after.now) (Some (equation_view equation.entry))) }
     ensures apart { IfOk result IsSetApart }
 {
     if has_only_numbers(signature, &equation.variable.sort) {

@@ -7,7 +7,7 @@ use Rattle.std.specs.declared.cmp.Ordering.TheVariants.{Less}
 use Rattle.std.proofs.lemmas.Slice.Eq.{bytes_eq-Decides}
 use Rattle.kp_kore.specs.Syntax.{Text}
 use Rattle.kp_registry.specs.Passes.{compare, AreBelow, AreAbove, IsRising, name_of, place_named, first_binding, binds_name, is_either, told_then}
-use Rattle.kp_registry.specs.declared.seen.Bound.{Bound}
+use Rattle.kp_registry.specs.declared.seen.NameBinding.{NameBinding}
 use Rattle.kp_registry.specs.declared.seen.Entry.{Entry}
 use Rattle.kp_registry.proofs.Rising.{absent_at}
 
@@ -23,12 +23,12 @@ rising_then xs zero n h k l = (l, h)
 rising_then [] (suc i) n h k l = (tt, tt)
 rising_then (x ∷ xs) (suc i) n h k l = (above_all x n xs i h.0 k.0, rising_then xs i n h.1 k.1 l)
 
-names_then : (bs : List Bound) (i : ℕ) (b : Bound) → map name_of (insert bs i b) ≡ take i (map name_of bs) ++ name_of b ∷ drop i (map name_of bs)
+names_then : (bs : List NameBinding) (i : ℕ) (b : NameBinding) → map name_of (insert bs i b) ≡ take i (map name_of bs) ++ name_of b ∷ drop i (map name_of bs)
 names_then bs zero b = refl
 names_then [] (suc i) b = refl
 names_then (c ∷ bs) (suc i) b = ap (λ l. name_of c ∷ l) (names_then bs i b)
 
-pub still_rising : (bs : List Bound) (i : ℕ) (b : Bound) → IsRising (map name_of bs) → AreBelow (name_of b) (take i (map name_of bs)) → AreAbove (name_of b) (drop i (map name_of bs)) → IsRising (map name_of (insert bs i b))
+pub still_rising : (bs : List NameBinding) (i : ℕ) (b : NameBinding) → IsRising (map name_of bs) → AreBelow (name_of b) (take i (map name_of bs)) → AreAbove (name_of b) (drop i (map name_of bs)) → IsRising (map name_of (insert bs i b))
 still_rising bs i b h k l = subst IsRising (sym (names_then bs i b)) (rising_then (map name_of bs) i (name_of b) h k l)
 
 -- ---- what the table tells
@@ -49,7 +49,7 @@ passed : (test other : Bool) (p : ℕ) (o : Option ℕ) → (other ≡ true → 
 passed true other p o h e k = absurd (cc (e))
 passed false other p o h e k = h k
 
-told_by : (bs : List Bound) (i : ℕ) (b : Bound) (n : Text) → (bytes_eq n (name_of b) ≡ true → place_named bs n ≡ None) → place_named (insert bs i b) n ≡ told_then (place_named bs n) (name_of b) b.place n
+told_by : (bs : List NameBinding) (i : ℕ) (b : NameBinding) (n : Text) → (bytes_eq n (name_of b) ≡ true → place_named bs n ≡ None) → place_named (insert bs i b) n ≡ told_then (place_named bs n) (name_of b) b.place n
 told_by bs zero b n h = at_front (bytes_eq n (name_of b)) b.place (place_named bs n) h
 told_by [] (suc i) b n h = refl
 told_by (c ∷ bs) (suc i) b n h =
@@ -57,7 +57,7 @@ told_by (c ∷ bs) (suc i) b n h =
     (λ e. told_by bs i b n (λ k. passed (bytes_eq n (name_of c)) (bytes_eq n (name_of b)) c.place (place_named bs n) h e k))
 
 -- a name that stands in a gap is bound there
-pub told_new : (bs : List Bound) (i : ℕ) (b : Bound) → AreBelow (name_of b) (take i (map name_of bs)) → AreAbove (name_of b) (drop i (map name_of bs)) → (n : Text) → place_named (insert bs i b) n ≡ told_then (place_named bs n) (name_of b) b.place n
+pub told_new : (bs : List NameBinding) (i : ℕ) (b : NameBinding) → AreBelow (name_of b) (take i (map name_of bs)) → AreAbove (name_of b) (drop i (map name_of bs)) → (n : Text) → place_named (insert bs i b) n ≡ told_then (place_named bs n) (name_of b) b.place n
 told_new bs i b k l n = told_by bs i b n (λ e. subst (λ m. place_named bs m ≡ None) (sym ((bytes_eq-Decides n (name_of b)).0 e)) (absent_at bs i (name_of b) k l))
 
 kept : (test : Bool) (place p : ℕ) (o : Option ℕ) → (test ≡ true → o ≡ Some p) → o ≡ option_or o (cond test (Some place) None)
@@ -65,7 +65,7 @@ kept true place p o h = h refl ∙ sym (ap (λ q. option_or q (Some place)) (h r
 kept false place p o h = sym (told_or o)
 
 -- a name that is bound stays so
-pub told_before : (bs : List Bound) (name : Text) (p place : ℕ) → place_named bs name ≡ Some p → (n : Text) → place_named bs n ≡ told_then (place_named bs n) name place n
+pub told_before : (bs : List NameBinding) (name : Text) (p place : ℕ) → place_named bs name ≡ Some p → (n : Text) → place_named bs n ≡ told_then (place_named bs n) name place n
 told_before bs name p place h n = kept (bytes_eq n name) place p (place_named bs n) (λ e. subst (λ m. place_named bs m ≡ Some p) (sym ((bytes_eq-Decides n name).0 e)) h)
 
 -- ---- what the entries tell
@@ -89,7 +89,7 @@ both true false k (Some x) = refl
 both false b k (Some x) = refl
 
 -- the id is bound, and nothing else
-pub told_one : (es : List Entry) (e : Entry) (old new : List Bound) (id : Text) → ((n : Text) → place_named old n ≡ first_binding es n) → id ≡ e.id → option_map string_bytes e.also ≡ None →
+pub told_one : (es : List Entry) (e : Entry) (old new : List NameBinding) (id : Text) → ((n : Text) → place_named old n ≡ first_binding es n) → id ≡ e.id → option_map string_bytes e.also ≡ None →
     ((n : Text) → place_named new n ≡ told_then (place_named old n) id (length es) n) → (n : Text) → place_named new n ≡ first_binding (es ++ e ∷ []) n
 told_one es e old new id h is also k n =
     k n
@@ -98,7 +98,7 @@ told_one es e old new id h is also k n =
     ∙ sym (ends es e n)
 
 -- the id is bound, and then the own name
-pub told_two : (es : List Entry) (e : Entry) (old middle new : List Bound) (id own : Text) → ((n : Text) → place_named old n ≡ first_binding es n) → id ≡ e.id → option_map string_bytes e.also ≡ Some own →
+pub told_two : (es : List Entry) (e : Entry) (old middle new : List NameBinding) (id own : Text) → ((n : Text) → place_named old n ≡ first_binding es n) → id ≡ e.id → option_map string_bytes e.also ≡ Some own →
     ((n : Text) → place_named middle n ≡ told_then (place_named old n) id (length es) n) → ((n : Text) → place_named new n ≡ told_then (place_named middle n) own (length es) n) → (n : Text) → place_named new n ≡ first_binding (es ++ e ∷ []) n
 told_two es e old middle new id own h is also k l n =
     l n

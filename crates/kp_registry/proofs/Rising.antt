@@ -8,7 +8,7 @@ use Rattle.std.proofs.lemmas.Cmp.{nat_list_cmp_total}
 use Rattle.std.proofs.lemmas.Map.Text.{is_eq-slice_cmp}
 use Rattle.kp_kore.specs.Syntax.{Text}
 use Rattle.kp_registry.specs.Passes.{compare, AreBelow, AreAbove, IsRising, name_of, place_named}
-use Rattle.kp_registry.specs.declared.seen.Bound.{Bound}
+use Rattle.kp_registry.specs.declared.seen.NameBinding.{NameBinding}
 
 turned : (x y : Text) → compare x y ≡ Greater → compare y x ≡ Less
 turned x y h = nat_list_cmp_total.antisymm y x ∙ ap ordering_reverse h
@@ -48,20 +48,20 @@ alike x y e = sym (is_eq-slice_cmp y x) ∙ ap is_eq (nat_list_cmp_total.antisym
 unlike : (x y : Text) → compare y x ≡ Less → bytes_eq y x ≡ false
 unlike x y e = sym (is_eq-slice_cmp y x) ∙ ap is_eq e
 
-passed_over : (b : Bound) (bs : List Bound) (n : Text) (o : Option ℕ) → bytes_eq n (name_of b) ≡ false → place_named bs n ≡ o → place_named (b ∷ bs) n ≡ o
+passed_over : (b : NameBinding) (bs : List NameBinding) (n : Text) (o : Option ℕ) → bytes_eq n (name_of b) ≡ false → place_named bs n ≡ o → place_named (b ∷ bs) n ≡ o
 passed_over b bs n o e h = ap (λ t. cond t (Some b.place) (place_named bs n)) e ∙ h
 
-pub named_at : (bs : List Bound) (i : ℕ) (d : Bound) → i < length bs → get_or (map name_of bs) i (name_of d) ≡ name_of (get_or bs i d)
+pub named_at : (bs : List NameBinding) (i : ℕ) (d : NameBinding) → i < length bs → get_or (map name_of bs) i (name_of d) ≡ name_of (get_or bs i d)
 named_at [] i d k = absurd (omega (arith, k))
 named_at (b ∷ bs) zero d k = refl
 named_at (b ∷ bs) (suc i) d k = named_at bs i d (omega arith)
 
-pub long : (bs : List Bound) → length (map name_of bs) ≡ length bs
+pub long : (bs : List NameBinding) → length (map name_of bs) ≡ length bs
 long [] = refl
 long (b ∷ bs) = ap suc (long bs)
 
 -- a name that is found
-pub found_at : (bs : List Bound) (i : ℕ) (d : Bound) (n : Text) → IsRising (map name_of bs) → i < length bs → compare (name_of (get_or bs i d)) n ≡ Equal → place_named bs n ≡ Some (get_or bs i d).place
+pub found_at : (bs : List NameBinding) (i : ℕ) (d : NameBinding) (n : Text) → IsRising (map name_of bs) → i < length bs → compare (name_of (get_or bs i d)) n ≡ Equal → place_named bs n ≡ Some (get_or bs i d).place
 found_at [] i d n h k e = absurd (omega (arith, k))
 found_at (b ∷ bs) zero d n h k e = ap (λ t. cond t (Some b.place) (place_named bs n)) (alike (name_of b) n e)
 found_at (b ∷ bs) (suc i) d n h k e =
@@ -73,17 +73,17 @@ found_at (b ∷ bs) (suc i) d n h k e =
     nat_list_cmp_total.antisymm (name_of b) n ∙ ap ordering_reverse (nat_list_cmp_total.congr n (name_of (get_or bs i d)) (name_of b) equal ∙ nat_list_cmp_total.antisymm (name_of (get_or bs i d)) (name_of b) ∙ ap ordering_reverse before) in
     passed_over b bs n (Some (get_or bs i d).place) (differs (name_of b) n less) (found_at bs i d n h.1 within e)
 
-above_absent : (bs : List Bound) (n : Text) → AreAbove n (map name_of bs) → place_named bs n ≡ None
+above_absent : (bs : List NameBinding) (n : Text) → AreAbove n (map name_of bs) → place_named bs n ≡ None
 above_absent [] n h = refl
 above_absent (b ∷ bs) n h = passed_over b bs n None (unlike (name_of b) n h.0) (above_absent bs n h.1)
 
 -- a name that stands in a gap
-pub absent_at : (bs : List Bound) (i : ℕ) (n : Text) → AreBelow n (take i (map name_of bs)) → AreAbove n (drop i (map name_of bs)) → place_named bs n ≡ None
+pub absent_at : (bs : List NameBinding) (i : ℕ) (n : Text) → AreBelow n (take i (map name_of bs)) → AreAbove n (drop i (map name_of bs)) → place_named bs n ≡ None
 absent_at bs zero n h k = above_absent bs n k
 absent_at [] (suc i) n h k = refl
 absent_at (b ∷ bs) (suc i) n h k = passed_over b bs n None (differs (name_of b) n h.0) (absent_at bs i n h.1 k)
 
-pub same_read : (bs : List Bound) (i : ℕ) (d e : Bound) → i < length bs → get_or bs i d ≡ get_or bs i e
+pub same_read : (bs : List NameBinding) (i : ℕ) (d e : NameBinding) → i < length bs → get_or bs i d ≡ get_or bs i e
 same_read [] i d e k = absurd (omega (arith, k))
 same_read (b ∷ bs) zero d e k = refl
 same_read (b ∷ bs) (suc i) d e k = same_read bs i d e (omega arith)

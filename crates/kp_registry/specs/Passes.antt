@@ -15,7 +15,7 @@ use Rattle.kp_kore.specs.Theory.{NumberedAxiom}
 use Rattle.kp_rule_sets.specs.declared.rule_set.RuleSet.{RuleSet}
 use Rattle.kp_book.specs.Books.{Opening, Registration, meaning_in, most_entries}
 use Rattle.kp_modules.specs.Made.{IsSetOf}
-use Rattle.kp_registry.specs.declared.seen.Bound.{Bound}
+use Rattle.kp_registry.specs.declared.seen.NameBinding.{NameBinding}
 use Rattle.kp_registry.specs.declared.seen.Entry.{Entry}
 use Rattle.kp_registry.specs.declared.seen.Pass.{Pass}
 use Rattle.kp_registry.specs.declared.seen.Ready.{Ready}
@@ -58,11 +58,11 @@ abbrev pub first_binding : List Entry → Text → Option ℕ
 first_binding [] name = None
 first_binding (e ∷ rest) name = if binds_name name e then Some 0 else option_map suc (first_binding rest name)
 
-abbrev pub name_of : Bound → Text
+abbrev pub name_of : NameBinding → Text
 name_of b = string_bytes b.name
 
 -- what the table tells of a name
-abbrev pub place_named : List Bound → Text → Option ℕ
+abbrev pub place_named : List NameBinding → Text → Option ℕ
 place_named [] name = None
 place_named (b ∷ rest) name = if bytes_eq name (name_of b) then Some b.place else place_named rest name
 

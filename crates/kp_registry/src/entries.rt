@@ -3,9 +3,9 @@ ghost use Rattle.std.specs.Prelude.{◌≡◌, ◌<◌, ◌≤◌, IfOk, IfErr, 
 ghost use Rattle.std.specs.Vec.{vec_capacity};
 ghost use Rattle.kp_kore.specs.Syntax.{Text};
 ghost use Rattle.kp_registry.specs.Passes.{AreAbove, AreBelow, IsRising, name_of, place_named, told_then};
-ghost use Rattle.kp_registry.specs.declared.seen.Bound.{Bound};
+ghost use Rattle.kp_registry.specs.declared.seen.NameBinding.{NameBinding};
 
-use crate::seen::{Bound, Entry, Pass};
+use crate::seen::{Entry, NameBinding, Pass};
 use kp_kore::Name;
 use kp_rule_sets::RuleSet;
 use std::alloc::{AllocError, Global};
@@ -81,9 +81,9 @@ impl Pass {
 }
 
 /// Where the name stands among these, or where it would go.
-fn search(names: &[Bound], name: &str) -> Result<usize, usize>
+fn search(names: &[NameBinding], name: &str) -> Result<usize, usize>
     requires rising { IsRising (map name_of names.now) }
-    ensures found { IfOk result (λ i. (i < length names.now) × ((d : Bound) → place_named names.now name.now ≡ Some (get_or names.now i d).place)) }
+    ensures found { IfOk result (λ i. (i < length names.now) × ((d : NameBinding) → place_named names.now name.now ≡ Some (get_or names.now i d).place)) }
     ensures absent { let the_map = map name_of names.now in IfErr result (λ i. (i ≤ length names.now) × (AreBelow name.now (take i the_map) × AreAbove name.now (drop i the_map))) }
 {
     let mut from = 0;
@@ -100,7 +100,7 @@ fn search(names: &[Bound], name: &str) -> Result<usize, usize>
 }
 
 /// Binds a name to a place, unless it is bound; no memory is taken where there is room.
-fn bind(names: &mut Vec<Bound>, name: Name, place: usize)
+fn bind(names: &mut Vec<NameBinding>, name: Name, place: usize)
     requires rising { IsRising (map name_of names.old.items) }
     requires room { length names.old.items < vec_capacity names.old }
     ensures rising { IsRising (map name_of names.new.items) }
@@ -109,7 +109,7 @@ fn bind(names: &mut Vec<Bound>, name: Name, place: usize)
     ensures told { (n : Text) → place_named names.new.items n ≡ told_then (place_named names.old.items n) (string_bytes name) place n }
 {
     if let Err(at) = search(names, name.as_str()) {
-        match names.insert(at, Bound { name, place }) {
+        match names.insert(at, NameBinding { name, place }) {
             Ok(()) => {}
             Err(_) => unreachable!(),
         }

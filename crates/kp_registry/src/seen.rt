@@ -15,7 +15,7 @@ pub struct Entry {
 
 /// A name with the place of the first entry that binds it.
 #[derive(Drop)]
-pub struct Bound {
+pub struct NameBinding {
     pub name: Name,
     pub place: usize,
 }
@@ -24,7 +24,7 @@ pub struct Bound {
 #[derive(Drop)]
 pub struct Pass {
     pub entries: Vec<Entry>,
-    pub names: Vec<Bound>,
+    pub names: Vec<NameBinding>,
 }
 
 /// An entry that may be registered without memory: it holds its names besides.

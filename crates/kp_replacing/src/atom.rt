@@ -34,7 +34,7 @@ fn open_equality(
     left: &Term,
     right: &Term,
 ) -> Result<Formula, CompileError>
-    ensures opened { IfOk result (λ f. formula_view f ≡ opened_same (language_view language.now) alone sign (sort_view sort.now) (folding.replaced (language_view language.now) (map replaced_view by.now) (term_view left.now)) (folding.replaced (language_view language.now) (map replaced_view by.now) (term_view right.now))) }
+    ensures opened { let g = language_view language.now in IfOk result (λ f. formula_view f ≡ opened_same g alone sign (sort_view sort.now) (folding.replaced g (map replaced_view by.now) (term_view left.now)) (folding.replaced g (map replaced_view by.now) (term_view right.now))) }
     ensures refused { IfErr result (λ e. AreWritten (language_view language.now) (term_view left.now) → AreWritten (language_view language.now) (term_view right.now) → e ≡ Memory) }
 {
     let left = left.replaced(alloc, language, by)?;
@@ -52,7 +52,7 @@ fn open_head(
     test: &HeadTest,
     kept: &Literal,
 ) -> Result<Formula, AllocError>
-    ensures { IfOk result (λ f. formula_view f ≡ opened_test (language_view language.now) kept.now.holds (test_view test.now) (fact (literal_view kept.now)) (folding.replaced (language_view language.now) (map replaced_view by.now) (unknown (variable_view variable.now.value)))) }
+    ensures { let g = language_view language.now in IfOk result (λ f. formula_view f ≡ opened_test g kept.now.holds (test_view test.now) (fact (literal_view kept.now)) (folding.replaced g (map replaced_view by.now) (unknown (variable_view variable.now.value)))) }
 {
     let term = term_for(alloc, by, variable)?;
     open_test(alloc, language.signature, kept.holds, test, kept, &term)
@@ -67,7 +67,7 @@ pub fn open_under(
     alone: bool,
     literal: &Literal,
 ) -> Result<Formula, CompileError>
-    ensures opened { IfOk result (λ f. formula_view f ≡ model.opened_under (language_view language.now) (map replaced_view by.now) alone (literal_view literal.now).holds (literal_view literal.now).atom) }
+    ensures opened { let literal' = literal_view literal.now in IfOk result (λ f. formula_view f ≡ model.opened_under (language_view language.now) (map replaced_view by.now) alone literal'.holds literal'.atom) }
     ensures refused { IfErr result (λ e. HasWrittenSums (language_view language.now) (literal_view literal.now).atom → e ≡ Memory) }
 {
     let sign = literal.holds;

@@ -32,7 +32,7 @@ fn open_literal(
     alone: bool,
     literal: &Literal,
 ) -> Result<Distributed, CompileError>
-    ensures opened { IfOk result (λ d. distributed_view d ≡ distribution_of (model.opened_under (language_view language.now) (map replaced_view by.now) alone (literal_view literal.now).holds (literal_view literal.now).atom)) }
+    ensures opened { let literal' = literal_view literal.now in let g = language_view language.now in IfOk result (λ d. distributed_view d ≡ distribution_of (model.opened_under g (map replaced_view by.now) alone literal'.holds literal'.atom)) }
     ensures refused { IfErr result (λ e. HasWrittenSums (language_view language.now) (literal_view literal.now).atom → e ≡ Memory) }
 {
     let formula = open_under(alloc, language, by, alone, literal)?;
@@ -46,7 +46,7 @@ fn open_literals(
     by: &[Replaced],
     literals: &[Literal],
 ) -> Result<Vec<Distributed>, CompileError>
-    ensures opened { IfOk result (λ ds. map distributed_view ds.items ≡ distributions_of (model.all_opened_under (language_view language.now) (map replaced_view by.now) (is_single (map literal_view literals.now)) (map literal_view literals.now))) }
+    ensures opened { let g = language_view language.now in IfOk result (λ ds. map distributed_view ds.items ≡ distributions_of (model.all_opened_under g (map replaced_view by.now) (is_single (map literal_view literals.now)) (map literal_view literals.now))) }
     ensures refused { IfErr result (λ e. AllByRecursion (λ l. HasWrittenSums (language_view language.now) (literal_view l).atom) literals.now → e ≡ Memory) }
 {
     let alone = is_alone(literals);

@@ -47,7 +47,7 @@ fn with_terms(
 
 /// Whether it is of one of these variables, in the place of which no term stands yet.
 fn is_new(one: &Replaced, variables: &[SortedVariable], replaced: &[Replaced]) -> bool
-    ensures { result ≡ (named_among (replaced_view one.now).name (map sorted_variable_view variables.now) && not (is_some (replacement_for (map replaced_view replaced.now) (replaced_view one.now).name))) }
+    ensures { let one' = replaced_view one.now in result ≡ (named_among one'.name (map sorted_variable_view variables.now) && not (is_some (replacement_for (map replaced_view replaced.now) one'.name))) }
 {
     is_named(&one.name, variables) && replacement_of(replaced, &one.name).is_none()
 }
@@ -96,7 +96,7 @@ pub fn quote_under(
     pattern: &Arc<Pattern>,
     replaced: &[Replaced],
 ) -> Result<Formula, CompileError>
-    ensures made { IfOk result (λ f. formula_view f ≡ literal_fact sign (quoted (view pattern.now.value) (model.beside (language_view language.now) (map replaced_view by.now) (view pattern.now.value) (map replaced_view replaced.now)))) }
+    ensures made { let g = language_view language.now in IfOk result (λ f. formula_view f ≡ literal_fact sign (quoted (view pattern.now.value) (model.beside g (map replaced_view by.now) (view pattern.now.value) (map replaced_view replaced.now)))) }
     ensures refused { IfErr result (λ e. AllByRecursion (λ r. AreWritten (language_view language.now) (term_view r.term)) replaced.now → e ≡ Memory) }
 {
     let replaced = beside(alloc, language, by, pattern, replaced)?;

@@ -14,7 +14,7 @@ use crate::members::{empty_object, object_value, with_pattern_at, with_word_at};
 use crate::states::state_value;
 use crate::written::written_result;
 use kp_kore::Pattern;
-use kp_results::{Limit, State, Undecided};
+use kp_results::{Limit, ReplyState, Undecided};
 use kp_rpc::{Id, Object, with_member_at};
 use serde_json::Value;
 use std::alloc::{AllocError, Global};
@@ -83,7 +83,7 @@ fn full_value(
 fn aborted_value(
     alloc: Global,
     depth: u64,
-    state: &State,
+    state: &ReplyState,
     undecided: &Undecided,
 ) -> Result<Option<Value>, AllocError>
     ensures { IfOk result (λ o. option_map view o ≡ aborted_tree depth (state_view state.now) (undecided_view undecided.now)) }
@@ -104,7 +104,7 @@ pub fn aborted_text(
     alloc: Global,
     id: &Id,
     depth: u64,
-    state: &State,
+    state: &ReplyState,
     undecided: &Undecided,
 ) -> Result<Option<Vec<u8>>, AllocError>
     ensures { IfOk result (λ o. option_map (λ b. b.items) o

@@ -254,7 +254,7 @@ fn detailed_line(
     failure: &Failure,
     details: Value,
 ) -> Result<Vec<u8>, AllocError>
-    ensures { IfOk result (λ b. has_float (view details) ≡ false → b.items ≡ reply_bytes (failed_reply (id_view id.now) (failure_error (failure_view failure.now) (view details)))) }
+    ensures { let details' = view details in IfOk result (λ b. has_float details' ≡ false → b.items ≡ reply_bytes (failed_reply (id_view id.now) (failure_error (failure_view failure.now) details'))) }
 {
     let error = error_value(alloc, failure, details)?;
     error_line(alloc, id, error)

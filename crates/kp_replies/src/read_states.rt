@@ -6,12 +6,12 @@ ghost use Rattle.kp_replies.specs.Read.{read_state, read_next, read_nexts, read_
 
 use crate::named::optional_rule_at;
 use crate::patterns::{predicate_at, wrapped_at};
-use kp_results::{NextState, State};
+use kp_results::{NextState, ReplyState};
 use serde_json::Value;
 use std::alloc::{AllocError, Global};
 
 /// The state that a tree tells.
-fn state_of(alloc: Global, value: &Value) -> Result<Option<State>, AllocError>
+fn state_of(alloc: Global, value: &Value) -> Result<Option<ReplyState>, AllocError>
     ensures { IfOk result (λ o. option_map state_view o ≡ read_state (view value.now)) }
 {
     let Some(term) = wrapped_at(alloc, value, "term")? else {
@@ -20,11 +20,11 @@ fn state_of(alloc: Global, value: &Value) -> Result<Option<State>, AllocError>
     let Some(predicate) = predicate_at(alloc, value)? else {
         return Ok(None);
     };
-    Ok(Some(State { term, predicate }))
+    Ok(Some(ReplyState { term, predicate }))
 }
 
 /// The state under the key of one.
-pub fn state_at(alloc: Global, value: &Value) -> Result<Option<State>, AllocError>
+pub fn state_at(alloc: Global, value: &Value) -> Result<Option<ReplyState>, AllocError>
     ensures { IfOk result (λ o. option_map state_view o ≡ option_and_then read_state (get (codes "state") (view value.now))) }
 {
     match value.get("state") {

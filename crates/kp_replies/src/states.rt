@@ -5,13 +5,17 @@ ghost use Rattle.kp_results.specs.View.{state_view, next_view, nexts_view};
 ghost use Rattle.kp_replies.specs.Written.{with_pattern, with_state, state_tree, next_tree, next_trees};
 
 use crate::members::{empty_object, object_value, with_optional_at, with_pattern_at};
-use kp_results::{NextState, State};
+use kp_results::{NextState, ReplyState};
 use kp_rpc::{Object, with_text_at};
 use serde_json::Value;
 use std::alloc::{AllocError, Global};
 
 /// The object with the members of a state.
-fn with_state_at(alloc: Global, object: Object, state: &State) -> Result<Option<Object>, AllocError>
+fn with_state_at(
+    alloc: Global,
+    object: Object,
+    state: &ReplyState,
+) -> Result<Option<Object>, AllocError>
     ensures { IfOk result (λ o. option_map (λ m. members_view m.entries) o ≡ with_state (state_view state.now) (members_view object.entries)) }
 {
     match with_pattern_at(alloc, object, "term", &state.term)? {
@@ -21,7 +25,7 @@ fn with_state_at(alloc: Global, object: Object, state: &State) -> Result<Option<
 }
 
 /// The tree of a state; none where Kore JSON has no tag for a pattern in it.
-pub fn state_value(alloc: Global, state: &State) -> Result<Option<Value>, AllocError>
+pub fn state_value(alloc: Global, state: &ReplyState) -> Result<Option<Value>, AllocError>
     ensures { IfOk result (λ o. option_map view o ≡ state_tree (state_view state.now)) }
 {
     Ok(object_value(with_state_at(alloc, empty_object(alloc), state)?))

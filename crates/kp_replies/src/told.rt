@@ -184,8 +184,9 @@ fn is_member_word(value: &Value, key: &str, word: &str) -> bool
 
 /// Whether a member names what isn't decided of a run that is aborted.
 fn is_left_open(value: &Value) -> bool
-    ensures { result ≡ is_word (text_in (get (codes "reason") (view value.now))) (codes "aborted")
-        && (is_some (get (codes "limit") (view value.now)) || is_some (get (codes "unknown-predicate") (view value.now))) }
+    ensures { let value' = view value.now in
+        result ≡ is_word (text_in (get (codes "reason") value')) (codes "aborted")
+        && (is_some (get (codes "limit") value') || is_some (get (codes "unknown-predicate") value')) }
 {
     if !is_member_word(value, "reason", "aborted") {
         return false;

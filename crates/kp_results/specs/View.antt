@@ -7,7 +7,7 @@ use Rattle.kp_kore.specs.Implied as theory
 use Rattle.kp_results.specs.Results as parts
 use Rattle.kp_results.specs.Results.{StateParts, NextParts, Ending, ExecutedParts}
 use Rattle.kp_results.specs.declared.executed.Options.{Options as RustOptions}
-use Rattle.kp_results.specs.declared.executed.State.{State}
+use Rattle.kp_results.specs.declared.executed.ReplyState.{ReplyState}
 use Rattle.kp_results.specs.declared.executed.NextState.{NextState}
 use Rattle.kp_results.specs.declared.executed.Cause.{Cause as RustCause}
 use Rattle.kp_results.specs.declared.executed.Cause.TheVariants as cause
@@ -26,7 +26,7 @@ use Rattle.kp_results.specs.declared.undecided.Undecided.TheVariants as undecide
 abbrev pub options_view : RustOptions → Options
 options_view o = record { bound = o.bound; cut_points = map string_bytes o.cut_points.items; terminals = map string_bytes o.terminals.items }
 
-abbrev pub state_view : State → StateParts
+abbrev pub state_view : ReplyState → StateParts
 state_view s = record { term = view s.term; predicate = option_map view s.predicate }
 
 abbrev pub next_view : NextState → NextParts

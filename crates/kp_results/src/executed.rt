@@ -11,7 +11,7 @@ pub struct Options {
 
 /// A state: its term, and its predicate where it has one.
 #[derive(Drop)]
-pub struct State {
+pub struct ReplyState {
     pub term: Pattern,
     pub predicate: Option<Pattern>,
 }
@@ -22,7 +22,7 @@ pub struct State {
 pub struct NextState {
     pub rule: Option<String>,
     pub predicate: Pattern,
-    pub state: State,
+    pub state: ReplyState,
 }
 
 /// Why a run is aborted.
@@ -57,7 +57,7 @@ pub enum Reason {
 #[derive(Drop)]
 pub struct Executed {
     pub depth: u64,
-    pub state: State,
+    pub state: ReplyState,
     pub reason: Reason,
     pub next_states: Vec<NextState>,
 }

@@ -6,6 +6,6 @@ mod executed;
 mod implied;
 mod undecided;
 
-pub use executed::{Cause, Executed, NextState, Options, Reason, State};
+pub use executed::{Cause, Executed, NextState, Options, Reason, ReplyState};
 pub use implied::Implied;
 pub use undecided::{Limit, Undecided, Weight};

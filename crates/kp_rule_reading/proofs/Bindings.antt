@@ -6,7 +6,7 @@ use Rattle.kp_kore.specs.Signature.{KoreSignature}
 use Rattle.kp_kore.specs.Rules as model
 use Rattle.kp_ground.specs.Slots.{is_numbered, left_places, left_variables, term_reads, condition_reads}
 use Rattle.kp_ground.specs.declared.left.Left.{Left}
-use Rattle.kp_ground.specs.declared.term.Term.{Term}
+use Rattle.kp_ground.specs.declared.term.CompiledTerm.{CompiledTerm}
 use Rattle.kp_ground.specs.declared.condition.Condition.{Condition}
 use Rattle.kp_compile.specs.Exact.{HasPlacesOf, are_named}
 use Rattle.kp_compile.proofs.Reading.{both_so, left_named}
@@ -24,7 +24,7 @@ pub bound_by_left : (l : Left) (xs : List Text) (tests : List SortTest) (conditi
 bound_by_left l xs tests condition e numbered tested read = both_so _ _ numbered (subst (λ ys. tests_read ys tests && condition_reads ys condition ≡ true) e (both_so _ _ tested read))
 
 -- a rule that chooses keeps its right side
-pub right_by_left : (g : KoreSignature) (m : model.Rewrite) (l : Left) (xs : List Text) (chooses : Bool) (o : Option RightSide) (t : Term) → xs ≡ left_variables l → IsChoiceOf g m chooses o → (chooses ≡ false → term_reads xs t ≡ true) →
+pub right_by_left : (g : KoreSignature) (m : model.Rewrite) (l : Left) (xs : List Text) (chooses : Bool) (o : Option RightSide) (t : CompiledTerm) → xs ≡ left_variables l → IsChoiceOf g m chooses o → (chooses ≡ false → term_reads xs t ≡ true) →
     is_right_bound l chooses o t ≡ true
 right_by_left g m l xs true (Some s) t e choice reads = refl
 right_by_left g m l xs true None t e choice reads = absurd choice

@@ -23,7 +23,7 @@ use Rattle.kp_signature.proofs.SortedInstances.{none_among, none_in_first, none_
 use Rattle.kp_ground.specs.Slots.{term_reads}
 use Rattle.kp_ground.specs.Terms.{stays_narrow}
 use Rattle.kp_ground.specs.TermView.{term_view}
-use Rattle.kp_ground.specs.declared.term.Term.{Term}
+use Rattle.kp_ground.specs.declared.term.CompiledTerm.{CompiledTerm}
 use Rattle.kp_compile.specs.Exact.{IsNarrowAs, ReadsAs, are_named}
 use Rattle.kp_compile.specs.Verified.{misapplies_injection, IsVerifiedTerm}
 use Rattle.kp_compile.proofs.Reading.{both_so}
@@ -119,7 +119,7 @@ both_kept : (h n w : Bool) → h ≡ false → n ≡ n && not (h && w)
 both_kept true n w e = absurd (cc)
 both_kept false n w e = sym (and_true n)
 
-pub left_out : (g : KoreSignature) (xs : List Text) (new : List SortedName) (q : KorePattern) (old now : List Term) → now ≡ old → holds_none new q ≡ false → AddsOldPart g xs new q old now
+pub left_out : (g : KoreSignature) (xs : List Text) (new : List SortedName) (q : KorePattern) (old now : List CompiledTerm) → now ≡ old → holds_none new q ≡ false → AddsOldPart g xs new q old now
 left_out g xs new q old now same has = record {
   narrow = λ v. ap (all_narrow v) same ∙ both_kept (holds_none new q) (all_narrow v old) (computes_wide g v q) has;
   reads = λ named read. subst (λ ts. list_all (term_reads xs) ts ≡ true) (sym same) read;
@@ -129,7 +129,7 @@ one_more : (s h w : Bool) → h ≡ true → s ≡ not w → s && true ≡ not (
 one_more s true w e k = and_true s ∙ k
 one_more s false w e k = absurd (cc)
 
-pub taken_in : (g : KoreSignature) (xs : List Text) (new : List SortedName) (q : KorePattern) (t : Term) (old now : List Term) → now ≡ old ++ t ∷ [] → holds_none new q ≡ true → IsNarrowAs g q t → ReadsAs xs q t → AddsOldPart g xs new q old now
+pub taken_in : (g : KoreSignature) (xs : List Text) (new : List SortedName) (q : KorePattern) (t : CompiledTerm) (old now : List CompiledTerm) → now ≡ old ++ t ∷ [] → holds_none new q ≡ true → IsNarrowAs g q t → ReadsAs xs q t → AddsOldPart g xs new q old now
 taken_in g xs new q t old now added has narrow reads = record {
   narrow = λ v. ap (all_narrow v) added
       ∙ list_all-append (λ s. stays_narrow v (term_view s)) old (t ∷ [])
@@ -158,7 +158,7 @@ joined true false r = refl
 joined false w r = refl
 
 -- the parts from the place on, beside what is compiled of those before
-pub one_further : (g : KoreSignature) (v : Valuation) (new : List SortedName) (ps : List (Bor Pattern)) (i : ℕ) (d : Bor Pattern) (old now : List Term) (whole : Bool) → i < length ps → d ≡ get_or ps i d →
+pub one_further : (g : KoreSignature) (v : Valuation) (new : List SortedName) (ps : List (Bor Pattern)) (i : ℕ) (d : Bor Pattern) (old now : List CompiledTerm) (whole : Bool) → i < length ps → d ≡ get_or ps i d →
     all_narrow v now ≡ all_narrow v old && not (holds_none new (view d.now) && computes_wide g v (view d.now)) →
     all_narrow v old && not (list_any (λ q. holds_none new q && computes_wide g v q) (seen (drop i ps))) ≡ whole →
     all_narrow v now && not (list_any (λ q. holds_none new q && computes_wide g v q) (seen (drop (i + 1) ps))) ≡ whole

@@ -12,7 +12,7 @@ use Rattle.kp_kore.specs.Numbers.{computes_wide}
 use Rattle.kp_ground.specs.Conditions.{condition_holds, condition_narrow}
 use Rattle.kp_ground.specs.ConditionView.{condition_view}
 use Rattle.kp_ground.specs.Slots.{term_reads, condition_reads}
-use Rattle.kp_ground.specs.declared.term.Term.{Term}
+use Rattle.kp_ground.specs.declared.term.CompiledTerm.{CompiledTerm}
 use Rattle.kp_compile.specs.Exact.{IsTermOf, IsNarrowAs, ReadsAs, are_named}
 use Rattle.kp_rules.specs.Bodies.{IsVerifiedLeft, IsChoiceOf}
 use Rattle.kp_rules.specs.Bound.{tests_read, names_of_choice}
@@ -32,17 +32,17 @@ abbrev pub IsOldNamed : List Text → List SortedName → KorePattern → Type 0
 IsOldNamed xs new q = holds_none new q ≡ true → are_named xs (free_variables q) ≡ true
 
 -- what is compiled of these patterns: those in which no new variable stands
-pub record AreOldParts (g : KoreSignature) (xs : List Text) (new : List SortedName) (qs : List KorePattern) (ts : List Term) : Type 0 where
+pub record AreOldParts (g : KoreSignature) (xs : List Text) (new : List SortedName) (qs : List KorePattern) (ts : List CompiledTerm) : Type 0 where
   pub narrow : (v : Valuation) → all_narrow v ts ≡ not (list_any (λ q. holds_none new q && computes_wide g v q) qs)
   pub reads : AllByRecursion (IsOldNamed xs new) qs → list_all (term_reads xs) ts ≡ true
 
 -- and one pattern more
-pub record AddsOldPart (g : KoreSignature) (xs : List Text) (new : List SortedName) (q : KorePattern) (old now : List Term) : Type 0 where
+pub record AddsOldPart (g : KoreSignature) (xs : List Text) (new : List SortedName) (q : KorePattern) (old now : List CompiledTerm) : Type 0 where
   pub narrow : (v : Valuation) → all_narrow v now ≡ all_narrow v old && not (holds_none new q && computes_wide g v q)
   pub reads : IsOldNamed xs new q → list_all (term_reads xs) old ≡ true → list_all (term_reads xs) now ≡ true
 
 -- the right term, and what is kept of the right side
-pub record IsRightOf (g : KoreSignature) (xs : List Text) (m : model.Rewrite) (chooses : Bool) (t : Term) (o : Option RightSide) : Type 0 where
+pub record IsRightOf (g : KoreSignature) (xs : List Text) (m : model.Rewrite) (chooses : Bool) (t : CompiledTerm) (o : Option RightSide) : Type 0 where
   pub term : IsTermOf g m.right t
   pub narrow : IsNarrowAs g m.right t
   pub reads : ReadsAs xs m.right t

@@ -13,7 +13,7 @@ ghost use Rattle.kp_rules.specs.WideParts.{holds_none};
 ghost use Rattle.kp_rule_reading.specs.Compiled.{AreOldParts, AddsOldPart};
 
 use kp_compile::{CompileError, NameSet, compile_term, subpatterns};
-use kp_ground::Term;
+use kp_ground::CompiledTerm;
 use kp_kore::{Pattern, SortedVariable};
 use kp_rules::is_named;
 use kp_signature::Signature;
@@ -26,7 +26,7 @@ pub fn old_parts(
     term: &Pattern,
     new_variables: &[SortedVariable],
     names: &NameSet,
-) -> Result<Vec<Term>, CompileError>
+) -> Result<Vec<CompiledTerm>, CompileError>
     ensures parts { let new = map sorted_variable_view new_variables.now in IfOk result (λ ts. AreOldParts (signature_view signature.now) (names_seen names.now) new (parts_of (view term.now)) ts.items) }
     ensures refused { IfErr result (λ e. AllByRecursion (IsVerifiedTerm (signature_view signature.now)) (parts_of (view term.now)) → e ≡ Memory) }
 {
@@ -41,7 +41,7 @@ fn old_among(
     parts: &[&Pattern],
     new_variables: &[SortedVariable],
     names: &NameSet,
-) -> Result<Vec<Term>, CompileError>
+) -> Result<Vec<CompiledTerm>, CompileError>
     ensures parts { let new = map sorted_variable_view new_variables.now in IfOk result (λ ts. AreOldParts (signature_view signature.now) (names_seen names.now) new (seen parts.now) ts.items) }
     ensures refused { IfErr result (λ e. AllByRecursion (IsVerifiedTerm (signature_view signature.now)) (seen parts.now) → e ≡ Memory) }
 {
@@ -59,7 +59,7 @@ fn add_old(
     part: &Pattern,
     new_variables: &[SortedVariable],
     names: &NameSet,
-    found: &mut Vec<Term>,
+    found: &mut Vec<CompiledTerm>,
 ) -> Result<(), CompileError>
     ensures added { let new = map sorted_variable_view new_variables.now in OnOk result (AddsOldPart (signature_view signature.now) (names_seen names.now) new (view part.now) found.old.items found.new.items) }
     ensures refused { IfErr result (λ e. IsVerifiedTerm (signature_view signature.now) (view part.now) → e ≡ Memory) }

@@ -16,7 +16,7 @@ use crate::choice::choice_of;
 use crate::sides::sides_of;
 use crate::sort_test::sort_tests;
 use kp_compile::{CompileError, NameSet, compile_condition, compile_left, compile_term};
-use kp_ground::{Condition, Term};
+use kp_ground::{CompiledTerm, Condition};
 use kp_kore::{Pattern, Sort};
 use kp_rules::shape::Shape;
 use kp_rules::{Rewrite, RightSide, SortTest};
@@ -28,7 +28,7 @@ use std::alloc::Global;
 pub struct Parts {
     pub tests: Vec<SortTest>,
     pub condition: Condition,
-    pub right: Term,
+    pub right: CompiledTerm,
     pub choice: Option<RightSide>,
 }
 
@@ -96,7 +96,7 @@ fn compile_right(
     right: &Pattern,
     names: NameSet,
     chooses: bool,
-) -> Result<(Term, Option<RightSide>), CompileError>
+) -> Result<(CompiledTerm, Option<RightSide>), CompileError>
     requires named { are_named (names_seen names) (free_variables (view shape.now.left.term.now)) ≡ true }
     requires known { IsKnownRight (rewrite_seen (view right.now) shape.now) }
     ensures made { let the_rewrite_seen = rewrite_seen (view right.now) shape.now in IfOk result (λ o. IsRightOf (signature_view signature.now) (names_seen names) the_rewrite_seen chooses o.0 o.1) }

@@ -143,7 +143,8 @@ impl Index {
 
     /// Adds the place of the next rule by turn.
     fn add(&mut self, alloc: Global, tops: &Tops<'_>, ranked: Ranked) -> Result<(), AllocError>
-        ensures { (own : Top → ℕ → Bool) (all : ℕ → Bool) (seen : List Ranked) → Fills own all seen self.old → ((h : Top) → own h ranked.place ≡ is_only (tops_view tops.now) h) → all ranked.place ≡ is_any (tops_view tops.now) →
+        ensures { let tops' = tops_view tops.now in
+            (own : Top → ℕ → Bool) (all : ℕ → Bool) (seen : List Ranked) → Fills own all seen self.old → ((h : Top) → own h ranked.place ≡ is_only tops' h) → all ranked.place ≡ is_any tops' →
             OnOk result (Fills own all (seen ++ ranked ∷ []) self.new) }
     {
         match tops {

@@ -1,5 +1,5 @@
 // What texts spell.
-use kp_compile::{State, state_of};
+use kp_compile::{GroundState, state_of};
 use kp_ground::Value;
 use kp_kore::{Module, Pattern, Sort};
 use kp_signature::Signature;
@@ -43,7 +43,7 @@ pub(crate) fn value(alloc: Global, signature: &Signature, text: &str) -> Result<
     let pattern = pattern(alloc, text)?;
     match state_of(alloc, signature, &pattern, sort(alloc, "S")?) {
         Ok(state) => {
-            let State { value, .. } = state;
+            let GroundState { value, .. } = state;
             Ok(value)
         }
         Err(_) => Err(Fail::from("no value")),

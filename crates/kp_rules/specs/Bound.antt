@@ -4,7 +4,7 @@ use Rattle.std.specs.List.{list_all}
 use Rattle.kp_kore.specs.Syntax.{Text}
 use Rattle.kp_ground.specs.Slots.{stands_at, is_numbered, left_places, left_variables, term_reads, condition_reads}
 use Rattle.kp_ground.specs.declared.left.Left.{Left}
-use Rattle.kp_ground.specs.declared.term.Term.{Term}
+use Rattle.kp_ground.specs.declared.term.CompiledTerm.{CompiledTerm}
 use Rattle.kp_ground.specs.declared.condition.Condition.{Condition}
 use Rattle.kp_compile.specs.Names.{names_seen}
 use Rattle.kp_rules.specs.declared.right_side.RightSide.{RightSide}
@@ -19,7 +19,7 @@ abbrev pub is_left_bound : Left → List SortTest → Condition → Bool
 is_left_bound l tests c = is_numbered [] (left_places l) && (tests_read (left_variables l) tests && condition_reads (left_variables l) c)
 
 -- nor does the right term of a rule that doesn't choose
-abbrev pub is_right_bound : Left → Bool → Option RightSide → Term → Bool
+abbrev pub is_right_bound : Left → Bool → Option RightSide → CompiledTerm → Bool
 is_right_bound l chooses choice t = (chooses && is_some choice) || term_reads (left_variables l) t
 
 -- the names that are kept beside the right side of a rule that chooses; where there is none, those that are given

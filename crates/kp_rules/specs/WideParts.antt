@@ -9,7 +9,7 @@ use Rattle.kp_kore.specs.Instance.{Valuation, is_named}
 use Rattle.kp_kore.specs.Numbers.{computes_wide}
 use Rattle.kp_ground.specs.Terms.{stays_narrow}
 use Rattle.kp_ground.specs.TermView.{term_view}
-use Rattle.kp_ground.specs.declared.term.Term.{Term}
+use Rattle.kp_ground.specs.declared.term.CompiledTerm.{CompiledTerm}
 
 -- no new variable stands in the pattern
 abbrev pub holds_none : List SortedName → KorePattern → Bool
@@ -20,5 +20,5 @@ abbrev pub part_computes_wide : KoreSignature → Valuation → List SortedName 
 part_computes_wide g v new p = list_any (λ q. holds_none new q && computes_wide g v q) (subpatterns p)
 
 -- each of the compiled terms stays within 128 bits
-abbrev pub all_narrow : Valuation → List Term → Bool
+abbrev pub all_narrow : Valuation → List CompiledTerm → Bool
 all_narrow v ts = list_all (λ t. stays_narrow v (term_view t)) ts

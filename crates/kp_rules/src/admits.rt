@@ -28,7 +28,7 @@ impl Skeleton {
         signature: &Signature,
         value: &Value,
     ) -> Result<bool, AllocError>
-        ensures { IsSorted (signature_view signature.now) (value_view value.now) → IfOk result (λ b. IsTrue b ↔ IsAdmitted (signature_view signature.now) self.now (value_view value.now)) }
+        ensures { let g = signature_view signature.now in let value' = value_view value.now in IsSorted g value' → IfOk result (λ b. IsTrue b ↔ IsAdmitted g self.now value') }
     {
         let bindings = self.match_value(alloc, signature, value, Vec::new(alloc))?;
         Ok(bindings.is_some())

@@ -90,7 +90,7 @@ impl Rewrite {
         ensures solvable { IsSolvable bindings.items → IfOk result (λ o. IfSome o (λ new. IsSolvable new.items)) }
         ensures firing { (u : model.Value) → Binds self.now bindings.items u → IsSolvable bindings.items → FindsFiring result (signature_view signature.now) self.now u }
         ensures number { (u : model.Value) → Binds self.now bindings.items u → IsSolvable bindings.items → IfErr result (λ e. e ≡ Number → IsWide (signature_view signature.now) self.now u) }
-        ensures narrow { (u : model.Value) → Binds self.now bindings.items u → IfOk result (λ o. (v : Valuation) → Meets (signature_view signature.now) self.now v u → condition_narrow v (condition_view self.now.condition) ≡ true) }
+        ensures narrow { let g = signature_view signature.now in (u : model.Value) → Binds self.now bindings.items u → IfOk result (λ o. (v : Valuation) → Meets g self.now v u → condition_narrow v (condition_view self.now.condition) ≡ true) }
     {
         let passed = pass(&self.tests, alloc, signature, &bindings)?;
         self.fires_where(alloc, passed, bindings)

@@ -10,7 +10,7 @@ ghost use Rattle.kp_compile.specs.Names.{names_seen};
 ghost use Rattle.kp_rules.specs.Known.{are_known};
 
 use kp_compile::NameSet;
-use kp_ground::Term;
+use kp_ground::CompiledTerm;
 use kp_kore::{Pattern, SortedVariable};
 
 /// The right side of a rule: a term, what it ensures, and the variables that stand for other values each time. Each of
@@ -25,7 +25,7 @@ pub struct RightSide {
     /// Their names, each once, by slot.
     pub left_names: NameSet,
     /// The parts of the term in which no new variable stands, compiled.
-    pub parts: Vec<Term>,
+    pub parts: Vec<CompiledTerm>,
     pub ghost known: { are_known (map sorted_variable_view left_variables.items) (map sorted_variable_view new_variables.items) (view term) (map view ensured.items) ≡ true } by { Prim.hlevel props },
     pub ghost named: { are_named (names_seen left_names) (map sorted_variable_view left_variables.items) ≡ true } by { Prim.hlevel props },
     pub ghost bound: { list_all (term_reads (names_seen left_names)) parts.items ≡ true } by { Prim.hlevel props },

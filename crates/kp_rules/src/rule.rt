@@ -6,7 +6,7 @@ ghost use Rattle.kp_rules.specs.Bound.{is_left_bound, is_right_bound, names_of_c
 use crate::right_side::RightSide;
 use crate::sides::Sides;
 use crate::skeleton::Skeleton;
-use kp_ground::{Condition, Left, Term};
+use kp_ground::{CompiledTerm, Condition, Left};
 use kp_kore::{Name, Sort};
 use std::sync::Arc;
 
@@ -54,7 +54,7 @@ pub struct Rewrite {
     pub left: Left,
     pub tests: Vec<SortTest>,
     pub condition: Condition,
-    pub right: Term,
+    pub right: CompiledTerm,
     pub right_sort: Sort,
     /// A new variable or an ensured condition other than `\top`: more than one configuration may follow, or none.
     pub chooses: bool,

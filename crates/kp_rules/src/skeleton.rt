@@ -98,7 +98,7 @@ fn any_result_of_alias(
     symbol: &str,
     sorts: &[Sort],
 ) -> Result<Skeleton, AllocError>
-    ensures { symbol_declared (signature_view signature.now) symbol.now ≡ None → IfOk result (λ k. skeleton_view k ≡ maybe_form (result_sort (signature_view signature.now) symbol.now (sorts_view sorts.now))) }
+    ensures { let g = signature_view signature.now in symbol_declared g symbol.now ≡ None → IfOk result (λ k. skeleton_view k ≡ maybe_form (result_sort g symbol.now (sorts_view sorts.now))) }
 {
     match signature.alias(symbol) {
         Some(found) => Ok(any_at(alloc, &found.result_sort, &found.parameters, sorts)?),
@@ -330,7 +330,7 @@ pub fn skeleton_of_left(
     left: &Pattern,
 ) -> Result<Skeleton, AllocError>
     requires index { IsIndexOf (signature_view signature.now) index.now }
-    ensures { IfOk result (λ k. (u : model.Value) → IsSorted (signature_view signature.now) u → IsAdmitted (signature_view signature.now) k u ↔ IsSkeletonInstance (signature_view signature.now) (record { sort = sort_view sort.now; term = constrained_term (view left.now) }) u) }
+    ensures { let g = signature_view signature.now in IfOk result (λ k. (u : model.Value) → IsSorted g u → IsAdmitted g k u ↔ IsSkeletonInstance g (record { sort = sort_view sort.now; term = constrained_term (view left.now) }) u) }
 {
     match constrained_side(alloc, left)? {
         Some(side) => Ok(skeleton_of(side.term, alloc, signature, index, MOST_DEPTH)?),

@@ -23,7 +23,7 @@ use Rattle.kp_rules.specs.declared.rule.RuleBody.{RuleBody}
 use Rattle.kp_rules.specs.declared.rule.RuleBody.TheVariants.{Rewrite, Foreign}
 use Rattle.kp_rule_sets.specs.declared.rule_set.RuleSet.{RuleSet}
 use Rattle.kp_rules.proofs.Fired.{fired_under}
-use Rattle.kp_compile.specs.declared.state.State.{State}
+use Rattle.kp_compile.specs.declared.state.GroundState.{GroundState}
 use Rattle.kp_run.specs.declared.firing.GroundFiring.{GroundFiring}
 use Rattle.kp_run.specs.Runs.{IsStuck, written_of}
 use Rattle.kp_compile.specs.Spelled.{spelling}
@@ -51,7 +51,7 @@ none_wide t rules u runs s narrow some =
     (zip_any_back (IsCodeOf g) (λ r. BodyIsWide g u r.body.value) (λ m. HasWideCondition g u m.body) (λ m r is h. wide_back g u m.body r.body.value s is.is_body h) t.rules rules.rules.items runs.each some)
 
 -- where none fires
-pub stuck_without : (t : Theory) (rules : RuleSet) (s : State) → RunsAs t rules → IsSorted t.signature (value_view s.value) →
+pub stuck_without : (t : Theory) (rules : RuleSet) (s : GroundState) → RunsAs t rules → IsSorted t.signature (value_view s.value) →
     AllByRecursion (λ r. ¬ BodyIsWide (signature_view rules.signature.value) (value_view s.value) r.body.value) rules.rules.items → IsStuck t (value_view s.value) → IsNotStepped t (written_of s) → ⊥
 stuck_without t rules s runs sorted narrow stuck (wide_condition some) = none_wide t rules (value_view s.value) runs sorted narrow some
 stuck_without t rules s runs sorted narrow stuck (several two) =
@@ -82,7 +82,7 @@ not_at_one : (t : Theory) (u : Value) (f : GroundFiring) (S : model.RewriteRule 
 not_at_one t u f S one at later some =
     none_in (λ m. S m → ⊥) S (λ m isnt h. isnt h) t.rules (one_all (FiresWith t.signature u f) (FiresAfter t.signature u f.priority) (λ m. S m → ⊥) at later t.rules one) some
 
-not_wide : (g : KoreSignature) (u : Value) (f : GroundFiring) (next : State) (m : model.RewriteRule) → IsSorted g u → IsFollowed g f next → FiresWith g u f m → HasWideRight g u m.body → ⊥
+not_wide : (g : KoreSignature) (u : Value) (f : GroundFiring) (next : GroundState) (m : model.RewriteRule) → IsSorted g u → IsFollowed g f next → FiresWith g u f m → HasWideRight g u m.body → ⊥
 not_wide g u f next m s followed k h =
     let w : WideRight g u k.meant.meant = subst (HasWideRight g u) k.meant.body h in
     let narrow : stays_narrow w.valuation (term_view f.rewrite.now.right) ≡ true =
@@ -103,7 +103,7 @@ some_is a b e = cc
 pub written_there : (g : KoreSignature) (w : model.Rewrite) (right state written : KoreSort) → IsWrittenAs g w state written → sort_of_term g w.right ≡ Some right → IsWrittenAt g right state written
 written_there g w right state written is e = subst (λ r. IsWrittenAt g r state written) (some_is is.right right (sym is.is_right ∙ e)) is.place
 
-not_deep : (t : Theory) (s next : State) (f : GroundFiring) (m : model.RewriteRule) → IsSorted t.signature (value_view s.value) → IsAfterFiring t.signature f next → IsFollowed t.signature f next →
+not_deep : (t : Theory) (s next : GroundState) (f : GroundFiring) (m : model.RewriteRule) → IsSorted t.signature (value_view s.value) → IsAfterFiring t.signature f next → IsFollowed t.signature f next →
     IsWrittenAt t.signature (sort_view f.rewrite.now.right_sort) (sort_view s.sort) (sort_view next.sort) →
     FiresWith t.signature (value_view s.value) f m → StepsTooDeep t (written_of s) m → ⊥
 not_deep t s next f m sorted after followed written k d =
@@ -119,12 +119,12 @@ not_deep t s next f m sorted after followed written k d =
     beyond n le lt = absurd (omega arith)
 
 -- what a step of a firing comes with
-pub record IsStepOf (g : KoreSignature) (s next : State) (f : GroundFiring) : Type 0 where
+pub record IsStepOf (g : KoreSignature) (s next : GroundState) (f : GroundFiring) : Type 0 where
   pub after : IsAfterFiring g f next
   pub followed : IsFollowed g f next
   pub written : IsWrittenAt g (sort_view f.rewrite.now.right_sort) (sort_view s.sort) (sort_view next.sort)
 
-there_without : (t : Theory) (rules : RuleSet) (s next : State) (f : GroundFiring) → RunsAs t rules → IsSorted t.signature (value_view s.value) →
+there_without : (t : Theory) (rules : RuleSet) (s next : GroundState) (f : GroundFiring) → RunsAs t rules → IsSorted t.signature (value_view s.value) →
     AllByRecursion (λ r. ¬ BodyIsWide (signature_view rules.signature.value) (value_view s.value) r.body.value) rules.rules.items → IsOneOf t (value_view s.value) f →
     IsStepOf t.signature s next f → IsNotStepped t (written_of s) → ⊥
 there_without t rules s next f runs sorted narrow one step (wide_condition some) = none_wide t rules (value_view s.value) runs sorted narrow some
@@ -150,7 +150,7 @@ there_without t rules s next f runs sorted narrow one step (deep some) =
     (λ m k d. not_deep t s next f m sorted step.after step.followed step.written k d)
     (λ m later d. no_step_after t u f m d.next sorted one later d.steps) some
 
-pub goes_without : (t : Theory) (rules : RuleSet) (s next : State) (f : GroundFiring) → RunsAs t rules → IsSorted t.signature (value_view s.value) →
+pub goes_without : (t : Theory) (rules : RuleSet) (s next : GroundState) (f : GroundFiring) → RunsAs t rules → IsSorted t.signature (value_view s.value) →
     AllByRecursion (λ r. ¬ BodyIsWide (signature_view rules.signature.value) (value_view s.value) r.body.value) rules.rules.items → IsOneOf t (value_view s.value) f →
     IsStepOf (signature_view rules.signature.value) s next f → IsNotStepped t (written_of s) → ⊥
 goes_without t rules s next f runs sorted narrow one step =

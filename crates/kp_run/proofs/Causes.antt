@@ -21,7 +21,7 @@ use Rattle.kp_rules.specs.declared.rule.RuleBody.{RuleBody}
 use Rattle.kp_rules.specs.declared.rule.RuleBody.TheVariants.{Rewrite, Foreign}
 use Rattle.kp_rule_sets.specs.declared.rule_set.RuleSet.{RuleSet}
 use Rattle.kp_rules.proofs.Fired.{fired_under}
-use Rattle.kp_compile.specs.declared.state.State.{State}
+use Rattle.kp_compile.specs.declared.state.GroundState.{GroundState}
 use Rattle.kp_run.specs.declared.firing.GroundFiring.{GroundFiring}
 use Rattle.kp_run.specs.declared.step.Turn.TheVariants.{Several}
 use Rattle.kp_run.specs.Causes.{HasWideCondition, HasWideRight, Chooses, IsWrittenAt, IsWrittenBy, StepsTooDeep, IsNotStepped, wide_condition, several, chooses, wide_right, deep}
@@ -45,7 +45,7 @@ wide_meant g u (model.foreign_rule l) (Foreign k) s is h = absurd h
 wide_meant g u (model.rewrite w) (Foreign k) s is h = absurd is
 wide_meant g u (model.foreign_rule l) (Rewrite r) s is h = absurd is
 
-pub wide_stops : (t : Theory) (rules : RuleSet) (s : State) → RunsAs t rules → IsSorted t.signature (value_view s.value) →
+pub wide_stops : (t : Theory) (rules : RuleSet) (s : GroundState) → RunsAs t rules → IsSorted t.signature (value_view s.value) →
     AnyByRecursion (λ r. BodyIsWide (signature_view rules.signature.value) (value_view s.value) r.body.value) rules.rules.items → IsNotStepped t (written_of s)
 wide_stops t rules s runs sorted h =
     let g = t.signature in
@@ -74,7 +74,7 @@ turn_at t u n m r s none is h =
     let same : m.priority ≡ n = is.is_priority e.0 e.1 ∙ h.1 in
     record { fires = (same_firing g m.body r.body.value u s is.is_body).0 h.0; none_before = subst (λ k. NoneBefore t k u) (sym same) none }
 
-pub several_stop : (t : Theory) (rules : RuleSet) (s : State) (n : ℕ) → RunsAs t rules → IsSorted t.signature (value_view s.value) →
+pub several_stop : (t : Theory) (rules : RuleSet) (s : GroundState) (n : ℕ) → RunsAs t rules → IsSorted t.signature (value_view s.value) →
     IsTurn (signature_view rules.signature.value) (value_view s.value) rules.rules.items (Several n) → IsNotStepped t (written_of s)
 several_stop t rules s n runs sorted turn =
     let g = t.signature in
@@ -104,13 +104,13 @@ wide_at g u f m s wide k =
     })
 
 -- the sort that a firing's right side is written at
-pub written_by : (g : KoreSignature) (u : Value) (f : GroundFiring) (m : model.RewriteRule) (s next : State) → FiresWith g u f m →
+pub written_by : (g : KoreSignature) (u : Value) (f : GroundFiring) (m : model.RewriteRule) (s next : GroundState) → FiresWith g u f m →
     IsWrittenAt g (sort_view f.rewrite.now.right_sort) (sort_view s.sort) (sort_view next.sort) → IsWrittenBy g m.body (sort_view s.sort) (sort_view next.sort)
 written_by g u f m s next k at =
     subst (λ b. IsWrittenBy g b (sort_view s.sort) (sort_view next.sort)) (sym k.meant.body)
     (record { right = sort_view f.rewrite.now.right_sort; is_right = k.meant.is.right_sort; place = at })
 
-deep_at : (t : Theory) (s : State) (f : GroundFiring) (m : model.RewriteRule) → IsSorted t.signature (value_view s.value) → ¬ IsUnknown t (value_view s.value) → IsOneOf t (value_view s.value) f →
+deep_at : (t : Theory) (s : GroundState) (f : GroundFiring) (m : model.RewriteRule) → IsSorted t.signature (value_view s.value) → ¬ IsUnknown t (value_view s.value) → IsOneOf t (value_view s.value) f →
     IsDeep t.signature f (sort_view s.sort) → FiresWith t.signature (value_view s.value) f m → StepsTooDeep t (written_of s) m
 deep_at t s f m sorted known one d k = record {
   next = value_view d.next.value;
@@ -120,7 +120,7 @@ deep_at t s f m sorted known one d k = record {
   deep = d.deep;
 }
 
-not_followed_there : (t : Theory) (s : State) (f : GroundFiring) → IsSorted t.signature (value_view s.value) → ¬ IsUnknown t (value_view s.value) →
+not_followed_there : (t : Theory) (s : GroundState) (f : GroundFiring) → IsSorted t.signature (value_view s.value) → ¬ IsUnknown t (value_view s.value) →
     IsOneOf t (value_view s.value) f → NotFollowed t.signature f (sort_view s.sort) → IsNotStepped t (written_of s)
 not_followed_there t s f sorted known one (turns.chooses e) =
     let g = t.signature in
@@ -144,14 +144,14 @@ pub one_here : (t : Theory) (rules : RuleSet) (u : Value) (f : GroundFiring) →
 one_here t rules u f runs sorted one =
     one_of t rules u f runs sorted (subst (λ g. OneAmong (IsFiring g u f) (GoesAfter g u f.priority) rules.rules.items) runs.signature one)
 
-pub not_followed_stops : (t : Theory) (rules : RuleSet) (s : State) (f : GroundFiring) → RunsAs t rules → IsSorted t.signature (value_view s.value) → ¬ IsUnknown t (value_view s.value) →
+pub not_followed_stops : (t : Theory) (rules : RuleSet) (s : GroundState) (f : GroundFiring) → RunsAs t rules → IsSorted t.signature (value_view s.value) → ¬ IsUnknown t (value_view s.value) →
     OneAmong (IsFiring (signature_view rules.signature.value) (value_view s.value) f) (GoesAfter (signature_view rules.signature.value) (value_view s.value) f.priority) rules.rules.items →
     NotFollowed (signature_view rules.signature.value) f (sort_view s.sort) → IsNotStepped t (written_of s)
 not_followed_stops t rules s f runs sorted known one h =
     not_followed_there t s f sorted known (one_here t rules (value_view s.value) f runs sorted one)
     (subst (λ g. NotFollowed g f (sort_view s.sort)) runs.signature h)
 
-pub next_written : (t : Theory) (rules : RuleSet) (s next : State) (f : GroundFiring) → RunsAs t rules → IsSorted t.signature (value_view s.value) →
+pub next_written : (t : Theory) (rules : RuleSet) (s next : GroundState) (f : GroundFiring) → RunsAs t rules → IsSorted t.signature (value_view s.value) →
     OneAmong (IsFiring (signature_view rules.signature.value) (value_view s.value) f) (GoesAfter (signature_view rules.signature.value) (value_view s.value) f.priority) rules.rules.items →
     IsWrittenAt (signature_view rules.signature.value) (sort_view f.rewrite.now.right_sort) (sort_view s.sort) (sort_view next.sort) →
     AnyByRecursion (λ m. HasTurn t m (value_view s.value) × IsWrittenBy t.signature m.body (sort_view s.sort) (sort_view next.sort)) t.rules

@@ -25,7 +25,7 @@ use Rattle.kp_rules.specs.declared.rule.RuleBody.TheVariants.{Rewrite, Foreign}
 use Rattle.kp_rules.specs.declared.rule.Rewrite as code
 use Rattle.kp_rule_sets.specs.declared.rule_set.RuleSet.{RuleSet}
 use Rattle.kp_rules.proofs.Fired.{fired_under}
-use Rattle.kp_compile.specs.declared.state.State.{State}
+use Rattle.kp_compile.specs.declared.state.GroundState.{GroundState}
 use Rattle.kp_run.specs.declared.firing.GroundFiring.{GroundFiring}
 use Rattle.kp_rules.specs.declared.skeleton.Skeleton.{Skeleton}
 use Rattle.kp_run.specs.Runs.{IsAt, IsStuck, IsUnknownAs, IsFirstUnknown, kept_priority, GoesOnlyTo}
@@ -157,7 +157,7 @@ one_of t rules u f runs s one =
 -- ---- where a firing leads
 
 -- under each valuation that fires, the next value is the right term's instance
-right_value : (g : KoreSignature) (u : Value) (f : GroundFiring) (next : State) (w : model.Rewrite) → IsRewriteOf g w f.rewrite.now → IsSorted g u → ((v : Valuation) → Solves v f.bindings.items ↔ FiresAs g f.rewrite.now u v) →
+right_value : (g : KoreSignature) (u : Value) (f : GroundFiring) (next : GroundState) (w : model.Rewrite) → IsRewriteOf g w f.rewrite.now → IsSorted g u → ((v : Valuation) → Solves v f.bindings.items ↔ FiresAs g f.rewrite.now u v) →
     IsAfterFiring g f next → (v : Valuation) → FiresUnder g w v u → value_view next.value ≡ instance g v w.right
 right_value g u f next w is s solved after v fires = after.value v ((solved v).1 ((fired_under g w f.rewrite.now is u s v).1 fires)) ∙ is.right v
 
@@ -193,7 +193,7 @@ leads_only_to g w v other plain to =
     let off : AgreesOff [] v to.chosen = subst (λ xs. AgreesOff xs v to.chosen) plain.new_variables to.agrees in
     to.result ∙ same_instance g v to.chosen w.right (agree_everywhere v to.chosen (free_variables w.right) (λ x. off x refl))
 
-pub rewrites_to : (g : KoreSignature) (u : Value) (f : GroundFiring) (next : State) (m : model.RewriteRule) → IsSorted g u → IsAfterFiring g f next → FiresWith g u f m → Rewrites g m.body u (value_view next.value)
+pub rewrites_to : (g : KoreSignature) (u : Value) (f : GroundFiring) (next : GroundState) (m : model.RewriteRule) → IsSorted g u → IsAfterFiring g f next → FiresWith g u f m → Rewrites g m.body u (value_view next.value)
 rewrites_to g u f next m s after h =
     let w = h.meant.meant in
     let k = fired g u f m s h in
@@ -201,7 +201,7 @@ rewrites_to g u f next m s after h =
     subst (λ b. Rewrites g b u (value_view next.value)) (sym h.meant.body)
     (k.valuation, k.fires, leads_to g w k.valuation (value_view next.value) plain (right_value g u f next w h.meant.is s h.solved after k.valuation k.fires))
 
-pub rewrites_only_to : (g : KoreSignature) (u : Value) (f : GroundFiring) (next : State) (m : model.RewriteRule) (other : Value) → IsSorted g u → IsAfterFiring g f next → FiresWith g u f m → Rewrites g m.body u other → other ≡ value_view next.value
+pub rewrites_only_to : (g : KoreSignature) (u : Value) (f : GroundFiring) (next : GroundState) (m : model.RewriteRule) (other : Value) → IsSorted g u → IsAfterFiring g f next → FiresWith g u f m → Rewrites g m.body u other → other ≡ value_view next.value
 rewrites_only_to g u f next m other s after h r =
     let w = h.meant.meant in
     let k : Rewrites g (model.rewrite w) u other = subst (λ b. Rewrites g b u other) h.meant.body r in
@@ -216,7 +216,7 @@ none_before t u f one =
     (λ m h lt k. let same : m.priority ≡ f.priority = h.priority in absurd (omega arith))
     (λ m h lt k. let later : f.priority < m.priority = h k in absurd (omega arith)) t.rules one
 
-some_step : (t : Theory) (u : Value) (f : GroundFiring) (next : State) → IsSorted t.signature u → ¬ IsUnknown t u → IsOneOf t u f → IsAfterFiring t.signature f next → Steps t u (value_view next.value)
+some_step : (t : Theory) (u : Value) (f : GroundFiring) (next : GroundState) → IsSorted t.signature u → ¬ IsUnknown t u → IsOneOf t u f → IsAfterFiring t.signature f next → Steps t u (value_view next.value)
 some_step t u f next s known one after =
     let g = t.signature in
     one_any (FiresWith g u f) (FiresAfter g u f.priority) (λ m. StepsBy t m u (value_view next.value))
@@ -232,7 +232,7 @@ no_step_after t u f m other s one later step =
     (subst (λ b. Fires g b u) (sym h.meant.body) (let k = fired g u f n s h in (k.valuation, k.fires))))
     t.rules step.none_before (one_any (FiresWith g u f) (FiresAfter g u f.priority) (FiresWith g u f) (λ n h. h) t.rules one)
 
-only_step : (t : Theory) (u : Value) (f : GroundFiring) (next : State) (other : Value) → IsSorted t.signature u → IsOneOf t u f → IsAfterFiring t.signature f next → Steps t u other → other ≡ value_view next.value
+only_step : (t : Theory) (u : Value) (f : GroundFiring) (next : GroundState) (other : Value) → IsSorted t.signature u → IsOneOf t u f → IsAfterFiring t.signature f next → Steps t u other → other ≡ value_view next.value
 only_step t u f next other s one after steps =
     let g = t.signature in
     of_some (λ m. StepsBy t m u other → other ≡ value_view next.value) (λ m. StepsBy t m u other) (other ≡ value_view next.value) (λ m k b. k b) t.rules
@@ -242,7 +242,7 @@ only_step t u f next other s one after steps =
     steps
 
 -- and the sort of what it leads to
-next_is_at : (t : Theory) (u : Value) (f : GroundFiring) (next : State) → IsSorted t.signature u → IsOneOf t u f → IsAfterFiring t.signature f next → IsAt t next
+next_is_at : (t : Theory) (u : Value) (f : GroundFiring) (next : GroundState) → IsSorted t.signature u → IsOneOf t u f → IsAfterFiring t.signature f next → IsAt t next
 next_is_at t u f next s one after =
     let g = t.signature in
     of_the_one (FiresWith g u f) (FiresAfter g u f.priority) (IsAt t next)
@@ -252,7 +252,7 @@ next_is_at t u f next s one after =
     after.sort (subst (HasSort g (sort_view f.rewrite.now.right_sort)) (sym (right_value g u f next w h.meant.is s h.solved after k.valuation k.fires))
     (h.meant.is.sorted k.valuation k.fires.sorts plain.new_variables))) t.rules one
 
-goes_there : (t : Theory) (rules : RuleSet) (u : Value) (f : GroundFiring) (next : State) → RunsAs t rules → IsSorted t.signature u → ¬ IsUnknown t u →
+goes_there : (t : Theory) (rules : RuleSet) (u : Value) (f : GroundFiring) (next : GroundState) → RunsAs t rules → IsSorted t.signature u → ¬ IsUnknown t u →
     OneAmong (IsFiring t.signature u f) (GoesAfter t.signature u f.priority) rules.rules.items → IsAfterFiring t.signature f next →
     GoesOnlyTo t u (value_view next.value) × IsAt t next
 goes_there t rules u f next runs s known one after =
@@ -266,7 +266,7 @@ pub stuck_here : (t : Theory) (rules : RuleSet) (u : Value) → RunsAs t rules �
 stuck_here t rules u runs s known none =
     (none_fires_here t rules u runs s (subst (λ g. AllByRecursion (λ r. ¬ BodyFires g u r.body.value) rules.rules.items) runs.signature none), known)
 
-pub goes_here : (t : Theory) (rules : RuleSet) (u : Value) (f : GroundFiring) (next : State) → RunsAs t rules → IsSorted t.signature u → ¬ IsUnknown t u →
+pub goes_here : (t : Theory) (rules : RuleSet) (u : Value) (f : GroundFiring) (next : GroundState) → RunsAs t rules → IsSorted t.signature u → ¬ IsUnknown t u →
     OneAmong (IsFiring (signature_view rules.signature.value) u f) (GoesAfter (signature_view rules.signature.value) u f.priority) rules.rules.items → IsAfterFiring (signature_view rules.signature.value) f next →
     GoesOnlyTo t u (value_view next.value) × IsAt t next
 goes_here t rules u f next runs s known one after =

@@ -14,7 +14,7 @@ use Rattle.kp_kore.specs.Steps.{Steps, NoneFires, IsUnknown, IsUnknownBy}
 use Rattle.kp_kore.specs.Causes.{foreign}
 use Rattle.kp_kore.specs.Executions.{Reason, stuck, depth_bound, aborted}
 use Rattle.kp_ground.specs.View.{value_view}
-use Rattle.kp_compile.specs.declared.state.State.{State}
+use Rattle.kp_compile.specs.declared.state.GroundState.{GroundState}
 use Rattle.kp_run.specs.declared.run.RunEnd.{RunEnd}
 use Rattle.kp_run.specs.declared.run.Stop.{Stop}
 use Rattle.kp_run.specs.declared.run.Stop.TheVariants.{Stuck, DepthBound, ForeignRule}
@@ -23,7 +23,7 @@ use Rattle.kp_run.specs.declared.step.GroundNext.TheVariants as after
 use Rattle.kp_run.specs.Causes.{Written, IsNextState}
 
 -- the value has the sort that the state is written at
-abbrev pub IsAt : Theory → State → Type 0
+abbrev pub IsAt : Theory → GroundState → Type 0
 IsAt t s = HasSort t.signature (sort_view s.sort) (value_view s.value)
 
 -- no rule fires, and none is unknown
@@ -63,7 +63,7 @@ IsNext t c (after.ForeignRule id) = IsFirstUnknown t c (string_bytes id)
 IsNext t c (after.Stepped s ds) = GoesOnlyTo t c (value_view s.value) × IsAt t s
 
 -- a state, and the sort that it is written at
-abbrev pub written_of : State → Written
+abbrev pub written_of : GroundState → Written
 written_of s = record { value = value_view s.value; sort = sort_view s.sort }
 
 abbrev pub IsWrittenNext : Theory → Written → GroundNext → Type 0

@@ -19,7 +19,7 @@ use Rattle.kp_rules.specs.declared.rule.Rule.{Rule}
 use Rattle.kp_rules.specs.declared.rule.RuleBody.{RuleBody}
 use Rattle.kp_rules.specs.declared.rule.RuleBody.TheVariants.{Rewrite, Foreign}
 use Rattle.kp_compile.specs.Spelled.{spelling}
-use Rattle.kp_compile.specs.declared.state.State.{State}
+use Rattle.kp_compile.specs.declared.state.GroundState.{GroundState}
 use Rattle.kp_run.specs.Causes.{TwoAmong, IsWrittenAt}
 use Rattle.kp_run.specs.Runs.{OneBetween}
 use Rattle.kp_run.specs.declared.firing.GroundFiring.{GroundFiring}
@@ -80,7 +80,7 @@ IsTurn g u rules (Several n) = AllByRecursion (λ r. BodyFires g u r.body.value 
 
 -- the state after a firing: its value is the right term's under the bindings, and it has the sort that it is written
 -- at where it has the right term's
-pub record IsAfterFiring (g : KoreSignature) (f : GroundFiring) (next : State) : Type 0 where
+pub record IsAfterFiring (g : KoreSignature) (f : GroundFiring) (next : GroundState) : Type 0 where
   pub chooses : f.rewrite.now.chooses ≡ false
   pub value : (v : Valuation) → Solves v f.bindings.items → value_view next.value ≡ term_value v (term_view f.rewrite.now.right)
   pub sort : HasSort g (sort_view f.rewrite.now.right_sort) (value_view next.value) → HasSort g (sort_view next.sort) (value_view next.value)
@@ -94,7 +94,7 @@ BodyIsWide g u (Foreign k) = ⊥
 
 -- the state after the firing has a written term deeper than a state may be
 pub record IsDeep (g : KoreSignature) (f : GroundFiring) (state : KoreSort) : Type 0 where
-  pub next : State
+  pub next : GroundState
   pub after : IsAfterFiring g f next
   pub written : IsWrittenAt g (sort_view f.rewrite.now.right_sort) state (sort_view next.sort)
   pub deep : most_depth < term_depth (spelling g (sort_view next.sort) (value_view next.value))
@@ -106,6 +106,6 @@ pub data NotFollowed (g : KoreSignature) (f : GroundFiring) (state : KoreSort) :
   deep : IsDeep g f state → NotFollowed g f state
 
 -- and of a state that does follow: no number in the right side is beyond 128 bits, and it isn't too deep
-pub record IsFollowed (g : KoreSignature) (f : GroundFiring) (next : State) : Type 0 where
+pub record IsFollowed (g : KoreSignature) (f : GroundFiring) (next : GroundState) : Type 0 where
   pub narrow : (v : Valuation) → Solves v f.bindings.items → stays_narrow v (term_view f.rewrite.now.right) ≡ true
   pub within : term_depth (spelling g (sort_view next.sort) (value_view next.value)) ≤ most_depth

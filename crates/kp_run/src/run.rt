@@ -9,7 +9,7 @@ ghost use Rattle.kp_run.specs.declared.run.Stop.TheVariants.{Stuck, DepthBound, 
 
 use crate::error::RunError;
 use crate::step::{GroundNext, next_of};
-use kp_compile::State;
+use kp_compile::GroundState;
 use kp_depths::depths_of;
 use kp_rule_sets::RuleSet;
 use std::alloc::Global;
@@ -30,11 +30,16 @@ pub enum Stop {
 pub struct RunEnd {
     pub depth: u64,
     pub stop: Stop,
-    pub state: State,
+    pub state: GroundState,
 }
 
 /// Runs the rule set from a state for at most `bound` steps.
-pub fn execute(alloc: Global, rules: &RuleSet, state: State, bound: u64) -> Result<RunEnd, RunError>
+pub fn execute(
+    alloc: Global,
+    rules: &RuleSet,
+    state: GroundState,
+    bound: u64,
+) -> Result<RunEnd, RunError>
     ensures within { IfOk result (λ e. e.depth ≤ bound) }
     ensures stuck { IfOk result (λ e. e.stop ≡ Stuck → e.depth < bound) }
     ensures foreign { IfOk result (λ e. (id : String Global) → e.stop ≡ ForeignRule id → e.depth < bound) }

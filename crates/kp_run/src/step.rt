@@ -28,7 +28,7 @@ ghost use Rattle.kp_run.specs.declared.error.RunError.TheVariants.{NotAnswered};
 use crate::error::RunError;
 use crate::firing::GroundFiring;
 use crate::fit::parts_fit;
-use kp_compile::State;
+use kp_compile::GroundState;
 use kp_depths::{Depths, bound_depths, depths_of, is_shallow_at, right_depths};
 use kp_ground::Value;
 use kp_kore::Sort;
@@ -45,7 +45,7 @@ pub enum GroundNext {
     /// A foreign rule might rewrite it: the rule's id.
     ForeignRule { id: String },
     /// The only state that follows, and the depths of its value.
-    Stepped { state: State, depths: Depths },
+    Stepped { state: GroundState, depths: Depths },
 }
 
 /// What the rules that fire come to.
@@ -283,7 +283,11 @@ fn written_sort(
 }
 
 /// What comes after a state: a foreign rule is told before any condition is looked at.
-pub fn next_state(alloc: Global, rules: &RuleSet, state: &State) -> Result<GroundNext, RunError>
+pub fn next_state(
+    alloc: Global,
+    rules: &RuleSet,
+    state: &GroundState,
+) -> Result<GroundNext, RunError>
     ensures next { (t : Theory) → RunsAs t rules.now → IsSorted t.signature (value_view state.now.value) → IfOk result (IsNext t (value_view state.now.value)) }
     ensures written { (t : Theory) → RunsAs t rules.now → IsSorted t.signature (value_view state.now.value) → IfOk result (IsWrittenNext t (written_of state.now)) }
     ensures answered { (t : Theory) → RunsAs t rules.now → IsSorted t.signature (value_view state.now.value) → IfOk result (λ _. ¬ StopsUntold t (written_of state.now) 1) }
@@ -297,7 +301,7 @@ pub fn next_state(alloc: Global, rules: &RuleSet, state: &State) -> Result<Groun
 pub fn next_of(
     alloc: Global,
     rules: &RuleSet,
-    state: &State,
+    state: &GroundState,
     depths: &Depths,
 ) -> Result<GroundNext, RunError>
     requires counted { AreDepthsOf (signature_view rules.now.signature.value) (value_view state.now.value) depths.now }
@@ -319,7 +323,7 @@ pub fn next_of(
 fn known_next(
     alloc: Global,
     rules: &RuleSet,
-    state: &State,
+    state: &GroundState,
     depths: &Depths,
 ) -> Result<GroundNext, RunError>
     requires counted { AreDepthsOf (signature_view rules.now.signature.value) (value_view state.now.value) depths.now }
@@ -337,7 +341,7 @@ fn known_next(
 }
 
 /// That a state follows, of which the depths are at hand.
-fn stepped(after: (State, Depths)) -> GroundNext
+fn stepped(after: (GroundState, Depths)) -> GroundNext
     ensures { result ≡ Stepped after.0 after.1 }
 {
     let (state, depths) = after;
@@ -348,10 +352,10 @@ fn stepped(after: (State, Depths)) -> GroundNext
 fn after(
     alloc: Global,
     signature: &Signature,
-    state: &State,
+    state: &GroundState,
     firing: &GroundFiring,
     depths: &Depths,
-) -> Result<(State, Depths), RunError>
+) -> Result<(GroundState, Depths), RunError>
     requires counted { AreDepthsOf (signature_view signature.now) (value_view state.now.value) depths.now }
     requires matched { IsMatchOf firing.now (value_view state.now.value) }
     ensures after { IfOk result (λ next. IsAfterFiring (signature_view signature.now) firing.now next.0) }
@@ -369,7 +373,7 @@ fn after(
     if !is_shallow_at(&value, &next, signature, &sort) {
         return Err(RunError::NotAnswered);
     }
-    Ok((State { value, sort }, next))
+    Ok((GroundState { value, sort }, next))
 }
 
 /// The depths of the value after a step, from those of the value before it.

@@ -19,7 +19,7 @@ use Rattle.kp_ground.specs.View.{value_view}
 use Rattle.kp_signature.specs.Places.{own_sort}
 use Rattle.kp_signature.specs.Verify.{VerifiesAs}
 use Rattle.kp_compile.specs.Spelled.{IsGroundState}
-use Rattle.kp_compile.specs.declared.state.State.{State}
+use Rattle.kp_compile.specs.declared.state.GroundState.{GroundState}
 use Rattle.kp_rpc.specs.Reply.{reply_bytes, result_reply}
 use Rattle.kp_replies.specs.Written.{implied_tree}
 use Rattle.kp_rpc.specs.Request.{RequestId}
@@ -125,14 +125,14 @@ not_valid_is_right g a c s t u w ha hc apart = record {
 -- ---- results
 
 -- the sort that is verified is that of the side's term
-pub sort_of_side : (g : KoreSignature) (p : KorePattern) (sort : KoreSort) (a : State) → VerifiesAs g p sort → IsStateAt g p sort a → IsOfSort g (sort_view a.sort) p
+pub sort_of_side : (g : KoreSignature) (p : KorePattern) (sort : KoreSort) (a : GroundState) → VerifiesAs g p sort → IsStateAt g p sort a → IsOfSort g (sort_view a.sort) p
 sort_of_side g p sort a verifies at = subst (λ (s : KoreSort). IsOfSort g s p) (sym at.sort_is) (of_own_sort g p sort (at.ground verifies).term verifies.1)
 
 -- the state of a side is its value
-pub ground_of : (g : KoreSignature) (p : KorePattern) (sort : KoreSort) (a : State) → VerifiesAs g p sort → IsStateAt g p sort a → IsGroundState g p (sort_view a.sort) (value_view a.value)
+pub ground_of : (g : KoreSignature) (p : KorePattern) (sort : KoreSort) (a : GroundState) → VerifiesAs g p sort → IsStateAt g p sort a → IsGroundState g p (sort_view a.sort) (value_view a.value)
 ground_of g p sort a verifies at = at.ground verifies
 
-pub right_result : (g : KoreSignature) (p q : KorePattern) (a c : State) (o : Option KoreSort) → IsOfSort g (sort_view a.sort) p → IsGroundState g p (sort_view a.sort) (value_view a.value) → IsGroundState g q (sort_view c.sort) (value_view c.value)
+pub right_result : (g : KoreSignature) (p q : KorePattern) (a c : GroundState) (o : Option KoreSort) → IsOfSort g (sort_view a.sort) p → IsGroundState g p (sort_view a.sort) (value_view a.value) → IsGroundState g q (sort_view c.sort) (value_view c.value)
     → AreCompared a c o → IsRightImplied g p q (result_at o)
 right_result g p q a c None sorted x y k = not_valid_is_right g p q (sort_view a.sort) (sort_view c.sort) (value_view a.value) (value_view c.value) x y k.compared
 right_result g p q a c (Some at) sorted x y k =
@@ -140,7 +140,7 @@ right_result g p q a c (Some at) sorted x y k =
     let same : IsGroundState g q (sort_view a.sort) (value_view a.value) = subst (λ (w : Value). IsGroundState g q (sort_view a.sort) w) (sym k.compared.1) there in
     subst (λ (t : KoreSort). IsRightImplied g p q (sides.valid (top t) (top t))) (sym k.compared.0) (valid_is_right g p q (sort_view a.sort) (value_view a.value) sorted x same)
 
-pub is_told : (s : Setting) (name : Option Text) (p q : KorePattern) (sort other : KoreSort) (a c : State) → ¬ IsElsewhere s.main name
+pub is_told : (s : Setting) (name : Option Text) (p q : KorePattern) (sort other : KoreSort) (a c : GroundState) → ¬ IsElsewhere s.main name
     → IsStateAt s.theory.signature p sort a → IsStateAt s.theory.signature q other c → sort_view a.sort ≡ sort_view c.sort → ¬ IsImpliesUntold s name p q sort other
 is_told s name p q sort other a c here x y same (asked_elsewhere z) = here z
 is_told s name p q sort other a c here x y same (no_antecedent z) = x.shape z

@@ -10,7 +10,7 @@ use Rattle.kp_signature.specs.Faults.{fault_view}
 use Rattle.kp_signature.specs.declared.error.VerifyError.{VerifyError}
 use Rattle.kp_kore.specs.Causes.{foreign}
 use Rattle.kp_ground.specs.View.{value_view}
-use Rattle.kp_compile.specs.declared.state.State.{State}
+use Rattle.kp_compile.specs.declared.state.GroundState.{GroundState}
 use Rattle.kp_run.specs.declared.run.RunEnd.{RunEnd}
 use Rattle.kp_run.specs.declared.run.Stop.{Stop}
 use Rattle.kp_run.specs.declared.run.Stop.TheVariants.{Stuck, DepthBound, ForeignRule}
@@ -36,7 +36,7 @@ TellsFault g p e = (f : VerifyFault) → fault_view e ≡ Some f → FailsWith g
 -- ---- states and runs
 
 -- the state is that of a verified pattern of this sort
-pub record IsStateAt (g : KoreSignature) (p : KorePattern) (sort : KoreSort) (s : State) : Type 0 where
+pub record IsStateAt (g : KoreSignature) (p : KorePattern) (sort : KoreSort) (s : GroundState) : Type 0 where
   pub no_foreign : first_foreign g p ≡ None
   pub shape : ¬ IsOtherShape g p
   pub sort_is : sort_view s.sort ≡ sort

@@ -7,7 +7,7 @@ use Rattle.kp_kore.specs.Implied.{Implied, not_valid, valid}
 use Rattle.kp_kore.specs.Value.{Value}
 use Rattle.kp_ground.specs.View.{value_view}
 use Rattle.kp_compile.specs.Spelled.{IsOtherShape, first_foreign}
-use Rattle.kp_compile.specs.declared.state.State.{State}
+use Rattle.kp_compile.specs.declared.state.GroundState.{GroundState}
 use Rattle.kp_rpc.specs.Reply.{not_verified, other_shape}
 use Rattle.kp_rpc.specs.View.{state_fault_view}
 use Rattle.kp_server.specs.Ends.{IsStateAt}
@@ -17,11 +17,11 @@ use Rattle.kp_server.specs.declared.failure.Failure.TheVariants as failure
 -- ---- sides
 
 -- the ground state that a verified pattern of this sort is, or none where it has another shape
-abbrev pub IsShaped : KoreSignature → KorePattern → KoreSort → Option State → Type 0
+abbrev pub IsShaped : KoreSignature → KorePattern → KoreSort → Option GroundState → Type 0
 IsShaped g p sort None = IsOtherShape g p
 IsShaped g p sort (Some state) = IsStateAt g p sort state
 
-abbrev pub IsSideState : KoreSignature → KorePattern → KoreSort → Option State → Type 0
+abbrev pub IsSideState : KoreSignature → KorePattern → KoreSort → Option GroundState → Type 0
 IsSideState g p sort o = (first_foreign g p ≡ None) × IsShaped g p sort o
 
 -- ---- what is compared
@@ -32,20 +32,20 @@ IsComparedAs sort u w None = u ≢ w
 IsComparedAs sort u w (Some at) = (at ≡ sort) × (u ≡ w)
 
 -- two states of one sort
-pub record AreCompared (a c : State) (o : Option KoreSort) : Type 0 where
+pub record AreCompared (a c : GroundState) (o : Option KoreSort) : Type 0 where
   pub same_sort : sort_view a.sort ≡ sort_view c.sort
   pub compared : IsComparedAs (sort_view a.sort) (value_view a.value) (value_view c.value) o
 
-abbrev pub AreBothCompared : Option State → Option State → Option KoreSort → Type 0
+abbrev pub AreBothCompared : Option GroundState → Option GroundState → Option KoreSort → Type 0
 AreBothCompared (Some a) (Some c) o = AreCompared a c o
 AreBothCompared _ _ o = ⊥
 
 -- two states of other sorts, or a side that is no state
-abbrev pub AreApart : Option State → Option State → Type 0
+abbrev pub AreApart : Option GroundState → Option GroundState → Type 0
 AreApart (Some a) (Some c) = sort_view a.sort ≢ sort_view c.sort
 AreApart _ _ = ⊤
 
-abbrev pub AreNotCompared : Option State → Option State → Failure → Type 0
+abbrev pub AreNotCompared : Option GroundState → Option GroundState → Failure → Type 0
 AreNotCompared a c failure.Memory = ⊤
 AreNotCompared a c (failure.Fault f) = (state_fault_view f ≡ not_verified other_shape) × AreApart a c
 

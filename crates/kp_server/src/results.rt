@@ -7,7 +7,7 @@ ghost use Rattle.kp_server.specs.Ends.{ending_of, result_of as end_result};
 ghost use Rattle.kp_server.specs.Sides.{result_at};
 
 use kp_kore::{Pattern, Sort};
-use kp_results::{Cause, Executed, Implied, Reason, State};
+use kp_results::{Cause, Executed, Implied, Reason, ReplyState};
 use kp_run::{RunEnd, Stop};
 use std::alloc::{AllocError, Global};
 
@@ -31,7 +31,7 @@ pub fn result_of(alloc: Global, end: &RunEnd, term: Pattern) -> Result<Executed,
     let reason = reason_of(&end.stop)?;
     Ok(Executed {
         depth: end.depth,
-        state: State {
+        state: ReplyState {
             term,
             predicate: None,
         },

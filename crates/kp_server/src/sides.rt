@@ -10,7 +10,7 @@ ghost use Rattle.kp_server.specs.Right.{NoneLeftOut};
 ghost use Rattle.kp_server.specs.Sides.{AreBothCompared, AreCompared, AreNotCompared, IsSideState};
 
 use crate::failure::Failure;
-use kp_compile::{State, StateError, state_of};
+use kp_compile::{GroundState, StateError, state_of};
 use kp_kore::{Pattern, Sort};
 use kp_rpc::{PatternFault, StateFault};
 use kp_signature::Signature;
@@ -29,7 +29,7 @@ pub fn side_state(
     signature: &Signature,
     pattern: &Pattern,
     sort: Sort,
-) -> Result<Option<State>, Failure>
+) -> Result<Option<GroundState>, Failure>
     ensures found { let g = signature_view signature.now in let pattern' = view pattern.now in let sort' = sort_view sort in VerifiesAs g pattern' sort' → IfOk result (IsSideState g pattern' sort') }
     ensures failed { let g = signature_view signature.now in let pattern' = view pattern.now in VerifiesAs g pattern' (sort_view sort) → IfErr result (IsWrongPattern g NoneLeftOut pattern') }
 {
@@ -46,8 +46,8 @@ pub fn side_state(
 /// Whether two ground states are one; T2 where a side is none.
 pub fn compared_sides(
     alloc: Global,
-    antecedent: &Option<State>,
-    consequent: &Option<State>,
+    antecedent: &Option<GroundState>,
+    consequent: &Option<GroundState>,
 ) -> Result<Option<Sort>, Failure>
     ensures found { IfOk result (λ o. AreBothCompared antecedent.now consequent.now (option_map sort_view o)) }
     ensures failed { IfErr result (AreNotCompared antecedent.now consequent.now) }
@@ -62,7 +62,11 @@ pub fn compared_sides(
 }
 
 /// The sort of two states with the same value, none where the values differ; T2 where the sorts do.
-fn compared(alloc: Global, antecedent: &State, consequent: &State) -> Result<Option<Sort>, Failure>
+fn compared(
+    alloc: Global,
+    antecedent: &GroundState,
+    consequent: &GroundState,
+) -> Result<Option<Sort>, Failure>
     ensures found { IfOk result (λ o. AreCompared antecedent.now consequent.now (option_map sort_view o)) }
     ensures failed { IfErr result (AreNotCompared (Some antecedent.now) (Some consequent.now)) }
 {

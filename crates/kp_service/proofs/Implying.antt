@@ -8,7 +8,7 @@ use Rattle.kp_kore.specs.Signature.{KoreSignature}
 use Rattle.kp_json.specs.Faults.{Reading, read}
 use Rattle.kp_kore.specs.Implied.{Implied}
 use Rattle.kp_signature.specs.Verify.{VerifiesAs}
-use Rattle.kp_compile.specs.declared.state.State.{State}
+use Rattle.kp_compile.specs.declared.state.GroundState.{GroundState}
 use Rattle.kp_rpc.specs.Request.{RequestId}
 use Rattle.kp_rpc.specs.Reply.{error_reply, result_reply, reply_bytes}
 use Rattle.kp_rpc.specs.View.{pattern_fault_view, state_fault_view}
@@ -48,7 +48,7 @@ implied_of_read g a c p q o is other h = subst (λ x. IsImpliedOf g x c o) (sym 
 pub implied_over : (g h : KoreSignature) → g ≡ h → (a c : Reading KorePattern) (p q : KorePattern) (o : Option KoreSort) → a ≡ read p → c ≡ read q → IsImpliedOf g (read p) (read q) o → IsImpliedOf h a c o
 implied_over g h same a c p q o is other x = subst (λ k. IsImpliedOf k a c o) same (implied_of_read g a c p q o is other x)
 
-pub side_of : (g : KoreSignature) (p : KorePattern) (sort : KoreSort) (found : Option State) → VerifiesAs g p sort → IsSideState g p sort found → IsSideOf g p found
+pub side_of : (g : KoreSignature) (p : KorePattern) (sort : KoreSort) (found : Option GroundState) → VerifiesAs g p sort → IsSideState g p sort found → IsSideOf g p found
 side_of g p sort found v x = record { sort = sort; verifies = v; is_state = x }
 
 pub left_wrong : (g : KoreSignature) (s : Setting) → g ≡ s.theory.signature → (asked : Option Text) (p q : KorePattern) (f : Failure) → IsWrongPattern g NoneLeftOut p f → IsSidesFailure s asked (read p) (read q) f
@@ -57,7 +57,7 @@ left_wrong g s same asked p q (failure.Fault (state.Json f)) w = absurd w
 left_wrong g s same asked p q (failure.Fault (state.Verify f)) w = in_antecedent (pattern_fault_view f) (subst (λ k. IsPatternFault k NoneLeftOut p (pattern_fault_view f)) same w)
 left_wrong g s same asked p q (failure.Fault (state.NoModule name)) w = absurd w
 
-pub right_wrong : (g : KoreSignature) (s : Setting) → g ≡ s.theory.signature → (asked : Option Text) (p q : KorePattern) (o : Option State) (f : Failure) → IsSideOf g p o → IsWrongPattern g NoneLeftOut q f → IsSidesFailure s asked (read p) (read q) f
+pub right_wrong : (g : KoreSignature) (s : Setting) → g ≡ s.theory.signature → (asked : Option Text) (p q : KorePattern) (o : Option GroundState) (f : Failure) → IsSideOf g p o → IsWrongPattern g NoneLeftOut q f → IsSidesFailure s asked (read p) (read q) f
 right_wrong g s same asked p q o failure.Memory x w = tt
 right_wrong g s same asked p q o (failure.Fault (state.Json f)) x w = absurd w
 right_wrong g s same asked p q o (failure.Fault (state.Verify f)) x w =
@@ -65,23 +65,23 @@ right_wrong g s same asked p q o (failure.Fault (state.Verify f)) x w =
     in_consequent there.sort (pattern_fault_view f) there.verifies there.is_state.0 (subst (λ k. IsPatternFault k NoneLeftOut q (pattern_fault_view f)) same w)
 right_wrong g s same asked p q o (failure.Fault (state.NoModule name)) x w = absurd w
 
-why_apart : (s : Setting) (asked : Option Text) (p q : KorePattern) (a c : Option State) → (x : IsSideOf s.theory.signature p a) (y : IsSideOf s.theory.signature q c) → AreApart a c → IsImpliesUntold s asked p q x.sort y.sort
+why_apart : (s : Setting) (asked : Option Text) (p q : KorePattern) (a c : Option GroundState) → (x : IsSideOf s.theory.signature p a) (y : IsSideOf s.theory.signature q c) → AreApart a c → IsImpliesUntold s asked p q x.sort y.sort
 why_apart s asked p q None c x y k = no_antecedent x.is_state.1
 why_apart s asked p q (Some a) None x y k = no_consequent y.is_state.1
 why_apart s asked p q (Some a) (Some c) x y k = other_sorts (λ same. k (x.is_state.1.sort_is ∙ (same ∙ sym y.is_state.1.sort_is)))
 
 -- T2 of sides that aren't compared
-apart : (s : Setting) (asked : Option Text) (p q : KorePattern) (a c : Option State) → IsSideOf s.theory.signature p a → IsSideOf s.theory.signature q c → (f : Failure) → AreNotCompared a c f → IsSidesFailure s asked (read p) (read q) f
+apart : (s : Setting) (asked : Option Text) (p q : KorePattern) (a c : Option GroundState) → IsSideOf s.theory.signature p a → IsSideOf s.theory.signature q c → (f : Failure) → AreNotCompared a c f → IsSidesFailure s asked (read p) (read q) f
 apart s asked p q a c x y failure.Memory k = tt
 apart s asked p q a c x y (failure.Fault f) k =
     subst (λ e. IsImpliesError s asked (read p) (read q) e) (sym k.0) (untold x.sort y.sort x.verifies x.is_state.0 y.verifies y.is_state.0 (why_apart s asked p q a c x y k.1))
 
-pub apart_over : (g : KoreSignature) (s : Setting) → g ≡ s.theory.signature → (asked : Option Text) (p q : KorePattern) (a c : Option State) → IsSideOf g p a → IsSideOf g q c → (f : Failure) → AreNotCompared a c f → IsSidesFailure s asked (read p) (read q) f
+pub apart_over : (g : KoreSignature) (s : Setting) → g ≡ s.theory.signature → (asked : Option Text) (p q : KorePattern) (a c : Option GroundState) → IsSideOf g p a → IsSideOf g q c → (f : Failure) → AreNotCompared a c f → IsSidesFailure s asked (read p) (read q) f
 apart_over g s same asked p q a c x y f k = apart s asked p q a c (subst (λ h. IsSideOf h p a) same x) (subst (λ h. IsSideOf h q c) same y) f k
 
 -- ---- results
 
-pub compared_of : (g : KoreSignature) (p q : KorePattern) (a c : Option State) (o : Option KoreSort) → IsSideOf g p a → IsSideOf g q c → AreBothCompared a c o → IsImpliedOf g (read p) (read q) o
+pub compared_of : (g : KoreSignature) (p q : KorePattern) (a c : Option GroundState) (o : Option KoreSort) → IsSideOf g p a → IsSideOf g q c → AreBothCompared a c o → IsImpliedOf g (read p) (read q) o
 compared_of g p q a c o x y k = record {
   left = a;
   right = c;
@@ -91,7 +91,7 @@ compared_of g p q a c o x y k = record {
 }
 
 -- the sides of patterns that are compared, and a result that has a tree
-implied_at : (s : Setting) (id : RequestId) (asked : Option Text) → ¬ IsElsewhere s.main asked → (p q : KorePattern) (a c : Option State) (o : Option KoreSort) → IsSideOf s.theory.signature p a → IsSideOf s.theory.signature q c → AreBothCompared a c o →
+implied_at : (s : Setting) (id : RequestId) (asked : Option Text) → ¬ IsElsewhere s.main asked → (p q : KorePattern) (a c : Option GroundState) (o : Option KoreSort) → IsSideOf s.theory.signature p a → IsSideOf s.theory.signature q c → AreBothCompared a c o →
     (tree : Data) → implied_tree (result_at o) ≡ Some tree → IsImpliedAs s id asked (read p) (read q) (result_reply id tree)
 implied_at s id asked here p q None c o x y k tree w = absurd k
 implied_at s id asked here p q (Some a) None o x y k tree w = absurd k

@@ -5,7 +5,7 @@ use Rattle.kp_kore.specs.Syntax.{Text, KoreSort, KorePattern}
 use Rattle.kp_kore.specs.Signature.{KoreSignature}
 use Rattle.kp_json.specs.Faults.{Reading, read, fault, TreeFault}
 use Rattle.kp_signature.specs.Verify.{VerifiesAs}
-use Rattle.kp_compile.specs.declared.state.State.{State}
+use Rattle.kp_compile.specs.declared.state.GroundState.{GroundState}
 use Rattle.kp_rpc.specs.Request.{RequestId}
 use Rattle.kp_rpc.specs.Reply.{no_pattern, error_reply, result_reply, reply_bytes}
 use Rattle.kp_rpc.specs.View.{state_fault_view}
@@ -44,13 +44,13 @@ IsSidesFailure s asked antecedent consequent failure.Memory = ⊤
 IsSidesFailure s asked antecedent consequent (failure.Fault f) = IsImpliesError s asked antecedent consequent (state_fault_view f)
 
 -- the pattern verifies without foreign symbols, and is this ground state if it is one
-pub record IsSideOf (g : KoreSignature) (p : KorePattern) (found : Option State) : Type 0 where
+pub record IsSideOf (g : KoreSignature) (p : KorePattern) (found : Option GroundState) : Type 0 where
   pub sort : KoreSort
   pub verifies : VerifiesAs g p sort
   pub is_state : IsSideState g p sort found
 
 -- what was read is a pattern
-pub record IsSideRead (g : KoreSignature) (side : Reading KorePattern) (found : Option State) : Type 0 where
+pub record IsSideRead (g : KoreSignature) (side : Reading KorePattern) (found : Option GroundState) : Type 0 where
   pub pattern : KorePattern
   pub is_read : side ≡ read pattern
   pub is_of : IsSideOf g pattern found
@@ -59,8 +59,8 @@ pub record IsSideRead (g : KoreSignature) (side : Reading KorePattern) (found : 
 
 -- the sides are compared so: at this sort, or as other values
 pub record IsImpliedOf (g : KoreSignature) (antecedent consequent : Reading KorePattern) (o : Option KoreSort) : Type 0 where
-  pub left : Option State
-  pub right : Option State
+  pub left : Option GroundState
+  pub right : Option GroundState
   pub is_left : IsSideRead g antecedent left
   pub is_right : IsSideRead g consequent right
   pub compared : AreBothCompared left right o

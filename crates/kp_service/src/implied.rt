@@ -12,7 +12,7 @@ ghost use Rattle.kp_server.specs.Setting.{IsElsewhere, Setting};
 ghost use Rattle.kp_service.specs.Answered.{IsImpliedAs};
 ghost use Rattle.kp_service.specs.Told.{IsFaultLine, IsImpliedLine, IsImpliedOf, IsLineOf, IsSideOf, IsSidesFailure, IsTreeFailure};
 
-use kp_compile::State;
+use kp_compile::GroundState;
 use kp_kore::{Pattern, Sort};
 use kp_replies::implied_text;
 use kp_requests::Reading;
@@ -107,7 +107,7 @@ fn side_at(
     alloc: Global,
     signature: &Signature,
     pattern: &Pattern,
-) -> Result<Option<State>, Failure>
+) -> Result<Option<GroundState>, Failure>
     ensures found { IfOk result (IsSideOf (signature_view signature.now) (view pattern.now)) }
     ensures failed { IfErr result (IsWrongPattern (signature_view signature.now) NoneLeftOut (view pattern.now)) }
 {

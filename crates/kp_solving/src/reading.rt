@@ -37,7 +37,7 @@ fn solved(alloc: Global, language: &Language, opened: State) -> Result<State, Te
     ensures solving { IfOk result (λ s. Solving (language_view language.now) (state_view opened) (state_view s)) }
     ensures right { OnOk result (OfEachKept (language_view language.now) (CanBeWritten (language_view language.now)) (state_view opened)) }
     ensures refused { (first : Option StateFault) → IfErr result (IsToldOf first) }
-    ensures unread { IfErr result (λ e. IsUnread e → ¬ ((s : SymbolicState) → ComesBy (language_view language.now) (state_view opened) s → IsReadable (language_view language.now) s)) }
+    ensures unread { let g = language_view language.now in IfErr result (λ e. IsUnread e → ¬ ((s : SymbolicState) → ComesBy g (state_view opened) s → IsReadable g s)) }
 {
     match settle(alloc, language, opened) {
         Ok(state) => Ok(state),
@@ -56,7 +56,7 @@ pub fn inward(
     pattern: &Pattern,
     sort: Sort,
 ) -> Result<State, TermFault>
-    ensures read { VerifiesAs (language_view language.now) (view pattern.now) (sort_view sort) → IfOk result (λ s. IsReadAs (language_view language.now) (view pattern.now) (state_view s)) }
+    ensures read { let g = language_view language.now in let pattern' = view pattern.now in VerifiesAs g pattern' (sort_view sort) → IfOk result (λ s. IsReadAs g pattern' (state_view s)) }
     ensures right { let g = language_view language.now in let p = view pattern.now in VerifiesAs g p (sort_view sort) → OnOk result ((o : SymbolicState) → opened_state g p ≡ Some o → OfEachKept g (CanBeWritten g) o) }
     ensures instances { let g = language_view language.now in let p = view pattern.now in VerifiesAs g p (sort_view sort) → IfOk result (λ s. IsSoundState g (state_view s) × HasInstancesOf g p (state_view s)) }
     ensures formed { let g = language_view language.now in VerifiesAs g (view pattern.now) (sort_view sort) → IfOk result (λ s. IsWellFormed g (state_view s)) }

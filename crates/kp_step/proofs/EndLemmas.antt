@@ -33,7 +33,7 @@ use Rattle.kp_step.specs.Answers.{ShowsOf, IsRightAnswerOf, AreDecided, TellsRem
 use Rattle.kp_step.specs.Outcomes.{IsCaseOf, IsRemainderOf, AreCasesOf, IsToldOpen}
 use Rattle.kp_step.specs.Views.{numbered_views, next_view, next_told, part_told, limit_view}
 use Rattle.kp_step.specs.declared.answers.PartAnswer as answers
-use Rattle.kp_step.specs.declared.outcome.Limit.{Limit}
+use Rattle.kp_step.specs.declared.outcome.StepLimit.{StepLimit}
 use Rattle.kp_step.specs.declared.answers.Open.{Open}
 use Rattle.kp_step.specs.declared.answers.Decided as decisions
 use Rattle.kp_step.specs.declared.answers.Decided.TheVariants as decided
@@ -149,10 +149,10 @@ passes_written t used s turns found ns ps l f z nexts own known r a =
     }
 
 -- what is told of the limits of what is written
-abbrev pub LimitsTold : KoreSignature → Option Limit → List Next → List Part → Type 0
+abbrev pub LimitsTold : KoreSignature → Option StepLimit → List Next → List Part → Type 0
 LimitsTold g o ns ps = MatchOption o (AllByRecursion (λ x. PassesNone g x) (map next_told ns ++ map part_told ps)) (λ l. AnyByRecursion (λ x. Passes g x (limit_view l)) (map next_told ns ++ map part_told ps))
 
-pub limits_of : (g h : KoreSignature) (o d : Option Limit) (ns ms : List Next) (ps qs : List Part) → g ≡ h → o ≡ d → ns ≡ ms → ps ≡ qs → LimitsTold g o ns ps → LimitsTold h d ms qs
+pub limits_of : (g h : KoreSignature) (o d : Option StepLimit) (ns ms : List Next) (ps qs : List Part) → g ≡ h → o ≡ d → ns ≡ ms → ps ≡ qs → LimitsTold g o ns ps → LimitsTold h d ms qs
 limits_of g h o d ns ms ps qs e is first rest told = subst (λ x. LimitsTold h x ms qs) is (subst (λ x. LimitsTold x o ms qs) e (subst (λ x. LimitsTold g o x qs) first (subst (λ x. LimitsTold g o ns x) rest told)))
 
 -- ---- by what the code makes, over the setting's signature
@@ -186,10 +186,10 @@ told_remainder_open t used s found o k = record { rule = None; is_rule = tt; wei
 
 -- ---- the state itself
 
-pub passes_itself : (t : Theory) (s : SymbolicState) (g : KoreSignature) (o : Option Limit) (l : Limit) → g ≡ t.signature → o ≡ Some l → MatchOption o (PassesNone g s) (λ m. Passes g s (limit_view m)) → IsPassed t s (limit_view l)
+pub passes_itself : (t : Theory) (s : SymbolicState) (g : KoreSignature) (o : Option StepLimit) (l : StepLimit) → g ≡ t.signature → o ≡ Some l → MatchOption o (PassesNone g s) (λ m. Passes g s (limit_view m)) → IsPassed t s (limit_view l)
 passes_itself t s g o l e is told = record { state = s; which = inl refl; passes = subst (λ h. Passes h s (limit_view l)) e (subst (λ d. MatchOption d (PassesNone g s) (λ m. Passes g s (limit_view m))) is told) }
 
-pub passes_number : (t : Theory) (s : SymbolicState) (g : KoreSignature) (o : Option Limit) (l : Limit) → g ≡ t.signature → o ≡ Some l → option_map limit_view o ≡ option_map number (first_wide g s) → IsPassed t s (limit_view l)
+pub passes_number : (t : Theory) (s : SymbolicState) (g : KoreSignature) (o : Option StepLimit) (l : StepLimit) → g ≡ t.signature → o ≡ Some l → option_map limit_view o ≡ option_map number (first_wide g s) → IsPassed t s (limit_view l)
 passes_number t s g o l e is told = by (first_wide g s) refl (ap (option_map limit_view) (sym is) ∙ told)
   where
     inside : {a b : TermLimit} → Some a ≡ Some b → a ≡ b

@@ -10,19 +10,19 @@ use Rattle.kp_symbolic.specs.View.{clauses_view}
 use Rattle.kp_symbolic.specs.declared.clause.Clause.{Clause}
 use Rattle.kp_step.specs.Limits.{Passes, PassesNone, with_more}
 use Rattle.kp_step.specs.Views.{limit_view}
-use Rattle.kp_step.specs.declared.outcome.Limit.{Limit}
+use Rattle.kp_step.specs.declared.outcome.StepLimit.{StepLimit}
 
 -- what is told of a state
-abbrev pub TellsLimit : KoreSignature → SymbolicState → Option Limit → Type 0
+abbrev pub TellsLimit : KoreSignature → SymbolicState → Option StepLimit → Type 0
 TellsLimit g s o = MatchOption o (PassesNone g s) (λ l. Passes g s (limit_view l))
 
-pub told_with : (g : KoreSignature) (s : SymbolicState) (o : Option Limit) (some these : List Clause) → some ≡ these → TellsLimit g (with_more s (clauses_view some)) o → TellsLimit g (with_more s (clauses_view these)) o
+pub told_with : (g : KoreSignature) (s : SymbolicState) (o : Option StepLimit) (some these : List Clause) → some ≡ these → TellsLimit g (with_more s (clauses_view some)) o → TellsLimit g (with_more s (clauses_view these)) o
 told_with g s o some these e t = subst (λ cs. TellsLimit g (with_more s (clauses_view cs)) o) e t
 
-pub passes_here : (g : KoreSignature) (s : SymbolicState) (o : Option Limit) (l : Limit) → o ≡ Some l → TellsLimit g s o → Passes g s (limit_view l)
+pub passes_here : (g : KoreSignature) (s : SymbolicState) (o : Option StepLimit) (l : StepLimit) → o ≡ Some l → TellsLimit g s o → Passes g s (limit_view l)
 passes_here g s o l e t = subst (TellsLimit g s) e t
 
-pub passes_none : (g : KoreSignature) (s : SymbolicState) (o : Option Limit) → o ≡ None → TellsLimit g s o → PassesNone g s
+pub passes_none : (g : KoreSignature) (s : SymbolicState) (o : Option StepLimit) → o ≡ None → TellsLimit g s o → PassesNone g s
 passes_none g s o e t = subst (TellsLimit g s) e t
 
 any_right : {X : Type 0} (P : X → Type 0) (xs ys : List X) → AnyByRecursion P ys → AnyByRecursion P (xs ++ ys)

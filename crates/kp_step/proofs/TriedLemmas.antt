@@ -44,7 +44,7 @@ use Rattle.kp_step.specs.declared.answers.PartAnswer as answers
 use Rattle.kp_step.specs.declared.answers.PartAnswer.TheVariants as answer
 use Rattle.kp_step.specs.declared.answers.Decided as decisions
 use Rattle.kp_step.specs.declared.answers.Decided.TheVariants as decided
-use Rattle.kp_step.specs.declared.outcome.Limit.{Limit}
+use Rattle.kp_step.specs.declared.outcome.StepLimit.{StepLimit}
 use Rattle.kp_step.proofs.AnswerLemmas.{MayBe, may_by_instance, may_by_open}
 use Rattle.kp_step.proofs.FiringLemmas.{is_firing}
 use Rattle.kp_step.proofs.FoundLemmas.{one_at}
@@ -93,7 +93,7 @@ passes_number g x l e = by (first_wide g x) refl e
     by None h d = absurd (cc)
     by (Some c) h d = subst (Passes g x) (sym (inside d)) h
 
-pub condition_passes : (t : Theory) (used : List Text) (s : SymbolicState) (place : ℕ) (f : PlacedFiring) (g : KoreSignature) (x : SymbolicState) (l : TermLimit) (o : Option Limit) → g ≡ t.signature → IsFiringOf t used s place f → CanMeet t f → x ≡ (narrowed_of f).part.state →
+pub condition_passes : (t : Theory) (used : List Text) (s : SymbolicState) (place : ℕ) (f : PlacedFiring) (g : KoreSignature) (x : SymbolicState) (l : TermLimit) (o : Option StepLimit) → g ≡ t.signature → IsFiringOf t used s place f → CanMeet t f → x ≡ (narrowed_of f).part.state →
     option_map limit_view o ≡ option_map number (first_wide g x) → option_map limit_view o ≡ Some l → IsPassed t s l
 condition_passes t used s place f g x l o e i m same told is = passes_condition t used s place f x l i m same (subst (λ h. Passes h x l) e (passes_number g x l (sym is ∙ told)))
 

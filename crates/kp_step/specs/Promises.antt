@@ -50,7 +50,7 @@ use Rattle.kp_step.specs.Outcomes.{IsRightStep}
 use Rattle.kp_step.specs.declared.answers.PartAnswer.{PartAnswer}
 use Rattle.kp_step.specs.declared.answers.Decided.{Decided}
 use Rattle.kp_step.specs.declared.answers.Open.{Open}
-use Rattle.kp_step.specs.declared.outcome.Limit.{Limit}
+use Rattle.kp_step.specs.declared.outcome.StepLimit.{StepLimit}
 use Rattle.kp_step.specs.declared.outcome.Next.{Next}
 use Rattle.kp_step.specs.declared.outcome.StepOutcome.{StepOutcome}
 use Rattle.kp_step.specs.declared.right.Following.{Following}
@@ -60,11 +60,11 @@ use Rattle.kp_step.specs.declared.turns.Tried.{Tried}
 -- ---- limits and instances
 
 -- the limit that the state passes, or it passes none
-abbrev pub TellsLimit : KoreSignature → SymbolicState → Option Limit → Type 0
+abbrev pub TellsLimit : KoreSignature → SymbolicState → Option StepLimit → Type 0
 TellsLimit g s o = MatchOption o (PassesNone g s) (λ l. Passes g s (limit_view l))
 
 -- a limit that one of the states passes, or none of them passes one
-abbrev pub TellsLimitAmong : KoreSignature → List SymbolicState → Option Limit → Type 0
+abbrev pub TellsLimitAmong : KoreSignature → List SymbolicState → Option StepLimit → Type 0
 TellsLimitAmong g ss o = MatchOption o (AllByRecursion (λ x. PassesNone g x) ss) (λ l. AnyByRecursion (λ x. Passes g x (limit_view l)) ss)
 
 -- those of the parts that have an instance, or what is shown of one, where a rule can be tried on each
@@ -148,7 +148,7 @@ abbrev pub TellsMayMeet : {E : Type 0} → Setting → Part → Firing → Resul
 TellsMayMeet setting p f result = WhereFiringIs setting p f (λ t s. IfOk result (λ b. IsTrue b → CanMeet t (firing_model f)))
 
 -- a limit that is told is passed, where the narrowed state is that on which the rule fires
-abbrev pub TellsWideCondition : {E : Type 0} → Setting → Part → Firing → State → Result (Option Limit) E → Type 0
+abbrev pub TellsWideCondition : {E : Type 0} → Setting → Part → Firing → State → Result (Option StepLimit) E → Type 0
 TellsWideCondition setting p f narrowed result =
     WhereFiringIs setting p f (λ t s. state_view narrowed ≡ (narrowed_of (firing_model f)).part.state → IfOk result (λ o. MatchOption o ⊤ (λ l. IsPassed t s (limit_view l))))
 

@@ -8,8 +8,8 @@ use Rattle.kp_unify.specs.declared.part.Part.{Part}
 use Rattle.kp_step.specs.Found.{PlacedTurn}
 use Rattle.kp_step.specs.Follows.{PlacedNext}
 use Rattle.kp_step.specs.Limits.{TermLimit, number, depth, with_more}
-use Rattle.kp_step.specs.declared.outcome.Limit.{Limit}
-use Rattle.kp_step.specs.declared.outcome.Limit.TheVariants.{Number, Depth}
+use Rattle.kp_step.specs.declared.outcome.StepLimit.{StepLimit}
+use Rattle.kp_step.specs.declared.outcome.StepLimit.TheVariants.{Number, Depth}
 use Rattle.kp_step.specs.declared.outcome.Next.{Next}
 use Rattle.kp_step.specs.declared.turns.Turn.{Turn}
 
@@ -22,7 +22,7 @@ turn_view k = record { place = k.place; priority = k.priority; parts = numbered_
 abbrev pub next_view : Next → PlacedNext
 next_view n = record { place = n.rule; part = part_view n.part; state = state_view n.state; next = n.next }
 
-abbrev pub limit_view : Limit → TermLimit
+abbrev pub limit_view : StepLimit → TermLimit
 limit_view (Number f m n) = number (record { symbol = string_bytes f.value; first = m; second = n })
 limit_view (Depth k) = depth k
 

@@ -18,5 +18,5 @@ pub mod stepping;
 pub mod turns;
 pub mod variables;
 
-pub use outcome::{Limit, Next, StepOutcome};
+pub use outcome::{Next, StepLimit, StepOutcome};
 pub use stepping::step;

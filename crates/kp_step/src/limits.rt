@@ -10,7 +10,7 @@ ghost use Rattle.kp_step.specs.Limits as model;
 ghost use Rattle.kp_step.specs.Views.{limit_view, next_told, part_told};
 ghost use Rattle.kp_step.specs.Promises.{TellsLimit, TellsLimitAmong};
 
-use crate::outcome::{Limit, Next};
+use crate::outcome::{Next, StepLimit};
 use kp_simplify::depth::deep_in;
 use kp_symbolic::state::share_variables;
 use kp_symbolic::{Clause, State};
@@ -19,7 +19,7 @@ use kp_wide::{WideCall, first_wide};
 use std::alloc::{AllocError, Global};
 
 /// A call as it is told.
-fn number(call: WideCall<'_>) -> Result<Limit, AllocError>
+fn number(call: WideCall<'_>) -> Result<StepLimit, AllocError>
     ensures { IfOk result (λ l. limit_view l ≡ model.number (call_view call.entry)) }
 {
     let WideCall {
@@ -27,7 +27,7 @@ fn number(call: WideCall<'_>) -> Result<Limit, AllocError>
         first,
         second,
     } = call;
-    Ok(Limit::Number {
+    Ok(StepLimit::Number {
         symbol: symbol.clone()?,
         first,
         second,
@@ -35,7 +35,7 @@ fn number(call: WideCall<'_>) -> Result<Limit, AllocError>
 }
 
 /// The first call of a state that leaves 128 bits.
-pub fn wide_in(setting: Setting<'_>, state: &State) -> Result<Option<Limit>, AllocError>
+pub fn wide_in(setting: Setting<'_>, state: &State) -> Result<Option<StepLimit>, AllocError>
     ensures { IfOk result (λ o. option_map limit_view o ≡ option_map model.number (wide.first_wide (signature_of setting.entry) (state_view state.now))) }
 {
     match first_wide(setting.language.signature, state) {
@@ -45,11 +45,11 @@ pub fn wide_in(setting: Setting<'_>, state: &State) -> Result<Option<Limit>, All
 }
 
 /// The levels of the first term of a state that is too deep.
-fn deep(alloc: Global, setting: Setting<'_>, state: &State) -> Result<Option<Limit>, AllocError>
+fn deep(alloc: Global, setting: Setting<'_>, state: &State) -> Result<Option<StepLimit>, AllocError>
     ensures { IfOk result (λ o. option_map limit_view o ≡ option_map model.depth (first_deep (signature_of setting.entry) (state_sides (state_view state.now)))) }
 {
     match deep_in(alloc, setting.language, state)? {
-        Some(levels) => Ok(Some(Limit::Depth { levels })),
+        Some(levels) => Ok(Some(StepLimit::Depth { levels })),
         None => Ok(None),
     }
 }
@@ -59,7 +59,7 @@ pub fn limit_of(
     alloc: Global,
     setting: Setting<'_>,
     state: &State,
-) -> Result<Option<Limit>, AllocError>
+) -> Result<Option<StepLimit>, AllocError>
     ensures { IfOk result (TellsLimit (signature_of setting.entry) (state_view state.now)) }
 {
     match wide_in(setting, state)? {
@@ -89,7 +89,7 @@ fn limit_with(
     setting: Setting<'_>,
     state: &State,
     added: &[Clause],
-) -> Result<Option<Limit>, AllocError>
+) -> Result<Option<StepLimit>, AllocError>
     ensures { IfOk result (TellsLimit (signature_of setting.entry) (model.with_more (state_view state.now) (clauses_view added.now))) }
 {
     limit_of(alloc, setting, &with_more(alloc, state, added)?)
@@ -100,7 +100,7 @@ fn next_limit(
     alloc: Global,
     setting: Setting<'_>,
     nexts: &[Next],
-) -> Result<Option<Limit>, AllocError>
+) -> Result<Option<StepLimit>, AllocError>
     ensures { IfOk result (TellsLimitAmong (signature_of setting.entry) (map next_told nexts.now)) }
 {
     for next in nexts {
@@ -116,7 +116,7 @@ fn remainder_limit(
     alloc: Global,
     setting: Setting<'_>,
     remainder: &[Part],
-) -> Result<Option<Limit>, AllocError>
+) -> Result<Option<StepLimit>, AllocError>
     ensures { IfOk result (TellsLimitAmong (signature_of setting.entry) (map part_told remainder.now)) }
 {
     for part in remainder {
@@ -133,7 +133,7 @@ pub fn first_limit(
     setting: Setting<'_>,
     nexts: &[Next],
     remainder: &[Part],
-) -> Result<Option<Limit>, AllocError>
+) -> Result<Option<StepLimit>, AllocError>
     ensures { IfOk result (TellsLimitAmong (signature_of setting.entry) (map next_told nexts.now ++ map part_told remainder.now)) }
 {
     match next_limit(alloc, setting, nexts)? {

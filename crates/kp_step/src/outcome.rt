@@ -18,7 +18,7 @@ pub struct Next {
 /// What leaves the bounds of what is computed: a call of two numbers whose number has more than 128 bits, or a term that has more
 /// levels than a term may have.
 #[derive(Drop)]
-pub enum Limit {
+pub enum StepLimit {
     Number {
         symbol: Arc<String>,
         first: i128,
@@ -47,6 +47,6 @@ pub enum StepOutcome {
         rule: usize,
     },
     Limited {
-        limit: Limit,
+        limit: StepLimit,
     },
 }

@@ -9,7 +9,7 @@ use crate::answers::{Decided, PartAnswer, decided_parts};
 use crate::implied::answer_with_implied;
 use crate::left::left_after;
 use crate::limits::wide_in;
-use crate::outcome::{Limit, StepOutcome};
+use crate::outcome::{StepLimit, StepOutcome};
 use crate::rules::{priority_at, read_at};
 use crate::variables::are_of_left;
 use kp_compile::CompileError;
@@ -77,7 +77,7 @@ fn wide_condition(
     whole: &Part,
     firing: &Firing,
     narrowed: &State,
-) -> Result<Option<Limit>, AllocError>
+) -> Result<Option<StepLimit>, AllocError>
     requires { HasItsTable setting }
     ensures { TellsWideCondition setting.entry whole.now firing.now narrowed.now result }
 {

@@ -10,7 +10,7 @@ ghost use Rattle.kp_ground.specs.TermView.{term_view};
 ghost use Rattle.kp_ground.specs.declared.evaluate.EvaluationError.TheVariants.{Number};
 ghost use Rattle.kp_rules.specs.WideParts.{all_narrow};
 
-use kp_ground::{Binding, EvaluationError, Term};
+use kp_ground::{Binding, CompiledTerm, EvaluationError};
 use kp_rules::RightSide;
 use std::alloc::Global;
 
@@ -24,7 +24,11 @@ pub fn narrow(alloc: Global, side: &RightSide, bindings: &[Binding]) -> Result<(
 }
 
 /// Each of the terms has a value under the bindings.
-fn evaluate_each(alloc: Global, terms: &[Term], bindings: &[Binding]) -> Result<(), EvaluationError>
+fn evaluate_each(
+    alloc: Global,
+    terms: &[CompiledTerm],
+    bindings: &[Binding],
+) -> Result<(), EvaluationError>
     requires { list_all (term_reads (bound_names bindings.now)) terms.now ≡ true }
     ensures narrow { OnOk result ((v : Valuation) → Solves v bindings.now → all_narrow v terms.now ≡ true) }
     ensures wide { IfErr result (λ e. e ≡ Number → (v : Valuation) → Solves v bindings.now → all_narrow v terms.now ≡ false) }
@@ -36,7 +40,11 @@ fn evaluate_each(alloc: Global, terms: &[Term], bindings: &[Binding]) -> Result<
 }
 
 /// The term has a value under the bindings.
-fn evaluates(alloc: Global, term: &Term, bindings: &[Binding]) -> Result<(), EvaluationError>
+fn evaluates(
+    alloc: Global,
+    term: &CompiledTerm,
+    bindings: &[Binding],
+) -> Result<(), EvaluationError>
     requires { term_reads (bound_names bindings.now) term.now ≡ true }
     ensures narrow { OnOk result ((v : Valuation) → Solves v bindings.now → stays_narrow v (term_view term.now) ≡ true) }
     ensures wide { IfErr result (λ e. e ≡ Number → (v : Valuation) → Solves v bindings.now → stays_narrow v (term_view term.now) ≡ false) }

@@ -118,7 +118,7 @@ fn add_shared(
     sort: &Sort,
     test: &HeadTest,
 ) -> Result<(), AllocError>
-    ensures { OnOk result (map literal_view found.new.items ≡ map literal_view found.old.items ++ shared_literals (signature_view signature.now) (variable_view variable.now.value) (sort_view sort.now) (test_view test.now)) }
+    ensures { let g = signature_view signature.now in OnOk result (map literal_view found.new.items ≡ map literal_view found.old.items ++ shared_literals g (variable_view variable.now.value) (sort_view sort.now) (test_view test.now)) }
 {
     let mut left = heads(signature, &variable.sort);
     while let Some(head) = left.next() {

@@ -8,7 +8,7 @@ use Rattle.kp_ground.specs.Slots.{stands_at, term_reads}
 use Rattle.kp_ground.specs.Terms.{bound, built, term_value}
 use Rattle.kp_ground.specs.TermView.{term_view, terms_of}
 use Rattle.kp_ground.specs.View.{value_view, values_of}
-use Rattle.kp_ground.specs.declared.term.Term.{the_lemmas as term_lemmas}
+use Rattle.kp_ground.specs.declared.term.CompiledTerm.{the_lemmas as term_lemmas}
 use Rattle.kp_ground.specs.declared.value.Value.{the_lemmas as value_lemmas}
 use Rattle.kp_ground.proofs.SlotLemmas.{all_pass}
 use Rattle.kp_signature.specs.View.{signature_view}

@@ -14,7 +14,7 @@ use Rattle.kp_signature.specs.View.{signature_view}
 use Rattle.kp_compile.specs.Spelled.{spelling}
 use Rattle.kp_depths.specs.View.{AreDepthsOf}
 use Rattle.kp_run.specs.Turns.{deep}
-use Rattle.kp_compile.specs.declared.state.State.{State}
+use Rattle.kp_compile.specs.declared.state.GroundState.{GroundState}
 use Rattle.kp_run.proofs.Turning.{is_beyond}
 use Rattle.kp_run.proofs.step.after.Goals as goal
 
@@ -31,7 +31,7 @@ returns-clause-after c =
 pub returns-then-not-is_shallow_at-clause-not_followed : goal.returns-then-not-is_shallow_at-clause-not_followed
 returns-then-not-is_shallow_at-clause-not_followed c = λ _.
     let g = signature_view c.args.signature.now in
-    let next : State = record { value = c.in_ok-value.value; sort = c.in_ok-sort.sort } in
+    let next : GroundState = record { value = c.in_ok-value.value; sort = c.in_ok-sort.sort } in
     let gives : Gives (Ok c.in_ok-value.value) c.args.firing.now.bindings.items (term_view c.args.firing.now.rewrite.now.right) =
     subst (λ bs. Gives (Ok c.in_ok-value.value) bs (term_view c.args.firing.now.rewrite.now.right)) c.deref.ensures.value c.in_ok-value.ensures in
     let v = c.requires.matched.solvable.0 in

@@ -9,8 +9,8 @@ use Rattle.kp_ground.specs.Solves.{bound_names}
 use Rattle.kp_ground.proofs.SlotLemmas.{slot_within, all_pass}
 use Rattle.kp_ground.specs.Terms.{bound, built, term_value, stays_narrow}
 use Rattle.kp_ground.specs.TermView.{term_view, terms_of}
-use Rattle.kp_ground.specs.declared.term.Term.{the_lemmas}
-use Rattle.kp_ground.proofs.term.Term.+evaluate.Goals as goal
+use Rattle.kp_ground.specs.declared.term.CompiledTerm.{the_lemmas}
+use Rattle.kp_ground.proofs.term.CompiledTerm.+evaluate.Goals as goal
 
 pub evaluate-returns-in_err-values-in-Built : goal.evaluate-returns-in_err-values-in-Built
 evaluate-returns-in_err-values-in-Built t c =

@@ -5,7 +5,7 @@ use Rattle.kp_ground.specs.Solves.{Solves}
 use Rattle.kp_ground.specs.Terms.{term_value, stays_narrow}
 use Rattle.kp_ground.specs.TermView.{term_view}
 use Rattle.kp_ground.specs.View.{value_view}
-use Rattle.kp_ground.proofs.term.Term.+evaluate.Given as goal
+use Rattle.kp_ground.proofs.term.CompiledTerm.+evaluate.Given as goal
 
 abbrev pub invariant-evaluate_all-loop-term : goal.invariant-evaluate_all-loop-term
 invariant-evaluate_all-loop-term l = (v : Valuation) → Solves v l.bindings →
