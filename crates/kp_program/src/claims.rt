@@ -19,7 +19,8 @@ pub fn load_claims<H: Shelf>(
     table: &Table,
 ) -> Result<Vec<ClaimItem>, Trouble>
     ensures loaded { (s : Setting) → IsSettingOf s table.now → IfOk result (λ claims. AreClaimsAt (H.names shelf.old) name.now s.theory.signature claims.items) }
-    ensures trouble { (s : Setting) → IsSettingOf s table.now → IfErr result (IsClaimsTrouble (H.names shelf.old) name.now s.theory.signature (Rose (H.fault_count shelf.old) (H.fault_count shelf.new))) }
+    ensures trouble { let Failed = Rose (H.fault_count shelf.old) (H.fault_count shelf.new) in
+        (s : Setting) → IsSettingOf s table.now → IfErr result (IsClaimsTrouble (H.names shelf.old) name.now s.theory.signature Failed) }
     ensures kept { H.names shelf.new ≡ H.names shelf.old }
     ensures never_falls { H.fault_count shelf.old ≤ H.fault_count shelf.new }
 {

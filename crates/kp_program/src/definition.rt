@@ -19,7 +19,8 @@ pub fn load_table<H: Shelf>(
     main: &str,
 ) -> Result<Table, Trouble>
     ensures loaded { IfOk result (λ table. (file : List ℕ) × IfSome (H.names shelf.old) (λ held. held name.now ≡ Some file) × IsTableOf file main.now table) }
-    ensures cause { (words : List (List ℕ)) → NamesDefinition words name.now main.now → IfErr result (λ trouble. IsCause (H.names shelf.old) words (Rose (H.fault_count shelf.old) (H.fault_count shelf.new)) (ending_of trouble)) }
+    ensures cause { let Failed = Rose (H.fault_count shelf.old) (H.fault_count shelf.new) in
+        (words : List (List ℕ)) → NamesDefinition words name.now main.now → IfErr result (λ trouble. IsCause (H.names shelf.old) words Failed (ending_of trouble)) }
     ensures kept { H.names shelf.new ≡ H.names shelf.old }
     ensures never_falls { H.fault_count shelf.old ≤ H.fault_count shelf.new }
 {

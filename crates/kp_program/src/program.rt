@@ -44,9 +44,10 @@ pub fn run<H: Shelf, I: Source, O: Sink, E: Sink>(
     ensures complete { let Failed = Rose (H.fault_count shelf.old) (H.fault_count shelf.new) ⊎ (Rose (I.fault_count input.old) (I.fault_count input.new) ⊎ Rose (O.fault_count out.old) (O.fault_count out.new)) in
         IfSome (H.names shelf.old) (λ held. IsPossible (map string_bytes words.now) held → ¬ Failed → (result ≤ 2) ⊎ (result ≡ 7)) }
     ensures untold { result ≤ 2 → E.held err.new ≡ E.held err.old }
-    ensures untouched { 3 ≤ result → result ≤ 5 → (I.left input.new ≡ I.left input.old) × (O.held out.new ≡ O.held out.old) }
+    ensures untouched { let Untouched = (I.left input.new ≡ I.left input.old) × (O.held out.new ≡ O.held out.old) in 3 ≤ result → result ≤ 5 → Untouched }
     ensures unread { (c : ProveWords) → SpellsProve (map string_bytes words.now) c → I.left input.new ≡ I.left input.old }
-    ensures front { 3 ≤ result → ((I.left input.new ≡ I.left input.old) × (O.held out.new ≡ O.held out.old)) ⊎ BeginsWords (H.names shelf.old) (I.left input.old) (I.left input.new) (O.held out.old) (O.held out.new) (map string_bytes words.now) }
+    ensures front { let Untouched = (I.left input.new ≡ I.left input.old) × (O.held out.new ≡ O.held out.old) in
+        3 ≤ result → Untouched ⊎ BeginsWords (H.names shelf.old) (I.left input.old) (I.left input.new) (O.held out.old) (O.held out.new) (map string_bytes words.now) }
     ensures files_kept { H.names shelf.new ≡ H.names shelf.old }
     ensures counts { (H.fault_count shelf.old ≤ H.fault_count shelf.new) × (I.fault_count input.old ≤ I.fault_count input.new) × (O.fault_count out.old ≤ O.fault_count out.new) × (E.fault_count err.old ≤ E.fault_count err.new) }
 {
@@ -70,9 +71,10 @@ fn obey<H: Shelf, I: Source, O: Sink>(
     ensures done { (words : List (List ℕ)) → IsCommand words command.now → IfOk result (λ status. (status ≤ 2) × DoesWords (H.names shelf.old) (I.left input.old) (I.left input.new) (O.held out.old) (O.held out.new) words status) }
     ensures cause { let Failed = Rose (H.fault_count shelf.old) (H.fault_count shelf.new) ⊎ (Rose (I.fault_count input.old) (I.fault_count input.new) ⊎ Rose (O.fault_count out.old) (O.fault_count out.new)) in
         (words : List (List ℕ)) → IsCommand words command.now → IfErr result (λ trouble. IsCause (H.names shelf.old) words Failed (ending_of trouble)) }
-    ensures untouched { IfErr result (λ trouble. exit_status (ending_of trouble) ≤ 5 → (I.left input.new ≡ I.left input.old) × (O.held out.new ≡ O.held out.old)) }
+    ensures untouched { let Untouched = (I.left input.new ≡ I.left input.old) × (O.held out.new ≡ O.held out.old) in IfErr result (λ trouble. exit_status (ending_of trouble) ≤ 5 → Untouched) }
     ensures unread { (words : List (List ℕ)) (c : ProveWords) → IsCommand words command.now → SpellsProve words c → I.left input.new ≡ I.left input.old }
-    ensures front { (words : List (List ℕ)) → IsCommand words command.now → OnErr result (((I.left input.new ≡ I.left input.old) × (O.held out.new ≡ O.held out.old)) ⊎ BeginsWords (H.names shelf.old) (I.left input.old) (I.left input.new) (O.held out.old) (O.held out.new) words) }
+    ensures front { let Untouched = (I.left input.new ≡ I.left input.old) × (O.held out.new ≡ O.held out.old) in
+        (words : List (List ℕ)) → IsCommand words command.now → OnErr result (Untouched ⊎ BeginsWords (H.names shelf.old) (I.left input.old) (I.left input.new) (O.held out.old) (O.held out.new) words) }
     ensures files_kept { H.names shelf.new ≡ H.names shelf.old }
     ensures shelf_count { H.fault_count shelf.old ≤ H.fault_count shelf.new }
     ensures input_count { I.fault_count input.old ≤ I.fault_count input.new }
@@ -98,8 +100,9 @@ fn serve_input<H: Shelf, I: Source, O: Sink>(
     ensures served { OnOk result (ServesFile (H.names shelf.old) (I.left input.old) (I.left input.new) (O.held out.old) (O.held out.new) command.now.definition.now command.now.module_name.now) }
     ensures cause { let Failed = Rose (H.fault_count shelf.old) (H.fault_count shelf.new) ⊎ (Rose (I.fault_count input.old) (I.fault_count input.new) ⊎ Rose (O.fault_count out.old) (O.fault_count out.new)) in
         (words : List (List ℕ)) → NamesDefinition words command.now.definition.now command.now.module_name.now → IfErr result (λ trouble. IsCause (H.names shelf.old) words Failed (ending_of trouble)) }
-    ensures untouched { IfErr result (λ trouble. exit_status (ending_of trouble) ≤ 5 → (I.left input.new ≡ I.left input.old) × (O.held out.new ≡ O.held out.old)) }
-    ensures front { OnErr result (((I.left input.new ≡ I.left input.old) × (O.held out.new ≡ O.held out.old)) ⊎ BreaksFile (H.names shelf.old) (I.left input.old) (I.left input.new) (O.held out.old) (O.held out.new) command.now.definition.now command.now.module_name.now) }
+    ensures untouched { let Untouched = (I.left input.new ≡ I.left input.old) × (O.held out.new ≡ O.held out.old) in IfErr result (λ trouble. exit_status (ending_of trouble) ≤ 5 → Untouched) }
+    ensures front { let Untouched = (I.left input.new ≡ I.left input.old) × (O.held out.new ≡ O.held out.old) in
+        OnErr result (Untouched ⊎ BreaksFile (H.names shelf.old) (I.left input.old) (I.left input.new) (O.held out.old) (O.held out.new) command.now.definition.now command.now.module_name.now) }
     ensures files_kept { H.names shelf.new ≡ H.names shelf.old }
     ensures shelf_count { H.fault_count shelf.old ≤ H.fault_count shelf.new }
     ensures input_count { I.fault_count input.old ≤ I.fault_count input.new }
@@ -120,7 +123,8 @@ fn serve_table<I: Source, O: Sink>(
 ) -> Result<(), Trouble>
     ensures served { (o : Opening) → IsTableOf o table → OnOk result (ServesInput o (I.left input.old) (I.left input.new) (O.held out.old) (O.held out.new)) }
     ensures late { IfErr result (IsLate (Rose (I.fault_count input.old) (I.fault_count input.new) ⊎ Rose (O.fault_count out.old) (O.fault_count out.new))) }
-    ensures front { (o : Opening) → IsTableOf o table → OnErr result (((I.left input.new ≡ I.left input.old) × (O.held out.new ≡ O.held out.old)) ⊎ BreaksOff o (I.left input.old) (I.left input.new) (O.held out.old) (O.held out.new)) }
+    ensures front { let Untouched = (I.left input.new ≡ I.left input.old) × (O.held out.new ≡ O.held out.old) in
+        (o : Opening) → IsTableOf o table → OnErr result (Untouched ⊎ BreaksOff o (I.left input.old) (I.left input.new) (O.held out.old) (O.held out.new)) }
     ensures input_count { I.fault_count input.old ≤ I.fault_count input.new }
     ensures out_count { O.fault_count out.old ≤ O.fault_count out.new }
 {
