@@ -22,7 +22,7 @@ use crate::error::AdditionError;
 use crate::imports::imports_of;
 use kp_extensions::{ExtendError, extend};
 use kp_kore::{Module, Name};
-use kp_modules::Table;
+use kp_modules::ModuleTable;
 use kp_registry::{Id, Pass, Ready, RegisterFault, Registry, id_of, prepare};
 use kp_replies::AdditionFault;
 use kp_rule_sets::RuleSet;
@@ -127,7 +127,7 @@ fn module_of(alloc: Global, text: &[u8]) -> Result<Module, AdditionError>
 /// The rule set of a module that is added with this id; M6, else M7.
 fn rules_of(
     alloc: Global,
-    table: &Table,
+    table: &ModuleTable,
     imports: &[Arc<RuleSet>],
     id: &Id,
     added: &Module,

@@ -21,8 +21,8 @@ use Rattle.kp_conditions.proofs.Ways.{says, through}
 use Rattle.kp_symbolic.specs.declared.variable.Variable.{Variable}
 use Rattle.kp_deciding.specs.Forms.{whole_part_view, token_part_view, form_view}
 use Rattle.kp_deciding.specs.Readings.{read_view, clauses_view}
-use Rattle.kp_deciding.specs.declared.form.Form.{Form}
-use Rattle.kp_deciding.specs.declared.form.Form.TheVariants.{Compares, Truth, Equates, Asks, Gives}
+use Rattle.kp_deciding.specs.declared.form.LiteralForm.{LiteralForm}
+use Rattle.kp_deciding.specs.declared.form.LiteralForm.TheVariants.{Compares, Truth, Equates, Asks, Gives}
 use Rattle.kp_deciding.specs.declared.form.WholePart.{WholePart}
 use Rattle.kp_deciding.specs.declared.form.TokenPart.{TokenPart}
 use Rattle.kp_deciding.specs.declared.reading.ReadLiteral.{ReadLiteral}
@@ -45,14 +45,14 @@ pub record AgreesOnTokens (g : KoreSignature) (a : Assignment) (v : Valuation) (
   pub alike : are_alike g p q ≡ true → (a.classes (token_number u p) ≡ a.classes (token_number u q)) ↔ (token_value v (token_part_view p) ≡ token_value v (token_part_view q))
   pub apart : are_alike g p q ≡ false → ¬ (token_value v (token_part_view p) ≡ token_value v (token_part_view q))
 
-abbrev pub Agrees : KoreSignature → Assignment → Valuation → Unknowns → Form → Type 0
+abbrev pub Agrees : KoreSignature → Assignment → Valuation → Unknowns → LiteralForm → Type 0
 Agrees g a v u (Compares c m n) = AgreesOnSide a v u m × AgreesOnSide a v u n
 Agrees g a v u (Truth x b) = v (string_bytes x.now.name) ≡ truth (a.truths (truth_number u x.now))
 Agrees g a v u (Equates b p q) = AgreesOnTokens g a v u p q
 Agrees g a v u (Asks x test b) = ⊤
 Agrees g a v u (Gives x t) = ⊤
 
-abbrev pub SaidAgrees : KoreSignature → Assignment → Valuation → Unknowns → Option Form → Type 0
+abbrev pub SaidAgrees : KoreSignature → Assignment → Valuation → Unknowns → Option LiteralForm → Type 0
 SaidAgrees g a v u (Some f) = Agrees g a v u f
 SaidAgrees g a v u None = ⊤
 
@@ -136,14 +136,14 @@ tokens_is g a v u b p q h = by (are_alike g p q) h.alike h.apart
 
 -- ---- forms and clauses
 
-pub form_is : (g : KoreSignature) (a : Assignment) (v : Valuation) (u : Unknowns) (f : Form) → Agrees g a v u f → HasWay a (form_ways g u f) ↔ AsksTruly g v (form_view f)
+pub form_is : (g : KoreSignature) (a : Assignment) (v : Valuation) (u : Unknowns) (f : LiteralForm) → Agrees g a v u f → HasWay a (form_ways g u f) ↔ AsksTruly g v (form_view f)
 form_is g a v u (Compares c m n) h = compares_is g a v u (comparison_view c) m n h.0 h.1
 form_is g a v u (Truth x b) h = through alone (truth_asked (v (string_bytes x.now.name)) (a.truths (truth_number u x.now)) b h)
 form_is g a v u (Equates b p q) h = tokens_is g a v u b p q h
 form_is g a v u (Asks x test b) h = (λ k. tt, λ k. inl tt)
 form_is g a v u (Gives x t) h = (λ k. tt, λ k. inl tt)
 
-said_is : (g : KoreSignature) (a : Assignment) (v : Valuation) (u : Unknowns) (o : Option Form) → SaidAgrees g a v u o → HasWay a (said_ways g u o) ↔ IsAskedTruly g v (option_map form_view o)
+said_is : (g : KoreSignature) (a : Assignment) (v : Valuation) (u : Unknowns) (o : Option LiteralForm) → SaidAgrees g a v u o → HasWay a (said_ways g u o) ↔ IsAskedTruly g v (option_map form_view o)
 said_is g a v u (Some f) h = form_is g a v u f h
 said_is g a v u None h = (λ k. k, λ k. k)
 

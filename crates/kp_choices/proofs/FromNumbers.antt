@@ -24,8 +24,8 @@ use Rattle.kp_conditions.specs.Saying.{number_of, named_number, token_value}
 use Rattle.kp_symbolic.specs.View.{variable_view}
 use Rattle.kp_symbolic.specs.declared.variable.Variable.{Variable}
 use Rattle.kp_deciding.specs.Forms.{token_part_view}
-use Rattle.kp_deciding.specs.declared.form.Form.{Form}
-use Rattle.kp_deciding.specs.declared.form.Form.TheVariants.{Compares, Truth, Equates, Asks, Gives}
+use Rattle.kp_deciding.specs.declared.form.LiteralForm.{LiteralForm}
+use Rattle.kp_deciding.specs.declared.form.LiteralForm.TheVariants.{Compares, Truth, Equates, Asks, Gives}
 use Rattle.kp_deciding.specs.declared.form.TokenPart.{TokenPart}
 use Rattle.kp_deciding.specs.declared.form.TokenPart.TheVariants.{Unknown, Known}
 use Rattle.kp_deciding.specs.declared.reading.ReadLiteral.{ReadLiteral}
@@ -136,7 +136,7 @@ part_sorted : (g : KoreSignature) (a : Assignment) (u : Unknowns) (front : List 
 part_sorted g a u front v (Unknown x) k h = ((token_given g a u front v (variable_view x.now) k h.0).3, tt)
 part_sorted g a u front v (Known w) k h = tt
 
-form_sorted : (g : KoreSignature) (a : Assignment) (u : Unknowns) (front : List model.TokenPart) (v : Valuation) (o : Option Form) → IsSaidOfKind g o → AllByRecursion (IsValued g a u front v) (unknowns_said o) → GivesSorts g v (unknowns_said o)
+form_sorted : (g : KoreSignature) (a : Assignment) (u : Unknowns) (front : List model.TokenPart) (v : Valuation) (o : Option LiteralForm) → IsSaidOfKind g o → AllByRecursion (IsValued g a u front v) (unknowns_said o) → GivesSorts g v (unknowns_said o)
 form_sorted g a u front v None k h = tt
 form_sorted g a u front v (Some (Compares c m n)) k h = zipped (λ x. has_only_numbers g x.sort ≡ true) (IsValued g a u front v) (λ x. HasSort g x.sort (v x.name)) (side_variables m ++ side_variables n) (λ x i j. (number_given g a u front v x i j).1) k h
 form_sorted g a u front v (Some (Truth x b)) k h = ((truth_given g a u front v (variable_view x.now) k h.0).1, tt)
@@ -214,7 +214,7 @@ tokens_agree g a u front v p q s t = record {
           λ e. two_texts parts front a.classes s.sort (a.classes (token_number u p)) (a.classes (token_number u q)) (texts_in_tokens (sym s.value ∙ e ∙ right)),
         )
 
-said_agrees : (g : KoreSignature) (a : Assignment) (u : Unknowns) (f : Fronted (map token_part_view u.tokens.items) u.written) (v : Valuation) (bits : ℕ) (o : Option Form) → IsLawful u.written a → IsSaidPlaced u bits o → IsSaidOfKind g o → AllByRecursion (IsValued g a u f.front v) (unknowns_said o) → SaidAgrees g a v u o
+said_agrees : (g : KoreSignature) (a : Assignment) (u : Unknowns) (f : Fronted (map token_part_view u.tokens.items) u.written) (v : Valuation) (bits : ℕ) (o : Option LiteralForm) → IsLawful u.written a → IsSaidPlaced u bits o → IsSaidOfKind g o → AllByRecursion (IsValued g a u f.front v) (unknowns_said o) → SaidAgrees g a v u o
 said_agrees g a u f v bits None w pl k h = tt
 said_agrees g a u f v bits (Some (Compares c m n)) w pl k h =
     let ks = (all_append (λ x. has_only_numbers g x.sort ≡ true) (side_variables m) (side_variables n)).0 k in

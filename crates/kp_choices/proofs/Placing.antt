@@ -20,8 +20,8 @@ use Rattle.kp_deciding.specs.Bounds.{said_bounds, clause_bounds}
 use Rattle.kp_deciding.specs.Forms.{whole_part_view, token_part_view, form_view}
 use Rattle.kp_deciding.specs.Readings.{read_view, clauses_view}
 use Rattle.kp_deciding.proofs.BoundLemmas.{clause_by_clause}
-use Rattle.kp_deciding.specs.declared.form.Form.{Form}
-use Rattle.kp_deciding.specs.declared.form.Form.TheVariants.{Compares, Truth, Equates, Asks, Gives}
+use Rattle.kp_deciding.specs.declared.form.LiteralForm.{LiteralForm}
+use Rattle.kp_deciding.specs.declared.form.LiteralForm.TheVariants.{Compares, Truth, Equates, Asks, Gives}
 use Rattle.kp_deciding.specs.declared.form.WholePart.{WholePart}
 use Rattle.kp_deciding.specs.declared.form.TokenPart.{TokenPart}
 use Rattle.kp_deciding.specs.declared.form.TokenPart.TheVariants.{Unknown, Known}
@@ -92,7 +92,7 @@ bounded names bits (b ∷ bs) h l =
     (record { first = named_one names b.first q.0; second = named_one names b.second q.1; most = m.0 }, bounded names bits bs p.1 m.1)
 
 -- bounds by clauses and literals
-abbrev pub IsSaidBounded : List Text → ℕ → Option Form → Type 0
+abbrev pub IsSaidBounded : List Text → ℕ → Option LiteralForm → Type 0
 IsSaidBounded names bits o = AllByRecursion (IsBounded names bits) (said_bounds (option_map form_view o))
 
 said_each : (P : DifferenceBound → Type 0) (c : List ReadLiteral) → AllByRecursion P (clause_bounds (map read_view c)) → AllByRecursion (λ l. AllByRecursion P (said_bounds (option_map form_view l.form))) c
@@ -110,7 +110,7 @@ bounds_within cs u bits hu l = all_said (IsBounded (texts u.wholes.items) bits) 
 
 -- ---- truth values
 
-abbrev pub IsTruthPlaced : Unknowns → Option Form → Type 0
+abbrev pub IsTruthPlaced : Unknowns → Option LiteralForm → Type 0
 IsTruthPlaced u o = AllByRecursion (λ x. place_by bytes_eq (texts u.truths.items) x < length (texts u.truths.items)) (truths_said o)
 
 pub truths_placed : (cs : List (Vec ReadLiteral Global)) (u : Unknowns) → AreUnknownsOf cs u → AllByRecursion (λ c. AllByRecursion (λ l. IsTruthPlaced u l.form) c.items) cs
@@ -143,7 +143,7 @@ part_written b p = by (beq (is_written (token_part_view p)) b) refl
     by true e = (beq_is (is_written (token_part_view p)) b e, tt)
     by false e = tt
 
-said_written : (b : Bool) (o : Option Form) → AreWritten b (tokens_said b o)
+said_written : (b : Bool) (o : Option LiteralForm) → AreWritten b (tokens_said b o)
 said_written b None = tt
 said_written b (Some (Equates c p q)) = (all_append (λ r. is_written r ≡ b) (part_if b p) (part_if b q)).1 (part_written b p, part_written b q)
 said_written b (Some (Compares c m n)) = tt
@@ -201,7 +201,7 @@ all_parts xs ys w v =
     )
 
 -- what holds of both kinds of tokens holds of each side
-abbrev pub OnSides : (model.TokenPart → Type 0) → Option Form → Type 0
+abbrev pub OnSides : (model.TokenPart → Type 0) → Option LiteralForm → Type 0
 OnSides P (Some (Equates b p q)) = P (token_part_view p) × P (token_part_view q)
 OnSides P o = ⊤
 
@@ -209,7 +209,7 @@ on_part : (P : model.TokenPart → Type 0) (p : TokenPart) → AllByRecursion P 
 on_part P (Known u) h k = h.0
 on_part P (Unknown x) h k = k.0
 
-on_said : (P : model.TokenPart → Type 0) (o : Option Form) → AllByRecursion P (tokens_said true o) → AllByRecursion P (tokens_said false o) → OnSides P o
+on_said : (P : model.TokenPart → Type 0) (o : Option LiteralForm) → AllByRecursion P (tokens_said true o) → AllByRecursion P (tokens_said false o) → OnSides P o
 on_said P None h k = tt
 on_said P (Some (Equates b p q)) h k = let i = (all_append P (part_if true p) (part_if true q)).0 h in let j = (all_append P (part_if false p) (part_if false q)).0 k in (on_part P p i.0 j.0, on_part P q i.1 j.1)
 on_said P (Some (Compares c m n)) h k = tt
@@ -235,7 +235,7 @@ tokens_placed cs u hu =
 -- ---- all kinds
 
 -- the unknowns of what a literal says have places, and its bounds have no more digits
-pub record IsSaidPlaced (u : Unknowns) (bits : ℕ) (o : Option Form) : Type 0 where
+pub record IsSaidPlaced (u : Unknowns) (bits : ℕ) (o : Option LiteralForm) : Type 0 where
   pub bounds : IsSaidBounded (texts u.wholes.items) bits o
   pub truths : IsTruthPlaced u o
   pub tokens : OnSides (IsPartPlaced (map token_part_view u.tokens.items) u.written) o

@@ -24,8 +24,8 @@ use Rattle.kp_conditions.specs.Comparing.{ways_of}
 use Rattle.kp_conditions.specs.declared.comparing.ComparedPart.{ComparedPart}
 use Rattle.kp_symbolic.specs.declared.variable.Variable.{Variable}
 use Rattle.kp_deciding.specs.Forms.{whole_part_view, token_part_view}
-use Rattle.kp_deciding.specs.declared.form.Form.{Form}
-use Rattle.kp_deciding.specs.declared.form.Form.TheVariants.{Compares, Truth, Equates, Asks, Gives}
+use Rattle.kp_deciding.specs.declared.form.LiteralForm.{LiteralForm}
+use Rattle.kp_deciding.specs.declared.form.LiteralForm.TheVariants.{Compares, Truth, Equates, Asks, Gives}
 use Rattle.kp_deciding.specs.declared.form.WholePart.{WholePart}
 use Rattle.kp_deciding.specs.declared.reading.ReadLiteral.{ReadLiteral}
 use Rattle.kp_choices.specs.Kinds.{are_alike}
@@ -80,7 +80,7 @@ sides_near u bits c m n light h e =
     let near = gaps (texts u.wholes.items) bits (2 ^ 125) (comparison_view c) (whole_part_view m) (whole_part_view n) (pow_mono few) (pow_pos 125) h.bounds in
     (subst (λ k. unsigned_abs (n.constant -ℤ m.constant) < k) (sym (pow-succ' 2 125)) near.0, subst (λ k. unsigned_abs (m.constant -ℤ n.constant) < k) (sym (pow-succ' 2 125)) near.1)
 
-said_near : (u : Unknowns) (bits : ℕ) (o : Option Form) → length (texts u.wholes.items) + bits ≤ 126 → IsSaidPlaced u bits o → IsSaidNear u o
+said_near : (u : Unknowns) (bits : ℕ) (o : Option LiteralForm) → length (texts u.wholes.items) + bits ≤ 126 → IsSaidPlaced u bits o → IsSaidNear u o
 said_near u bits None light h = tt
 said_near u bits (Some (Compares c m n)) light h = sides_near u bits c m n light h
 said_near u bits (Some (Truth x b)) light h = tt
@@ -138,7 +138,7 @@ equating_sized : (s : Sizes) (b : Bool) (x y : ℕ) → x < s.classes → y < s.
 equating_sized s true x y h k = (h, k)
 equating_sized s false x y h k = (h, k)
 
-form_sized : (g : KoreSignature) (u : Unknowns) (bits : ℕ) (s : Sizes) (f : Form) → AreSizes u bits s → IsSaidPlaced u bits (Some f) → AreWaysSized s (form_ways g u f)
+form_sized : (g : KoreSignature) (u : Unknowns) (bits : ℕ) (s : Sizes) (f : LiteralForm) → AreSizes u bits s → IsSaidPlaced u bits (Some f) → AreWaysSized s (form_ways g u f)
 form_sized g u bits s (Compares c m n) z h = by (are_constants m n)
   where
     by : (b : Bool) → AreWaysSized s (if b then decided (compared (comparison_view c) m.constant n.constant) else ways_of (comparison_view c) (part_of u m) (part_of u n))
@@ -153,7 +153,7 @@ form_sized g u bits s (Equates b p q) z h = by (are_alike g p q)
 form_sized g u bits s (Asks x test b) z h = (tt, tt)
 form_sized g u bits s (Gives x t) z h = (tt, tt)
 
-said_sized : (g : KoreSignature) (u : Unknowns) (bits : ℕ) (s : Sizes) (o : Option Form) → AreSizes u bits s → IsSaidPlaced u bits o → AreWaysSized s (said_ways g u o)
+said_sized : (g : KoreSignature) (u : Unknowns) (bits : ℕ) (s : Sizes) (o : Option LiteralForm) → AreSizes u bits s → IsSaidPlaced u bits o → AreWaysSized s (said_ways g u o)
 said_sized g u bits s (Some f) z h = form_sized g u bits s f z h
 said_sized g u bits s None z h = tt
 

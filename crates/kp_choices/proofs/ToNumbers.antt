@@ -18,8 +18,8 @@ use Rattle.kp_demands.proofs.Lists.{all_append}
 use Rattle.kp_conditions.specs.Saying.{number_of, named_number, token_value}
 use Rattle.kp_symbolic.specs.View.{variable_view}
 use Rattle.kp_deciding.specs.Forms.{whole_part_view, token_part_view}
-use Rattle.kp_deciding.specs.declared.form.Form.{Form}
-use Rattle.kp_deciding.specs.declared.form.Form.TheVariants.{Compares, Truth, Equates, Asks, Gives}
+use Rattle.kp_deciding.specs.declared.form.LiteralForm.{LiteralForm}
+use Rattle.kp_deciding.specs.declared.form.LiteralForm.TheVariants.{Compares, Truth, Equates, Asks, Gives}
 use Rattle.kp_deciding.specs.declared.reading.ReadLiteral.{ReadLiteral}
 use Rattle.kp_deciding.specs.Unknowns.{token_variables, unknowns_said, unknowns_in, all_unknowns, IsSaidOfKind, AreSaidOfKind}
 use Rattle.kp_choices.specs.Numbers.{texts, place_by, parts_same, is_written, whole_number}
@@ -177,7 +177,7 @@ alone_first values written x y hx hy e = sym (own x hx) ∙ e ∙ own y hy
 pub lawful : (v : Valuation) (u : Unknowns) → IsLawful u.written (to_numbers v u)
 lawful v u = record { zero_is = refl; differ = alone_first (map (λ p. token_value v p) (map token_part_view u.tokens.items)) u.written }
 
-said_agrees : (g : KoreSignature) (v : Valuation) (u : Unknowns) (bits : ℕ) (o : Option Form) → Fronted (map token_part_view u.tokens.items) u.written → IsSaidPlaced u bits o → IsSaidOfKind g o → GivesSorts g v (unknowns_said o) → SaidAgrees g (to_numbers v u) v u o
+said_agrees : (g : KoreSignature) (v : Valuation) (u : Unknowns) (bits : ℕ) (o : Option LiteralForm) → Fronted (map token_part_view u.tokens.items) u.written → IsSaidPlaced u bits o → IsSaidOfKind g o → GivesSorts g v (unknowns_said o) → SaidAgrees g (to_numbers v u) v u o
 said_agrees g v u bits None f p k h = tt
 said_agrees g v u bits (Some (Compares c m n)) f p k h = let names = placed_names u bits c m n p in (side_agrees v (texts u.wholes.items) (whole_part_view m).variable names.0, side_agrees v (texts u.wholes.items) (whole_part_view n).variable names.1)
 said_agrees g v u bits (Some (Truth x b)) f p k h =

@@ -12,8 +12,8 @@ use Rattle.kp_symbolic.specs.Plain as model
 use Rattle.kp_symbolic.specs.Weights.{DifferenceBound, name_in, each_once, all_bounds}
 use Rattle.kp_deciding.specs.Forms.{token_part_view}
 use Rattle.kp_deciding.specs.Readings.{clauses_view}
-use Rattle.kp_deciding.specs.declared.form.Form.{Form}
-use Rattle.kp_deciding.specs.declared.form.Form.TheVariants.{Truth, Equates}
+use Rattle.kp_deciding.specs.declared.form.LiteralForm.{LiteralForm}
+use Rattle.kp_deciding.specs.declared.form.LiteralForm.TheVariants.{Truth, Equates}
 use Rattle.kp_deciding.specs.declared.form.TokenPart.{TokenPart}
 use Rattle.kp_deciding.specs.declared.reading.ReadLiteral.{ReadLiteral}
 use Rattle.kp_choices.specs.declared.unknowns.Unknowns.{Unknowns}
@@ -39,7 +39,7 @@ whole_number names None = 0
 -- ---- which unknowns there are
 
 -- a truth value that is asked for
-abbrev pub truths_said : Option Form → List Text
+abbrev pub truths_said : Option LiteralForm → List Text
 truths_said (Some (Truth x b)) = string_bytes x.now.name ∷ []
 truths_said f = []
 
@@ -51,7 +51,7 @@ is_written (model.some_token x) = false
 abbrev pub part_if : Bool → TokenPart → List model.TokenPart
 part_if written p = if beq (is_written (token_part_view p)) written then token_part_view p ∷ [] else []
 
-abbrev pub tokens_said : Bool → Option Form → List model.TokenPart
+abbrev pub tokens_said : Bool → Option LiteralForm → List model.TokenPart
 tokens_said written (Some (Equates b p q)) = part_if written p ++ part_if written q
 tokens_said written f = []
 

@@ -18,8 +18,8 @@ use Rattle.kp_conditions.specs.Comparing.{ways_of, AreNear}
 use Rattle.kp_conditions.specs.declared.comparing.ComparedPart.{ComparedPart}
 use Rattle.kp_deciding.specs.Forms.{whole_part_view, token_part_view}
 use Rattle.kp_symbolic.specs.declared.variable.Variable.{Variable}
-use Rattle.kp_deciding.specs.declared.form.Form.{Form}
-use Rattle.kp_deciding.specs.declared.form.Form.TheVariants.{Compares, Truth, Equates, Asks, Gives}
+use Rattle.kp_deciding.specs.declared.form.LiteralForm.{LiteralForm}
+use Rattle.kp_deciding.specs.declared.form.LiteralForm.TheVariants.{Compares, Truth, Equates, Asks, Gives}
 use Rattle.kp_deciding.specs.declared.form.WholePart.{WholePart}
 use Rattle.kp_deciding.specs.declared.form.TokenPart.{TokenPart}
 use Rattle.kp_deciding.specs.declared.reading.ReadLiteral.{ReadLiteral}
@@ -60,7 +60,7 @@ abbrev pub token_ways : KoreSignature → Unknowns → Bool → TokenPart → To
 token_ways g u b p q = if are_alike g p q then (equating b (token_number u p) (token_number u q) ∷ []) ∷ [] else decided (not b)
 
 -- the ways for a form to hold: heads and solved equations ask nothing of unknowns
-abbrev pub form_ways : KoreSignature → Unknowns → Form → List (List Demand)
+abbrev pub form_ways : KoreSignature → Unknowns → LiteralForm → List (List Demand)
 form_ways g u (Compares c m n) = comparing u (comparison_view c) m n
 form_ways g u (Truth x b) = (demand.Truth (truth_number u x.now) b ∷ []) ∷ []
 form_ways g u (Equates b p q) = token_ways g u b p q
@@ -68,7 +68,7 @@ form_ways g u (Asks x test b) = decided true
 form_ways g u (Gives x t) = decided true
 
 -- a literal that isn't decided has none
-abbrev pub said_ways : KoreSignature → Unknowns → Option Form → List (List Demand)
+abbrev pub said_ways : KoreSignature → Unknowns → Option LiteralForm → List (List Demand)
 said_ways g u (Some f) = form_ways g u f
 said_ways g u None = []
 
@@ -79,11 +79,11 @@ clause_ways g u c = flat_map (λ l. said_ways g u l.form) c
 abbrev pub AreSidesNear : Unknowns → WholePart → WholePart → Type 0
 AreSidesNear u m n = are_constants m n ≡ false → AreNear (part_of u m) (part_of u n) × AreNear (part_of u n) (part_of u m)
 
-abbrev pub IsNear : Unknowns → Form → Type 0
+abbrev pub IsNear : Unknowns → LiteralForm → Type 0
 IsNear u (Compares c m n) = AreSidesNear u m n
 IsNear u f = ⊤
 
-abbrev pub IsSaidNear : Unknowns → Option Form → Type 0
+abbrev pub IsSaidNear : Unknowns → Option LiteralForm → Type 0
 IsSaidNear u (Some f) = IsNear u f
 IsSaidNear u None = ⊤
 

@@ -11,7 +11,7 @@ ghost use Rattle.kp_choices.specs.Numbers.{texts, AreEachOnce, AreUnknownsOf};
 
 use crate::places::place_of_name;
 use kp_deciding::bounds::{Difference, all_bounds};
-use kp_deciding::{Form, ReadLiteral, TokenPart};
+use kp_deciding::{LiteralForm, ReadLiteral, TokenPart};
 use kp_kore::Name;
 use kp_symbolic::Variable;
 use std::alloc::{AllocError, Global};
@@ -83,10 +83,10 @@ fn wholes_of<'a>(
 }
 
 /// Adds the truth value that a literal asks for, if it does.
-fn add_truth<'a>(names: &mut Vec<&'a Name>, form: Option<Form<'a>>) -> Result<(), AllocError>
+fn add_truth<'a>(names: &mut Vec<&'a Name>, form: Option<LiteralForm<'a>>) -> Result<(), AllocError>
     ensures { OnOk result (texts names.new.items ≡ texts names.old.items ++ spec.truths_said form.entry) }
 {
-    if let Some(Form::Truth { variable, .. }) = form {
+    if let Some(LiteralForm::Truth { variable, .. }) = form {
         names.push(&variable.name)?;
     }
     Ok(())
@@ -144,11 +144,11 @@ fn add_part<'a>(
 fn add_sides<'a>(
     parts: &mut Vec<TokenPart<'a>>,
     written: bool,
-    form: Option<Form<'a>>,
+    form: Option<LiteralForm<'a>>,
 ) -> Result<(), AllocError>
     ensures { OnOk result (map token_part_view parts.new.items ≡ map token_part_view parts.old.items ++ spec.tokens_said written form.entry) }
 {
-    if let Some(Form::Equates { first, second, .. }) = form {
+    if let Some(LiteralForm::Equates { first, second, .. }) = form {
         add_part(parts, written, first)?;
         add_part(parts, written, second)?;
     }

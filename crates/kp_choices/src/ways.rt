@@ -9,7 +9,7 @@ use crate::places::{place_of_name, place_of_part, whole_number};
 use crate::tokens::are_alike;
 use crate::unknowns::Unknowns;
 use kp_conditions::{ComparedPart, comparison_ways};
-use kp_deciding::{Form, ReadLiteral, TokenPart, WholePart};
+use kp_deciding::{LiteralForm, ReadLiteral, TokenPart, WholePart};
 use kp_demands::Demand;
 use kp_kore::Comparison;
 use kp_signature::Signature;
@@ -126,27 +126,27 @@ fn form_ways(
     alloc: Global,
     signature: &Signature,
     unknowns: &Unknowns,
-    form: Form,
+    form: LiteralForm,
 ) -> Result<Vec<Vec<Demand>>, AllocError>
     requires { IsNear unknowns.now form }
     ensures { IfOk result (λ ways. items_of_ways ways.items ≡ spec.form_ways (signature_view signature.now) unknowns.now form.entry) }
 {
     match form {
-        Form::Compares {
+        LiteralForm::Compares {
             comparison,
             first,
             second,
         } => comparing(alloc, unknowns, comparison, first, second),
-        Form::Truth { variable, value } => {
+        LiteralForm::Truth { variable, value } => {
             let name = truth_number(unknowns, variable);
             one(alloc, Demand::Truth { name, value })
         }
-        Form::Equates {
+        LiteralForm::Equates {
             holds,
             first,
             second,
         } => token_ways(alloc, signature, unknowns, holds, first, second),
-        Form::Asks { .. } | Form::Gives { .. } => decided(alloc, true),
+        LiteralForm::Asks { .. } | LiteralForm::Gives { .. } => decided(alloc, true),
     }
 }
 
@@ -155,7 +155,7 @@ fn literal_ways(
     alloc: Global,
     signature: &Signature,
     unknowns: &Unknowns,
-    form: Option<Form>,
+    form: Option<LiteralForm>,
 ) -> Result<Vec<Vec<Demand>>, AllocError>
     requires { spec.IsSaidNear unknowns.now form }
     ensures { IfOk result (λ ways. items_of_ways ways.items ≡ spec.said_ways (signature_view signature.now) unknowns.now form.entry) }

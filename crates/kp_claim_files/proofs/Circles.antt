@@ -11,7 +11,7 @@ use Rattle.kp_claims.proofs.Claimed.{tells_map}
 use Rattle.kp_layers.specs.Layers.{AreLayers}
 use Rattle.kp_claim_sentences.specs.Claims.{StatedClaim, IsStatedBy, dependencies_of}
 use Rattle.kp_claim_sentences.specs.Items.{items_view}
-use Rattle.kp_claim_sentences.specs.declared.item.ClaimItem.{ClaimItem}
+use Rattle.kp_claim_sentences.specs.declared.item.FiledClaim.{FiledClaim}
 use Rattle.kp_claim_sentences.specs.Faults.{dependencies_at, needs_of, file_labels, AreFaultless, IsCircle}
 
 pub places_same : {X Y : Type 0} (f g : X → Option Y) (xs : List X) → ((x : X) → f x ≡ g x) → filter_map f xs ≡ filter_map g xs
@@ -79,7 +79,7 @@ circle_told g ss cs i f zip faultless on told = record {
   told = told ∙ ap (λ l. circle (get_or l i [])) (sym (labels_stated ss cs zip));
 }
 
-pub label_told : (is_ : List ClaimItem) (k : ℕ) (d : ClaimItem) → k < length is_ → string_bytes (get_or is_ k d).label ≡ get_or (map (λ c. c.label) (items_view is_)) k []
+pub label_told : (is_ : List FiledClaim) (k : ℕ) (d : FiledClaim) → k < length is_ → string_bytes (get_or is_ k d).label ≡ get_or (map (λ c. c.label) (items_view is_)) k []
 label_told [] k d h = let no_place : ⊥ = omega (arith, h) in absurd no_place
 label_told (i ∷ is_) zero d h = refl
 label_told (i ∷ is_) (suc k) d h = label_told is_ k d (omega arith)

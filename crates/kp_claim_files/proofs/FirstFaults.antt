@@ -19,7 +19,7 @@ use Rattle.kp_claims.proofs.Claimed.{tells_map, none_first, some_first}
 use Rattle.kp_claim_sentences.specs.Claims.{dependencies_of, has_clear_names, has_chosen_in_term, if_clear, clear_sides, StatedClaim, IsStatedAs}
 use Rattle.kp_claim_sentences.specs.Items.{item_view}
 use Rattle.kp_claim_files.specs.Read.{IsClear, sides_at}
-use Rattle.kp_claim_sentences.specs.declared.item.ClaimItem.{ClaimItem}
+use Rattle.kp_claim_sentences.specs.declared.item.FiledClaim.{FiledClaim}
 use Rattle.kp_claim_sentences.specs.Faults.{FileLabels, shape_fault, sides_fault, early_fault, file_labels, IsRuleFault, IsUsable, unknown_fault, IsFaultOfClaim, IsFaultAt, IsFaultless, AreFaultless, IsFirstFault, IsFaultOfFile, IsErrorOf}
 
 -- ---- a claim
@@ -114,7 +114,7 @@ made_same l p p2 s s2 a a2 b b2 x x2 d d2 hp hs ha hb hx hd =
     ap (λ y. made l y s a b x d) hp ∙ ap (λ y. made l p2 y a b x d) hs ∙ ap (λ y. made l p2 s2 y b x d) ha
     ∙ ap (λ y. made l p2 s2 a2 y x d) hb ∙ ap (λ y. made l p2 s2 a2 b2 y d) hx ∙ ap (made l p2 s2 a2 b2 x2) hd
 
-pub made_clear : (g : KoreSignature) (s : Statement) (c : ClaimSides) (l : Text) (i : ClaimItem) → clear_sides s ≡ Some c → label_of s.attributes ≡ Some l → first_fault g the_top (bare_claim c) ≡ None →
+pub made_clear : (g : KoreSignature) (s : Statement) (c : ClaimSides) (l : Text) (i : FiledClaim) → clear_sides s ≡ Some c → label_of s.attributes ≡ Some l → first_fault g the_top (bare_claim c) ≡ None →
     item_view i ≡ made l s.pattern c.sort c.left c.right (has_mark (codes "circularity") s.attributes) (unwrap_or (dependencies_of s.attributes) []) → IsClear g s i
 made_clear g s c l i clear label verified is =
     let same : sides_at i ≡ c = ap (λ y. record { sort = y.claim.sort; left = y.claim.claim.left; right = y.claim.claim.right }) is in

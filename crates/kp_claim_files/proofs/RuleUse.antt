@@ -21,13 +21,13 @@ use Rattle.kp_claim_sentences.specs.Claims.{dependencies_of, clear_sides, IsStat
 use Rattle.kp_claim_sentences.specs.Faults.{FileLabels, is_used, CanBeUsed, IsRuleFault, IsUsable, unknown_fault}
 use Rattle.kp_claim_sentences.specs.Items.{item_view, sorted_view}
 use Rattle.kp_claim_files.specs.Read.{reads_rule, sides_at, IsClear}
-use Rattle.kp_claim_sentences.specs.declared.item.ClaimItem.{ClaimItem}
+use Rattle.kp_claim_sentences.specs.declared.item.FiledClaim.{FiledClaim}
 use Rattle.kp_claim_sentences.proofs.Noting.{equal_both_ways}
 use Rattle.kp_claim_sentences.proofs.LeftSorts.{left_has_one_sort}
 
 -- ---- rules
 
-pub can_by : (g : KoreSignature) (i : ClaimItem) (n : ℕ) (b : RuleBody) → first_fault g the_top (bare_claim (sides_at i)) ≡ None → IsReadAs g (claim_axiom (sorted_view i)) n b →
+pub can_by : (g : KoreSignature) (i : FiledClaim) (n : ℕ) (b : RuleBody) → first_fault g the_top (bare_claim (sides_at i)) ≡ None → IsReadAs g (claim_axiom (sorted_view i)) n b →
     MatchBool (reads_rule b) (CanBeRule g (sorted_view i)) (CanBeRule g (sorted_view i) → ⊥)
 can_by g i n (Rewrite w) v h = by h.meant h.reads h.is_body
   where
@@ -40,7 +40,7 @@ can_by g i n (Foreign k) v h = by h.meant h.reads h.is_body
     by (model.rewrite r) reads body = absurd body
     by (model.foreign_rule l) reads body = λ can. reads.1 can.rule can.read
 
-pub faulty_can : (g : KoreSignature) (i : ClaimItem) → first_fault g the_top (bare_claim (sides_at i)) ≡ None → IsFaulty g (claim_axiom (sorted_view i)) → CanBeRule g (sorted_view i)
+pub faulty_can : (g : KoreSignature) (i : FiledClaim) → first_fault g the_top (bare_claim (sides_at i)) ≡ None → IsFaulty g (claim_axiom (sorted_view i)) → CanBeRule g (sorted_view i)
 faulty_can g i v f = record { rule = f.rule; read = f.read; one_sort = left_has_one_sort g (sides_at i) v }
 
 -- ---- use
@@ -49,7 +49,7 @@ or_nothing : (b : Bool) → (b || false) ≡ b
 or_nothing true = refl
 or_nothing false = refl
 
-pub used_same : (f : FileLabels) (s : Statement) (i : ClaimItem) → IsStatedAs s (item_view i) → is_used f s ≡ (i.circular || list_any (bytes_eq (string_bytes i.label)) f.used)
+pub used_same : (f : FileLabels) (s : Statement) (i : FiledClaim) → IsStatedAs s (item_view i) → is_used f s ≡ (i.circular || list_any (bytes_eq (string_bytes i.label)) f.used)
 used_same f s i h =
     ap (λ b. b || list_any (λ l. list_any (bytes_eq l) f.used) (option_to_list (label_of s.attributes))) (sym h.circular)
     ∙ ap (λ o. i.circular || list_any (λ l. list_any (bytes_eq l) f.used) (option_to_list o)) h.label
@@ -58,10 +58,10 @@ used_same f s i h =
 pub not_used : (g : KoreSignature) (f : FileLabels) (s : Statement) → is_used f s ≡ false → IsUsable g f s
 not_used g f s h = λ t. absurd (cc (sym h ∙ t))
 
-pub can_be_used : (g : KoreSignature) (f : FileLabels) (s : Statement) (i : ClaimItem) → clear_sides s ≡ Some (sides_at i) → CanBeRule g (sorted_view i) → IsUsable g f s
+pub can_be_used : (g : KoreSignature) (f : FileLabels) (s : Statement) (i : FiledClaim) → clear_sides s ≡ Some (sides_at i) → CanBeRule g (sorted_view i) → IsUsable g f s
 can_be_used g f s i clear can = λ t. subst (CanBeUsed g) (sym clear) can
 
-pub rule_fault : (g : KoreSignature) (f : FileLabels) (s : Statement) (i : ClaimItem) → clear_sides s ≡ Some (sides_at i) → is_used f s ≡ true → (CanBeRule g (sorted_view i) → ⊥) → IsRuleFault g f s no_rule
+pub rule_fault : (g : KoreSignature) (f : FileLabels) (s : Statement) (i : FiledClaim) → clear_sides s ≡ Some (sides_at i) → is_used f s ≡ true → (CanBeRule g (sorted_view i) → ⊥) → IsRuleFault g f s no_rule
 rule_fault g f s i clear t not_rule = (t, λ u. not_rule (subst (CanBeUsed g) clear u), refl)
 
 -- ---- labels
@@ -83,7 +83,7 @@ found_same f g [] h = refl
 found_same f g (x ∷ xs) h = ap (λ b. cond b (Some x) (find f xs)) (h x) ∙ ap (λ o. cond (g x) (Some x) o) (found_same f g xs h)
 
 -- what is looked for among an item's labels
-pub unknown_same : (f : FileLabels) (s : Statement) (i : ClaimItem) (has : Text → Bool) → ((n : Text) → has n ≡ list_any (bytes_eq n) f.labels) → IsStatedAs s (item_view i) →
+pub unknown_same : (f : FileLabels) (s : Statement) (i : FiledClaim) (has : Text → Bool) → ((n : Text) → has n ≡ list_any (bytes_eq n) f.labels) → IsStatedAs s (item_view i) →
     option_map unknown_label (find (λ l. not (has l)) (item_view i).depends) ≡ unknown_fault f s
 unknown_same f s i has is h =
     ap (option_map unknown_label) (found_same (λ l. not (has l)) (λ l. not (list_any (bytes_eq l) f.labels)) (item_view i).depends (λ l. ap not (is l)))

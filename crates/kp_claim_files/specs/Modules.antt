@@ -7,10 +7,10 @@ use Rattle.kp_text.specs.Spelling.{SpellsModule}
 use Rattle.kp_claims.specs.Claims.{sides_of}
 use Rattle.kp_kore.specs.ClaimModules.{SortedClaim}
 use Rattle.kp_claim_sentences.specs.Items.{sorted_view}
-use Rattle.kp_claim_sentences.specs.declared.item.ClaimItem.{ClaimItem}
+use Rattle.kp_claim_sentences.specs.declared.item.FiledClaim.{FiledClaim}
 
 -- the claims at these places, in order
-abbrev pub claims_at : List ClaimItem → List ℕ → List SortedClaim
+abbrev pub claims_at : List FiledClaim → List ℕ → List SortedClaim
 claims_at items places = filter_map (λ k. option_map sorted_view (slice_get items k)) places
 
 -- some text spells the module

@@ -13,7 +13,7 @@ use Rattle.kp_names.specs.Met.{Lists}
 use Rattle.kp_claim_sentences.specs.Claims.{clear_sides, dependencies_of, IsStatedAs, StatedClaim}
 use Rattle.kp_claim_sentences.specs.Faults.{FileLabels}
 use Rattle.kp_claim_sentences.specs.Items.{item_view}
-use Rattle.kp_claim_sentences.specs.declared.item.ClaimItem.{ClaimItem}
+use Rattle.kp_claim_sentences.specs.declared.item.FiledClaim.{FiledClaim}
 use Rattle.kp_claim_files.specs.declared.labels.FileLabels as code
 use Rattle.kp_rules.specs.declared.rule.RuleBody.{RuleBody}
 use Rattle.kp_rules.specs.declared.rule.RuleBody.TheVariants.{Rewrite, Foreign}
@@ -23,7 +23,7 @@ pub record Notes (file : FileLabels) (noted : code.FileLabels) : Type 0 where
   pub places : Indexes file.labels noted.places
   pub used : Lists file.used noted.used
 
-abbrev pub sides_at : ClaimItem → ClaimSides
+abbrev pub sides_at : FiledClaim → ClaimSides
 sides_at i = record { sort = sort_view i.sort; left = view i.claim.left; right = view i.claim.right }
 
 -- the claim of a statement, with this label and these sides
@@ -37,7 +37,7 @@ claim_between label s x = record {
 }
 
 -- the claim that a statement makes; its shape, its names and what it says over the signature are without fault
-pub record IsClear (g : KoreSignature) (s : Statement) (i : ClaimItem) : Type 0 where
+pub record IsClear (g : KoreSignature) (s : Statement) (i : FiledClaim) : Type 0 where
   pub stated : IsStatedAs s (item_view i)
   pub clear : clear_sides s ≡ Some (sides_at i)
   pub verified : first_fault g the_top (bare_claim (sides_at i)) ≡ None

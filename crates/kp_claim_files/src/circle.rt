@@ -14,7 +14,7 @@ ghost use Rattle.kp_claim_sentences.specs.Faults.{AreFaultless, file_labels, IsC
 ghost use Rattle.kp_claim_sentences.specs.Items.{items_view};
 
 use crate::labels::LabelPlaces;
-use kp_claim_sentences::ClaimItem;
+use kp_claim_sentences::FiledClaim;
 use kp_claims::{ClaimError, ClaimFault};
 use kp_kore::Name;
 use kp_layers::{Layering, layers_of};
@@ -24,7 +24,7 @@ use std::alloc::{AllocError, Global};
 pub fn check_circles(
     alloc: Global,
     places: &LabelPlaces,
-    items: &[ClaimItem],
+    items: &[FiledClaim],
 ) -> Result<(), ClaimError>
     ensures ok { (ss : List KoreSentence) → Indexes (labels_of ss) places.now → AllZip IsStatedBy ss (items_view items.now) → OnOk result ((i : ℕ) → ¬ DependsOn (stated_needs ss) i i) }
     ensures err { (g : KoreSignature) (ss : List KoreSentence) → let it' = items_view items.now in Indexes (labels_of ss) places.now → AllZip IsStatedBy ss it' → AreFaultless g (file_labels ss) [] ss → IfErr result (TellsOf (IsCircle g ss)) }
@@ -37,7 +37,7 @@ pub fn check_circles(
 }
 
 /// C5 of the claim at a place.
-fn circle_at(items: &[ClaimItem], place: usize) -> Result<ClaimError, AllocError>
+fn circle_at(items: &[FiledClaim], place: usize) -> Result<ClaimError, AllocError>
     requires { place < length items.now }
     ensures { IfOk result (TellsOf (λ f. f ≡ circle (get_or (map (λ i. i.label) (items_view items.now)) place []))) }
 {
@@ -48,7 +48,7 @@ fn circle_at(items: &[ClaimItem], place: usize) -> Result<ClaimError, AllocError
 fn needs_of(
     alloc: Global,
     places: &LabelPlaces,
-    items: &[ClaimItem],
+    items: &[FiledClaim],
 ) -> Result<Vec<Vec<usize>>, AllocError>
     ensures { IfOk result (λ needs. numbers_of needs.items ≡ map (λ i. filter_map (get_by_text places.now) i.depends) (items_view items.now)) }
 {

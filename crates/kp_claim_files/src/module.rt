@@ -9,7 +9,7 @@ ghost use Rattle.kp_print.specs.Printed.{module_text as printed_text};
 ghost use Rattle.kp_claim_sentences.specs.Items.{sorted_view};
 ghost use Rattle.kp_claim_files.specs.Modules.{claims_at};
 
-use kp_claim_sentences::ClaimItem;
+use kp_claim_sentences::FiledClaim;
 use kp_kore::{AxiomSentence, Module, Name, Pattern, Sentence, Sort};
 use kp_print::print_module;
 use std::alloc::{AllocError, Global};
@@ -18,7 +18,7 @@ use std::alloc::{AllocError, Global};
 pub fn module_text(
     alloc: Global,
     main: &str,
-    claims: &[ClaimItem],
+    claims: &[FiledClaim],
     places: &[usize],
 ) -> Result<Vec<u8>, AllocError>
     requires { AllByRecursion (λ k. k < length claims.now) places.now }
@@ -32,7 +32,7 @@ pub fn module_text(
 fn claims_module(
     alloc: Global,
     main: &str,
-    claims: &[ClaimItem],
+    claims: &[FiledClaim],
     places: &[usize],
 ) -> Result<Module, AllocError>
     requires { AllByRecursion (λ k. k < length claims.now) places.now }
@@ -62,7 +62,7 @@ fn import_of(alloc: Global, name: &str) -> Result<Sentence, AllocError>
 fn add_axioms(
     alloc: Global,
     sentences: &mut Vec<Sentence>,
-    claims: &[ClaimItem],
+    claims: &[FiledClaim],
     places: &[usize],
 ) -> Result<(), AllocError>
     requires { AllByRecursion (λ k. k < length claims.now) places.now }
@@ -75,7 +75,7 @@ fn add_axioms(
 }
 
 /// The claim at a place, of claims that have one there.
-fn claim_at(claims: &[ClaimItem], place: usize) -> &ClaimItem
+fn claim_at(claims: &[FiledClaim], place: usize) -> &FiledClaim
     requires { place < length claims.now }
     ensures { slice_get claims.now place ≡ Some result.now }
 {
@@ -86,7 +86,7 @@ fn claim_at(claims: &[ClaimItem], place: usize) -> &ClaimItem
 fn add_axiom(
     alloc: Global,
     sentences: &mut Vec<Sentence>,
-    item: &ClaimItem,
+    item: &FiledClaim,
 ) -> Result<(), AllocError>
     ensures { let item' = sorted_view item.now in OnOk result (map sentence_view sentences.new.items ≡ map sentence_view sentences.old.items ++ axiom_sentence (stated_axiom item') ∷ []) }
 {
@@ -96,7 +96,7 @@ fn add_axiom(
 }
 
 /// `axiom{} \rewrites{S}(left, right) [priority{}("20")]`.
-pub fn claim_axiom(alloc: Global, item: &ClaimItem) -> Result<AxiomSentence, AllocError>
+pub fn claim_axiom(alloc: Global, item: &FiledClaim) -> Result<AxiomSentence, AllocError>
     ensures { IfOk result (λ a. axiom_sentence_view a ≡ stated_axiom (sorted_view item.now)) }
 {
     let mut attributes = Vec::new(alloc);
@@ -109,7 +109,7 @@ pub fn claim_axiom(alloc: Global, item: &ClaimItem) -> Result<AxiomSentence, All
 }
 
 /// `\rewrites{S}(left, right)`.
-fn rewriting(alloc: Global, item: &ClaimItem) -> Result<Pattern, AllocError>
+fn rewriting(alloc: Global, item: &FiledClaim) -> Result<Pattern, AllocError>
     ensures { IfOk result (λ p. view p ≡ (stated_axiom (sorted_view item.now)).pattern) }
 {
     Ok(Pattern::Rewrites {

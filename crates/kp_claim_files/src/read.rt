@@ -21,10 +21,10 @@ use crate::labels::{FileLabels, file_labels};
 use crate::used::check_use;
 use indexmap::IndexMap;
 use kp_claim_sentences::outline::outline;
-use kp_claim_sentences::{ClaimItem, check_sides, dependencies_of};
+use kp_claim_sentences::{FiledClaim, check_sides, dependencies_of};
 use kp_claims::file::modules_in;
 use kp_claims::label::take_label;
-use kp_claims::outline::Sides;
+use kp_claims::outline::ClaimOutline;
 use kp_claims::sentences::counted_sentences;
 use kp_claims::{ClaimError, ClaimFault};
 use kp_kore::{AxiomSentence, Claim, Name, Sentence};
@@ -40,7 +40,7 @@ pub fn read_claims(
     alloc: Global,
     bytes: &[u8],
     signature: &Signature,
-) -> Result<Vec<ClaimItem>, ClaimError>
+) -> Result<Vec<FiledClaim>, ClaimError>
     ensures read { let g = signature_view signature.now in IfOk result (λ items. (ms : List KoreModule) × SpellsFile bytes.now ms × IsFaultlessFile g (counted ms) × AllZip IsStatedBy (counted ms) (items_view items.items)) }
     ensures fault { IfErr result (IsErrorOf (signature_view signature.now) bytes.now) }
 {
@@ -54,7 +54,7 @@ fn claims_of(
     alloc: Global,
     signature: &Signature,
     sentences: &[&Sentence],
-) -> Result<Vec<ClaimItem>, ClaimError>
+) -> Result<Vec<FiledClaim>, ClaimError>
     ensures faultless { OnOk result (IsFaultlessFile (signature_view signature.now) (seen sentences.now)) }
     ensures claims { IfOk result (λ items. AllZip IsStatedBy (seen sentences.now) (items_view items.items)) }
     ensures err { IfErr result (TellsOf (IsFaultOfFile (signature_view signature.now) (seen sentences.now))) }
@@ -71,7 +71,7 @@ fn claims_among(
     signature: &Signature,
     file: &FileLabels,
     sentences: &[&Sentence],
-) -> Result<Vec<ClaimItem>, ClaimError>
+) -> Result<Vec<FiledClaim>, ClaimError>
     ensures faultless { let the_seen = seen sentences.now in Notes (stated_file the_seen) file.now → OnOk result (AreFaultless (signature_view signature.now) (stated_file the_seen) [] the_seen) }
     ensures claims { IfOk result (λ items. AllZip IsStatedBy (seen sentences.now) (items_view items.items)) }
     ensures err { Notes (stated_file (seen sentences.now)) file.now → IfErr result (TellsOf (IsFirstFault (signature_view signature.now) (seen sentences.now))) }
@@ -94,7 +94,7 @@ fn claim_of_sentence(
     file: &FileLabels,
     labels: &mut Names,
     sentence: &Sentence,
-) -> Result<ClaimItem, ClaimError>
+) -> Result<FiledClaim, ClaimError>
     requires index { IsIndexOf (signature_view signature.now) index.now }
     ensures claim { IfOk result (λ item. IsStatedBy (sentence_view sentence.now) (item_view item)) }
     ensures faultless { (f : Stated) (before : List Text) → Notes f file.now → Lists before labels.old → OnOk result (IsFaultless (signature_view signature.now) f before (sentence_view sentence.now)) }
@@ -119,7 +119,7 @@ fn claim_of(
     file: &FileLabels,
     labels: &mut Names,
     statement: &AxiomSentence,
-) -> Result<ClaimItem, ClaimError>
+) -> Result<FiledClaim, ClaimError>
     requires index { IsIndexOf (signature_view signature.now) index.now }
     ensures claim { IfOk result (λ item. IsStatedAs (axiom_sentence_view statement.now) (item_view item)) }
     ensures faultless { (f : Stated) (before : List Text) → let g = signature_view signature.now in Notes f file.now → Lists before labels.old → OnOk result (IsFaultlessClaim g f before (axiom_sentence_view statement.now)) }
@@ -137,7 +137,7 @@ fn stated_claim(
     signature: &Signature,
     labels: &mut Names,
     statement: &AxiomSentence,
-) -> Result<ClaimItem, ClaimError>
+) -> Result<FiledClaim, ClaimError>
     ensures clear { IfOk result (IsClear (signature_view signature.now) (axiom_sentence_view statement.now)) }
     ensures none { (before : List Text) → Lists before labels.old → OnOk result (early_fault (signature_view signature.now) before (axiom_sentence_view statement.now) ≡ None) }
     ensures labels { (before : List Text) → Lists before labels.old → OnOk result (Lists (before ++ label_at (claim_sentence (axiom_sentence_view statement.now))) labels.new) }
@@ -154,11 +154,11 @@ fn item_of(
     alloc: Global,
     statement: &AxiomSentence,
     label: Name,
-    sides: Sides<'_>,
-) -> Result<ClaimItem, AllocError>
+    sides: ClaimOutline<'_>,
+) -> Result<FiledClaim, AllocError>
     ensures item { IfOk result (λ i. item_view i ≡ claim_between (string_bytes label) (axiom_sentence_view statement.now) (sides_view sides.entry)) }
 {
-    Ok(ClaimItem {
+    Ok(FiledClaim {
         label,
         sort: sides.sort.copy(alloc)?,
         pattern: statement.pattern.copy(alloc)?,

@@ -20,7 +20,7 @@ ghost use Rattle.kp_claim_files.specs.Read.{Notes, IsClear, reads_rule, sides_at
 
 use crate::labels::{FileLabels, LabelPlaces};
 use crate::module::claim_axiom;
-use kp_claim_sentences::ClaimItem;
+use kp_claim_sentences::FiledClaim;
 use kp_claims::{ClaimError, ClaimFault};
 use kp_kore::Name;
 use kp_names::names::is_noted;
@@ -37,7 +37,7 @@ pub fn check_use(
     signature: &Signature,
     index: &SortIndex,
     file: &FileLabels,
-    item: &ClaimItem,
+    item: &FiledClaim,
 ) -> Result<(), ClaimError>
     requires index { IsIndexOf (signature_view signature.now) index.now }
     ensures ok { (f : Stated) (s : Statement) → let g = signature_view signature.now in Notes f file.now → IsClear g s item.now → OnOk result (IsUsable g f s × (unknown_fault f s ≡ None)) }
@@ -53,7 +53,7 @@ fn check_rule(
     signature: &Signature,
     index: &SortIndex,
     file: &FileLabels,
-    item: &ClaimItem,
+    item: &FiledClaim,
 ) -> Result<(), ClaimError>
     requires index { IsIndexOf (signature_view signature.now) index.now }
     ensures ok { (f : Stated) (s : Statement) → Notes f file.now → IsClear (signature_view signature.now) s item.now → OnOk result (IsUsable (signature_view signature.now) f s) }
@@ -70,7 +70,7 @@ fn check_rule(
 }
 
 /// Whether the claim is its own circularity, or some claim depends on its label.
-fn is_used(file: &FileLabels, item: &ClaimItem) -> bool
+fn is_used(file: &FileLabels, item: &FiledClaim) -> bool
     ensures { (used : List Text) → Lists used file.now.used → result ≡ (item.now.circular || list_any (bytes_eq (string_bytes item.now.label)) used) }
 {
     item.circular || is_noted(&file.used, &item.label)
@@ -81,7 +81,7 @@ fn can_be_rule(
     alloc: Global,
     signature: &Signature,
     index: &SortIndex,
-    item: &ClaimItem,
+    item: &FiledClaim,
 ) -> Result<bool, AllocError>
     requires index { IsIndexOf (signature_view signature.now) index.now }
     ensures { let g = signature_view signature.now in let item' = sorted_view item.now in first_fault g the_top (bare_claim (sides_at item.now)) ≡ None → IfOk result (λ b. MatchBool b (CanBeRule g item') (¬ CanBeRule g item')) }

@@ -13,7 +13,7 @@ ghost use Rattle.kp_claim_sentences.specs.Claims.{has_chosen_in_term};
 
 use crate::names::note_all;
 use indexmap::IndexMap;
-use kp_claims::outline::Sides;
+use kp_claims::outline::ClaimOutline;
 use kp_forms::conjuncts;
 use kp_kore::{Pattern, SortedVariable};
 use kp_names::names::Names;
@@ -21,7 +21,7 @@ use kp_rules::shape::{Binder, only, terms_among, under_binders};
 use std::alloc::{AllocError, Global};
 
 /// Whether the right side's own variables stand in its term, where it has one term.
-pub fn are_in_term(alloc: Global, sides: Sides<'_>) -> Result<bool, AllocError>
+pub fn are_in_term(alloc: Global, sides: ClaimOutline<'_>) -> Result<bool, AllocError>
     ensures { IfOk result (λ b. b ≡ has_chosen_in_term (sides_view sides.entry)) }
 {
     let bound = under_binders(alloc, sides.right)?;
@@ -36,7 +36,7 @@ pub fn are_in_term(alloc: Global, sides: Sides<'_>) -> Result<bool, AllocError>
 /// Whether the right side's own variables, of which `\exists` binds these, stand in this term.
 fn are_own_in(
     alloc: Global,
-    sides: Sides<'_>,
+    sides: ClaimOutline<'_>,
     binders: &[Binder<'_>],
     term: &Pattern,
 ) -> Result<bool, AllocError>

@@ -11,5 +11,5 @@ pub mod outline;
 mod sides;
 
 pub use depends::{comma_parts, dependencies_of};
-pub use item::ClaimItem;
+pub use item::FiledClaim;
 pub use sides::check_sides;

@@ -11,14 +11,14 @@ ghost use Rattle.kp_claims.specs.Sides.{sides_view};
 ghost use Rattle.kp_claim_sentences.specs.Claims.{bound_at, has_clear_names, are_apart as apart_test};
 
 use indexmap::IndexMap;
-use kp_claims::outline::Sides;
+use kp_claims::outline::ClaimOutline;
 use kp_compile::{add_subpatterns, subpatterns};
 use kp_kore::{Name, Pattern, SortedVariable};
 use kp_names::names::{Names, is_noted, note};
 use std::alloc::{AllocError, Global};
 
 /// Whether no variable that a claim's sides bind has the name of another one.
-pub fn are_clear(alloc: Global, sides: Sides<'_>) -> Result<bool, AllocError>
+pub fn are_clear(alloc: Global, sides: ClaimOutline<'_>) -> Result<bool, AllocError>
     ensures { IfOk result (λ b. b ≡ has_clear_names (sides_view sides.entry)) }
 {
     let names = free_names(alloc, sides)?;
@@ -28,7 +28,7 @@ pub fn are_clear(alloc: Global, sides: Sides<'_>) -> Result<bool, AllocError>
 }
 
 /// The names of the free variables of both sides.
-fn free_names(alloc: Global, sides: Sides<'_>) -> Result<Names, AllocError>
+fn free_names(alloc: Global, sides: ClaimOutline<'_>) -> Result<Names, AllocError>
     ensures { IfOk result (Lists (map (λ x. x.name) (free_variables (sides_view sides.entry).left ++ free_variables (sides_view sides.entry).right))) }
 {
     let mut names = IndexMap::new(alloc);

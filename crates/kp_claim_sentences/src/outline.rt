@@ -11,13 +11,16 @@ ghost use Rattle.kp_claim_sentences.specs.Faults.{shape_fault};
 use crate::chosen::are_in_term;
 use crate::depends::has_dependencies;
 use crate::names::are_clear;
-use kp_claims::outline::{Sides, is_one_path, sides_of};
+use kp_claims::outline::{ClaimOutline, is_one_path, sides_of};
 use kp_claims::{ClaimError, ClaimFault};
 use kp_kore::AxiomSentence;
 use std::alloc::{AllocError, Global};
 
 /// The sides of a claim; C1 where it speaks of one path, C2 where it has another shape.
-pub fn outline<'a>(alloc: Global, statement: &'a AxiomSentence) -> Result<Sides<'a>, ClaimError>
+pub fn outline<'a>(
+    alloc: Global,
+    statement: &'a AxiomSentence,
+) -> Result<ClaimOutline<'a>, ClaimError>
     ensures ok { IfOk result (λ c. stated_clear (axiom_sentence_view statement.now) ≡ Some (sides_view c)) }
     ensures none { OnOk result (shape_fault (axiom_sentence_view statement.now) ≡ None) }
     ensures err { IfErr result (TellsOf (λ f. shape_fault (axiom_sentence_view statement.now) ≡ Some f)) }
@@ -35,7 +38,7 @@ pub fn outline<'a>(alloc: Global, statement: &'a AxiomSentence) -> Result<Sides<
 fn clear_sides<'a>(
     alloc: Global,
     statement: &'a AxiomSentence,
-) -> Result<Option<Sides<'a>>, AllocError>
+) -> Result<Option<ClaimOutline<'a>>, AllocError>
     ensures { IfOk result (λ o. option_map sides_view o ≡ stated_clear (axiom_sentence_view statement.now)) }
 {
     if !has_read_head(statement) {
@@ -55,7 +58,10 @@ fn has_read_head(statement: &AxiomSentence) -> bool
 }
 
 /// The sides, where their names are clear.
-fn if_clear<'a>(alloc: Global, sides: Sides<'a>) -> Result<Option<Sides<'a>>, AllocError>
+fn if_clear<'a>(
+    alloc: Global,
+    sides: ClaimOutline<'a>,
+) -> Result<Option<ClaimOutline<'a>>, AllocError>
     ensures { IfOk result (λ o. option_map sides_view o ≡ stated_if_clear (Some (sides_view sides.entry))) }
 {
     if !are_clear(alloc, sides)? {

@@ -13,7 +13,7 @@ ghost use Rattle.kp_claims.specs.Sides.{sides_view};
 ghost use Rattle.kp_claim_sentences.specs.Faults.{has_terms as terms_test, is_fresh_text, sides_fault};
 
 use crate::fresh::first_fresh;
-use kp_claims::outline::Sides;
+use kp_claims::outline::ClaimOutline;
 use kp_claims::sides::{bare_claim, check_foreign, check_verified};
 use kp_claims::{ClaimError, ClaimFault};
 use kp_compile::subpatterns;
@@ -24,7 +24,11 @@ use std::alloc::{AllocError, Global};
 
 /// C9 of the first verify fault of `\implies{S}(left, right)`, then of the first foreign symbol in it, then of a side that
 /// isn't one term and predicates; then C3 of the first name that new variables may have.
-pub fn check_sides(alloc: Global, signature: &Signature, sides: Sides<'_>) -> Result<(), ClaimError>
+pub fn check_sides(
+    alloc: Global,
+    signature: &Signature,
+    sides: ClaimOutline<'_>,
+) -> Result<(), ClaimError>
     ensures verified { OnOk result (first_fault (signature_view signature.now) the_top (stated_bare (sides_view sides.entry)) ≡ None) }
     ensures ok { OnOk result (sides_fault (signature_view signature.now) (Some (sides_view sides.entry)) ≡ None) }
     ensures err { IfErr result (TellsOf (λ f. sides_fault (signature_view signature.now) (Some (sides_view sides.entry)) ≡ Some f)) }
@@ -37,7 +41,7 @@ pub fn check_sides(alloc: Global, signature: &Signature, sides: Sides<'_>) -> Re
 }
 
 /// C9 where a side isn't one term and predicates.
-fn check_terms(alloc: Global, sides: Sides<'_>) -> Result<(), ClaimError>
+fn check_terms(alloc: Global, sides: ClaimOutline<'_>) -> Result<(), ClaimError>
     ensures ok { OnOk result (terms_test (sides_view sides.entry) ≡ true) }
     ensures err { IfErr result (TellsOf (λ f. (terms_test (sides_view sides.entry) ≡ false) × (f ≡ other_side))) }
 {
@@ -49,7 +53,7 @@ fn check_terms(alloc: Global, sides: Sides<'_>) -> Result<(), ClaimError>
 }
 
 /// Whether each side is one term and predicates, the right one maybe under `\exists`.
-fn has_terms(alloc: Global, sides: Sides<'_>) -> Result<bool, AllocError>
+fn has_terms(alloc: Global, sides: ClaimOutline<'_>) -> Result<bool, AllocError>
     ensures { IfOk result (λ b. b ≡ terms_test (sides_view sides.entry)) }
 {
     if !has_term(alloc, sides.left)? {

@@ -7,7 +7,7 @@ use Rattle.kp_signature.specs.Verify.{VerifiesAs}
 use Rattle.kp_compile.specs.Spelled.{first_foreign}
 use Rattle.kp_claims.specs.Claims.{ClaimSides, is_ground}
 use Rattle.kp_claims.specs.Faults.{Fault, other_shape, IsWide, HasWideSide}
-use Rattle.kp_claims.specs.declared.outline.Sides.{Sides}
+use Rattle.kp_claims.specs.declared.outline.ClaimOutline.{ClaimOutline}
 use Rattle.kp_claims.specs.declared.fault.ClaimError.{ClaimError}
 use Rattle.kp_claims.specs.declared.fault.ClaimError.TheVariants as error
 use Rattle.kp_claims.specs.declared.fault.ClaimFault.TheVariants as told
@@ -16,7 +16,7 @@ use Rattle.kp_signature.specs.declared.error.VerifyError.TheVariants as verify
 use Rattle.kp_compile.specs.declared.state_error.StateError.{StateError}
 use Rattle.kp_compile.specs.declared.state_error.StateError.TheVariants as state
 
-abbrev pub sides_view : Sides → ClaimSides
+abbrev pub sides_view : ClaimOutline → ClaimSides
 sides_view c = record { sort = sort_view c.sort.now; left = view c.left.now; right = view c.right.now }
 
 -- a ground term of this sort that verifies and in which no foreign symbol stands

@@ -16,14 +16,17 @@ use std::alloc::{AllocError, Global};
 
 /// The sort of a claim and its sides.
 #[derive(Clone, Copy)]
-pub struct Sides<'a> {
+pub struct ClaimOutline<'a> {
     pub sort: &'a Sort,
     pub left: &'a Pattern,
     pub right: &'a Pattern,
 }
 
 /// The sides of a claim; C1 where it speaks of one path, C2 where it hasn't the shape that is read.
-pub fn outline<'a>(alloc: Global, statement: &'a AxiomSentence) -> Result<Sides<'a>, ClaimError>
+pub fn outline<'a>(
+    alloc: Global,
+    statement: &'a AxiomSentence,
+) -> Result<ClaimOutline<'a>, ClaimError>
     ensures ok { IfOk result (λ c. stated_ground_sides (axiom_sentence_view statement.now) ≡ Some (sides_view c)) }
     ensures none { OnOk result (outline_fault (axiom_sentence_view statement.now) ≡ None) }
     ensures err { IfErr result (TellsOf (λ f. outline_fault (axiom_sentence_view statement.now) ≡ Some f)) }
@@ -61,7 +64,7 @@ fn is_applied(pattern: &Pattern, name: &str) -> bool
 fn ground_sides<'a>(
     alloc: Global,
     statement: &'a AxiomSentence,
-) -> Result<Option<Sides<'a>>, AllocError>
+) -> Result<Option<ClaimOutline<'a>>, AllocError>
     ensures { IfOk result (λ o. option_map sides_view o ≡ stated_ground_sides (axiom_sentence_view statement.now)) }
 {
     if !is_plain(statement) {
@@ -95,7 +98,10 @@ pub fn has_attribute(attributes: &[Pattern], name: &str) -> bool
 }
 
 /// The sides, where both are ground terms.
-fn if_ground<'a>(alloc: Global, sides: Sides<'a>) -> Result<Option<Sides<'a>>, AllocError>
+fn if_ground<'a>(
+    alloc: Global,
+    sides: ClaimOutline<'a>,
+) -> Result<Option<ClaimOutline<'a>>, AllocError>
     ensures { IfOk result (λ o. option_map sides_view o ≡ stated_if_ground (Some (sides_view sides.entry))) }
 {
     if !is_ground(alloc, sides.left)? {
@@ -136,12 +142,12 @@ fn are_none(found: &[SortedVariable]) -> bool
 }
 
 /// The sides of `\implies{S}(left, weakAlwaysFinally{S}(right))`.
-pub fn sides_of(pattern: &Pattern) -> Option<Sides<'_>>
+pub fn sides_of(pattern: &Pattern) -> Option<ClaimOutline<'_>>
     ensures { option_map sides_view result ≡ stated_sides (view pattern.now) }
 {
     match pattern {
         Pattern::Implies { sort, left, right } => match reached_on_all(sort, right) {
-            Some(reached) => Some(Sides {
+            Some(reached) => Some(ClaimOutline {
                 sort,
                 left,
                 right: reached,

@@ -11,7 +11,7 @@ ghost use Rattle.kp_claims.specs.Faults.{unverified, foreign_symbol, bare_claim 
 ghost use Rattle.kp_claims.specs.Sides.{sides_view, HasMeaning, IsGroundAt, IsNumberFaultOf, error_of_verify, error_of_state};
 
 use crate::fault::{ClaimError, ClaimFault};
-use crate::outline::Sides;
+use crate::outline::ClaimOutline;
 use kp_compile::{StateError, first_foreign, state_of};
 use kp_kore::{Claim, Pattern, Sort};
 use kp_signature::{Signature, VerifyError, verify};
@@ -22,7 +22,7 @@ use std::alloc::{AllocError, Global};
 pub fn checked_claim(
     alloc: Global,
     signature: &Signature,
-    sides: Sides<'_>,
+    sides: ClaimOutline<'_>,
 ) -> Result<Claim, ClaimError>
     ensures left { IfOk result (λ c. view c.left ≡ (sides_view sides.entry).left) }
     ensures right { IfOk result (λ c. view c.right ≡ (sides_view sides.entry).right) }
@@ -40,7 +40,7 @@ pub fn checked_claim(
 }
 
 /// `\implies{S}(left, right)`.
-pub fn bare_claim(alloc: Global, sides: Sides<'_>) -> Result<Pattern, AllocError>
+pub fn bare_claim(alloc: Global, sides: ClaimOutline<'_>) -> Result<Pattern, AllocError>
     ensures { IfOk result (λ p. view p ≡ stated_bare (sides_view sides.entry)) }
 {
     Ok(Pattern::Implies {
@@ -91,7 +91,11 @@ pub fn check_foreign(
 }
 
 /// C2 where a verified side without foreign symbols computes a number beyond 128 bits.
-fn check_numbers(alloc: Global, signature: &Signature, sides: Sides<'_>) -> Result<(), ClaimError>
+fn check_numbers(
+    alloc: Global,
+    signature: &Signature,
+    sides: ClaimOutline<'_>,
+) -> Result<(), ClaimError>
     ensures ok { OnOk result (¬ IsWideClaim (signature_view signature.now) (Some (sides_view sides.entry))) }
     ensures err { let g = signature_view signature.now in HasMeaning g (sides_view sides.entry) → IfErr result (TellsOf (IsNumberFault g (Some (sides_view sides.entry)))) }
 {

@@ -17,7 +17,7 @@ use Rattle.kp_client.specs.Answers.{IsCoverAnswer, IsStepAnswer, PlaysSteps, Pla
 use Rattle.kp_client.specs.declared.cover.CoverAnswer.TheVariants as cover
 use Rattle.kp_client.specs.declared.steps.StepAnswer.TheVariants as steps
 use Rattle.kp_client.specs.View.{outcome_view}
-use Rattle.kp_client.specs.declared.outcome.Outcome.{Outcome}
+use Rattle.kp_client.specs.declared.outcome.ProofEnd.{ProofEnd}
 use Rattle.kp_client.proofs.Made.{makes_none, makes_more}
 use Rattle.std.proofs.Common.{Vec, Global, ℤ, option_map, Result, Ok, Err, IfOk}
 
@@ -156,12 +156,12 @@ if_ok_both (Ok x) P Q R f g h = h x f g
 if_ok_both (Err e) P Q R f g h = tt
 
 -- the end of a proof without an open node
-pub settled_end : {E : Type 0} (a b : LinkState) (claim : ReachabilityClaim) (depth k : ℕ) (tree : List ProofNode) (r : Result (Outcome × Tree) E) → Played a b claim depth k tree → k ≤ most_rounds → least_open tree ≡ None → IfOk r (λ x. IsEnding tree (outcome_view x.0)) → IfOk r (λ x. tree_view x.1 ≡ tree) → IfOk r (λ x. IsProved a b claim depth (tree_view x.1) (outcome_view x.0))
+pub settled_end : {E : Type 0} (a b : LinkState) (claim : ReachabilityClaim) (depth k : ℕ) (tree : List ProofNode) (r : Result (ProofEnd × Tree) E) → Played a b claim depth k tree → k ≤ most_rounds → least_open tree ≡ None → IfOk r (λ x. IsEnding tree (outcome_view x.0)) → IfOk r (λ x. tree_view x.1 ≡ tree) → IfOk r (λ x. IsProved a b claim depth (tree_view x.1) (outcome_view x.0))
 settled_end a b claim depth k tree (Ok x) p l least ending kept = proved_settled a b claim depth k tree (tree_view x.1) (outcome_view x.0) p l least kept ending
 settled_end a b claim depth k tree (Err e) p l least ending kept = tt
 
 -- the end of a proof after the last round that may be
-pub after_end : {E : Type 0} (a b : LinkState) (claim : ReachabilityClaim) (depth k : ℕ) (tree : List ProofNode) (r : Result (Outcome × Tree) E) → Played a b claim depth k tree → k ≡ most_rounds →
+pub after_end : {E : Type 0} (a b : LinkState) (claim : ReachabilityClaim) (depth k : ℕ) (tree : List ProofNode) (r : Result (ProofEnd × Tree) E) → Played a b claim depth k tree → k ≡ most_rounds →
     ((n : ℕ) → least_open tree ≡ Some n → IfOk r (λ x. (tree_view x.1 ≡ with_hold n graph.rounds tree) × (outcome_view x.0 ≡ pending_at n graph.rounds))) →
     (least_open tree ≡ None → IfOk r (λ x. (tree_view x.1 ≡ tree) × IsEnding tree (outcome_view x.0))) → IfOk r (λ x. IsProved a b claim depth (tree_view x.1) (outcome_view x.0))
 after_end a b claim depth k tree (Ok x) p last left settled = proved_after a b claim depth tree (tree_view x.1) (outcome_view x.0) (subst (λ j. Played a b claim depth j tree) last p) left settled

@@ -5,18 +5,18 @@ use Rattle.kp_graph.specs.View.{why_view}
 use Rattle.kp_client.specs.Links.{Exchange}
 use Rattle.kp_client.specs.Rounds as rounds
 use Rattle.kp_client.specs.Rounds.{ProofOutcome, RoundEnd}
-use Rattle.kp_client.specs.declared.outcome.Outcome.{Outcome}
-use Rattle.kp_client.specs.declared.outcome.Outcome.TheVariants as outcome
+use Rattle.kp_client.specs.declared.outcome.ProofEnd.{ProofEnd}
+use Rattle.kp_client.specs.declared.outcome.ProofEnd.TheVariants as outcome
 use Rattle.kp_client.specs.declared.script.Spoken.{Spoken}
 
-abbrev pub outcome_view : Outcome → ProofOutcome
+abbrev pub outcome_view : ProofEnd → ProofOutcome
 outcome_view outcome.Passed = rounds.passed
 outcome_view (outcome.Failed node) = rounds.failed_at node.number
 outcome_view (outcome.Pending node why) = rounds.pending_at node.number (why_view why)
 outcome_view (outcome.Refused code) = rounds.refused_with code
 
 -- a round that has an outcome ends the proof
-abbrev pub round_end : List ProofNode → Option Outcome → RoundEnd
+abbrev pub round_end : List ProofNode → Option ProofEnd → RoundEnd
 round_end tree None = rounds.goes_on tree
 round_end tree (Some o) = rounds.ends tree (outcome_view o)
 

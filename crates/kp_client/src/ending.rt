@@ -5,7 +5,7 @@ ghost use Rattle.kp_client.specs.Answers.{IsEnding};
 ghost use Rattle.kp_client.specs.Rounds.{IsNoneHeld, IsFirstHeld};
 ghost use Rattle.kp_client.specs.View.{outcome_view};
 
-use crate::outcome::Outcome;
+use crate::outcome::ProofEnd;
 use kp_graph::{NodeId, Tree, Why};
 use std::alloc::{AllocError, Global};
 
@@ -35,11 +35,11 @@ fn first_held(alloc: Global, tree: &Tree) -> Result<Option<(NodeId, Why)>, Alloc
 }
 
 /// The outcome of a proof that has no open node: pending where a node is held, else passed.
-pub fn ending(alloc: Global, tree: &Tree) -> Result<Outcome, AllocError>
+pub fn ending(alloc: Global, tree: &Tree) -> Result<ProofEnd, AllocError>
     ensures { IfOk result (λ o. IsEnding (tree_view tree.now) (outcome_view o)) }
 {
     match first_held(alloc, tree)? {
-        Some((node, why)) => Ok(Outcome::Pending { node, why }),
-        None => Ok(Outcome::Passed),
+        Some((node, why)) => Ok(ProofEnd::Pending { node, why }),
+        None => Ok(ProofEnd::Passed),
     }
 }

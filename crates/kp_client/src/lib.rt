@@ -13,6 +13,6 @@ mod script;
 mod steps;
 
 pub use link::{Link, LinkError};
-pub use outcome::{Outcome, ProveFault, ProveOptions};
+pub use outcome::{ProofEnd, ProveFault, ProveOptions};
 pub use proving::{prove, prove_claim};
 pub use script::{ScriptLink, Spoken};

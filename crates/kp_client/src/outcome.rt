@@ -4,7 +4,7 @@ use std::alloc::AllocError;
 
 /// How a proof ended.
 #[derive(Drop)]
-pub enum Outcome {
+pub enum ProofEnd {
     /// Every leaf is covered.
     Passed,
     /// The node is stuck, and isn't covered.

@@ -18,7 +18,7 @@ ghost use Rattle.kp_client.specs.declared.outcome.ProveFault.TheVariants.{LinkFa
 
 use crate::ending::ending;
 use crate::link::Link;
-use crate::outcome::{Outcome, ProveFault, ProveOptions};
+use crate::outcome::{ProofEnd, ProveFault, ProveOptions};
 use crate::round::play_round;
 use kp_claims::ClaimItem;
 use kp_graph::{Tree, Why};
@@ -29,7 +29,7 @@ use std::alloc::Global;
 const MOST_ROUNDS: u64 = 1000;
 
 /// The outcome of a proof, and its tree.
-type Proof = (Outcome, Tree);
+type Proof = (ProofEnd, Tree);
 
 /// The end of a proof without an open node.
 fn end_settled(alloc: Global, tree: Tree) -> Result<Proof, ProveFault>
@@ -51,7 +51,7 @@ fn end_of_rounds(alloc: Global, mut tree: Tree) -> Result<Proof, ProveFault>
         Some(node) => {
             tree.hold(node, Why::Rounds)?;
             Ok((
-                Outcome::Pending {
+                ProofEnd::Pending {
                     node,
                     why: Why::Rounds,
                 },
@@ -97,7 +97,7 @@ pub fn prove_claim<L: Link>(
     link: &mut L,
     claim: &Claim,
     options: &ProveOptions,
-) -> Result<(Outcome, Tree), ProveFault>
+) -> Result<(ProofEnd, Tree), ProveFault>
     // the tree, the outcome and the exchanges are what the rounds make of the replies
     ensures proved { let claim' = claim_view claim.now in IfOk result (λ r. IsProved (L.told link.old) (L.told link.new) claim' options.now.max_depth (tree_view r.1) (outcome_view r.0)) }
     ensures shape { IfOk result (λ r. IsTree (tree_view r.1)) }
@@ -124,7 +124,7 @@ pub fn prove<L: Link>(
     claims: &[ClaimItem],
     place: usize,
     options: &ProveOptions,
-) -> Result<(Outcome, Tree), ProveFault>
+) -> Result<(ProofEnd, Tree), ProveFault>
     requires place { place < length claims.now }
     // of the claim at that place, as of each claim that is proved
     ensures proved { (i : LabelledClaim) → let claims' = items_view claims.now in slice_get claims' place ≡ Some i → IfOk result (λ r. IsProved (L.told link.old) (L.told link.new) i.claim options.now.max_depth (tree_view r.1) (outcome_view r.0)) }

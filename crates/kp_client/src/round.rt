@@ -11,7 +11,7 @@ ghost use Rattle.kp_client.specs.declared.outcome.ProveFault.TheVariants.{LinkFa
 
 use crate::cover::{CoverAnswer, ask_cover};
 use crate::link::Link;
-use crate::outcome::{Outcome, ProveFault};
+use crate::outcome::{ProofEnd, ProveFault};
 use crate::steps::{StepAnswer, ask_steps};
 use kp_graph::{MOST_NODES, NodeId, Tree, Why};
 use kp_kore::{Claim, Pattern};
@@ -23,7 +23,7 @@ fn grow(
     node: NodeId,
     depth: u64,
     state: Pattern,
-) -> Result<Option<Outcome>, ProveFault>
+) -> Result<Option<ProofEnd>, ProveFault>
     ensures grown { let tree' = tree_view tree.old in let tree'' = tree_view tree.new in length tree' < most_nodes → IfOk result (λ o. round_end tree'' o ≡ goes_on (with_edge node.number depth (view state) false tree')) }
     ensures too_many { let tree' = tree_view tree.old in let tree'' = tree_view tree.new in most_nodes ≤ length tree' → IfOk result (λ o. round_end tree'' o ≡ ends (with_hold node.number nodes tree') (pending_at node.number nodes)) }
     ensures fault { IsErrOf result LinkFault → ⊥ }
@@ -33,14 +33,14 @@ fn grow(
         return Ok(None);
     }
     tree.hold(node, Why::Nodes)?;
-    Ok(Some(Outcome::Pending {
+    Ok(Some(ProofEnd::Pending {
         node,
         why: Why::Nodes,
     }))
 }
 
 /// The tree where a node is held by a line.
-fn hold_by(tree: &mut Tree, node: NodeId, line: Vec<u8>) -> Result<Option<Outcome>, ProveFault>
+fn hold_by(tree: &mut Tree, node: NodeId, line: Vec<u8>) -> Result<Option<ProofEnd>, ProveFault>
     ensures held { IfOk result (λ o. round_end (tree_view tree.new) o ≡ goes_on (with_hold node.number (reply line.items) (tree_view tree.old))) }
     ensures fault { IsErrOf result LinkFault → ⊥ }
 {
@@ -49,16 +49,16 @@ fn hold_by(tree: &mut Tree, node: NodeId, line: Vec<u8>) -> Result<Option<Outcom
 }
 
 /// The tree where a node is stuck: the proof fails there.
-fn fail_at(tree: &mut Tree, node: NodeId) -> Result<Option<Outcome>, ProveFault>
+fn fail_at(tree: &mut Tree, node: NodeId) -> Result<Option<ProofEnd>, ProveFault>
     ensures fails { IfOk result (λ o. round_end (tree_view tree.new) o ≡ ends (with_arc node.number stuck (tree_view tree.old)) (failed_at node.number)) }
     ensures fault { IsErrOf result LinkFault → ⊥ }
 {
     tree.stuck(node)?;
-    Ok(Some(Outcome::Failed { node }))
+    Ok(Some(ProofEnd::Failed { node }))
 }
 
 /// The tree where a node is covered.
-fn cover_at(tree: &mut Tree, node: NodeId) -> Result<Option<Outcome>, ProveFault>
+fn cover_at(tree: &mut Tree, node: NodeId) -> Result<Option<ProofEnd>, ProveFault>
     ensures covers { IfOk result (λ o. round_end (tree_view tree.new) o ≡ goes_on (with_arc node.number cover (tree_view tree.old))) }
     ensures fault { IsErrOf result LinkFault → ⊥ }
 {
@@ -74,7 +74,7 @@ fn play_steps<L: Link>(
     max_depth: u64,
     tree: &mut Tree,
     node: NodeId,
-) -> Result<Option<Outcome>, ProveFault>
+) -> Result<Option<ProofEnd>, ProveFault>
     requires least { least_open (tree_view tree.old) ≡ Some node.number }
     ensures plays { let tree' = tree_view tree.old in IfOk result (λ o. PlaysSteps (L.told link.old) (L.told link.new) max_depth tree' node.number (round_end (tree_view tree.new) o)) }
     ensures broken { OnErr result (BeginsSteps (L.told link.old) (L.told link.new) max_depth (tree_view tree.old) node.number) }
@@ -84,7 +84,7 @@ fn play_steps<L: Link>(
         StepAnswer::Stepped(depth, state) => grow(tree, node, depth, state),
         StepAnswer::Stuck => fail_at(tree, node),
         StepAnswer::Held(line) => hold_by(tree, node, line),
-        StepAnswer::Refused(code) => Ok(Some(Outcome::Refused { code })),
+        StepAnswer::Refused(code) => Ok(Some(ProofEnd::Refused { code })),
     }
 }
 
@@ -97,7 +97,7 @@ pub fn play_round<L: Link>(
     max_depth: u64,
     tree: &mut Tree,
     node: NodeId,
-) -> Result<Option<Outcome>, ProveFault>
+) -> Result<Option<ProofEnd>, ProveFault>
     requires least { least_open (tree_view tree.old) ≡ Some node.number }
     requires id { id < 10000 }
     ensures plays { let claim' = claim_view claim.now in let tree' = tree_view tree.old in IfOk result (λ o. PlaysRound (L.told link.old) (L.told link.new) claim' max_depth tree' node.number (round_end (tree_view tree.new) o)) }
@@ -108,6 +108,6 @@ pub fn play_round<L: Link>(
         CoverAnswer::Covered => cover_at(tree, node),
         CoverAnswer::Uncovered => play_steps(alloc, link, id + 1, max_depth, tree, node),
         CoverAnswer::Undecided(line) => hold_by(tree, node, line),
-        CoverAnswer::Refused(code) => Ok(Some(Outcome::Refused { code })),
+        CoverAnswer::Refused(code) => Ok(Some(ProofEnd::Refused { code })),
     }
 }

@@ -19,7 +19,7 @@ use Rattle.kp_ground.specs.LeftView.{left_view, lefts_of}
 use Rattle.kp_ground.specs.Conditions.{all_hold, any_holds}
 use Rattle.kp_ground.specs.ConditionView.{condition_view, conditions_of}
 use Rattle.kp_ground.specs.declared.term.CompiledTerm.{CompiledTerm}
-use Rattle.kp_ground.specs.declared.left.Left.{Left}
+use Rattle.kp_ground.specs.declared.left.CompiledLeft.{CompiledLeft}
 use Rattle.kp_ground.specs.declared.condition.Condition.{Condition}
 use Rattle.kp_compile.specs.Exact.{IsConditionOf, AreTermsOf, AreLeftsOf, AreConditionsOf}
 
@@ -50,7 +50,7 @@ each_term g v [] (t ∷ ts) z = absurd z
 each_term g v (p ∷ ps) [] z = absurd z
 each_term g v (p ∷ ps) (t ∷ ts) z = ap₂ next_value (z.0 v) (each_term g v ps ts z.1)
 
-pub each_left : (g : KoreSignature) (v : Valuation) (ps : List Pattern) (ts : List Left) → AreLeftsOf g ps ts → left_values v (lefts_of (map left_view ts)) ≡ instances g v (patterns_view ps)
+pub each_left : (g : KoreSignature) (v : Valuation) (ps : List Pattern) (ts : List CompiledLeft) → AreLeftsOf g ps ts → left_values v (lefts_of (map left_view ts)) ≡ instances g v (patterns_view ps)
 each_left g v [] [] z = refl
 each_left g v [] (t ∷ ts) z = absurd z
 each_left g v (p ∷ ps) [] z = absurd z

@@ -13,7 +13,7 @@ use Rattle.kp_kore.specs.View.{view, patterns_view}
 use Rattle.kp_kore.specs.declared.pattern.Pattern.{Pattern}
 use Rattle.kp_ground.specs.Slots.{Place, is_one_of, stands_at, with_name, names_after, is_numbered, joined, left_places, left_variables, term_reads, condition_reads}
 use Rattle.kp_ground.specs.declared.term.CompiledTerm.{CompiledTerm}
-use Rattle.kp_ground.specs.declared.left.Left.{Left}
+use Rattle.kp_ground.specs.declared.left.CompiledLeft.{CompiledLeft}
 use Rattle.kp_ground.specs.declared.condition.Condition.{Condition}
 use Rattle.kp_ground.proofs.SlotLemmas.{first_so, second_so, numbered_both, names_both}
 use Rattle.kp_compile.specs.Exact.{are_named, ReadAllAs, ConditionsReadAs, ConditionReadsAs, HasPlacesOf, IsPlaceOf}
@@ -121,7 +121,7 @@ places_named xs (p ∷ ps) (v ∷ vs) e =
     both_so _ _ (among_after (with_name xs p.name) ps v.name (subst (λ y. is_one_of y (with_name xs p.name) ≡ true) same (among_itself xs p.name))) (places_named (with_name xs p.name) ps vs rest)
 
 -- a left term's variables are named
-pub left_named : (l : Left) (p : KorePattern) → HasPlacesOf p l → are_named (left_variables l) (free_variables p) ≡ true
+pub left_named : (l : CompiledLeft) (p : KorePattern) → HasPlacesOf p l → are_named (left_variables l) (free_variables p) ≡ true
 left_named l p e = places_named [] (left_places l) (free_variables p) e
 
 -- one place tells its number, and adds its name
@@ -133,7 +133,7 @@ one_place x old new places place e = (
   e ∙ sym (ap (names_after old) place.1),
 )
 
-pub joined_push : (ts : List Left) (t : Left) → joined (map left_places (ts ++ t ∷ [])) ≡ joined (map left_places ts) ++ left_places t
+pub joined_push : (ts : List CompiledLeft) (t : CompiledLeft) → joined (map left_places (ts ++ t ∷ [])) ≡ joined (map left_places ts) ++ left_places t
 joined_push [] t = append-nil (left_places t)
 joined_push (s ∷ ts) t = ap (λ ps. left_places s ++ ps) (joined_push ts t) ∙ sym (after (left_places s) (joined (map left_places ts)) (left_places t))
   where
@@ -150,20 +150,20 @@ variables_push (q ∷ ps) p = ap (λ vs. free_variables (view q) ++ vs) (variabl
     after (x ∷ a) b c = ap (λ l. x ∷ l) (after a b c)
 
 -- one more left term
-pub places_push : (ts : List Left) (t : Left) (ps : List Pattern) (p : Pattern) → map (λ x. x.name) (joined (map left_places ts)) ≡ map (λ x. x.name) (all_free_variables (patterns_view ps)) →
+pub places_push : (ts : List CompiledLeft) (t : CompiledLeft) (ps : List Pattern) (p : Pattern) → map (λ x. x.name) (joined (map left_places ts)) ≡ map (λ x. x.name) (all_free_variables (patterns_view ps)) →
     map (λ x. x.name) (left_places t) ≡ map (λ x. x.name) (free_variables (view p)) →
     map (λ x. x.name) (joined (map left_places (ts ++ t ∷ []))) ≡ map (λ x. x.name) (all_free_variables (patterns_view (ps ++ p ∷ [])))
 places_push ts t ps p e f =
     ap (map (λ x. x.name)) (joined_push ts t) ∙ map-append (λ x. x.name) (joined (map left_places ts)) (left_places t) ∙ ap₂ (λ a b. a ++ b) e f
     ∙ sym (map-append (λ x. x.name) (all_free_variables (patterns_view ps)) (free_variables (view p))) ∙ ap (map (λ x. x.name)) (sym (variables_push ps p))
 
-pub numbered_push : (xs ys : List Text) (ts : List Left) (t : Left) → is_numbered xs (joined (map left_places ts)) ≡ true → ys ≡ names_after xs (joined (map left_places ts)) → is_numbered ys (left_places t) ≡ true →
+pub numbered_push : (xs ys : List Text) (ts : List CompiledLeft) (t : CompiledLeft) → is_numbered xs (joined (map left_places ts)) ≡ true → ys ≡ names_after xs (joined (map left_places ts)) → is_numbered ys (left_places t) ≡ true →
     is_numbered xs (joined (map left_places (ts ++ t ∷ []))) ≡ true
 numbered_push xs ys ts t h e k =
     ap (is_numbered xs) (joined_push ts t) ∙ numbered_both xs (joined (map left_places ts)) (left_places t)
     ∙ both_so _ _ h (subst (λ zs. is_numbered zs (left_places t) ≡ true) e k)
 
-pub names_push : (xs ys zs : List Text) (ts : List Left) (t : Left) → ys ≡ names_after xs (joined (map left_places ts)) → zs ≡ names_after ys (left_places t) → zs ≡ names_after xs (joined (map left_places (ts ++ t ∷ [])))
+pub names_push : (xs ys zs : List Text) (ts : List CompiledLeft) (t : CompiledLeft) → ys ≡ names_after xs (joined (map left_places ts)) → zs ≡ names_after ys (left_places t) → zs ≡ names_after xs (joined (map left_places (ts ++ t ∷ [])))
 names_push xs ys zs ts t e f =
     f ∙ ap (λ y. names_after y (left_places t)) e ∙ sym (names_both xs (joined (map left_places ts)) (left_places t)) ∙ sym (ap (names_after xs) (joined_push ts t))
 

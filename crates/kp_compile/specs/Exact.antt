@@ -16,7 +16,7 @@ use Rattle.kp_ground.specs.LeftView.{left_view}
 use Rattle.kp_ground.specs.Conditions.{condition_holds, condition_narrow}
 use Rattle.kp_ground.specs.ConditionView.{condition_view}
 use Rattle.kp_ground.specs.declared.term.CompiledTerm.{CompiledTerm}
-use Rattle.kp_ground.specs.declared.left.Left.{Left}
+use Rattle.kp_ground.specs.declared.left.CompiledLeft.{CompiledLeft}
 use Rattle.kp_ground.specs.declared.condition.Condition.{Condition}
 
 -- under every valuation the term has the pattern's instance
@@ -44,11 +44,11 @@ abbrev pub IsConditionNarrowAs : KoreSignature → KorePattern → Condition →
 IsConditionNarrowAs g p c = (v : Valuation) → condition_narrow v (condition_view c) ≡ not (computes_wide g v p)
 
 -- under every valuation the left term has the pattern's instance
-abbrev pub IsLeftOf : KoreSignature → KorePattern → Left → Type 0
+abbrev pub IsLeftOf : KoreSignature → KorePattern → CompiledLeft → Type 0
 IsLeftOf g p l = (v : Valuation) → left_value v (left_view l) ≡ instance g v p
 
 -- the left term's variables are the pattern's, place by place
-abbrev pub HasPlacesOf : KorePattern → Left → Type 0
+abbrev pub HasPlacesOf : KorePattern → CompiledLeft → Type 0
 HasPlacesOf p l = map (λ x. x.name) (left_places l) ≡ map (λ x. x.name) (free_variables p)
 
 -- one place of this name, with its number among the names
@@ -63,7 +63,7 @@ IsConditionOf g p c = (v : Valuation) → Decides (condition_holds v (condition_
 abbrev pub AreTermsOf : KoreSignature → List Pattern → List CompiledTerm → Type 0
 AreTermsOf g = AllZip (λ p t. IsTermOf g (view p) t)
 
-abbrev pub AreLeftsOf : KoreSignature → List Pattern → List Left → Type 0
+abbrev pub AreLeftsOf : KoreSignature → List Pattern → List CompiledLeft → Type 0
 AreLeftsOf g = AllZip (λ p l. IsLeftOf g (view p) l)
 
 abbrev pub AreConditionsOf : KoreSignature → List Pattern → List Condition → Type 0

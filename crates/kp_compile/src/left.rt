@@ -18,32 +18,32 @@ use crate::error::CompileError;
 use crate::literal::literal_value;
 use crate::names::{NameSet, no_names, slot_with};
 use crate::term::shared_name;
-use kp_ground::Left;
+use kp_ground::CompiledLeft;
 use kp_kore::{Name, Pattern};
 use kp_signature::{Meaning, Signature, meaning_of};
 use std::alloc::Global;
 use std::sync::Arc;
 
 /// A constructor with its arguments.
-fn make_built(constructor: Arc<String>, arguments: Vec<Left>) -> Left
+fn make_built(constructor: Arc<String>, arguments: Vec<CompiledLeft>) -> CompiledLeft
     ensures seen { left_view result ≡ left_built (string_bytes constructor.value) (lefts_of (map left_view arguments.items)) }
     ensures places { left_places result ≡ joined (map left_places arguments.items) }
 {
-    Left::Built {
+    CompiledLeft::Built {
         constructor,
         arguments,
     }
 }
 
 /// A variable at its first place, where it gets its number, or at a later one.
-fn variable(alloc: Global, name: &Name, names: &mut NameSet) -> Result<Left, CompileError>
+fn variable(alloc: Global, name: &Name, names: &mut NameSet) -> Result<CompiledLeft, CompileError>
     ensures seen { IfOk result (λ l. left_view l ≡ left_bound (string_bytes name.now)) }
     ensures place { IfOk result (λ l. IsPlaceOf (string_bytes name.now) (names_seen names.new) (left_places l)) }
     ensures names { OnOk result (names_seen names.new ≡ with_name (names_seen names.old) (string_bytes name.now)) }
     ensures refused { IfErr result (λ e. e ≡ Memory) }
 {
     let slot = slot_with(names, name)?;
-    Ok(Left::Variable {
+    Ok(CompiledLeft::Variable {
         name: shared_name(alloc, name)?,
         slot,
     })
@@ -56,7 +56,7 @@ fn left_of(
     alloc: Global,
     signature: &Signature,
     names: &mut NameSet,
-) -> Result<Left, CompileError>
+) -> Result<CompiledLeft, CompileError>
     ensures meaning { IfOk result (IsLeftOf (signature_view signature.now) (view pattern.now)) }
     ensures places { IfOk result (HasPlacesOf (view pattern.now)) }
     ensures numbered { IfOk result (λ l. is_numbered (names_seen names.old) (left_places l) ≡ true) }
@@ -65,7 +65,7 @@ fn left_of(
 {
     match pattern {
         Pattern::Variable { name, .. } => variable(alloc, name, names),
-        Pattern::Literal { sort, text } => Ok(Left::Fixed {
+        Pattern::Literal { sort, text } => Ok(CompiledLeft::Fixed {
             value: literal_value(alloc, signature, sort, text)?,
         }),
         Pattern::Application {
@@ -85,7 +85,7 @@ fn compile_applied(
     signature: &Signature,
     name: &Name,
     names: &mut NameSet,
-) -> Result<Left, CompileError>
+) -> Result<CompiledLeft, CompileError>
     ensures meaning { let g = signature_view signature.now in let the_string_bytes = string_bytes name.now in let arguments' = patterns_view arguments.now in IfOk result (λ t. (v : Valuation) → left_value v (left_view t) ≡ applied (meaning_named g the_string_bytes) the_string_bytes (instances g v arguments')) }
     ensures places { IfOk result (λ l. map (λ x. x.name) (left_places l) ≡ map (λ x. x.name) (all_free_variables (patterns_view arguments.now))) }
     ensures numbered { IfOk result (λ l. is_numbered (names_seen names.old) (left_places l) ≡ true) }
@@ -114,7 +114,7 @@ fn compile_each(
     alloc: Global,
     signature: &Signature,
     names: &mut NameSet,
-) -> Result<Vec<Left>, CompileError>
+) -> Result<Vec<CompiledLeft>, CompileError>
     ensures meaning { IfOk result (λ ts. AreLeftsOf (signature_view signature.now) patterns.now ts.items) }
     ensures places { IfOk result (λ ts. map (λ x. x.name) (joined (map left_places ts.items)) ≡ map (λ x. x.name) (all_free_variables (patterns_view patterns.now))) }
     ensures numbered { IfOk result (λ ts. is_numbered (names_seen names.old) (joined (map left_places ts.items)) ≡ true) }
@@ -134,7 +134,7 @@ pub fn compile_left(
     alloc: Global,
     signature: &Signature,
     pattern: &Pattern,
-) -> Result<(Left, NameSet), CompileError>
+) -> Result<(CompiledLeft, NameSet), CompileError>
     ensures meaning { IfOk result (λ l. IsLeftOf (signature_view signature.now) (view pattern.now) l.0) }
     ensures places { IfOk result (λ l. HasPlacesOf (view pattern.now) l.0) }
     ensures numbered { IfOk result (λ l. is_numbered [] (left_places l.0) ≡ true) }

@@ -4,7 +4,7 @@ use kp_heads::HeadTable;
 use kp_kore::Pattern;
 use kp_symbolic::{Atom, Clause, Language, Literal, State, term_under};
 use kp_text::read_pattern;
-use kp_weights::{Weighed, Weight};
+use kp_weights::{Weighed, WeightKind};
 use std::alloc::{AllocError, Global};
 use std::sync::Arc;
 
@@ -177,9 +177,9 @@ fn add_clauses(
 /// The weight that is passed, by its kind.
 fn kind(over: &Weighed) -> &'static str {
     match over.weight {
-        Weight::Bits => "bits",
-        Weight::Literals => "literals",
-        Weight::Product => "product",
+        WeightKind::Bits => "bits",
+        WeightKind::Literals => "literals",
+        WeightKind::Product => "product",
     }
 }
 

@@ -18,8 +18,8 @@ use Rattle.kp_symbolic.specs.View.{variable_view}
 use Rattle.kp_symbolic.specs.declared.variable.Variable.{Variable}
 use Rattle.kp_deciding.specs.Forms.{whole_part_view, token_part_view, form_view}
 use Rattle.kp_deciding.specs.Readings.{read_view, clauses_view}
-use Rattle.kp_deciding.specs.declared.form.Form.{Form}
-use Rattle.kp_deciding.specs.declared.form.Form.TheVariants.{Compares, Truth, Equates, Asks, Gives}
+use Rattle.kp_deciding.specs.declared.form.LiteralForm.{LiteralForm}
+use Rattle.kp_deciding.specs.declared.form.LiteralForm.TheVariants.{Compares, Truth, Equates, Asks, Gives}
 use Rattle.kp_deciding.specs.declared.form.TokenPart.{TokenPart}
 use Rattle.kp_deciding.specs.declared.form.TokenPart.TheVariants.{Unknown, Known}
 use Rattle.kp_deciding.specs.declared.reading.ReadLiteral.{ReadLiteral}
@@ -52,7 +52,7 @@ token_placed : (g : KoreSignature) (hand : List SortedName) (v : Valuation) (p :
 token_placed g hand v (Unknown x) kind at = (record { variable = variable_view x.now; at_hand = at.0.0; named = refl; sorted = at.0.1; one_head = tokens_one_head g (variable_view x.now).sort kind }, tt)
 token_placed g hand v (Known u) kind at = tt
 
-said_placed : (g : KoreSignature) (hand : List SortedName) (v : Valuation) (o : Option Form) → IsSaidOfKind g o → AllByRecursion (At g hand v) (unknowns_said o) → AllByRecursion (IsPlaced g hand v) (names_said (option_map form_view o))
+said_placed : (g : KoreSignature) (hand : List SortedName) (v : Valuation) (o : Option LiteralForm) → IsSaidOfKind g o → AllByRecursion (At g hand v) (unknowns_said o) → AllByRecursion (IsPlaced g hand v) (names_said (option_map form_view o))
 said_placed g hand v (Some (Compares c m n)) kind at =
     let Kind = λ (x : SortedName). has_only_numbers g x.sort ≡ true in
     all_append (IsPlaced g hand v) (side_names (whole_part_view m)) (side_names (whole_part_view n))

@@ -13,24 +13,24 @@ ghost use Rattle.kp_deciding.specs.Forms.{asked_view, form_view};
 ghost use Rattle.kp_deciding.specs.Readings.{read_view, clauses_view};
 ghost use Rattle.kp_decide.specs.Heads as spec;
 
-use kp_deciding::{AskedHeads, Form, ReadLiteral};
+use kp_deciding::{AskedHeads, LiteralForm, ReadLiteral};
 use kp_heads::HeadTable;
 use kp_signature::Signature;
-use kp_sort_heads::{Head, heads, is_head};
+use kp_sort_heads::{SortHead, heads, is_head};
 use kp_symbolic::Variable;
 
 /// Whether the head is the constructor of this name.
-fn is_named(head: &Head, name: &str) -> bool
+fn is_named(head: &SortHead, name: &str) -> bool
     ensures { result ≡ is_constructor_head name.now (head_view head.now) }
 {
     match head {
-        Head::Constructor { declaration } => declaration.name.as_str() == name,
-        Head::Integers | Head::Booleans | Head::Tokens { .. } => false,
+        SortHead::Constructor { declaration } => declaration.name.as_str() == name,
+        SortHead::Integers | SortHead::Booleans | SortHead::Tokens { .. } => false,
     }
 }
 
 /// Whether the head passes the test.
-fn passes(signature: &Signature, head: &Head, test: AskedHeads) -> bool
+fn passes(signature: &Signature, head: &SortHead, test: AskedHeads) -> bool
     ensures { result ≡ passes_head (signature_view signature.now) (asked_view test.entry) (head_view head.now) }
 {
     match test {
@@ -47,19 +47,27 @@ fn is_same_name(variable: &Variable, other: &Variable) -> bool
 }
 
 /// Whether the head is as the literal asks, where it asks for that of the variable.
-fn agrees(signature: &Signature, head: &Head, variable: &Variable, form: Option<Form>) -> bool
+fn agrees(
+    signature: &Signature,
+    head: &SortHead,
+    variable: &Variable,
+    form: Option<LiteralForm>,
+) -> bool
     ensures { result ≡ spec.head_agrees (signature_view signature.now) (head_view head.now) (string_bytes variable.now.name) (option_map form_view form.entry) }
 {
     match form {
         Some(
-            Form::Asks {
+            LiteralForm::Asks {
                 variable: asked,
                 test,
                 passes: holds,
             },
         ) => !is_same_name(asked, variable) || passes(signature, head, test) == holds,
         Some(
-            Form::Compares { .. } | Form::Truth { .. } | Form::Equates { .. } | Form::Gives { .. },
+            LiteralForm::Compares { .. }
+            | LiteralForm::Truth { .. }
+            | LiteralForm::Equates { .. }
+            | LiteralForm::Gives { .. },
         ) => true,
         None => true,
     }
@@ -68,7 +76,7 @@ fn agrees(signature: &Signature, head: &Head, variable: &Variable, form: Option<
 /// Whether the head is as one of the literals asks.
 fn agrees_with_one(
     signature: &Signature,
-    head: &Head,
+    head: &SortHead,
     variable: &Variable,
     clause: &[ReadLiteral],
 ) -> bool
@@ -85,7 +93,7 @@ fn agrees_with_one(
 /// Whether the head is as all clauses ask.
 fn agrees_with_all(
     signature: &Signature,
-    head: &Head,
+    head: &SortHead,
     variable: &Variable,
     clauses: &[Vec<ReadLiteral>],
 ) -> bool
@@ -119,18 +127,21 @@ fn has_head(
 }
 
 /// Whether the literal asks for the variable's head.
-fn asks_for(form: Option<Form>, variable: &Variable) -> bool
+fn asks_for(form: Option<LiteralForm>, variable: &Variable) -> bool
     ensures { (g : KoreSignature) (cs : List (List model.ReadLiteral)) → spec.IsStanding g cs (option_map form_view form.entry) → IsTrue result → spec.HasHead g cs (variable_view variable.now) }
 {
     match form {
         Some(
-            Form::Asks {
+            LiteralForm::Asks {
                 variable: asked,
                 ..
             },
         ) => asked.same(variable),
         Some(
-            Form::Compares { .. } | Form::Truth { .. } | Form::Equates { .. } | Form::Gives { .. },
+            LiteralForm::Compares { .. }
+            | LiteralForm::Truth { .. }
+            | LiteralForm::Equates { .. }
+            | LiteralForm::Gives { .. },
         ) => false,
         None => false,
     }
@@ -179,7 +190,7 @@ fn may_have_head(
 fn is_standing(
     signature: &Signature,
     table: &HeadTable,
-    form: Option<Form>,
+    form: Option<LiteralForm>,
     before: &[Vec<ReadLiteral>],
     clauses: &[Vec<ReadLiteral>],
 ) -> bool
@@ -187,11 +198,14 @@ fn is_standing(
     ensures { let g = signature_view signature.now in let cs = clauses_view clauses.now in spec.StandIn g cs (clauses_view before.now) → (IsTrue result ↔ spec.IsStanding g cs (option_map form_view form.entry)) }
 {
     match form {
-        Some(Form::Asks { variable, .. }) => {
+        Some(LiteralForm::Asks { variable, .. }) => {
             may_have_head(signature, table, variable, before, clauses)
         }
         Some(
-            Form::Compares { .. } | Form::Truth { .. } | Form::Equates { .. } | Form::Gives { .. },
+            LiteralForm::Compares { .. }
+            | LiteralForm::Truth { .. }
+            | LiteralForm::Equates { .. }
+            | LiteralForm::Gives { .. },
         ) => true,
         None => true,
     }

@@ -12,8 +12,8 @@ use Rattle.kp_symbolic.specs.View.{variable_view, term_view}
 use Rattle.kp_deciding.specs.declared.form.WholePart.{WholePart}
 use Rattle.kp_deciding.specs.declared.form.TokenPart.{TokenPart}
 use Rattle.kp_deciding.specs.declared.form.TokenPart.TheVariants as part
-use Rattle.kp_deciding.specs.declared.form.Form.{Form}
-use Rattle.kp_deciding.specs.declared.form.Form.TheVariants.{Compares, Truth, Equates, Asks, Gives}
+use Rattle.kp_deciding.specs.declared.form.LiteralForm.{LiteralForm}
+use Rattle.kp_deciding.specs.declared.form.LiteralForm.TheVariants.{Compares, Truth, Equates, Asks, Gives}
 use Rattle.kp_deciding.specs.declared.form.AskedHeads.{AskedHeads}
 use Rattle.kp_deciding.specs.declared.form.AskedHeads.TheVariants as asked
 
@@ -28,7 +28,7 @@ abbrev pub asked_view : AskedHeads → states.HeadTest
 asked_view (asked.Constructor f) = states.one_head f.now
 asked_view (asked.Sort s) = states.head_of_sort (sort_view s.now)
 
-abbrev pub form_view : Form → model.Form
+abbrev pub form_view : LiteralForm → model.Form
 form_view (Compares c m n) = model.compares (comparison_view c) (whole_part_view m) (whole_part_view n)
 form_view (Truth x b) = model.is_truth (string_bytes x.now.name) b
 form_view (Equates b p q) = model.equates b (token_part_view p) (token_part_view q)

@@ -12,8 +12,8 @@ use Rattle.kp_symbolic.specs.States.{atom_variables}
 use Rattle.kp_symbolic.specs.WellFormed.{AreAtHand}
 use Rattle.kp_symbolic.specs.Plain.{has_only_tokens}
 use Rattle.kp_symbolic.specs.View.{variable_view, literal_view}
-use Rattle.kp_deciding.specs.declared.form.Form.{Form}
-use Rattle.kp_deciding.specs.declared.form.Form.TheVariants.{Compares, Truth, Equates, Asks, Gives}
+use Rattle.kp_deciding.specs.declared.form.LiteralForm.{LiteralForm}
+use Rattle.kp_deciding.specs.declared.form.LiteralForm.TheVariants.{Compares, Truth, Equates, Asks, Gives}
 use Rattle.kp_deciding.specs.declared.form.WholePart.{WholePart}
 use Rattle.kp_deciding.specs.declared.form.TokenPart.{TokenPart}
 use Rattle.kp_deciding.specs.declared.form.TokenPart.TheVariants.{Unknown, Known}
@@ -31,14 +31,14 @@ token_variables (Unknown x) = variable_view x.now ∷ []
 token_variables (Known u) = []
 
 -- the variables of which a number, a truth value or a token is asked
-abbrev pub unknowns_of : Form → List SortedName
+abbrev pub unknowns_of : LiteralForm → List SortedName
 unknowns_of (Compares c m n) = side_variables m ++ side_variables n
 unknowns_of (Truth x b) = variable_view x.now ∷ []
 unknowns_of (Equates b p q) = token_variables p ++ token_variables q
 unknowns_of (Asks x test b) = []
 unknowns_of (Gives x t) = []
 
-abbrev pub unknowns_said : Option Form → List SortedName
+abbrev pub unknowns_said : Option LiteralForm → List SortedName
 unknowns_said (Some f) = unknowns_of f
 unknowns_said None = []
 
@@ -63,14 +63,14 @@ IsTokenPart g (Unknown x) = has_only_tokens g (variable_view x.now).sort ≡ tru
 IsTokenPart g (Known u) = IsTokenValue (value_view u.now)
 
 -- each is of the sort that is asked of it
-abbrev pub IsOfKind : KoreSignature → Form → Type 0
+abbrev pub IsOfKind : KoreSignature → LiteralForm → Type 0
 IsOfKind g (Compares c m n) = AreNumbers g (side_variables m ++ side_variables n)
 IsOfKind g (Truth x b) = has_only_truths g (variable_view x.now).sort ≡ true
 IsOfKind g (Equates b p q) = IsTokenPart g p × IsTokenPart g q
 IsOfKind g (Asks x test b) = ⊤
 IsOfKind g (Gives x t) = ⊤
 
-abbrev pub IsSaidOfKind : KoreSignature → Option Form → Type 0
+abbrev pub IsSaidOfKind : KoreSignature → Option LiteralForm → Type 0
 IsSaidOfKind g (Some f) = IsOfKind g f
 IsSaidOfKind g None = ⊤
 
@@ -80,11 +80,11 @@ AreSaidOfKind g c = AllByRecursion (λ l. IsSaidOfKind g l.form) c
 -- ---- unknowns among variables
 
 -- where something is said, its unknowns are these variables
-abbrev pub IsSaidOf : List SortedName → Option Form → Type 0
+abbrev pub IsSaidOf : List SortedName → Option LiteralForm → Type 0
 IsSaidOf xs o = IfSome o (λ f. unknowns_of f ≡ xs)
 
 -- each unknown of what is said is of its kind, and one of these variables
-pub record IsSaidAmong (g : KoreSignature) (xs : List SortedName) (o : Option Form) : Type 0 where
+pub record IsSaidAmong (g : KoreSignature) (xs : List SortedName) (o : Option LiteralForm) : Type 0 where
   pub kinds : IsSaidOfKind g o
   pub variables : AreAtHand (unknowns_said o) xs
 

@@ -9,7 +9,7 @@ ghost use Rattle.kp_deciding.specs.Forms.{form_view, whole_part_view};
 ghost use Rattle.kp_deciding.specs.Readings.{read_view, clauses_view};
 ghost use Rattle.kp_deciding.specs.Bounds.{difference_view, strictness, said_bounds, clause_bounds};
 
-use crate::form::{Form, WholePart};
+use crate::form::{LiteralForm, WholePart};
 use crate::reading::ReadLiteral;
 use kp_kore::Comparison;
 use std::alloc::{AllocError, Global};
@@ -60,25 +60,26 @@ fn add_comparison<'a>(
 }
 
 /// Adds the bounds of a form, if it is a comparison.
-fn add_form<'a>(bounds: &mut Vec<Difference<'a>>, form: Form<'a>) -> Result<(), AllocError>
+fn add_form<'a>(bounds: &mut Vec<Difference<'a>>, form: LiteralForm<'a>) -> Result<(), AllocError>
     ensures { OnOk result (map difference_view bounds.new.items ≡ map difference_view bounds.old.items ++ model.bounds_of (form_view form.entry)) }
 {
     match form {
-        Form::Compares {
+        LiteralForm::Compares {
             comparison,
             first,
             second,
         } => add_comparison(bounds, comparison, first, second),
-        Form::Truth { .. } | Form::Equates { .. } | Form::Asks { .. } | Form::Gives { .. } => Ok(
-            (),
-        ),
+        LiteralForm::Truth { .. }
+        | LiteralForm::Equates { .. }
+        | LiteralForm::Asks { .. }
+        | LiteralForm::Gives { .. } => Ok(()),
     }
 }
 
 /// Adds the bounds of what a literal says.
 fn add_literal<'a>(
     bounds: &mut Vec<Difference<'a>>,
-    form: Option<Form<'a>>,
+    form: Option<LiteralForm<'a>>,
 ) -> Result<(), AllocError>
     ensures { OnOk result (map difference_view bounds.new.items ≡ map difference_view bounds.old.items ++ said_bounds (option_map form_view form.entry)) }
 {

@@ -35,7 +35,7 @@ pub enum TokenPart<'a> {
 
 /// What a literal says. `form_view` in specs/Forms.antt says which form of kp_symbolic it is.
 #[derive(Clone, Copy)]
-pub enum Form<'a> {
+pub enum LiteralForm<'a> {
     Compares {
         comparison: Comparison,
         first: WholePart<'a>,
@@ -190,12 +190,12 @@ fn comparing<'a>(
     comparison: Comparison,
     first: WholePart<'a>,
     second: WholePart<'a>,
-) -> Form<'a>
+) -> LiteralForm<'a>
     ensures view { form_view result ≡ model.compares (model.comparison_if holds (comparison_view comparison)) (whole_part_view first.entry) (whole_part_view second.entry) }
     ensures kinds { (g : KoreSignature) → AreNumbers g (side_variables first.entry) → AreNumbers g (side_variables second.entry) → IsOfKind g result }
     ensures unknowns { unknowns_of result ≡ side_variables first.entry ++ side_variables second.entry }
 {
-    Form::Compares {
+    LiteralForm::Compares {
         comparison: comparison_if(holds, comparison),
         first,
         second,
@@ -209,7 +209,7 @@ fn compared<'a>(
     comparison: Comparison,
     left: &'a Term,
     right: &'a Term,
-) -> Option<Form<'a>>
+) -> Option<LiteralForm<'a>>
     ensures view { let g = signature_view signature.now in option_map form_view result ≡ model.comparing holds (comparison_view comparison) (model.whole_part g (term_view left.now)) (model.whole_part g (term_view right.now)) }
     ensures kinds { IsSaidOfKind (signature_view signature.now) result }
     ensures unknowns { IsSaidOf (term_variables (term_view left.now) ++ term_variables (term_view right.now)) result }
@@ -229,7 +229,7 @@ fn equated<'a>(
     holds: bool,
     left: &'a Term,
     right: &'a Term,
-) -> Option<Form<'a>>
+) -> Option<LiteralForm<'a>>
     ensures view { let g = signature_view signature.now in option_map form_view result ≡ model.equating holds (model.token_part g (term_view left.now)) (model.token_part g (term_view right.now)) }
     ensures kinds { IsSaidOfKind (signature_view signature.now) result }
     ensures unknowns { IsSaidOf (term_variables (term_view left.now) ++ term_variables (term_view right.now)) result }
@@ -240,7 +240,7 @@ fn equated<'a>(
     let Some(second) = token_part(signature, right) else {
         return None;
     };
-    Some(Form::Equates {
+    Some(LiteralForm::Equates {
         holds,
         first,
         second,
@@ -253,7 +253,7 @@ fn equality_form<'a>(
     holds: bool,
     left: &'a Term,
     right: &'a Term,
-) -> Option<Form<'a>>
+) -> Option<LiteralForm<'a>>
     ensures view { option_map form_view result ≡ model.equality_form (signature_view signature.now) holds (term_view left.now) (term_view right.now) }
     ensures kinds { IsSaidOfKind (signature_view signature.now) result }
     ensures unknowns { IsSaidOf (term_variables (term_view left.now) ++ term_variables (term_view right.now)) result }
@@ -271,7 +271,7 @@ fn call_form<'a>(
     meaning: Meaning,
     left: &'a Term,
     right: &'a Term,
-) -> Option<Form<'a>>
+) -> Option<LiteralForm<'a>>
     ensures view { option_map form_view result ≡ model.call_form (signature_view signature.now) holds (meaning_view meaning) (term_view left.now) (term_view right.now) }
     ensures kinds { IsSaidOfKind (signature_view signature.now) result }
     ensures unknowns { IsSaidOf (term_variables (term_view left.now) ++ term_variables (term_view right.now)) result }
@@ -299,13 +299,13 @@ fn variable_truth<'a>(
     signature: &Signature,
     holds: bool,
     variable: &'a Variable,
-) -> Option<Form<'a>>
+) -> Option<LiteralForm<'a>>
     ensures view { option_map form_view result ≡ model.truth_form (signature_view signature.now) holds (unknown (variable_view variable.now)) }
     ensures kinds { IsSaidOfKind (signature_view signature.now) result }
     ensures unknowns { IsSaidOf (variable_view variable.now ∷ []) result }
 {
     if has_only_truths(signature, &variable.sort) {
-        Some(Form::Truth {
+        Some(LiteralForm::Truth {
             variable,
             value: holds,
         })
@@ -320,7 +320,7 @@ fn headed_form<'a>(
     holds: bool,
     symbol: &str,
     arguments: &'a [Term],
-) -> Option<Form<'a>>
+) -> Option<LiteralForm<'a>>
     ensures view { option_map form_view result ≡ model.truth_form (signature_view signature.now) holds (headed symbol.now (terms_of (map term_view arguments.now))) }
     ensures kinds { IsSaidOfKind (signature_view signature.now) result }
     ensures unknowns { IsSaidOf (all_term_variables (terms_of (map term_view arguments.now))) result }
@@ -335,7 +335,7 @@ fn headed_form<'a>(
 }
 
 /// A Boolean expression that is true, or false.
-fn truth_form<'a>(signature: &Signature, holds: bool, term: &'a Term) -> Option<Form<'a>>
+fn truth_form<'a>(signature: &Signature, holds: bool, term: &'a Term) -> Option<LiteralForm<'a>>
     ensures view { option_map form_view result ≡ model.truth_form (signature_view signature.now) holds (term_view term.now) }
     ensures kinds { IsSaidOfKind (signature_view signature.now) result }
     ensures unknowns { IsSaidOf (term_variables (term_view term.now)) result }
@@ -365,7 +365,7 @@ fn truth_equality<'a>(
     holds: bool,
     left: &'a Term,
     right: &'a Term,
-) -> Option<Form<'a>>
+) -> Option<LiteralForm<'a>>
     ensures view { option_map form_view result ≡ model.same_form (signature_view signature.now) true holds (term_view left.now) (term_view right.now) }
     ensures kinds { IsSaidOfKind (signature_view signature.now) result }
     ensures unknowns { IsSaidOf (term_variables (term_view left.now) ++ term_variables (term_view right.now)) result }
@@ -380,7 +380,7 @@ fn truth_equality<'a>(
 }
 
 /// What a literal says in any clause, where it says what is decided.
-pub fn form_of<'a>(signature: &Signature, literal: &'a Literal) -> Option<Form<'a>>
+pub fn form_of<'a>(signature: &Signature, literal: &'a Literal) -> Option<LiteralForm<'a>>
     ensures view { option_map form_view result ≡ model.form_of (signature_view signature.now) (literal_view literal.now) }
     ensures kinds { IsSaidOfKind (signature_view signature.now) result }
     ensures unknowns { IsSaidOf (atom_variables (literal_view literal.now).atom) result }

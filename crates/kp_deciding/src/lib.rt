@@ -8,6 +8,6 @@ pub mod form;
 pub mod kinds;
 pub mod reading;
 
-pub use form::{AskedHeads, Form, TokenPart, WholePart, form_of};
+pub use form::{AskedHeads, LiteralForm, TokenPart, WholePart, form_of};
 pub use kinds::{has_only_numbers, has_only_tokens, has_only_truths};
 pub use reading::ReadLiteral;

@@ -1,4 +1,4 @@
-use crate::form::Form;
+use crate::form::LiteralForm;
 use kp_symbolic::Literal;
 
 /// A literal with what it says, where it is decided. `read_view` in specs/Readings.antt says which read literal of
@@ -6,5 +6,5 @@ use kp_symbolic::Literal;
 #[derive(Clone, Copy)]
 pub struct ReadLiteral<'a> {
     pub literal: &'a Literal,
-    pub form: Option<Form<'a>>,
+    pub form: Option<LiteralForm<'a>>,
 }

@@ -7,7 +7,7 @@ ghost use Rattle.kp_demands.specs.Demands.{Sizes, IsSized, MeetsBound};
 ghost use Rattle.kp_demands.specs.Known.{HasRoom};
 
 use crate::demand::Demand;
-use kp_diff::{Matrix, Outcome};
+use kp_diff::{Feasibility, Matrix};
 use std::alloc::{AllocError, Global};
 
 /// Bounds that follow from demands, and for how many more there is room in 128 bits.
@@ -68,8 +68,8 @@ fn passes(matrix: &mut Matrix, place: usize) -> bool
     ensures no { result ≡ false → (values : ℕ → ℤ) → ¬ Meets matrix.old.size (bounds_of matrix.old) values }
 {
     match matrix.pass(place) {
-        Outcome::Yes => true,
-        Outcome::No => false,
+        Feasibility::Yes => true,
+        Feasibility::No => false,
     }
 }
 

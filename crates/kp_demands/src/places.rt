@@ -7,7 +7,7 @@ ghost use Rattle.kp_demands.specs.Demands.{Sizes, IsSized, MeetsBound};
 ghost use Rattle.kp_demands.specs.Known.{Follow};
 
 use crate::demand::Demand;
-use kp_diff::{Matrix, Outcome};
+use kp_diff::{Feasibility, Matrix};
 
 /// Puts the bound that a demand asks into the matrix.
 fn take(matrix: &mut Matrix, demand: Demand)
@@ -50,7 +50,7 @@ pub fn agree(matrix: &mut Matrix, demands: &[Demand]) -> bool
 {
     fill(matrix, demands);
     match matrix.feasible() {
-        Outcome::Yes => true,
-        Outcome::No => false,
+        Feasibility::Yes => true,
+        Feasibility::No => false,
     }
 }

@@ -13,7 +13,7 @@ use Rattle.kp_ground.specs.Terms.{left_value, left_values, left_built, term_valu
 use Rattle.kp_ground.specs.LeftView.{left_view, lefts_of}
 use Rattle.kp_ground.specs.TermView.{term_view, terms_of}
 use Rattle.kp_ground.specs.View.{value_view, values_of}
-use Rattle.kp_ground.specs.declared.left.Left.{Left}
+use Rattle.kp_ground.specs.declared.left.CompiledLeft.{CompiledLeft}
 use Rattle.kp_ground.specs.declared.term.CompiledTerm.{CompiledTerm}
 use Rattle.kp_ground.specs.declared.value.Value.{Value}
 use Rattle.kp_ground.proofs.SlotLemmas.{passes_at}
@@ -54,7 +54,7 @@ pub trees_of_values : (g : KoreSignature) (us : List Value) → trees_of (map (�
 trees_of_values g [] = refl
 trees_of_values g (u ∷ us) = ap (next_tree (depths_in g (value_view u))) (trees_of_values g us)
 
-trees_of_lefts : (g : KoreSignature) (v : Valuation) (ls : List Left) → trees_of (map (λ l. depths_in g (left_value v (left_view l))) ls) ≡ all_depths_in g (left_values v (lefts_of (map left_view ls)))
+trees_of_lefts : (g : KoreSignature) (v : Valuation) (ls : List CompiledLeft) → trees_of (map (λ l. depths_in g (left_value v (left_view l))) ls) ≡ all_depths_in g (left_values v (lefts_of (map left_view ls)))
 trees_of_lefts g v [] = refl
 trees_of_lefts g v (l ∷ ls) = ap (next_tree (depths_in g (left_value v (left_view l)))) (trees_of_lefts g v ls)
 
@@ -62,7 +62,7 @@ node_inside : (m n : ℕ) (ds es : DepthTrees) → node m ds ≡ node n es → d
 node_inside m n ds es e = cc
 
 -- the parts of a constructor's depths are those of its arguments
-pub parts_of : (g : KoreSignature) (v : Valuation) (c : Text) (ls : List Left) (n : ℕ) (ds : List Depths) →
+pub parts_of : (g : KoreSignature) (v : Valuation) (c : Text) (ls : List CompiledLeft) (n : ℕ) (ds : List Depths) →
     node n (trees_of (map depths_view ds)) ≡ depths_in g (left_value v (left_built c (lefts_of (map left_view ls)))) → AreDepthsOfLefts g v ls ds
 parts_of g v c ls n ds e =
     same_trees (map depths_view ds) (map (λ l. depths_in g (left_value v (left_view l))) ls)

@@ -9,7 +9,7 @@ use Rattle.kp_kore.specs.Instance.{Valuation}
 use Rattle.kp_ground.specs.Slots.{stands_at, with_name, names_after, is_numbered, joined, left_places}
 use Rattle.kp_ground.specs.Terms.{left_value}
 use Rattle.kp_ground.specs.LeftView.{left_view}
-use Rattle.kp_ground.specs.declared.left.Left.{Left}
+use Rattle.kp_ground.specs.declared.left.CompiledLeft.{CompiledLeft}
 use Rattle.kp_ground.proofs.SlotLemmas.{first_so, second_so, with_old, with_new, places_from, no_places, numbered_both, names_both}
 use Rattle.kp_depths.specs.Depths.{depths_in}
 use Rattle.kp_depths.specs.View.{AreDepthsOf, AreDepthsUnder, AreDepthsOfLefts, depths_view}
@@ -49,16 +49,16 @@ depths_of_slot g v (y ∷ ys) x (suc i) (a ∷ ds) d u h e told stands is =
 -- ---- the arguments of a left term
 
 -- behind the first i left terms, whose variables follow these names: what is bound so far
-pub record IsBoundSoFar (g : KoreSignature) (v : Valuation) (xs : List Text) (i : ℕ) (ls : List Left) (ds : List Depths) : Type 0 where
+pub record IsBoundSoFar (g : KoreSignature) (v : Valuation) (xs : List Text) (i : ℕ) (ls : List CompiledLeft) (ds : List Depths) : Type 0 where
   pub names : List Text
   pub told : AreDepthsUnder g v names ds
   pub numbered : is_numbered names (joined (map left_places (drop i ls))) ≡ true
   pub after : names_after names (joined (map left_places (drop i ls))) ≡ names_after xs (joined (map left_places ls))
 
-pub none_so_far : (g : KoreSignature) (v : Valuation) (xs : List Text) (ls : List Left) (ds : List Depths) → AreDepthsUnder g v xs ds → is_numbered xs (joined (map left_places ls)) ≡ true → IsBoundSoFar g v xs 0 ls ds
+pub none_so_far : (g : KoreSignature) (v : Valuation) (xs : List Text) (ls : List CompiledLeft) (ds : List Depths) → AreDepthsUnder g v xs ds → is_numbered xs (joined (map left_places ls)) ≡ true → IsBoundSoFar g v xs 0 ls ds
 none_so_far g v xs ls ds told numbered = record { names = xs; told = told; numbered = numbered; after = refl }
 
-pub next_so_far : (g : KoreSignature) (v : Valuation) (xs : List Text) (i : ℕ) (ls : List Left) (parts ds more : List Depths) (l : Left) (part : Depths) →
+pub next_so_far : (g : KoreSignature) (v : Valuation) (xs : List Text) (i : ℕ) (ls : List CompiledLeft) (parts ds more : List Depths) (l : CompiledLeft) (part : Depths) →
     i < min (length ls) (length parts) → l ≡ get_or ls i l → part ≡ get_or parts i part → AreDepthsOfLefts g v ls parts →
     ((ys : List Text) → AreDepthsUnder g v ys ds → is_numbered ys (left_places l) ≡ true → AreDepthsOf g (left_value v (left_view l)) part → AreDepthsUnder g v (names_after ys (left_places l)) more) →
     IsBoundSoFar g v xs i ls ds → IsBoundSoFar g v xs (i + 1) ls more
@@ -75,7 +75,7 @@ next_so_far g v xs i ls parts ds more l part h e f are bind so =
       after = sym (names_both old (left_places l) rest) ∙ sym (ap (names_after old) from) ∙ so.after;
     }
 
-pub all_so_far : (g : KoreSignature) (v : Valuation) (xs : List Text) (i : ℕ) (ls : List Left) (parts ds : List Depths) → min (length ls) (length parts) ≤ i → AreDepthsOfLefts g v ls parts →
+pub all_so_far : (g : KoreSignature) (v : Valuation) (xs : List Text) (i : ℕ) (ls : List CompiledLeft) (parts ds : List Depths) → min (length ls) (length parts) ≤ i → AreDepthsOfLefts g v ls parts →
     IsBoundSoFar g v xs i ls ds → AreDepthsUnder g v (names_after xs (joined (map left_places ls))) ds
 all_so_far g v xs i ls parts ds h are so =
     let long : length parts ≡ length ls = as_many depths_view (λ x. depths_in g (left_value v (left_view x))) parts ls are in

@@ -8,7 +8,7 @@ use Rattle.kp_ground.specs.LeftView.{left_view}
 use Rattle.kp_ground.specs.TermView.{term_view}
 use Rattle.kp_ground.specs.Terms.{left_value, term_value}
 use Rattle.kp_ground.specs.View.{value_view}
-use Rattle.kp_ground.specs.declared.left.Left.{Left}
+use Rattle.kp_ground.specs.declared.left.CompiledLeft.{CompiledLeft}
 use Rattle.kp_ground.specs.declared.term.CompiledTerm.{CompiledTerm}
 use Rattle.kp_ground.specs.declared.value.Value.{Value}
 use Rattle.kp_depths.specs.Depths.{DepthTree, leaf, node, DepthTrees, no_trees, next_tree, depths_in}
@@ -40,7 +40,7 @@ abbrev pub AreDepthsUnder : KoreSignature → Valuation → List Text → List D
 AreDepthsUnder g v xs ds = map depths_view ds ≡ map (λ x. depths_in g (v x)) xs
 
 -- of the instances of left terms, one by one
-abbrev pub AreDepthsOfLefts : KoreSignature → Valuation → List Left → List Depths → Type 0
+abbrev pub AreDepthsOfLefts : KoreSignature → Valuation → List CompiledLeft → List Depths → Type 0
 AreDepthsOfLefts g v ls ds = map depths_view ds ≡ map (λ l. depths_in g (left_value v (left_view l))) ls
 
 -- the values are those of the terms, one by one

@@ -9,11 +9,15 @@ ghost use Rattle.kp_ground.specs.Terms.{left_value};
 ghost use Rattle.kp_depths.specs.View.{AreDepthsOf, AreDepthsUnder, AreDepthsOfLefts};
 
 use crate::depths::Depths;
-use kp_ground::Left;
+use kp_ground::CompiledLeft;
 use std::alloc::{AllocError, Global};
 
 /// The depths of what a match binds the left term's variables to, by slot, from those of the value that is matched.
-pub fn bound_depths(alloc: Global, left: &Left, depths: &Depths) -> Result<Vec<Depths>, AllocError>
+pub fn bound_depths(
+    alloc: Global,
+    left: &CompiledLeft,
+    depths: &Depths,
+) -> Result<Vec<Depths>, AllocError>
     ensures { IfOk result (λ bound. (g : KoreSignature) (v : Valuation) → is_numbered [] (left_places left.now) ≡ true → AreDepthsOf g (left_value v (left_view left.now)) depths.now → AreDepthsUnder g v (left_variables left.now) bound.items) }
 {
     bound_with(left, depths, Vec::new(alloc))
@@ -21,13 +25,17 @@ pub fn bound_depths(alloc: Global, left: &Left, depths: &Depths) -> Result<Vec<D
 
 /// The same behind what is bound so far.
 #[cycle(bound)]
-fn bound_with(left: &Left, depths: &Depths, bound: Vec<Depths>) -> Result<Vec<Depths>, AllocError>
+fn bound_with(
+    left: &CompiledLeft,
+    depths: &Depths,
+    bound: Vec<Depths>,
+) -> Result<Vec<Depths>, AllocError>
     ensures { IfOk result (λ more. (g : KoreSignature) (v : Valuation) (xs : List Text) → AreDepthsUnder g v xs bound.items → is_numbered xs (left_places left.now) ≡ true → AreDepthsOf g (left_value v (left_view left.now)) depths.now → AreDepthsUnder g v (names_after xs (left_places left.now)) more.items) }
 {
     match left {
-        Left::Variable { slot, .. } => with_slot(*slot, depths, bound),
-        Left::Fixed { .. } => Ok(bound),
-        Left::Built { arguments, .. } => match depths {
+        CompiledLeft::Variable { slot, .. } => with_slot(*slot, depths, bound),
+        CompiledLeft::Fixed { .. } => Ok(bound),
+        CompiledLeft::Built { arguments, .. } => match depths {
             Depths::One => Ok(bound),
             Depths::Built { parts, .. } => bound_with_all(arguments, parts, bound),
         },
@@ -37,7 +45,7 @@ fn bound_with(left: &Left, depths: &Depths, bound: Vec<Depths>) -> Result<Vec<De
 /// The same of lists, one by one.
 #[cycle(bound)]
 fn bound_with_all(
-    lefts: &[Left],
+    lefts: &[CompiledLeft],
     parts: &[Depths],
     mut bound: Vec<Depths>,
 ) -> Result<Vec<Depths>, AllocError>

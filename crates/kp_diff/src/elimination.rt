@@ -2,7 +2,7 @@ ghost use Rattle.std.specs.Prelude.{◌≡◌, ◌↔◌, ◌<◌, ◌≤◌, �
 ghost use Rattle.kp_diff.specs.Bounds.{Meets, narrower, summed, IsClosed, HaveBits, IsWithinWeight};
 ghost use Rattle.kp_diff.specs.Rows.{rows_of, bound_in, eliminated, IsSound, IsSquare, FitsSums, IsRowUpTo, IsRoundUpTo};
 
-use crate::matrix::Outcome;
+use crate::matrix::Feasibility;
 
 /// The narrower of a bound and a number.
 fn narrowed(bound: Option<i128>, number: i128) -> Option<i128>
@@ -102,27 +102,27 @@ fn is_sound(bound: Option<i128>) -> bool
 }
 
 /// A round over each place. No as soon as a place is bounded below zero from itself.
-pub fn close(rows: &mut [Vec<Option<i128>>], size: usize) -> Outcome
+pub fn close(rows: &mut [Vec<Option<i128>>], size: usize) -> Feasibility
     requires square { IsSquare (suc size) (rows_of rows.old) }
     requires weight { IsWithinWeight size (bound_in (rows_of rows.old)) }
     ensures long { length rows.new ≡ length rows.old }
     ensures square { IsSquare (suc size) (rows_of rows.new) }
     ensures same { (values : ℕ → ℤ) → Meets size (bound_in (rows_of rows.old)) values ↔ Meets size (bound_in (rows_of rows.new)) values }
     ensures bits { (bits : ℕ) → HaveBits bits size (bound_in (rows_of rows.old)) → HaveBits (suc (size + bits)) size (bound_in (rows_of rows.new)) }
-    ensures yes { result ≡ Outcome.Yes → IsClosed size (bound_in (rows_of rows.new)) }
-    ensures no { result ≡ Outcome.No → (values : ℕ → ℤ) → ¬ Meets size (bound_in (rows_of rows.old)) values }
+    ensures yes { result ≡ Feasibility.Yes → IsClosed size (bound_in (rows_of rows.new)) }
+    ensures no { result ≡ Feasibility.No → (values : ℕ → ℤ) → ¬ Meets size (bound_in (rows_of rows.old)) values }
 {
     for k in 0..rows.len() {
         if !is_sound(rows[k][k]) {
-            return Outcome::No;
+            return Feasibility::No;
         }
         round(rows, k);
     }
-    Outcome::Yes
+    Feasibility::Yes
 }
 
 /// A round over one place, in a matrix of so many variables. No where the place is bounded below zero from itself.
-pub fn pass_over(rows: &mut [Vec<Option<i128>>], size: usize, m: usize) -> Outcome
+pub fn pass_over(rows: &mut [Vec<Option<i128>>], size: usize, m: usize) -> Feasibility
     requires square { IsSquare (suc size) (rows_of rows.old) }
     requires place { m < length rows.old }
     requires bits { (bits : ℕ) × (bits < 127) × HaveBits bits size (bound_in (rows_of rows.old)) }
@@ -130,11 +130,11 @@ pub fn pass_over(rows: &mut [Vec<Option<i128>>], size: usize, m: usize) -> Outco
     ensures square { IsSquare (suc size) (rows_of rows.new) }
     ensures same { (values : ℕ → ℤ) → Meets size (bound_in (rows_of rows.old)) values ↔ Meets size (bound_in (rows_of rows.new)) values }
     ensures bits { (bits : ℕ) → HaveBits bits size (bound_in (rows_of rows.old)) → HaveBits (suc bits) size (bound_in (rows_of rows.new)) }
-    ensures no { result ≡ Outcome.No → (values : ℕ → ℤ) → ¬ Meets size (bound_in (rows_of rows.old)) values }
+    ensures no { result ≡ Feasibility.No → (values : ℕ → ℤ) → ¬ Meets size (bound_in (rows_of rows.old)) values }
 {
     if !is_sound(rows[m][m]) {
-        return Outcome::No;
+        return Feasibility::No;
     }
     round(rows, m);
-    Outcome::Yes
+    Feasibility::Yes
 }

@@ -10,4 +10,4 @@ mod rows;
 mod valuation;
 mod weight;
 
-pub use matrix::{Matrix, Outcome};
+pub use matrix::{Feasibility, Matrix};

@@ -10,7 +10,7 @@ use std::alloc::{AllocError, Global};
 use std::marker::Model;
 
 /// Whether some values meet all bounds.
-pub enum Outcome {
+pub enum Feasibility {
     /// The matrix holds such values.
     Yes,
     /// There are none.
@@ -88,13 +88,13 @@ impl Matrix {
     }
 
     /// Whether some values meet all bounds. Yes closes the bounds, and writes such values.
-    pub fn feasible(&mut self) -> Outcome
+    pub fn feasible(&mut self) -> Feasibility
         requires { IsWithinWeight self.old.size (bounds_of self.old) }
         ensures size { self.new.size ≡ self.old.size }
-        ensures yes { result ≡ Outcome.Yes → Meets self.old.size (bounds_of self.old) (values_of self.new) }
-        ensures closed { result ≡ Outcome.Yes → IsClosed self.old.size (bounds_of self.new) }
-        ensures kept { result ≡ Outcome.No → (i : ℕ) → values_of self.new i ≡ values_of self.old i }
-        ensures no { result ≡ Outcome.No → (values : ℕ → ℤ) → ¬ Meets self.old.size (bounds_of self.old) values }
+        ensures yes { result ≡ Feasibility.Yes → Meets self.old.size (bounds_of self.old) (values_of self.new) }
+        ensures closed { result ≡ Feasibility.Yes → IsClosed self.old.size (bounds_of self.new) }
+        ensures kept { result ≡ Feasibility.No → (i : ℕ) → values_of self.new i ≡ values_of self.old i }
+        ensures no { result ≡ Feasibility.No → (values : ℕ → ℤ) → ¬ Meets self.old.size (bounds_of self.old) values }
         ensures same { (values : ℕ → ℤ) → Meets self.old.size (bounds_of self.old) values ↔ Meets self.old.size (bounds_of self.new) values }
         ensures bits { (bits : ℕ) → HaveBits bits self.old.size (bounds_of self.old) → HaveBits (suc (self.old.size + bits)) self.old.size (bounds_of self.new) }
     {
@@ -103,13 +103,13 @@ impl Matrix {
 
     /// Puts in what bounds are gained over one place. No where the place is bounded below zero from itself, so that
     /// no values meet the bounds. To closed bounds with one more between two places it is enough to go over the two.
-    pub fn pass(&mut self, k: usize) -> Outcome
+    pub fn pass(&mut self, k: usize) -> Feasibility
         requires place { k ≤ self.old.size }
         requires bits { (bits : ℕ) × (bits < 127) × HaveBits bits self.old.size (bounds_of self.old) }
         ensures size { self.new.size ≡ self.old.size }
         ensures same { (values : ℕ → ℤ) → Meets self.old.size (bounds_of self.old) values ↔ Meets self.old.size (bounds_of self.new) values }
         ensures bits { (bits : ℕ) → HaveBits bits self.old.size (bounds_of self.old) → HaveBits (suc bits) self.old.size (bounds_of self.new) }
-        ensures no { result ≡ Outcome.No → (values : ℕ → ℤ) → ¬ Meets self.old.size (bounds_of self.old) values }
+        ensures no { result ≡ Feasibility.No → (values : ℕ → ℤ) → ¬ Meets self.old.size (bounds_of self.old) values }
     {
         pass_over(&mut self.rows, self.size, k)
     }

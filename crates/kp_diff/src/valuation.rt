@@ -4,7 +4,7 @@ ghost use Rattle.kp_diff.specs.Bounds.{Meets, IsWithin, IsClosed, HaveBits, IsWi
 ghost use Rattle.kp_diff.specs.Rows.{rows_of, bound_in, value_in, IsSquare, IsLeast};
 
 use crate::elimination::close;
-use crate::matrix::Outcome;
+use crate::matrix::Feasibility;
 
 /// The lesser of a number and a bound.
 fn lesser(least: i128, bound: Option<i128>) -> i128
@@ -53,7 +53,7 @@ pub fn write_values(rows: &[Vec<Option<i128>>], size: usize, values: &mut [i128]
 }
 
 /// Closes the bounds, and where some values meet them, writes such values.
-pub fn solve(rows: &mut [Vec<Option<i128>>], size: usize, values: &mut [i128]) -> Outcome
+pub fn solve(rows: &mut [Vec<Option<i128>>], size: usize, values: &mut [i128]) -> Feasibility
     requires square { IsSquare (suc size) (rows_of rows.old) }
     requires long { length values.old ≡ suc size }
     requires weight { IsWithinWeight size (bound_in (rows_of rows.old)) }
@@ -61,17 +61,17 @@ pub fn solve(rows: &mut [Vec<Option<i128>>], size: usize, values: &mut [i128]) -
     ensures square { IsSquare (suc size) (rows_of rows.new) }
     ensures same { (values : ℕ → ℤ) → Meets size (bound_in (rows_of rows.old)) values ↔ Meets size (bound_in (rows_of rows.new)) values }
     ensures bits { (bits : ℕ) → HaveBits bits size (bound_in (rows_of rows.old)) → HaveBits (suc (size + bits)) size (bound_in (rows_of rows.new)) }
-    ensures closed { result ≡ Outcome.Yes → IsClosed size (bound_in (rows_of rows.new)) }
-    ensures yes { result ≡ Outcome.Yes → Meets size (bound_in (rows_of rows.old)) (value_in values.new) }
-    ensures kept { result ≡ Outcome.No → values.new ≡ values.old }
-    ensures no { result ≡ Outcome.No → (values : ℕ → ℤ) → ¬ Meets size (bound_in (rows_of rows.old)) values }
+    ensures closed { result ≡ Feasibility.Yes → IsClosed size (bound_in (rows_of rows.new)) }
+    ensures yes { result ≡ Feasibility.Yes → Meets size (bound_in (rows_of rows.old)) (value_in values.new) }
+    ensures kept { result ≡ Feasibility.No → values.new ≡ values.old }
+    ensures no { result ≡ Feasibility.No → (values : ℕ → ℤ) → ¬ Meets size (bound_in (rows_of rows.old)) values }
 {
     let outcome = close(rows, size);
     match outcome {
-        Outcome::Yes => {
+        Feasibility::Yes => {
             write_values(rows, size, values);
-            Outcome::Yes
+            Feasibility::Yes
         }
-        Outcome::No => Outcome::No,
+        Feasibility::No => Feasibility::No,
     }
 }

@@ -15,7 +15,7 @@ use Rattle.kp_imports.specs.Names.{names_of}
 use Rattle.kp_modules.specs.Openings.{IsTableOf}
 use Rattle.kp_imports.specs.Reaching.{has}
 use Rattle.kp_modules.specs.Tables.{rule_set_of}
-use Rattle.kp_modules.specs.declared.table.Table.{Table}
+use Rattle.kp_modules.specs.declared.table.ModuleTable.{ModuleTable}
 use Rattle.kp_modules.proofs.Kept.{axioms_parted}
 use Rattle.kp_modules.proofs.Opened.{bound_where}
 use Rattle.kp_imports.proofs.Walking.{some_same}
@@ -65,14 +65,14 @@ axioms_further ms more m e = sym (ap rewrite_axioms e ∙ flat_map-append own_ax
 
 -- ---- names of the opening
 
-pub bound_as : (o : Opening) (t : Table) (is : IsTableOf o t) (n : Text) (b : Bool) → has n (names_of (modules_reached is.definition o.main)) ≡ b →
+pub bound_as : (o : Opening) (t : ModuleTable) (is : IsTableOf o t) (n : Text) (b : Bool) → has n (names_of (modules_reached is.definition o.main)) ≡ b →
     rules_in o.modules n ≡ cond b (Some (rewrite_axioms (modules_reached is.definition n))) None
 bound_as o t is n b e =
     ap (λ ms. rules_in ms n) is.modules
     ∙ bound_where is.definition (modules_reached is.definition o.main) n
     ∙ ap (λ c. cond c (Some (rewrite_axioms (modules_reached is.definition n))) None) e
 
-pub main_set : (o : Opening) (t : Table) (is : IsTableOf o t) → IsSetOf o.signature (rewrite_axioms (modules_reached is.definition o.main)) (rule_set_of t)
+pub main_set : (o : Opening) (t : ModuleTable) (is : IsTableOf o t) → IsSetOf o.signature (rewrite_axioms (modules_reached is.definition o.main)) (rule_set_of t)
 main_set o t is = by (has o.main (names_of (modules_reached is.definition o.main))) refl
   where
     all : List NumberedAxiom

@@ -21,7 +21,7 @@ ghost use Rattle.kp_extensions.specs.declared.extend_error.ExtendError.TheVarian
 use crate::extend_error::ExtendError;
 use crate::joined::joined;
 use kp_kore::{Module, Name, Pattern, Sentence};
-use kp_modules::Table;
+use kp_modules::ModuleTable;
 use kp_modules::axioms::{RewriteAxiom, axioms_in};
 use kp_modules::labels::source_of;
 use kp_rule_reading::{RuleError, read_rule};
@@ -36,7 +36,7 @@ use std::sync::Arc;
 /// own. M6 of the first of its axioms that has it, else M7.
 pub fn extend(
     alloc: Global,
-    table: &Table,
+    table: &ModuleTable,
     imports: &[Arc<RuleSet>],
     id: &str,
     added: &Module,

@@ -12,7 +12,7 @@ ghost use Rattle.kp_extensions.specs.Extending.{AreTakenFrom};
 ghost use Rattle.kp_extensions.specs.OwnSets.{MeansRules};
 
 use crate::joined::{add_own, called};
-use kp_modules::Table;
+use kp_modules::ModuleTable;
 use kp_rule_sets::RuleSet;
 use kp_rules::Rule;
 use std::alloc::{AllocError, Global};
@@ -22,7 +22,7 @@ use std::sync::Arc;
 /// another name. Main's takes no memory.
 pub fn rules_of(
     alloc: Global,
-    table: &Table,
+    table: &ModuleTable,
     name: &str,
 ) -> Result<Option<Arc<RuleSet>>, AllocError>
     ensures { (o : Opening) → IsTableOf o table.now → IfOk result (MeansRules o name.now) }
@@ -37,7 +37,7 @@ pub fn rules_of(
 }
 
 /// The rule set of the modules at these places.
-fn set_at(alloc: Global, table: &Table, places: &[usize]) -> Result<Arc<RuleSet>, AllocError>
+fn set_at(alloc: Global, table: &ModuleTable, places: &[usize]) -> Result<Arc<RuleSet>, AllocError>
     ensures { (g : KoreSignature) (d : KoreDefinition) (main : Text) (ms : List KoreModule) → KeepsReached d main table.now → IsSetOf g (rewrite_axioms (modules_reached d main)) (rule_set_of table.now) →
         map (slice_get (modules_reached d main)) places.now ≡ map Some ms → IfOk result (λ rules. IsSetOf g (rewrite_axioms ms) rules.value) }
 {
@@ -48,7 +48,7 @@ fn set_at(alloc: Global, table: &Table, places: &[usize]) -> Result<Arc<RuleSet>
 /// The rules of the modules at these places.
 fn rules_at<'a>(
     alloc: Global,
-    table: &'a Table,
+    table: &'a ModuleTable,
     places: &[usize],
 ) -> Result<Vec<&'a Rule>, AllocError>
     ensures { (g : KoreSignature) (d : KoreDefinition) (main : Text) (ms : List KoreModule) → KeepsReached d main table.now → IsSetOf g (rewrite_axioms (modules_reached d main)) (rule_set_of table.now) →
@@ -62,7 +62,11 @@ fn rules_at<'a>(
 }
 
 /// Adds the rules of the module at this place.
-fn add_at<'a>(found: &mut Vec<&'a Rule>, table: &'a Table, place: usize) -> Result<(), AllocError>
+fn add_at<'a>(
+    found: &mut Vec<&'a Rule>,
+    table: &'a ModuleTable,
+    place: usize,
+) -> Result<(), AllocError>
     ensures { (g : KoreSignature) (d : KoreDefinition) (main : Text) (m : KoreModule) (before : List NumberedAxiom) → KeepsReached d main table.now → IsSetOf g (rewrite_axioms (modules_reached d main)) (rule_set_of table.now) →
         slice_get (modules_reached d main) place ≡ Some m → AreTakenFrom g before found.old.items → OnOk result (AreTakenFrom g (before ++ own_axioms m) found.new.items) }
 {

@@ -9,7 +9,7 @@ use Rattle.kp_symbolic.proofs.Distribution.{all_first}
 use Rattle.kp_rules.specs.Skeletons.{Form, skeleton_view}
 use Rattle.kp_rules.specs.LeftSides.{IsLeftSide, IsOverLeft}
 use Rattle.kp_rules.specs.Sides.{AreSidesOf}
-use Rattle.kp_rules.specs.declared.sides.Sides.{Sides}
+use Rattle.kp_rules.specs.declared.sides.ReadSides.{ReadSides}
 use Rattle.kp_symbolic.specs.View.{clauses_view, replaced_view}
 use Rattle.kp_cases.specs.Parts.{StatePart}
 use Rattle.kp_unify.specs.Narrowed.{NumberedPart}
@@ -56,7 +56,7 @@ fires_so g used r form p f met side over ready condition =
     }
 
 -- as the code makes it of what was met
-pub made_fires : (g : KoreSignature) (used : List Text) (r : Rewrite) (s : Sides) (p : StatePart) (m : Meeting) (f : Firing) → IsMetRight g used (skeleton_view s.left) p (met_view m.met) m.met.part.next (numbered m.apart.items) → AreSidesOf g r s → IsReadyRule g r (skeleton_view s.left) →
+pub made_fires : (g : KoreSignature) (used : List Text) (r : Rewrite) (s : ReadSides) (p : StatePart) (m : Meeting) (f : Firing) → IsMetRight g used (skeleton_view s.left) p (met_view m.met) m.met.part.next (numbered m.apart.items) → AreSidesOf g r s → IsReadyRule g r (skeleton_view s.left) →
     clauses_view f.condition.items ≡ condition_clauses g (met_view m.met).bindings (map view s.condition.items) → f.part ≡ m.met.part → f.equations ≡ m.met.equations → f.bindings ≡ m.met.bindings → f.apart ≡ m.apart → FiresOn g used r (skeleton_view s.left) p f
 made_fires g used r s p m f met sides ready condition part equations bindings apart =
     let form = skeleton_view s.left in

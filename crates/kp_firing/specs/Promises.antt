@@ -13,7 +13,7 @@ use Rattle.kp_symbolic.specs.WellFormed.{AreWellPlaced}
 use Rattle.kp_rules.specs.Sides.{AreSidesOf}
 use Rattle.kp_rules.specs.VerifiedSides.{AreVerifiedSides}
 use Rattle.kp_rules.specs.Skeletons.{skeleton_view}
-use Rattle.kp_rules.specs.declared.sides.Sides.{Sides}
+use Rattle.kp_rules.specs.declared.sides.ReadSides.{ReadSides}
 use Rattle.kp_cases.specs.Parts.{StatePart}
 use Rattle.kp_cases.specs.Courses.{IsBoundTo}
 use Rattle.kp_turns.specs.Firing.{FiresNowhere}
@@ -37,13 +37,13 @@ abbrev pub ArePlacedIf : Bool → KoreSignature → List Replaced → List Sorte
 ArePlacedIf b g bindings xs = (p : StatePart) → IsTrue b → AllByRecursion (IsBoundTo g p bindings) xs → AreWellPlaced g bindings xs
 
 -- of each verified rule of these sides, where it can be tried on the part
-abbrev pub WhereReady : Setting → Part → Sides → (List Text → Rewrite → Type 0) → Type 0
+abbrev pub WhereReady : Setting → Part → ReadSides → (List Text → Rewrite → Type 0) → Type 0
 WhereReady setting part sides Told =
     (used : List Text) (m : Rewrite) → let g = signature_of setting in
     IsSetting used setting → AreSidesOf g m sides → AreVerifiedSides g m → IsReadyPart g used (numbered_view part) → Told used m
 
 -- the rule fires so on the part, or its left side doesn't meet it
-abbrev pub FiresOnPart : {E : Type 0} → Setting → Part → Sides → Result (Option Firing) E → Type 0
+abbrev pub FiresOnPart : {E : Type 0} → Setting → Part → ReadSides → Result (Option Firing) E → Type 0
 FiresOnPart setting part sides result = WhereReady setting part sides (λ used m. IfOk result (IsFired (signature_of setting) used m (skeleton_view sides.left) (part_view part)))
 
 -- ---- where it doesn't fire
@@ -80,5 +80,5 @@ ExcludesFiringOn g part f result =
     (used : List Text) (body : RuleBody) → let q = numbered_view part in IsReadyPart g used q → IsFiring g used body q.part f → IfOk result (AreExcluded g used body q.part)
 
 -- the parts of the part where the rule doesn't fire
-abbrev pub ExcludesRule : {E : Type 0} → Setting → Part → Sides → Result (Vec Part Global) E → Type 0
+abbrev pub ExcludesRule : {E : Type 0} → Setting → Part → ReadSides → Result (Vec Part Global) E → Type 0
 ExcludesRule setting part sides result = WhereReady setting part sides (λ used m. IfOk result (AreExcluded (signature_of setting) used (rewrite m) (part_view part)))

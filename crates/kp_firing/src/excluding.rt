@@ -10,7 +10,7 @@ use crate::firing::{Firing, all_clauses, fire};
 use crate::negate::negate;
 use crate::parts::{constrained, is_empty, plain_part};
 use kp_compile::CompileError;
-use kp_rules::Sides;
+use kp_rules::ReadSides;
 use kp_solving::constrain;
 use kp_unify::{Part, Setting};
 use std::alloc::{AllocError, Global};
@@ -125,7 +125,7 @@ pub fn exclude(
     alloc: Global,
     setting: &Setting<'_>,
     part: &Part,
-    sides: &Sides,
+    sides: &ReadSides,
 ) -> Result<Vec<Part>, CompileError>
     requires heads { HasItsTable setting.now }
     ensures { ExcludesRule setting.now part.now sides.now result }

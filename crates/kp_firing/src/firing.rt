@@ -13,7 +13,7 @@ use crate::placed::are_placed;
 use kp_clauses::clauses_of_all;
 use kp_compile::CompileError;
 use kp_kore::Pattern;
-use kp_rules::Sides;
+use kp_rules::ReadSides;
 use kp_symbolic::{Clause, Language, Replaced};
 use kp_unify::put::behind;
 use kp_unify::{Meeting, MetPart, Part, Setting, meet};
@@ -52,7 +52,7 @@ pub fn lent<'a>(alloc: Global, patterns: &'a [Pattern]) -> Result<Vec<&'a Patter
 fn condition_of(
     alloc: Global,
     language: &Language,
-    sides: &Sides,
+    sides: &ReadSides,
     bindings: &[Replaced],
 ) -> Result<Vec<Clause>, CompileError>
     ensures { IfOk result (λ cs. clauses_view cs.items ≡ condition_clauses (language_view language.now) (map replaced_view bindings.now) (map view sides.now.condition.items)) }
@@ -91,7 +91,7 @@ pub fn fire(
     alloc: Global,
     setting: &Setting<'_>,
     part: &Part,
-    sides: &Sides,
+    sides: &ReadSides,
 ) -> Result<Option<Firing>, CompileError>
     requires heads { HasItsTable setting.now }
     ensures { FiresOnPart setting.now part.now sides.now result }

@@ -14,7 +14,7 @@ use Rattle.kp_kore.specs.Value.{constructed, Values, next_value}
 use Rattle.kp_ground.specs.Terms.{left_value, left_values, left_built}
 use Rattle.kp_ground.specs.LeftView.{left_view, lefts_of}
 use Rattle.kp_ground.specs.View.{value_view, values_of}
-use Rattle.kp_ground.specs.declared.left.Left.{Left}
+use Rattle.kp_ground.specs.declared.left.CompiledLeft.{CompiledLeft}
 use Rattle.kp_ground.specs.declared.value.Value.{Value}
 use Rattle.kp_ground.proofs.ValueLists.{same_values}
 use Rattle.kp_ground.specs.Matches.{Matches, IsSolvable, StaysSolvable, IsSame, AreSame}
@@ -93,7 +93,7 @@ matches_same (Some new) old Same Same' e m = λ v. (
 
 -- ---- constructors
 
-pub left_values-lefts_of : (v : Valuation) (ts : List Left) → left_values v (lefts_of (map left_view ts)) ≡ values_of (map (λ t. left_value v (left_view t)) ts)
+pub left_values-lefts_of : (v : Valuation) (ts : List CompiledLeft) → left_values v (lefts_of (map left_view ts)) ≡ values_of (map (λ t. left_value v (left_view t)) ts)
 left_values-lefts_of v [] = refl
 left_values-lefts_of v (t ∷ ts) = ap (next_value (left_value v (left_view t))) (left_values-lefts_of v ts)
 
@@ -101,7 +101,7 @@ constructed_inside : (c d : Text) (us vs : Values) → constructed c us ≡ cons
 constructed_inside c d us vs e = cc
 
 -- the same constructor, and arguments one by one
-pub same_arguments : (c d : Text) (ts : List Left) (us : List Value) → c ≡ d → (v : Valuation) → AreSame ts us v ↔ IsSame (left_built c (lefts_of (map left_view ts))) (constructed d (values_of (map value_view us))) v
+pub same_arguments : (c d : Text) (ts : List CompiledLeft) (us : List Value) → c ≡ d → (v : Valuation) → AreSame ts us v ↔ IsSame (left_built c (lefts_of (map left_view ts))) (constructed d (values_of (map value_view us))) v
 same_arguments c d ts us e v = (
   (λ s. ap₂ constructed e (left_values-lefts_of v ts ∙ ap values_of s)),
   (λ s. same_values _ _ (sym (left_values-lefts_of v ts) ∙ constructed_inside c d _ _ s)),

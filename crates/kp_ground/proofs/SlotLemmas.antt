@@ -12,7 +12,7 @@ use Rattle.kp_ground.specs.Slots.{Place, is_one_of, stands_at, with_name, names_
 use Rattle.kp_ground.specs.Solves.{Solves, bound_names}
 use Rattle.kp_ground.specs.View.{value_view}
 use Rattle.kp_ground.specs.declared.binding.Binding.{Binding}
-use Rattle.kp_ground.specs.declared.left.Left.{Left}
+use Rattle.kp_ground.specs.declared.left.CompiledLeft.{CompiledLeft}
 
 pub first_so : (b c : Bool) → b && c ≡ true → b ≡ true
 first_so true c h = refl
@@ -128,16 +128,16 @@ pub names_both : (xs : List Text) (ps qs : List Place) → names_after xs (ps ++
 names_both xs [] qs = refl
 names_both xs (p ∷ ps) qs = names_both (with_name xs p.name) ps qs
 
-places_at : (ts : List Left) (i : ℕ) (d : Left) → i < length ts → joined (map left_places (drop i ts)) ≡ left_places (get_or ts i d) ++ joined (map left_places (drop (suc i) ts))
+places_at : (ts : List CompiledLeft) (i : ℕ) (d : CompiledLeft) → i < length ts → joined (map left_places (drop i ts)) ≡ left_places (get_or ts i d) ++ joined (map left_places (drop (suc i) ts))
 places_at [] i d h = absurd (omega arith)
 places_at (t ∷ ts) zero d h = refl
 places_at (t ∷ ts) (suc i) d h = places_at ts i d (omega arith)
 
 -- the places of the left terms from one on: its own, and those of the rest
-pub places_from : (ts : List Left) (i : ℕ) (t : Left) → i < length ts → t ≡ get_or ts i t → joined (map left_places (drop i ts)) ≡ left_places t ++ joined (map left_places (drop (i + 1) ts))
+pub places_from : (ts : List CompiledLeft) (i : ℕ) (t : CompiledLeft) → i < length ts → t ≡ get_or ts i t → joined (map left_places (drop i ts)) ≡ left_places t ++ joined (map left_places (drop (i + 1) ts))
 places_from ts i t h is = rw add-one (places_at ts i t h ∙ ap (λ s. left_places s ++ joined (map left_places (drop (suc i) ts))) (sym is))
 
-pub no_places : (ts : List Left) (i : ℕ) → length ts ≤ i → joined (map left_places (drop i ts)) ≡ []
+pub no_places : (ts : List CompiledLeft) (i : ℕ) → length ts ≤ i → joined (map left_places (drop i ts)) ≡ []
 no_places [] zero h = refl
 no_places [] (suc i) h = refl
 no_places (t ∷ ts) zero h = absurd (omega arith)

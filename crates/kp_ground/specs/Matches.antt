@@ -10,7 +10,7 @@ use Rattle.kp_ground.specs.View.{value_view}
 use Rattle.kp_ground.specs.Slots.{Place, names_after}
 use Rattle.kp_ground.specs.Solves.{Solves, bound_names}
 use Rattle.kp_ground.specs.declared.binding.Binding.{Binding}
-use Rattle.kp_ground.specs.declared.left.Left.{Left}
+use Rattle.kp_ground.specs.declared.left.CompiledLeft.{CompiledLeft}
 use Rattle.kp_ground.specs.declared.value.Value.{Value}
 
 abbrev pub Matches : {E : Type 0} → Result (Option (Vec Binding Global)) E → List Binding → (Valuation → Type 0) → Type 0
@@ -39,5 +39,5 @@ abbrev pub IsSame : LeftTerm → model.Value → Valuation → Type 0
 IsSame t u v = left_value v t ≡ u
 
 -- the same of lists, one by one
-abbrev pub AreSame : List Left → List Value → Valuation → Type 0
+abbrev pub AreSame : List CompiledLeft → List Value → Valuation → Type 0
 AreSame ts us v = map (λ t. left_value v (left_view t)) ts ≡ map value_view us

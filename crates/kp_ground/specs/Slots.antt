@@ -4,8 +4,8 @@ use Rattle.std.specs.Prelude.{Bool, true, false, ◌&&◌, if◌then◌else◌, 
 use Rattle.std.specs.List.{list_all, list_any}
 use Rattle.std.specs.Str.{bytes_eq}
 use Rattle.kp_kore.specs.Syntax.{Text}
-use Rattle.kp_ground.specs.declared.left.Left.{Left, fold-Left}
-use Rattle.kp_ground.specs.declared.left.Left.TheOpen.{Left-F}
+use Rattle.kp_ground.specs.declared.left.CompiledLeft.{CompiledLeft, fold-CompiledLeft}
+use Rattle.kp_ground.specs.declared.left.CompiledLeft.TheOpen.{CompiledLeft-F}
 use Rattle.kp_ground.specs.declared.term.CompiledTerm.{CompiledTerm, fold-CompiledTerm}
 use Rattle.kp_ground.specs.declared.term.CompiledTerm.TheOpen.{CompiledTerm-F}
 use Rattle.kp_ground.specs.declared.condition.Condition.{Condition, fold-Condition}
@@ -47,17 +47,17 @@ joined [] = []
 joined (ps ∷ pss) = ps ++ joined pss
 
 -- one level, with the places of each argument already at hand
-abbrev pub left_places_step : Left-F (List Place) → List Place
-left_places_step (Left-F.Variable x i) = record { name = string_bytes x.value; slot = i } ∷ []
-left_places_step (Left-F.Fixed u) = []
-left_places_step (Left-F.Built c ts) = joined ts.items
+abbrev pub left_places_step : CompiledLeft-F (List Place) → List Place
+left_places_step (CompiledLeft-F.Variable x i) = record { name = string_bytes x.value; slot = i } ∷ []
+left_places_step (CompiledLeft-F.Fixed u) = []
+left_places_step (CompiledLeft-F.Built c ts) = joined ts.items
 
 -- the places of a left term's variables, from the left
-abbrev pub left_places : Left → List Place
-left_places = fold-Left (List Place) left_places_step
+abbrev pub left_places : CompiledLeft → List Place
+left_places = fold-CompiledLeft (List Place) left_places_step
 
 -- the names of a left term's variables, each once, in the order of first places
-abbrev pub left_variables : Left → List Text
+abbrev pub left_variables : CompiledLeft → List Text
 left_variables l = names_after [] (left_places l)
 
 -- ---- terms and conditions

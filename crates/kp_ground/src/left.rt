@@ -3,7 +3,7 @@ use std::sync::Arc;
 
 /// A left term of a rule. `left_view` in specs/LeftView.antt says which left term of specs/Terms.antt it is.
 #[derive(Drop)]
-pub enum Left {
+pub enum CompiledLeft {
     /// The first place of a variable takes the next slot, the others tell that of the first.
     Variable {
         name: Arc<String>,
@@ -15,6 +15,6 @@ pub enum Left {
     },
     Built {
         constructor: Arc<String>,
-        arguments: Vec<Left>,
+        arguments: Vec<CompiledLeft>,
     },
 }

@@ -17,6 +17,6 @@ pub mod value;
 pub use binding::Binding;
 pub use condition::Condition;
 pub use evaluate::EvaluationError;
-pub use left::Left;
+pub use left::CompiledLeft;
 pub use term::CompiledTerm;
 pub use value::Value;

@@ -9,7 +9,7 @@ ghost use Rattle.kp_ground.specs.LeftView.{left_view};
 ghost use Rattle.kp_ground.specs.View.{value_view};
 
 use crate::binding::{Binding, bound_at};
-use crate::left::Left;
+use crate::left::CompiledLeft;
 use crate::value::Value;
 use std::alloc::{AllocError, Global};
 use std::sync::Arc;
@@ -84,7 +84,7 @@ fn match_variable(
     Ok(Some(with_binding(alloc, name, value, bindings)?))
 }
 
-impl Left {
+impl CompiledLeft {
     /// The bindings under which the left term's instance is the value, from those so far; None where there are none.
     #[cycle(matching)]
     pub fn match_value(
@@ -99,11 +99,11 @@ impl Left {
         ensures names { BindsNames result bindings.items (left_places self.now) }
     {
         match self {
-            Left::Variable { name, slot } => {
+            CompiledLeft::Variable { name, slot } => {
                 Ok(match_variable(alloc, name, *slot, value, bindings)?)
             }
-            Left::Fixed { value: fixed } => Ok(keep_if_equal(fixed, value, bindings)),
-            Left::Built {
+            CompiledLeft::Fixed { value: fixed } => Ok(keep_if_equal(fixed, value, bindings)),
+            CompiledLeft::Built {
                 constructor,
                 arguments,
             } => match value {
@@ -112,7 +112,7 @@ impl Left {
                     arguments: values,
                 } => {
                     if same_name(constructor, found) {
-                        Ok(Left::match_all(alloc, arguments, values, bindings)?)
+                        Ok(CompiledLeft::match_all(alloc, arguments, values, bindings)?)
                     } else {
                         Ok(None)
                     }
@@ -126,7 +126,7 @@ impl Left {
     #[cycle(matching)]
     fn match_all(
         alloc: Global,
-        lefts: &[Left],
+        lefts: &[CompiledLeft],
         values: &[Value],
         mut bindings: Vec<Binding>,
     ) -> Result<Option<Vec<Binding>>, AllocError>

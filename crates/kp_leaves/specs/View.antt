@@ -5,12 +5,12 @@ use Rattle.kp_kore.specs.Signature as model
 use Rattle.kp_kore.specs.View.{view, sort_view}
 use Rattle.kp_symbolic.specs.Opening as opening
 use Rattle.kp_symbolic.specs.View.{test_view}
-use Rattle.kp_leaves.specs.declared.head.Head.{Head}
-use Rattle.kp_leaves.specs.declared.head.Head.TheVariants.{Integers, Booleans, Tokens, Constructor}
+use Rattle.kp_leaves.specs.declared.head.LeafHead.{LeafHead}
+use Rattle.kp_leaves.specs.declared.head.LeafHead.TheVariants.{Integers, Booleans, Tokens, Constructor}
 use Rattle.kp_leaves.specs.declared.bound.BoundVariable.{BoundVariable}
 use Rattle.kp_leaves.specs.declared.question.HeadQuestion.{HeadQuestion}
 
-abbrev pub head_view : Head → model.Head
+abbrev pub head_view : LeafHead → model.Head
 head_view Integers = model.integers
 head_view Booleans = model.booleans
 head_view (Tokens s) = model.tokens (sort_view s.now)

@@ -20,7 +20,7 @@ use std::alloc::{AllocError, Global};
 
 /// The head of a value. `head_view` in specs/View.antt says which one it is.
 #[derive(Clone, Copy)]
-pub enum Head<'a> {
+pub enum LeafHead<'a> {
     Integers,
     Booleans,
     /// Texts of this sort.
@@ -29,14 +29,14 @@ pub enum Head<'a> {
 }
 
 /// The head of a value.
-pub fn head_of<'a>(value: &'a Value) -> Head<'a>
+pub fn head_of<'a>(value: &'a Value) -> LeafHead<'a>
     ensures { head_view result ≡ head_of_value (value_view value.now) }
 {
     match value {
-        Value::Whole { .. } => Head::Integers,
-        Value::Truth { .. } => Head::Booleans,
-        Value::Token { sort, .. } => Head::Tokens { sort },
-        Value::Constructed { constructor, .. } => Head::Constructor {
+        Value::Whole { .. } => LeafHead::Integers,
+        Value::Truth { .. } => LeafHead::Booleans,
+        Value::Token { sort, .. } => LeafHead::Tokens { sort },
+        Value::Constructed { constructor, .. } => LeafHead::Constructor {
             symbol: constructor,
         },
     }
@@ -123,27 +123,27 @@ pub fn is_head(
     alloc: Global,
     signature: &Signature,
     sort: &Sort,
-    head: Head<'_>,
+    head: LeafHead<'_>,
 ) -> Result<bool, AllocError>
     ensures { IfOk result (λ b. b ≡ head_test (signature_view signature.now) (sort_view sort.now) (head_view head.entry)) }
 {
     match head {
-        Head::Integers => is_named_below(alloc, signature, signature.integer_sort(), sort),
-        Head::Booleans => is_named_below(alloc, signature, signature.boolean_sort(), sort),
-        Head::Tokens { sort: own } => Ok(are_tokens_below(signature, own, sort)),
-        Head::Constructor { symbol } => {
+        LeafHead::Integers => is_named_below(alloc, signature, signature.integer_sort(), sort),
+        LeafHead::Booleans => is_named_below(alloc, signature, signature.boolean_sort(), sort),
+        LeafHead::Tokens { sort: own } => Ok(are_tokens_below(signature, own, sort)),
+        LeafHead::Constructor { symbol } => {
             Ok(is_below_if(signature, sort_made(signature, symbol), sort))
         }
     }
 }
 
 /// Whether it is the head of this constructor.
-fn is_head_of(symbol: &str, head: Head<'_>) -> bool
+fn is_head_of(symbol: &str, head: LeafHead<'_>) -> bool
     ensures { result ≡ is_constructor_head symbol.now (head_view head.entry) }
 {
     match head {
-        Head::Constructor { symbol: other } => other == symbol,
-        Head::Integers | Head::Booleans | Head::Tokens { .. } => false,
+        LeafHead::Constructor { symbol: other } => other == symbol,
+        LeafHead::Integers | LeafHead::Booleans | LeafHead::Tokens { .. } => false,
     }
 }
 
@@ -152,7 +152,7 @@ pub fn passes_head(
     alloc: Global,
     signature: &Signature,
     test: &HeadTest,
-    head: Head<'_>,
+    head: LeafHead<'_>,
 ) -> Result<bool, AllocError>
     ensures { IfOk result (λ b. b ≡ passes_test (signature_view signature.now) (test_view test.now) (head_view head.entry)) }
 {

@@ -18,7 +18,7 @@ ghost use Rattle.kp_opening.specs.View.{formula_view};
 ghost use Rattle.kp_leaves.specs.Answers.{agrees as agrees_with, all_agree as all_agree_with};
 ghost use Rattle.kp_leaves.specs.View.{head_view};
 
-use crate::head::{Head, head_of, is_head, passes_head};
+use crate::head::{LeafHead, head_of, is_head, passes_head};
 use kp_kore::{Hook, Sort, SymbolSentence};
 use kp_opening::Formula;
 use kp_opening::formula::{kept_fact, make_fixed};
@@ -35,7 +35,7 @@ fn agrees(
     sort: &Sort,
     test: &HeadTest,
     wanted: bool,
-    head: Head<'_>,
+    head: LeafHead<'_>,
 ) -> Result<bool, AllocError>
     ensures { IfOk result (λ b. b ≡ agrees_with (signature_view signature.now) (sort_view sort.now) (test_view test.now) wanted (head_view head.entry)) }
 {
@@ -58,7 +58,7 @@ fn lower_agree(
     ensures { IfOk result (λ b. b ≡ all_agree_with (signature_view signature.now) (sort_view sort.now) (test_view test.now) wanted (map tokens (map (λ p. p.0) (map subsort_view pairs.now)))) }
 {
     for pair in pairs {
-        let head = Head::Tokens { sort: &pair.lower };
+        let head = LeafHead::Tokens { sort: &pair.lower };
         if !agrees(alloc, signature, sort, test, wanted, head)? {
             return Ok(false);
         }
@@ -78,7 +78,7 @@ fn symbols_agree(
     ensures { IfOk result (λ b. b ≡ all_agree_with (signature_view signature.now) (sort_view sort.now) (test_view test.now) wanted (map (λ d. constructor_of d.name) (map symbol_sentence_view symbols.now))) }
 {
     for symbol in symbols {
-        let head = Head::Constructor {
+        let head = LeafHead::Constructor {
             symbol: &symbol.name,
         };
         if !agrees(alloc, signature, sort, test, wanted, head)? {
@@ -98,13 +98,20 @@ fn first_agree(
 ) -> Result<bool, AllocError>
     ensures { let sort' = sort_view sort.now in IfOk result (λ b. b ≡ all_agree_with (signature_view signature.now) sort' (test_view test.now) wanted (head.integers ∷ head.booleans ∷ tokens sort' ∷ [])) }
 {
-    if !agrees(alloc, signature, sort, test, wanted, Head::Integers)? {
+    if !agrees(alloc, signature, sort, test, wanted, LeafHead::Integers)? {
         return Ok(false);
     }
-    if !agrees(alloc, signature, sort, test, wanted, Head::Booleans)? {
+    if !agrees(alloc, signature, sort, test, wanted, LeafHead::Booleans)? {
         return Ok(false);
     }
-    agrees(alloc, signature, sort, test, wanted, Head::Tokens { sort })
+    agrees(
+        alloc,
+        signature,
+        sort,
+        test,
+        wanted,
+        LeafHead::Tokens { sort },
+    )
 }
 
 /// Whether each head of the sort passes the test, or none does, as asked.
@@ -181,7 +188,7 @@ fn open_head(
     signature: &Signature,
     sign: bool,
     test: &HeadTest,
-    head: Head<'_>,
+    head: LeafHead<'_>,
 ) -> Result<Formula, AllocError>
     ensures { IfOk result (λ f. formula_view f ≡ model.fixed (beq (passes_test (signature_view signature.now) (test_view test.now) (head_view head.entry)) sign)) }
 {
@@ -190,12 +197,13 @@ fn open_head(
 }
 
 /// The head of a call's values.
-fn head_of_call<'a>(hook: Hook) -> Head<'a>
+fn head_of_call<'a>(hook: Hook) -> LeafHead<'a>
     ensures { head_view result ≡ model.head_of_call (hook_view hook) }
 {
     match hook {
-        Hook::Arithmetic(_) => Head::Integers,
-        Hook::Comparison(_) | Hook::Connective(_) | Hook::Equal | Hook::Different => Head::Booleans,
+        Hook::Arithmetic(_) => LeafHead::Integers,
+        Hook::Comparison(_) | Hook::Connective(_) | Hook::Equal | Hook::Different =>
+            LeafHead::Booleans,
     }
 }
 
@@ -216,14 +224,14 @@ fn open_applied(
             signature,
             sign,
             test,
-            Head::Constructor { symbol },
+            LeafHead::Constructor { symbol },
         ),
         Meaning::Interpreted(Function::Negation) => open_head(
             alloc,
             signature,
             sign,
             test,
-            Head::Booleans,
+            LeafHead::Booleans,
         ),
         Meaning::Interpreted(Function::Two(hook)) => open_head(
             alloc,
@@ -249,7 +257,7 @@ pub fn open_test(
 {
     match term {
         Term::Unknown { variable } => open_variable(alloc, signature, sign, variable, test),
-        Term::Offset { .. } => open_head(alloc, signature, sign, test, Head::Integers),
+        Term::Offset { .. } => open_head(alloc, signature, sign, test, LeafHead::Integers),
         Term::Known { value } => open_head(alloc, signature, sign, test, head_of(value)),
         Term::Headed { symbol, .. } => open_applied(alloc, signature, sign, test, kept, symbol),
     }

@@ -21,12 +21,12 @@ use Rattle.kp_imports.specs.Reaching.{has}
 use Rattle.kp_imports.specs.Walks.{IsLaidOut, IsOver}
 use Rattle.kp_imports.specs.declared.fault.LoadError.{LoadError}
 use Rattle.kp_modules.specs.declared.outlines.RuleSpan.{RuleSpan}
-use Rattle.kp_modules.specs.declared.table.Table.{Table}
+use Rattle.kp_modules.specs.declared.table.ModuleTable.{ModuleTable}
 use Rattle.kp_imports.proofs.Collect.{false_true, or_true}
 use Rattle.kp_modules.proofs.Outlined.{names_named, same_names, no_fault_kept, stands_at}
 use Rattle.kp_imports.proofs.Walking.{bool_not, some_same}
 
-pub kept : (d : KoreDefinition) (main : Text) (t : Table) (ms ks : List (Bor Module)) → map (λ m. module_view m.now) ms ≡ modules_reached d main → map (λ m. module_view m.now) ks ≡ modules_reached d main →
+pub kept : (d : KoreDefinition) (main : Text) (t : ModuleTable) (ms ks : List (Bor Module)) → map (λ m. module_view m.now) ms ≡ modules_reached d main → map (λ m. module_view m.now) ks ≡ modules_reached d main →
     IsLaidOut d.modules (names_reached (length d.modules) d.modules main) → map (λ m. outline (module_view m)) t.modules.items ≡ map (λ m. outline (module_view m.now)) ms →
     map span_view t.spans.items ≡ spans_from 0 (map (λ m. module_view m.now) ks) → KeepsReached d main t
 kept d main t ms ks outlined spanned laid outlines spans = record {
@@ -56,16 +56,16 @@ not_at (m ∷ ms) n h = by (bytes_eq m n) refl (first_place n ms) refl (λ e. no
     by false e None f again k =
         ap (λ b. b || has n ms) (bool_not (bytes_eq n m) (λ q. false_true (sym e ∙ (bytes_eq-Decides m n).1 (sym ((bytes_eq-Decides n m).0 q))))) ∙ again f
 
-kept_names : (d : KoreDefinition) (main : Text) (t : Table) → KeepsReached d main t → module_names t.modules.items ≡ names_of (modules_reached d main)
+kept_names : (d : KoreDefinition) (main : Text) (t : ModuleTable) → KeepsReached d main t → module_names t.modules.items ≡ names_of (modules_reached d main)
 kept_names d main t keeps =
     let names = names_reached (length d.modules) d.modules main in
     same_names d.modules names keeps.laid_out (map module_view t.modules.items) keeps.outlines ∙ sym (names_named d.modules names keeps.laid_out.named)
 
-pub not_reached : (d : KoreDefinition) (main name : Text) (t : Table) (rows : List Module) → KeepsReached d main t → rows ≡ t.modules.items → first_place name (module_names rows) ≡ None → has name (names_of (modules_reached d main)) ≡ false
+pub not_reached : (d : KoreDefinition) (main name : Text) (t : ModuleTable) (rows : List Module) → KeepsReached d main t → rows ≡ t.modules.items → first_place name (module_names rows) ≡ None → has name (names_of (modules_reached d main)) ≡ false
 not_reached d main name t rows keeps is e = ap (has name) (sym (ap module_names is ∙ kept_names d main t keeps)) ∙ not_at (module_names rows) name e
 
 -- the walk over the outlines
-pub walked : (d : KoreDefinition) (main name : Text) (t : Table) (rows : List Module) (place : ℕ) (r : Result (Option (Vec ℕ Global)) AllocError) → KeepsReached d main t → rows ≡ t.modules.items → first_place name (module_names rows) ≡ Some place →
+pub walked : (d : KoreDefinition) (main name : Text) (t : ModuleTable) (rows : List Module) (place : ℕ) (r : Result (Option (Vec ℕ Global)) AllocError) → KeepsReached d main t → rows ≡ t.modules.items → first_place name (module_names rows) ≡ Some place →
     (((f : Fault) → IsImportFault (map module_view rows) name f → ⊥) → IfOk r (λ o. MatchOption o ⊥ (λ order. IsOver rows name order.items))) →
     IfOk r (λ o. MatchOption o (has name (names_of (modules_reached d main)) ≡ false) (λ places. (has name (names_of (modules_reached d main)) ≡ true) × StandsAt d main name places.items))
 walked d main name t rows place r keeps is at given = by r (given (no_fault_kept d.modules names keeps.laid_out (map module_view rows) outlined name among))

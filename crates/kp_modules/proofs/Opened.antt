@@ -14,7 +14,7 @@ use Rattle.kp_imports.specs.Names.{names_of}
 use Rattle.kp_modules.specs.Openings.{IsTableOf, bound_in, opening_of}
 use Rattle.kp_imports.specs.Reaching.{has}
 use Rattle.kp_modules.specs.Tables.{rule_set_of, main_of, does_reach}
-use Rattle.kp_modules.specs.declared.table.Table.{Table}
+use Rattle.kp_modules.specs.declared.table.ModuleTable.{ModuleTable}
 use Rattle.kp_imports.proofs.Chains.{last_there}
 use Rattle.kp_imports.proofs.Collect.{each_once_is, false_true, has_collect}
 
@@ -32,7 +32,7 @@ told : (b : Bool) (axioms : List NumberedAxiom) → is_some (cond b (Some axioms
 told true axioms = refl
 told false axioms = refl
 
-pub opened : (d : KoreDefinition) (main : Text) (t : Table) → main_of t ≡ main → IsSetOf (signature_reached d main) (rewrite_axioms (modules_reached d main)) (rule_set_of t) →
+pub opened : (d : KoreDefinition) (main : Text) (t : ModuleTable) → main_of t ≡ main → IsSetOf (signature_reached d main) (rewrite_axioms (modules_reached d main)) (rule_set_of t) →
     ((n : Text) → does_reach t n ≡ has n (names_of (modules_reached d main))) → has main (names_of (modules_reached d main)) ≡ true → KeepsReached d main t → IsTableOf (opening_of d main) t
 opened d main t e h reaches there keeps = record {
   main = e;

@@ -7,7 +7,7 @@ use Rattle.kp_kore.specs.Theory.{NumberedAxiom, imports_in, modules_reached, nam
 use Rattle.kp_rules.specs.declared.rule.Rule.{Rule}
 use Rattle.kp_imports.specs.Walks.{IsLaidOut}
 use Rattle.kp_modules.specs.declared.outlines.RuleSpan.{RuleSpan}
-use Rattle.kp_modules.specs.declared.table.Table.{Table}
+use Rattle.kp_modules.specs.declared.table.ModuleTable.{ModuleTable}
 
 -- a module's name with the names that it imports
 abbrev pub outline : KoreModule → Text × List Text
@@ -26,7 +26,7 @@ abbrev pub span_view : RuleSpan → ℕ × ℕ
 span_view s = (s.from, s.to)
 
 -- the table has the outlines of the modules that main reaches, in order, and where their rules stand among main's
-pub record KeepsReached (d : KoreDefinition) (main : Text) (t : Table) : Type 0 where
+pub record KeepsReached (d : KoreDefinition) (main : Text) (t : ModuleTable) : Type 0 where
   pub laid_out : IsLaidOut d.modules (names_reached (length d.modules) d.modules main)
   pub outlines : map outline (map module_view t.modules.items) ≡ map outline (modules_reached d main)
   pub spans : map span_view t.spans.items ≡ spans_from 0 (modules_reached d main)

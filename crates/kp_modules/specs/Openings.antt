@@ -9,7 +9,7 @@ use Rattle.kp_imports.specs.Faults.{signature_reached}
 use Rattle.kp_modules.specs.Keeping.{KeepsReached}
 use Rattle.kp_modules.specs.Made.{IsSetOf}
 use Rattle.kp_modules.specs.Tables.{rule_set_of, main_of, does_reach}
-use Rattle.kp_modules.specs.declared.table.Table.{Table}
+use Rattle.kp_modules.specs.declared.table.ModuleTable.{ModuleTable}
 
 -- each module with the rewrite axioms of all that it reaches, in order
 abbrev pub bound_in : KoreDefinition → List KoreModule → List (Text × List NumberedAxiom)
@@ -20,7 +20,7 @@ opening_of d main = record { signature = signature_reached d main; main = main; 
 
 -- the table has the opening's main module, with the rule set of its axioms, and reaches the opening's modules, which it
 -- keeps as those that main reaches in a definition
-pub record IsTableOf (o : Opening) (t : Table) : Type 0 where
+pub record IsTableOf (o : Opening) (t : ModuleTable) : Type 0 where
   pub main : main_of t ≡ o.main
   pub axioms : List NumberedAxiom
   pub bound : rules_in o.modules o.main ≡ Some axioms

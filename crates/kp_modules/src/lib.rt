@@ -10,4 +10,4 @@ mod rules;
 pub mod table;
 
 pub use order::reached;
-pub use table::{Table, load};
+pub use table::{ModuleTable, load};

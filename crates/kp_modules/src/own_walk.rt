@@ -8,7 +8,7 @@ ghost use Rattle.kp_imports.specs.Faults.{Fault, IsImportFault, fault_view};
 ghost use Rattle.kp_imports.specs.Names.{PlacesAreBelow, module_names};
 ghost use Rattle.kp_imports.specs.Walks.{IsOver};
 
-use crate::table::Table;
+use crate::table::ModuleTable;
 use kp_imports::fault::LoadError;
 use kp_imports::names::{NamePlaces, module_places};
 use kp_imports::walk::places_in_order;
@@ -16,7 +16,7 @@ use kp_kore::Module;
 use kp_rules::Rule;
 use std::alloc::{AllocError, Global};
 
-impl Table {
+impl ModuleTable {
     ghost use Rattle.std.specs.Prelude.{◌≡◌, IfOk, MatchOption, Some, false, true, length, slice_get};
     ghost use Rattle.kp_kore.specs.Syntax.{Text, KoreDefinition, KoreModule};
     ghost use Rattle.kp_kore.specs.Theory.{modules_reached, rewrite_axioms};

@@ -28,7 +28,7 @@ use std::sync::Arc;
 /// The rule set of a definition's main module, with the names of the modules that it reaches. Of these modules it has the
 /// imports, in order, and where their rules stand among main's: the rule set of each can be made of main's.
 #[derive(Drop)]
-pub struct Table {
+pub struct ModuleTable {
     pub(crate) main: Name,
     pub(crate) names: IndexMap<Name, ()>,
     pub(crate) modules: Vec<Module>,
@@ -36,7 +36,7 @@ pub struct Table {
     pub(crate) rule_set: Arc<RuleSet>,
 }
 
-impl Table {
+impl ModuleTable {
     /// The signature and the rules in order.
     pub fn rule_set(&self) -> &RuleSet
         ensures { result.now ≡ rule_set_of self.now }
@@ -69,7 +69,7 @@ impl Table {
 /// The table of a definition for its main module. Of several faults M5 and M8 come first, then the least.
 ///
 /// Its rule set is the theory that the definition means for its main module, rule by rule.
-pub fn load(alloc: Global, definition: &Definition, main: &str) -> Result<Table, LoadError>
+pub fn load(alloc: Global, definition: &Definition, main: &str) -> Result<ModuleTable, LoadError>
     ensures loaded { IfOk result (λ table. (t : Theory) × IsTheoryOf (definition_view definition.now) main.now t × RunsTable t table) }
     ensures made { let the_modules_reached = modules_reached (definition_view definition.now) main.now in IfOk result (λ table. IsSetOf (signature_of (flat_map (λ m. m.sentences) the_modules_reached)) (axioms_among the_modules_reached) (rule_set_of table)) }
     ensures opening { IfOk result (IsTableOf (opening_of (definition_view definition.now) main.now)) }
@@ -81,7 +81,7 @@ pub fn load(alloc: Global, definition: &Definition, main: &str) -> Result<Table,
     let modules = reached(alloc, definition, main)?;
     check_sorts(alloc, &modules)?;
     check_symbols(alloc, &modules)?;
-    Ok(Table {
+    Ok(ModuleTable {
         main: String::from_str(alloc, main)?,
         names: names_of(alloc, &modules)?,
         modules: outlines(alloc, &modules)?,

@@ -18,12 +18,12 @@ use Rattle.kp_text.specs.declared.keyword.Quantifier.{Quantifier}
 use Rattle.kp_text.specs.declared.keyword.Quantifier.TheVariants.{Exists, Forall}
 use Rattle.kp_text.specs.declared.keyword.Rounding.{Rounding}
 use Rattle.kp_text.specs.declared.keyword.Rounding.TheVariants.{Ceil, Floor}
-use Rattle.kp_text.specs.declared.keyword.Comparison.{Comparison}
-use Rattle.kp_text.specs.declared.keyword.Comparison.TheVariants.{Equals, In}
+use Rattle.kp_text.specs.declared.keyword.ComparisonKeyword.{ComparisonKeyword}
+use Rattle.kp_text.specs.declared.keyword.ComparisonKeyword.TheVariants.{Equals, In}
 use Rattle.kp_text.specs.declared.keyword.FixedPoint.{FixedPoint}
 use Rattle.kp_text.specs.declared.keyword.FixedPoint.TheVariants.{Mu, Nu}
-use Rattle.kp_text.specs.declared.keyword.Side.{Side}
-use Rattle.kp_text.specs.declared.keyword.Side.TheVariants.{Left, Right}
+use Rattle.kp_text.specs.declared.keyword.FoldSide.{FoldSide}
+use Rattle.kp_text.specs.declared.keyword.FoldSide.TheVariants.{Left, Right}
 use Rattle.kp_text.specs.declared.level.Level.{Level}
 use Rattle.kp_text.specs.Tokens.{mark}
 use Rattle.kp_text.specs.Grammar.{Leveled, plain, Writing, Writings, written_variable, written_set_variable, written_application, written_string, written_literal, written_constant, written_unary, written_variadic, written_binary, written_quantifier, written_rounding, written_comparison, written_fixed_point, written_fold, written_variadic_fold, no_writings, next_writing, meaning, meanings, constant_meaning, unary_meaning, variadic_meaning, binary_meaning, quantifier_meaning, rounding_meaning, comparison_meaning, fixed_point_meaning, fold_meaning, first_level, below, in_fold, first_in_fold, next_in_fold, member_depth, pattern_tokens, list_tokens, more_tokens, fold_tokens, attributes_tokens}
@@ -66,7 +66,7 @@ rounding_good : (r : Rounding) (a s : KoreSort) (p : KorePattern) → IsSort a �
 rounding_good Ceil a s p h i k = record { spellable = (h, i, k); nests = omega arith }
 rounding_good Floor a s p h i k = record { spellable = (h, i, k); nests = omega arith }
 
-comparison_good : (c : Comparison) (a s : KoreSort) (p q : KorePattern) → IsSort a → IsSort s → IsSpellable p → IsSpellable q → IsGood (comparison_meaning c a s p q) (suc (max (nesting p) (nesting q)))
+comparison_good : (c : ComparisonKeyword) (a s : KoreSort) (p q : KorePattern) → IsSort a → IsSort s → IsSpellable p → IsSpellable q → IsGood (comparison_meaning c a s p q) (suc (max (nesting p) (nesting q)))
 comparison_good Equals a s p q h i k m = record { spellable = (h, i, k, m); nests = omega arith }
 comparison_good In a s p q h i k m = record { spellable = (h, i, k, m); nests = omega arith }
 
@@ -83,7 +83,7 @@ right_more : (f : Text) (ss : KoreSorts) (p q : KorePattern) (ps : List KorePatt
 right_more f ss p q [] = omega arith
 right_more f ss p q (r ∷ ps) = let h = right_more f ss r q ps in omega (arith, h)
 
-fold_more : (side : Side) (f : Text) (ss : KoreSorts) (p q : KorePattern) (ps : List KorePattern) → nesting (fold_meaning side f ss p (ps ++ q ∷ [])) ≤ max (nesting (fold_meaning side f ss p (ps ++ string_literal [] ∷ []))) (member_depth side ps + nesting q)
+fold_more : (side : FoldSide) (f : Text) (ss : KoreSorts) (p q : KorePattern) (ps : List KorePattern) → nesting (fold_meaning side f ss p (ps ++ q ∷ [])) ≤ max (nesting (fold_meaning side f ss p (ps ++ string_literal [] ∷ []))) (member_depth side ps + nesting q)
 fold_more Left f ss p q ps = let h = left_more f ss p q ps in let k = left_more f ss p (string_literal []) ps in omega (arith, h, k)
 fold_more Right f ss p q ps = right_more f ss p q ps
 
@@ -91,7 +91,7 @@ some_right : (f : Text) (ss : KoreSorts) (p : KorePattern) (ps : List KorePatter
 some_right f ss p [] = omega arith
 some_right f ss p (r ∷ ps) = let h = some_right f ss r ps in omega (arith, h)
 
-some_fold : (side : Side) (f : Text) (ss : KoreSorts) (p : KorePattern) (ps : List KorePattern) → suc (member_depth side ps) ≤ nesting (fold_meaning side f ss p (ps ++ string_literal [] ∷ []))
+some_fold : (side : FoldSide) (f : Text) (ss : KoreSorts) (p : KorePattern) (ps : List KorePattern) → suc (member_depth side ps) ≤ nesting (fold_meaning side f ss p (ps ++ string_literal [] ∷ []))
 some_fold Left f ss p ps = let h = left_more f ss p (string_literal []) ps in omega (arith, h)
 some_fold Right f ss p ps = some_right f ss p ps
 
@@ -103,7 +103,7 @@ right_spellable : (f : Text) (ss : KoreSorts) (p : KorePattern) (ps : List KoreP
 right_spellable f ss p [] name sorts h k = h
 right_spellable f ss p (q ∷ ps) name sorts h k = (name, sorts, (h, (right_spellable f ss q ps name sorts k.0 k.1, tt)))
 
-fold_spellable : (side : Side) (f : Text) (ss : KoreSorts) (p : KorePattern) (ps : List KorePattern) → IsName f → AreSorts ss → IsSpellable p → AreSpellable (patterns_of ps) → IsSpellable (fold_meaning side f ss p (ps))
+fold_spellable : (side : FoldSide) (f : Text) (ss : KoreSorts) (p : KorePattern) (ps : List KorePattern) → IsName f → AreSorts ss → IsSpellable p → AreSpellable (patterns_of ps) → IsSpellable (fold_meaning side f ss p (ps))
 fold_spellable Left f ss p ps name sorts h k = left_spellable f ss p ps name sorts h k
 fold_spellable Right f ss p ps name sorts h k = right_spellable f ss p ps name sorts h k
 
@@ -120,7 +120,7 @@ open_first_in_fold l = record { meant = omega arith }
 reached_more : (a b c : ℕ) → suc a ≤ c → a + b ≤ pred (b + c)
 reached_more a b c h = omega arith
 
-open_next_in_fold : (side : Side) (f : Text) (ss : KoreSorts) (l : Level) (p : KorePattern) (ps : List KorePattern) → IsOpen (next_in_fold side f ss l p ps)
+open_next_in_fold : (side : FoldSide) (f : Text) (ss : KoreSorts) (l : Level) (p : KorePattern) (ps : List KorePattern) → IsOpen (next_in_fold side f ss l p ps)
 open_next_in_fold side f ss l p ps = let h = reached_more (member_depth side ps) l.meant _ (some_fold side f ss p ps) in record { meant = omega (arith, h) }
 
 -- where the fold of what stands so far has room, and the next member too, so has the fold with it
@@ -150,7 +150,7 @@ meant_below l opens small = let i = opens.meant in omega arith
 both_fit : (a b n : ℕ) → n + a ≤ 257 → n + b ≤ 257 → n + max a b ≤ 257
 both_fit a b n h k = omega arith
 
-record FoldFound (side : Side) (f : Text) (ss : KoreSorts) (l : Level) (first : KorePattern) (before ps : List KorePattern) (more : List Leveled) : Type 0 where
+record FoldFound (side : FoldSide) (f : Text) (ss : KoreSorts) (l : Level) (first : KorePattern) (before ps : List KorePattern) (more : List Leveled) : Type 0 where
   spellable : AreSpellable (patterns_of ps)
   fits : l.meant + nesting (fold_meaning side f ss first (before ++ ps)) ≤ 257
   others : AreFine more
@@ -173,11 +173,11 @@ begins (written_fixed_point f x s w) l more h = h.0.level
 begins (written_fold side f ss w ws) l more h = h.0.level
 begins (written_variadic_fold side v s ws) l more h = h.0.level
 
-first_fold : (side : Side) (f : Text) (ss : KoreSorts) (p : KorePattern) (l : Level) → l.meant + nesting p ≤ 257 → l.meant + nesting (fold_meaning side f ss p []) ≤ 257
+first_fold : (side : FoldSide) (f : Text) (ss : KoreSorts) (p : KorePattern) (l : Level) → l.meant + nesting p ≤ 257 → l.meant + nesting (fold_meaning side f ss p []) ≤ 257
 first_fold Left f ss p l h = h
 first_fold Right f ss p l h = h
 
-next_fold : (side : Side) (f : Text) (ss : KoreSorts) (l : Level) (p : KorePattern) (ps : List KorePattern) (q : KorePattern) → l.meant + nesting (fold_meaning side f ss p ps) ≤ 257 → (next_in_fold side f ss l p ps).reached ≤ 256 → (member_depth side ps + l.meant) + nesting q ≤ 257 → l.meant + nesting (fold_meaning side f ss p (ps ++ q ∷ [])) ≤ 257
+next_fold : (side : FoldSide) (f : Text) (ss : KoreSorts) (l : Level) (p : KorePattern) (ps : List KorePattern) (q : KorePattern) → l.meant + nesting (fold_meaning side f ss p ps) ≤ 257 → (next_in_fold side f ss l p ps).reached ≤ 256 → (member_depth side ps + l.meant) + nesting q ≤ 257 → l.meant + nesting (fold_meaning side f ss p (ps ++ q ∷ [])) ≤ 257
 next_fold side f ss l p ps q fits reached member =
     let more = fold_more side f ss p q ps in
     let some = some_fold side f ss p ps in
@@ -262,7 +262,7 @@ mutual
       record { spellable = (p.spellable, ps.spellable); fits = both_fit _ _ _ p.fits ps.fits; others = ps.others }
 
   -- the members of a fold after the first and these others
-  fold_found : (side : Side) (f : Text) (ss : KoreSorts) (ws : Writings) (l : Level) (first : KorePattern) (others : List KorePattern) (more : List Leveled) → l.meant + nesting (fold_meaning side f ss first others) ≤ 257 → AreFine (fold_tokens side f ss l first others ws more) → FoldFound side f ss l first others (meanings ws) more
+  fold_found : (side : FoldSide) (f : Text) (ss : KoreSorts) (ws : Writings) (l : Level) (first : KorePattern) (others : List KorePattern) (more : List Leveled) → l.meant + nesting (fold_meaning side f ss first others) ≤ 257 → AreFine (fold_tokens side f ss l first others ws more) → FoldFound side f ss l first others (meanings ws) more
   fold_found side f ss no_writings l first others more fits h = record { spellable = tt; fits = subst (λ (ps : List KorePattern). l.meant + nesting (fold_meaning side f ss first ps) ≤ 257) (sym (append-nil others)) fits; others = h }
   fold_found side f ss (next_writing w ws) l first others more fits h =
       let p = pattern_found w (next_in_fold side f ss l first others) (fold_tokens side f ss l first (others ++ meaning w ∷ []) ws more) (open_next_in_fold side f ss l first others) h.1 in

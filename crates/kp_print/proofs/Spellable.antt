@@ -11,7 +11,7 @@ use Rattle.kp_text.specs.declared.keyword.Variadic.TheVariants.{And, Or}
 use Rattle.kp_text.specs.declared.keyword.Binary.TheVariants.{Implies, Iff, Rewrites}
 use Rattle.kp_text.specs.declared.keyword.Quantifier.TheVariants.{Exists, Forall}
 use Rattle.kp_text.specs.declared.keyword.Rounding.TheVariants.{Ceil, Floor}
-use Rattle.kp_text.specs.declared.keyword.Comparison.TheVariants.{Equals, In}
+use Rattle.kp_text.specs.declared.keyword.ComparisonKeyword.TheVariants.{Equals, In}
 use Rattle.kp_text.specs.declared.keyword.FixedPoint.TheVariants.{Mu, Nu}
 use Rattle.kp_text.specs.Grammar.{Writing, Writings, written_variable, written_set_variable, written_application, written_string, written_literal, written_constant, written_unary, written_variadic, written_binary, written_quantifier, written_rounding, written_comparison, written_fixed_point, no_writings, next_writing, meaning, meanings, variadic_meaning}
 use Rattle.kp_print.proofs.ReadTokens.{IsName}

@@ -18,7 +18,7 @@ use Rattle.kp_imports.specs.Names.{names_of}
 use Rattle.kp_imports.specs.Reaching.{has}
 use Rattle.kp_modules.specs.Openings as openings
 use Rattle.kp_modules.specs.Tables.{RunsTable, does_reach, main_of}
-use Rattle.kp_modules.specs.declared.table.Table.{Table}
+use Rattle.kp_modules.specs.declared.table.ModuleTable.{ModuleTable}
 use Rattle.kp_program.specs.Inputs.{IsTableOf}
 use Rattle.kp_program.proofs.Served.{some_longer}
 use Rattle.std.specs.Prelude.{length}
@@ -33,7 +33,7 @@ faultless_file file main d fits spells none (in_claims f) at = absurd at
 faultless_file file main d fits spells none (in_modules f) at =
     none f (subst (λ (x : KoreDefinition). IsFirstFault x main f) (one_definition file at.1 d at.2 spells) at.3).is_fault
 
-pub table_is : (file main : List ℕ) (d : KoreDefinition) (table : Table) → length file ≤ load_limit → SpellsDefinition file d → ((t : Theory) × IsTheoryOf d main t × RunsTable t table) → main_of table ≡ main
+pub table_is : (file main : List ℕ) (d : KoreDefinition) (table : ModuleTable) → length file ≤ load_limit → SpellsDefinition file d → ((t : Theory) × IsTheoryOf d main t × RunsTable t table) → main_of table ≡ main
     → ((n : Text) → does_reach table n ≡ has n (names_of (modules_reached d main))) → openings.IsTableOf (openings.opening_of d main) table → HasNoFault d main → IsTableOf file main table
 table_is file main d table fits spells theory main_is reaches opens none = record {
   faultless = faultless_file file main d fits spells none;

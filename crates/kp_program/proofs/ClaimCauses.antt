@@ -5,7 +5,7 @@ use Rattle.kp_io.specs.Outside.{Names, HoldsMore, load_limit}
 use Rattle.kp_claims.specs.Faults as claims
 use Rattle.kp_claims.specs.declared.fault.ClaimFault.{ClaimFault}
 use Rattle.kp_claims.specs.declared.fault.ClaimFault.TheVariants as told
-use Rattle.kp_modules.specs.declared.table.Table.{Table}
+use Rattle.kp_modules.specs.declared.table.ModuleTable.{ModuleTable}
 use Rattle.kp_signature.specs.Faults as verify
 use Rattle.kp_signature.specs.Verify.{VerifyFault}
 use Rattle.kp_program.specs.ClaimFiles.{IsClaimsTrouble}
@@ -36,7 +36,7 @@ too_long_claims names name g failed t more told =
 
 -- ---- causes
 
-abbrev pub loaded_from : (names : Option Names) (name main file : List ℕ) (table : Table) → IfSome names (λ held. held name ≡ Some file) → IsTableOf file main table → IsLoaded names name main
+abbrev pub loaded_from : (names : Option Names) (name main file : List ℕ) (table : ModuleTable) → IfSome names (λ held. held name ≡ Some file) → IsTableOf file main table → IsLoaded names name main
 loaded_from names name main file table there is = record {
   file = file;
   there = there;

@@ -19,7 +19,7 @@ use Rattle.kp_program.specs.ClaimFiles.{AreClaimsAt, IsGroundClaim}
 use Rattle.kp_kore.specs.Theory.{Theory}
 use Rattle.kp_book.specs.Books.{Opening}
 use Rattle.kp_modules.specs.Openings.{IsTableOf, opening_of}
-use Rattle.kp_modules.specs.declared.table.Table.{Table}
+use Rattle.kp_modules.specs.declared.table.ModuleTable.{ModuleTable}
 use Rattle.kp_program.specs.Loaded.{IsLoaded}
 use Rattle.kp_program.specs.LocalTold.{IsTheoryOver, state_over}
 use Rattle.kp_program.specs.Proofs.{told_theory, IsRepliedBy, AreReported, IsLineFor, IsOutcome, Proved, proof_status}
@@ -36,14 +36,14 @@ all_into P Q into [] all = tt
 all_into P Q into (x ∷ xs) all = (into x all.0, all_into P Q into xs all.1)
 
 -- the table of a loaded definition is that of its opening, whose main module has its theory
-pub theory_over : (names : Option Names) (name main : List ℕ) (l : IsLoaded names name main) (table : Table) → IsTableOf (opening_of l.definition main) table → IsTheoryOver table (opening_of l.definition main) l.setting.theory
+pub theory_over : (names : Option Names) (name main : List ℕ) (l : IsLoaded names name main) (table : ModuleTable) → IsTableOf (opening_of l.definition main) table → IsTheoryOver table (opening_of l.definition main) l.setting.theory
 theory_over names name main l table opens = record { opens = opens; main = main_theory l.definition main l.setting table l.is_setting opens }
 
 -- what each exchange over a table meets makes it right
-pub serves_theory : (o : Opening) (t : Theory) (table : Table) → IsTheoryOver table o t → Serves (state_over table) (told_theory o t)
+pub serves_theory : (o : Opening) (t : Theory) (table : ModuleTable) → IsTheoryOver table o t → Serves (state_over table) (told_theory o t)
 serves_theory o t table is e meets = replied_is_right o t e is.main (meets o is.opens)
 
-pub outcome_is : (o : Opening) (t : Theory) (table : Table) (depth : ℕ) (claim : ReachabilityClaim) (after : LinkState) (tree : List ProofNode) (end : ProofOutcome) → IsTheoryOver table o t →
+pub outcome_is : (o : Opening) (t : Theory) (table : ModuleTable) (depth : ℕ) (claim : ReachabilityClaim) (after : LinkState) (tree : List ProofNode) (end : ProofOutcome) → IsTheoryOver table o t →
     IsProved (state_over table) after claim depth tree end → TreeSays t [] [] claim tree → (end ≡ passed → Holds t claim) → ((n : ℕ) → end ≡ failed_at n → IsStuckAt t claim tree n) → IsOutcome o t depth claim end
 outcome_is o t table depth claim after tree end is p says holds stuck = record {
   exchanges = p.exchanges;

@@ -3,7 +3,7 @@ use Rattle.std.proofs.Common.{◌≡◌, ◌⊎◌, zero, suc, ◌<◌, ℕ, Lis
 use Rattle.kp_io.specs.Outside.{Names}
 use Rattle.kp_book.specs.Books.{Opening, Registration}
 use Rattle.kp_modules.specs.Openings.{opening_of}
-use Rattle.kp_modules.specs.declared.table.Table.{Table}
+use Rattle.kp_modules.specs.declared.table.ModuleTable.{ModuleTable}
 use Rattle.kp_registry.specs.declared.book.Registry.{Registry}
 use Rattle.kp_registry.specs.declared.seen.Pass.{Pass}
 use Rattle.kp_additions.specs.Served.{HasSeenAt}
@@ -66,11 +66,11 @@ late_end end a b trouble.Memory read write late = tt
 
 -- ---- the file
 
-pub over_file : (names : Option Names) (name main file : List ℕ) (table : Table) (Holds : Opening → Type 0) →
+pub over_file : (names : Option Names) (name main file : List ℕ) (table : ModuleTable) (Holds : Opening → Type 0) →
     IfSome names (λ held. held name ≡ Some file) → (is : IsTableOf file main table) → Holds (opening_of is.definition main) → OverFile names name main Holds
 over_file names name main file table Holds there is holds = record { file = file; there = there; faultless = is.faultless; definition = is.definition; spells = is.spells; holds = holds }
 
-pub breaks_file : (names : Option Names) (left left_after held held_after : Option (List ℕ)) (Same : Type 0) (name main file : List ℕ) (table : Table) →
+pub breaks_file : (names : Option Names) (left left_after held held_after : Option (List ℕ)) (Same : Type 0) (name main file : List ℕ) (table : ModuleTable) →
     IfSome names (λ held. held name ≡ Some file) → (is : IsTableOf file main table) → Same ⊎ BreaksOff (opening_of is.definition main) left left_after held held_after →
     Same ⊎ BreaksFile names left left_after held held_after name main
 breaks_file names left left_after held held_after Same name main file table there is (inl same) = inl same

@@ -11,7 +11,7 @@ use Rattle.kp_kore.specs.Theory.{Theory, NumberedAxiom, IsRuleOf, IsTheoryOfAxio
 use Rattle.kp_book.specs.Books.{Opening, Registration, rules_in, first_of, rules_bound, meaning_in}
 use Rattle.kp_modules.specs.Openings as openings
 use Rattle.kp_modules.specs.Openings.{bound_in, opening_of}
-use Rattle.kp_modules.specs.declared.table.Table.{Table}
+use Rattle.kp_modules.specs.declared.table.ModuleTable.{ModuleTable}
 use Rattle.kp_replies.specs.Right.{IsMainAsked}
 use Rattle.kp_server.specs.Setting.{Setting, IsSetting}
 use Rattle.kp_service.specs.Meant.{module_asked, IsServedAt}
@@ -80,7 +80,7 @@ bound_axioms : (d : KoreDefinition) (name : Text) (axioms : List NumberedAxiom) 
 bound_axioms d name axioms [] e = absurd (cc e)
 bound_axioms d name axioms (m ∷ ms) e = bound_here d name axioms m (bytes_eq name m.name) (rules_in (bound_in d ms) name) refl (bound_axioms d name axioms ms) e
 
-pub main_theory : (d : KoreDefinition) (main : Text) (s : Setting) (table : Table) → IsSetting d main s → openings.IsTableOf (opening_of d main) table → IsMainTheory (opening_of d main) s.theory
+pub main_theory : (d : KoreDefinition) (main : Text) (s : Setting) (table : ModuleTable) → IsSetting d main s → openings.IsTableOf (opening_of d main) table → IsMainTheory (opening_of d main) s.theory
 main_theory d main s table is opens =
     let same = bound_axioms d main opens.axioms (modules_reached d main) opens.bound in
     let rules = subst (λ (h : KoreSignature). AllZip (IsRuleOf h (labels_of (rewrite_axioms (modules_reached d main)))) (rewrite_axioms (modules_reached d main)) s.theory.rules) is.means.signature is.means.rules in

@@ -3,13 +3,13 @@ use Rattle.std.specs.Prelude.{ℕ, List}
 use Rattle.kp_kore.specs.Syntax.{KoreDefinition}
 use Rattle.kp_text.specs.Spelling.{SpellsDefinition}
 use Rattle.kp_modules.specs.Openings as openings
-use Rattle.kp_modules.specs.declared.table.Table.{Table}
+use Rattle.kp_modules.specs.declared.table.ModuleTable.{ModuleTable}
 use Rattle.kp_server.specs.Setting.{IsSetting, Setting, IsSettingOf}
 use Rattle.kp_program.specs.Faults.{IsFaultless}
 
 -- the file has no fault, and its bytes spell a definition; the table is that of what its main module opens, and of its
 -- setting
-pub record IsTableOf (file main : List ℕ) (table : Table) : Type 0 where
+pub record IsTableOf (file main : List ℕ) (table : ModuleTable) : Type 0 where
   pub faultless : IsFaultless file main
   pub definition : KoreDefinition
   pub spells : SpellsDefinition file definition

@@ -4,7 +4,7 @@ use Rattle.std.specs.Prelude.{ℕ, List, Option, None}
 use Rattle.kp_kore.specs.Theory.{Theory}
 use Rattle.kp_book.specs.Books.{Opening, Registration}
 use Rattle.kp_modules.specs.Openings.{IsTableOf}
-use Rattle.kp_modules.specs.declared.table.Table.{Table}
+use Rattle.kp_modules.specs.declared.table.ModuleTable.{ModuleTable}
 use Rattle.kp_registry.specs.Legal.{IsLegal}
 use Rattle.kp_registry.specs.Passes.{IsPass}
 use Rattle.kp_registry.specs.declared.seen.Pass.{Pass}
@@ -16,12 +16,12 @@ use Rattle.kp_service.specs.declared.service.Service.{Service}
 use Rattle.kp_program.specs.Proofs.{IsMainTheory, IsRepliedBy}
 
 -- the table is that of the opening, whose main module has this theory
-pub record IsTheoryOver (table : Table) (o : Opening) (t : Theory) : Type 0 where
+pub record IsTheoryOver (table : ModuleTable) (o : Opening) (t : Theory) : Type 0 where
   pub opens : IsTableOf o table
   pub main : IsMainTheory o t
 
 -- the table that a service answers over
-abbrev pub table_of : Service → Table
+abbrev pub table_of : Service → ModuleTable
 table_of service = service.registry.table
 
 -- what was looked up is that of the service's signature
@@ -42,5 +42,5 @@ pub record IsAnsweredBy (o : Opening) (frame : List ℕ) (reply : Option (List �
   pub answer : IsAnswer o before frame reply after
 
 -- each exchange is that of the service over each opening that the table is of; neither the exchanges nor the replies to come are told, and none fails
-abbrev pub state_over : Table → LinkState
+abbrev pub state_over : ModuleTable → LinkState
 state_over table = record { meets = λ e. (o : Opening) → IsTableOf o table → IsRepliedBy o e; exchanges = None; replies = None; faults = 0 }

@@ -7,7 +7,7 @@ ghost use Rattle.kp_program.specs.Troubles.{AreFaulty};
 use crate::trouble::{FileFault, Trouble, claim_trouble, file_trouble, no_file};
 use kp_claims::{ClaimItem, read_claims};
 use kp_io::{LoadFault, Shelf};
-use kp_modules::Table;
+use kp_modules::ModuleTable;
 use kp_server::rules_of;
 use std::alloc::Global;
 
@@ -16,7 +16,7 @@ pub fn load_claims<H: Shelf>(
     alloc: Global,
     shelf: &mut H,
     name: &str,
-    table: &Table,
+    table: &ModuleTable,
 ) -> Result<Vec<ClaimItem>, Trouble>
     ensures loaded { (s : Setting) → IsSettingOf s table.now → IfOk result (λ claims. AreClaimsAt (H.names shelf.old) name.now s.theory.signature claims.items) }
     ensures trouble { let Failed = Rose (H.fault_count shelf.old) (H.fault_count shelf.new) in
@@ -38,7 +38,7 @@ fn claims_of(
     alloc: Global,
     name: &str,
     bytes: &[u8],
-    table: &Table,
+    table: &ModuleTable,
 ) -> Result<Vec<ClaimItem>, Trouble>
     ensures claims { (s : Setting) → IsSettingOf s table.now → IfOk result (λ claims. AreClaimsIn s.theory.signature bytes.now claims.items) }
     ensures fault { (s : Setting) → IsSettingOf s table.now → length bytes.now ≤ load_limit → IfErr result (AreFaulty s.theory.signature bytes.now name.now) }

@@ -7,7 +7,7 @@ ghost use Rattle.kp_program.specs.Words.{NamesDefinition};
 
 use crate::trouble::{FileFault, Trouble, file_trouble, module_trouble, no_file, read_trouble};
 use kp_io::{LoadFault, Shelf};
-use kp_modules::{Table, load};
+use kp_modules::{ModuleTable, load};
 use kp_text::read_definition;
 use std::alloc::Global;
 
@@ -17,7 +17,7 @@ pub fn load_table<H: Shelf>(
     shelf: &mut H,
     name: &str,
     main: &str,
-) -> Result<Table, Trouble>
+) -> Result<ModuleTable, Trouble>
     ensures loaded { IfOk result (λ table. (file : List ℕ) × IfSome (H.names shelf.old) (λ held. held name.now ≡ Some file) × IsTableOf file main.now table) }
     ensures cause { let Failed = Rose (H.fault_count shelf.old) (H.fault_count shelf.new) in
         (words : List (List ℕ)) → NamesDefinition words name.now main.now → IfErr result (λ trouble. IsCause (H.names shelf.old) words Failed (ending_of trouble)) }
@@ -34,7 +34,7 @@ pub fn load_table<H: Shelf>(
 }
 
 /// The table of the definition in a file, of this name, with these bytes.
-fn table_of(alloc: Global, name: &str, bytes: &[u8], main: &str) -> Result<Table, Trouble>
+fn table_of(alloc: Global, name: &str, bytes: &[u8], main: &str) -> Result<ModuleTable, Trouble>
     ensures table { length bytes.now ≤ load_limit → IfOk result (IsTableOf bytes.now main.now) }
     ensures fault { length bytes.now ≤ load_limit → IfErr result (IsFaulty bytes.now name.now main.now) }
 {

@@ -20,11 +20,11 @@ pub struct LocalLink<'a> {
 }
 
 impl<'a> Model for LocalLink<'a> {
-    ghost use Rattle.kp_modules.specs.contracts.table.Table.{the_row};
-    ghost use Rattle.kp_modules.specs.declared.table.Table.{Table};
+    ghost use Rattle.kp_modules.specs.contracts.table.ModuleTable.{the_row};
+    ghost use Rattle.kp_modules.specs.declared.table.ModuleTable.{ModuleTable};
     ghost use Rattle.kp_program.specs.LocalTold.{IsPassOver, table_of};
 
-    ghost Value = { Table };
+    ghost Value = { ModuleTable };
 
     ghost coded = { the_row.coded };
 

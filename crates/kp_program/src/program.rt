@@ -17,7 +17,7 @@ use crate::prover::prove_file;
 use crate::trouble::{Trouble, ended, told};
 use kp_conn::{Served, serve};
 use kp_io::{Shelf, Sink, Source};
-use kp_modules::Table;
+use kp_modules::ModuleTable;
 use kp_service::Service;
 use std::alloc::Global;
 
@@ -117,7 +117,7 @@ fn serve_input<H: Shelf, I: Source, O: Sink>(
 /// Serves the input over the modules of a table, and those that it adds.
 fn serve_table<I: Source, O: Sink>(
     alloc: Global,
-    table: Table,
+    table: ModuleTable,
     input: &mut I,
     out: &mut O,
 ) -> Result<(), Trouble>

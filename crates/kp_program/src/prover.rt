@@ -29,9 +29,9 @@ use crate::local::LocalLink;
 use crate::output::put_line;
 use crate::trouble::Trouble;
 use kp_claims::ClaimItem;
-use kp_client::{Outcome, ProveOptions, prove};
+use kp_client::{ProofEnd, ProveOptions, prove};
 use kp_io::{Shelf, Sink};
-use kp_modules::Table;
+use kp_modules::ModuleTable;
 use kp_report::{Line, report_text};
 use kp_service::Service;
 use std::alloc::{AllocError, Global};
@@ -63,7 +63,7 @@ pub fn prove_file<H: Shelf, O: Sink>(
 fn prove_over<H: Shelf, O: Sink>(
     alloc: Global,
     command: &Prove,
-    table: Table,
+    table: ModuleTable,
     shelf: &mut H,
     out: &mut O,
 ) -> Result<u8, Trouble>
@@ -85,7 +85,7 @@ fn prove_over<H: Shelf, O: Sink>(
 /// Proves claims, and writes their report.
 fn report_claims<O: Sink>(
     alloc: Global,
-    table: Table,
+    table: ModuleTable,
     claims: &[ClaimItem],
     max_depth: u64,
     out: &mut O,
@@ -107,7 +107,7 @@ fn report_claims<O: Sink>(
 /// The lines of claims, in order, over the service of a table.
 fn lines_over(
     alloc: Global,
-    table: Table,
+    table: ModuleTable,
     claims: &[ClaimItem],
     max_depth: u64,
 ) -> Result<Vec<Line>, AllocError>
@@ -197,15 +197,15 @@ fn some_failed(lines: &[Line]) -> bool
 }
 
 /// Whether a claim passed.
-fn is_passed(outcome: &Outcome) -> bool
+fn is_passed(outcome: &ProofEnd) -> bool
     ensures { result ≡ has_passed (outcome_view outcome.now) }
 {
-    matches!(outcome, Outcome::Passed)
+    matches!(outcome, ProofEnd::Passed)
 }
 
 /// Whether a claim failed.
-fn is_failed(outcome: &Outcome) -> bool
+fn is_failed(outcome: &ProofEnd) -> bool
     ensures { result ≡ has_failed (outcome_view outcome.now) }
 {
-    matches!(outcome, Outcome::Failed { .. })
+    matches!(outcome, ProofEnd::Failed { .. })
 }

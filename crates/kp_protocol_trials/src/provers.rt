@@ -1,6 +1,6 @@
 use crate::table::{Subject, bytes, each_is_told, is_told, text};
 use kp_claims::ClaimItem;
-use kp_client::{Outcome, ProveOptions, ScriptLink, prove, prove_claim};
+use kp_client::{ProofEnd, ProveOptions, ScriptLink, prove, prove_claim};
 use kp_graph::{NodeId, Tree, Why};
 use kp_kore::{Claim, Pattern};
 use kp_report::{Line, report_text};
@@ -34,12 +34,12 @@ fn link(rt: &impl Abort, alloc: Global, lines: &[&str]) -> ScriptLink {
 }
 
 /// How a proof ended.
-fn outcome_text(rt: &impl Abort, alloc: Global, outcome: &Outcome) -> String {
+fn outcome_text(rt: &impl Abort, alloc: Global, outcome: &ProofEnd) -> String {
     match outcome {
-        Outcome::Passed => text(rt, alloc, "passed"),
-        Outcome::Failed { node: _ } => text(rt, alloc, "failed"),
-        Outcome::Pending { node: _, why: _ } => text(rt, alloc, "pending"),
-        Outcome::Refused { code } => format!(in alloc; "refused {code}").expect(rt, "memory"),
+        ProofEnd::Passed => text(rt, alloc, "passed"),
+        ProofEnd::Failed { node: _ } => text(rt, alloc, "failed"),
+        ProofEnd::Pending { node: _, why: _ } => text(rt, alloc, "pending"),
+        ProofEnd::Refused { code } => format!(in alloc; "refused {code}").expect(rt, "memory"),
     }
 }
 
@@ -66,7 +66,7 @@ fn last_state(tree: &Tree) -> &str {
 }
 
 /// How a proof ended, and its tree.
-fn ended(rt: &impl Abort, alloc: Global, outcome: &Outcome, tree: &Tree) -> String {
+fn ended(rt: &impl Abort, alloc: Global, outcome: &ProofEnd, tree: &Tree) -> String {
     let outcome = outcome_text(rt, alloc, outcome);
     let count = tree.len();
     let status = tree.status();
@@ -213,11 +213,11 @@ fn report(rt: &impl Abort, alloc: Global) -> Vec<u8> {
     let lines = [
         Line {
             label: text(rt, alloc, "A"),
-            result: Outcome::Passed,
+            result: ProofEnd::Passed,
         },
         Line {
             label: text(rt, alloc, "B"),
-            result: Outcome::Pending {
+            result: ProofEnd::Pending {
                 node: NodeId { number: 12 },
                 why: Why::Nodes,
             },

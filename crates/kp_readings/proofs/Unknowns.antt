@@ -13,14 +13,14 @@ use Rattle.kp_symbolic.specs.Plain as model
 use Rattle.kp_symbolic.specs.Plain.{form_of, own_form, read_clause, read_from, read_clauses}
 use Rattle.kp_deciding.specs.Readings.{read_view, clauses_view}
 use Rattle.kp_deciding.specs.Unknowns.{unknowns_said, unknowns_in, all_unknowns, IsSaidOfKind, AreSaidOfKind, IsSaidAmong, IsReadOfKind, IsClauseOfKind, AreReadOfKind}
-use Rattle.kp_deciding.specs.declared.form.Form.{Form}
-use Rattle.kp_deciding.specs.declared.form.Form.TheVariants.{Compares, Truth, Equates, Asks, Gives}
+use Rattle.kp_deciding.specs.declared.form.LiteralForm.{LiteralForm}
+use Rattle.kp_deciding.specs.declared.form.LiteralForm.TheVariants.{Compares, Truth, Equates, Asks, Gives}
 use Rattle.kp_deciding.specs.declared.reading.ReadLiteral.{ReadLiteral}
 use Rattle.kp_readings.specs.Own.{IsSetApart}
 use Rattle.kp_readings.specs.Parts.{clauses_of}
 
 -- what asks for no unknown
-pub apart_among : (g : KoreSignature) (xs : List SortedName) (o : Option Form) → IsSetApart o → IsSaidAmong g xs o
+pub apart_among : (g : KoreSignature) (xs : List SortedName) (o : Option LiteralForm) → IsSetApart o → IsSaidAmong g xs o
 apart_among g xs (Some (Compares c m n)) h = absurd h
 apart_among g xs (Some (Truth x b)) h = absurd h
 apart_among g xs (Some (Equates b p q)) h = absurd h

@@ -6,8 +6,8 @@ use Rattle.kp_kore.specs.Value.{Value, constructed, no_values}
 use Rattle.kp_symbolic.specs.Terms.{SymbolicTerm, known}
 use Rattle.kp_symbolic.specs.States.{one_head}
 use Rattle.kp_symbolic.specs.Plain.{Form, asks}
-use Rattle.kp_deciding.specs.declared.form.Form.{Form as Said}
-use Rattle.kp_deciding.specs.declared.form.Form.TheVariants.{Asks, Gives}
+use Rattle.kp_deciding.specs.declared.form.LiteralForm.{LiteralForm as Said}
+use Rattle.kp_deciding.specs.declared.form.LiteralForm.TheVariants.{Asks, Gives}
 
 -- the constructor that a value is, where it has no arguments
 abbrev pub constant_said : Value → Option Text

@@ -13,13 +13,13 @@ ghost use Rattle.kp_deciding.specs.Unknowns.{IsSaidAmong, IsReadOfKind, IsClause
 ghost use Rattle.kp_readings.specs.Each.{read_literal};
 
 use crate::own::own_form;
-use kp_deciding::{Form, ReadLiteral, form_of};
+use kp_deciding::{LiteralForm, ReadLiteral, form_of};
 use kp_signature::Signature;
 use kp_symbolic::{Clause, Literal, State};
 use std::alloc::{AllocError, Global};
 
 /// A literal with what it says.
-fn read<'a>(literal: &'a Literal, form: Option<Form<'a>>) -> ReadLiteral<'a>
+fn read<'a>(literal: &'a Literal, form: Option<LiteralForm<'a>>) -> ReadLiteral<'a>
     ensures view { read_view result ≡ read_literal (literal_view literal.now) (option_map form_view form.entry) }
     ensures kinds { (g : KoreSignature) → IsSaidAmong g (atom_variables (literal_view literal.now).atom) form.entry → IsReadOfKind g result }
 {

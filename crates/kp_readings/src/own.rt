@@ -14,7 +14,7 @@ ghost use Rattle.kp_readings.specs.Own.{constant_said, constant_known, asks_cons
 
 use crate::equation::{Equation, equation_of};
 use crate::names::stands_alone;
-use kp_deciding::{AskedHeads, Form, form_of, has_only_numbers};
+use kp_deciding::{AskedHeads, LiteralForm, form_of, has_only_numbers};
 use kp_ground::Value;
 use kp_signature::Signature;
 use kp_symbolic::{Atom, Clause, HeadTest, Literal, State, Term, Variable};
@@ -65,12 +65,12 @@ fn constant_of(term: &Term) -> Option<&str>
 }
 
 /// That the variable's head isn't the constructor, if there is one.
-fn asks_for<'a>(variable: &'a Variable, constant: Option<&'a str>) -> Option<Form<'a>>
+fn asks_for<'a>(variable: &'a Variable, constant: Option<&'a str>) -> Option<LiteralForm<'a>>
     ensures view { option_map form_view result ≡ asks_constant (variable_view variable.now) (option_map (λ c. c.now) constant.entry) }
     ensures apart { IsSetApart result }
 {
     match constant {
-        Some(symbol) => Some(Form::Asks {
+        Some(symbol) => Some(LiteralForm::Asks {
             variable,
             test: AskedHeads::Constructor { symbol },
             passes: false,
@@ -80,7 +80,7 @@ fn asks_for<'a>(variable: &'a Variable, constant: Option<&'a str>) -> Option<For
 }
 
 /// That a variable and a constructor without arguments differ, if the terms are such.
-fn constant_form<'a>(left: &'a Term, right: &'a Term) -> Option<Form<'a>>
+fn constant_form<'a>(left: &'a Term, right: &'a Term) -> Option<LiteralForm<'a>>
     ensures view { option_map form_view result ≡ model.constant_form (term_view left.now) (term_view right.now) }
     ensures apart { IsSetApart result }
 {
@@ -94,12 +94,12 @@ fn constant_form<'a>(left: &'a Term, right: &'a Term) -> Option<Form<'a>>
 }
 
 /// What a literal says of the head of a variable, if it does.
-fn head_form(literal: &Literal) -> Option<Form<'_>>
+fn head_form(literal: &Literal) -> Option<LiteralForm<'_>>
     ensures view { option_map form_view result ≡ model.head_form (literal_view literal.now) }
     ensures apart { IsSetApart result }
 {
     match &literal.atom {
-        Atom::Head { variable, test } => Some(Form::Asks {
+        Atom::Head { variable, test } => Some(LiteralForm::Asks {
             variable,
             test: borrowed_test(test),
             passes: literal.holds,
@@ -123,7 +123,7 @@ fn solved_if<'a>(
     before: &[Clause],
     after: &[Clause],
     equation: Equation<'a>,
-) -> Result<Option<Form<'a>>, AllocError>
+) -> Result<Option<LiteralForm<'a>>, AllocError>
     ensures view { let g = signature_view signature.now in IfOk result (λ f. option_map form_view f ≡ model.solved_form g (state_view state.now) (clauses_view before.now ++ clauses_view after.now) (Some (equation_view equation.entry))) }
     ensures apart { IfOk result IsSetApart }
 {
@@ -133,7 +133,7 @@ fn solved_if<'a>(
     if !stands_alone(alloc, state, before, after, &equation.variable.name)? {
         return Ok(None);
     }
-    Ok(Some(Form::Gives {
+    Ok(Some(LiteralForm::Gives {
         variable: equation.variable,
         term: equation.term,
     }))
@@ -147,7 +147,7 @@ pub fn own_form<'a>(
     before: &[Clause],
     after: &[Clause],
     literal: &'a Literal,
-) -> Result<Option<Form<'a>>, AllocError>
+) -> Result<Option<LiteralForm<'a>>, AllocError>
     ensures view { IfOk result (λ f. option_map form_view f ≡ model.own_form (signature_view signature.now) (state_view state.now) (clauses_view before.now ++ clauses_view after.now) (literal_view literal.now)) }
     ensures kinds { IfOk result (IsSaidAmong (signature_view signature.now) (atom_variables (literal_view literal.now).atom)) }
 {

@@ -13,7 +13,7 @@ use Rattle.kp_rule_sets.specs.declared.rule_set.RuleSet.{RuleSet}
 use Rattle.kp_book.specs.Books.{Opening, Registration, IsDuplicate, by_opening, by_entry, binds, rules_in, rules_bound, first_of}
 use Rattle.kp_modules.specs.Openings.{IsTableOf}
 use Rattle.kp_modules.specs.Tables.{does_reach}
-use Rattle.kp_modules.specs.declared.table.Table.{Table}
+use Rattle.kp_modules.specs.declared.table.ModuleTable.{ModuleTable}
 use Rattle.kp_extensions.specs.OwnSets.{MeansRules}
 use Rattle.kp_registry.specs.Passes.{IsEntryOf, first_binding, binds_name, is_either, MeansAt}
 use Rattle.kp_registry.specs.Refusals.{IsFree}
@@ -136,11 +136,11 @@ not_some None e = refl
 not_some (Some x) e = absurd (cc (e))
 
 -- a name that main doesn't reach
-pub not_reached : (o : Opening) (t : Table) (n : Text) → IsTableOf o t → does_reach t n ≡ false → rules_in o.modules n ≡ None
+pub not_reached : (o : Opening) (t : ModuleTable) (n : Text) → IsTableOf o t → does_reach t n ≡ false → rules_in o.modules n ≡ None
 not_reached o t n table e = not_some (rules_in o.modules n) (sym (table.reaches n) ∙ e)
 
 -- the rule set of a module that main reaches
-pub means_reached : (o : Opening) (t : Table) (book : List Registration) (n : Text) (r : Result (Option (Arc RuleSet Global)) AllocError) → IsTableOf o t → does_reach t n ≡ true → IfOk r (MeansRules o n) →
+pub means_reached : (o : Opening) (t : ModuleTable) (book : List Registration) (n : Text) (r : Result (Option (Arc RuleSet Global)) AllocError) → IsTableOf o t → does_reach t n ≡ true → IfOk r (MeansRules o n) →
     IfOk r (λ found. MeansAt o book n (option_map (λ s. s.value) found))
 means_reached o t book n (Ok (Some rules)) table e h = (h.0, ap (λ m. first_of m (rules_bound book n)) h.1, h.2)
 means_reached o t book n (Ok None) table e h = absurd (cc (sym (ap is_some h) ∙ sym (table.reaches n) ∙ e))

@@ -12,7 +12,7 @@ use crate::id::{Id, id_of};
 use crate::seen::{Entry, Pass, Ready};
 use kp_extensions::rules_of;
 use kp_kore::{Module, Name};
-use kp_modules::Table;
+use kp_modules::ModuleTable;
 use kp_rule_sets::RuleSet;
 use std::alloc::{AllocError, Global};
 use std::sync::Arc;
@@ -29,12 +29,16 @@ pub enum RegisterFault {
 /// The book of a table.
 #[derive(Drop)]
 pub struct Registry {
-    table: Table,
+    table: ModuleTable,
 }
 
 impl Registry {
     /// A book without entries, with a pass on it. There is room for all entries that a book may have.
-    pub fn begin(alloc: Global, table: Table, seats: usize) -> Result<(Registry, Pass), AllocError>
+    pub fn begin(
+        alloc: Global,
+        table: ModuleTable,
+        seats: usize,
+    ) -> Result<(Registry, Pass), AllocError>
         requires seats { (1 ≤ seats) × (seats ≤ 64) }
         ensures pass { IfOk result (λ out. IsPass out.1) }
         ensures none { IfOk result (λ out. out.1.entries.items ≡ []) }
@@ -46,7 +50,7 @@ impl Registry {
     }
 
     /// The table.
-    pub fn table(&self) -> &Table
+    pub fn table(&self) -> &ModuleTable
         ensures { result.now ≡ self.now.table }
     {
         &self.table

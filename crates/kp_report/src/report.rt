@@ -10,7 +10,7 @@ ghost use Rattle.kp_client.specs.Rounds.{failed_at, pending_at, refused_with};
 ghost use Rattle.kp_client.specs.View.{outcome_view};
 ghost use Rattle.kp_report.specs.View.{line_view};
 
-use kp_client::Outcome;
+use kp_client::ProofEnd;
 use kp_graph::Why;
 use kp_kore::Name;
 use kp_replies::{Method, ServerReply, reply_of};
@@ -21,7 +21,7 @@ use std::alloc::{AllocError, Global};
 #[derive(Drop)]
 pub struct Line {
     pub label: Name,
-    pub result: Outcome,
+    pub result: ProofEnd,
 }
 
 /// Why a run is no further.
@@ -138,10 +138,10 @@ fn line_text(alloc: Global, line: &Line) -> Result<String, AllocError>
 {
     let label = &line.label;
     match &line.result {
-        Outcome::Passed => format!(in alloc; "passed {label}\n"),
-        Outcome::Failed { node } => failed_line(alloc, label, node.number),
-        Outcome::Pending { node, why } => pending_line(alloc, label, node.number, why),
-        Outcome::Refused { code } => refused_line(alloc, label, *code),
+        ProofEnd::Passed => format!(in alloc; "passed {label}\n"),
+        ProofEnd::Failed { node } => failed_line(alloc, label, node.number),
+        ProofEnd::Pending { node, why } => pending_line(alloc, label, node.number, why),
+        ProofEnd::Refused { code } => refused_line(alloc, label, *code),
     }
 }
 

@@ -30,7 +30,7 @@ use Rattle.kp_rule_reading.proofs.Declared.{none_foreign}
 use Rattle.kp_rules.specs.LeftSides.{IsLeftSide, IsOverLeft}
 use Rattle.kp_rules.specs.Sides.{AreSidesOf}
 use Rattle.kp_rules.specs.VerifiedSides.{AreVerifiedSides}
-use Rattle.kp_rules.specs.declared.sides.Sides.{Sides}
+use Rattle.kp_rules.specs.declared.sides.ReadSides.{ReadSides}
 use Rattle.kp_rule_reading.specs.LeftForms.{AreMadeSides}
 use Rattle.kp_rule_reading.proofs.LeftForms.{is_left_side}
 use Rattle.kp_rule_reading.proofs.Constrained.{is_constrained}
@@ -90,7 +90,7 @@ verified_left g a s l r m e shape h declared place =
     )
 
 -- the sides that are made are the rule's
-sides_are : (g : KoreSignature) (m : model.Rewrite) (w : Sides) → IsVerifiedLeft g m.left → none_within (misapplies_injection g) m.left ≡ true → IsOverLeft m → AreMadeSides g m w → AreSidesOf g m w
+sides_are : (g : KoreSignature) (m : model.Rewrite) (w : ReadSides) → IsVerifiedLeft g m.left → none_within (misapplies_injection g) m.left ≡ true → IsOverLeft m → AreMadeSides g m w → AreSidesOf g m w
 sides_are g m w verified injections over made = record {
   left = subst (IsLeftSide g m) (sym made.left) (is_left_side g m (record { term = verified.0; known = verified.1; uninterpreted = verified.2; injections = injections }));
   form = made.left;

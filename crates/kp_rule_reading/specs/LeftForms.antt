@@ -13,7 +13,7 @@ use Rattle.kp_kore.specs.Rules.{Rewrite}
 use Rattle.kp_rules.specs.LeftForms.{left_form}
 use Rattle.kp_rules.specs.Skeletons.{skeleton_view}
 use Rattle.kp_rules.specs.declared.skeleton.Skeleton.{Skeleton}
-use Rattle.kp_rules.specs.declared.sides.Sides.{Sides}
+use Rattle.kp_rules.specs.declared.sides.ReadSides.{ReadSides}
 
 -- a term without foreign and interpreted symbols, and inj has one argument
 pub record IsLeftTerm (g : KoreSignature) (p : KorePattern) : Type 0 where
@@ -29,7 +29,7 @@ AreLeftForms g = AllZip (λ p k. skeleton_view k ≡ left_form g (view p))
 -- ---- the sides as they are made
 
 -- the left term is seen as a form; the rest is the rewrite's
-pub record AreMadeSides (g : KoreSignature) (m : Rewrite) (s : Sides) : Type 0 where
+pub record AreMadeSides (g : KoreSignature) (m : Rewrite) (s : ReadSides) : Type 0 where
   pub left : skeleton_view s.left ≡ left_form g m.left
   pub condition : map view s.condition.items ≡ m.condition
   pub right : view s.right ≡ m.right

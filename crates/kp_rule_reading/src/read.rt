@@ -34,7 +34,7 @@ use crate::rewrite_parts::compiled;
 use kp_compile::{CompileError, NameSet, subpatterns};
 use kp_kore::{AxiomSentence, Pattern, Sort};
 use kp_rules::rule::{Rewrite, RuleBody};
-use kp_rules::shape::{Shape, Side, shape_of};
+use kp_rules::shape::{RuleSide, Shape, shape_of};
 use kp_rules::skeleton::{Skeleton, skeleton_of_left};
 use kp_signature::{Signature, VerifyError, verify};
 use kp_sort_index::sort_index::SortIndex;
@@ -267,7 +267,11 @@ fn is_read_condition(
 }
 
 /// Whether the left term is read, and the condition with no variables but those of the left term.
-fn is_read_side(alloc: Global, signature: &Signature, side: &Side<'_>) -> Result<bool, AllocError>
+fn is_read_side(
+    alloc: Global,
+    signature: &Signature,
+    side: &RuleSide<'_>,
+) -> Result<bool, AllocError>
     ensures { IfOk result (λ b. b ≡ is_side_read (signature_view signature.now) (view side.now.term.now) (seen side.now.predicates.items)) }
 {
     if !is_read_left(alloc, signature, side.term)? {
@@ -283,7 +287,7 @@ fn is_read_left_side(
     alloc: Global,
     signature: &Signature,
     index: &SortIndex,
-    side: &Side<'_>,
+    side: &RuleSide<'_>,
 ) -> Result<bool, AllocError>
     requires index { IsIndexOf (signature_view signature.now) index.now }
     ensures { let g = signature_view signature.now in let term' = view side.now.term.now in let condition' = seen side.now.predicates.items in IfOk result (λ b. MatchBool b (IsLeftSideRead g term' condition') (¬ IsLeftSideRead g term' condition')) }

@@ -13,7 +13,7 @@ use crate::left_side::left_side_of;
 use crate::names::names_of;
 use kp_compile::CompileError;
 use kp_kore::{Pattern, SortedVariable};
-use kp_rules::Sides;
+use kp_rules::ReadSides;
 use kp_rules::shape::Shape;
 use kp_signature::Signature;
 use std::alloc::{AllocError, Global};
@@ -37,7 +37,7 @@ pub fn sides_of(
     signature: &Signature,
     shape: &Shape<'_>,
     right: &Pattern,
-) -> Result<Sides, CompileError>
+) -> Result<ReadSides, CompileError>
     ensures made { IfOk result (AreMadeSides (signature_view signature.now) (rewrite_seen (view right.now) shape.now)) }
     ensures refused { IfErr result (λ e. IsVerifiedLeftTerm (signature_view signature.now) (view shape.now.left.term.now) → e ≡ Memory) }
 {
@@ -45,7 +45,7 @@ pub fn sides_of(
     let condition = copies(alloc, &shape.left.predicates)?;
     let ensured = copies(alloc, &shape.right.predicates)?;
     let new_variables = new_beside(alloc, shape.left.term, right)?;
-    Ok(Sides {
+    Ok(ReadSides {
         left,
         condition,
         right: shape.right.term.copy(alloc)?,

@@ -1,11 +1,11 @@
 -- What the code's heads are.
 use Rattle.kp_rule_sets.specs.Tops.{Top, number, truth_value, some_token, constructor_named, Tops, any_top, no_top, only_top}
-use Rattle.kp_rule_sets.specs.declared.head.Head.{Head}
-use Rattle.kp_rule_sets.specs.declared.head.Head.TheVariants.{Number, Truth, Token, Constructor}
+use Rattle.kp_rule_sets.specs.declared.head.ValueTop.{ValueTop}
+use Rattle.kp_rule_sets.specs.declared.head.ValueTop.TheVariants.{Number, Truth, Token, Constructor}
 use Rattle.kp_rule_sets.specs.declared.tops.Tops as code
 use Rattle.kp_rule_sets.specs.declared.tops.Tops.TheVariants.{Any, Nothing, Only}
 
-abbrev pub head_view : Head → Top
+abbrev pub head_view : ValueTop → Top
 head_view Number = number
 head_view Truth = truth_value
 head_view Token = some_token

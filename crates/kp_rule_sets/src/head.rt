@@ -8,7 +8,7 @@ use kp_ground::Value;
 
 /// What stands at the top of a value: a constructor, or a literal of this kind.
 #[derive(Drop)]
-pub enum Head<'a> {
+pub enum ValueTop<'a> {
     Number,
     Truth,
     Token,
@@ -16,13 +16,13 @@ pub enum Head<'a> {
 }
 
 /// The head of a value.
-pub fn head_of(value: &Value) -> Head<'_>
+pub fn head_of(value: &Value) -> ValueTop<'_>
     ensures { head_view result ≡ top_of (value_view value.now) }
 {
     match value {
-        Value::Whole { .. } => Head::Number,
-        Value::Truth { .. } => Head::Truth,
-        Value::Token { .. } => Head::Token,
-        Value::Constructed { constructor, .. } => Head::Constructor(constructor.as_str()),
+        Value::Whole { .. } => ValueTop::Number,
+        Value::Truth { .. } => ValueTop::Truth,
+        Value::Token { .. } => ValueTop::Token,
+        Value::Constructed { constructor, .. } => ValueTop::Constructor(constructor.as_str()),
     }
 }

@@ -8,7 +8,7 @@ ghost use Rattle.kp_rule_sets.specs.HeadView.{head_view, tops_view};
 ghost use Rattle.kp_rule_sets.specs.Rows.{Fills, FillsOf, numbered, places_at, row_at, row_of, rows_view};
 ghost use Rattle.kp_rule_sets.specs.declared.places.Ranked.{Ranked};
 
-use crate::head::Head;
+use crate::head::ValueTop;
 use crate::places::{Places, Ranked};
 use crate::tops::{Tops, tops_of};
 use indexmap::IndexMap;
@@ -63,14 +63,14 @@ impl Index {
     }
 
     /// The row of a head.
-    fn row(&self, head: &Head<'_>) -> usize
+    fn row(&self, head: &ValueTop<'_>) -> usize
         ensures { result ≡ row_of (get_by_text self.now.names) (head_view head.now) }
     {
         match head {
-            Head::Number => 1,
-            Head::Truth => 2,
-            Head::Token => 3,
-            Head::Constructor(name) => self.named(name),
+            ValueTop::Number => 1,
+            ValueTop::Truth => 2,
+            ValueTop::Token => 3,
+            ValueTop::Constructor(name) => self.named(name),
         }
     }
 
@@ -85,7 +85,7 @@ impl Index {
     }
 
     /// The places of the rules that have a head.
-    fn own(&self, head: &Head<'_>) -> &[Ranked]
+    fn own(&self, head: &ValueTop<'_>) -> &[Ranked]
         ensures { result.now ≡ row_at self.now (head_view head.now) }
     {
         let row = self.row(head);
@@ -96,7 +96,7 @@ impl Index {
     }
 
     /// The places of the rules that may have a head. It takes no memory.
-    pub fn places(&self, head: &Head<'_>) -> Places<'_>
+    pub fn places(&self, head: &ValueTop<'_>) -> Places<'_>
         ensures { left_of result ≡ places_at self.now (head_view head.now) }
     {
         Places {
@@ -120,18 +120,23 @@ impl Index {
     }
 
     /// Sees to it that a head has a row of its own.
-    fn prepare(&mut self, alloc: Global, head: &Head<'_>) -> Result<(), AllocError>
+    fn prepare(&mut self, alloc: Global, head: &ValueTop<'_>) -> Result<(), AllocError>
         ensures filled { (own : Top → ℕ → Bool) (all : ℕ → Bool) (seen : List Ranked) → Fills own all seen self.old → OnOk result (Fills own all seen self.new) }
         ensures prepared { (own : Top → ℕ → Bool) (all : ℕ → Bool) (seen : List Ranked) → Fills own all seen self.old → OnOk result (row_of (get_by_text self.new.names) (head_view head.now) ≢ 0) }
     {
         match head {
-            Head::Constructor(name) => self.note(alloc, name),
-            Head::Number | Head::Truth | Head::Token => Ok(()),
+            ValueTop::Constructor(name) => self.note(alloc, name),
+            ValueTop::Number | ValueTop::Truth | ValueTop::Token => Ok(()),
         }
     }
 
     /// Adds the place of a rule whose left term has this head.
-    fn add_at(&mut self, alloc: Global, head: &Head<'_>, ranked: Ranked) -> Result<(), AllocError>
+    fn add_at(
+        &mut self,
+        alloc: Global,
+        head: &ValueTop<'_>,
+        ranked: Ranked,
+    ) -> Result<(), AllocError>
         ensures { (own : Top → ℕ → Bool) (all : ℕ → Bool) (seen : List Ranked) → Fills own all seen self.old → ((h : Top) → own h ranked.place ≡ tops_same (head_view head.now) h) → all ranked.place ≡ false →
             OnOk result (Fills own all (seen ++ ranked ∷ []) self.new) }
     {

@@ -9,6 +9,6 @@ pub mod rule_set;
 mod tops;
 mod turn;
 
-pub use head::{Head, head_of};
+pub use head::{ValueTop, head_of};
 pub use places::Places;
 pub use rule_set::RuleSet;

@@ -7,7 +7,7 @@ ghost use Rattle.kp_rule_sets.specs.Rows.{places_at};
 ghost use Rattle.kp_rule_sets.specs.Tops.{Top, may_have};
 ghost use Rattle.kp_rule_sets.specs.Turns.{AreInTurn};
 
-use crate::head::Head;
+use crate::head::ValueTop;
 use crate::index::{Index, index_of};
 use crate::places::Places;
 use crate::turn::turn_order;
@@ -75,7 +75,7 @@ impl RuleSet {
 
     /// The places of exactly the rules that may have the head: those whose left term, without `inj`, has it or is a
     /// variable. They come by turn, and are found without memory.
-    pub fn rules_at(&self, head: &Head<'_>) -> Places<'_>
+    pub fn rules_at(&self, head: &ValueTop<'_>) -> Places<'_>
         ensures { AreInTurn self.now.rules.items (may_have (head_view head.now)) (left_of result) }
     {
         self.index.places(head)

@@ -5,8 +5,8 @@ ghost use Rattle.kp_rules.specs.Skeletons.{skeleton_view};
 ghost use Rattle.kp_rule_sets.specs.Tops.{left_tops, form_tops, body_tops};
 ghost use Rattle.kp_rule_sets.specs.HeadView.{tops_view};
 
-use crate::head::{Head, head_of};
-use kp_ground::Left;
+use crate::head::{ValueTop, head_of};
+use kp_ground::CompiledLeft;
 use kp_rules::{RuleBody, Skeleton};
 
 /// What the instances of a left term have at their tops.
@@ -14,17 +14,19 @@ use kp_rules::{RuleBody, Skeleton};
 pub enum Tops<'a> {
     Any,
     Nothing,
-    Only(Head<'a>),
+    Only(ValueTop<'a>),
 }
 
 /// Of a left term that is read. A variable may stand for any value, under `inj` too, which values don't have.
-fn of_left(left: &Left) -> Tops<'_>
+fn of_left(left: &CompiledLeft) -> Tops<'_>
     ensures { tops_view result ≡ left_tops (left_view left.now) }
 {
     match left {
-        Left::Variable { .. } => Tops::Any,
-        Left::Fixed { value } => Tops::Only(head_of(value)),
-        Left::Built { constructor, .. } => Tops::Only(Head::Constructor(constructor.as_str())),
+        CompiledLeft::Variable { .. } => Tops::Any,
+        CompiledLeft::Fixed { value } => Tops::Only(head_of(value)),
+        CompiledLeft::Built { constructor, .. } => Tops::Only(ValueTop::Constructor(
+            constructor.as_str(),
+        )),
     }
 }
 
@@ -38,7 +40,9 @@ fn of_skeleton(skeleton: &Skeleton) -> Tops<'_>
         Skeleton::Any { .. } => Tops::Any,
         Skeleton::Variable { .. } => Tops::Any,
         Skeleton::Fixed { value } => Tops::Only(head_of(value)),
-        Skeleton::Built { constructor, .. } => Tops::Only(Head::Constructor(constructor.as_str())),
+        Skeleton::Built { constructor, .. } => Tops::Only(ValueTop::Constructor(
+            constructor.as_str(),
+        )),
     }
 }
 

@@ -13,7 +13,7 @@ use Rattle.kp_ground.specs.Matches.{IsSolvable}
 use Rattle.kp_ground.specs.Conditions.{condition_holds, condition_narrow}
 use Rattle.kp_ground.specs.ConditionView.{condition_view, GivesTruth}
 use Rattle.kp_ground.specs.declared.binding.Binding.{Binding}
-use Rattle.kp_ground.specs.declared.left.Left.{Left}
+use Rattle.kp_ground.specs.declared.left.CompiledLeft.{CompiledLeft}
 use Rattle.kp_ground.specs.declared.evaluate.EvaluationError.{EvaluationError}
 use Rattle.kp_ground.specs.declared.evaluate.EvaluationError.TheVariants.{Memory, Number}
 use Rattle.kp_rules.specs.declared.rule.Rewrite.{Rewrite}
@@ -79,7 +79,7 @@ fires_not_told g r bindings u Memory gives binds = tt
 fires_not_told g r bindings u Number gives binds = λ v m. gives v ((binds v).1 m.matches)
 
 -- what is kept has the names of the bindings
-pub kept_bound : (l : Left) (bindings : List Binding) (holds : Bool) (o : Option (Vec Binding Global)) → MatchOption o (holds ≡ false) (λ kept. (kept.items ≡ bindings) × (holds ≡ true)) →
+pub kept_bound : (l : CompiledLeft) (bindings : List Binding) (holds : Bool) (o : Option (Vec Binding Global)) → MatchOption o (holds ≡ false) (λ kept. (kept.items ≡ bindings) × (holds ≡ true)) →
     bound_names bindings ≡ left_variables l → IfSome o (λ new. bound_names new.items ≡ left_variables l)
 kept_bound l bindings holds None kept e = tt
 kept_bound l bindings holds (Some new) kept e = ap bound_names kept.0 ∙ e

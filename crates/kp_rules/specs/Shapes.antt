@@ -8,14 +8,14 @@ use Rattle.kp_kore.specs.Instance.{conjoined_predicates}
 use Rattle.kp_kore.specs.Rules.{Rewrite, constrained_term, new_variables_of}
 pub use Rattle.kp_compile.specs.Parts.{seen}
 use Rattle.kp_rules.specs.declared.shape.Binder.{Binder}
-use Rattle.kp_rules.specs.declared.shape.Side.{Side}
+use Rattle.kp_rules.specs.declared.shape.RuleSide.{RuleSide}
 use Rattle.kp_rules.specs.declared.shape.Shape.{Shape}
 
 abbrev pub variables_seen : List Binder → List SortedName
 variables_seen = map (λ b. record { name = string_bytes b.name.now; sort = sort_view b.sort.now })
 
 -- the one term and the predicates of a side
-abbrev pub side_view : Side → KorePattern × List KorePattern
+abbrev pub side_view : RuleSide → KorePattern × List KorePattern
 side_view s = (view s.term.now, seen s.predicates.items)
 
 -- where it is a conjunction of these

@@ -7,10 +7,10 @@ use Rattle.kp_kore.specs.Rules.{Rewrite}
 use Rattle.kp_rules.specs.Skeletons.{skeleton_view}
 use Rattle.kp_rules.specs.LeftForms.{left_form}
 use Rattle.kp_rules.specs.LeftSides.{IsLeftSide, IsOverLeft}
-use Rattle.kp_rules.specs.declared.sides.Sides.{Sides}
+use Rattle.kp_rules.specs.declared.sides.ReadSides.{ReadSides}
 
 -- the left side is the left term's, as a form; the condition is over its variables; the rest is the rewrite's
-pub record AreSidesOf (g : KoreSignature) (m : Rewrite) (s : Sides) : Type 0 where
+pub record AreSidesOf (g : KoreSignature) (m : Rewrite) (s : ReadSides) : Type 0 where
   pub left : IsLeftSide g m (skeleton_view s.left)
   pub form : skeleton_view s.left ≡ left_form g m.left
   pub over_left : IsOverLeft m

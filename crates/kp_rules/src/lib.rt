@@ -13,6 +13,6 @@ mod values;
 
 pub use right_side::{RightSide, is_named};
 pub use rule::{Rewrite, Rule, RuleBody, RuleSource, SortTest};
-pub use sides::Sides;
+pub use sides::ReadSides;
 pub use skeleton::Skeleton;
 pub use values::has_sort;

@@ -4,9 +4,9 @@ ghost use Rattle.kp_ground.specs.Slots.{left_variables};
 ghost use Rattle.kp_rules.specs.Bound.{is_left_bound, is_right_bound, names_of_choice};
 
 use crate::right_side::RightSide;
-use crate::sides::Sides;
+use crate::sides::ReadSides;
 use crate::skeleton::Skeleton;
-use kp_ground::{CompiledTerm, Condition, Left};
+use kp_ground::{CompiledLeft, CompiledTerm, Condition};
 use kp_kore::{Name, Sort};
 use std::sync::Arc;
 
@@ -51,7 +51,7 @@ impl Drop for RuleBody {
 /// A rule that is read: matched by `left` and the sort tests, under `condition`, to `right`. A match binds the left term's
 /// variables, and what is tested, the condition and, unless the rule chooses, the right term read no others.
 pub struct Rewrite {
-    pub left: Left,
+    pub left: CompiledLeft,
     pub tests: Vec<SortTest>,
     pub condition: Condition,
     pub right: CompiledTerm,
@@ -61,7 +61,7 @@ pub struct Rewrite {
     /// The right side of a rule that chooses, as its axiom has it.
     pub choice: Option<RightSide>,
     /// What it says of states with variables.
-    pub sides: Sides,
+    pub sides: ReadSides,
     pub ghost left_bound: { is_left_bound left tests.items condition ≡ true } by { Prim.hlevel props },
     pub ghost right_bound: { is_right_bound left chooses choice right ≡ true } by { Prim.hlevel props },
     pub ghost choice_bound: { names_of_choice (left_variables left) choice ≡ left_variables left } by { Prim.hlevel props },

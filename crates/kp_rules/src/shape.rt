@@ -16,7 +16,7 @@ use std::alloc::{AllocError, Global};
 
 /// A conjunction, in any order and nesting, of one term and predicates.
 #[derive(Drop)]
-pub struct Side<'a> {
+pub struct RuleSide<'a> {
     pub term: &'a Pattern,
     pub predicates: Vec<&'a Pattern>,
 }
@@ -39,8 +39,8 @@ pub struct Bound<'a> {
 /// `\exists` of different names.
 #[derive(Drop)]
 pub struct Shape<'a> {
-    pub left: Side<'a>,
-    pub right: Side<'a>,
+    pub left: RuleSide<'a>,
+    pub right: RuleSide<'a>,
 }
 
 /// The terms among the patterns.
@@ -96,14 +96,14 @@ pub fn only<'a>(terms: &[&'a Pattern]) -> Option<&'a Pattern>
 }
 
 /// A side's one term and predicates, where it has these alone.
-fn side_among<'a>(terms: &[&'a Pattern], predicates: Vec<&'a Pattern>) -> Option<Side<'a>>
+fn side_among<'a>(terms: &[&'a Pattern], predicates: Vec<&'a Pattern>) -> Option<RuleSide<'a>>
     ensures { option_map side_view result ≡ option_map (λ t. (t, seen predicates.entry.items)) (if list_all predicate_test (seen predicates.entry.items) then only_one (seen terms.now) else None) }
 {
     if !are_predicates(&predicates) {
         return None;
     }
     match only(terms) {
-        Some(term) => Some(Side { term, predicates }),
+        Some(term) => Some(RuleSide { term, predicates }),
         None => None,
     }
 }
@@ -112,7 +112,7 @@ fn side_among<'a>(terms: &[&'a Pattern], predicates: Vec<&'a Pattern>) -> Option
 pub fn constrained_side<'a>(
     alloc: Global,
     pattern: &'a Pattern,
-) -> Result<Option<Side<'a>>, AllocError>
+) -> Result<Option<RuleSide<'a>>, AllocError>
     ensures { IfOk result (λ o. option_map side_view o ≡ side_of (view pattern.now)) }
 {
     let members = conjuncts(alloc, pattern)?;
@@ -199,7 +199,7 @@ pub fn shape_of<'a>(
 }
 
 /// A rule's shape, where both sides have one.
-fn joined<'a>(left: Option<Side<'a>>, right: Option<Side<'a>>) -> Option<Shape<'a>>
+fn joined<'a>(left: Option<RuleSide<'a>>, right: Option<RuleSide<'a>>) -> Option<Shape<'a>>
     ensures { (l r : KorePattern) → option_map side_view left.entry ≡ side_of l → option_map side_view right.entry ≡ side_of (what_is_bound r) → option_map (rewrite_seen r) result ≡ joined_sides l r (constrained_term l) (constrained_term (what_is_bound r)) }
 {
     match left {

@@ -4,7 +4,7 @@ use kp_kore::{Pattern, SortedVariable};
 
 /// What a rule says of states with variables: its left term as a form, in which each variable stands for one value, its
 /// condition, its right term, what that ensures, and the variables that are new in it.
-pub struct Sides {
+pub struct ReadSides {
     pub left: Skeleton,
     pub condition: Vec<Pattern>,
     pub right: Pattern,
@@ -14,9 +14,9 @@ pub struct Sides {
 }
 
 // Written out: a derived one is proved again, with those of all that it holds, in each crate that makes a rule.
-impl Drop for Sides {
+impl Drop for ReadSides {
     fn drop(self) {
-        let Sides {
+        let ReadSides {
             left: _left,
             condition: _condition,
             right: _right,

@@ -7,7 +7,7 @@ use Rattle.kp_ground.specs.Terms.{left_built}
 use Rattle.kp_ground.specs.LeftView.{left_view, lefts_of}
 use Rattle.kp_ground.specs.View.{value_view, values_of}
 use Rattle.kp_ground.specs.Matches.{AreSame, IsSame}
-use Rattle.kp_ground.specs.declared.left.Left.{Left}
+use Rattle.kp_ground.specs.declared.left.CompiledLeft.{CompiledLeft}
 use Rattle.kp_ground.specs.declared.value.Value.{Value}
 use Rattle.kp_ground.proofs.MatchLemmas.{same_arguments}
 
@@ -15,5 +15,5 @@ same_tops : (f h : Text) (us ws : Values) → constructed f us ≡ constructed h
 same_tops f h us ws e = cc
 
 -- where the left term's instance is the value, the instances of its parts are the value's
-pub same_parts : (f h : Text) (ts : List Left) (us : List Value) (v : Valuation) → IsSame (left_built f (lefts_of (map left_view ts))) (constructed h (values_of (map value_view us))) v → AreSame ts us v
+pub same_parts : (f h : Text) (ts : List CompiledLeft) (us : List Value) (v : Valuation) → IsSame (left_built f (lefts_of (map left_view ts))) (constructed h (values_of (map value_view us))) v → AreSame ts us v
 same_parts f h ts us v same = (same_arguments f h ts us (same_tops f h _ _ same) v).1 same

@@ -5,7 +5,7 @@ ghost use Rattle.kp_ground.specs.LeftView.{left_view};
 ghost use Rattle.kp_ground.specs.Matches.{AreSame, IsSame};
 ghost use Rattle.kp_ground.specs.View.{value_view};
 
-use kp_ground::{Left, Value};
+use kp_ground::{CompiledLeft, Value};
 use std::sync::Arc;
 
 /// Whether two names are the same.
@@ -17,13 +17,13 @@ fn same_name(name: &Arc<String>, other: &Arc<String>) -> bool
 
 /// Whether a value has the shape of a left term, whatever each variable stands for: each instance has it.
 #[cycle(fitting)]
-fn fits(left: &Left, value: &Value) -> bool
+fn fits(left: &CompiledLeft, value: &Value) -> bool
     ensures { (v : Valuation) → IsSame (left_view left.now) (value_view value.now) v → IsTrue result }
 {
     match left {
-        Left::Variable { .. } => true,
-        Left::Fixed { value: fixed } => fixed.equal(value),
-        Left::Built {
+        CompiledLeft::Variable { .. } => true,
+        CompiledLeft::Fixed { value: fixed } => fixed.equal(value),
+        CompiledLeft::Built {
             constructor,
             arguments,
         } => match value {
@@ -44,7 +44,7 @@ fn fits(left: &Left, value: &Value) -> bool
 
 /// The same of lists, one by one.
 #[cycle(fitting)]
-fn all_fit(lefts: &[Left], values: &[Value]) -> bool
+fn all_fit(lefts: &[CompiledLeft], values: &[Value]) -> bool
     ensures { (v : Valuation) → AreSame lefts.now values.now v → IsTrue result }
 {
     if lefts.len() != values.len() {
@@ -60,11 +60,11 @@ fn all_fit(lefts: &[Left], values: &[Value]) -> bool
 
 /// Whether the parts of a value have the shapes of a left term's: each instance's have. What stands at the top isn't
 /// looked at.
-pub fn parts_fit(left: &Left, value: &Value) -> bool
+pub fn parts_fit(left: &CompiledLeft, value: &Value) -> bool
     ensures { (v : Valuation) → IsSame (left_view left.now) (value_view value.now) v → IsTrue result }
 {
     match left {
-        Left::Built { arguments, .. } => match value {
+        CompiledLeft::Built { arguments, .. } => match value {
             Value::Constructed {
                 arguments: values,
                 ..

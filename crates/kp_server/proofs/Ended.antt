@@ -21,7 +21,7 @@ use Rattle.kp_run.specs.declared.run.Stop.{Stop}
 use Rattle.kp_run.specs.declared.run.Stop.TheVariants.{Stuck, DepthBound, ForeignRule}
 use Rattle.kp_server.specs.Normal.{TellsFirst}
 use Rattle.kp_server.specs.Ends.{ending_of}
-use Rattle.kp_server.specs.declared.failure.Failure.TheVariants as failure
+use Rattle.kp_server.specs.declared.failure.PatternFailure.TheVariants as failure
 
 pub tells_first : (t : Theory) (c : Value) (bound : ℕ) (end : RunEnd) → IsRunOf t c bound end → TellsFirst t (ending_of end.stop) (value_view end.state.value)
 tells_first t c bound end run = by_stop end.stop refl

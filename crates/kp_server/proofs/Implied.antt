@@ -28,7 +28,7 @@ use Rattle.kp_server.specs.Ends.{IsStateAt}
 use Rattle.kp_server.specs.Setting.{IsElsewhere, Setting}
 use Rattle.kp_server.specs.Untold.{IsImpliesUntold, asked_elsewhere, no_antecedent, no_consequent, other_sorts}
 use Rattle.kp_server.specs.Sides.{AreCompared, result_at}
-use Rattle.kp_server.specs.declared.failure.Failure.TheVariants as failure
+use Rattle.kp_server.specs.declared.failure.PatternFailure.TheVariants as failure
 
 -- ---- ground terms
 

@@ -17,13 +17,13 @@ use Rattle.kp_run.specs.declared.run.Stop.TheVariants.{Stuck, DepthBound, Foreig
 use Rattle.kp_rpc.specs.View.{pattern_fault_view}
 use Rattle.kp_rpc.specs.declared.fault.StateFault.TheVariants as fault
 use Rattle.kp_server.specs.Right.{IsPatternFault}
-use Rattle.kp_server.specs.declared.failure.Failure.{Failure}
-use Rattle.kp_server.specs.declared.failure.Failure.TheVariants as failure
+use Rattle.kp_server.specs.declared.failure.PatternFailure.{PatternFailure}
+use Rattle.kp_server.specs.declared.failure.PatternFailure.TheVariants as failure
 
 -- ---- failures
 
 -- a failure tells what is wrong with a pattern; want of memory tells nothing
-abbrev pub IsWrongPattern : KoreSignature → (KorePattern → KoreSort → Type 0) → KorePattern → Failure → Type 0
+abbrev pub IsWrongPattern : KoreSignature → (KorePattern → KoreSort → Type 0) → KorePattern → PatternFailure → Type 0
 IsWrongPattern g LeftOut p failure.Memory = ⊤
 IsWrongPattern g LeftOut p (failure.Fault (fault.Json f)) = ⊥
 IsWrongPattern g LeftOut p (failure.Fault (fault.Verify f)) = IsPatternFault g LeftOut p (pattern_fault_view f)

@@ -7,7 +7,7 @@ use Rattle.kp_kore.specs.Theory.{Theory, IsTheoryOf, modules_reached}
 use Rattle.kp_imports.specs.Names.{names_of}
 use Rattle.kp_imports.specs.Reaching.{has}
 use Rattle.kp_modules.specs.Tables.{RunsTable, does_reach, main_of}
-use Rattle.kp_modules.specs.declared.table.Table.{Table}
+use Rattle.kp_modules.specs.declared.table.ModuleTable.{ModuleTable}
 
 -- the theory of the main module, its name, and the names of the modules that it reaches
 pub record Setting : Type 0 where
@@ -31,7 +31,7 @@ IsElsewhere main (Some n) = n ≢ main
 -- ---- the code's table
 
 -- the table is that of the setting
-pub record IsSettingOf (s : Setting) (table : Table) : Type 0 where
+pub record IsSettingOf (s : Setting) (table : ModuleTable) : Type 0 where
   pub runs : RunsTable s.theory table
   pub main_is : main_of table ≡ s.main
   pub reaches : (n : Text) → does_reach table n ≡ has n s.names

@@ -11,8 +11,8 @@ use Rattle.kp_compile.specs.declared.state.GroundState.{GroundState}
 use Rattle.kp_rpc.specs.Reply.{not_verified, other_shape}
 use Rattle.kp_rpc.specs.View.{state_fault_view}
 use Rattle.kp_server.specs.Ends.{IsStateAt}
-use Rattle.kp_server.specs.declared.failure.Failure.{Failure}
-use Rattle.kp_server.specs.declared.failure.Failure.TheVariants as failure
+use Rattle.kp_server.specs.declared.failure.PatternFailure.{PatternFailure}
+use Rattle.kp_server.specs.declared.failure.PatternFailure.TheVariants as failure
 
 -- ---- sides
 
@@ -45,7 +45,7 @@ abbrev pub AreApart : Option GroundState → Option GroundState → Type 0
 AreApart (Some a) (Some c) = sort_view a.sort ≢ sort_view c.sort
 AreApart _ _ = ⊤
 
-abbrev pub AreNotCompared : Option GroundState → Option GroundState → Failure → Type 0
+abbrev pub AreNotCompared : Option GroundState → Option GroundState → PatternFailure → Type 0
 AreNotCompared a c failure.Memory = ⊤
 AreNotCompared a c (failure.Fault f) = (state_fault_view f ≡ not_verified other_shape) × AreApart a c
 

@@ -3,7 +3,7 @@ ghost use Rattle.kp_kore.specs.Signature.{KoreSignature};
 ghost use Rattle.kp_kore.specs.Syntax.{KorePattern};
 ghost use Rattle.kp_server.specs.Ends.{IsWrongPattern, TellsFault};
 ghost use Rattle.kp_server.specs.Right.{NoneLeftOut};
-ghost use Rattle.kp_server.specs.declared.failure.Failure.TheVariants as failure;
+ghost use Rattle.kp_server.specs.declared.failure.PatternFailure.TheVariants as failure;
 ghost use Rattle.kp_signature.specs.declared.error.VerifyError.TheVariants as verify;
 
 use kp_rpc::{PatternFault, StateFault};
@@ -12,29 +12,29 @@ use std::alloc::AllocError;
 
 /// Why a pattern has no place in a request.
 #[derive(Drop)]
-pub enum Failure {
+pub enum PatternFailure {
     Memory,
     Fault(StateFault),
 }
 
-impl From<AllocError> for Failure {
+impl From<AllocError> for PatternFailure {
     ghost use Rattle.std.specs.Prelude.{◌≡◌};
-    ghost use Rattle.kp_server.specs.declared.failure.Failure.TheVariants as failure;
+    ghost use Rattle.kp_server.specs.declared.failure.PatternFailure.TheVariants as failure;
 
     ghost from_gives = { λ _ e. e ≡ failure.Memory };
 
     fn from(_error: AllocError) -> Self {
-        Failure::Memory
+        PatternFailure::Memory
     }
 }
 
 /// Why a pattern that doesn't verify has no place in a request.
-pub fn verify_failure(error: VerifyError) -> Failure
+pub fn verify_failure(error: VerifyError) -> PatternFailure
     ensures memory { result ≡ failure.Memory → error ≡ verify.Memory }
     ensures fault { (g : KoreSignature) (p : KorePattern) → TellsFault g p error → IsWrongPattern g NoneLeftOut p result }
 {
     match error {
-        VerifyError::Memory => Failure::Memory,
-        error => Failure::Fault(StateFault::Verify(PatternFault::Unverified(error))),
+        VerifyError::Memory => PatternFailure::Memory,
+        error => PatternFailure::Fault(StateFault::Verify(PatternFault::Unverified(error))),
     }
 }

@@ -8,7 +8,7 @@ mod results;
 mod rules;
 mod sides;
 
-pub use failure::{Failure, verify_failure};
+pub use failure::{PatternFailure, verify_failure};
 pub use results::{implied_at, result_of};
 pub use rules::rules_of;
 pub use sides::{compared_sides, not_answered, side_state};

@@ -2,11 +2,11 @@
 ghost use Rattle.kp_rule_sets.specs.RuleSets.{RunsAs};
 ghost use Rattle.kp_server.specs.Setting.{IsSettingOf, Setting};
 
-use kp_modules::Table;
+use kp_modules::ModuleTable;
 use kp_rule_sets::RuleSet;
 
 /// The rules of a table.
-pub fn rules_of(table: &Table) -> &RuleSet
+pub fn rules_of(table: &ModuleTable) -> &RuleSet
     ensures { (s : Setting) → IsSettingOf s table.now → RunsAs s.theory result.now }
 {
     table.rule_set()

@@ -9,7 +9,7 @@ ghost use Rattle.kp_server.specs.Ends.{IsWrongPattern};
 ghost use Rattle.kp_server.specs.Right.{NoneLeftOut};
 ghost use Rattle.kp_server.specs.Sides.{AreBothCompared, AreCompared, AreNotCompared, IsSideState};
 
-use crate::failure::Failure;
+use crate::failure::PatternFailure;
 use kp_compile::{GroundState, StateError, state_of};
 use kp_kore::{Pattern, Sort};
 use kp_rpc::{PatternFault, StateFault};
@@ -29,14 +29,14 @@ pub fn side_state(
     signature: &Signature,
     pattern: &Pattern,
     sort: Sort,
-) -> Result<Option<GroundState>, Failure>
+) -> Result<Option<GroundState>, PatternFailure>
     ensures found { let g = signature_view signature.now in let pattern' = view pattern.now in let sort' = sort_view sort in VerifiesAs g pattern' sort' → IfOk result (IsSideState g pattern' sort') }
     ensures failed { let g = signature_view signature.now in let pattern' = view pattern.now in VerifiesAs g pattern' (sort_view sort) → IfErr result (IsWrongPattern g NoneLeftOut pattern') }
 {
     match state_of(alloc, signature, pattern, sort) {
         Ok(state) => Ok(Some(state)),
-        Err(StateError::Memory) => Err(Failure::Memory),
-        Err(StateError::ForeignSymbol { name }) => Err(Failure::Fault(StateFault::Verify(
+        Err(StateError::Memory) => Err(PatternFailure::Memory),
+        Err(StateError::ForeignSymbol { name }) => Err(PatternFailure::Fault(StateFault::Verify(
             PatternFault::ForeignSymbol { name },
         ))),
         Err(StateError::OtherShape) => Ok(None),
@@ -48,15 +48,15 @@ pub fn compared_sides(
     alloc: Global,
     antecedent: &Option<GroundState>,
     consequent: &Option<GroundState>,
-) -> Result<Option<Sort>, Failure>
+) -> Result<Option<Sort>, PatternFailure>
     ensures found { IfOk result (λ o. AreBothCompared antecedent.now consequent.now (option_map sort_view o)) }
     ensures failed { IfErr result (AreNotCompared antecedent.now consequent.now) }
 {
     let Some(antecedent) = antecedent else {
-        return Err(Failure::Fault(not_answered()));
+        return Err(PatternFailure::Fault(not_answered()));
     };
     let Some(consequent) = consequent else {
-        return Err(Failure::Fault(not_answered()));
+        return Err(PatternFailure::Fault(not_answered()));
     };
     compared(alloc, antecedent, consequent)
 }
@@ -66,12 +66,12 @@ fn compared(
     alloc: Global,
     antecedent: &GroundState,
     consequent: &GroundState,
-) -> Result<Option<Sort>, Failure>
+) -> Result<Option<Sort>, PatternFailure>
     ensures found { IfOk result (λ o. AreCompared antecedent.now consequent.now (option_map sort_view o)) }
     ensures failed { IfErr result (AreNotCompared (Some antecedent.now) (Some consequent.now)) }
 {
     if !antecedent.sort.equal(&consequent.sort) {
-        return Err(Failure::Fault(not_answered()));
+        return Err(PatternFailure::Fault(not_answered()));
     }
     if antecedent.value.equal(&consequent.value) {
         return Ok(Some(antecedent.sort.copy(alloc)?));

@@ -21,25 +21,25 @@ use Rattle.kp_server.specs.Right.{IsPatternFault, NoneLeftOut}
 use Rattle.kp_server.specs.Setting.{IsElsewhere, Setting}
 use Rattle.kp_server.specs.Sides.{AreApart, AreBothCompared, AreNotCompared, IsSideState, result_at}
 use Rattle.kp_server.specs.Untold.{IsImpliesUntold, no_antecedent, no_consequent, other_sorts}
-use Rattle.kp_server.specs.declared.failure.Failure.{Failure}
-use Rattle.kp_server.specs.declared.failure.Failure.TheVariants as failure
+use Rattle.kp_server.specs.declared.failure.PatternFailure.{PatternFailure}
+use Rattle.kp_server.specs.declared.failure.PatternFailure.TheVariants as failure
 use Rattle.kp_service.specs.Answered.{IsImpliesError, in_antecedent, in_consequent, untold, IsImpliedAs, bad_sides, implied}
 use Rattle.kp_service.specs.Told.{IsFaultLine, IsImpliedLine, IsImpliedOf, IsLineOf, IsSideOf, IsSidesFailure, IsTreeFailure}
 
 -- ---- failures
 
 -- the antecedent's tree spells no pattern
-pub left_unread : (s : Setting) (asked : Option Text) (a c : Reading KorePattern) (f : Failure) → IsTreeFailure a f → IsSidesFailure s asked a c f
+pub left_unread : (s : Setting) (asked : Option Text) (a c : Reading KorePattern) (f : PatternFailure) → IsTreeFailure a f → IsSidesFailure s asked a c f
 left_unread s asked a c failure.Memory w = tt
 left_unread s asked a c (failure.Fault f) w = subst (λ x. IsImpliesError s asked x c (state_fault_view f)) (sym w.1) w.2
 
 -- the consequent's
-pub right_unread : (s : Setting) (asked : Option Text) (a c : Reading KorePattern) (p : KorePattern) (f : Failure) → a ≡ read p → IsTreeFailure c f → IsSidesFailure s asked a c f
+pub right_unread : (s : Setting) (asked : Option Text) (a c : Reading KorePattern) (p : KorePattern) (f : PatternFailure) → a ≡ read p → IsTreeFailure c f → IsSidesFailure s asked a c f
 right_unread s asked a c p failure.Memory is w = tt
 right_unread s asked a c p (failure.Fault f) is w = subst (λ x. IsImpliesError s asked x c (state_fault_view f)) (sym is) (subst (λ x. IsImpliesError s asked (read p) x (state_fault_view f)) (sym w.1) w.2)
 
 -- what holds of the patterns that were read holds of what was read
-pub of_read : (s : Setting) (asked : Option Text) (a c : Reading KorePattern) (p q : KorePattern) (f : Failure) → a ≡ read p → c ≡ read q → IsSidesFailure s asked (read p) (read q) f → IsSidesFailure s asked a c f
+pub of_read : (s : Setting) (asked : Option Text) (a c : Reading KorePattern) (p q : KorePattern) (f : PatternFailure) → a ≡ read p → c ≡ read q → IsSidesFailure s asked (read p) (read q) f → IsSidesFailure s asked a c f
 of_read s asked a c p q f is other w = subst (λ x. IsSidesFailure s asked x c f) (sym is) (subst (λ x. IsSidesFailure s asked (read p) x f) (sym other) w)
 
 implied_of_read : (g : KoreSignature) (a c : Reading KorePattern) (p q : KorePattern) (o : Option KoreSort) → a ≡ read p → c ≡ read q → IsImpliedOf g (read p) (read q) o → IsImpliedOf g a c o
@@ -51,13 +51,13 @@ implied_over g h same a c p q o is other x = subst (λ k. IsImpliedOf k a c o) s
 pub side_of : (g : KoreSignature) (p : KorePattern) (sort : KoreSort) (found : Option GroundState) → VerifiesAs g p sort → IsSideState g p sort found → IsSideOf g p found
 side_of g p sort found v x = record { sort = sort; verifies = v; is_state = x }
 
-pub left_wrong : (g : KoreSignature) (s : Setting) → g ≡ s.theory.signature → (asked : Option Text) (p q : KorePattern) (f : Failure) → IsWrongPattern g NoneLeftOut p f → IsSidesFailure s asked (read p) (read q) f
+pub left_wrong : (g : KoreSignature) (s : Setting) → g ≡ s.theory.signature → (asked : Option Text) (p q : KorePattern) (f : PatternFailure) → IsWrongPattern g NoneLeftOut p f → IsSidesFailure s asked (read p) (read q) f
 left_wrong g s same asked p q failure.Memory w = tt
 left_wrong g s same asked p q (failure.Fault (state.Json f)) w = absurd w
 left_wrong g s same asked p q (failure.Fault (state.Verify f)) w = in_antecedent (pattern_fault_view f) (subst (λ k. IsPatternFault k NoneLeftOut p (pattern_fault_view f)) same w)
 left_wrong g s same asked p q (failure.Fault (state.NoModule name)) w = absurd w
 
-pub right_wrong : (g : KoreSignature) (s : Setting) → g ≡ s.theory.signature → (asked : Option Text) (p q : KorePattern) (o : Option GroundState) (f : Failure) → IsSideOf g p o → IsWrongPattern g NoneLeftOut q f → IsSidesFailure s asked (read p) (read q) f
+pub right_wrong : (g : KoreSignature) (s : Setting) → g ≡ s.theory.signature → (asked : Option Text) (p q : KorePattern) (o : Option GroundState) (f : PatternFailure) → IsSideOf g p o → IsWrongPattern g NoneLeftOut q f → IsSidesFailure s asked (read p) (read q) f
 right_wrong g s same asked p q o failure.Memory x w = tt
 right_wrong g s same asked p q o (failure.Fault (state.Json f)) x w = absurd w
 right_wrong g s same asked p q o (failure.Fault (state.Verify f)) x w =
@@ -71,12 +71,12 @@ why_apart s asked p q (Some a) None x y k = no_consequent y.is_state.1
 why_apart s asked p q (Some a) (Some c) x y k = other_sorts (λ same. k (x.is_state.1.sort_is ∙ (same ∙ sym y.is_state.1.sort_is)))
 
 -- T2 of sides that aren't compared
-apart : (s : Setting) (asked : Option Text) (p q : KorePattern) (a c : Option GroundState) → IsSideOf s.theory.signature p a → IsSideOf s.theory.signature q c → (f : Failure) → AreNotCompared a c f → IsSidesFailure s asked (read p) (read q) f
+apart : (s : Setting) (asked : Option Text) (p q : KorePattern) (a c : Option GroundState) → IsSideOf s.theory.signature p a → IsSideOf s.theory.signature q c → (f : PatternFailure) → AreNotCompared a c f → IsSidesFailure s asked (read p) (read q) f
 apart s asked p q a c x y failure.Memory k = tt
 apart s asked p q a c x y (failure.Fault f) k =
     subst (λ e. IsImpliesError s asked (read p) (read q) e) (sym k.0) (untold x.sort y.sort x.verifies x.is_state.0 y.verifies y.is_state.0 (why_apart s asked p q a c x y k.1))
 
-pub apart_over : (g : KoreSignature) (s : Setting) → g ≡ s.theory.signature → (asked : Option Text) (p q : KorePattern) (a c : Option GroundState) → IsSideOf g p a → IsSideOf g q c → (f : Failure) → AreNotCompared a c f → IsSidesFailure s asked (read p) (read q) f
+pub apart_over : (g : KoreSignature) (s : Setting) → g ≡ s.theory.signature → (asked : Option Text) (p q : KorePattern) (a c : Option GroundState) → IsSideOf g p a → IsSideOf g q c → (f : PatternFailure) → AreNotCompared a c f → IsSidesFailure s asked (read p) (read q) f
 apart_over g s same asked p q a c x y f k = apart s asked p q a c (subst (λ h. IsSideOf h p a) same x) (subst (λ h. IsSideOf h q c) same y) f k
 
 -- ---- results
@@ -125,7 +125,7 @@ implied_line_is_right g s same id asked here a c o h line l = (
   l.2,
 )
 
-pub sides_line_is_right : (s : Setting) (id : RequestId) (asked : Option Text) (a c : Reading KorePattern) (f : Failure) → IsSidesFailure s asked a c f → (line : List ℕ) → IsFaultLine id f line → IsLineOf (IsImpliedAs s id asked a c) line
+pub sides_line_is_right : (s : Setting) (id : RequestId) (asked : Option Text) (a c : Reading KorePattern) (f : PatternFailure) → IsSidesFailure s asked a c f → (line : List ℕ) → IsFaultLine id f line → IsLineOf (IsImpliedAs s id asked a c) line
 sides_line_is_right s id asked a c failure.Memory w line l = absurd l
 sides_line_is_right s id asked a c (failure.Fault f) w line l = (error_reply id (state_fault_view f), bad_sides a c (state_fault_view f) w, l)
 

@@ -12,8 +12,8 @@ use Rattle.kp_rpc.specs.View.{state_fault_view}
 use Rattle.kp_replies.specs.Written.{implied_tree}
 use Rattle.kp_server.specs.Setting.{Setting}
 use Rattle.kp_server.specs.Sides.{IsSideState, AreBothCompared, result_at}
-use Rattle.kp_server.specs.declared.failure.Failure.{Failure}
-use Rattle.kp_server.specs.declared.failure.Failure.TheVariants as failure
+use Rattle.kp_server.specs.declared.failure.PatternFailure.{PatternFailure}
+use Rattle.kp_server.specs.declared.failure.PatternFailure.TheVariants as failure
 use Rattle.kp_service.specs.Answered.{IsImpliesError}
 
 -- ---- lines
@@ -23,7 +23,7 @@ abbrev pub IsLineOf : (Data → Type 0) → List ℕ → Type 0
 IsLineOf IsRight line = (reply : Data) × IsRight reply × (line ≡ reply_bytes reply)
 
 -- the line tells a fault; want of memory has none
-abbrev pub IsFaultLine : RequestId → Failure → List ℕ → Type 0
+abbrev pub IsFaultLine : RequestId → PatternFailure → List ℕ → Type 0
 IsFaultLine id failure.Memory line = ⊥
 IsFaultLine id (failure.Fault f) line = line ≡ reply_bytes (error_reply id (state_fault_view f))
 
@@ -34,12 +34,12 @@ IsImpliedLine id o line = (tree : Data) × (implied_tree (result_at o) ≡ Some 
 -- ---- what was read
 
 -- a failure tells the fault of the tree; want of memory tells nothing
-abbrev pub IsTreeFailure : Reading KorePattern → Failure → Type 0
+abbrev pub IsTreeFailure : Reading KorePattern → PatternFailure → Type 0
 IsTreeFailure state failure.Memory = ⊤
 IsTreeFailure state (failure.Fault f) = (x : TreeFault) × (state ≡ fault x) × (state_fault_view f ≡ no_pattern x)
 
 -- it tells what is wrong with the sides of implies
-abbrev pub IsSidesFailure : Setting → Option Text → Reading KorePattern → Reading KorePattern → Failure → Type 0
+abbrev pub IsSidesFailure : Setting → Option Text → Reading KorePattern → Reading KorePattern → PatternFailure → Type 0
 IsSidesFailure s asked antecedent consequent failure.Memory = ⊤
 IsSidesFailure s asked antecedent consequent (failure.Fault f) = IsImpliesError s asked antecedent consequent (state_fault_view f)
 

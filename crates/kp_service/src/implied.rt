@@ -18,7 +18,7 @@ use kp_replies::implied_text;
 use kp_requests::Reading;
 use kp_rpc::{Id, StateFault, fault_text};
 use kp_rule_sets::RuleSet;
-use kp_server::{Failure, compared_sides, implied_at, side_state, verify_failure};
+use kp_server::{PatternFailure, compared_sides, implied_at, side_state, verify_failure};
 use kp_signature::{Signature, verify};
 use std::alloc::{AllocError, Global};
 
@@ -40,12 +40,12 @@ pub fn implied_line(
 }
 
 /// The reply with a failure.
-fn failure_line(alloc: Global, id: &Id, failure: Failure) -> Result<Vec<u8>, AllocError>
+fn failure_line(alloc: Global, id: &Id, failure: PatternFailure) -> Result<Vec<u8>, AllocError>
     ensures { IfOk result (λ line. IsFaultLine (id_view id.now) failure line.items) }
 {
     match failure {
-        Failure::Fault(fault) => fault_text(alloc, id, &fault),
-        Failure::Memory => Err(AllocError),
+        PatternFailure::Fault(fault) => fault_text(alloc, id, &fault),
+        PatternFailure::Memory => Err(AllocError),
     }
 }
 
@@ -67,7 +67,7 @@ fn implied(
     rules: &RuleSet,
     antecedent: Reading,
     consequent: Reading,
-) -> Result<Option<Sort>, Failure>
+) -> Result<Option<Sort>, PatternFailure>
     ensures found { IfOk result (λ o. IsImpliedOf (signature_view rules.now.signature.value) (reading_view antecedent) (reading_view consequent) (option_map sort_view o)) }
     ensures failed { (s : Setting) (asked : Option Text) → signature_view rules.now.signature.value ≡ s.theory.signature → IfErr result (IsSidesFailure s asked (reading_view antecedent) (reading_view consequent)) }
 {
@@ -82,7 +82,7 @@ fn compared(
     signature: &Signature,
     left: &Pattern,
     right: &Pattern,
-) -> Result<Option<Sort>, Failure>
+) -> Result<Option<Sort>, PatternFailure>
     ensures found { IfOk result (λ o. IsImpliedOf (signature_view signature.now) (faults.read (view left.now)) (faults.read (view right.now)) (option_map sort_view o)) }
     ensures failed { (s : Setting) (asked : Option Text) → signature_view signature.now ≡ s.theory.signature → IfErr result (IsSidesFailure s asked (faults.read (view left.now)) (faults.read (view right.now))) }
 {
@@ -92,13 +92,13 @@ fn compared(
 }
 
 /// The pattern that was read, or its tree's first fault.
-fn pattern_in(side: Reading) -> Result<Pattern, Failure>
+fn pattern_in(side: Reading) -> Result<Pattern, PatternFailure>
     ensures found { IfOk result (λ p. reading_view side ≡ faults.read (view p)) }
     ensures failed { IfErr result (IsTreeFailure (reading_view side)) }
 {
     match side {
         Reading::Pattern(pattern) => Ok(pattern),
-        Reading::Fault(fault) => Err(Failure::Fault(StateFault::Json(fault))),
+        Reading::Fault(fault) => Err(PatternFailure::Fault(StateFault::Json(fault))),
     }
 }
 
@@ -107,7 +107,7 @@ fn side_at(
     alloc: Global,
     signature: &Signature,
     pattern: &Pattern,
-) -> Result<Option<GroundState>, Failure>
+) -> Result<Option<GroundState>, PatternFailure>
     ensures found { IfOk result (IsSideOf (signature_view signature.now) (view pattern.now)) }
     ensures failed { IfErr result (IsWrongPattern (signature_view signature.now) NoneLeftOut (view pattern.now)) }
 {

@@ -7,7 +7,7 @@ ghost use Rattle.kp_service.specs.Ready.{IsReadyFor};
 use crate::batch::answered_batch;
 use crate::member::{answered, text_of};
 use kp_conn::Answerer;
-use kp_modules::Table;
+use kp_modules::ModuleTable;
 use kp_registry::{Pass, Registry};
 use kp_requests::{Parsed, request_of};
 use kp_rpc::{Id, refusal_text};
@@ -31,7 +31,11 @@ impl Service {
     ghost use Rattle.kp_service.specs.Ready.{IsReadyFor};
 
     /// A service over a table's modules, with a pass that has seen no added ones.
-    pub fn begin(alloc: Global, table: Table, seats: usize) -> Result<(Service, Pass), AllocError>
+    pub fn begin(
+        alloc: Global,
+        table: ModuleTable,
+        seats: usize,
+    ) -> Result<(Service, Pass), AllocError>
         requires seats { (1 ≤ seats) × (seats ≤ 64) }
         ensures pass { IfOk result (λ out. IsPass out.1 × IsReadyFor out.0.registry out.0.prepared) }
         ensures seen { (o : Opening) → IsTableOf o table → IfOk result (λ out. HasSeenAt out.0.registry out.1 o []) }

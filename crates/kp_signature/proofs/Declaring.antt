@@ -6,7 +6,7 @@ use Rattle.indexmap.specs.IndexMap.{IndexMap}
 use Rattle.kp_signature.specs.Names.{Indexes}
 use Rattle.kp_signature.specs.Table.{IsTableOf}
 use Rattle.kp_signature.specs.Pairs.{subsort_view}
-use Rattle.kp_signature.specs.declared.table.Table.{Table}
+use Rattle.kp_signature.specs.declared.table.DeclarationTable.{DeclarationTable}
 use Rattle.kp_kore.specs.View.{sort_sentence_view, symbol_sentence_view, alias_sentence_view}
 use Rattle.kp_kore.specs.Signature.{sorts_in, symbols_in, aliases_in, subsorts_in, subsorts_among}
 
@@ -65,7 +65,7 @@ pushed_places f items name before after old all y place step i e m h =
     (step (map name old) i (e ∙ sym (length-map items f) ∙ ap length m ∙ sym (length-map old name)))
 
 -- a sentence that declares nothing
-pub nothing_more : (t : Table) (ss : List KoreSentence) (s : KoreSentence) → sorts_in (s ∷ []) ≡ [] → symbols_in (s ∷ []) ≡ [] → aliases_in (s ∷ []) ≡ [] → subsorts_in (s ∷ []) ≡ [] →
+pub nothing_more : (t : DeclarationTable) (ss : List KoreSentence) (s : KoreSentence) → sorts_in (s ∷ []) ≡ [] → symbols_in (s ∷ []) ≡ [] → aliases_in (s ∷ []) ≡ [] → subsorts_in (s ∷ []) ≡ [] →
     IsTableOf t ss → IsTableOf t (ss ++ s ∷ [])
 nothing_more t ss s a b c d is = record {
   sorts = kept sort_sentence_view t.sorts.items (sorts_in ss) (sorts_in (ss ++ s ∷ [])) is.sorts (sorts_in-append ss (s ∷ []) ∙ ap (λ l. sorts_in ss ++ l) a);

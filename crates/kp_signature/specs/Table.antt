@@ -8,7 +8,7 @@ use Rattle.kp_kore.specs.Signature.{KoreSignature, sorts_in, symbols_in, aliases
 use Rattle.kp_kore.specs.View.{sort_sentence_view, symbol_sentence_view, alias_sentence_view}
 use Rattle.kp_signature.specs.Names.{Indexes}
 use Rattle.kp_signature.specs.Pairs.{subsort_view}
-use Rattle.kp_signature.specs.declared.table.Table.{Table}
+use Rattle.kp_signature.specs.declared.table.DeclarationTable.{DeclarationTable}
 
 abbrev pub sort_names : List SortDeclaration → List Text
 sort_names = map (λ d. d.name)
@@ -20,7 +20,7 @@ abbrev pub alias_names : List AliasDeclaration → List Text
 alias_names = map (λ d. d.name)
 
 -- the table has what the sentences declare
-pub record IsTableOf (t : Table) (sentences : List KoreSentence) : Type 0 where
+pub record IsTableOf (t : DeclarationTable) (sentences : List KoreSentence) : Type 0 where
   pub sorts : map sort_sentence_view t.sorts.items ≡ sorts_in sentences
   pub symbols : map symbol_sentence_view t.symbols.items ≡ symbols_in sentences
   pub aliases : map alias_sentence_view t.aliases.items ≡ aliases_in sentences
@@ -30,7 +30,7 @@ pub record IsTableOf (t : Table) (sentences : List KoreSentence) : Type 0 where
   pub alias_places : Indexes (alias_names (aliases_in sentences)) t.alias_places
 
 -- the signature that the table is seen as
-abbrev pub table_view : Table → KoreSignature
+abbrev pub table_view : DeclarationTable → KoreSignature
 table_view t = record {
   sorts = map sort_sentence_view t.sorts.items;
   symbols = map symbol_sentence_view t.symbols.items;
@@ -39,7 +39,7 @@ table_view t = record {
 }
 
 -- the maps have for each name its first place among the declarations
-abbrev pub IsIndexed : Table → Type 0
+abbrev pub IsIndexed : DeclarationTable → Type 0
 IsIndexed t =
     Indexes (sort_names (table_view t).sorts) t.sort_places
     × Indexes (symbol_names (table_view t).symbols) t.symbol_places

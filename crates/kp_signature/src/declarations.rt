@@ -11,14 +11,14 @@ use crate::hooked::{first_hooked, other_than};
 use crate::kinds::is_named;
 use crate::order::SortOrder;
 use crate::symbols::is_constructor;
-use crate::table::Table;
+use crate::table::DeclarationTable;
 use kp_kore::{AliasSentence, Module, Name, Sort, SortSentence, SymbolSentence};
 use std::alloc::{AllocError, Global};
 
 /// The declarations, the order of their sorts, and the names of the sorts of whole numbers and truth values.
 #[derive(Drop)]
 pub struct Declarations {
-    pub table: Table,
+    pub table: DeclarationTable,
     pub(crate) order: SortOrder,
     pub(crate) integers: Option<Name>,
     pub(crate) booleans: Option<Name>,
@@ -43,7 +43,7 @@ impl Declarations {
     pub fn new(alloc: Global, modules: &[&Module]) -> Result<Declarations, AllocError>
         ensures { IfOk result (λ d. table_view d.table ≡ signature_of (sentences_of modules.now)) }
     {
-        let mut table = Table::new(alloc);
+        let mut table = DeclarationTable::new(alloc);
         for module in modules {
             table.add_all(alloc, &module.sentences)?;
         }

@@ -7,7 +7,7 @@ use std::alloc::{AllocError, Global};
 
 /// The declarations in order, and the first place of each name among them.
 #[derive(Drop)]
-pub struct Table {
+pub struct DeclarationTable {
     pub sorts: Vec<SortSentence>,
     pub symbols: Vec<SymbolSentence>,
     pub aliases: Vec<AliasSentence>,
@@ -17,17 +17,17 @@ pub struct Table {
     pub alias_places: NamePlaces,
 }
 
-impl Table {
+impl DeclarationTable {
     ghost use Rattle.std.specs.Prelude.{◌++◌, ◌∷◌, [], List, OnOk, map};
     ghost use Rattle.kp_kore.specs.Syntax.{KoreSentence, sort_sentence, symbol_sentence, alias_sentence};
     ghost use Rattle.kp_kore.specs.View.{sentence_view, sort_sentence_view, symbol_sentence_view, alias_sentence_view};
     ghost use Rattle.kp_signature.specs.Table.{IsTableOf};
 
     /// No declarations.
-    pub fn new(alloc: Global) -> Table
+    pub fn new(alloc: Global) -> DeclarationTable
         ensures { IsTableOf result [] }
     {
-        Table {
+        DeclarationTable {
             sorts: Vec::new(alloc),
             symbols: Vec::new(alloc),
             aliases: Vec::new(alloc),

@@ -55,13 +55,13 @@ pub fn deep_term(number: u64) -> Undecided
 }
 
 /// A weight as it is told.
-fn weight_of(weight: kp_weights::Weight) -> Weight
+fn weight_of(weight: kp_weights::WeightKind) -> Weight
     ensures { weight_view result ≡ part_of_weight (weights.weight_view weight) }
 {
     match weight {
-        kp_weights::Weight::Bits => Weight::Bits,
-        kp_weights::Weight::Literals => Weight::Literals,
-        kp_weights::Weight::Product => Weight::Product,
+        kp_weights::WeightKind::Bits => Weight::Bits,
+        kp_weights::WeightKind::Literals => Weight::Literals,
+        kp_weights::WeightKind::Product => Weight::Product,
     }
 }
 

@@ -28,7 +28,7 @@ use Rattle.kp_replies.specs.Written.{simplified_tree}
 use Rattle.kp_results.specs.View.{undecided_view}
 use Rattle.kp_server.specs.Ends.{IsWrongPattern, TellsFault}
 use Rattle.kp_server.specs.Right.{NoneLeftOut}
-use Rattle.kp_server.specs.declared.failure.Failure.TheVariants as failure
+use Rattle.kp_server.specs.declared.failure.PatternFailure.TheVariants as failure
 use Rattle.kp_simplify.specs.Spelled.{parts_of_cause}
 use Rattle.kp_simplify.specs.Told.{IsFound, IsToldAs, IsUnsimplified, LacksInjection}
 use Rattle.kp_simplify.specs.declared.answer.Simplified.{Simplified}

@@ -29,7 +29,7 @@ use kp_kore::{Pattern, Sort};
 use kp_replies::{Failure as ReplyFailure, failure_text, simplified_text};
 use kp_requests::Reading;
 use kp_rpc::{Id, PatternFault, StateFault, fault_text};
-use kp_server::{Failure, not_answered, verify_failure};
+use kp_server::{PatternFailure, not_answered, verify_failure};
 use kp_signature::{VerifyError, verify};
 use kp_simplify::{Simplified, SimplifyError, simplify};
 use kp_symbolic::Language;
@@ -92,8 +92,8 @@ pub fn unverified_line(alloc: Global, id: &Id, error: VerifyError) -> Result<Vec
         return Err(AllocError);
     }
     match verify_failure(error) {
-        Failure::Fault(fault) => fault_text(alloc, id, &fault),
-        Failure::Memory => Err(AllocError),
+        PatternFailure::Fault(fault) => fault_text(alloc, id, &fault),
+        PatternFailure::Memory => Err(AllocError),
     }
 }
 

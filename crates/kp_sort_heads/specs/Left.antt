@@ -10,7 +10,7 @@ use Rattle.kp_signature.specs.Pairs.{subsort_view}
 use Rattle.kp_signature.specs.declared.subsort.Subsort.{Subsort}
 use Rattle.kp_sort_heads.specs.declared.left.Stage.{Stage}
 use Rattle.kp_sort_heads.specs.declared.left.Stage.TheVariants as stage
-use Rattle.kp_sort_heads.specs.declared.left.Left.{Left}
+use Rattle.kp_sort_heads.specs.declared.left.RemainingHeads.{RemainingHeads}
 
 -- the first of the list, and the rest of it; none where there is nothing
 abbrev pub IsNext : Option Head → List Head → List Head → Type 0
@@ -30,9 +30,9 @@ from_stage s stage.Booleans listed = booleans ∷ tokens s ∷ listed
 from_stage s stage.Own listed = tokens s ∷ listed
 from_stage s stage.Listed listed = listed
 
-abbrev pub possible_left : KoreSort → Left → List Head
+abbrev pub possible_left : KoreSort → RemainingHeads → List Head
 possible_left s x = from_stage s x.stage (listed_left x.pairs.now x.symbols.now)
 
 -- those of what is left that are heads of the sort
-abbrev pub heads_left : KoreSignature → KoreSort → Left → List Head
+abbrev pub heads_left : KoreSignature → KoreSort → RemainingHeads → List Head
 heads_left g s x = filter (is_head g s) (possible_left s x)

@@ -5,11 +5,11 @@ use Rattle.kp_kore.specs.Signature as model
 use Rattle.kp_kore.specs.View.{sort_view}
 use Rattle.kp_signature.specs.View.{signature_view}
 use Rattle.kp_sort_heads.specs.Left.{heads_left}
-use Rattle.kp_sort_heads.specs.declared.head.Head.{Head}
-use Rattle.kp_sort_heads.specs.declared.head.Head.TheVariants as head
+use Rattle.kp_sort_heads.specs.declared.head.SortHead.{SortHead}
+use Rattle.kp_sort_heads.specs.declared.head.SortHead.TheVariants as head
 use Rattle.kp_sort_heads.specs.declared.sequence.HeadsLeft.{HeadsLeft}
 
-abbrev pub head_view : Head → model.Head
+abbrev pub head_view : SortHead → model.Head
 head_view head.Integers = model.integers
 head_view head.Booleans = model.booleans
 head_view (head.Tokens s) = model.tokens (sort_view s.now)

@@ -17,7 +17,7 @@ use kp_signature::symbols::is_constructor;
 
 /// What a value is built with: a whole number, a truth value, a token of a sort, or the constructor of this name.
 #[derive(Clone, Copy)]
-pub enum Head<'a> {
+pub enum SortHead<'a> {
     Integers,
     Booleans,
     Tokens { sort: &'a Sort },
@@ -25,14 +25,18 @@ pub enum Head<'a> {
 }
 
 /// Whether values of the sort may have the head.
-pub fn is_head(signature: &Signature, sort: &Sort, head: &Head) -> bool
+pub fn is_head(signature: &Signature, sort: &Sort, head: &SortHead) -> bool
     ensures { result ≡ model.is_head (signature_view signature.now) (sort_view sort.now) (head_view head.now) }
 {
     match head {
-        Head::Integers => has_numbers(signature, sort),
-        Head::Booleans => has_truths(signature, sort),
-        Head::Tokens { sort: tokens } => has_tokens_of(signature, tokens, sort),
-        Head::Constructor { declaration } => has_constructor(signature, &declaration.name, sort),
+        SortHead::Integers => has_numbers(signature, sort),
+        SortHead::Booleans => has_truths(signature, sort),
+        SortHead::Tokens { sort: tokens } => has_tokens_of(signature, tokens, sort),
+        SortHead::Constructor { declaration } => has_constructor(
+            signature,
+            &declaration.name,
+            sort,
+        ),
     }
 }
 
@@ -54,13 +58,13 @@ fn makes_values(signature: &Signature, declaration: &SymbolSentence, sort: &Sort
 }
 
 /// Whether some value has the head, which is one of a sort, where the table is the signature's.
-pub fn is_live(table: &HeadTable, signature: &Signature, head: &Head) -> bool
+pub fn is_live(table: &HeadTable, signature: &Signature, head: &SortHead) -> bool
     ensures { (s : KoreSort) → let g = signature_view signature.now in IsHeadTableOf g table.now → model.is_head g s (head_view head.now) ≡ true → IsTrue result ↔ IsLive g (head_view head.now) }
 {
     match head {
-        Head::Integers => true,
-        Head::Booleans => true,
-        Head::Tokens { .. } => true,
-        Head::Constructor { declaration } => table.is_live(signature, &declaration.name),
+        SortHead::Integers => true,
+        SortHead::Booleans => true,
+        SortHead::Tokens { .. } => true,
+        SortHead::Constructor { declaration } => table.is_live(signature, &declaration.name),
     }
 }

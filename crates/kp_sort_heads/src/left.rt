@@ -4,7 +4,7 @@ ghost use Rattle.kp_kore.specs.View.{sort_view};
 ghost use Rattle.kp_sort_heads.specs.Left.{IsNext, constructors_left, listed_left, possible_left};
 ghost use Rattle.kp_sort_heads.specs.Views.{head_view};
 
-use crate::head::Head;
+use crate::head::SortHead;
 use kp_kore::{Sort, SymbolSentence};
 use kp_signature::Subsort;
 
@@ -20,29 +20,29 @@ pub enum Stage {
 /// What is left of them: first those that no sentence lists, then the tokens of the sorts on the left of these pairs,
 /// then these symbols.
 #[derive(Drop)]
-pub struct Left<'a> {
+pub struct RemainingHeads<'a> {
     pub stage: Stage,
     pub pairs: &'a [Subsort],
     pub symbols: &'a [SymbolSentence],
 }
 
-impl<'a> Left<'a> {
+impl<'a> RemainingHeads<'a> {
     /// The next of them, for this sort.
-    pub fn next(&mut self, sort: &'a Sort) -> Option<Head<'a>>
+    pub fn next(&mut self, sort: &'a Sort) -> Option<SortHead<'a>>
         ensures { let s = sort_view sort.now in IsNext (option_map head_view result) (possible_left s self.old) (possible_left s self.new) }
     {
         match self.stage {
             Stage::Integers => {
                 self.stage = Stage::Booleans;
-                Some(Head::Integers)
+                Some(SortHead::Integers)
             }
             Stage::Booleans => {
                 self.stage = Stage::Own;
-                Some(Head::Booleans)
+                Some(SortHead::Booleans)
             }
             Stage::Own => {
                 self.stage = Stage::Listed;
-                Some(Head::Tokens { sort })
+                Some(SortHead::Tokens { sort })
             }
             Stage::Listed => next_listed(&mut self.pairs, &mut self.symbols),
         }
@@ -53,26 +53,26 @@ impl<'a> Left<'a> {
 fn next_listed<'a>(
     pairs: &mut &'a [Subsort],
     symbols: &mut &'a [SymbolSentence],
-) -> Option<Head<'a>>
+) -> Option<SortHead<'a>>
     ensures { IsNext (option_map head_view result) (listed_left pairs.old.now symbols.old.now) (listed_left pairs.new.now symbols.new.now) }
 {
     match *pairs {
         [first, rest @ ..] => {
             *pairs = rest;
-            Some(Head::Tokens { sort: &first.lower })
+            Some(SortHead::Tokens { sort: &first.lower })
         }
         [] => next_symbol(symbols),
     }
 }
 
 /// The next symbol.
-fn next_symbol<'a>(symbols: &mut &'a [SymbolSentence]) -> Option<Head<'a>>
+fn next_symbol<'a>(symbols: &mut &'a [SymbolSentence]) -> Option<SortHead<'a>>
     ensures { IsNext (option_map head_view result) (constructors_left symbols.old.now) (constructors_left symbols.new.now) }
 {
     match *symbols {
         [declaration, rest @ ..] => {
             *symbols = rest;
-            Some(Head::Constructor { declaration })
+            Some(SortHead::Constructor { declaration })
         }
         [] => None,
     }

@@ -6,5 +6,5 @@ mod head;
 mod left;
 mod sequence;
 
-pub use head::{Head, is_head};
+pub use head::{SortHead, is_head};
 pub use sequence::{HeadsLeft, heads};

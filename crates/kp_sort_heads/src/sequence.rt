@@ -9,8 +9,8 @@ ghost use Rattle.kp_sort_heads.specs.Left.{IsNext, heads_left};
 ghost use Rattle.kp_sort_heads.specs.Live.{IsNextLive};
 ghost use Rattle.kp_sort_heads.specs.Views.{head_view, left_of};
 
-use crate::head::{Head, is_head, is_live};
-use crate::left::{Left, Stage};
+use crate::head::{SortHead, is_head, is_live};
+use crate::left::{RemainingHeads, Stage};
 use kp_heads::HeadTable;
 use kp_kore::Sort;
 use kp_signature::Signature;
@@ -20,7 +20,7 @@ use kp_signature::Signature;
 pub struct HeadsLeft<'a> {
     pub(crate) signature: &'a Signature,
     pub(crate) sort: &'a Sort,
-    pub(crate) left: Left<'a>,
+    pub(crate) left: RemainingHeads<'a>,
 }
 
 /// The heads of a sort, in the order of the definition: whole numbers, truth values, tokens of the sort and of each that
@@ -29,7 +29,7 @@ pub fn heads<'a>(signature: &'a Signature, sort: &'a Sort) -> HeadsLeft<'a>
     ensures left { left_of result ≡ heads_of (signature_view signature.now) (sort_view sort.now) }
     ensures signature { result.signature.now ≡ signature.now }
 {
-    let left = Left {
+    let left = RemainingHeads {
         stage: Stage::Integers,
         pairs: signature.subsorts(),
         symbols: signature.symbols(),
@@ -43,7 +43,7 @@ pub fn heads<'a>(signature: &'a Signature, sort: &'a Sort) -> HeadsLeft<'a>
 
 impl<'a> HeadsLeft<'a> {
     /// The next head, none where no more is left. Takes no memory.
-    pub fn next(&mut self) -> Option<Head<'a>>
+    pub fn next(&mut self) -> Option<SortHead<'a>>
         ensures next { IsNext (option_map head_view result) (left_of self.old) (left_of self.new) }
         ensures signature { self.new.signature.now ≡ self.old.signature.now }
     {
@@ -52,7 +52,7 @@ impl<'a> HeadsLeft<'a> {
 
     /// The next head that some value has, none where no more is left; what is passed, none has. The table is the
     /// signature's. Takes no memory.
-    pub fn next_live(&mut self, table: &HeadTable) -> Option<Head<'a>>
+    pub fn next_live(&mut self, table: &HeadTable) -> Option<SortHead<'a>>
         ensures next { let g = signature_view self.old.signature.now in IsHeadTableOf g table.now → IsNextLive g (option_map head_view result) (left_of self.old) (left_of self.new) }
         ensures signature { self.new.signature.now ≡ self.old.signature.now }
     {
@@ -61,7 +61,11 @@ impl<'a> HeadsLeft<'a> {
 }
 
 /// The next of what is left that is a head of the sort.
-fn next_head<'a>(signature: &Signature, sort: &'a Sort, left: &mut Left<'a>) -> Option<Head<'a>>
+fn next_head<'a>(
+    signature: &Signature,
+    sort: &'a Sort,
+    left: &mut RemainingHeads<'a>,
+) -> Option<SortHead<'a>>
     ensures { let g = signature_view signature.now in let s = sort_view sort.now in IsNext (option_map head_view result) (heads_left g s left.old) (heads_left g s left.new) }
 {
     while let Some(head) = left.next(sort) {
@@ -77,8 +81,8 @@ fn next_live_head<'a>(
     table: &HeadTable,
     signature: &Signature,
     sort: &'a Sort,
-    left: &mut Left<'a>,
-) -> Option<Head<'a>>
+    left: &mut RemainingHeads<'a>,
+) -> Option<SortHead<'a>>
     ensures { let g = signature_view signature.now in let s = sort_view sort.now in IsHeadTableOf g table.now → IsNextLive g (option_map head_view result) (heads_left g s left.old) (heads_left g s left.new) }
 {
     while let Some(head) = next_head(signature, sort, left) {

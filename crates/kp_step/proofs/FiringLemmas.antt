@@ -16,7 +16,7 @@ use Rattle.kp_symbolic.specs.View.{replaced_view}
 use Rattle.kp_rules.specs.Skeletons.{skeleton_view}
 use Rattle.kp_rules.specs.Sides.{AreSidesOf}
 use Rattle.kp_rules.specs.VerifiedSides.{AreVerifiedSides}
-use Rattle.kp_rules.specs.declared.sides.Sides.{Sides}
+use Rattle.kp_rules.specs.declared.sides.ReadSides.{ReadSides}
 use Rattle.kp_cases.specs.Parts.{StatePart, whole, OfEachInstance, IsGrown}
 use Rattle.kp_cases.specs.Courses.{IsBoundTo, form_variables}
 use Rattle.kp_cases.proofs.PartLemmas.{below_itself}
@@ -58,7 +58,7 @@ all_at_hand g m all [] left bound n once = tt
 all_at_hand g m all (b ∷ bs) left bound n once = (one_at_hand g m all left b bound n.0 once.0, all_at_hand g m all bs left bound n.1 once.1)
 
 -- the bindings of what is met
-is_met_in : (t : Theory) (used : List Text) (m : Rewrite) (sides : Sides) (p : StatePart) (f : Firing) → AreSidesOf t.signature m sides → AreVerifiedSides t.signature m → FiresOn t.signature used m (skeleton_view sides.left) p f →
+is_met_in : (t : Theory) (used : List Text) (m : Rewrite) (sides : ReadSides) (p : StatePart) (f : Firing) → AreSidesOf t.signature m sides → AreVerifiedSides t.signature m → FiresOn t.signature used m (skeleton_view sides.left) p f →
     AllByRecursion (λ b. is_named b.name (form_variables (skeleton_view sides.left)) ≡ true) (firing_model f).bindings → IsMetIn t m (firing_model f).bindings (firing_model f).part.part
 is_met_in t used m sides p f s v k named =
     let g = t.signature in
@@ -79,7 +79,7 @@ is_met_in t used m sides p f s v k named =
     }
 
 -- the part that is met, of the whole state
-part_in : (t : Theory) (used : List Text) (s : SymbolicState) (q : NumberedPart) (m : Rewrite) (sides : Sides) (f : Firing) → IsWholeReady t.signature used s q → FiresOn t.signature used m (skeleton_view sides.left) q.part f → IsPartIn t.signature used (whole s) (firing_model f).part.part (firing_model f).part
+part_in : (t : Theory) (used : List Text) (s : SymbolicState) (q : NumberedPart) (m : Rewrite) (sides : ReadSides) (f : Firing) → IsWholeReady t.signature used s q → FiresOn t.signature used m (skeleton_view sides.left) q.part f → IsPartIn t.signature used (whole s) (firing_model f).part.part (firing_model f).part
 part_in t used s q m sides f w k =
     let r = (firing_model f).part in
     let grown = k.met.here.grown in
@@ -91,12 +91,12 @@ part_in t used s q m sides f w k =
     }
 
 -- the part where it fires comes of the whole state
-fires_from : (t : Theory) (used : List Text) (s : SymbolicState) (q : NumberedPart) (m : Rewrite) (sides : Sides) (f : Firing) → IsWholeReady t.signature used s q → FiresOn t.signature used m (skeleton_view sides.left) q.part f → ComesFrom t.signature (λ b. b ≡ rewrite m) (whole s) (narrowed_of (firing_model f)).part
+fires_from : (t : Theory) (used : List Text) (s : SymbolicState) (q : NumberedPart) (m : Rewrite) (sides : ReadSides) (f : Firing) → IsWholeReady t.signature used s q → FiresOn t.signature used m (skeleton_view sides.left) q.part f → ComesFrom t.signature (λ b. b ≡ rewrite m) (whole s) (narrowed_of (firing_model f)).part
 fires_from t used s q m sides f w k =
     let r = (firing_model f).part.part in
     fires r (rewrite m) ((firing_model f).equations ++ (firing_model f).condition) (narrowed (whole s) r (rewrite m) k.firing.of_rule.form itself refl k.firing.of_rule.is_form (subst (λ p. IsNarrowedFrom t.signature k.firing.of_rule.form p r) w.is k.firing.here.narrowed)) refl k.firing.of_rule
 
-pub is_firing : (t : Theory) (used : List Text) (s : SymbolicState) (place : ℕ) (q : NumberedPart) (m : Rewrite) (sides : Sides) (f : Firing) → IsWholeReady t.signature used s q → IsReadAs t place m → AreSidesOf t.signature m sides → AreVerifiedSides t.signature m → FiresOn t.signature used m (skeleton_view sides.left) q.part f →
+pub is_firing : (t : Theory) (used : List Text) (s : SymbolicState) (place : ℕ) (q : NumberedPart) (m : Rewrite) (sides : ReadSides) (f : Firing) → IsWholeReady t.signature used s q → IsReadAs t place m → AreSidesOf t.signature m sides → AreVerifiedSides t.signature m → FiresOn t.signature used m (skeleton_view sides.left) q.part f →
     AllByRecursion (λ b. is_named b.name (form_variables (skeleton_view sides.left)) ≡ true) (firing_model f).bindings → IsFiringOf t used s place (firing_model f)
 is_firing t used s place q m sides f w r s' v k named = record {
   rule = r.0;
@@ -112,16 +112,16 @@ is_firing t used s place q m sides f w r s' v k named = record {
 }
 
 -- what `fire` tells over the setting's signature
-abbrev pub TellsFired : KoreSignature → List Text → Setting → Rewrite → Sides → NumberedPart → Option Firing → Type 0
+abbrev pub TellsFired : KoreSignature → List Text → Setting → Rewrite → ReadSides → NumberedPart → Option Firing → Type 0
 TellsFired g used k m sides q o = IsSetting used k → AreSidesOf g m sides → AreVerifiedSides g m → IsReadyPart g used q → IsFired g used m (skeleton_view sides.left) q.part o
 
-pub firing_at : (t : Theory) (used : List Text) (s : SymbolicState) (g : KoreSignature) (place : ℕ) (q : NumberedPart) (m : Rewrite) (sides : Sides) (o : Option Firing) {k : Setting} {f : Firing} → g ≡ t.signature → IsSetting used k → IsWholeReady t.signature used s q → IsReadAs t place m → AreSidesOf t.signature m sides → AreVerifiedSides t.signature m →
+pub firing_at : (t : Theory) (used : List Text) (s : SymbolicState) (g : KoreSignature) (place : ℕ) (q : NumberedPart) (m : Rewrite) (sides : ReadSides) (o : Option Firing) {k : Setting} {f : Firing} → g ≡ t.signature → IsSetting used k → IsWholeReady t.signature used s q → IsReadAs t place m → AreSidesOf t.signature m sides → AreVerifiedSides t.signature m →
     TellsFired g used k m sides q o → o ≡ Some f → AllByRecursion (λ b. is_named b.name (form_variables (skeleton_view sides.left)) ≡ true) (map replaced_view f.bindings.items) → IsFiringOf t used s place (firing_model f)
 firing_at t used s g place q m sides o {k} {f} e setting w read sidesof verified told is named =
     let here = subst (λ h. TellsFired h used k m sides q o) e told in
     is_firing t used s place q m sides f w read sidesof verified (subst (IsFired t.signature used m (skeleton_view sides.left) q.part) is (here setting sidesof verified w.ready)) named
 
-pub no_turn_there : (t : Theory) (used : List Text) (s : SymbolicState) (g : KoreSignature) (place : ℕ) (q : NumberedPart) (m : Rewrite) (sides : Sides) (o : Option Firing) {k : Setting} → g ≡ t.signature → IsSetting used k → IsWholeReady t.signature used s q → IsReadAs t place m → AreSidesOf t.signature m sides → AreVerifiedSides t.signature m →
+pub no_turn_there : (t : Theory) (used : List Text) (s : SymbolicState) (g : KoreSignature) (place : ℕ) (q : NumberedPart) (m : Rewrite) (sides : ReadSides) (o : Option Firing) {k : Setting} → g ≡ t.signature → IsSetting used k → IsWholeReady t.signature used s q → IsReadAs t place m → AreSidesOf t.signature m sides → AreVerifiedSides t.signature m →
     TellsFired g used k m sides q o → o ≡ None → (r : RewriteRule) → IsAt t place r → OfEachInstance t.signature (whole s) (λ w c. ¬ HasTurn t r c)
 no_turn_there t used s g place q m sides o {k} e setting w read sidesof verified told is r at =
     let here = subst (λ h. TellsFired h used k m sides q o) e told in

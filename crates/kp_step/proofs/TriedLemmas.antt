@@ -16,7 +16,7 @@ use Rattle.kp_symbolic.specs.View.{clauses_view}
 use Rattle.kp_rules.specs.Skeletons.{skeleton_view}
 use Rattle.kp_rules.specs.Sides.{AreSidesOf}
 use Rattle.kp_rules.specs.VerifiedSides.{AreVerifiedSides}
-use Rattle.kp_rules.specs.declared.sides.Sides.{Sides}
+use Rattle.kp_rules.specs.declared.sides.ReadSides.{ReadSides}
 use Rattle.kp_wide.specs.Wide.{WideCall, first_wide}
 use Rattle.kp_decide.specs.Read.{HasSortedClauses}
 use Rattle.kp_cases.specs.Parts.{StatePart, whole, with_clauses, OfEachInstance}
@@ -188,7 +188,7 @@ no_rule_no_turn t s place none r at = unread_no_turn t s r (λ m e. none r m at 
 
 -- ---- a rule that fires
 
-pub is_fired : (t : Theory) (used : List Text) (s : SymbolicState) (place : ℕ) (q : NumberedPart) (m : Rewrite) (sides : Sides) (f : Firing) (g : KoreSignature) (bindings : List Replaced) → g ≡ t.signature → IsWholeReady t.signature used s q → IsReadAs t place m → AreSidesOf t.signature m sides →
+pub is_fired : (t : Theory) (used : List Text) (s : SymbolicState) (place : ℕ) (q : NumberedPart) (m : Rewrite) (sides : ReadSides) (f : Firing) (g : KoreSignature) (bindings : List Replaced) → g ≡ t.signature → IsWholeReady t.signature used s q → IsReadAs t place m → AreSidesOf t.signature m sides →
     AreVerifiedSides t.signature m → FiresOn g used m (skeleton_view sides.left) q.part f → bindings ≡ (firing_model f).bindings → AllByRecursion (λ b. is_named b.name (form_variables (skeleton_view sides.left)) ≡ true) bindings → IsFiringOf t used s place (firing_model f)
 is_fired t used s place q m sides f g bindings e w read are verified fires same named = is_firing t used s place q m sides f w read are verified (subst (λ h. FiresOn h used m (skeleton_view sides.left) q.part f) e fires)
     (subst (λ bs. AllByRecursion (λ b. is_named b.name (form_variables (skeleton_view sides.left)) ≡ true) bs) same named)

@@ -21,7 +21,7 @@ use Rattle.kp_rules.specs.Sides.{AreSidesOf}
 use Rattle.kp_rules.specs.VerifiedSides.{AreVerifiedSides}
 use Rattle.kp_rules.specs.Skeletons.{Form}
 use Rattle.kp_rules.specs.declared.rule.Rewrite as code
-use Rattle.kp_rules.specs.declared.sides.Sides.{Sides}
+use Rattle.kp_rules.specs.declared.sides.ReadSides.{ReadSides}
 use Rattle.kp_rules.specs.declared.skeleton.Skeleton.{Skeleton}
 use Rattle.kp_rule_sets.specs.declared.rule_set.RuleSet.{RuleSet}
 use Rattle.kp_cases.specs.Parts.{StatePart, whole, with_clauses, OfEachInstance, IsTold}
@@ -94,7 +94,7 @@ TellsSkeletonMeets setting p k result =
 -- ---- what rules leave
 
 -- what one more rule, which takes from them, leaves of the parts
-abbrev pub LeavesWithout : {E : Type 0} → Setting → List Part → Sides → Result (Vec Part Global) E → Type 0
+abbrev pub LeavesWithout : {E : Type 0} → Setting → List Part → ReadSides → Result (Vec Part Global) E → Type 0
 LeavesWithout setting parts sides result =
     (used : List Text) (o : Option RewriteRule) (turns : List RewriteRule) (q : RewriteRule) (m : Rewrite) (s p : StatePart) → let g = signature_of setting in
     IsSetting used setting → q.body ≡ rewrite m → AreSidesOf g m sides → AreVerifiedSides g m → TakesFrom q o → AreLeft g used o turns s p (numbered_views parts) →
@@ -174,7 +174,7 @@ TriesRule setting rules turns p place result =
     IfOk result (TellsTurn t used s (map turn_view turns) place)
 
 -- the same where the place's rule is read, with these sides
-abbrev pub TriesSides : {E : Type 0} → Setting → RuleSet → List Turn → Part → ℕ → Sides → Result Tried E → Type 0
+abbrev pub TriesSides : {E : Type 0} → Setting → RuleSet → List Turn → Part → ℕ → ReadSides → Result Tried E → Type 0
 TriesSides setting rules turns p place sides result =
     (t : Theory) (used : List Text) (s : SymbolicState) (found : List RewriteRule) (m : Rewrite) →
     IsStepFrom t used s setting rules (numbered_view p) → AllZip (IsRuleAt t) (map turn_view turns) found →
@@ -190,7 +190,7 @@ TriesFiring setting rules turns p place f result =
 -- ---- what follows
 
 -- the state that follows from a part, before its equations are solved
-abbrev pub following_state : KoreSignature → StatePart → Sides → List terms.Replaced → List SortedName → KoreSort → SymbolicState
+abbrev pub following_state : KoreSignature → StatePart → ReadSides → List terms.Replaced → List SortedName → KoreSort → SymbolicState
 following_state g p sides bindings new s = constrained (moved_state g p bindings new s (view sides.right)) (condition_clauses g bindings (map view sides.ensured.items))
 
 -- of each part in which a rule that is read so fires on each instance, what its variables stand for being these

@@ -9,7 +9,7 @@ use crate::turns::Turn;
 use kp_compile::CompileError;
 use kp_firing::exclude;
 use kp_rule_sets::RuleSet;
-use kp_rules::Sides;
+use kp_rules::ReadSides;
 use kp_unify::{Part, Setting};
 use std::alloc::Global;
 
@@ -18,7 +18,7 @@ fn without(
     alloc: Global,
     setting: Setting<'_>,
     parts: &[Part],
-    sides: &Sides,
+    sides: &ReadSides,
 ) -> Result<Vec<Part>, CompileError>
     requires { HasItsTable setting }
     ensures { LeavesWithout setting.entry parts.now sides.now result }

@@ -16,7 +16,7 @@ use kp_compile::CompileError;
 use kp_distribution::distributed::make_never;
 use kp_firing::lent;
 use kp_kore::{Pattern, Sort, SortedVariable};
-use kp_rules::{Rewrite, Sides};
+use kp_rules::{ReadSides, Rewrite};
 use kp_solving::{constrain, settle};
 use kp_symbolic::state::share_variables;
 use kp_symbolic::{Clause, Replaced, State, Variable, term_under};
@@ -91,7 +91,7 @@ fn make_following(
     alloc: Global,
     setting: Setting<'_>,
     part: &Part,
-    sides: &Sides,
+    sides: &ReadSides,
     sort: Arc<Sort>,
     bindings: &[Replaced],
     new: &[Arc<Variable>],

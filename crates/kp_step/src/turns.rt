@@ -15,7 +15,7 @@ use crate::variables::are_of_left;
 use kp_compile::CompileError;
 use kp_firing::{Firing, all_clauses, constrained, fire};
 use kp_rule_sets::RuleSet;
-use kp_rules::Sides;
+use kp_rules::ReadSides;
 use kp_solving::constrain;
 use kp_symbolic::{Replaced, State};
 use kp_unify::{Part, Setting};
@@ -184,7 +184,7 @@ fn try_sides(
     turns: &[Turn],
     whole: &Part,
     place: usize,
-    sides: &Sides,
+    sides: &ReadSides,
 ) -> Result<Tried, CompileError>
     requires { HasItsTable setting }
     ensures { TriesSides setting.entry rules.now turns.now whole.now place sides.now result }

@@ -18,10 +18,10 @@ use Rattle.kp_text.specs.declared.keyword.Variadic.TheVariants.{And, Or}
 use Rattle.kp_text.specs.declared.keyword.Binary.TheVariants.{Implies, Iff, Rewrites}
 use Rattle.kp_text.specs.declared.keyword.Quantifier.TheVariants.{Exists, Forall}
 use Rattle.kp_text.specs.declared.keyword.Rounding.TheVariants.{Ceil, Floor}
-use Rattle.kp_text.specs.declared.keyword.Comparison.TheVariants.{Equals, In}
+use Rattle.kp_text.specs.declared.keyword.ComparisonKeyword.TheVariants.{Equals, In}
 use Rattle.kp_text.specs.declared.keyword.FixedPoint.TheVariants.{Mu, Nu}
-use Rattle.kp_text.specs.declared.keyword.Side.{Side}
-use Rattle.kp_text.specs.declared.keyword.Side.TheVariants.{Left, Right}
+use Rattle.kp_text.specs.declared.keyword.FoldSide.{FoldSide}
+use Rattle.kp_text.specs.declared.keyword.FoldSide.TheVariants.{Left, Right}
 use Rattle.kp_text.proofs.Marks.{same_mark}
 use Rattle.kp_text.proofs.Completes.{through, Completes, NoBrace}
 use Rattle.kp_text.proofs.CompleteSorts.{IsClosing, closing_brace, closing_parenthesis, sorts_of_list, sort_completes, sorts_complete, braced_sort_completes, two_braced_complete}
@@ -212,6 +212,6 @@ mutual
   more_completes no_writings l close ps k more a closes go = rw (same_mark close) (refl, subst (λ qs. Completes more (k qs) a) (append-nil ps) go)
   more_completes (next_writing w ws) l close ps k more a closes go = rw (closes.comma) (refl, pattern_completes w l (λ p. more_patterns l close (ps ++ p ∷ []) k) (more_tokens l ws (plain (mark close) more)) a (λ p. rw (closes.brace) refl) (more_completes ws l close (ps ++ meaning w ∷ []) k more a closes (subst (λ qs. Completes more (k qs) a) (sym (append_assoc ps (meaning w ∷ []) (meanings ws))) go)))
 
-  pub fold_completes : (ws : Writings) (side : Side) (f : Text) (ss : KoreSorts) (l : Level) (first : KorePattern) (others : List KorePattern) (k : KorePattern → Place) (more : List Leveled) (a : Answer) → Completes more (k (fold_meaning side f ss first (others ++ meanings ws))) a → Completes (fold_tokens side f ss l first others ws (plain (mark 41) more)) (more_folded side f ss l first others k) a
+  pub fold_completes : (ws : Writings) (side : FoldSide) (f : Text) (ss : KoreSorts) (l : Level) (first : KorePattern) (others : List KorePattern) (k : KorePattern → Place) (more : List Leveled) (a : Answer) → Completes more (k (fold_meaning side f ss first (others ++ meanings ws))) a → Completes (fold_tokens side f ss l first others ws (plain (mark 41) more)) (more_folded side f ss l first others k) a
   fold_completes no_writings side f ss l first others k more a go = (refl, subst (λ qs. Completes more (k (fold_meaning side f ss first qs)) a) (append-nil others) go)
   fold_completes (next_writing w ws) side f ss l first others k more a go = (refl, pattern_completes w (next_in_fold side f ss l first others) (λ q. more_folded side f ss l first (others ++ q ∷ []) k) (fold_tokens side f ss l first (others ++ meaning w ∷ []) ws (plain (mark 41) more)) a (λ p. refl) (fold_completes ws side f ss l first (others ++ meaning w ∷ []) k more a (subst (λ qs. Completes more (k (fold_meaning side f ss first qs)) a) (sym (append_assoc others (meaning w ∷ []) (meanings ws))) go)))

@@ -9,8 +9,8 @@ use Rattle.kp_kore.specs.View.{view, patterns_of, patterns_view}
 use Rattle.kp_kore.specs.declared.pattern.Pattern.{Pattern}
 use Rattle.kp_text.specs.Grammar.{fold_meaning, next_in_fold, member_depth}
 use Rattle.kp_text.specs.Heads.{fold_nesting, depth_after, IsDeep, IsAlike}
-use Rattle.kp_text.specs.declared.keyword.Side.{Side}
-use Rattle.kp_text.specs.declared.keyword.Side.TheVariants.{Left, Right}
+use Rattle.kp_text.specs.declared.keyword.FoldSide.{FoldSide}
+use Rattle.kp_text.specs.declared.keyword.FoldSide.TheVariants.{Left, Right}
 use Rattle.kp_text.specs.declared.level.Level.{Level}
 
 most_append : (ps qs : List KorePattern) → most_nesting (patterns_of (ps ++ qs)) ≡ max (most_nesting (patterns_of ps)) (most_nesting (patterns_of qs))
@@ -67,7 +67,7 @@ right_same : (f g : Text) (ss ts : KoreSorts) (p : KorePattern) (ps : List KoreP
 right_same f g ss ts p [] = refl
 right_same f g ss ts p (r ∷ ps) = let h = right_same f g ss ts r ps in omega (arith, h)
 
-pub fold_same : (side : Side) (f g : Text) (ss ts : KoreSorts) (p : KorePattern) (ps : List KorePattern) → nesting (fold_meaning side f ss p ps) ≡ nesting (fold_meaning side g ts p ps)
+pub fold_same : (side : FoldSide) (f g : Text) (ss ts : KoreSorts) (p : KorePattern) (ps : List KorePattern) → nesting (fold_meaning side f ss p ps) ≡ nesting (fold_meaning side g ts p ps)
 fold_same Left f g ss ts p ps = left_same f g ss ts p p ps refl
 fold_same Right f g ss ts p ps = right_same f g ss ts p ps
 
@@ -94,7 +94,7 @@ left_pred p ps = ap pred (left_leaf [] no_sorts p (string_literal []) ps) ∙ la
 first_deep : (n m k : ℕ) → n ≡ min m 257 → k ≡ m → min n 257 ≡ min k 257
 first_deep n m k e h = omega arith
 
-pub deep_first : (side : Side) (p : KorePattern) (n : ℕ) → n ≡ min (nesting p) 257 → IsDeep side p [] n
+pub deep_first : (side : FoldSide) (p : KorePattern) (n : ℕ) → n ≡ min (nesting p) 257 → IsDeep side p [] n
 deep_first Left p n e = first_deep n (nesting p) (fold_nesting Left p []) e (left_pred p [])
 deep_first Right p n e = first_deep n (nesting p) (fold_nesting Right p []) e (right_pred (nesting p) (some_nesting p))
   where
@@ -104,7 +104,7 @@ deep_first Right p n e = first_deep n (nesting p) (fold_nesting Right p []) e (r
 left_numbers : (deep one n m r s : ℕ) → min deep 257 ≡ min n 257 → one ≡ min m 257 → r ≡ max deep one + 1 → s ≡ suc (max n m) → min r 257 ≡ min s 257
 left_numbers deep one n m r s h e is f = omega arith
 
-pub left_deeper : (side : Side) (p q : KorePattern) (ps : List KorePattern) (deep one r : ℕ) → side ≡ Left → IsDeep side p ps deep → one ≡ min (nesting q) 257 → r ≡ max deep one + 1 → IsDeep side p (ps ++ q ∷ []) r
+pub left_deeper : (side : FoldSide) (p q : KorePattern) (ps : List KorePattern) (deep one r : ℕ) → side ≡ Left → IsDeep side p ps deep → one ≡ min (nesting q) 257 → r ≡ max deep one + 1 → IsDeep side p (ps ++ q ∷ []) r
 left_deeper Left p q ps deep one r left h e is = left_numbers deep one (fold_nesting Left p ps) (nesting q) r (fold_nesting Left p (ps ++ q ∷ [])) h e is (left_pred p (ps ++ q ∷ []) ∙ left_leaf [] no_sorts p q ps ∙ ap (λ (n : ℕ). suc (max n (nesting q))) (sym (left_pred p ps)))
 left_deeper Right p q ps deep one r left h e is = absurd (right_left left)
   where
@@ -114,7 +114,7 @@ left_deeper Right p q ps deep one r left h e is = absurd (right_left left)
 right_numbers : (k deep one n m r s : ℕ) → min deep 257 ≡ min n 257 → one ≡ min m 257 → r ≡ max deep (k + 1 + one) → s ≡ max n (k + 1 + m) → min r 257 ≡ min s 257
 right_numbers k deep one n m r s h e is f = omega arith
 
-pub right_deeper : (side : Side) (p q : KorePattern) (ps : List KorePattern) (n deep one r : ℕ) → side ≡ Right → IsDeep side p ps deep → length ps ≡ n → one ≡ min (nesting q) 257 → r ≡ max deep (n + 1 + one) → IsDeep side p (ps ++ q ∷ []) r
+pub right_deeper : (side : FoldSide) (p q : KorePattern) (ps : List KorePattern) (n deep one r : ℕ) → side ≡ Right → IsDeep side p ps deep → length ps ≡ n → one ≡ min (nesting q) 257 → r ≡ max deep (n + 1 + one) → IsDeep side p (ps ++ q ∷ []) r
 right_deeper Right p q ps n deep one r right h long e is = right_numbers n deep one (fold_nesting Right p ps) (nesting q) r (fold_nesting Right p (ps ++ q ∷ [])) h e is (right_leaf p q ps ∙ ap (λ (k : ℕ). max (pred (leafed p ps)) (k + 1 + nesting q)) long)
 right_deeper Left p q ps n deep one r right h long e is = absurd (left_right right)
   where
@@ -129,7 +129,7 @@ pred_plus m (suc n) h = ap pred (plus_suc m n)
     plus_suc : (m n : ℕ) → m + suc n ≡ suc (m + n)
     plus_suc m n = omega arith
 
-depth_is : (side : Side) (ps : List KorePattern) → depth_after side (length ps) ≡ member_depth side ps
+depth_is : (side : FoldSide) (ps : List KorePattern) → depth_after side (length ps) ≡ member_depth side ps
 depth_is Left ps = refl
 depth_is Right ps = add-one (length ps)
 
@@ -142,7 +142,7 @@ meant_alike m n d e r h i = omega arith
 written_alike : (w r : ℕ) → r ≡ w + 2 → r ≡ suc (suc w)
 written_alike w r h = omega arith
 
-pub next_after : (side : Side) (f : Text) (ss : KoreSorts) (l m : Level) (p : KorePattern) (ps : List KorePattern) (n deep : ℕ) → IsDeep side p ps deep → length ps ≡ n → m.written ≡ l.written + 2 → m.meant ≡ l.meant + depth_after side n → m.reached ≡ max (l.written + 2) (l.meant + deep) → IsAlike m (next_in_fold side f ss l p ps)
+pub next_after : (side : FoldSide) (f : Text) (ss : KoreSorts) (l m : Level) (p : KorePattern) (ps : List KorePattern) (n deep : ℕ) → IsDeep side p ps deep → length ps ≡ n → m.written ≡ l.written + 2 → m.meant ≡ l.meant + depth_after side n → m.reached ≡ max (l.written + 2) (l.meant + deep) → IsAlike m (next_in_fold side f ss l p ps)
 next_after side f ss l m p ps k deep h is w n r = record {
   written = written_alike l.written m.written w;
   meant = meant_alike l.meant 0 (depth_after side k) (member_depth side ps) m.meant n (ap (depth_after side) (sym is) ∙ depth_is side ps);

@@ -13,7 +13,7 @@ use Rattle.kp_text.specs.declared.keyword.Keyword.TheVariants as keyword
 use Rattle.kp_text.specs.declared.tail.Tail.{Tail}
 use Rattle.kp_text.specs.declared.level.Level.{Level}
 use Rattle.kp_text.specs.declared.patterns.Beginning.{Beginning}
-use Rattle.kp_text.specs.declared.keyword.Side.{Side}
+use Rattle.kp_text.specs.declared.keyword.FoldSide.{FoldSide}
 use Rattle.kp_text.specs.declared.heads.FoldBeginning.{FoldBeginning}
 use Rattle.kp_text.specs.declared.fault.FaultKind.TheVariants as kind
 use Rattle.kp_text.proofs.Characters.{unequal}
@@ -42,13 +42,13 @@ pub name_refused : (tail : Tail) (text rest : List ℕ) (left : ℕ) (t : KoreTo
 name_refused tail text rest left t l x k is h j = rw (is, other_step 123 t (goes 0 (sorts 1 125 (λ ss. arguments l (λ ps. k (application x (sorts_of ss) (patterns_of ps)))))) (by_mark 58 t (goes 0 (a_sort 1 (λ s. k (variable x s)))) refused) h, other_step 58 t (goes 0 (a_sort 1 (λ s. k (variable x s)))) refused j) refl
 
 -- what a fold holds
-pub fold_begins : (tail : Tail) (text rest : List ℕ) (left : ℕ) (l : Level) (side : Side) (t : KoreToken) (b : FoldBeginning) (k : KorePattern → Place) → lexed tail text between ≡ lexeme left t (lexed tail rest between) → ((l : Level) (side : Side) (k : KorePattern → Place) → by_folded l side k t ≡ begun_fold_step l side k (Some b)) → suc l.written ≤ 256 → run_text tail text (folded l side k) ≡ run_text tail rest (begun_fold l side k b)
+pub fold_begins : (tail : Tail) (text rest : List ℕ) (left : ℕ) (l : Level) (side : FoldSide) (t : KoreToken) (b : FoldBeginning) (k : KorePattern → Place) → lexed tail text between ≡ lexeme left t (lexed tail rest between) → ((l : Level) (side : FoldSide) (k : KorePattern → Place) → by_folded l side k t ≡ begun_fold_step l side k (Some b)) → suc l.written ≤ 256 → run_text tail text (folded l side k) ≡ run_text tail rest (begun_fold l side k b)
 fold_begins tail text rest left l side t b k is begin small = rw (is, begin l side k, le_test (suc l.written) 256 small) refl
 
-pub fold_deep : (tail : Tail) (text rest : List ℕ) (left : ℕ) (l : Level) (side : Side) (t : KoreToken) (b : FoldBeginning) (k : KorePattern → Place) → lexed tail text between ≡ lexeme left t (lexed tail rest between) → ((l : Level) (side : Side) (k : KorePattern → Place) → by_folded l side k t ≡ begun_fold_step l side k (Some b)) → 255 < l.written → run_text tail text (folded l side k) ≡ faulty left kind.Deep
+pub fold_deep : (tail : Tail) (text rest : List ℕ) (left : ℕ) (l : Level) (side : FoldSide) (t : KoreToken) (b : FoldBeginning) (k : KorePattern → Place) → lexed tail text between ≡ lexeme left t (lexed tail rest between) → ((l : Level) (side : FoldSide) (k : KorePattern → Place) → by_folded l side k t ≡ begun_fold_step l side k (Some b)) → 255 < l.written → run_text tail text (folded l side k) ≡ faulty left kind.Deep
 fold_deep tail text rest left l side t b k is begin deep = rw (is, begin l side k, gt_test (suc l.written) 256 (omega arith)) refl
 
-pub fold_refused : (tail : Tail) (text rest : List ℕ) (left : ℕ) (l : Level) (side : Side) (t : KoreToken) (k : KorePattern → Place) → lexed tail text between ≡ lexeme left t (lexed tail rest between) → ((l : Level) (side : Side) (k : KorePattern → Place) → by_folded l side k t ≡ begun_fold_step l side k None) → run_text tail text (folded l side k) ≡ faulty left kind.Token
+pub fold_refused : (tail : Tail) (text rest : List ℕ) (left : ℕ) (l : Level) (side : FoldSide) (t : KoreToken) (k : KorePattern → Place) → lexed tail text between ≡ lexeme left t (lexed tail rest between) → ((l : Level) (side : FoldSide) (k : KorePattern → Place) → by_folded l side k t ≡ begun_fold_step l side k None) → run_text tail text (folded l side k) ≡ faulty left kind.Token
 fold_refused tail text rest left l side t k is begin = rw (is, begin l side k) refl
 
 -- patterns with commas between them
@@ -77,13 +77,13 @@ patterns_separated l close ps k = record {
 }
 
 -- the members of a fold
-pub fold_closes : (tail : Tail) (text rest : List ℕ) (left : ℕ) (side : Side) (f : Text) (ss : KoreSorts) (l : Level) (p : KorePattern) (ps : List KorePattern) (k : KorePattern → Place) → lexed tail text between ≡ lexeme left (mark 41) (lexed tail rest between) → run_text tail text (more_folded side f ss l p ps k) ≡ run_text tail rest (k (fold_meaning side f ss p ps))
+pub fold_closes : (tail : Tail) (text rest : List ℕ) (left : ℕ) (side : FoldSide) (f : Text) (ss : KoreSorts) (l : Level) (p : KorePattern) (ps : List KorePattern) (k : KorePattern → Place) → lexed tail text between ≡ lexeme left (mark 41) (lexed tail rest between) → run_text tail text (more_folded side f ss l p ps k) ≡ run_text tail rest (k (fold_meaning side f ss p ps))
 fold_closes tail text rest left side f ss l p ps k h = rw h refl
 
-pub fold_goes_on : (tail : Tail) (text rest : List ℕ) (left : ℕ) (side : Side) (f : Text) (ss : KoreSorts) (l : Level) (p : KorePattern) (ps : List KorePattern) (k : KorePattern → Place) → lexed tail text between ≡ lexeme left (mark 44) (lexed tail rest between) → run_text tail text (more_folded side f ss l p ps k) ≡ run_text tail rest (a_pattern (next_in_fold side f ss l p ps) (λ q. more_folded side f ss l p (ps ++ q ∷ []) k))
+pub fold_goes_on : (tail : Tail) (text rest : List ℕ) (left : ℕ) (side : FoldSide) (f : Text) (ss : KoreSorts) (l : Level) (p : KorePattern) (ps : List KorePattern) (k : KorePattern → Place) → lexed tail text between ≡ lexeme left (mark 44) (lexed tail rest between) → run_text tail text (more_folded side f ss l p ps k) ≡ run_text tail rest (a_pattern (next_in_fold side f ss l p ps) (λ q. more_folded side f ss l p (ps ++ q ∷ []) k))
 fold_goes_on tail text rest left side f ss l p ps k h = rw h refl
 
-pub fold_separated : (side : Side) (f : Text) (ss : KoreSorts) (l : Level) (p : KorePattern) (ps : List KorePattern) (k : KorePattern → Place) → IsSeparated 41 (more_folded side f ss l p ps k)
+pub fold_separated : (side : FoldSide) (f : Text) (ss : KoreSorts) (l : Level) (p : KorePattern) (ps : List KorePattern) (k : KorePattern → Place) → IsSeparated 41 (more_folded side f ss l p ps k)
 fold_separated side f ss l p ps k = record {
   ends = refl;
   others = λ t h j. other_step 41 t (goes 0 (k (fold_meaning side f ss p ps))) (by_mark 44 t (goes 0 (a_pattern (next_in_fold side f ss l p ps) (λ q. more_folded side f ss l p (ps ++ q ∷ []) k))) refused) h ∙ other_step 44 t (goes 0 (a_pattern (next_in_fold side f ss l p ps) (λ q. more_folded side f ss l p (ps ++ q ∷ []) k))) refused j;

@@ -9,7 +9,7 @@ use Rattle.kp_text.specs.Tokens.{KoreToken, identifier, backslashed, string_toke
 use Rattle.kp_text.specs.Grammar.{Leveled, at_level, plain, sort_tokens, braced_sorts, braced_sort, two_braced_sorts, variable_tokens, below, in_fold, pattern_tokens, list_tokens, meaning, meanings, Writing, Writings, written_variable, written_set_variable, written_application, written_string, written_literal, written_constant, written_unary, written_variadic, written_binary, written_quantifier, written_rounding, written_comparison, written_fixed_point, written_fold, written_variadic_fold, sorts_tokens, fold_tokens, first_in_fold, constant_word, constant_meaning, unary_word, unary_meaning, variadic_word, variadic_meaning, binary_word, binary_meaning, quantifier_word, quantifier_meaning, rounding_word, rounding_meaning, comparison_word, comparison_meaning, fixed_point_word, fixed_point_meaning, side_word}
 use Rattle.kp_text.specs.Next.{Answer, Place, by_sort, by_pattern, by_keyword, by_folded, by_variadic, keyword_of, after_keyword, a_mark, a_string, a_sort, a_pattern, folded, a_braced_sort, two_braced, a_variable, one_argument, two_arguments, arguments}
 use Rattle.kp_text.specs.declared.level.Level.{Level}
-use Rattle.kp_text.specs.declared.keyword.Side.{Side}
+use Rattle.kp_text.specs.declared.keyword.FoldSide.{FoldSide}
 use Rattle.kp_text.specs.declared.keyword.Keyword.{Keyword}
 use Rattle.kp_text.specs.declared.keyword.Keyword.TheVariants as keyword
 use Rattle.kp_text.proofs.Completes.{through}
@@ -126,7 +126,7 @@ by_pattern_written (backslashed word) n l k ls b go = by_keyword_written (keywor
 by_pattern_written defined_as n l k ls b go = absurd go
 
 -- what a fold holds
-by_variadic_written : (o : Option Keyword) (word : Text) (n : ℕ) (l : Level) (side : Side) (k : KorePattern → Place) (ls : List Leveled) (b : Answer) → keyword_of word ≡ o → through (by_variadic l k o) n (λ h. Written h ls b) → Written (folded l side k) (at_level n (backslashed word) ls) b
+by_variadic_written : (o : Option Keyword) (word : Text) (n : ℕ) (l : Level) (side : FoldSide) (k : KorePattern → Place) (ls : List Leveled) (b : Answer) → keyword_of word ≡ o → through (by_variadic l k o) n (λ h. Written h ls b) → Written (folded l side k) (at_level n (backslashed word) ls) b
 by_variadic_written None word n l side k ls b is go = absurd go
 by_variadic_written (Some (keyword.Variadic v)) word n l side k ls b is (e, go) =
     let s = braced (λ t. arguments (in_fold l) (λ ps. k (variadic_meaning v t ps))) ls b go in
@@ -142,7 +142,7 @@ by_variadic_written (Some keyword.Literal) word n l side k ls b is go = absurd g
 by_variadic_written (Some (keyword.FixedPoint f)) word n l side k ls b is go = absurd go
 by_variadic_written (Some (keyword.Fold other)) word n l side k ls b is go = absurd go
 
-pub by_folded_written : (t : KoreToken) (n : ℕ) (l : Level) (side : Side) (k : KorePattern → Place) (ls : List Leveled) (b : Answer) → through (by_folded l side k t) n (λ h. Written h ls b) → Written (folded l side k) (at_level n t ls) b
+pub by_folded_written : (t : KoreToken) (n : ℕ) (l : Level) (side : FoldSide) (k : KorePattern → Place) (ls : List Leveled) (b : Answer) → through (by_folded l side k t) n (λ h. Written h ls b) → Written (folded l side k) (at_level n t ls) b
 by_folded_written (identifier f) n l side k ls b (e, (r, is, (ss, q, js, (p, ks, (w, o, hs, (ws, rest, gs, go)))))) =
     let us = sorts_of (sort_list ss) in
     let members = fold_tokens side f us l (meaning w) [] ws (plain (mark 41) rest) in

@@ -13,7 +13,7 @@ use Rattle.kp_text.specs.Next.{Answer, Place, done, a_mark, a_defined_as, a_word
 use Rattle.kp_text.specs.declared.level.Level.{Level}
 use Rattle.kp_text.specs.declared.fault.FaultKind.{FaultKind}
 use Rattle.kp_text.specs.declared.fault.FaultKind.TheVariants as kind
-use Rattle.kp_text.specs.declared.keyword.Side.{Side}
+use Rattle.kp_text.specs.declared.keyword.FoldSide.{FoldSide}
 use Rattle.kp_text.proofs.Completes.{through, Completes}
 use Rattle.kp_text.proofs.CompleteSorts.{sorts_of_list}
 use Rattle.kp_text.proofs.Written.{InFront, Written}
@@ -75,7 +75,7 @@ patterns_from_first l close k ls b (w, r, is, (ws, rest, js, go)) = (next_writin
 more_patterns_from : (l : Level) (close : ℕ) (ps : List KorePattern) (k : List KorePattern → Place) (m : ℕ) (t : KoreToken) (ls : List Leveled) (b : Answer) → 0 ≡ m → t ≡ mark 44 → Written (a_pattern l (λ p. more_patterns l close (ps ++ p ∷ []) k)) ls b → Written (more_patterns l close ps k) (at_level m t ls) b
 more_patterns_from l close ps k m t ls b e f (w, r, is, (ws, rest, js, go)) = (next_writing w ws, rest, same_front 0 m t (mark 44) ls (pattern_tokens l w (more_tokens l ws (plain (mark close) rest))) e f (is ∙ ap (λ ms. pattern_tokens l w ms) js), subst (λ qs. Written (k qs) rest b) (append_assoc ps (meaning w ∷ []) (meanings ws)) go)
 
-more_folded_from : (side : Side) (f : Text) (ss : KoreSorts) (l : Level) (p : KorePattern) (ps : List KorePattern) (k : KorePattern → Place) (m : ℕ) (t : KoreToken) (ls : List Leveled) (b : Answer) → 0 ≡ m → t ≡ mark 44 → Written (a_pattern (next_in_fold side f ss l p ps) (λ q. more_folded side f ss l p (ps ++ q ∷ []) k)) ls b → Written (more_folded side f ss l p ps k) (at_level m t ls) b
+more_folded_from : (side : FoldSide) (f : Text) (ss : KoreSorts) (l : Level) (p : KorePattern) (ps : List KorePattern) (k : KorePattern → Place) (m : ℕ) (t : KoreToken) (ls : List Leveled) (b : Answer) → 0 ≡ m → t ≡ mark 44 → Written (a_pattern (next_in_fold side f ss l p ps) (λ q. more_folded side f ss l p (ps ++ q ∷ []) k)) ls b → Written (more_folded side f ss l p ps k) (at_level m t ls) b
 more_folded_from side f ss l p ps k m t ls b e g (w, r, is, (ws, rest, js, go)) = (next_writing w ws, rest, same_front 0 m t (mark 44) ls (pattern_tokens (next_in_fold side f ss l p ps) w (fold_tokens side f ss l p (ps ++ meaning w ∷ []) ws (plain (mark 41) rest))) e g (is ∙ ap (λ ms. pattern_tokens (next_in_fold side f ss l p ps) w ms) js), subst (λ qs. Written (k (fold_meaning side f ss p qs)) rest b) (append_assoc ps (meaning w ∷ []) (meanings ws)) go)
 
 names_from_first : (k : List Text → Place) (x : Text) (m : ℕ) (t : KoreToken) (ls : List Leveled) (b : Answer) → 0 ≡ m → t ≡ identifier x → Written (more_names (x ∷ []) k) ls b → Written (names k) (at_level m t ls) b

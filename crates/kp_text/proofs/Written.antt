@@ -9,7 +9,7 @@ use Rattle.kp_text.specs.Grammar.{Leveled, at_level, plain, sort_tokens, sorts_t
 use Rattle.kp_text.specs.Next.{Answer, Place, done, a_mark, a_defined_as, a_word, a_name, a_string, a_sort, after_sort_name, sorts, more_sorts, names, more_names, a_pattern, after_name, patterns, more_patterns, folded, more_folded, sentences, more_modules}
 use Rattle.kp_text.specs.declared.keyword.Variadic.{Variadic}
 use Rattle.kp_text.specs.declared.level.Level.{Level}
-use Rattle.kp_text.specs.declared.keyword.Side.{Side}
+use Rattle.kp_text.specs.declared.keyword.FoldSide.{FoldSide}
 
 -- a writing with these tokens in front, and what follows it
 abbrev pub InFront : (W : Type 0) → (W → List Leveled → List Leveled) → List Leveled → (W → List Leveled → Type 0) → Type 0
@@ -34,7 +34,7 @@ pub record Members : Type 0 where
 abbrev pub members_tokens : Level → Members → List Leveled → List Leveled
 members_tokens l m more = braced_sorts m.sorts (plain (mark 40) (list_tokens (below l) m.members (plain (mark 41) more)))
 
-abbrev pub of_fold_tokens : Level → Side → OfFold → List Leveled → List Leveled
+abbrev pub of_fold_tokens : Level → FoldSide → OfFold → List Leveled → List Leveled
 of_fold_tokens l side m more = at_level (suc l.written) (identifier m.symbol) (braced_sorts m.sorts (plain (mark 40) (pattern_tokens (first_in_fold l) m.first (fold_tokens side m.symbol m.sorts l (meaning m.first) [] m.others (plain (mark 41) more)))))
 
 abbrev pub of_variadic_tokens : Level → OfVariadic → List Leveled → List Leveled

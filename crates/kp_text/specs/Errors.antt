@@ -2,12 +2,12 @@
 use Rattle.std.specs.Prelude.{ℕ, List}
 use Rattle.kp_text.specs.Grammar.{Leveled}
 use Rattle.kp_text.specs.Spelling.{offset, IsFaultOf}
-use Rattle.kp_text.specs.declared.fault.Failure.{Failure}
-use Rattle.kp_text.specs.declared.fault.Failure.TheVariants as failure
+use Rattle.kp_text.specs.declared.fault.TextFailure.{TextFailure}
+use Rattle.kp_text.specs.declared.fault.TextFailure.TheVariants as failure
 use Rattle.kp_text.specs.declared.read.ReadError.{ReadError}
 use Rattle.kp_text.specs.declared.read.ReadError.TheVariants as error
 
-abbrev pub read_error_of : List ℕ → Failure → ReadError
+abbrev pub read_error_of : List ℕ → TextFailure → ReadError
 read_error_of bytes failure.Memory = error.Memory
 read_error_of bytes (failure.Fault left k) = error.Fault (record { at = offset bytes left k; kind = k })
 

@@ -20,13 +20,13 @@ use Rattle.kp_text.specs.declared.keyword.Quantifier.{Quantifier}
 use Rattle.kp_text.specs.declared.keyword.Quantifier.TheVariants.{Exists, Forall}
 use Rattle.kp_text.specs.declared.keyword.Rounding.{Rounding}
 use Rattle.kp_text.specs.declared.keyword.Rounding.TheVariants.{Ceil, Floor}
-use Rattle.kp_text.specs.declared.keyword.Comparison.{Comparison}
-use Rattle.kp_text.specs.declared.keyword.Comparison.TheVariants.{Equals, In}
+use Rattle.kp_text.specs.declared.keyword.ComparisonKeyword.{ComparisonKeyword}
+use Rattle.kp_text.specs.declared.keyword.ComparisonKeyword.TheVariants.{Equals, In}
 use Rattle.kp_text.specs.declared.keyword.FixedPoint.{FixedPoint}
 use Rattle.kp_text.specs.declared.keyword.FixedPoint.TheVariants.{Mu, Nu}
 use Rattle.kp_text.specs.declared.level.Level.{Level}
-use Rattle.kp_text.specs.declared.keyword.Side.{Side}
-use Rattle.kp_text.specs.declared.keyword.Side.TheVariants.{Left, Right}
+use Rattle.kp_text.specs.declared.keyword.FoldSide.{FoldSide}
+use Rattle.kp_text.specs.declared.keyword.FoldSide.TheVariants.{Left, Right}
 
 -- a token and the level of nesting that it reaches
 pub record Leveled : Type 0 where
@@ -95,11 +95,11 @@ abbrev pub rounding_meaning : Rounding → KoreSort → KoreSort → KorePattern
 rounding_meaning Ceil a s p = ceil a s p
 rounding_meaning Floor a s p = floor a s p
 
-abbrev pub comparison_word : Comparison → Text
+abbrev pub comparison_word : ComparisonKeyword → Text
 comparison_word Equals = codes "equals"
 comparison_word In = codes "in"
 
-abbrev pub comparison_meaning : Comparison → KoreSort → KoreSort → KorePattern → KorePattern → KorePattern
+abbrev pub comparison_meaning : ComparisonKeyword → KoreSort → KoreSort → KorePattern → KorePattern → KorePattern
 comparison_meaning Equals a s p q = equals a s p q
 comparison_meaning In a s p q = membership a s p q
 
@@ -111,12 +111,12 @@ abbrev pub fixed_point_meaning : FixedPoint → Text → KoreSort → KorePatter
 fixed_point_meaning Mu x s p = mu x s p
 fixed_point_meaning Nu x s p = nu x s p
 
-abbrev pub side_word : Side → Text
+abbrev pub side_word : FoldSide → Text
 side_word Left = codes "left-assoc"
 side_word Right = codes "right-assoc"
 
 -- an application of many members, folded from the left or from the right
-abbrev pub fold_meaning : Side → Text → KoreSorts → KorePattern → List KorePattern → KorePattern
+abbrev pub fold_meaning : FoldSide → Text → KoreSorts → KorePattern → List KorePattern → KorePattern
 fold_meaning Left f ss p ps = left_nested f ss p (patterns_of ps)
 fold_meaning Right f ss p ps = right_nested f ss p (patterns_of ps)
 
@@ -144,13 +144,13 @@ mutual
     -- \ceil{A,S}(p)
     written_rounding : Rounding → KoreSort → KoreSort → Writing → Writing
     -- \equals{A,S}(p,q)
-    written_comparison : Comparison → KoreSort → KoreSort → Writing → Writing → Writing
+    written_comparison : ComparisonKeyword → KoreSort → KoreSort → Writing → Writing → Writing
     -- \mu{}(@x:S,p)
     written_fixed_point : FixedPoint → Text → KoreSort → Writing → Writing
     -- \left-assoc{}(f{sorts}(first, members))
-    written_fold : Side → Text → KoreSorts → Writing → Writings → Writing
+    written_fold : FoldSide → Text → KoreSorts → Writing → Writings → Writing
     -- \left-assoc{}(\and{S}(members))
-    written_variadic_fold : Side → Variadic → KoreSort → Writings → Writing
+    written_variadic_fold : FoldSide → Variadic → KoreSort → Writings → Writing
 
   pub data Writings : Type 0 where
     no_writings : Writings
@@ -229,12 +229,12 @@ abbrev pub first_in_fold : Level → Level
 first_in_fold l = record { written = suc (suc l.written); meant = l.meant; reached = max (suc (suc l.written)) l.meant }
 
 -- how much deeper than the fold a member after these others stands as meant, at least
-abbrev pub member_depth : Side → List KorePattern → ℕ
+abbrev pub member_depth : FoldSide → List KorePattern → ℕ
 member_depth Left others = 1
 member_depth Right others = suc (length others)
 
 -- a member after the first and these others: it makes the fold of all that stand before it deeper
-abbrev pub next_in_fold : Side → Text → KoreSorts → Level → KorePattern → List KorePattern → Level
+abbrev pub next_in_fold : FoldSide → Text → KoreSorts → Level → KorePattern → List KorePattern → Level
 next_in_fold side f ss l first others = record {
   written = suc (suc l.written);
   meant = member_depth side others + l.meant;
@@ -269,7 +269,7 @@ abbrev mutual
   more_tokens l (next_writing w ws) more = plain (mark 44) (pattern_tokens l w (more_tokens l ws more))
 
   -- the members of a fold after the first and these others
-  pub fold_tokens : Side → Text → KoreSorts → Level → KorePattern → List KorePattern → Writings → List Leveled → List Leveled
+  pub fold_tokens : FoldSide → Text → KoreSorts → Level → KorePattern → List KorePattern → Writings → List Leveled → List Leveled
   fold_tokens side f ss l first others no_writings more = more
   fold_tokens side f ss l first others (next_writing w ws) more = plain (mark 44) (pattern_tokens (next_in_fold side f ss l first others) w (fold_tokens side f ss l first (others ++ meaning w ∷ []) ws more))
 

@@ -12,8 +12,8 @@ use Rattle.kp_text.specs.declared.keyword.Variadic.{Variadic}
 use Rattle.kp_text.specs.declared.keyword.FixedPoint.{FixedPoint}
 use Rattle.kp_text.specs.declared.keyword.Keyword.{Keyword}
 use Rattle.kp_text.specs.declared.keyword.Keyword.TheVariants as keyword
-use Rattle.kp_text.specs.declared.keyword.Side.{Side}
-use Rattle.kp_text.specs.declared.keyword.Side.TheVariants.{Left, Right}
+use Rattle.kp_text.specs.declared.keyword.FoldSide.{FoldSide}
+use Rattle.kp_text.specs.declared.keyword.FoldSide.TheVariants.{Left, Right}
 use Rattle.kp_text.specs.declared.level.Level.{Level}
 use Rattle.kp_text.specs.declared.heads.OfOne.{OfOne}
 use Rattle.kp_text.specs.declared.heads.OfOne.TheVariants as one
@@ -21,8 +21,8 @@ use Rattle.kp_text.specs.declared.heads.OfTwo.{OfTwo}
 use Rattle.kp_text.specs.declared.heads.OfTwo.TheVariants as two
 use Rattle.kp_text.specs.declared.heads.OfMany.{OfMany}
 use Rattle.kp_text.specs.declared.heads.OfMany.TheVariants as many
-use Rattle.kp_text.specs.declared.heads.Head.{Head}
-use Rattle.kp_text.specs.declared.heads.Head.TheVariants as head
+use Rattle.kp_text.specs.declared.heads.PatternStart.{PatternStart}
+use Rattle.kp_text.specs.declared.heads.PatternStart.TheVariants as head
 use Rattle.kp_text.specs.declared.heads.FoldBeginning.{FoldBeginning}
 use Rattle.kp_text.specs.declared.heads.FoldBeginning.TheVariants as fold_beginning
 use Rattle.kp_text.specs.declared.heads.BehindName.{BehindName}
@@ -53,13 +53,13 @@ two_place l h k = a_pattern (below l) (λ p. a_mark 44 (a_pattern (below l) (λ 
 abbrev pub many_place : Level → OfMany → (KorePattern → Place) → Place
 many_place l h k = patterns (below l) 41 (λ ps. k (many_meaning h ps))
 
-abbrev pub fold_place : Level → Side → Text → KoreSorts → (KorePattern → Place) → Place
+abbrev pub fold_place : Level → FoldSide → Text → KoreSorts → (KorePattern → Place) → Place
 fold_place l side f ss k = a_pattern (first_in_fold l) (λ p. more_folded side f ss l p [] (λ q. a_mark 41 (k q)))
 
 abbrev pub variadic_fold_place : Level → Variadic → KoreSort → (KorePattern → Place) → Place
 variadic_fold_place l v s k = patterns (below (in_fold l)) 41 (λ ps. a_mark 41 (k (variadic_meaning v s ps)))
 
-abbrev pub head_place : Level → Head → (KorePattern → Place) → Place
+abbrev pub head_place : Level → PatternStart → (KorePattern → Place) → Place
 head_place l (head.Whole p) k = k (view p)
 head_place l (head.One h) k = one_place l h k
 head_place l (head.Two h) k = two_place l h k
@@ -68,7 +68,7 @@ head_place l (head.Fold side f ss) k = fold_place l side (string_bytes f) (sorts
 head_place l (head.VariadicFold v s) k = variadic_fold_place l v (sort_view s) k
 
 -- a head was read
-abbrev pub FindsHead : Tail → List ℕ → ((KorePattern → Place) → Place) → Level → Head → List ℕ → Type 0
+abbrev pub FindsHead : Tail → List ℕ → ((KorePattern → Place) → Place) → Level → PatternStart → List ℕ → Type 0
 FindsHead tail text place l h rest = (k : KorePattern → Place) → run_text tail rest (head_place l h k) ≡ run_text tail text (place k)
 
 -- {S}( and {A,S}( and {}( and x:S,
@@ -90,16 +90,16 @@ IsBehindName tail text (behind_name.Brace rest) = ((left : ℕ) × (lexed tail t
 IsBehindName tail text (behind_name.Colon rest) = ((left : ℕ) × (lexed tail text between ≡ lexeme left (mark 58) (lexed tail rest.now between))) × IsBehind rest.now text
 
 -- how deep a fold of these members nests with one leaf more, without its outermost level
-abbrev pub fold_nesting : Side → KorePattern → List KorePattern → ℕ
+abbrev pub fold_nesting : FoldSide → KorePattern → List KorePattern → ℕ
 fold_nesting side p ps = pred (nesting (fold_meaning side [] no_sorts p (ps ++ string_literal [] ∷ [])))
 
 -- how much deeper than the fold a member after so many others stands, at least
-abbrev pub depth_after : Side → ℕ → ℕ
+abbrev pub depth_after : FoldSide → ℕ → ℕ
 depth_after Left others = 1
 depth_after Right others = others + 1
 
 -- so deep, or both deeper than any pattern may nest
-abbrev pub IsDeep : Side → KorePattern → List KorePattern → ℕ → Type 0
+abbrev pub IsDeep : FoldSide → KorePattern → List KorePattern → ℕ → Type 0
 IsDeep side p ps deep = min deep 257 ≡ min (fold_nesting side p ps) 257
 
 -- levels between which no place tells
@@ -109,7 +109,7 @@ pub record IsAlike (l m : Level) : Type 0 where
   pub reached : min l.reached 257 ≡ min m.reached 257
 
 -- what a fold holds, and the mark that closes it
-abbrev pub a_fold : Level → Side → (KorePattern → Place) → Place
+abbrev pub a_fold : Level → FoldSide → (KorePattern → Place) → Place
 a_fold l side k = folded l side (λ p. a_mark 41 (k p))
 
 -- {sorts}(
@@ -117,11 +117,11 @@ abbrev pub symbol_opened : (List KoreSort → Place) → Place
 symbol_opened k = a_mark 123 (sorts 1 125 (λ ss. a_mark 40 (k ss)))
 
 -- how what a fold holds begins, and the place behind that
-abbrev pub begun_fold : Level → Side → (KorePattern → Place) → FoldBeginning → Place
+abbrev pub begun_fold : Level → FoldSide → (KorePattern → Place) → FoldBeginning → Place
 begun_fold l side k (fold_beginning.Symbol f) = symbol_opened (λ ss. a_pattern (first_in_fold l) (λ p. more_folded side (string_bytes f) (sorts_of ss) l p [] k))
 begun_fold l side k (fold_beginning.Variadic v) = sort_opened (λ s. patterns (below (in_fold l)) 41 (λ ps. k (variadic_meaning v s ps)))
 
-abbrev pub begun_fold_step : Level → Side → (KorePattern → Place) → Option FoldBeginning → Step
+abbrev pub begun_fold_step : Level → FoldSide → (KorePattern → Place) → Option FoldBeginning → Step
 begun_fold_step l side k None = refused
 begun_fold_step l side k (Some b) = goes (suc l.written) (begun_fold l side k b)
 

@@ -13,11 +13,11 @@ use Rattle.kp_text.specs.declared.keyword.Variadic.TheVariants.{And, Or}
 use Rattle.kp_text.specs.declared.keyword.Binary.TheVariants.{Implies, Iff, Rewrites}
 use Rattle.kp_text.specs.declared.keyword.Quantifier.TheVariants.{Exists, Forall}
 use Rattle.kp_text.specs.declared.keyword.Rounding.TheVariants.{Ceil, Floor}
-use Rattle.kp_text.specs.declared.keyword.Comparison.TheVariants.{Equals, In}
+use Rattle.kp_text.specs.declared.keyword.ComparisonKeyword.TheVariants.{Equals, In}
 use Rattle.kp_text.specs.declared.keyword.FixedPoint.TheVariants.{Mu, Nu}
 use Rattle.kp_text.specs.declared.level.Level.{Level}
-use Rattle.kp_text.specs.declared.keyword.Side.{Side}
-use Rattle.kp_text.specs.declared.keyword.Side.TheVariants.{Left, Right}
+use Rattle.kp_text.specs.declared.keyword.FoldSide.{FoldSide}
+use Rattle.kp_text.specs.declared.keyword.FoldSide.TheVariants.{Left, Right}
 use Rattle.kp_text.specs.declared.keyword.Keyword.{Keyword}
 use Rattle.kp_text.specs.declared.keyword.Keyword.TheVariants as keyword
 
@@ -55,8 +55,8 @@ pub data Place : Type 0 where
   patterns : Level → ℕ → (List KorePattern → Place) → Place
   more_patterns : Level → ℕ → List KorePattern → (List KorePattern → Place) → Place
   -- what a fold holds, and more members of an application in it
-  folded : Level → Side → (KorePattern → Place) → Place
-  more_folded : Side → Text → KoreSorts → Level → KorePattern → List KorePattern → (KorePattern → Place) → Place
+  folded : Level → FoldSide → (KorePattern → Place) → Place
+  more_folded : FoldSide → Text → KoreSorts → Level → KorePattern → List KorePattern → (KorePattern → Place) → Place
   -- sentences before endmodule, and modules before the end
   sentences : List KoreSentence → (List KoreSentence → Place) → Place
   more_modules : List KoreModule → (List KoreModule → Answer) → Place
@@ -179,7 +179,7 @@ by_variadic l k None = refused
 by_variadic l k (Some (keyword.Variadic v)) = goes (suc l.written) (a_braced_sort (λ s. arguments (in_fold l) (λ ps. k (variadic_meaning v s ps))))
 by_variadic l k (Some w) = refused
 
-abbrev pub by_folded : Level → Side → (KorePattern → Place) → KoreToken → Step
+abbrev pub by_folded : Level → FoldSide → (KorePattern → Place) → KoreToken → Step
 by_folded l side k (identifier f) = goes (suc l.written) (a_mark 123 (sorts 1 125 (λ ss. a_mark 40 (a_pattern (first_in_fold l) (λ p. more_folded side f (sorts_of ss) l p [] k)))))
 by_folded l side k (backslashed w) = by_variadic l k (keyword_of w)
 by_folded l side k (mark c) = refused

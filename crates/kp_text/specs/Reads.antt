@@ -13,15 +13,15 @@ use Rattle.kp_text.specs.declared.patterns.Beginning.{Beginning}
 use Rattle.kp_text.specs.declared.patterns.Beginning.TheVariants as beginning
 use Rattle.kp_text.specs.declared.expected.Separator.{Separator}
 use Rattle.kp_text.specs.declared.expected.Separator.TheVariants as separator
-use Rattle.kp_text.specs.declared.fault.Failure.{Failure}
-use Rattle.kp_text.specs.declared.fault.Failure.TheVariants as failure
+use Rattle.kp_text.specs.declared.fault.TextFailure.{TextFailure}
+use Rattle.kp_text.specs.declared.fault.TextFailure.TheVariants as failure
 
 -- what is read in a text from a place on
 abbrev pub run_text : Tail → List ℕ → Place → Outcome
 run_text tail text g = run (lexed tail text between) g
 
 -- what a failure says of what is read: a fault is all of it, and want of memory says nothing
-abbrev pub failed : Failure → Outcome → Outcome
+abbrev pub failed : TextFailure → Outcome → Outcome
 failed failure.Memory o = o
 failed (failure.Fault left k) o = faulty left k
 
@@ -29,14 +29,14 @@ failed (failure.Fault left k) o = faulty left k
 abbrev pub Leads : Tail → List ℕ → (Place → Place) → List ℕ → Type 0
 Leads tail text place rest = (g : Place) → run_text tail rest g ≡ run_text tail text (place g)
 
-abbrev pub StopsAt : Tail → List ℕ → (Place → Place) → Failure → Type 0
+abbrev pub StopsAt : Tail → List ℕ → (Place → Place) → TextFailure → Type 0
 StopsAt tail text place e = (g : Place) → run_text tail text (place g) ≡ failed e (run_text tail text (place g))
 
 -- a value was read, or a fault was met there
 abbrev pub Finds : {V : Type 0} → Tail → List ℕ → ((V → Place) → Place) → V → List ℕ → Type 0
 Finds {V} tail text place v rest = (k : V → Place) → run_text tail rest (k v) ≡ run_text tail text (place k)
 
-abbrev pub Stops : {V : Type 0} → Tail → List ℕ → ((V → Place) → Place) → Failure → Type 0
+abbrev pub Stops : {V : Type 0} → Tail → List ℕ → ((V → Place) → Place) → TextFailure → Type 0
 Stops {V} tail text place e = (k : V → Place) → run_text tail text (place k) ≡ failed e (run_text tail text (place k))
 
 -- what comes behind is shorter
@@ -81,13 +81,13 @@ pub record IsSeparated (close : ℕ) (g : Place) : Type 0 where
 abbrev pub Finds2 : {V W : Type 0} → Tail → List ℕ → ((V → W → Place) → Place) → V → W → List ℕ → Type 0
 Finds2 {V} {W} tail text place v w rest = (k : V → W → Place) → run_text tail rest (k v w) ≡ run_text tail text (place k)
 
-abbrev pub Stops2 : {V W : Type 0} → Tail → List ℕ → ((V → W → Place) → Place) → Failure → Type 0
+abbrev pub Stops2 : {V W : Type 0} → Tail → List ℕ → ((V → W → Place) → Place) → TextFailure → Type 0
 Stops2 {V} {W} tail text place e = (k : V → W → Place) → run_text tail text (place k) ≡ failed e (run_text tail text (place k))
 
 abbrev pub Finds3 : {U V W : Type 0} → Tail → List ℕ → ((U → V → W → Place) → Place) → U → V → W → List ℕ → Type 0
 Finds3 {U} {V} {W} tail text place u v w rest = (k : U → V → W → Place) → run_text tail rest (k u v w) ≡ run_text tail text (place k)
 
-abbrev pub Stops3 : {U V W : Type 0} → Tail → List ℕ → ((U → V → W → Place) → Place) → Failure → Type 0
+abbrev pub Stops3 : {U V W : Type 0} → Tail → List ℕ → ((U → V → W → Place) → Place) → TextFailure → Type 0
 Stops3 {U} {V} {W} tail text place e = (k : U → V → W → Place) → run_text tail text (place k) ≡ failed e (run_text tail text (place k))
 
 -- how a pattern begins, and the place behind that

@@ -7,7 +7,7 @@ use Rattle.kp_text.specs.Grammar.{first_level}
 use Rattle.kp_text.specs.Next.{Place, Step, goes, refused, a_mark, a_name, a_word, a_defined_as, a_pattern, names, an_attributes, a_signature, an_import, sentences}
 use Rattle.kp_text.specs.Reads.{run_text, failed}
 use Rattle.kp_text.specs.declared.tail.Tail.{Tail}
-use Rattle.kp_text.specs.declared.fault.Failure.{Failure}
+use Rattle.kp_text.specs.declared.fault.TextFailure.{TextFailure}
 use Rattle.kp_text.specs.declared.sentences.Declared.{Declared}
 use Rattle.kp_text.specs.declared.sentences.SentenceWord.{SentenceWord}
 use Rattle.kp_text.specs.declared.sentences.SentenceWord.TheVariants as word
@@ -19,7 +19,7 @@ braced_names k = a_mark 123 (names k)
 abbrev pub FindsDeclared : Tail → List ℕ → Declared → List ℕ → Type 0
 FindsDeclared tail text d rest = (k : Text → List Text → KoreSorts → KoreSort → Place) → run_text tail rest (k (string_bytes d.name) (names_view d.parameters.items) (sorts_view d.arguments.items) (sort_view d.result_sort)) ≡ run_text tail text (a_signature k)
 
-abbrev pub StopsDeclared : Tail → List ℕ → Failure → Type 0
+abbrev pub StopsDeclared : Tail → List ℕ → TextFailure → Type 0
 StopsDeclared tail text e = (k : Text → List Text → KoreSorts → KoreSort → Place) → run_text tail text (a_signature k) ≡ failed e (run_text tail text (a_signature k))
 
 -- what follows the words of declarations, where = p := q, and what follows axiom and claim

@@ -7,11 +7,11 @@ ghost use Rattle.kp_text.specs.Reads.{run_text, failed, Finds, Stops, IsBehind, 
 ghost use Rattle.kp_text.specs.Heads.{head_place, one_place, two_place, many_place, fold_place, variadic_fold_place, IsDeep};
 
 use crate::expected::{Separator, mark, mark_ahead, next_separator};
-use crate::fault::Failure;
+use crate::fault::TextFailure;
 use crate::folds::{deeper, folded, next_in_fold};
 use crate::forms::variadic;
-use crate::heads::{Head, OfMany, OfOne, OfTwo, pattern_head};
-use crate::keyword::{Side, Variadic};
+use crate::heads::{OfMany, OfOne, OfTwo, PatternStart, pattern_head};
+use crate::keyword::{FoldSide, Variadic};
 use crate::level::Level;
 use crate::nesting::nesting;
 use crate::patterns::begin;
@@ -27,7 +27,7 @@ pub fn a_pattern<'a>(
     level: Level,
     text: &'a str,
     tail: Tail,
-) -> Result<(Pattern, &'a str), Failure>
+) -> Result<(Pattern, &'a str), TextFailure>
     requires written { level.written ≤ level.reached }
     requires meant { level.meant ≤ level.reached }
     ensures found { IfOk result (λ x. Finds tail text.now (a_pattern level) (view x.0) x.1.now) }
@@ -45,10 +45,10 @@ pub fn a_pattern<'a>(
 fn with_patterns<'a>(
     alloc: Global,
     level: Level,
-    head: Head,
+    head: PatternStart,
     text: &'a str,
     tail: Tail,
-) -> Result<(Pattern, &'a str), Failure>
+) -> Result<(Pattern, &'a str), TextFailure>
     requires written { level.written ≤ 256 }
     requires meant { level.meant ≤ 256 }
     ensures found { IfOk result (λ x. Finds tail text.now (head_place level head) (view x.0) x.1.now) }
@@ -56,16 +56,16 @@ fn with_patterns<'a>(
     ensures behind { IfOk result (λ x. IsNotBefore x.1.now text.now) }
 {
     match head {
-        Head::Whole(pattern) => Ok((pattern, text)),
-        Head::One(form) => Ok(with_one(alloc, level, form, text, tail)?),
-        Head::Two(form) => Ok(with_two(alloc, level, form, text, tail)?),
-        Head::Many(form) => Ok(with_many(alloc, level, form, text, tail)?),
-        Head::Fold {
+        PatternStart::Whole(pattern) => Ok((pattern, text)),
+        PatternStart::One(form) => Ok(with_one(alloc, level, form, text, tail)?),
+        PatternStart::Two(form) => Ok(with_two(alloc, level, form, text, tail)?),
+        PatternStart::Many(form) => Ok(with_many(alloc, level, form, text, tail)?),
+        PatternStart::Fold {
             side,
             symbol,
             sorts,
         } => Ok(with_members(alloc, level, side, symbol, sorts, text, tail)?),
-        Head::VariadicFold { variadic, sort } => {
+        PatternStart::VariadicFold { variadic, sort } => {
             Ok(with_variadic(alloc, level, variadic, sort, text, tail)?)
         }
     }
@@ -79,7 +79,7 @@ fn with_one<'a>(
     form: OfOne,
     text: &'a str,
     tail: Tail,
-) -> Result<(Pattern, &'a str), Failure>
+) -> Result<(Pattern, &'a str), TextFailure>
     requires written { level.written ≤ 256 }
     requires meant { level.meant ≤ 256 }
     ensures found { IfOk result (λ x. Finds tail text.now (one_place level form) (view x.0) x.1.now) }
@@ -99,7 +99,7 @@ fn with_two<'a>(
     form: OfTwo,
     text: &'a str,
     tail: Tail,
-) -> Result<(Pattern, &'a str), Failure>
+) -> Result<(Pattern, &'a str), TextFailure>
     requires written { level.written ≤ 256 }
     requires meant { level.meant ≤ 256 }
     ensures found { IfOk result (λ x. Finds tail text.now (two_place level form) (view x.0) x.1.now) }
@@ -121,7 +121,7 @@ fn with_many<'a>(
     form: OfMany,
     text: &'a str,
     tail: Tail,
-) -> Result<(Pattern, &'a str), Failure>
+) -> Result<(Pattern, &'a str), TextFailure>
     requires written { level.written ≤ 256 }
     requires meant { level.meant ≤ 256 }
     ensures found { IfOk result (λ x. Finds tail text.now (many_place level form) (view x.0) x.1.now) }
@@ -141,7 +141,7 @@ fn with_variadic<'a>(
     sort: Sort,
     text: &'a str,
     tail: Tail,
-) -> Result<(Pattern, &'a str), Failure>
+) -> Result<(Pattern, &'a str), TextFailure>
     requires written { level.written ≤ 256 }
     requires meant { level.meant ≤ 256 }
     ensures found { IfOk result (λ x. Finds tail text.now (variadic_fold_place level form (sort_view sort)) (view x.0) x.1.now) }
@@ -162,7 +162,7 @@ pub fn patterns<'a>(
     close: char,
     text: &'a str,
     tail: Tail,
-) -> Result<(Vec<Pattern>, &'a str), Failure>
+) -> Result<(Vec<Pattern>, &'a str), TextFailure>
     requires written { level.written ≤ level.reached }
     requires meant { level.meant ≤ level.reached }
     ensures found { IfOk result (λ x. Finds tail text.now (patterns level close) (map view x.0.items) x.1.now) }
@@ -188,7 +188,7 @@ fn more_patterns<'a>(
     first: Pattern,
     text: &'a str,
     tail: Tail,
-) -> Result<(Vec<Pattern>, &'a str), Failure>
+) -> Result<(Vec<Pattern>, &'a str), TextFailure>
     requires written { level.written ≤ level.reached }
     requires meant { level.meant ≤ level.reached }
     ensures found { IfOk result (λ x. Finds tail text.now (more_patterns level close (view first ∷ [])) (map view x.0.items) x.1.now) }
@@ -215,12 +215,12 @@ fn more_patterns<'a>(
 fn with_members<'a>(
     alloc: Global,
     level: Level,
-    side: Side,
+    side: FoldSide,
     symbol: Name,
     sorts: Vec<Sort>,
     text: &'a str,
     tail: Tail,
-) -> Result<(Pattern, &'a str), Failure>
+) -> Result<(Pattern, &'a str), TextFailure>
     requires written { level.written ≤ 256 }
     requires meant { level.meant ≤ 256 }
     ensures found { IfOk result (λ x. Finds tail text.now (fold_place level side (string_bytes symbol) (sorts_view sorts.items)) (view x.0) x.1.now) }
@@ -239,11 +239,11 @@ fn with_members<'a>(
 fn more_folded<'a>(
     alloc: Global,
     level: Level,
-    side: Side,
+    side: FoldSide,
     first: &Pattern,
     text: &'a str,
     tail: Tail,
-) -> Result<(Vec<Pattern>, &'a str), Failure>
+) -> Result<(Vec<Pattern>, &'a str), TextFailure>
     requires written { level.written ≤ 256 }
     requires meant { level.meant ≤ 256 }
     ensures found { IfOk result (λ x. (f : Text) (ss : KoreSorts) (k : KorePattern → Place) → run_text tail x.1.now (k (fold_meaning side f ss (view first.now) (map view x.0.items))) ≡ run_text tail text.now (more_folded side f ss level (view first.now) [] k)) }
@@ -280,12 +280,12 @@ fn more_folded<'a>(
 fn a_member<'a>(
     alloc: Global,
     level: Level,
-    side: Side,
+    side: FoldSide,
     others: usize,
     deep: usize,
     text: &'a str,
     tail: Tail,
-) -> Result<(Pattern, &'a str), Failure>
+) -> Result<(Pattern, &'a str), TextFailure>
     requires written { level.written ≤ 256 }
     requires meant { level.meant ≤ 256 }
     requires others { others < deep }

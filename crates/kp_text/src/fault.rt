@@ -1,6 +1,6 @@
 ghost use Rattle.std.specs.Prelude.{◌≡◌};
 ghost use Rattle.kp_text.specs.Kinds.{kind_number};
-ghost use Rattle.kp_text.specs.declared.fault.Failure.TheVariants.{Memory};
+ghost use Rattle.kp_text.specs.declared.fault.TextFailure.TheVariants.{Memory};
 
 use std::alloc::{AllocError, AllocFailed};
 
@@ -43,23 +43,23 @@ pub struct TextFault {
 
 /// Why a part of a text wasn't read: for want of memory, or for a fault where so many bytes are left.
 #[derive(Clone, Copy)]
-pub enum Failure {
+pub enum TextFailure {
     Memory,
     Fault { left: usize, kind: FaultKind },
 }
 
-impl From<AllocError> for Failure {
+impl From<AllocError> for TextFailure {
     ghost from_gives = { λ _ e. e ≡ Memory };
 
-    fn from(_e: AllocError) -> Failure {
-        Failure::Memory
+    fn from(_e: AllocError) -> TextFailure {
+        TextFailure::Memory
     }
 }
 
-impl<T: Drop> From<AllocFailed<T>> for Failure {
+impl<T: Drop> From<AllocFailed<T>> for TextFailure {
     ghost from_gives = { λ _ e. e ≡ Memory };
 
-    fn from(_e: AllocFailed<T>) -> Failure {
-        Failure::Memory
+    fn from(_e: AllocFailed<T>) -> TextFailure {
+        TextFailure::Memory
     }
 }

@@ -6,26 +6,26 @@ ghost use Rattle.kp_kore.specs.View.{view, sorts_view, patterns_view};
 ghost use Rattle.kp_text.specs.Grammar.{next_in_fold, fold_meaning};
 ghost use Rattle.kp_text.specs.Heads.{depth_after, IsDeep, IsAlike};
 
-use crate::keyword::Side;
+use crate::keyword::FoldSide;
 use crate::level::Level;
 use kp_kore::sort::Name;
 use kp_kore::{Pattern, Sort};
 use std::alloc::{AllocError, Global};
 
 /// How much deeper than the fold a member after so many others stands, at least.
-fn depth_after(side: Side, others: usize) -> usize
+fn depth_after(side: FoldSide, others: usize) -> usize
     requires { others < 1000 }
     ensures same { result ≡ depth_after side others }
     ensures bound { result ≤ others + 1 }
 {
     match side {
-        Side::Left => 1,
-        Side::Right => others + 1,
+        FoldSide::Left => 1,
+        FoldSide::Right => others + 1,
     }
 }
 
 /// Where a member of a fold stands that comes after the first and some others, which nest so deep as meant.
-pub fn next_in_fold(level: Level, side: Side, others: usize, deep: usize) -> Level
+pub fn next_in_fold(level: Level, side: FoldSide, others: usize, deep: usize) -> Level
     requires written { level.written ≤ 256 }
     requires meant { level.meant ≤ 256 }
     requires others { others < deep }
@@ -43,7 +43,7 @@ pub fn next_in_fold(level: Level, side: Side, others: usize, deep: usize) -> Lev
 }
 
 /// How deep a fold nests with one more member.
-pub fn deeper(side: Side, others: usize, deep: usize, member: usize) -> usize
+pub fn deeper(side: FoldSide, others: usize, deep: usize, member: usize) -> usize
     requires others { others < deep }
     requires deep { deep ≤ 256 }
     requires some { 1 ≤ member }
@@ -53,8 +53,8 @@ pub fn deeper(side: Side, others: usize, deep: usize, member: usize) -> usize
     ensures bound { result ≤ 1000 }
 {
     match side {
-        Side::Left => deep.max(member) + 1,
-        Side::Right => deep.max(others + 1 + member),
+        FoldSide::Left => deep.max(member) + 1,
+        FoldSide::Right => deep.max(others + 1 + member),
     }
 }
 
@@ -121,7 +121,7 @@ fn fold_right(
 /// What a fold means.
 pub fn folded(
     alloc: Global,
-    side: Side,
+    side: FoldSide,
     symbol: &Name,
     sorts: &[Sort],
     first: Pattern,
@@ -130,7 +130,7 @@ pub fn folded(
     ensures { IfOk result (λ p. view p ≡ fold_meaning side (string_bytes symbol.now) (sorts_view sorts.now) (view first) (map view others.items)) }
 {
     match side {
-        Side::Left => Ok(fold_left(alloc, symbol, sorts, first, others)?),
-        Side::Right => Ok(fold_right(alloc, symbol, sorts, first, others)?),
+        FoldSide::Left => Ok(fold_left(alloc, symbol, sorts, first, others)?),
+        FoldSide::Right => Ok(fold_right(alloc, symbol, sorts, first, others)?),
     }
 }

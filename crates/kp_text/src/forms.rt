@@ -3,7 +3,7 @@ ghost use Rattle.kp_kore.specs.View.{view, sort_view};
 ghost use Rattle.kp_text.specs.Grammar.{constant_meaning, unary_meaning, variadic_meaning, binary_meaning, quantifier_meaning, rounding_meaning, comparison_meaning, fixed_point_meaning};
 
 use crate::keyword::{
-    Binary, Comparison, Constant, FixedPoint, Quantifier, Rounding, Unary, Variadic,
+    Binary, ComparisonKeyword, Constant, FixedPoint, Quantifier, Rounding, Unary, Variadic,
 };
 use kp_kore::{Pattern, Sort};
 use std::alloc::{AllocError, AllocFailed, Global};
@@ -132,7 +132,7 @@ pub fn rounded(
 /// `\equals{A,S}(p,q)` and `\in{A,S}(p,q)`.
 pub fn compared(
     alloc: Global,
-    comparison: Comparison,
+    comparison: ComparisonKeyword,
     argument_sort: Sort,
     sort: Sort,
     left: Pattern,
@@ -143,13 +143,13 @@ pub fn compared(
     let left = Box::new(alloc, left)?;
     let right = Box::new(alloc, right)?;
     match comparison {
-        Comparison::Equals => Ok(Pattern::Equals {
+        ComparisonKeyword::Equals => Ok(Pattern::Equals {
             argument_sort,
             sort,
             left,
             right,
         }),
-        Comparison::In => Ok(Pattern::In {
+        ComparisonKeyword::In => Ok(Pattern::In {
             argument_sort,
             sort,
             left,

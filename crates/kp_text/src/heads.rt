@@ -9,10 +9,10 @@ ghost use Rattle.kp_text.specs.Reads.{run_text, failed, begun_place, Finds, Stop
 ghost use Rattle.kp_text.specs.Heads.{one_meaning, two_meaning, many_meaning, head_place, FindsHead, sort_opened, sorts_opened, none_opened, a_bound, one_place, a_fold, symbol_opened, begun_fold, begun_fold_step, literal_place, fixed_place, keyword_place, IsBehindName};
 
 use crate::expected::{mark, next_token};
-use crate::fault::{Failure, FaultKind};
+use crate::fault::{FaultKind, TextFailure};
 use crate::forms::{binary, compared, constant, fixed, quantified, rounded, unary, variadic};
 use crate::keyword::{
-    Binary, Comparison, FixedPoint, Keyword, Quantifier, Rounding, Side, Unary, Variadic,
+    Binary, ComparisonKeyword, FixedPoint, FoldSide, Keyword, Quantifier, Rounding, Unary, Variadic,
 };
 use crate::level::Level;
 use crate::lexer::Token;
@@ -84,7 +84,7 @@ pub enum OfTwo {
         sort: Sort,
     },
     Compared {
-        comparison: Comparison,
+        comparison: ComparisonKeyword,
         argument_sort: Sort,
         sort: Sort,
     },
@@ -139,14 +139,14 @@ impl OfMany {
 
 /// A pattern up to where patterns begin in it.
 #[derive(Drop)]
-pub enum Head {
+pub enum PatternStart {
     Whole(Pattern),
     One(OfOne),
     Two(OfTwo),
     Many(OfMany),
     /// A fold of the members of an application.
     Fold {
-        side: Side,
+        side: FoldSide,
         symbol: Name,
         sorts: Vec<Sort>,
     },
@@ -165,7 +165,7 @@ enum BehindName<'a> {
 }
 
 /// The mark behind a name that begins a pattern.
-fn behind_name(alloc: Global, text: &str, tail: Tail) -> Result<BehindName<'_>, Failure>
+fn behind_name(alloc: Global, text: &str, tail: Tail) -> Result<BehindName<'_>, TextFailure>
     ensures found { IfOk result (IsBehindName tail text.now) }
     ensures fault { IfErr result (λ e. (l : Level) (x : Text) → Stops tail text.now (after_name l x) e) }
 {
@@ -178,12 +178,12 @@ fn behind_name(alloc: Global, text: &str, tail: Tail) -> Result<BehindName<'_>, 
             if c == ':' {
                 return Ok(BehindName::Colon(rest));
             }
-            Err(Failure::Fault {
+            Err(TextFailure::Fault {
                 left,
                 kind: FaultKind::Token,
             })
         }
-        _ => Err(Failure::Fault {
+        _ => Err(TextFailure::Fault {
             left,
             kind: FaultKind::Token,
         }),
@@ -196,7 +196,7 @@ fn named_head<'a>(
     name: Name,
     text: &'a str,
     tail: Tail,
-) -> Result<(Head, &'a str), Failure>
+) -> Result<(PatternStart, &'a str), TextFailure>
     ensures found { IfOk result (λ x. (l : Level) → FindsHead tail text.now (after_name l (string_bytes name)) l x.0 x.1.now) }
     ensures fault { IfErr result (λ e. (l : Level) → Stops tail text.now (after_name l (string_bytes name)) e) }
     ensures behind { IfOk result (λ x. IsBehind x.1.now text.now) }
@@ -206,7 +206,7 @@ fn named_head<'a>(
             let (sorts, rest) = sorts(alloc, 1, '}', rest, tail)?;
             let rest = mark(alloc, '(', rest, tail)?;
             Ok((
-                Head::Many(OfMany::Application {
+                PatternStart::Many(OfMany::Application {
                     symbol: name,
                     sorts,
                 }),
@@ -215,13 +215,13 @@ fn named_head<'a>(
         }
         BehindName::Colon(rest) => {
             let (sort, rest) = a_sort(alloc, 1, rest, tail)?;
-            Ok((Head::Whole(Pattern::Variable { name, sort }), rest))
+            Ok((PatternStart::Whole(Pattern::Variable { name, sort }), rest))
         }
     }
 }
 
 /// `{S}(`.
-fn opened(alloc: Global, text: &str, tail: Tail) -> Result<(Sort, &str), Failure>
+fn opened(alloc: Global, text: &str, tail: Tail) -> Result<(Sort, &str), TextFailure>
     ensures found { IfOk result (λ x. Finds tail text.now sort_opened (sort_view x.0) x.1.now) }
     ensures fault { IfErr result (Stops tail text.now sort_opened) }
     ensures behind { IfOk result (λ x. IsBehind x.1.now text.now) }
@@ -232,7 +232,7 @@ fn opened(alloc: Global, text: &str, tail: Tail) -> Result<(Sort, &str), Failure
 }
 
 /// `{A,S}(`.
-fn two_opened(alloc: Global, text: &str, tail: Tail) -> Result<(Sort, Sort, &str), Failure>
+fn two_opened(alloc: Global, text: &str, tail: Tail) -> Result<(Sort, Sort, &str), TextFailure>
     ensures found { IfOk result (λ x. Finds2 tail text.now sorts_opened (sort_view x.0) (sort_view x.1) x.2.now) }
     ensures fault { IfErr result (Stops2 tail text.now sorts_opened) }
     ensures behind { IfOk result (λ x. IsBehind x.2.now text.now) }
@@ -243,7 +243,7 @@ fn two_opened(alloc: Global, text: &str, tail: Tail) -> Result<(Sort, Sort, &str
 }
 
 /// `x:S,`.
-fn bound(alloc: Global, text: &str, tail: Tail) -> Result<(Name, Sort, &str), Failure>
+fn bound(alloc: Global, text: &str, tail: Tail) -> Result<(Name, Sort, &str), TextFailure>
     ensures found { IfOk result (λ x. Finds2 tail text.now a_bound (string_bytes x.0) (sort_view x.1) x.2.now) }
     ensures fault { IfErr result (Stops2 tail text.now a_bound) }
     ensures behind { IfOk result (λ x. IsBehind x.2.now text.now) }
@@ -254,7 +254,7 @@ fn bound(alloc: Global, text: &str, tail: Tail) -> Result<(Name, Sort, &str), Fa
 }
 
 /// `{}(`.
-fn no_sorts_opened(alloc: Global, text: &str, tail: Tail) -> Result<&str, Failure>
+fn no_sorts_opened(alloc: Global, text: &str, tail: Tail) -> Result<&str, TextFailure>
     ensures found { IfOk result (λ rest. Leads tail text.now none_opened rest.now) }
     ensures fault { IfErr result (StopsAt tail text.now none_opened) }
     ensures behind { IfOk result (λ rest. IsBehind rest.now text.now) }
@@ -264,7 +264,7 @@ fn no_sorts_opened(alloc: Global, text: &str, tail: Tail) -> Result<&str, Failur
 }
 
 /// `{S}("text")`.
-fn literal(alloc: Global, text: &str, tail: Tail) -> Result<(Pattern, &str), Failure>
+fn literal(alloc: Global, text: &str, tail: Tail) -> Result<(Pattern, &str), TextFailure>
     ensures found { IfOk result (λ x. Finds tail text.now literal_place (view x.0) x.1.now) }
     ensures fault { IfErr result (Stops tail text.now literal_place) }
     ensures behind { IfOk result (λ x. IsBehind x.1.now text.now) }
@@ -281,7 +281,7 @@ fn fixed_head(
     fixed_point: FixedPoint,
     text: &str,
     tail: Tail,
-) -> Result<(OfOne, &str), Failure>
+) -> Result<(OfOne, &str), TextFailure>
     ensures found { IfOk result (λ x. (l : Level) (k : KorePattern → Place) → run_text tail x.1.now (one_place l x.0 k) ≡ run_text tail text.now (fixed_place l fixed_point k)) }
     ensures fault { IfErr result (λ e. (l : Level) → Stops tail text.now (fixed_place l fixed_point) e) }
     ensures behind { IfOk result (λ x. IsBehind x.1.now text.now) }
@@ -308,7 +308,7 @@ enum FoldBeginning {
 
 /// How a token begins what a fold holds.
 fn begins_fold(token: Token) -> Option<FoldBeginning>
-    ensures { (level : Level) (side : Side) (k : KorePattern → Place) → by_folded level side k (token_view token) ≡ begun_fold_step level side k result }
+    ensures { (level : Level) (side : FoldSide) (k : KorePattern → Place) → by_folded level side k (token_view token) ≡ begun_fold_step level side k result }
 {
     match token {
         Token::Identifier(symbol) => Some(FoldBeginning::Symbol(symbol)),
@@ -327,21 +327,21 @@ fn fold_begin(
     level: Level,
     text: &str,
     tail: Tail,
-) -> Result<(FoldBeginning, &str), Failure>
+) -> Result<(FoldBeginning, &str), TextFailure>
     requires { level.written ≤ 256 }
-    ensures found { IfOk result (λ x. (side : Side) (k : KorePattern → Place) → run_text tail x.1.now (begun_fold level side k x.0) ≡ run_text tail text.now (folded level side k)) }
-    ensures fault { IfErr result (λ e. (side : Side) → Stops tail text.now (folded level side) e) }
+    ensures found { IfOk result (λ x. (side : FoldSide) (k : KorePattern → Place) → run_text tail x.1.now (begun_fold level side k x.0) ≡ run_text tail text.now (folded level side k)) }
+    ensures fault { IfErr result (λ e. (side : FoldSide) → Stops tail text.now (folded level side) e) }
     ensures behind { IfOk result (λ x. IsBehind x.1.now text.now) }
 {
     let (left, token, rest) = next_token(alloc, text, tail)?;
     match begins_fold(token) {
-        None => Err(Failure::Fault {
+        None => Err(TextFailure::Fault {
             left,
             kind: FaultKind::Token,
         }),
         Some(beginning) => {
             if level.written > 255 {
-                return Err(Failure::Fault {
+                return Err(TextFailure::Fault {
                     left,
                     kind: FaultKind::Deep,
                 });
@@ -355,10 +355,10 @@ fn fold_begin(
 fn fold_head(
     alloc: Global,
     level: Level,
-    side: Side,
+    side: FoldSide,
     text: &str,
     tail: Tail,
-) -> Result<(Head, &str), Failure>
+) -> Result<(PatternStart, &str), TextFailure>
     requires { level.written ≤ 256 }
     ensures found { IfOk result (λ x. FindsHead tail text.now (a_fold level side) level x.0 x.1.now) }
     ensures fault { IfErr result (Stops tail text.now (a_fold level side)) }
@@ -369,7 +369,7 @@ fn fold_head(
         FoldBeginning::Symbol(symbol) => {
             let (sorts, rest) = sorts_in_braces(alloc, rest, tail)?;
             Ok((
-                Head::Fold {
+                PatternStart::Fold {
                     side,
                     symbol,
                     sorts,
@@ -379,7 +379,7 @@ fn fold_head(
         }
         FoldBeginning::Variadic(variadic) => {
             let (sort, rest) = opened(alloc, rest, tail)?;
-            Ok((Head::VariadicFold { variadic, sort }, rest))
+            Ok((PatternStart::VariadicFold { variadic, sort }, rest))
         }
     }
 }
@@ -388,10 +388,10 @@ fn fold_head(
 fn opened_fold_head(
     alloc: Global,
     level: Level,
-    side: Side,
+    side: FoldSide,
     text: &str,
     tail: Tail,
-) -> Result<(Head, &str), Failure>
+) -> Result<(PatternStart, &str), TextFailure>
     requires { level.written ≤ 256 }
     ensures found { IfOk result (λ x. FindsHead tail text.now (keyword_place level (keyword.Fold side)) level x.0 x.1.now) }
     ensures fault { IfErr result (Stops tail text.now (keyword_place level (keyword.Fold side))) }
@@ -402,7 +402,7 @@ fn opened_fold_head(
 }
 
 /// `{sorts}(`.
-fn sorts_in_braces(alloc: Global, text: &str, tail: Tail) -> Result<(Vec<Sort>, &str), Failure>
+fn sorts_in_braces(alloc: Global, text: &str, tail: Tail) -> Result<(Vec<Sort>, &str), TextFailure>
     ensures found { IfOk result (λ x. Finds tail text.now symbol_opened (map sort_view x.0.items) x.1.now) }
     ensures fault { IfErr result (Stops tail text.now symbol_opened) }
     ensures behind { IfOk result (λ x. IsBehind x.1.now text.now) }
@@ -420,7 +420,7 @@ fn keyword_head(
     keyword: Keyword,
     text: &str,
     tail: Tail,
-) -> Result<(Head, &str), Failure>
+) -> Result<(PatternStart, &str), TextFailure>
     requires { level.written ≤ 256 }
     ensures found { IfOk result (λ x. FindsHead tail text.now (keyword_place level keyword) level x.0 x.1.now) }
     ensures fault { IfErr result (Stops tail text.now (keyword_place level keyword)) }
@@ -430,25 +430,28 @@ fn keyword_head(
         Keyword::Constant(form) => {
             let (sort, rest) = opened(alloc, text, tail)?;
             let rest = mark(alloc, ')', rest, tail)?;
-            Ok((Head::Whole(constant(form, sort)), rest))
+            Ok((PatternStart::Whole(constant(form, sort)), rest))
         }
         Keyword::Unary(unary) => {
             let (sort, rest) = opened(alloc, text, tail)?;
-            Ok((Head::One(OfOne::Unary { unary, sort }), rest))
+            Ok((PatternStart::One(OfOne::Unary { unary, sort }), rest))
         }
         Keyword::Variadic(variadic) => {
             let (sort, rest) = opened(alloc, text, tail)?;
-            Ok((Head::Many(OfMany::Variadic { variadic, sort }), rest))
+            Ok((
+                PatternStart::Many(OfMany::Variadic { variadic, sort }),
+                rest,
+            ))
         }
         Keyword::Binary(binary) => {
             let (sort, rest) = opened(alloc, text, tail)?;
-            Ok((Head::Two(OfTwo::Binary { binary, sort }), rest))
+            Ok((PatternStart::Two(OfTwo::Binary { binary, sort }), rest))
         }
         Keyword::Quantifier(quantifier) => {
             let (sort, rest) = opened(alloc, text, tail)?;
             let (name, name_sort, rest) = bound(alloc, rest, tail)?;
             Ok((
-                Head::One(OfOne::Quantified {
+                PatternStart::One(OfOne::Quantified {
                     quantifier,
                     sort,
                     name,
@@ -460,7 +463,7 @@ fn keyword_head(
         Keyword::Rounding(rounding) => {
             let (argument_sort, sort, rest) = two_opened(alloc, text, tail)?;
             Ok((
-                Head::One(OfOne::Rounded {
+                PatternStart::One(OfOne::Rounded {
                     rounding,
                     argument_sort,
                     sort,
@@ -471,7 +474,7 @@ fn keyword_head(
         Keyword::Comparison(comparison) => {
             let (argument_sort, sort, rest) = two_opened(alloc, text, tail)?;
             Ok((
-                Head::Two(OfTwo::Compared {
+                PatternStart::Two(OfTwo::Compared {
                     comparison,
                     argument_sort,
                     sort,
@@ -481,11 +484,11 @@ fn keyword_head(
         }
         Keyword::Literal => {
             let (pattern, rest) = literal(alloc, text, tail)?;
-            Ok((Head::Whole(pattern), rest))
+            Ok((PatternStart::Whole(pattern), rest))
         }
         Keyword::FixedPoint(form) => {
             let (head, rest) = fixed_head(alloc, form, text, tail)?;
-            Ok((Head::One(head), rest))
+            Ok((PatternStart::One(head), rest))
         }
         Keyword::Fold(side) => Ok(opened_fold_head(alloc, level, side, text, tail)?),
     }
@@ -499,7 +502,7 @@ pub fn pattern_head(
     beginning: Beginning,
     text: &str,
     tail: Tail,
-) -> Result<(Head, &str), Failure>
+) -> Result<(PatternStart, &str), TextFailure>
     requires { level.written ≤ 256 }
     ensures found { IfOk result (λ x. FindsHead tail text.now (λ k. begun_place level k beginning) level x.0 x.1.now) }
     ensures fault { IfErr result (Stops tail text.now (λ k. begun_place level k beginning)) }
@@ -509,10 +512,13 @@ pub fn pattern_head(
         Beginning::Name(name) => Ok(named_head(alloc, name, text, tail)?),
         Beginning::SetVariable => {
             let (name, sort, rest) = variable(alloc, text, tail)?;
-            Ok((Head::Whole(Pattern::SetVariable { name, sort }), rest))
+            Ok((
+                PatternStart::Whole(Pattern::SetVariable { name, sort }),
+                rest,
+            ))
         }
         Beginning::Text(characters) => Ok((
-            Head::Whole(Pattern::StringLiteral { text: characters }),
+            PatternStart::Whole(Pattern::StringLiteral { text: characters }),
             text,
         )),
         Beginning::Keyword(keyword) => Ok(keyword_head(alloc, level, keyword, text, tail)?),

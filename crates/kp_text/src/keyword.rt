@@ -43,7 +43,7 @@ pub enum Rounding {
 
 /// `\equals` and `\in`.
 #[derive(Clone, Copy)]
-pub enum Comparison {
+pub enum ComparisonKeyword {
     Equals,
     In,
 }
@@ -57,7 +57,7 @@ pub enum FixedPoint {
 
 /// `\left-assoc` and `\right-assoc`.
 #[derive(Clone, Copy)]
-pub enum Side {
+pub enum FoldSide {
     Left,
     Right,
 }
@@ -71,9 +71,9 @@ pub enum Keyword {
     Binary(Binary),
     Quantifier(Quantifier),
     Rounding(Rounding),
-    Comparison(Comparison),
+    Comparison(ComparisonKeyword),
     /// `\dv`.
     Literal,
     FixedPoint(FixedPoint),
-    Fold(Side),
+    Fold(FoldSide),
 }

@@ -8,7 +8,7 @@ ghost use Rattle.kp_text.specs.Starts.{pattern_start, module_start, modules_star
 
 use crate::descent::a_pattern;
 use crate::expected::name;
-use crate::fault::{Failure, FaultKind};
+use crate::fault::{FaultKind, TextFailure};
 use crate::level::Level;
 use crate::lexer::{Ahead, Token, look_ahead};
 use crate::sentences::{attributes, is_word, sentences, word};
@@ -17,7 +17,7 @@ use kp_kore::{Definition, Module, Pattern};
 use std::alloc::Global;
 
 /// A module whose word was read, and what comes behind it.
-fn after_module(alloc: Global, text: &str, tail: Tail) -> Result<(Module, &str), Failure>
+fn after_module(alloc: Global, text: &str, tail: Tail) -> Result<(Module, &str), TextFailure>
     ensures found { IfOk result (λ x. Finds tail text.now after_module (module_view x.0) x.1.now) }
     ensures fault { IfErr result (Stops tail text.now after_module) }
     ensures behind { IfOk result (λ x. IsBehind x.1.now text.now) }
@@ -36,7 +36,7 @@ fn after_module(alloc: Global, text: &str, tail: Tail) -> Result<(Module, &str),
 }
 
 /// A module, and what comes behind it.
-fn a_module(alloc: Global, text: &str, tail: Tail) -> Result<(Module, &str), Failure>
+fn a_module(alloc: Global, text: &str, tail: Tail) -> Result<(Module, &str), TextFailure>
     ensures found { IfOk result (λ x. Finds tail text.now a_module (module_view x.0) x.1.now) }
     ensures fault { IfErr result (Stops tail text.now a_module) }
     ensures behind { IfOk result (λ x. IsBehind x.1.now text.now) }
@@ -47,7 +47,7 @@ fn a_module(alloc: Global, text: &str, tail: Tail) -> Result<(Module, &str), Fai
 
 /// Whether a word stands next that begins a module, and then what comes behind it; nothing at the end.
 #[tactic(auto, using(crate::proofs::InModules::modules_refused))]
-fn module_ahead(alloc: Global, text: &str, tail: Tail) -> Result<Option<&str>, Failure>
+fn module_ahead(alloc: Global, text: &str, tail: Tail) -> Result<Option<&str>, TextFailure>
     ensures found { IfOk result (IsModuleAhead tail text.now) }
     ensures fault { IfErr result (λ e. (ms : List KoreModule) (answer : List KoreModule → Answer) → run_text tail text.now (more_modules ms answer) ≡ failed e (run_text tail text.now (more_modules ms answer))) }
 {
@@ -58,18 +58,18 @@ fn module_ahead(alloc: Global, text: &str, tail: Tail) -> Result<Option<&str>, F
                 if is_word(&found, "module") {
                     return Ok(Some(rest));
                 }
-                Err(Failure::Fault {
+                Err(TextFailure::Fault {
                     left,
                     kind: FaultKind::Token,
                 })
             }
-            _ => Err(Failure::Fault {
+            _ => Err(TextFailure::Fault {
                 left,
                 kind: FaultKind::Token,
             }),
         },
-        Ahead::Broken { left, kind } => Err(Failure::Fault { left, kind }),
-        Ahead::BrokenString { quote, .. } => Err(Failure::Fault {
+        Ahead::Broken { left, kind } => Err(TextFailure::Fault { left, kind }),
+        Ahead::BrokenString { quote, .. } => Err(TextFailure::Fault {
             left: quote,
             kind: FaultKind::Token,
         }),
@@ -77,18 +77,18 @@ fn module_ahead(alloc: Global, text: &str, tail: Tail) -> Result<Option<&str>, F
 }
 
 /// Nothing but blanks and comments up to the end.
-fn the_end(alloc: Global, text: &str, tail: Tail) -> Result<(), Failure>
+fn the_end(alloc: Global, text: &str, tail: Tail) -> Result<(), TextFailure>
     ensures found { OnOk result (lexed tail text.now between ≡ finished) }
     ensures fault { IfErr result (λ e. (a : Answer) → run_text tail text.now (done a) ≡ failed e (run_text tail text.now (done a))) }
 {
     match look_ahead(alloc, text, tail)? {
         Ahead::Finished => Ok(()),
-        Ahead::Token { left, .. } => Err(Failure::Fault {
+        Ahead::Token { left, .. } => Err(TextFailure::Fault {
             left,
             kind: FaultKind::Token,
         }),
-        Ahead::Broken { left, kind } => Err(Failure::Fault { left, kind }),
-        Ahead::BrokenString { quote, .. } => Err(Failure::Fault {
+        Ahead::Broken { left, kind } => Err(TextFailure::Fault { left, kind }),
+        Ahead::BrokenString { quote, .. } => Err(TextFailure::Fault {
             left: quote,
             kind: FaultKind::Token,
         }),
@@ -97,7 +97,7 @@ fn the_end(alloc: Global, text: &str, tail: Tail) -> Result<(), Failure>
 
 /// A pattern, up to the end.
 #[tactic(auto, using(crate::proofs::InModules::end_answers))]
-pub fn whole_pattern(alloc: Global, text: &str, tail: Tail) -> Result<Pattern, Failure>
+pub fn whole_pattern(alloc: Global, text: &str, tail: Tail) -> Result<Pattern, TextFailure>
     ensures found { IfOk result (λ x. run_text tail text.now pattern_start ≡ answered (pattern_answer (view x))) }
     ensures fault { IfErr result (λ e. run_text tail text.now pattern_start ≡ failed e (run_text tail text.now pattern_start)) }
 {
@@ -108,7 +108,7 @@ pub fn whole_pattern(alloc: Global, text: &str, tail: Tail) -> Result<Pattern, F
 
 /// A module, up to the end.
 #[tactic(auto, using(crate::proofs::InModules::end_answers))]
-pub fn whole_module(alloc: Global, text: &str, tail: Tail) -> Result<Module, Failure>
+pub fn whole_module(alloc: Global, text: &str, tail: Tail) -> Result<Module, TextFailure>
     ensures found { IfOk result (λ x. run_text tail text.now module_start ≡ answered (module_answer (module_view x))) }
     ensures fault { IfErr result (λ e. run_text tail text.now module_start ≡ failed e (run_text tail text.now module_start)) }
 {
@@ -118,7 +118,7 @@ pub fn whole_module(alloc: Global, text: &str, tail: Tail) -> Result<Module, Fai
 }
 
 /// One or more modules, up to the end.
-fn some_modules(alloc: Global, text: &str, tail: Tail) -> Result<Vec<Module>, Failure>
+fn some_modules(alloc: Global, text: &str, tail: Tail) -> Result<Vec<Module>, TextFailure>
     ensures found { IfOk result (λ x. (answer : List KoreModule → Answer) → run_text tail text.now (some_modules answer) ≡ answered (answer (map module_view x.items))) }
     ensures fault { IfErr result (λ e. (answer : List KoreModule → Answer) → run_text tail text.now (some_modules answer) ≡ failed e (run_text tail text.now (some_modules answer))) }
 {
@@ -133,7 +133,7 @@ fn other_modules(
     first: Module,
     text: &str,
     tail: Tail,
-) -> Result<Vec<Module>, Failure>
+) -> Result<Vec<Module>, TextFailure>
     ensures found { IfOk result (λ x. (answer : List KoreModule → Answer) → run_text tail text.now (more_modules (module_view first ∷ []) answer) ≡ answered (answer (map module_view x.items))) }
     ensures fault { IfErr result (λ e. (answer : List KoreModule → Answer) → run_text tail text.now (more_modules (module_view first ∷ []) answer) ≡ failed e (run_text tail text.now (more_modules (module_view first ∷ []) answer))) }
 {
@@ -149,7 +149,7 @@ fn other_modules(
 }
 
 /// One or more modules, up to the end.
-pub fn whole_modules(alloc: Global, text: &str, tail: Tail) -> Result<Vec<Module>, Failure>
+pub fn whole_modules(alloc: Global, text: &str, tail: Tail) -> Result<Vec<Module>, TextFailure>
     ensures found { IfOk result (λ x. run_text tail text.now modules_start ≡ answered (modules_answer (map module_view x.items))) }
     ensures fault { IfErr result (λ e. run_text tail text.now modules_start ≡ failed e (run_text tail text.now modules_start)) }
 {
@@ -157,7 +157,7 @@ pub fn whole_modules(alloc: Global, text: &str, tail: Tail) -> Result<Vec<Module
 }
 
 /// Attributes and one or more modules, up to the end.
-pub fn whole_definition(alloc: Global, text: &str, tail: Tail) -> Result<Definition, Failure>
+pub fn whole_definition(alloc: Global, text: &str, tail: Tail) -> Result<Definition, TextFailure>
     ensures found { IfOk result (λ x. run_text tail text.now definition_start ≡ answered (definition_answer (definition_view x))) }
     ensures fault { IfErr result (λ e. run_text tail text.now definition_start ≡ failed e (run_text tail text.now definition_start)) }
 {

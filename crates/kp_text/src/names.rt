@@ -5,7 +5,7 @@ ghost use Rattle.kp_text.specs.Reads.{Finds, Stops, IsBehind};
 ghost use Rattle.kp_text.specs.Sentences.{braced_names};
 
 use crate::expected::{Separator, mark, name, next_separator, next_token};
-use crate::fault::{Failure, FaultKind};
+use crate::fault::{FaultKind, TextFailure};
 use crate::lexer::Token;
 use crate::tail::Tail;
 use kp_kore::sort::Name;
@@ -13,7 +13,7 @@ use std::alloc::Global;
 
 /// Names with commas between them, and what comes behind the brace that closes them.
 #[tactic(auto, using(crate::proofs::InSentences::names_are_none, crate::proofs::InSentences::names_begin, crate::proofs::InSentences::names_refused))]
-fn names(alloc: Global, text: &str, tail: Tail) -> Result<(Vec<Name>, &str), Failure>
+fn names(alloc: Global, text: &str, tail: Tail) -> Result<(Vec<Name>, &str), TextFailure>
     ensures found { IfOk result (λ x. Finds tail text.now names (names_view x.0.items) x.1.now) }
     ensures fault { IfErr result (Stops tail text.now names) }
     ensures behind { IfOk result (λ x. IsBehind x.1.now text.now) }
@@ -24,13 +24,13 @@ fn names(alloc: Global, text: &str, tail: Tail) -> Result<(Vec<Name>, &str), Fai
             if c == '}' {
                 return Ok((Vec::new(alloc), rest));
             }
-            Err(Failure::Fault {
+            Err(TextFailure::Fault {
                 left,
                 kind: FaultKind::Token,
             })
         }
         Token::Identifier(first) => Ok(more_names(alloc, first, rest, tail)?),
-        _ => Err(Failure::Fault {
+        _ => Err(TextFailure::Fault {
             left,
             kind: FaultKind::Token,
         }),
@@ -44,7 +44,7 @@ fn more_names<'a>(
     first: Name,
     text: &'a str,
     tail: Tail,
-) -> Result<(Vec<Name>, &'a str), Failure>
+) -> Result<(Vec<Name>, &'a str), TextFailure>
     ensures found { IfOk result (λ x. Finds tail text.now (more_names (string_bytes first ∷ [])) (names_view x.0.items) x.1.now) }
     ensures fault { IfErr result (Stops tail text.now (more_names (string_bytes first ∷ []))) }
     ensures behind { IfOk result (λ x. IsBehind x.1.now text.now) }
@@ -65,7 +65,7 @@ fn more_names<'a>(
 }
 
 /// Names in braces, and what comes behind them.
-pub fn braced_names(alloc: Global, text: &str, tail: Tail) -> Result<(Vec<Name>, &str), Failure>
+pub fn braced_names(alloc: Global, text: &str, tail: Tail) -> Result<(Vec<Name>, &str), TextFailure>
     ensures found { IfOk result (λ x. Finds tail text.now braced_names (names_view x.0.items) x.1.now) }
     ensures fault { IfErr result (Stops tail text.now braced_names) }
     ensures behind { IfOk result (λ x. IsBehind x.1.now text.now) }

@@ -4,9 +4,10 @@ ghost use Rattle.kp_text.specs.Next.{a_braced_sort, two_braced, a_variable, no_b
 ghost use Rattle.kp_text.specs.Reads.{run_text, failed, Leads, StopsAt, Finds, Stops, Finds2, Stops2, IsBehind};
 
 use crate::expected::{mark, name};
-use crate::fault::{Failure, FaultKind};
+use crate::fault::{FaultKind, TextFailure};
 use crate::keyword::{
-    Binary, Comparison, Constant, FixedPoint, Keyword, Quantifier, Rounding, Side, Unary, Variadic,
+    Binary, ComparisonKeyword, Constant, FixedPoint, FoldSide, Keyword, Quantifier, Rounding,
+    Unary, Variadic,
 };
 use crate::lexer::{Ahead, Token, look_ahead};
 use crate::sorts::a_sort;
@@ -15,7 +16,7 @@ use kp_kore::Sort;
 use std::alloc::Global;
 
 /// `{S}`.
-pub fn braced_sort(alloc: Global, text: &str, tail: Tail) -> Result<(Sort, &str), Failure>
+pub fn braced_sort(alloc: Global, text: &str, tail: Tail) -> Result<(Sort, &str), TextFailure>
     ensures found { IfOk result (λ x. Finds tail text.now a_braced_sort (sort_view x.0) x.1.now) }
     ensures fault { IfErr result (Stops tail text.now a_braced_sort) }
     ensures behind { IfOk result (λ x. IsBehind x.1.now text.now) }
@@ -31,7 +32,7 @@ pub fn two_braced_sorts(
     alloc: Global,
     text: &str,
     tail: Tail,
-) -> Result<(Sort, Sort, &str), Failure>
+) -> Result<(Sort, Sort, &str), TextFailure>
     ensures found { IfOk result (λ x. Finds2 tail text.now two_braced (sort_view x.0) (sort_view x.1) x.2.now) }
     ensures fault { IfErr result (Stops2 tail text.now two_braced) }
     ensures behind { IfOk result (λ x. IsBehind x.2.now text.now) }
@@ -45,7 +46,7 @@ pub fn two_braced_sorts(
 }
 
 /// `{}`.
-pub fn no_braces(alloc: Global, text: &str, tail: Tail) -> Result<&str, Failure>
+pub fn no_braces(alloc: Global, text: &str, tail: Tail) -> Result<&str, TextFailure>
     ensures found { IfOk result (λ rest. Leads tail text.now no_braced rest.now) }
     ensures fault { IfErr result (StopsAt tail text.now no_braced) }
     ensures behind { IfOk result (λ rest. IsBehind rest.now text.now) }
@@ -55,7 +56,7 @@ pub fn no_braces(alloc: Global, text: &str, tail: Tail) -> Result<&str, Failure>
 }
 
 /// `x:S`.
-pub fn variable(alloc: Global, text: &str, tail: Tail) -> Result<(String, Sort, &str), Failure>
+pub fn variable(alloc: Global, text: &str, tail: Tail) -> Result<(String, Sort, &str), TextFailure>
     ensures found { IfOk result (λ x. Finds2 tail text.now a_variable (string_bytes x.0) (sort_view x.1) x.2.now) }
     ensures fault { IfErr result (Stops2 tail text.now a_variable) }
     ensures behind { IfOk result (λ x. IsBehind x.2.now text.now) }
@@ -67,7 +68,7 @@ pub fn variable(alloc: Global, text: &str, tail: Tail) -> Result<(String, Sort, 
 }
 
 /// A string, and what comes behind it.
-pub fn string_literal(alloc: Global, text: &str, tail: Tail) -> Result<(String, &str), Failure>
+pub fn string_literal(alloc: Global, text: &str, tail: Tail) -> Result<(String, &str), TextFailure>
     ensures found { IfOk result (λ x. Finds tail text.now a_string (string_bytes x.0) x.1.now) }
     ensures fault { IfErr result (Stops tail text.now a_string) }
     ensures behind { IfOk result (λ x. IsBehind x.1.now text.now) }
@@ -75,17 +76,17 @@ pub fn string_literal(alloc: Global, text: &str, tail: Tail) -> Result<(String, 
     match look_ahead(alloc, text, tail)? {
         Ahead::Token { left, token, rest } => match token {
             Token::Text(characters) => Ok((characters, rest)),
-            _ => Err(Failure::Fault {
+            _ => Err(TextFailure::Fault {
                 left,
                 kind: FaultKind::Token,
             }),
         },
-        Ahead::Finished => Err(Failure::Fault {
+        Ahead::Finished => Err(TextFailure::Fault {
             left: 0,
             kind: FaultKind::End,
         }),
-        Ahead::Broken { left, kind } => Err(Failure::Fault { left, kind }),
-        Ahead::BrokenString { left, kind, .. } => Err(Failure::Fault { left, kind }),
+        Ahead::Broken { left, kind } => Err(TextFailure::Fault { left, kind }),
+        Ahead::BrokenString { left, kind, .. } => Err(TextFailure::Fault { left, kind }),
     }
 }
 
@@ -120,9 +121,9 @@ pub fn keyword(word: &str) -> Option<Keyword>
     } else if word == "floor" {
         Some(Keyword::Rounding(Rounding::Floor))
     } else if word == "equals" {
-        Some(Keyword::Comparison(Comparison::Equals))
+        Some(Keyword::Comparison(ComparisonKeyword::Equals))
     } else if word == "in" {
-        Some(Keyword::Comparison(Comparison::In))
+        Some(Keyword::Comparison(ComparisonKeyword::In))
     } else if word == "dv" {
         Some(Keyword::Literal)
     } else if word == "mu" {
@@ -130,9 +131,9 @@ pub fn keyword(word: &str) -> Option<Keyword>
     } else if word == "nu" {
         Some(Keyword::FixedPoint(FixedPoint::Nu))
     } else if word == "left-assoc" {
-        Some(Keyword::Fold(Side::Left))
+        Some(Keyword::Fold(FoldSide::Left))
     } else if word == "right-assoc" {
-        Some(Keyword::Fold(Side::Right))
+        Some(Keyword::Fold(FoldSide::Right))
     } else {
         None
     }

@@ -7,7 +7,7 @@ ghost use Rattle.kp_text.specs.Next.{Place, a_pattern, after_name, after_keyword
 ghost use Rattle.kp_text.specs.Reads.{run_text, failed, Finds, Stops, Finds2, Stops2, Finds3, Stops3, IsBehind, IsNotBefore, begun_place, begun_step, bound_argument, IsSmall};
 
 use crate::expected::{Separator, mark, mark_ahead, next_separator};
-use crate::fault::{Failure, FaultKind};
+use crate::fault::{FaultKind, TextFailure};
 use crate::forms::{binary, compared, constant, fixed, quantified, rounded, unary, variadic};
 use crate::keyword::Keyword;
 use crate::level::Level;
@@ -56,7 +56,7 @@ pub fn begin(
     level: Level,
     text: &str,
     tail: Tail,
-) -> Result<(Beginning, &str), Failure>
+) -> Result<(Beginning, &str), TextFailure>
     ensures found { IfOk result (λ x. (k : KorePattern → Place) → run_text tail x.1.now (begun_place level k x.0) ≡ run_text tail text.now (a_pattern level k)) }
     ensures fault { IfErr result (Stops tail text.now (a_pattern level)) }
     ensures shallow { IfOk result (λ x. level.reached ≤ 256) }
@@ -64,13 +64,13 @@ pub fn begin(
 {
     match look_ahead(alloc, text, tail)? {
         Ahead::Token { left, token, rest } => match begins(token) {
-            None => Err(Failure::Fault {
+            None => Err(TextFailure::Fault {
                 left,
                 kind: FaultKind::Token,
             }),
             Some(beginning) => {
                 if level.reached > 256 {
-                    return Err(Failure::Fault {
+                    return Err(TextFailure::Fault {
                         left,
                         kind: FaultKind::Deep,
                     });
@@ -78,19 +78,19 @@ pub fn begin(
                 Ok((beginning, rest))
             }
         },
-        Ahead::Finished => Err(Failure::Fault {
+        Ahead::Finished => Err(TextFailure::Fault {
             left: 0,
             kind: FaultKind::End,
         }),
-        Ahead::Broken { left, kind } => Err(Failure::Fault { left, kind }),
+        Ahead::Broken { left, kind } => Err(TextFailure::Fault { left, kind }),
         Ahead::BrokenString { quote, left, kind } => {
             if level.reached > 256 {
-                return Err(Failure::Fault {
+                return Err(TextFailure::Fault {
                     left: quote,
                     kind: FaultKind::Deep,
                 });
             }
-            Err(Failure::Fault { left, kind })
+            Err(TextFailure::Fault { left, kind })
         }
     }
 }

@@ -4,7 +4,7 @@ ghost use Rattle.kp_text.specs.Tokens.{utf8_front};
 ghost use Rattle.kp_text.specs.Spelling.{SpellsPattern, SpellsModule, SpellsModules, SpellsDefinition, IsPatternText, IsModuleText, IsModulesText, IsDefinitionText};
 ghost use Rattle.kp_text.specs.Errors.{IsErrorOf, read_error_of};
 
-use crate::fault::{Failure, FaultKind, TextFault};
+use crate::fault::{FaultKind, TextFailure, TextFault};
 use crate::input::front_and_tail;
 use crate::modules::{whole_definition, whole_module, whole_modules, whole_pattern};
 use kp_kore::{Definition, Module, Pattern};
@@ -18,13 +18,13 @@ pub enum ReadError {
 }
 
 /// The error of a failure in bytes whose longest front of UTF-8 is so long.
-fn read_error(bytes: &[u8], front: &str, failure: Failure) -> ReadError
+fn read_error(bytes: &[u8], front: &str, failure: TextFailure) -> ReadError
     requires { front.now ≡ utf8_front bytes.now }
     ensures { result ≡ read_error_of bytes.now failure }
 {
     match failure {
-        Failure::Memory => ReadError::Memory,
-        Failure::Fault { left, kind } => {
+        TextFailure::Memory => ReadError::Memory,
+        TextFailure::Fault { left, kind } => {
             let at = match kind {
                 FaultKind::End => bytes.len(),
                 FaultKind::Byte | FaultKind::Token | FaultKind::String | FaultKind::Deep => {

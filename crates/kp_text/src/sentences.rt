@@ -9,7 +9,7 @@ ghost use Rattle.kp_text.specs.Sentences.{FindsDeclared, StopsDeclared, sort_dec
 
 use crate::descent::{a_pattern, patterns};
 use crate::expected::{mark, name, next_token};
-use crate::fault::{Failure, FaultKind};
+use crate::fault::{FaultKind, TextFailure};
 use crate::level::Level;
 use crate::lexer::Token;
 use crate::names::braced_names;
@@ -68,7 +68,11 @@ pub fn sentence_word(word: &str) -> Option<SentenceWord>
 }
 
 /// Patterns in brackets, and what comes behind them.
-pub fn attributes(alloc: Global, text: &str, tail: Tail) -> Result<(Vec<Pattern>, &str), Failure>
+pub fn attributes(
+    alloc: Global,
+    text: &str,
+    tail: Tail,
+) -> Result<(Vec<Pattern>, &str), TextFailure>
     ensures found { IfOk result (λ x. Finds tail text.now an_attributes (patterns_view x.0.items) x.1.now) }
     ensures fault { IfErr result (Stops tail text.now an_attributes) }
     ensures behind { IfOk result (λ x. IsBehind x.1.now text.now) }
@@ -87,7 +91,7 @@ struct Declared {
 }
 
 /// `name{parameters}(sorts):sort`, and what comes behind it.
-fn signature(alloc: Global, text: &str, tail: Tail) -> Result<(Declared, &str), Failure>
+fn signature(alloc: Global, text: &str, tail: Tail) -> Result<(Declared, &str), TextFailure>
     ensures found { IfOk result (λ x. FindsDeclared tail text.now x.0 x.1.now) }
     ensures fault { IfErr result (StopsDeclared tail text.now) }
     ensures behind { IfOk result (λ x. IsBehind x.1.now text.now) }
@@ -110,7 +114,7 @@ fn signature(alloc: Global, text: &str, tail: Tail) -> Result<(Declared, &str), 
 }
 
 /// An import whose word was read.
-fn import(alloc: Global, text: &str, tail: Tail) -> Result<(Sentence, &str), Failure>
+fn import(alloc: Global, text: &str, tail: Tail) -> Result<(Sentence, &str), TextFailure>
     ensures found { IfOk result (λ x. Finds tail text.now an_import (sentence_view x.0) x.1.now) }
     ensures fault { IfErr result (Stops tail text.now an_import) }
     ensures behind { IfOk result (λ x. IsBehind x.1.now text.now) }
@@ -126,7 +130,7 @@ fn sort(
     hooked: bool,
     text: &str,
     tail: Tail,
-) -> Result<(SortSentence, &str), Failure>
+) -> Result<(SortSentence, &str), TextFailure>
     ensures found { IfOk result (λ x. Finds tail text.now (sort_declared hooked) (sort_sentence_view x.0) x.1.now) }
     ensures fault { IfErr result (Stops tail text.now (sort_declared hooked)) }
     ensures behind { IfOk result (λ x. IsBehind x.1.now text.now) }
@@ -151,7 +155,7 @@ fn symbol(
     hooked: bool,
     text: &str,
     tail: Tail,
-) -> Result<(SymbolSentence, &str), Failure>
+) -> Result<(SymbolSentence, &str), TextFailure>
     ensures found { IfOk result (λ x. Finds tail text.now (symbol_declared hooked) (symbol_sentence_view x.0) x.1.now) }
     ensures fault { IfErr result (Stops tail text.now (symbol_declared hooked)) }
     ensures behind { IfOk result (λ x. IsBehind x.1.now text.now) }
@@ -180,7 +184,12 @@ pub fn is_word(found: &str, wanted: &str) -> bool
 
 /// What comes behind the word that ought to stand next.
 #[tactic(auto, using(crate::proofs::InSentences::word_leads, crate::proofs::InSentences::word_refused))]
-pub fn word<'a>(alloc: Global, wanted: &str, text: &'a str, tail: Tail) -> Result<&'a str, Failure>
+pub fn word<'a>(
+    alloc: Global,
+    wanted: &str,
+    text: &'a str,
+    tail: Tail,
+) -> Result<&'a str, TextFailure>
     ensures found { IfOk result (λ rest. Leads tail text.now (a_word wanted.now) rest.now) }
     ensures fault { IfErr result (StopsAt tail text.now (a_word wanted.now)) }
     ensures behind { IfOk result (λ rest. IsBehind rest.now text.now) }
@@ -191,12 +200,12 @@ pub fn word<'a>(alloc: Global, wanted: &str, text: &'a str, tail: Tail) -> Resul
             if is_word(&found, wanted) {
                 return Ok(rest);
             }
-            Err(Failure::Fault {
+            Err(TextFailure::Fault {
                 left,
                 kind: FaultKind::Token,
             })
         }
-        _ => Err(Failure::Fault {
+        _ => Err(TextFailure::Fault {
             left,
             kind: FaultKind::Token,
         }),
@@ -204,7 +213,7 @@ pub fn word<'a>(alloc: Global, wanted: &str, text: &'a str, tail: Tail) -> Resul
 }
 
 /// What comes behind `:=`.
-fn defined_as(alloc: Global, text: &str, tail: Tail) -> Result<&str, Failure>
+fn defined_as(alloc: Global, text: &str, tail: Tail) -> Result<&str, TextFailure>
     ensures found { IfOk result (λ rest. Leads tail text.now a_defined_as rest.now) }
     ensures fault { IfErr result (StopsAt tail text.now a_defined_as) }
     ensures behind { IfOk result (λ rest. IsBehind rest.now text.now) }
@@ -212,7 +221,7 @@ fn defined_as(alloc: Global, text: &str, tail: Tail) -> Result<&str, Failure>
     let (left, token, rest) = next_token(alloc, text, tail)?;
     match token {
         Token::DefinedAs => Ok(rest),
-        _ => Err(Failure::Fault {
+        _ => Err(TextFailure::Fault {
             left,
             kind: FaultKind::Token,
         }),
@@ -220,7 +229,7 @@ fn defined_as(alloc: Global, text: &str, tail: Tail) -> Result<&str, Failure>
 }
 
 /// `where p := q`, and what comes behind it.
-fn equation(alloc: Global, text: &str, tail: Tail) -> Result<(Pattern, Pattern, &str), Failure>
+fn equation(alloc: Global, text: &str, tail: Tail) -> Result<(Pattern, Pattern, &str), TextFailure>
     ensures found { IfOk result (λ x. Finds2 tail text.now an_equation (view x.0) (view x.1) x.2.now) }
     ensures fault { IfErr result (Stops2 tail text.now an_equation) }
     ensures behind { IfOk result (λ x. IsBehind x.2.now text.now) }
@@ -233,7 +242,7 @@ fn equation(alloc: Global, text: &str, tail: Tail) -> Result<(Pattern, Pattern, 
 }
 
 /// The declaration of an alias whose word was read.
-fn alias(alloc: Global, text: &str, tail: Tail) -> Result<(AliasSentence, &str), Failure>
+fn alias(alloc: Global, text: &str, tail: Tail) -> Result<(AliasSentence, &str), TextFailure>
     ensures found { IfOk result (λ x. Finds tail text.now alias_declared (alias_sentence_view x.0) x.1.now) }
     ensures fault { IfErr result (Stops tail text.now alias_declared) }
     ensures behind { IfOk result (λ x. IsBehind x.1.now text.now) }
@@ -256,7 +265,7 @@ fn alias(alloc: Global, text: &str, tail: Tail) -> Result<(AliasSentence, &str),
 }
 
 /// An axiom or a claim whose word was read.
-fn statement(alloc: Global, text: &str, tail: Tail) -> Result<(AxiomSentence, &str), Failure>
+fn statement(alloc: Global, text: &str, tail: Tail) -> Result<(AxiomSentence, &str), TextFailure>
     ensures found { IfOk result (λ x. Finds tail text.now stated (axiom_sentence_view x.0) x.1.now) }
     ensures fault { IfErr result (Stops tail text.now stated) }
     ensures behind { IfOk result (λ x. IsBehind x.1.now text.now) }
@@ -280,7 +289,7 @@ fn after_word(
     word: SentenceWord,
     text: &str,
     tail: Tail,
-) -> Result<(Option<Sentence>, &str), Failure>
+) -> Result<(Option<Sentence>, &str), TextFailure>
     ensures found { IfOk result (λ x. (so_far : List KoreSentence) (k : List KoreSentence → Place) → run_text tail x.1.now (sentence_goes so_far k x.0) ≡ run_text tail text.now (word_place so_far k word)) }
     ensures fault { IfErr result (λ e. (so_far : List KoreSentence) → Stops tail text.now (λ k. word_place so_far k word) e) }
     ensures behind { IfOk result (λ x. IsNotBefore x.1.now text.now) }
@@ -326,14 +335,18 @@ fn token_word(token: Token) -> Option<SentenceWord>
 
 /// The next sentence, or nothing at the end of a module; and what comes behind it.
 #[tactic(auto, using(crate::proofs::InSentences::sentence_begins, crate::proofs::InSentences::sentence_refused))]
-fn next_sentence(alloc: Global, text: &str, tail: Tail) -> Result<(Option<Sentence>, &str), Failure>
+fn next_sentence(
+    alloc: Global,
+    text: &str,
+    tail: Tail,
+) -> Result<(Option<Sentence>, &str), TextFailure>
     ensures found { IfOk result (λ x. (so_far : List KoreSentence) (k : List KoreSentence → Place) → run_text tail x.1.now (sentence_goes so_far k x.0) ≡ run_text tail text.now (sentences so_far k)) }
     ensures fault { IfErr result (λ e. (so_far : List KoreSentence) → Stops tail text.now (sentences so_far) e) }
     ensures behind { IfOk result (λ x. IsBehind x.1.now text.now) }
 {
     let (left, token, rest) = next_token(alloc, text, tail)?;
     match token_word(token) {
-        None => Err(Failure::Fault {
+        None => Err(TextFailure::Fault {
             left,
             kind: FaultKind::Token,
         }),
@@ -342,7 +355,11 @@ fn next_sentence(alloc: Global, text: &str, tail: Tail) -> Result<(Option<Senten
 }
 
 /// The sentences of a module, and what comes behind the word that ends it.
-pub fn sentences(alloc: Global, text: &str, tail: Tail) -> Result<(Vec<Sentence>, &str), Failure>
+pub fn sentences(
+    alloc: Global,
+    text: &str,
+    tail: Tail,
+) -> Result<(Vec<Sentence>, &str), TextFailure>
     ensures found { IfOk result (λ x. Finds tail text.now (sentences []) (map sentence_view x.0.items) x.1.now) }
     ensures fault { IfErr result (Stops tail text.now (sentences [])) }
     ensures behind { IfOk result (λ x. IsBehind x.1.now text.now) }

@@ -4,7 +4,7 @@ ghost use Rattle.kp_text.specs.Next.{a_sort, after_sort_name, sorts, more_sorts}
 ghost use Rattle.kp_text.specs.Reads.{Finds, Stops, IsBehind, IsNotBefore};
 
 use crate::expected::{Separator, mark_ahead, next_separator, next_token};
-use crate::fault::{Failure, FaultKind};
+use crate::fault::{FaultKind, TextFailure};
 use crate::lexer::Token;
 use crate::tail::Tail;
 use kp_kore::Sort;
@@ -18,7 +18,7 @@ pub fn a_sort<'a>(
     level: usize,
     text: &'a str,
     tail: Tail,
-) -> Result<(Sort, &'a str), Failure>
+) -> Result<(Sort, &'a str), TextFailure>
     requires { level ≤ 257 }
     ensures found { IfOk result (λ x. Finds tail text.now (a_sort level) (sort_view x.0) x.1.now) }
     ensures fault { IfErr result (Stops tail text.now (a_sort level)) }
@@ -28,14 +28,14 @@ pub fn a_sort<'a>(
     match token {
         Token::Identifier(name) => {
             if level > 256 {
-                return Err(Failure::Fault {
+                return Err(TextFailure::Fault {
                     left,
                     kind: FaultKind::Deep,
                 });
             }
             Ok(named_sort(alloc, level, name, rest, tail)?)
         }
-        _ => Err(Failure::Fault {
+        _ => Err(TextFailure::Fault {
             left,
             kind: FaultKind::Token,
         }),
@@ -51,7 +51,7 @@ fn named_sort<'a>(
     name: String,
     text: &'a str,
     tail: Tail,
-) -> Result<(Sort, &'a str), Failure>
+) -> Result<(Sort, &'a str), TextFailure>
     requires { level ≤ 256 }
     ensures found { IfOk result (λ x. Finds tail text.now (after_sort_name level (string_bytes name)) (sort_view x.0) x.1.now) }
     ensures fault { IfErr result (Stops tail text.now (after_sort_name level (string_bytes name))) }
@@ -75,7 +75,7 @@ pub fn sorts<'a>(
     close: char,
     text: &'a str,
     tail: Tail,
-) -> Result<(Vec<Sort>, &'a str), Failure>
+) -> Result<(Vec<Sort>, &'a str), TextFailure>
     requires { level ≤ 257 }
     ensures found { IfOk result (λ x. Finds tail text.now (sorts level close) (map sort_view x.0.items) x.1.now) }
     ensures fault { IfErr result (Stops tail text.now (sorts level close)) }
@@ -100,7 +100,7 @@ fn more_sorts<'a>(
     first: Sort,
     text: &'a str,
     tail: Tail,
-) -> Result<(Vec<Sort>, &'a str), Failure>
+) -> Result<(Vec<Sort>, &'a str), TextFailure>
     requires { level ≤ 257 }
     ensures found { IfOk result (λ x. Finds tail text.now (more_sorts level close (sort_view first ∷ [])) (map sort_view x.0.items) x.1.now) }
     ensures fault { IfErr result (Stops tail text.now (more_sorts level close (sort_view first ∷ []))) }

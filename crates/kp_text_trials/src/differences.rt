@@ -1,4 +1,4 @@
-use kp_diff::{Matrix, Outcome};
+use kp_diff::{Feasibility, Matrix};
 use std::alloc::{AllocError, Global};
 use std::test::Fail;
 
@@ -23,8 +23,8 @@ fn ask(matrix: &mut Matrix) -> Option<bool> {
         return None;
     }
     match matrix.feasible() {
-        Outcome::Yes => Some(true),
-        Outcome::No => Some(false),
+        Feasibility::Yes => Some(true),
+        Feasibility::No => Some(false),
     }
 }
 

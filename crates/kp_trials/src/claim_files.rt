@@ -1,6 +1,6 @@
 use crate::rows::{Asked, Table, first_failed};
 use kp_claim_files::read_claims;
-use kp_claim_sentences::ClaimItem;
+use kp_claim_sentences::FiledClaim;
 use kp_claims::ClaimError;
 use kp_signature::Signature;
 use std::alloc::{AllocError, Global};
@@ -30,7 +30,7 @@ endmodule []
 "#;
 
 /// Adds a claim's label with its dependencies, and `!` where it is its own circularity.
-fn add_item(item: &ClaimItem, told: &mut String) -> Result<(), AllocError> {
+fn add_item(item: &FiledClaim, told: &mut String) -> Result<(), AllocError> {
     told.push_str(item.label.as_str())?;
     if item.circular {
         told.push_str("!")?;
@@ -43,7 +43,7 @@ fn add_item(item: &ClaimItem, told: &mut String) -> Result<(), AllocError> {
 }
 
 /// The same of each claim.
-fn add_items(items: &[ClaimItem], told: &mut String) -> Result<(), AllocError> {
+fn add_items(items: &[FiledClaim], told: &mut String) -> Result<(), AllocError> {
     for item in items {
         add_item(item, told)?;
     }

@@ -1,12 +1,12 @@
 use crate::claim_files::{TOYS, add_file};
 use crate::rows::{Asked, Table, first_failed};
 use kp_claim_files::{module_text, read_claims};
-use kp_claim_sentences::{ClaimItem, comma_parts};
+use kp_claim_sentences::{FiledClaim, comma_parts};
 use kp_signature::Signature;
 use std::alloc::{AllocError, Global};
 
 /// The text of the module of the second claim and the first; of none where there aren't two.
-fn written(alloc: Global, claims: &[ClaimItem]) -> Result<Vec<u8>, AllocError> {
+fn written(alloc: Global, claims: &[FiledClaim]) -> Result<Vec<u8>, AllocError> {
     if claims.len() < 2 {
         return module_text(alloc, "TOYS", claims, &[]);
     }
@@ -14,7 +14,7 @@ fn written(alloc: Global, claims: &[ClaimItem]) -> Result<Vec<u8>, AllocError> {
 }
 
 /// Adds it.
-fn add_written(alloc: Global, claims: &[ClaimItem], told: &mut String) -> Result<(), AllocError> {
+fn add_written(alloc: Global, claims: &[FiledClaim], told: &mut String) -> Result<(), AllocError> {
     match String::from_utf8(written(alloc, claims)?) {
         Ok(text) => told.push_str(text.as_str()),
         Err(_) => told.push_str("no UTF-8"),

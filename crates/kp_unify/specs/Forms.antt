@@ -7,14 +7,14 @@ use Rattle.kp_rules.specs.Skeletons as model
 use Rattle.kp_rules.specs.Skeletons.{skeleton_view, forms_of}
 use Rattle.kp_cases.specs.Rows.{HasMembers}
 use Rattle.kp_unify.specs.Literals.{IsLiteral}
-use Rattle.kp_unify.specs.declared.forms.Form.{Form}
-use Rattle.kp_unify.specs.declared.forms.Form.TheVariants as form
+use Rattle.kp_unify.specs.declared.forms.LeftPart.{LeftPart}
+use Rattle.kp_unify.specs.declared.forms.LeftPart.TheVariants as form
 use Rattle.kp_unify.specs.declared.forms.Ask.{Ask}
 use Rattle.kp_unify.specs.declared.forms.Ask.TheVariants as ask
 use Rattle.kp_unify.specs.declared.forms.Members.{Members}
 use Rattle.kp_unify.specs.declared.forms.Members.TheVariants as members
 
-abbrev pub form_view : Form → model.Form
+abbrev pub form_view : LeftPart → model.Form
 form_view (form.Skeleton k) = skeleton_view k.now
 form_view (form.Value u) = model.fixed (value_view u.now)
 

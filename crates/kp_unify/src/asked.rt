@@ -17,7 +17,7 @@ use crate::literals::{head_literal, sort_test};
 use kp_distribution::joined::{kept_once, make_clause};
 use kp_kore::{Name, Sort, SymbolSentence};
 use kp_signature::Signature;
-use kp_sort_heads::{Head, heads, is_head};
+use kp_sort_heads::{SortHead, heads, is_head};
 use kp_symbolic::{Clause, HeadTest, Literal, Variable};
 use std::alloc::{AllocError, Global};
 use std::sync::Arc;
@@ -57,29 +57,29 @@ fn declared_test(alloc: Global, declaration: &SymbolSentence) -> Result<HeadTest
 }
 
 /// The test for a head: for a constructor, or for any head of the literals' sort.
-fn test_of(alloc: Global, signature: &Signature, head: &Head) -> Result<HeadTest, AllocError>
+fn test_of(alloc: Global, signature: &Signature, head: &SortHead) -> Result<HeadTest, AllocError>
     ensures { IfOk result (λ t. test_view t ≡ model.test_of (signature_view signature.now) (head_view head.now)) }
 {
     match head {
-        Head::Integers => named_test(alloc, signature.integer_sort()),
-        Head::Booleans => named_test(alloc, signature.boolean_sort()),
-        Head::Tokens { sort } => sort_test(alloc, sort),
-        Head::Constructor { declaration } => declared_test(alloc, declaration),
+        SortHead::Integers => named_test(alloc, signature.integer_sort()),
+        SortHead::Booleans => named_test(alloc, signature.boolean_sort()),
+        SortHead::Tokens { sort } => sort_test(alloc, sort),
+        SortHead::Constructor { declaration } => declared_test(alloc, declaration),
     }
 }
 
 /// Whether the head is the constructor of this name.
-fn is_named(head: &Head, name: &str) -> bool
+fn is_named(head: &SortHead, name: &str) -> bool
     ensures { result ≡ is_constructor_head name.now (head_view head.now) }
 {
     match head {
-        Head::Constructor { declaration } => declaration.name.as_str() == name,
-        Head::Integers | Head::Booleans | Head::Tokens { .. } => false,
+        SortHead::Constructor { declaration } => declaration.name.as_str() == name,
+        SortHead::Integers | SortHead::Booleans | SortHead::Tokens { .. } => false,
     }
 }
 
 /// Whether the head passes the test.
-fn passes(signature: &Signature, head: &Head, test: &HeadTest) -> bool
+fn passes(signature: &Signature, head: &SortHead, test: &HeadTest) -> bool
     ensures { result ≡ passes_head (signature_view signature.now) (test_view test.now) (head_view head.now) }
 {
     match test {
@@ -89,7 +89,7 @@ fn passes(signature: &Signature, head: &Head, test: &HeadTest) -> bool
 }
 
 /// Whether the sort has the head, and it passes the test.
-fn is_shared(signature: &Signature, sort: &Sort, head: &Head, test: &HeadTest) -> bool
+fn is_shared(signature: &Signature, sort: &Sort, head: &SortHead, test: &HeadTest) -> bool
     ensures { let g = signature_view signature.now in let h = head_view head.now in result ≡ (model_head g (sort_view sort.now) h && passes_head g (test_view test.now) h) }
 {
     is_head(signature, sort, head) && passes(signature, head, test)
@@ -101,7 +101,7 @@ fn tested(
     signature: &Signature,
     holds: bool,
     variable: &Arc<Variable>,
-    head: &Head,
+    head: &SortHead,
 ) -> Result<Literal, AllocError>
     ensures { IfOk result (λ l. literal_view l ≡ model.tested (signature_view signature.now) holds (variable_view variable.now.value) (head_view head.now)) }
 {
@@ -135,7 +135,7 @@ fn hasnt(
     signature: &Signature,
     variable: &Arc<Variable>,
     sort: &Sort,
-    head: &Head,
+    head: &SortHead,
 ) -> Result<Clause, AllocError>
     ensures { IfOk result (λ c. clause_view c ≡ clause_without (signature_view signature.now) (variable_view variable.now.value) (sort_view sort.now) (head_view head.now)) }
 {
@@ -172,7 +172,7 @@ fn fails(
     alloc: Global,
     signature: &Signature,
     variable: &Arc<Variable>,
-    head: &Head,
+    head: &SortHead,
 ) -> Result<Clause, AllocError>
     ensures { IfOk result (λ c. clause_view c ≡ model.tested (signature_view signature.now) false (variable_view variable.now.value) (head_view head.now) ∷ []) }
 {

@@ -9,7 +9,7 @@ ghost use Rattle.kp_cases.specs.Rows.{HasMembers};
 ghost use Rattle.kp_unify.specs.Forms.{form_view, members_view};
 ghost use Rattle.kp_unify.specs.Clash.{IsNever, AreNever, IsNeverOf, AreNeverOf};
 
-use crate::forms::{Ask, Form, Members, ask_of};
+use crate::forms::{Ask, LeftPart, Members, ask_of};
 use kp_ground::Value;
 use kp_symbolic::Term;
 
@@ -32,7 +32,7 @@ fn is_other(first: &str, second: &str) -> bool
 
 /// Whether some head of the form is another than that of the term in its place.
 #[cycle(clash)]
-pub fn clashes(term: &Term, form: Form<'_>) -> bool
+pub fn clashes(term: &Term, form: LeftPart<'_>) -> bool
     ensures { IsTrue result → IsNeverOf (form_view form.entry) (term_view term.now) }
 {
     match ask_of(form) {
@@ -81,7 +81,7 @@ fn some_clash(terms: &[Term], members: Members<'_>) -> bool
 
 /// Whether some head of the form is another than that of the value in its place.
 #[cycle(clash_with)]
-fn clashes_with(value: &Value, form: Form<'_>) -> bool
+fn clashes_with(value: &Value, form: LeftPart<'_>) -> bool
     ensures { IsTrue result → IsNever (form_view form.entry) (value_view value.now) }
 {
     match ask_of(form) {

@@ -8,7 +8,7 @@ ghost use Rattle.kp_unify.specs.Forms.{form_view, members_view};
 ghost use Rattle.kp_unify.specs.Replaced.{binding_put, equality_put, pair_put, pairs_of};
 ghost use Rattle.kp_unify.specs.Views.{part_view, pair_view, equality_view, course_view};
 
-use crate::forms::{Form, Members};
+use crate::forms::{LeftPart, Members};
 use crate::part::Part;
 use crate::put::replacement;
 use kp_compile::CompileError;
@@ -22,7 +22,7 @@ use std::sync::Arc;
 /// A part of a left side, and the term that it is to stand for.
 #[derive(Drop)]
 pub struct Pair<'a> {
-    pub form: Form<'a>,
+    pub form: LeftPart<'a>,
     pub term: Term,
 }
 
@@ -45,7 +45,7 @@ pub struct Course<'a> {
 }
 
 /// A form and a term.
-fn make_pair<'a>(alloc: Global, form: Form<'a>, term: &Term) -> Result<Pair<'a>, AllocError>
+fn make_pair<'a>(alloc: Global, form: LeftPart<'a>, term: &Term) -> Result<Pair<'a>, AllocError>
     ensures { IfOk result (λ q. pair_view q ≡ record { form = form_view form.entry; term = term_view term.now }) }
 {
     Ok(Pair {
@@ -63,7 +63,7 @@ fn first_pairs<'a>(
     ensures { IfOk result (λ qs. map pair_view qs.items ≡ record { form = skeleton_view left.now; term = term_view term.now } ∷ []) }
 {
     let mut pairs = Vec::new(alloc);
-    pairs.push(make_pair(alloc, Form::Skeleton { skeleton: left }, term)?)?;
+    pairs.push(make_pair(alloc, LeftPart::Skeleton { skeleton: left }, term)?)?;
     Ok(pairs)
 }
 

@@ -12,7 +12,7 @@ use std::sync::Arc;
 
 /// A part of a left side: of a skeleton, or of a value in it.
 #[derive(Clone, Copy)]
-pub enum Form<'a> {
+pub enum LeftPart<'a> {
     Skeleton { skeleton: &'a Skeleton },
     Value { value: &'a Value },
 }
@@ -50,12 +50,12 @@ pub enum Members<'a> {
 }
 
 /// What a part of a left side asks.
-pub fn ask_of<'a>(form: Form<'a>) -> Ask<'a>
+pub fn ask_of<'a>(form: LeftPart<'a>) -> Ask<'a>
     ensures { IsAsked result (form_view form.entry) }
 {
     match form {
-        Form::Skeleton { skeleton } => ask_of_skeleton(skeleton),
-        Form::Value { value } => ask_of_value(value),
+        LeftPart::Skeleton { skeleton } => ask_of_skeleton(skeleton),
+        LeftPart::Value { value } => ask_of_value(value),
     }
 }
 
@@ -113,15 +113,15 @@ impl<'a> Members<'a> {
     }
 
     /// The member at this place.
-    pub fn at(self, place: usize) -> Form<'a>
+    pub fn at(self, place: usize) -> LeftPart<'a>
         requires { place < length (members_view self) }
         ensures { (f : model.Form) → form_view result ≡ get_or (members_view self.entry) place f }
     {
         match self {
-            Members::Skeletons { skeletons } => Form::Skeleton {
+            Members::Skeletons { skeletons } => LeftPart::Skeleton {
                 skeleton: &skeletons[place],
             },
-            Members::Values { values } => Form::Value {
+            Members::Values { values } => LeftPart::Value {
                 value: &values[place],
             },
         }

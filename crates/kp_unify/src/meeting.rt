@@ -9,7 +9,7 @@ ghost use Rattle.kp_unify.specs.Views.{signature_of, numbered_view, met_view, eq
 ghost use Rattle.kp_unify.specs.Promises.{RunsToItsEnd, IsPlacedIf, ArePlacedIf, met_at_end, MeetsAtEnd, MeetsPart};
 
 use crate::course::{Course, Equality, begin};
-use crate::forms::Form;
+use crate::forms::LeftPart;
 use crate::heads::has_sort;
 use crate::literals::{are_never, equal_clauses};
 use crate::part::{Meeting, MetPart, Part, Setting, whole};
@@ -138,7 +138,7 @@ pub fn meet(
     requires heads { HasItsTable setting.now }
     ensures { MeetsPart setting.now (numbered_view part.now) (skeleton_view left.now) result }
 {
-    if differs(&part.state.term, Form::Skeleton { skeleton: left }) {
+    if differs(&part.state.term, LeftPart::Skeleton { skeleton: left }) {
         return Ok(None);
     }
     let mut course = begin(alloc, left, part)?;

@@ -13,7 +13,7 @@ ghost use Rattle.kp_unify.specs.Clash.{IsNeverOf, IsNeverWhere, AreNeverWhere, I
 ghost use Rattle.kp_unify.specs.Forms.{form_view, members_view};
 
 use crate::clash::clashes;
-use crate::forms::{Ask, Form, Members, ask_of};
+use crate::forms::{Ask, LeftPart, Members, ask_of};
 use kp_ground::Value;
 use kp_symbolic::Term;
 
@@ -26,12 +26,12 @@ fn is_same_name(name: &str, other: &str) -> bool
 
 /// Whether the variable of the name stands somewhere for a term that is never the value.
 #[cycle(other)]
-fn stands_for_other(term: &Term, form: Form<'_>, name: &str, value: &Value) -> bool
+fn stands_for_other(term: &Term, form: LeftPart<'_>, name: &str, value: &Value) -> bool
     ensures { IsTrue result → IsNeverWhere (IsValueOf name.now (value_view value.now)) (form_view form.entry) (term_view term.now) }
 {
     match ask_of(form) {
         Ask::Variable { name: own, .. } => {
-            is_same_name(own, name) && clashes(term, Form::Value { value })
+            is_same_name(own, name) && clashes(term, LeftPart::Value { value })
         }
         Ask::Constructor { members, .. } => members_stand_for_other(term, members, name, value),
         Ask::Anything | Ask::Nothing | Ask::Any { .. } | Ask::Literal { .. } => false,
@@ -66,7 +66,7 @@ fn some_stands_for_other(terms: &[Term], members: Members<'_>, name: &str, value
 }
 
 /// Whether the term is a value, and the variable of the name stands in the left side for a term that is never this value.
-fn differs_elsewhere(term: &Term, name: &str, all: &Term, left: Form<'_>) -> bool
+fn differs_elsewhere(term: &Term, name: &str, all: &Term, left: LeftPart<'_>) -> bool
     ensures { (s : KoreSort) → IsTrue result → IsNeverWhere (StandsForTerm (form_view left.entry) (term_view all.now)) (one_of name.now s) (term_view term.now) }
 {
     match term {
@@ -77,7 +77,7 @@ fn differs_elsewhere(term: &Term, name: &str, all: &Term, left: Form<'_>) -> boo
 
 /// Whether a variable stands here for a value, and elsewhere in the left side for a term that is never this value.
 #[cycle(here)]
-fn differs_here(term: &Term, form: Form<'_>, all: &Term, left: Form<'_>) -> bool
+fn differs_here(term: &Term, form: LeftPart<'_>, all: &Term, left: LeftPart<'_>) -> bool
     ensures { IsTrue result → IsNeverWhere (StandsForTerm (form_view left.entry) (term_view all.now)) (form_view form.entry) (term_view term.now) }
 {
     match ask_of(form) {
@@ -89,7 +89,7 @@ fn differs_here(term: &Term, form: Form<'_>, all: &Term, left: Form<'_>) -> bool
 
 /// The same of a constructor's members.
 #[cycle(here)]
-fn members_differ(term: &Term, members: Members<'_>, all: &Term, left: Form<'_>) -> bool
+fn members_differ(term: &Term, members: Members<'_>, all: &Term, left: LeftPart<'_>) -> bool
     ensures { (f : model.Form) (c : Text) → HasMembers f c (forms_of (members_view members.entry)) → IsTrue result → IsNeverWhere (StandsForTerm (form_view left.entry) (term_view all.now)) f (term_view term.now) }
 {
     match term {
@@ -100,7 +100,7 @@ fn members_differ(term: &Term, members: Members<'_>, all: &Term, left: Form<'_>)
 
 /// The same of one of the members, each with its term.
 #[cycle(here)]
-fn some_differs(terms: &[Term], members: Members<'_>, all: &Term, left: Form<'_>) -> bool
+fn some_differs(terms: &[Term], members: Members<'_>, all: &Term, left: LeftPart<'_>) -> bool
     ensures { IsTrue result → AreNeverWhere (StandsForTerm (form_view left.entry) (term_view all.now)) (members_view members.entry) (terms_of (map term_view terms.now)) }
 {
     if members.count() != terms.len() {
@@ -116,7 +116,7 @@ fn some_differs(terms: &[Term], members: Members<'_>, all: &Term, left: Form<'_>
 
 /// Whether some head of the form is another than that of the term in its place, or a variable of the form stands for a value and
 /// for a term that is never this value.
-pub fn differs(term: &Term, form: Form<'_>) -> bool
+pub fn differs(term: &Term, form: LeftPart<'_>) -> bool
     ensures { IsTrue result → IsNeverOf (form_view form.entry) (term_view term.now) }
 {
     clashes(term, form) || differs_here(term, form, term, form)

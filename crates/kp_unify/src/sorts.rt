@@ -16,7 +16,7 @@ use kp_deciding::kinds::lies_below;
 use kp_heads::HeadTable;
 use kp_kore::Sort;
 use kp_signature::{Signature, Subsort};
-use kp_sort_heads::{Head, heads, is_head};
+use kp_sort_heads::{SortHead, heads, is_head};
 
 /// Whether some value has both sorts, where the table is the signature's.
 pub fn share_values(table: &HeadTable, signature: &Signature, first: &Sort, second: &Sort) -> bool
@@ -33,7 +33,7 @@ pub fn share_values(table: &HeadTable, signature: &Signature, first: &Sort, seco
 }
 
 /// Whether the first sort has the head, and the second hasn't.
-fn is_lost(signature: &Signature, first: &Sort, second: &Sort, head: &Head) -> bool
+fn is_lost(signature: &Signature, first: &Sort, second: &Sort, head: &SortHead) -> bool
     ensures { let g = signature_view signature.now in result ≡ (is_head g (sort_view first.now) (head_view head.now) && not (is_head g (sort_view second.now) (head_view head.now))) }
 {
     is_head(signature, first, head) && !is_head(signature, second, head)

@@ -4,7 +4,7 @@ use Rattle.kp_symbolic.specs.Plain.{ReadLiteral}
 use Rattle.kp_symbolic.specs.Weights as model
 use Rattle.kp_symbolic.specs.Weights.{IsOver, all_literals, product_of_lengths, numeric_names, all_bounds, largest, IsBitLength}
 use Rattle.kp_weights.specs.Told.{told, TellsWeight, rank, IsFirstOver}
-use Rattle.kp_weights.specs.declared.weight.Weight.TheVariants.{Bits, Literals, Product}
+use Rattle.kp_weights.specs.declared.weight.WeightKind.TheVariants.{Bits, Literals, Product}
 use Rattle.kp_deciding.proofs.LengthLemmas.{one_length}
 use Rattle.kp_weights.proofs.ToldLemmas.{is_over, is_within}
 

@@ -5,11 +5,11 @@ use Rattle.kp_kore.specs.Syntax.{Text}
 use Rattle.kp_symbolic.specs.Plain.{ReadLiteral}
 use Rattle.kp_symbolic.specs.Weights as model
 use Rattle.kp_symbolic.specs.Weights.{DifferenceBound, name_in, IsWeight, IsOver}
-use Rattle.kp_weights.specs.declared.weight.Weight.{Weight}
-use Rattle.kp_weights.specs.declared.weight.Weight.TheVariants.{Bits, Literals, Product}
+use Rattle.kp_weights.specs.declared.weight.WeightKind.{WeightKind}
+use Rattle.kp_weights.specs.declared.weight.WeightKind.TheVariants.{Bits, Literals, Product}
 use Rattle.kp_weights.specs.declared.weight.Weighed.{Weighed}
 
-abbrev pub weight_view : Weight → model.Weight
+abbrev pub weight_view : WeightKind → model.Weight
 weight_view Bits = model.bits
 weight_view Literals = model.literals
 weight_view Product = model.product

@@ -4,4 +4,4 @@
 
 pub mod weight;
 
-pub use weight::{Weighed, Weight, first_over, weight_of};
+pub use weight::{Weighed, WeightKind, first_over, weight_of};

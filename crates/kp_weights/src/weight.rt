@@ -14,14 +14,14 @@ ghost use Rattle.kp_weights.specs.Told.{told, weight_view, names_in_bounds, Tell
 
 use indexmap::IndexSet;
 use kp_deciding::bounds::{Difference, all_bounds, largest_length};
-use kp_deciding::{Form, ReadLiteral};
+use kp_deciding::{LiteralForm, ReadLiteral};
 use kp_kore::{Comparison, Name};
 use kp_symbolic::Variable;
 use std::alloc::{AllocError, Global};
 
 /// What is limited: the numeric variables with the digits of the largest constant, the literals, the choices.
 #[derive(Clone, Copy)]
-pub enum Weight {
+pub enum WeightKind {
     Bits,
     Literals,
     Product,
@@ -30,18 +30,22 @@ pub enum Weight {
 /// A weight with its number, 18446744073709551615 where that is more.
 #[derive(Clone, Copy)]
 pub struct Weighed {
-    pub weight: Weight,
+    pub weight: WeightKind,
     pub number: u64,
 }
 
 /// How much a literal counts: a difference of whole numbers two.
-fn form_length(form: Option<Form>) -> u64
+fn form_length(form: Option<LiteralForm>) -> u64
     ensures { result ≡ model.form_length (option_map form_view form.entry) }
 {
     match form {
-        Some(Form::Compares { comparison, .. }) => comparison_length(comparison),
-        Some(Form::Truth { .. } | Form::Equates { .. } | Form::Asks { .. } | Form::Gives { .. }) =>
-            1,
+        Some(LiteralForm::Compares { comparison, .. }) => comparison_length(comparison),
+        Some(
+            LiteralForm::Truth { .. }
+            | LiteralForm::Equates { .. }
+            | LiteralForm::Asks { .. }
+            | LiteralForm::Gives { .. },
+        ) => 1,
         None => 1,
     }
 }
@@ -148,15 +152,15 @@ fn bits_of(alloc: Global, clauses: &[Vec<ReadLiteral>]) -> Result<u64, AllocErro
 /// How much the clauses weigh.
 pub fn weight_of(
     alloc: Global,
-    weight: Weight,
+    weight: WeightKind,
     clauses: &[Vec<ReadLiteral>],
 ) -> Result<u64, AllocError>
     ensures { IfOk result (TellsWeight (clauses_view clauses.now) (weight_view weight)) }
 {
     match weight {
-        Weight::Bits => bits_of(alloc, clauses),
-        Weight::Literals => Ok(all_literals(clauses)),
-        Weight::Product => Ok(product_of_lengths(clauses)),
+        WeightKind::Bits => bits_of(alloc, clauses),
+        WeightKind::Literals => Ok(all_literals(clauses)),
+        WeightKind::Product => Ok(product_of_lengths(clauses)),
     }
 }
 
@@ -170,21 +174,21 @@ pub fn first_over(
     let bits = bits_of(alloc, clauses)?;
     if bits > 126 {
         return Ok(Some(Weighed {
-            weight: Weight::Bits,
+            weight: WeightKind::Bits,
             number: bits,
         }));
     }
     let literals = all_literals(clauses);
     if literals > 512 {
         return Ok(Some(Weighed {
-            weight: Weight::Literals,
+            weight: WeightKind::Literals,
             number: literals,
         }));
     }
     let product = product_of_lengths(clauses);
     if product > 4096 {
         return Ok(Some(Weighed {
-            weight: Weight::Product,
+            weight: WeightKind::Product,
             number: product,
         }));
     }

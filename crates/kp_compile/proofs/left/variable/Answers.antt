@@ -1,8 +1,8 @@
 use Rattle.std.proofs.Common.{rules, ◌≡◌, ◌∙◌, ap, [], ◌∷◌, string_bytes}
 use Rattle.kp_kore.specs.Syntax.{Text}
 use Rattle.kp_ground.specs.Slots.{Place, left_places}
-use Rattle.kp_ground.specs.declared.left.Left.{the_lemmas}
-use Rattle.kp_ground.specs.declared.left.Left.TheVariants.{Variable}
+use Rattle.kp_ground.specs.declared.left.CompiledLeft.{the_lemmas}
+use Rattle.kp_ground.specs.declared.left.CompiledLeft.TheVariants.{Variable}
 use Rattle.kp_compile.proofs.left.variable.Goals as goal
 
 pub returns-clause-place : goal.returns-clause-place

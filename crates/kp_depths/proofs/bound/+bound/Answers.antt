@@ -6,7 +6,7 @@ use Rattle.kp_kore.specs.Instance.{Valuation}
 use Rattle.kp_ground.specs.LeftView.{left_view, lefts_of}
 use Rattle.kp_ground.specs.Slots.{is_numbered, joined, left_places, names_after}
 use Rattle.kp_ground.specs.Terms.{left_value, left_built}
-use Rattle.kp_ground.specs.declared.left.Left.{the_lemmas as left_lemmas}
+use Rattle.kp_ground.specs.declared.left.CompiledLeft.{the_lemmas as left_lemmas}
 use Rattle.kp_depths.specs.Depths.{node, depths_in}
 use Rattle.kp_depths.specs.View.{AreDepthsUnder, AreDepthsOfLefts, depths_view, trees_of}
 use Rattle.kp_depths.specs.declared.depths.Depths.{the_lemmas as depths_lemmas}

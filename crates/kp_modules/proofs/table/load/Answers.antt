@@ -11,7 +11,7 @@ use Rattle.kp_modules.specs.Made.{IsRunOf, IsSetOf}
 use Rattle.kp_imports.specs.Reaching.{has}
 use Rattle.kp_imports.proofs.Chains.{exit}
 use Rattle.kp_modules.proofs.Firsts.{first_of_sorts, first_of_symbols, first_of_rules, no_fault}
-use Rattle.kp_modules.specs.declared.table.Table.{Table}
+use Rattle.kp_modules.specs.declared.table.ModuleTable.{ModuleTable}
 use Rattle.kp_modules.proofs.Kept.{kept}
 use Rattle.kp_modules.proofs.Opened.{opened, main_reached}
 use Rattle.kp_modules.proofs.table.load.Goals as goal
@@ -64,7 +64,7 @@ returns-clause-opening c =
     let named : map (λ m. module_view m.now) c.deref-3.result.now ≡ modules_reached d main = ap (map (λ m. module_view m.now)) c.deref-3.ensures.value ∙ c.in_ok-modules.ensures.ok in
     let run = subst (λ l. IsRunOf l c.in_ok-rule_set.field-0) seen c.in_ok-rule_set.ensures.ok in
     let set : IsSetOf (signature_reached d main) (rewrite_axioms (modules_reached d main)) c.in_ok-rule_set.field-0 = subst (λ g. IsSetOf g (rewrite_axioms (modules_reached d main)) c.in_ok-rule_set.field-0) run.signature run.made in
-    let table : Table = record { main = c.in_ok-from_str.field-0; names = c.in_ok-names_of.field-0; modules = c.in_ok-outlines.field-0; spans = c.in_ok-rule_spans.field-0; rule_set = c.in_ok-new.field-0 } in
+    let table : ModuleTable = record { main = c.in_ok-from_str.field-0; names = c.in_ok-names_of.field-0; modules = c.in_ok-outlines.field-0; spans = c.in_ok-rule_spans.field-0; rule_set = c.in_ok-new.field-0 } in
     let outlined : map (λ m. module_view m.now) c.deref-4.result.now ≡ modules_reached d main = ap (map (λ m. module_view m.now)) c.deref-4.ensures.value ∙ c.in_ok-modules.ensures.ok in
     let spanned : map (λ m. module_view m.now) c.deref-5.result.now ≡ modules_reached d main = ap (map (λ m. module_view m.now)) c.deref-5.ensures.value ∙ c.in_ok-modules.ensures.ok in
     let listed : Lists (names_of (modules_reached d main)) c.in_ok-names_of.field-0 = subst (λ l. Lists (names_of l) c.in_ok-names_of.field-0) named c.in_ok-names_of.ensures in

@@ -2,7 +2,7 @@ use Rattle.std.proofs.Common.{◌≡◌, ◌∙◌, ap, subst, sym, rules, strin
 use Rattle.kp_claims.specs.Claims.{LabelledClaim}
 use Rattle.kp_graph.specs.TreeView.{tree_view}
 use Rattle.kp_client.specs.View.{outcome_view}
-use Rattle.kp_modules.specs.declared.table.Table.{Table}
+use Rattle.kp_modules.specs.declared.table.ModuleTable.{ModuleTable}
 use Rattle.kp_program.specs.LocalTold.{IsTheoryOver}
 use Rattle.kp_program.specs.Proofs.{told_theory}
 use Rattle.kp_program.proofs.Proving.{item_at, outcome_is, serves_theory}
@@ -11,7 +11,7 @@ use Rattle.kp_program.proofs.prover.prove_at.Goals as goal
 pub returns-in-Ok : goal.returns-in-Ok
 returns-in-Ok c = λ o t x is at ground.
     let table = c.in_ok-link.link in
-    let here : IsTheoryOver table o t = subst (λ (a : Table). IsTheoryOver a o t) (sym c.in_ok-link.ensures) is in
+    let here : IsTheoryOver table o t = subst (λ (a : ModuleTable). IsTheoryOver a o t) (sym c.in_ok-link.ensures) is in
     let serves = serves_theory o t table here in
     let told = told_theory o t in
     let copied : string_bytes c.in_ok-label.label ≡ string_bytes c.index-claims-place.result.label = search rules in

@@ -1,7 +1,7 @@
 use Rattle.std.proofs.Common.{ap, ◌≡◌, ◌∙◌, ◌↔◌, ◌+◌, ℕ, ℤ, suc}
 use Rattle.std.specs.Vec.{with_items}
 use Rattle.std.proofs.lemmas.List.{with_items_is}
-use Rattle.kp_diff.specs.declared.matrix.Outcome.TheVariants.{Yes, No}
+use Rattle.kp_diff.specs.declared.matrix.Feasibility.TheVariants.{Yes, No}
 use Rattle.kp_diff.specs.Bounds.{Meets, IsClosed, HaveBits}
 use Rattle.kp_diff.specs.Rows.{bounds_of, values_of, value_in}
 use Rattle.kp_diff.proofs.Views.{said_of_fields}

@@ -1,7 +1,7 @@
 use Rattle.std.proofs.Common.{arith, refl, sym, subst, ◌≡◌, ◌∙◌, ◌↔◌, ◌<◌, ◌≤◌, ℕ, ℤ, suc}
 use Rattle.std.specs.Vec.{with_items}
 use Rattle.std.proofs.lemmas.List.{length-map, with_items_is}
-use Rattle.kp_diff.specs.declared.matrix.Outcome.TheVariants.{No}
+use Rattle.kp_diff.specs.declared.matrix.Feasibility.TheVariants.{No}
 use Rattle.kp_diff.specs.Bounds.{Meets, HaveBits}
 use Rattle.kp_diff.specs.Rows.{bounds_of, rows_of, bound_in, IsSquare}
 use Rattle.kp_diff.proofs.Views.{said_of_fields}

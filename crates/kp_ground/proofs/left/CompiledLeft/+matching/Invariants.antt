@@ -6,7 +6,7 @@ use Rattle.kp_ground.specs.Matches.{IsSolvable}
 use Rattle.kp_ground.specs.Terms.{left_value}
 use Rattle.kp_ground.specs.LeftView.{left_view}
 use Rattle.kp_ground.specs.View.{value_view}
-use Rattle.kp_ground.proofs.left.Left.+matching.Given as goal
+use Rattle.kp_ground.proofs.left.CompiledLeft.+matching.Given as goal
 
 abbrev pub invariant-match_all-loop-i : goal.invariant-match_all-loop-i
 invariant-match_all-loop-i l = record {

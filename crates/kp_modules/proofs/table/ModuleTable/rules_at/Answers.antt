@@ -5,7 +5,7 @@ use Rattle.kp_signature.proofs.FirstPlaces.{lent}
 use Rattle.kp_modules.specs.Keeping.{own_rules}
 use Rattle.kp_modules.specs.Tables.{rule_set_of}
 use Rattle.kp_modules.proofs.Kept.{no_span, spanned}
-use Rattle.kp_modules.proofs.table.Table.rules_at.Goals as goal
+use Rattle.kp_modules.proofs.table.ModuleTable.rules_at.Goals as goal
 
 pub returns-in-Some : goal.returns-in-Some
 returns-in-Some c d main m keeps at many =

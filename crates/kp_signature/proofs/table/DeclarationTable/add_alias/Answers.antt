@@ -4,7 +4,7 @@ use Rattle.kp_kore.specs.Signature.{sorts_in, symbols_in, aliases_in, subsorts_i
 use Rattle.kp_kore.specs.View.{sort_sentence_view, symbol_sentence_view, alias_sentence_view}
 use Rattle.kp_signature.specs.Pairs.{subsort_view}
 use Rattle.kp_signature.proofs.Declaring.{sorts_in-append, symbols_in-append, aliases_in-append, subsorts_in-append, kept, kept_places, pushed, pushed_places}
-use Rattle.kp_signature.proofs.table.Table.add_alias.Goals as goal
+use Rattle.kp_signature.proofs.table.DeclarationTable.add_alias.Goals as goal
 
 pub returns : goal.returns
 returns c sentences t = record {

@@ -2,7 +2,7 @@ use Rattle.std.proofs.Common.{◌≡◌, sym, ◌∙◌, Some}
 use Rattle.kp_signature.specs.Names.{first_place}
 use Rattle.kp_imports.specs.Names.{module_names}
 use Rattle.kp_modules.proofs.Kept.{not_reached, walked}
-use Rattle.kp_modules.proofs.table.Table.places_of.Goals as goal
+use Rattle.kp_modules.proofs.table.ModuleTable.places_of.Goals as goal
 
 pub order_from-requires-clause-start : goal.order_from-requires-clause-start
 order_from-requires-clause-start c = c.in_ok-places.ensures.below c.args.name.now c.in-Some.place.now (sym c.in-Some.ensures.value)

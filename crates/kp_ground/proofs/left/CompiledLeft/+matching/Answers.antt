@@ -6,11 +6,11 @@ use Rattle.kp_ground.specs.Terms.{left_value, left_built}
 use Rattle.kp_ground.specs.LeftView.{left_view, lefts_of}
 use Rattle.kp_ground.specs.View.{value_view, values_of}
 use Rattle.kp_ground.specs.Matches.{AreSame}
-use Rattle.kp_ground.specs.declared.left.Left.{the_lemmas}
+use Rattle.kp_ground.specs.declared.left.CompiledLeft.{the_lemmas}
 use Rattle.kp_ground.specs.declared.value.Value.{the_lemmas as value_lemmas}
 use Rattle.kp_ground.proofs.SlotLemmas.{first_so, second_so, places_from, numbered_both, names_both}
 use Rattle.kp_ground.proofs.MatchLemmas.{same_front_more, front_of_same, whole_of_front, one_more, matches_same, same_arguments}
-use Rattle.kp_ground.proofs.left.Left.+matching.Goals as goal
+use Rattle.kp_ground.proofs.left.CompiledLeft.+matching.Goals as goal
 
 pub match_all-loop-i-preserved : goal.match_all-loop-i-preserved
 match_all-loop-i-preserved t c =

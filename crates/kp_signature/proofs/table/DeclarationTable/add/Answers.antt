@@ -4,7 +4,7 @@ use Rattle.kp_kore.specs.Signature.{sorts_in, symbols_in, aliases_in, subsorts_i
 use Rattle.kp_kore.specs.View.{sentence_view, sort_sentence_view, symbol_sentence_view, alias_sentence_view, patterns_view}
 use Rattle.kp_signature.specs.Pairs.{subsort_view}
 use Rattle.kp_signature.proofs.Declaring.{sorts_in-append, symbols_in-append, aliases_in-append, subsorts_in-append, kept, kept_places, nothing_more}
-use Rattle.kp_signature.proofs.table.Table.add.Goals as goal
+use Rattle.kp_signature.proofs.table.DeclarationTable.add.Goals as goal
 
 pub returns-in-Import : goal.returns-in-Import
 returns-in-Import c ss t = nothing_more c.args.self.now ss (sentence_view c.args.sentence.now) (search rules) (search rules) (search rules) (search rules) t
