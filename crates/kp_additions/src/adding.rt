@@ -58,7 +58,7 @@ pub fn add_module(
 /// What a refused entry tells.
 fn fault_told(fault: RegisterFault, ready: Ready) -> AdditionError
     requires ready { IsReady ready }
-    ensures { (o : Opening) (book : List Registration) (text : List ℕ) (also : Bool) → IsReadied o book text also ready.entry → IsRefused o book ready.entry fault → TellsRefusal o book text also result }
+    ensures { let entry = ready.entry in (o : Opening) (book : List Registration) (text : List ℕ) (also : Bool) → IsReadied o book text also entry → IsRefused o book entry fault → TellsRefusal o book text also result }
 {
     match fault {
         RegisterFault::Duplicate { entry, of_id } => AdditionError::Duplicate {

@@ -3,7 +3,7 @@
 use Rattle.std.specs.List.{AllByRecursion, Contains}
 use Rattle.std.specs.Prelude.{◌++◌, ◌↔◌, ◌∷◌, ◌≡◌, List, None, Option, Some, [], false}
 use Rattle.kp_kore.specs.Parts.{SortedName, free_variables}
-use Rattle.kp_kore.specs.Signature.{Head, IsHeadOf, KoreSignature, constructor_of}
+use Rattle.kp_kore.specs.Signature.{Head, IsHeadOf, KoreSignature, construction, constructor_of, meaning_of}
 use Rattle.kp_kore.specs.Syntax.{KoreSort, Text}
 use Rattle.kp_kore.specs.Division.{NoneOf}
 use Rattle.kp_kore.specs.Instance.{GivesSorts, IsTrueUnder, Valuation}
@@ -15,11 +15,11 @@ use Rattle.kp_symbolic.specs.States.{AreTrue, Literal, head_of_sort, SymbolicSta
 use Rattle.kp_symbolic.specs.Terms.{SymbolicTerm, SymbolicTerms, known, replacement_for, term_instance, under_replaced, unknown, Replaced}
 use Rattle.kp_symbolic.specs.WellFormed.{AreAtHand, IsWellSorted}
 use Rattle.kp_symbolic_laws.specs.Runs.{HasOneSortEach}
-use Rattle.kp_rules.specs.Skeletons.{Admits, Form, Forms, any_of, fixed, one_of}
+use Rattle.kp_rules.specs.Skeletons.{Admits, Form, Forms, any_of, anything, fixed, one_of}
 use Rattle.kp_cases.specs.Nexts.{IsInstantiated, IsNextState, IsNextOver}
 use Rattle.kp_cases.specs.Cases.{AreBoundIn, AreBoundOnce, AreCases, IsApart, IsLeftOf, IsMetBy, MetPart, left_side, IsBoundBy}
-use Rattle.kp_cases.specs.Courses.{AreEqual, Asked, Asks, AsksNever, Course, FormPair, IsBoundRight, IsBoundTo, IsCourse, IsCovered, IsMeet, IsOfSort, IsOnCourse, IsSortedEquality, IsSortedPair, IsTermOf, MayBePut, course_in, form_variables, going_on, paired, replaced_course, with_binding, with_equality, with_pair, with_pairs}
-use Rattle.kp_cases.specs.Narrowings.{IsForConstructor, IsNarrowing, constructor_term, equates, has_other_head, head_clauses, part_with_term}
+use Rattle.kp_cases.specs.Courses.{AreEqual, Asked, Asks, AsksNever, Course, FormPair, HasMeets, IsBoundRight, IsBoundTo, IsCourse, IsCovered, IsMeet, IsOfSort, IsOnCourse, IsSortedEquality, IsSortedPair, IsTermOf, MayBePut, course_in, form_variables, going_on, met_part, paired, replaced_course, with_binding, with_equality, with_pair, with_pairs}
+use Rattle.kp_cases.specs.Narrowings.{IsForConstructor, IsNarrowing, all_unknown, constructor_term, equates, has_other_head, head_clauses, heads_outside, part_with_term}
 use Rattle.kp_cases.specs.Parts.{DependsOnHand, HoldsWhere, IsDivided, IsDividedWhere, IsRestricted, IsSortedPart, IsTold, OfEachInstance, StatePart}
 use Rattle.kp_cases.specs.Rows.{AreTermsOf, AsksSort, HasMembers, IsMadeOf, IsOfHead}
 
@@ -117,6 +117,12 @@ NextFollows g =
 
 -- ---- courses
 
+-- behind the last pair, the cases are what the course met, and the parts that were split off
+abbrev pub AreCasesAtTheEnd : KoreSignature → Type 0
+AreCasesAtTheEnd g =
+    (left : Form) (p : StatePart) (k : Course) (apart : List StatePart) →
+    IsOnCourse g left p k apart → k.pairs ≡ [] → AreCases g (left_side g left) p (Some (met_part g k)) apart
+
 -- behind the last pair, each variable of a left side that has one sort for each name stands for a term of its sort
 abbrev pub AreBoundAtTheEnd : KoreSignature → Type 0
 AreBoundAtTheEnd g =
@@ -177,6 +183,12 @@ IsApartWhereNotAdmitted g =
 
 -- ---- rows
 
+-- any value at all: a term asks nothing more
+abbrev pub AnythingAsksNothing : KoreSignature → Type 0
+AnythingAsksNothing g =
+    (left : Form) (p : StatePart) (k : Course) (apart : List StatePart) (t : SymbolicTerm) →
+    IsOnCourse g left p (with_pair k (record { form = anything; term = t })) apart → IsOnCourse g left p k apart
+
 -- any value of the sort: a term that has it asks nothing more
 abbrev pub AnyAsksNothing : KoreSignature → Type 0
 AnyAsksNothing g =
@@ -217,6 +229,12 @@ ConstructorAsksMembers g =
     (left : Form) (p : StatePart) (k : Course) (apart : List StatePart) (form : Form) (t : SymbolicTerm) (c : Text) (fs : Forms) (ts : SymbolicTerms) (ps : List FormPair) →
     IsOnCourse g left p (with_pair k (record { form = form; term = t })) apart → HasMembers form c fs → IsMadeOf g k.part.state.variables t c ts →
     AreTermsOf g k.part.state.variables ts → paired fs ts ≡ Some ps → IsOnCourse g left p (with_pairs k ps) apart
+
+-- a constructor's term of new variables has these as its members
+abbrev pub IsMadeOfNewVariables : KoreSignature → Type 0
+IsMadeOfNewVariables g =
+    (hand : List SortedName) (c : Text) (new : List SortedName) →
+    meaning_of g c ≡ construction → AreAtHand new hand → IsMadeOf g hand (constructor_term g c new) c (all_unknown new)
 
 -- another head is never admitted
 abbrev pub OtherHeadNever : KoreSignature → Type 0
@@ -259,3 +277,21 @@ abbrev pub NotOutsideMeet : KoreSignature → Type 0
 NotOutsideMeet g =
     (w r : Valuation) (form : Form) (x : SortedName) (s m : KoreSort) → AsksSort g form s → IsMeet g x.sort s m →
     HasSort g x.sort (w x.name) → AreTrue g w (head_clauses g false x (head_of_sort m)) → ¬ Admits g r form (w x.name)
+
+-- nor is a sort where the variable has a head that the sort hasn't
+abbrev pub NotOutsideItsHeads : KoreSignature → Type 0
+NotOutsideItsHeads g =
+    (w r : Valuation) (form : Form) (x : SortedName) (s : KoreSort) → AsksSort g form s →
+    HasSort g x.sort (w x.name) → AreTrue g w (heads_outside g x s) → ¬ Admits g r form (w x.name)
+
+-- a term with a head of the sort has the sort
+abbrev pub HasSortByHead : KoreSignature → Type 0
+HasSortByHead g =
+    (p : StatePart) (s : KoreSort) (t : SymbolicTerm) (h : Head) →
+    IsTermOf g p.state.variables t → IsOfHead g t h → IsHeadOf g s h → IsOfSort g p s t
+
+-- a variable whose value has the sort for each instance has it, where the sort has no meets
+abbrev pub HasSortByValues : KoreSignature → Type 0
+HasSortByValues g =
+    (p : StatePart) (s : KoreSort) (x : SortedName) → AreAtHand (x ∷ []) p.state.variables →
+    OfEachInstance g p (λ w c. HasSort g s (w x.name)) → ¬ HasMeets g s → IsOfSort g p s (unknown x)

@@ -1,18 +1,16 @@
 // Laws of a left side against a part, from the first pair to the cases.
-ghost use Rattle.std.specs.Prelude.{◌≡◌, List, [], Some};
+ghost use Rattle.std.specs.Prelude.{[]};
 ghost use Rattle.kp_kore.specs.Signature.{KoreSignature};
 ghost use Rattle.kp_rules.specs.Skeletons.{Form};
 ghost use Rattle.kp_cases.specs.Parts.{StatePart, IsTold, IsSortedPart};
-ghost use Rattle.kp_cases.specs.Cases.{AreCases, left_side};
-ghost use Rattle.kp_cases.specs.Courses.{Course, beginning, met_part, IsOnCourse};
-ghost use Rattle.kp_cases.specs.Laws.{AreBoundAtTheEnd, AreApartWhereUnequal, GivesWayToWhatItAsks, IsApartByOnePair, GoesOnWhereHeadsAreAsked, GoesOnWithTheTerm, GoesOnWithTheTermAlone, IsApartWhereNotAdmitted};
+ghost use Rattle.kp_cases.specs.Courses.{beginning, IsOnCourse};
+ghost use Rattle.kp_cases.specs.Laws.{AreCasesAtTheEnd, AreBoundAtTheEnd, AreApartWhereUnequal, GivesWayToWhatItAsks, IsApartByOnePair, GoesOnWhereHeadsAreAsked, GoesOnWithTheTerm, GoesOnWithTheTermAlone, IsApartWhereNotAdmitted};
 
 /// A left side begins as one pair with the part's term. Where no pair is left, the part at hand is met and the others are apart,
 /// and each variable of the left side stands for a term of its sort; where the equalities are never true, the whole part is apart.
 pub fn a_course_begins_and_ends()
     ensures begins { (g : KoreSignature) (left : Form) (p : StatePart) → IsTold g p → IsSortedPart g p → IsOnCourse g left p (beginning left p) [] }
-    ensures ends { (g : KoreSignature) (left : Form) (p : StatePart) (k : Course) (apart : List StatePart) →
-        IsOnCourse g left p k apart → k.pairs ≡ [] → AreCases g (left_side g left) p (Some (met_part g k)) apart }
+    ensures ends { (g : KoreSignature) → AreCasesAtTheEnd g }
     ensures bound { (g : KoreSignature) → AreBoundAtTheEnd g }
     ensures never { (g : KoreSignature) → AreApartWhereUnequal g }
 {}

@@ -1,25 +1,21 @@
 // Laws of what each form of a left side asks of a term.
-ghost use Rattle.std.specs.Prelude.{◌≡◌, List, [], ◌∷◌};
+ghost use Rattle.std.specs.Prelude.{◌≡◌, List};
 ghost use Rattle.kp_kore.specs.Syntax.{Text, KoreSort};
 ghost use Rattle.kp_kore.specs.Parts.{SortedName};
-ghost use Rattle.kp_kore.specs.Signature.{KoreSignature, construction, meaning_of, Head, IsHeadOf};
-ghost use Rattle.kp_kore.specs.Value.{Value, constructed, Values, HasSort};
-ghost use Rattle.kp_kore.specs.Instance.{Valuation};
-ghost use Rattle.kp_symbolic.specs.Terms.{SymbolicTerm, unknown, known, headed, SymbolicTerms, term_variables};
-ghost use Rattle.kp_symbolic.specs.States.{AreTrue};
+ghost use Rattle.kp_kore.specs.Signature.{KoreSignature, construction, meaning_of};
+ghost use Rattle.kp_kore.specs.Value.{Value, constructed, Values};
+ghost use Rattle.kp_symbolic.specs.Terms.{SymbolicTerm, known, headed, SymbolicTerms, term_variables};
 ghost use Rattle.kp_symbolic.specs.WellFormed.{IsWellSorted, AreAtHand};
-ghost use Rattle.kp_rules.specs.Skeletons.{Form, anything, nothing, fixed, Admits};
-ghost use Rattle.kp_cases.specs.Parts.{StatePart, OfEachInstance};
-ghost use Rattle.kp_cases.specs.Narrowings.{all_unknown, constructor_term, heads_outside};
-ghost use Rattle.kp_cases.specs.Courses.{Course, with_pair, AsksNever, all_known, HasMeets, IsTermOf, IsOfSort, IsOnCourse};
-ghost use Rattle.kp_cases.specs.Rows.{AsksSort, IsMadeOf, IsOfHead};
-ghost use Rattle.kp_cases.specs.Laws.{AnyAsksNothing, FirstIsBound, AgainIsEqual, ValueIsEqual, SameAsksNothing, ConstructorAsksMembers, OtherHeadNever, OtherNumberNever, OtherSortNever, UnsharedSortNever, MissingHeadNever, NotOfOtherHead, NotOutsideMeet};
+ghost use Rattle.kp_rules.specs.Skeletons.{nothing, fixed};
+ghost use Rattle.kp_cases.specs.Parts.{StatePart};
+ghost use Rattle.kp_cases.specs.Courses.{AsksNever, all_known, IsOfSort};
+ghost use Rattle.kp_cases.specs.Rows.{IsMadeOf};
+ghost use Rattle.kp_cases.specs.Laws.{AnythingAsksNothing, AnyAsksNothing, FirstIsBound, AgainIsEqual, ValueIsEqual, SameAsksNothing, ConstructorAsksMembers, IsMadeOfNewVariables, OtherHeadNever, OtherNumberNever, OtherSortNever, UnsharedSortNever, MissingHeadNever, NotOfOtherHead, NotOutsideMeet, NotOutsideItsHeads, HasSortByHead, HasSortByValues};
 
 /// What forms ask that stand for any value, any of a sort, or one value of a sort: nothing more, a term for a variable that
 /// stands first, an equality where it stands again, or for a value.
 pub fn variables_ask()
-    ensures anything { (g : KoreSignature) (left : Form) (p : StatePart) (k : Course) (apart : List StatePart) (t : SymbolicTerm) →
-        IsOnCourse g left p (with_pair k (record { form = anything; term = t })) apart → IsOnCourse g left p k apart }
+    ensures anything { (g : KoreSignature) → AnythingAsksNothing g }
     ensures any { (g : KoreSignature) → AnyAsksNothing g }
     ensures first { (g : KoreSignature) → FirstIsBound g }
     ensures again { (g : KoreSignature) → AgainIsEqual g }
@@ -33,8 +29,7 @@ pub fn constructors_ask()
     ensures headed { (g : KoreSignature) (hand : List SortedName) (c : Text) (ts : SymbolicTerms) →
         meaning_of g c ≡ construction → IsMadeOf g hand (headed c ts) c ts }
     ensures known { (g : KoreSignature) (hand : List SortedName) (c : Text) (us : Values) → IsMadeOf g hand (known (constructed c us)) c (all_known us) }
-    ensures new { (g : KoreSignature) (hand : List SortedName) (c : Text) (new : List SortedName) →
-        meaning_of g c ≡ construction → AreAtHand new hand → IsMadeOf g hand (constructor_term g c new) c (all_unknown new) }
+    ensures new { (g : KoreSignature) → IsMadeOfNewVariables g }
 {}
 
 /// What is never admitted: anything by nothing, another head, another number of members, another sort, another value.
@@ -52,16 +47,13 @@ pub fn others_are_never_admitted()
 pub fn what_is_split_off_is_not_admitted()
     ensures constructor { (g : KoreSignature) → NotOfOtherHead g }
     ensures meet { (g : KoreSignature) → NotOutsideMeet g }
-    ensures heads { (g : KoreSignature) (w r : Valuation) (form : Form) (x : SortedName) (s : KoreSort) → AsksSort g form s →
-        HasSort g x.sort (w x.name) → AreTrue g w (heads_outside g x s) → ¬ Admits g r form (w x.name) }
+    ensures heads { (g : KoreSignature) → NotOutsideItsHeads g }
 {}
 
 /// A term has a sort for each instance of a part by its form, by its head, or by the heads that were asked for.
 pub fn terms_have_sorts()
     ensures by_form { (g : KoreSignature) (p : StatePart) (s : KoreSort) (t : SymbolicTerm) →
         IsWellSorted g s t → AreAtHand (term_variables t) p.state.variables → IsOfSort g p s t }
-    ensures by_head { (g : KoreSignature) (p : StatePart) (s : KoreSort) (t : SymbolicTerm) (h : Head) →
-        IsTermOf g p.state.variables t → IsOfHead g t h → IsHeadOf g s h → IsOfSort g p s t }
-    ensures by_heads { (g : KoreSignature) (p : StatePart) (s : KoreSort) (x : SortedName) → AreAtHand (x ∷ []) p.state.variables →
-        OfEachInstance g p (λ w c. HasSort g s (w x.name)) → ¬ HasMeets g s → IsOfSort g p s (unknown x) }
+    ensures by_head { (g : KoreSignature) → HasSortByHead g }
+    ensures by_heads { (g : KoreSignature) → HasSortByValues g }
 {}

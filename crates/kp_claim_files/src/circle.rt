@@ -26,7 +26,7 @@ pub fn check_circles(
     places: &LabelPlaces,
     items: &[FiledClaim],
 ) -> Result<(), ClaimError>
-    ensures ok { (ss : List KoreSentence) → Indexes (labels_of ss) places.now → AllZip IsStatedBy ss (items_view items.now) → OnOk result ((i : ℕ) → ¬ DependsOn (stated_needs ss) i i) }
+    ensures ok { (ss : List KoreSentence) → let needs = stated_needs ss in Indexes (labels_of ss) places.now → AllZip IsStatedBy ss (items_view items.now) → OnOk result ((i : ℕ) → ¬ DependsOn needs i i) }
     ensures err { (g : KoreSignature) (ss : List KoreSentence) → let it' = items_view items.now in Indexes (labels_of ss) places.now → AllZip IsStatedBy ss it' → AreFaultless g (file_labels ss) [] ss → IfErr result (TellsOf (IsCircle g ss)) }
 {
     let needs = needs_of(alloc, places, items)?;

@@ -66,7 +66,7 @@ fn add_axioms(
     places: &[usize],
 ) -> Result<(), AllocError>
     requires { AllByRecursion (λ k. k < length claims.now) places.now }
-    ensures { OnOk result (map sentence_view sentences.new.items ≡ map sentence_view sentences.old.items ++ map (λ c. axiom_sentence (stated_axiom c)) (claims_at claims.now places.now)) }
+    ensures { let axioms = map (λ c. axiom_sentence (stated_axiom c)) (claims_at claims.now places.now) in OnOk result (map sentence_view sentences.new.items ≡ map sentence_view sentences.old.items ++ axioms) }
 {
     for i in 0..places.len() {
         add_axiom(alloc, sentences, claim_at(claims, places[i]))?;

@@ -97,7 +97,7 @@ fn claim_of_sentence(
 ) -> Result<FiledClaim, ClaimError>
     requires index { IsIndexOf (signature_view signature.now) index.now }
     ensures claim { IfOk result (λ item. IsStatedBy (sentence_view sentence.now) (item_view item)) }
-    ensures faultless { (f : Stated) (before : List Text) → Notes f file.now → Lists before labels.old → OnOk result (IsFaultless (signature_view signature.now) f before (sentence_view sentence.now)) }
+    ensures faultless { (f : Stated) (before : List Text) → let g = signature_view signature.now in let sentence' = sentence_view sentence.now in Notes f file.now → Lists before labels.old → OnOk result (IsFaultless g f before sentence') }
     ensures labels { (before : List Text) → Lists before labels.old → OnOk result (Lists (before ++ label_at (sentence_view sentence.now)) labels.new) }
     ensures err { (f : Stated) (before : List Text) → let g = signature_view signature.now in Notes f file.now → Lists before labels.old → IfErr result (TellsOf (IsFaultAt g f before (sentence_view sentence.now))) }
 {

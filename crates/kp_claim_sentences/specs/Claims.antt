@@ -1,7 +1,7 @@
 -- Claims as a claims file states them: with variables and predicates, as circularities, and with dependencies.
 -- Source: claims of the K framework as kompile writes them (weakAlwaysFinally over all paths, the attributes label,
 -- circularity and depends); pyk's APRProof (dependencies, circularities).
-use Rattle.std.specs.Prelude.{◌≡◌, ℕ, Bool, true, not, ◌&&◌, ◌==◌, List, [], ◌∷◌, ◌++◌, map, Option, Some, None, if◌then◌else◌, codes}
+use Rattle.std.specs.Prelude.{◌≡◌, ℕ, Bool, true, false, not, ◌&&◌, ◌==◌, List, [], ◌∷◌, ◌++◌, map, Option, Some, None, if◌then◌else◌, codes, MatchBool}
 use Rattle.std.specs.List.{flat_map, list_any, list_all}
 use Rattle.std.specs.Option.{option_map, is_some}
 use Rattle.std.specs.Str.{bytes_eq}
@@ -44,6 +44,10 @@ bound_names p = flat_map bound_at (subpatterns p)
 abbrev pub are_apart : List Text → List Text → Bool
 are_apart met [] = true
 are_apart met (x ∷ xs) = not (list_any (bytes_eq x) met) && are_apart (met ++ x ∷ []) xs
+
+-- tells whether the name is none of those met: then the rest decides with the name met too, else they aren't apart
+abbrev pub TellsNew : List Text → Text → List Text → Bool → Type 0
+TellsNew met x rest b = MatchBool b (are_apart (met ++ x ∷ []) rest ≡ are_apart met (x ∷ rest)) (are_apart met (x ∷ rest) ≡ false)
 
 -- no bound variable has the name of another variable
 abbrev pub has_clear_names : ClaimSides → Bool

@@ -8,7 +8,7 @@ ghost use Rattle.kp_kore.specs.View.{view, sorted_variable_view};
 ghost use Rattle.kp_compile.specs.Parts.{seen};
 ghost use Rattle.kp_names.specs.Met.{Lists};
 ghost use Rattle.kp_claims.specs.Sides.{sides_view};
-ghost use Rattle.kp_claim_sentences.specs.Claims.{bound_at, has_clear_names, are_apart as apart_test};
+ghost use Rattle.kp_claim_sentences.specs.Claims.{TellsNew, bound_at, has_clear_names, are_apart as apart_test};
 
 use indexmap::IndexMap;
 use kp_claims::outline::ClaimOutline;
@@ -76,7 +76,7 @@ fn is_new(names: &mut Names, part: &Pattern) -> Result<bool, AllocError>
 /// Notes a name; whether it wasn't noted.
 fn is_new_name(names: &mut Names, name: &Name) -> Result<bool, AllocError>
     ensures lists { (before : List Text) → Lists before names.old → IfOk result (λ b. b ≡ true → Lists (before ++ string_bytes name.now ∷ []) names.new) }
-    ensures is { (before more : List Text) → let the_string_bytes = string_bytes name.now ∷ more in Lists before names.old → IfOk result (λ b. MatchBool b (apart_test (before ++ string_bytes name.now ∷ []) more ≡ apart_test before the_string_bytes) (apart_test before the_string_bytes ≡ false)) }
+    ensures is { (before more : List Text) → Lists before names.old → IfOk result (TellsNew before (string_bytes name.now) more) }
 {
     if is_noted(names, name) {
         return Ok(false);

@@ -30,7 +30,7 @@ pub fn take_label(labels: &mut Names, attributes: &[Pattern]) -> Result<Name, Cl
 /// Notes a label; C7 where an earlier claim has it.
 fn take_new(labels: &mut Names, label: &Name) -> Result<Name, ClaimError>
     ensures label { IfOk result (λ l. string_bytes l ≡ string_bytes label.now) }
-    ensures ok { (before : List Text) → Lists before labels.old → IfOk result (λ l. (label_fault before (Some (string_bytes label.now)) ≡ None) × Lists (before ++ string_bytes l ∷ []) labels.new) }
+    ensures ok { let label' = string_bytes label.now in (before : List Text) → Lists before labels.old → IfOk result (λ l. (label_fault before (Some label') ≡ None) × Lists (before ++ string_bytes l ∷ []) labels.new) }
     ensures err { (before : List Text) → Lists before labels.old → IfErr result (TellsOf (λ f. label_fault before (Some (string_bytes label.now)) ≡ Some f)) }
 {
     if is_noted(labels, label) {

@@ -89,7 +89,7 @@ fn claim_of(
     ensures claim { IfOk result (λ item. IsClaimOf (axiom_sentence_view statement.now) (item_view item)) }
     ensures faultless { (before : List Text) → Lists before labels.old → OnOk result (IsFaultlessClaim (signature_view signature.now) before (axiom_sentence_view statement.now)) }
     ensures labels { (before : List Text) → Lists before labels.old → OnOk result (Lists (before ++ label_at (claim_sentence (axiom_sentence_view statement.now))) labels.new) }
-    ensures err { (before : List Text) → Lists before labels.old → IfErr result (TellsOf (IsFaultOfClaim (signature_view signature.now) before (axiom_sentence_view statement.now))) }
+    ensures err { let g = signature_view signature.now in let statement' = axiom_sentence_view statement.now in (before : List Text) → Lists before labels.old → IfErr result (TellsOf (IsFaultOfClaim g before statement')) }
 {
     let sides = outline(alloc, statement)?;
     let label = take_label(labels, &statement.attributes)?;

@@ -44,7 +44,7 @@ fn add_quoted(
     pattern: &Pattern,
     found: &mut Vec<Clause>,
 ) -> Result<(), AllocError>
-    ensures { OnOk result (clauses_view found.new.items ≡ clauses_view found.old.items ++ (model.quoted_literal (map replaced_view replaced.now) true (view pattern.now) ∷ []) ∷ []) }
+    ensures { let one_literal = model.quoted_literal (map replaced_view replaced.now) true (view pattern.now) in OnOk result (clauses_view found.new.items ≡ clauses_view found.old.items ++ (one_literal ∷ []) ∷ []) }
 {
     let literal = quoted_whole(pattern, alloc, replaced, true)?;
     Ok(found.push(make_clause(alloc, literal)?)?)
@@ -61,7 +61,7 @@ fn add_conjunct(
     found: &mut Vec<Clause>,
 ) -> Result<u64, CompileError>
     ensures clauses { let g = language_view language.now in (n : ℕ) → so_far ≡ min n most_counted → OnOk result (clauses_view found.new.items ≡ clauses_view found.old.items ++ model.clauses_of_conjunct g (map replaced_view replaced.now) n (view pattern.now)) }
-    ensures literals { (n : ℕ) → so_far ≡ min n most_counted → IfOk result (λ m. m ≡ min (n + model.literals_of_conjunct (language_view language.now) (map replaced_view replaced.now) n (view pattern.now)) most_counted) }
+    ensures literals { let g = language_view language.now in (n : ℕ) → let further = model.literals_of_conjunct g (map replaced_view replaced.now) n (view pattern.now) in so_far ≡ min n most_counted → IfOk result (λ m. m ≡ min (n + further) most_counted) }
     ensures refused { IfErr result (λ e. IsFaultless (language_view language.now) (view pattern.now) → e ≡ Memory) }
 {
     let mut opened = open_predicate(alloc, language, replaced, pattern)?;

@@ -183,7 +183,7 @@ fn open_members(
     members: &[&Pattern],
 ) -> Result<State, CompileError>
     ensures opened { let predicates = filter (λ p. not (term_test p)) (seen members.now) in IfOk result (λ s. (t : KorePattern) → find term_test (seen members.now) ≡ Some t → state_view s ≡ opened_of (language_view language.now) (view pattern.now) (sort_view sort) t predicates) }
-    ensures refused { IfErr result (λ e. (t : KorePattern) → find term_test (seen members.now) ≡ Some t → AllByRecursion (IsFaultless (language_view language.now)) (seen members.now) → e ≡ Memory) }
+    ensures refused { let members' = seen members.now in IfErr result (λ e. (t : KorePattern) → find term_test members' ≡ Some t → AllByRecursion (IsFaultless (language_view language.now)) members' → e ≡ Memory) }
 {
     let predicates = predicates_among(alloc, members)?;
     match first_term(members) {

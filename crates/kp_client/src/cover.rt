@@ -65,7 +65,7 @@ fn cover_question_of(
 
 /// What an error's code says of the cover.
 fn failed_cover(code: i64, line: Vec<u8>) -> CoverAnswer
-    ensures { (claim : ReachabilityClaim) (s : KorePattern) (e : Exchange) → e.reply ≡ line.items → Tells (cover_question claim s) implies e (failed code)
+    ensures { (claim : ReachabilityClaim) (s : KorePattern) (e : Exchange) → let question = cover_question claim s in e.reply ≡ line.items → Tells question implies e (failed code)
         → IsCoverAnswer claim s (e ∷ []) result }
 {
     if code == UNDECIDED {
@@ -76,7 +76,7 @@ fn failed_cover(code: i64, line: Vec<u8>) -> CoverAnswer
 
 /// What a reply says of the cover.
 fn told_cover(reply: ServerReply, line: Vec<u8>) -> CoverAnswer
-    ensures { (claim : ReachabilityClaim) (s : KorePattern) (e : Exchange) → e.reply ≡ line.items → Tells (cover_question claim s) implies e (reply_view reply)
+    ensures { (claim : ReachabilityClaim) (s : KorePattern) (e : Exchange) → let question = cover_question claim s in e.reply ≡ line.items → Tells question implies e (reply_view reply)
         → IsCoverAnswer claim s (e ∷ []) result }
 {
     match reply {
@@ -92,8 +92,8 @@ fn told_cover(reply: ServerReply, line: Vec<u8>) -> CoverAnswer
 
 /// What a question comes to says of the cover.
 fn cover_answer_of(heard: Heard) -> CoverAnswer
-    ensures { (claim : ReachabilityClaim) (s : KorePattern) (i : RequestId) (es : List Exchange) → IsGivenId i →
-        IsHeard implies (cover_question claim s i) es heard → IsCoverAnswer claim s es result }
+    ensures { (claim : ReachabilityClaim) (s : KorePattern) (i : RequestId) (es : List Exchange) → let question = cover_question claim s i in IsGivenId i →
+        IsHeard implies question es heard → IsCoverAnswer claim s es result }
 {
     match heard {
         Heard::Told(reply, line) => told_cover(reply, line),

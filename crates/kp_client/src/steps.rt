@@ -164,7 +164,7 @@ fn is_stuck(reason: &Reason) -> bool
 
 /// What a run says of the steps.
 fn run_answer(alloc: Global, run: Executed, line: Vec<u8>) -> Result<StepAnswer, AllocError>
-    ensures { IfOk result (λ a. (depth : ℕ) (s : KorePattern) (e : Exchange) → e.reply ≡ line.items → Tells (step_question depth s) execute e (executed (executed_view run))
+    ensures { IfOk result (λ a. (depth : ℕ) (s : KorePattern) (e : Exchange) → let question = step_question depth s in e.reply ≡ line.items → Tells question execute e (executed (executed_view run))
         → IsStepAnswer depth s (e ∷ []) a) }
 {
     if !is_followed(&run.reason) {
@@ -182,7 +182,7 @@ fn run_answer(alloc: Global, run: Executed, line: Vec<u8>) -> Result<StepAnswer,
 
 /// What a reply says of the steps.
 fn told_steps(alloc: Global, reply: ServerReply, line: Vec<u8>) -> Result<StepAnswer, AllocError>
-    ensures { IfOk result (λ a. (depth : ℕ) (s : KorePattern) (e : Exchange) → e.reply ≡ line.items → Tells (step_question depth s) execute e (reply_view reply)
+    ensures { IfOk result (λ a. (depth : ℕ) (s : KorePattern) (e : Exchange) → let question = step_question depth s in e.reply ≡ line.items → Tells question execute e (reply_view reply)
         → IsStepAnswer depth s (e ∷ []) a) }
 {
     match reply {
@@ -197,8 +197,8 @@ fn told_steps(alloc: Global, reply: ServerReply, line: Vec<u8>) -> Result<StepAn
 
 /// What a question comes to says of the steps.
 fn step_answer_of(alloc: Global, heard: Heard) -> Result<StepAnswer, AllocError>
-    ensures { IfOk result (λ a. (depth : ℕ) (s : KorePattern) (i : RequestId) (es : List Exchange) → IsGivenId i →
-        IsHeard execute (step_question depth s i) es heard → IsStepAnswer depth s es a) }
+    ensures { IfOk result (λ a. (depth : ℕ) (s : KorePattern) (i : RequestId) (es : List Exchange) → let question = step_question depth s i in IsGivenId i →
+        IsHeard execute question es heard → IsStepAnswer depth s es a) }
 {
     match heard {
         Heard::Told(reply, line) => told_steps(alloc, reply, line),

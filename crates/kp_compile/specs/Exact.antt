@@ -2,12 +2,13 @@
 use Rattle.std.specs.Prelude.{◌≡◌, ℕ, Bool, true, not, List, [], ◌∷◌, map}
 use Rattle.std.specs.Bool.{Decides}
 use Rattle.std.specs.List.{AllZip, list_all}
-use Rattle.kp_kore.specs.Syntax.{Text, KoreSort, KorePattern, conjunction, no_patterns, next_pattern}
+use Rattle.kp_kore.specs.Syntax.{Text, KoreSort, KorePattern, KorePatterns, conjunction, no_patterns, next_pattern}
 use Rattle.kp_kore.specs.Parts.{is_term, SortedName, free_variables}
-use Rattle.kp_kore.specs.Signature.{KoreSignature}
+use Rattle.kp_kore.specs.Signature.{KoreSignature, meaning_of}
 use Rattle.kp_kore.specs.View.{view}
 use Rattle.kp_kore.specs.declared.pattern.Pattern.{Pattern}
-use Rattle.kp_kore.specs.Instance.{Valuation, instance, IsTrueUnder}
+use Rattle.kp_kore.specs.Value.{Value}
+use Rattle.kp_kore.specs.Instance.{Valuation, applied, instance, instances, IsTrueUnder}
 use Rattle.kp_kore.specs.Numbers.{computes_wide}
 use Rattle.kp_ground.specs.Slots.{Place, is_one_of, stands_at, left_places, term_reads, condition_reads}
 use Rattle.kp_ground.specs.Terms.{term_value, left_value, stays_narrow}
@@ -18,6 +19,10 @@ use Rattle.kp_ground.specs.ConditionView.{condition_view}
 use Rattle.kp_ground.specs.declared.term.CompiledTerm.{CompiledTerm}
 use Rattle.kp_ground.specs.declared.left.CompiledLeft.{CompiledLeft}
 use Rattle.kp_ground.specs.declared.condition.Condition.{Condition}
+
+-- what the symbol of this name makes of the instances of these patterns
+abbrev pub applied_instance : KoreSignature → Valuation → Text → KorePatterns → Value
+applied_instance g v f ps = applied (meaning_of g f) f (instances g v ps)
 
 -- under every valuation the term has the pattern's instance
 abbrev pub IsTermOf : KoreSignature → KorePattern → CompiledTerm → Type 0

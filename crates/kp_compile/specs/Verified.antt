@@ -1,6 +1,6 @@
 -- Which patterns are compiled: verified terms and predicates whose symbols have a meaning.
 -- Source: this project.
-use Rattle.std.specs.Prelude.{◌≡◌, Bool, true, false, not, ◌&&◌, length, ◌==◌, None}
+use Rattle.std.specs.Prelude.{◌≡◌, Bool, true, false, not, ◌&&◌, length, ◌==◌, None, IsTrue}
 use Rattle.kp_kore.specs.Syntax.{KorePattern, application}
 use Rattle.kp_kore.specs.Parts.{is_term, pattern_list}
 use Rattle.kp_kore.specs.Signature.{KoreSignature, SymbolMeaning, injection, meaning_of}
@@ -17,6 +17,10 @@ is_injection_meaning _ = false
 abbrev pub misapplies_injection : KoreSignature → KorePattern → Bool
 misapplies_injection g (application f ss ps) = is_injection_meaning (meaning_of g f) && not (length (pattern_list ps) == 1)
 misapplies_injection g _ = false
+
+-- each symbol in it has a meaning: none is foreign
+abbrev pub HasMeanings : KoreSignature → KorePattern → Type 0
+HasMeanings g p = IsTrue (none_within (has_foreign_head g) p)
 
 -- no verify fault where the pattern stands, no foreign symbol in it, and inj applied to one argument alone
 pub record IsVerified (g : KoreSignature) (p : KorePattern) : Type 0 where

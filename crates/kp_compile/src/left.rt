@@ -3,13 +3,12 @@ ghost use Rattle.std.specs.List.{AllByRecursion};
 ghost use Rattle.kp_kore.specs.Syntax.{KoreSorts, application};
 ghost use Rattle.kp_kore.specs.Parts.{all_free_variables};
 ghost use Rattle.kp_kore.specs.View.{view, patterns_view};
-ghost use Rattle.kp_kore.specs.Signature.{meaning_of as meaning_named};
-ghost use Rattle.kp_kore.specs.Instance.{Valuation, applied, instances};
+ghost use Rattle.kp_kore.specs.Instance.{Valuation};
 ghost use Rattle.kp_ground.specs.Slots.{is_numbered, joined, left_places, left_variables, names_after, with_name};
 ghost use Rattle.kp_ground.specs.Terms.{left_bound, left_built, left_value};
 ghost use Rattle.kp_ground.specs.LeftView.{left_view, lefts_of};
 ghost use Rattle.kp_signature.specs.View.{signature_view};
-ghost use Rattle.kp_compile.specs.Exact.{IsLeftOf, AreLeftsOf, HasPlacesOf, IsPlaceOf};
+ghost use Rattle.kp_compile.specs.Exact.{applied_instance, IsLeftOf, AreLeftsOf, HasPlacesOf, IsPlaceOf};
 ghost use Rattle.kp_compile.specs.Names.{names_seen};
 ghost use Rattle.kp_compile.specs.Verified.{IsVerifiedLeftTerm};
 ghost use Rattle.kp_compile.specs.declared.error.CompileError.TheVariants.{Memory};
@@ -86,7 +85,7 @@ fn compile_applied(
     name: &Name,
     names: &mut NameSet,
 ) -> Result<CompiledLeft, CompileError>
-    ensures meaning { let g = signature_view signature.now in let the_string_bytes = string_bytes name.now in let arguments' = patterns_view arguments.now in IfOk result (λ t. (v : Valuation) → left_value v (left_view t) ≡ applied (meaning_named g the_string_bytes) the_string_bytes (instances g v arguments')) }
+    ensures meaning { let g = signature_view signature.now in let arguments' = patterns_view arguments.now in IfOk result (λ t. (v : Valuation) → left_value v (left_view t) ≡ applied_instance g v (string_bytes name.now) arguments') }
     ensures places { IfOk result (λ l. map (λ x. x.name) (left_places l) ≡ map (λ x. x.name) (all_free_variables (patterns_view arguments.now))) }
     ensures numbered { IfOk result (λ l. is_numbered (names_seen names.old) (left_places l) ≡ true) }
     ensures names { IfOk result (λ l. names_seen names.new ≡ names_after (names_seen names.old) (left_places l)) }

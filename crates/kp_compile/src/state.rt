@@ -8,7 +8,6 @@ ghost use Rattle.kp_signature.specs.View.{signature_view};
 ghost use Rattle.kp_signature.specs.Places.{Place};
 ghost use Rattle.kp_signature.specs.Verify.{VerifiesAs, first_fault};
 ghost use Rattle.kp_kore.specs.Instance.{Valuation, instance};
-ghost use Rattle.kp_kore.specs.Foreign.{none_within, has_foreign_head};
 ghost use Rattle.kp_kore.specs.Numbers.{computes_wide};
 ghost use Rattle.kp_ground.specs.Slots.{term_reads};
 ghost use Rattle.kp_ground.specs.Terms.{stays_narrow, term_value};
@@ -19,6 +18,7 @@ ghost use Rattle.kp_compile.specs.declared.error.CompileError.TheVariants as com
 ghost use Rattle.kp_compile.specs.declared.state_error.StateError.TheVariants.{OtherShape};
 ghost use Rattle.kp_compile.specs.Spelled.{IsGroundState, IsOtherShape, first_member, first_foreign as first_foreign_in, foreign_name as foreign_name_at};
 ghost use Rattle.kp_compile.specs.States.{IsNoForeign, IsTold};
+ghost use Rattle.kp_compile.specs.Verified.{HasMeanings};
 
 use crate::state_error::StateError;
 use crate::{CompileError, compile_term, is_term, no_names, subpatterns};
@@ -105,7 +105,7 @@ fn value_of(alloc: Global, signature: &Signature, pattern: &Pattern) -> Result<V
     ensures meant { IfOk result (λ u. (v : Valuation) → instance (signature_view signature.now) v (view pattern.now) ≡ value_view u) }
     ensures narrow { OnOk result ((v : Valuation) → computes_wide (signature_view signature.now) v (view pattern.now) ≡ false) }
     ensures refused { IfErr result IsNoForeign }
-    ensures other_shape { (c : Place) → let g = signature_view signature.now in let pattern' = view pattern.now in let the_none_within = none_within (has_foreign_head g) pattern' in first_fault g c pattern' ≡ None → IsTrue the_none_within → IfErr result (λ e. e ≡ OtherShape → IsOtherShape g pattern') }
+    ensures other_shape { (c : Place) → let g = signature_view signature.now in let pattern' = view pattern.now in first_fault g c pattern' ≡ None → HasMeanings g pattern' → IfErr result (λ e. e ≡ OtherShape → IsOtherShape g pattern') }
 {
     if !is_term(pattern) {
         return Err(StateError::OtherShape);

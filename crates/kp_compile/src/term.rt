@@ -3,14 +3,13 @@ ghost use Rattle.std.specs.List.{AllByRecursion, list_all};
 ghost use Rattle.kp_kore.specs.Syntax.{Text, KoreSorts, application};
 ghost use Rattle.kp_kore.specs.Parts.{all_free_variables};
 ghost use Rattle.kp_kore.specs.View.{view, patterns_view};
-ghost use Rattle.kp_kore.specs.Signature.{meaning_of as meaning_named};
-ghost use Rattle.kp_kore.specs.Instance.{Valuation, applied, instances};
+ghost use Rattle.kp_kore.specs.Instance.{Valuation};
 ghost use Rattle.kp_kore.specs.HookView.{hook_view};
 ghost use Rattle.kp_ground.specs.Slots.{term_reads};
 ghost use Rattle.kp_ground.specs.Terms.{built, call, opposite, term_value};
 ghost use Rattle.kp_ground.specs.TermView.{term_view, terms_of};
 ghost use Rattle.kp_signature.specs.View.{signature_view};
-ghost use Rattle.kp_compile.specs.Exact.{IsTermOf, AreTermsOf, IsNarrowAs, AreTermsNarrowAs, ReadsAs, ReadAllAs, are_named};
+ghost use Rattle.kp_compile.specs.Exact.{applied_instance, IsTermOf, AreTermsOf, IsNarrowAs, AreTermsNarrowAs, ReadsAs, ReadAllAs, are_named};
 ghost use Rattle.kp_compile.specs.Names.{names_seen};
 ghost use Rattle.kp_compile.specs.Verified.{IsVerifiedTerm};
 ghost use Rattle.kp_compile.specs.declared.error.CompileError.TheVariants.{Memory};
@@ -108,7 +107,7 @@ fn compile_applied(
     name: &Name,
     names: &NameSet,
 ) -> Result<CompiledTerm, CompileError>
-    ensures meaning { let g = signature_view signature.now in let the_string_bytes = string_bytes name.now in let arguments' = patterns_view arguments.now in IfOk result (λ t. (v : Valuation) → term_value v (term_view t) ≡ applied (meaning_named g the_string_bytes) the_string_bytes (instances g v arguments')) }
+    ensures meaning { let g = signature_view signature.now in let arguments' = patterns_view arguments.now in IfOk result (λ t. (v : Valuation) → term_value v (term_view t) ≡ applied_instance g v (string_bytes name.now) arguments') }
     ensures narrow { let g = signature_view signature.now in IfOk result (λ t. (ss : KoreSorts) → IsNarrowAs g (application (string_bytes name.now) ss (patterns_view arguments.now)) t) }
     ensures reads { IfOk result (λ t. are_named (names_seen names.now) (all_free_variables (patterns_view arguments.now)) ≡ true → term_reads (names_seen names.now) t ≡ true) }
     ensures refused { let g = signature_view signature.now in IfErr result (λ e. (ss : KoreSorts) → IsVerifiedTerm g (application (string_bytes name.now) ss (patterns_view arguments.now)) → e ≡ Memory) }

@@ -31,6 +31,6 @@ pub trait Answerer {
     ) -> Result<Option<Vec<u8>>, AllocError>
         requires pass { is_pass self.now pass.old }
         ensures pass { is_pass self.now pass.new }
-        ensures answered { IfOk result (λ reply. ForEachSeen (has_seen self.now pass.old) (has_seen self.now pass.new) (λ o before. answers self.now o before frame.now (option_map (λ line. line.items) reply))) }
+        ensures answered { let Seen = has_seen self.now in IfOk result (λ reply. ForEachSeen (Seen pass.old) (Seen pass.new) (λ o before. answers self.now o before frame.now (option_map (λ line. line.items) reply))) }
         ensures begun { OnErr result (ForEachSeen (has_seen self.now pass.old) (has_seen self.now pass.new) (λ o before. begins self.now o before frame.now)) };
 }

@@ -122,7 +122,7 @@ pub fn serve<A: Answerer, S: Source, K: Sink>(
 ) -> Served
     requires pass { A.is_pass answerer.now pass.old }
     ensures pass { A.is_pass answerer.now pass.new }
-    ensures served { ForEachSeen (A.has_seen answerer.now pass.old) (A.has_seen answerer.now pass.new) (λ o before after. IsServed (A.answers answerer.now o) (A.begins answerer.now o) before (S.left source.old) (S.left source.new) (K.held sink.old) (K.held sink.new) after result) }
+    ensures served { let Seen = A.has_seen answerer.now in ForEachSeen (Seen pass.old) (Seen pass.new) (λ o before after. IsServed (A.answers answerer.now o) (A.begins answerer.now o) before (S.left source.old) (S.left source.new) (K.held sink.old) (K.held sink.new) after result) }
     ensures read { CountsFault (S.fault_count source.old) (S.fault_count source.new) (result ≡ ReadFault) }
     ensures never_falls { K.fault_count sink.old ≤ K.fault_count sink.new }
     ensures rose { result ≡ WriteFault → Rose (K.fault_count sink.old) (K.fault_count sink.new) }

@@ -21,8 +21,8 @@ fn answer_frame<A: Answerer, K: Sink>(
 ) -> Result<(), OutsideFault>
     requires pass { A.is_pass answerer.now pass.old }
     ensures pass { A.is_pass answerer.now pass.new }
-    ensures whole { OnOk result (ForEachSeen (A.has_seen answerer.now pass.old) (A.has_seen answerer.now pass.new) (λ o before. AreAnswered (A.answers answerer.now o) before (frame.now ∷ []) (K.held sink.old) (K.held sink.new))) }
-    ensures broken { OnErr result (ForEachSeen (A.has_seen answerer.now pass.old) (A.has_seen answerer.now pass.new) (λ o before. BreakOff (A.answers answerer.now o) (A.begins answerer.now o) before (frame.now ∷ []) (K.held sink.old) (K.held sink.new))) }
+    ensures whole { let Seen = A.has_seen answerer.now in OnOk result (ForEachSeen (Seen pass.old) (Seen pass.new) (λ o before. AreAnswered (A.answers answerer.now o) before (frame.now ∷ []) (K.held sink.old) (K.held sink.new))) }
+    ensures broken { let Seen = A.has_seen answerer.now in OnErr result (ForEachSeen (Seen pass.old) (Seen pass.new) (λ o before. BreakOff (A.answers answerer.now o) (A.begins answerer.now o) before (frame.now ∷ []) (K.held sink.old) (K.held sink.new))) }
     ensures never_falls { K.fault_count sink.old ≤ K.fault_count sink.new }
     ensures rose { IsErrOf result Failed → Rose (K.fault_count sink.old) (K.fault_count sink.new) }
     ensures stays { OnOk result (K.fault_count sink.new ≡ K.fault_count sink.old) }
@@ -58,8 +58,8 @@ fn answer_all<A: Answerer, K: Sink>(
 ) -> Result<(), OutsideFault>
     requires pass { A.is_pass answerer.now pass.old }
     ensures pass { A.is_pass answerer.now pass.new }
-    ensures whole { OnOk result (ForEachSeen (A.has_seen answerer.now pass.old) (A.has_seen answerer.now pass.new) (λ o before. AreAnswered (A.answers answerer.now o) before (frames_of frames.now) (K.held sink.old) (K.held sink.new))) }
-    ensures broken { OnErr result (ForEachSeen (A.has_seen answerer.now pass.old) (A.has_seen answerer.now pass.new) (λ o before. BreakOff (A.answers answerer.now o) (A.begins answerer.now o) before (frames_of frames.now) (K.held sink.old) (K.held sink.new))) }
+    ensures whole { let Seen = A.has_seen answerer.now in OnOk result (ForEachSeen (Seen pass.old) (Seen pass.new) (λ o before. AreAnswered (A.answers answerer.now o) before (frames_of frames.now) (K.held sink.old) (K.held sink.new))) }
+    ensures broken { let Seen = A.has_seen answerer.now in OnErr result (ForEachSeen (Seen pass.old) (Seen pass.new) (λ o before. BreakOff (A.answers answerer.now o) (A.begins answerer.now o) before (frames_of frames.now) (K.held sink.old) (K.held sink.new))) }
     ensures never_falls { K.fault_count sink.old ≤ K.fault_count sink.new }
     ensures rose { IsErrOf result Failed → Rose (K.fault_count sink.old) (K.fault_count sink.new) }
     ensures stays { OnOk result (K.fault_count sink.new ≡ K.fault_count sink.old) }
@@ -84,9 +84,9 @@ pub fn take_turn<A: Answerer, K: Sink>(
     ensures pass { A.is_pass answerer.now pass.new }
     ensures limit { cutter.new.limit ≡ cutter.old.limit }
     ensures many { IfOk result (EndsMany cutter.old cutter.new piece.now) }
-    ensures whole { IfOk result (λ count. ForEachSeen (A.has_seen answerer.now pass.old) (A.has_seen answerer.now pass.new) (λ o before after. IsTurn (A.answers answerer.now o) before cutter.old cutter.new piece.now (K.held sink.old) (K.held sink.new) after count)) }
+    ensures whole { let Seen = A.has_seen answerer.now in IfOk result (λ count. ForEachSeen (Seen pass.old) (Seen pass.new) (λ o before after. IsTurn (A.answers answerer.now o) before cutter.old cutter.new piece.now (K.held sink.old) (K.held sink.new) after count)) }
     ensures memory { OnOk result (cutter.new.is_out_of_memory ≡ false) }
-    ensures broken { OnErr result (ForEachSeen (A.has_seen answerer.now pass.old) (A.has_seen answerer.now pass.new) (λ o before. BrokenTurn (A.answers answerer.now o) (A.begins answerer.now o) before cutter.old cutter.new piece.now (K.held sink.old) (K.held sink.new))) }
+    ensures broken { let Seen = A.has_seen answerer.now in OnErr result (ForEachSeen (Seen pass.old) (Seen pass.new) (λ o before. BrokenTurn (A.answers answerer.now o) (A.begins answerer.now o) before cutter.old cutter.new piece.now (K.held sink.old) (K.held sink.new))) }
     ensures never_falls { K.fault_count sink.old ≤ K.fault_count sink.new }
     ensures rose { IsErrOf result Failed → Rose (K.fault_count sink.old) (K.fault_count sink.new) }
     ensures stays { OnOk result (K.fault_count sink.new ≡ K.fault_count sink.old) }

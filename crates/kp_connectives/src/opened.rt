@@ -65,7 +65,7 @@ fn open_signed(
     sign: bool,
     pattern: &Pattern,
 ) -> Result<Distributed, CompileError>
-    ensures opened { IfOk result (λ d. distributed_view d ≡ distribution_of (model.opened_leaf (language_view language.now) (map replaced_view replaced.now) alone sign (view pattern.now))) }
+    ensures opened { let g = language_view language.now in let replaced' = map replaced_view replaced.now in IfOk result (λ d. distributed_view d ≡ distribution_of (model.opened_leaf g replaced' alone sign (view pattern.now))) }
     ensures refused { IfErr result (λ e. IsFaultless (language_view language.now) (view pattern.now) → e ≡ Memory) }
 {
     let formula = open_leaf(alloc, language, replaced, alone, sign, pattern)?;
@@ -80,8 +80,8 @@ fn open_both(
     alone: Alone,
     pattern: &Pattern,
 ) -> Result<Opened, CompileError>
-    ensures yes { IfOk result (λ o. distributed_view o.yes ≡ distribution_of (model.opened_leaf (language_view language.now) (map replaced_view replaced.now) alone.yes true (view pattern.now))) }
-    ensures no { IfOk result (λ o. distributed_view o.no ≡ distribution_of (model.opened_leaf (language_view language.now) (map replaced_view replaced.now) alone.no false (view pattern.now))) }
+    ensures yes { let g = language_view language.now in let replaced' = map replaced_view replaced.now in IfOk result (λ o. distributed_view o.yes ≡ distribution_of (model.opened_leaf g replaced' alone.yes true (view pattern.now))) }
+    ensures no { let g = language_view language.now in let replaced' = map replaced_view replaced.now in IfOk result (λ o. distributed_view o.no ≡ distribution_of (model.opened_leaf g replaced' alone.no false (view pattern.now))) }
     ensures refused { IfErr result (λ e. IsFaultless (language_view language.now) (view pattern.now) → e ≡ Memory) }
 {
     let yes = open_signed(alloc, language, replaced, alone.yes, true, pattern)?;
@@ -111,8 +111,8 @@ fn implication(alloc: Global, left: &Opened, right: &Opened) -> Result<Opened, A
 
 /// Both hold or both fail, and the opposite, of what is kept of both.
 fn agreement(alloc: Global, left: &Opened, right: &Opened) -> Result<Opened, AllocError>
-    ensures yes { IfOk result (λ o. distributed_view o.yes ≡ both_agree (distributed_view left.now.yes) (distributed_view left.now.no) (distributed_view right.now.yes) (distributed_view right.now.no)) }
-    ensures no { IfOk result (λ o. distributed_view o.no ≡ both_agree (distributed_view left.now.yes) (distributed_view left.now.no) (distributed_view right.now.no) (distributed_view right.now.yes)) }
+    ensures yes { let agreed = both_agree (distributed_view left.now.yes) (distributed_view left.now.no) (distributed_view right.now.yes) (distributed_view right.now.no) in IfOk result (λ o. distributed_view o.yes ≡ agreed) }
+    ensures no { let opposed = both_agree (distributed_view left.now.yes) (distributed_view left.now.no) (distributed_view right.now.no) (distributed_view right.now.yes) in IfOk result (λ o. distributed_view o.no ≡ opposed) }
 {
     Ok(Opened {
         yes: agreement_of(alloc, &left.yes, &left.no, &right.yes, &right.no)?,
@@ -129,8 +129,8 @@ fn open_whole(
     replaced: &[Replaced],
     alone: Alone,
 ) -> Result<Opened, CompileError>
-    ensures yes { IfOk result (λ o. distributed_view o.yes ≡ distribution_of (opened_by (language_view language.now) (map replaced_view replaced.now) alone.yes true (view pattern.now))) }
-    ensures no { IfOk result (λ o. distributed_view o.no ≡ distribution_of (opened_by (language_view language.now) (map replaced_view replaced.now) alone.no false (view pattern.now))) }
+    ensures yes { let g = language_view language.now in let replaced' = map replaced_view replaced.now in IfOk result (λ o. distributed_view o.yes ≡ distribution_of (opened_by g replaced' alone.yes true (view pattern.now))) }
+    ensures no { let g = language_view language.now in let replaced' = map replaced_view replaced.now in IfOk result (λ o. distributed_view o.no ≡ distribution_of (opened_by g replaced' alone.no false (view pattern.now))) }
     ensures refused { IfErr result (λ e. IsFaultless (language_view language.now) (view pattern.now) → e ≡ Memory) }
 {
     match pattern {
@@ -202,8 +202,8 @@ fn open_negation(
     replaced: &[Replaced],
     alone: Alone,
 ) -> Result<Opened, CompileError>
-    ensures yes { IfOk result (λ o. distributed_view o.yes ≡ distribution_of (opened_by (language_view language.now) (map replaced_view replaced.now) alone.yes false (view pattern.now))) }
-    ensures no { IfOk result (λ o. distributed_view o.no ≡ distribution_of (opened_by (language_view language.now) (map replaced_view replaced.now) alone.no true (view pattern.now))) }
+    ensures yes { let g = language_view language.now in let replaced' = map replaced_view replaced.now in IfOk result (λ o. distributed_view o.yes ≡ distribution_of (opened_by g replaced' alone.yes false (view pattern.now))) }
+    ensures no { let g = language_view language.now in let replaced' = map replaced_view replaced.now in IfOk result (λ o. distributed_view o.no ≡ distribution_of (opened_by g replaced' alone.no true (view pattern.now))) }
     ensures refused { IfErr result (λ e. IsFaultless (language_view language.now) (view pattern.now) → e ≡ Memory) }
 {
     let alone = Alone {
@@ -295,7 +295,7 @@ pub fn open_predicate(
     replaced: &[Replaced],
     pattern: &Pattern,
 ) -> Result<Distributed, CompileError>
-    ensures opened { IfOk result (λ d. distributed_view d ≡ distribution_of (model.opened_predicate (language_view language.now) (map replaced_view replaced.now) true (view pattern.now))) }
+    ensures opened { let g = language_view language.now in let replaced' = map replaced_view replaced.now in IfOk result (λ d. distributed_view d ≡ distribution_of (model.opened_predicate g replaced' true (view pattern.now))) }
     ensures refused { IfErr result (λ e. IsFaultless (language_view language.now) (view pattern.now) → e ≡ Memory) }
 {
     match pattern {

@@ -128,7 +128,7 @@ fn has_head(
 
 /// Whether the literal asks for the variable's head.
 fn asks_for(form: Option<LiteralForm>, variable: &Variable) -> bool
-    ensures { (g : KoreSignature) (cs : List (List model.ReadLiteral)) → spec.IsStanding g cs (option_map form_view form.entry) → IsTrue result → spec.HasHead g cs (variable_view variable.now) }
+    ensures { let form' = option_map form_view form.entry in let variable' = variable_view variable.now in (g : KoreSignature) (cs : List (List model.ReadLiteral)) → spec.IsStanding g cs form' → IsTrue result → spec.HasHead g cs variable' }
 {
     match form {
         Some(
@@ -149,7 +149,7 @@ fn asks_for(form: Option<LiteralForm>, variable: &Variable) -> bool
 
 /// Whether a literal of the clause asks for the variable's head.
 fn asks(clause: &[ReadLiteral], variable: &Variable) -> bool
-    ensures { (g : KoreSignature) (cs : List (List model.ReadLiteral)) → spec.AllStand g cs (map read_view clause.now) → IsTrue result → spec.HasHead g cs (variable_view variable.now) }
+    ensures { let clause' = map read_view clause.now in let variable' = variable_view variable.now in (g : KoreSignature) (cs : List (List model.ReadLiteral)) → spec.AllStand g cs clause' → IsTrue result → spec.HasHead g cs variable' }
 {
     for literal in clause {
         if asks_for(literal.form, variable) {
@@ -161,7 +161,7 @@ fn asks(clause: &[ReadLiteral], variable: &Variable) -> bool
 
 /// Whether a literal of these clauses asks for the variable's head.
 fn is_asked(clauses: &[Vec<ReadLiteral>], variable: &Variable) -> bool
-    ensures { (g : KoreSignature) (cs : List (List model.ReadLiteral)) → spec.StandIn g cs (clauses_view clauses.now) → IsTrue result → spec.HasHead g cs (variable_view variable.now) }
+    ensures { let clauses' = clauses_view clauses.now in let variable' = variable_view variable.now in (g : KoreSignature) (cs : List (List model.ReadLiteral)) → spec.StandIn g cs clauses' → IsTrue result → spec.HasHead g cs variable' }
 {
     for clause in clauses {
         if asks(clause, variable) {

@@ -40,7 +40,7 @@ fn add_comparison<'a>(
     first: WholePart<'a>,
     second: WholePart<'a>,
 ) -> Result<(), AllocError>
-    ensures { OnOk result (map difference_view bounds.new.items ≡ map difference_view bounds.old.items ++ model.bounds_of (compares (comparison_view comparison) (whole_part_view first.entry) (whole_part_view second.entry))) }
+    ensures { let said = compares (comparison_view comparison) (whole_part_view first.entry) (whole_part_view second.entry) in OnOk result (map difference_view bounds.new.items ≡ map difference_view bounds.old.items ++ model.bounds_of said) }
 {
     match comparison {
         Comparison::AtMost => bounds.push(below(first, second, false))?,

@@ -78,8 +78,8 @@ fn tighten(matrix: &mut Matrix, first: usize, second: usize, most: i128) -> bool
     requires places { (first ≤ matrix.old.size) × (second ≤ matrix.old.size) }
     requires bits { (bits : ℕ) × (bits + 2 ≤ 127) × (unsigned_abs most < 2 ^ bits) × HaveBits bits matrix.old.size (bounds_of matrix.old) }
     ensures size { matrix.new.size ≡ matrix.old.size }
-    ensures met { (values : ℕ → ℤ) → Meets matrix.old.size (bounds_of matrix.old) values → (values first -ℤ values second) ≤ℤ most → IsTrue result → Meets matrix.old.size (bounds_of matrix.new) values }
-    ensures bits { IsTrue result → (bits : ℕ) → unsigned_abs most < 2 ^ bits → HaveBits bits matrix.old.size (bounds_of matrix.old) → HaveBits (suc (suc bits)) matrix.old.size (bounds_of matrix.new) }
+    ensures met { let size = matrix.old.size in let bounds' = bounds_of matrix.old in let bounds'' = bounds_of matrix.new in (values : ℕ → ℤ) → Meets size bounds' values → (values first -ℤ values second) ≤ℤ most → IsTrue result → Meets size bounds'' values }
+    ensures bits { let size = matrix.old.size in let bounds' = bounds_of matrix.old in let bounds'' = bounds_of matrix.new in IsTrue result → (bits : ℕ) → unsigned_abs most < 2 ^ bits → HaveBits bits size bounds' → HaveBits (suc (suc bits)) size bounds'' }
     ensures no { result ≡ false → (values : ℕ → ℤ) → Meets matrix.old.size (bounds_of matrix.old) values → ¬ ((values first -ℤ values second) ≤ℤ most) }
 {
     matrix.bound(first, second, most);
@@ -102,7 +102,7 @@ fn take_bound(known: &mut Known, first: usize, second: usize, most: i128) -> boo
     requires room { HasRoom known.old.room known.old.matrix }
     ensures size { known.new.matrix.size ≡ known.old.matrix.size }
     ensures room { IsTrue result → HasRoom known.new.room known.new.matrix }
-    ensures met { (values : ℕ → ℤ) → Meets known.old.matrix.size (bounds_of known.old.matrix) values → (values first -ℤ values second) ≤ℤ most → IsTrue result → Meets known.old.matrix.size (bounds_of known.new.matrix) values }
+    ensures met { let matrix' = known.old.matrix in let matrix'' = known.new.matrix in (values : ℕ → ℤ) → Meets matrix'.size (bounds_of matrix') values → (values first -ℤ values second) ≤ℤ most → IsTrue result → Meets matrix'.size (bounds_of matrix'') values }
     ensures no { result ≡ false → (values : ℕ → ℤ) → Meets known.old.matrix.size (bounds_of known.old.matrix) values → ¬ ((values first -ℤ values second) ≤ℤ most) }
 {
     if known.room == 0 {
@@ -121,7 +121,7 @@ fn take(known: &mut Known, demand: Demand) -> bool
     requires room { HasRoom known.old.room known.old.matrix }
     ensures size { known.new.matrix.size ≡ known.old.matrix.size }
     ensures room { IsTrue result → HasRoom known.new.room known.new.matrix }
-    ensures met { (values : ℕ → ℤ) → Meets known.old.matrix.size (bounds_of known.old.matrix) values → MeetsBound values demand → IsTrue result → Meets known.old.matrix.size (bounds_of known.new.matrix) values }
+    ensures met { let matrix' = known.old.matrix in let matrix'' = known.new.matrix in (values : ℕ → ℤ) → Meets matrix'.size (bounds_of matrix') values → MeetsBound values demand → IsTrue result → Meets matrix'.size (bounds_of matrix'') values }
     ensures no { result ≡ false → (values : ℕ → ℤ) → Meets known.old.matrix.size (bounds_of known.old.matrix) values → ¬ MeetsBound values demand }
 {
     match demand {
@@ -140,7 +140,7 @@ fn take_all(known: &mut Known, demands: &[Demand]) -> bool
     requires room { HasRoom known.old.room known.old.matrix }
     ensures size { known.new.matrix.size ≡ known.old.matrix.size }
     ensures room { IsTrue result → HasRoom known.new.room known.new.matrix }
-    ensures met { (values : ℕ → ℤ) → Meets known.old.matrix.size (bounds_of known.old.matrix) values → AllByRecursion (MeetsBound values) demands.now → IsTrue result → Meets known.old.matrix.size (bounds_of known.new.matrix) values }
+    ensures met { let matrix' = known.old.matrix in let matrix'' = known.new.matrix in (values : ℕ → ℤ) → Meets matrix'.size (bounds_of matrix') values → AllByRecursion (MeetsBound values) demands.now → IsTrue result → Meets matrix'.size (bounds_of matrix'') values }
     ensures no { result ≡ false → (values : ℕ → ℤ) → Meets known.old.matrix.size (bounds_of known.old.matrix) values → ¬ AllByRecursion (MeetsBound values) demands.now }
 {
     for demand in demands {
@@ -189,7 +189,7 @@ pub fn with_way(alloc: Global, known: &Known, way: &[Demand]) -> Result<Option<K
     requires room { HasRoom known.now.room known.now.matrix }
     ensures size { IfOk result (λ o. IfSome o (λ k. k.matrix.size ≡ known.now.matrix.size)) }
     ensures room { IfOk result (λ o. IfSome o (λ k. HasRoom k.room k.matrix)) }
-    ensures met { IfOk result (λ o. IfSome o (λ k. (values : ℕ → ℤ) → Meets known.now.matrix.size (bounds_of known.now.matrix) values → AllByRecursion (MeetsBound values) way.now → Meets known.now.matrix.size (bounds_of k.matrix) values)) }
+    ensures met { let matrix' = known.now.matrix in IfOk result (λ o. IfSome o (λ k. (values : ℕ → ℤ) → Meets matrix'.size (bounds_of matrix') values → AllByRecursion (MeetsBound values) way.now → Meets matrix'.size (bounds_of k.matrix) values)) }
     ensures none { IfOk result (λ o. IfNone o ((values : ℕ → ℤ) → Meets known.now.matrix.size (bounds_of known.now.matrix) values → ¬ AllByRecursion (MeetsBound values) way.now)) }
 {
     let mut own = copied(alloc, known)?;

@@ -21,7 +21,7 @@ fn search_choices(
     known: &Known,
     last: &[Demand],
 ) -> Result<bool, AllocError>
-    requires search { (s : Sizes) × AreSizesOf s tables.old × (s.wholes + s.bits ≤ 126) × AllByRecursion (IsSized s) chosen.old.items × AllByRecursion (AllByRecursion (AllByRecursion (IsSized s))) (choices_of choices.now) }
+    requires search { let chosen' = chosen.old.items in let choices' = choices_of choices.now in (s : Sizes) × AreSizesOf s tables.old × (s.wholes + s.bits ≤ 126) × AllByRecursion (IsSized s) chosen' × AllByRecursion (AllByRecursion (AllByRecursion (IsSized s))) choices' }
     requires size { known.now.matrix.size ≡ tables.old.matrix.size }
     requires room { HasRoom known.now.room known.now.matrix }
     requires sized { (s : Sizes) → AllByRecursion (IsSized s) chosen.old.items → AllByRecursion (IsSized s) last.now }
@@ -60,7 +60,7 @@ pub fn can_be_met(
     demands: &mut Vec<Demand>,
     tables: &mut Tables,
 ) -> Result<bool, AllocError>
-    requires { (s : Sizes) × AreSizesOf s tables.old × (s.wholes + s.bits ≤ 126) × AllByRecursion (IsSized s) demands.old.items × AllByRecursion (AllByRecursion (AllByRecursion (IsSized s))) (choices_of choices.now) }
+    requires { let demands' = demands.old.items in let choices' = choices_of choices.now in (s : Sizes) × AreSizesOf s tables.old × (s.wholes + s.bits ≤ 126) × AllByRecursion (IsSized s) demands' × AllByRecursion (AllByRecursion (AllByRecursion (IsSized s))) choices' }
     ensures yes { IfOk result (λ b. IsTrue b → CanBeMet tables.old.fixed demands.old.items (choices_of choices.now)) }
     ensures no { IfOk result (λ b. b ≡ false → ¬ CanBeMet tables.old.fixed demands.old.items (choices_of choices.now)) }
 {

@@ -5,6 +5,7 @@ use Rattle.kp_kore.specs.Syntax.{Text}
 use Rattle.kp_kore.specs.Value as model
 use Rattle.kp_kore.specs.Instance.{Valuation}
 use Rattle.kp_ground.specs.LeftView.{left_view}
+use Rattle.kp_ground.specs.Slots.{Place, joined, left_places}
 use Rattle.kp_ground.specs.TermView.{term_view}
 use Rattle.kp_ground.specs.Terms.{left_value, term_value}
 use Rattle.kp_ground.specs.View.{value_view}
@@ -39,9 +40,21 @@ AreDepthsOfAll g us ds = map depths_view ds ≡ map (λ u. depths_in g (value_vi
 abbrev pub AreDepthsUnder : KoreSignature → Valuation → List Text → List Depths → Type 0
 AreDepthsUnder g v xs ds = map depths_view ds ≡ map (λ x. depths_in g (v x)) xs
 
+-- of the instance of a left term
+abbrev pub AreDepthsOfLeft : KoreSignature → Valuation → CompiledLeft → Depths → Type 0
+AreDepthsOfLeft g v l d = AreDepthsOf g (left_value v (left_view l)) d
+
 -- of the instances of left terms, one by one
 abbrev pub AreDepthsOfLefts : KoreSignature → Valuation → List CompiledLeft → List Depths → Type 0
 AreDepthsOfLefts g v ls ds = map depths_view ds ≡ map (λ l. depths_in g (left_value v (left_view l))) ls
+
+-- the places of the variables of left terms, from the left
+abbrev pub places_of_lefts : List CompiledLeft → List Place
+places_of_lefts ls = joined (map left_places ls)
+
+-- the value is that of the term
+abbrev pub IsTermValue : Valuation → CompiledTerm → Value → Type 0
+IsTermValue v t u = value_view u ≡ term_value v (term_view t)
 
 -- the values are those of the terms, one by one
 abbrev pub AreTermValues : Valuation → List CompiledTerm → List Value → Type 0

@@ -1,12 +1,10 @@
 // The depths of what a left term's variables are bound to, found in those of the value that it matches.
-ghost use Rattle.std.specs.Prelude.{◌≡◌, IfOk, List, [], map, true};
+ghost use Rattle.std.specs.Prelude.{◌≡◌, IfOk, List, [], true};
 ghost use Rattle.kp_kore.specs.Signature.{KoreSignature};
 ghost use Rattle.kp_kore.specs.Syntax.{Text};
 ghost use Rattle.kp_kore.specs.Instance.{Valuation};
-ghost use Rattle.kp_ground.specs.LeftView.{left_view};
-ghost use Rattle.kp_ground.specs.Slots.{is_numbered, joined, left_places, left_variables, names_after, stands_at, with_name};
-ghost use Rattle.kp_ground.specs.Terms.{left_value};
-ghost use Rattle.kp_depths.specs.View.{AreDepthsOf, AreDepthsUnder, AreDepthsOfLefts};
+ghost use Rattle.kp_ground.specs.Slots.{is_numbered, left_places, left_variables, names_after, stands_at, with_name};
+ghost use Rattle.kp_depths.specs.View.{AreDepthsOf, AreDepthsOfLeft, AreDepthsUnder, AreDepthsOfLefts, places_of_lefts};
 
 use crate::depths::Depths;
 use kp_ground::CompiledLeft;
@@ -18,7 +16,7 @@ pub fn bound_depths(
     left: &CompiledLeft,
     depths: &Depths,
 ) -> Result<Vec<Depths>, AllocError>
-    ensures { IfOk result (λ bound. (g : KoreSignature) (v : Valuation) → is_numbered [] (left_places left.now) ≡ true → AreDepthsOf g (left_value v (left_view left.now)) depths.now → AreDepthsUnder g v (left_variables left.now) bound.items) }
+    ensures { let names = left_variables left.now in IfOk result (λ bound. (g : KoreSignature) (v : Valuation) → is_numbered [] (left_places left.now) ≡ true → AreDepthsOfLeft g v left.now depths.now → AreDepthsUnder g v names bound.items) }
 {
     bound_with(left, depths, Vec::new(alloc))
 }
@@ -30,7 +28,7 @@ fn bound_with(
     depths: &Depths,
     bound: Vec<Depths>,
 ) -> Result<Vec<Depths>, AllocError>
-    ensures { IfOk result (λ more. (g : KoreSignature) (v : Valuation) (xs : List Text) → AreDepthsUnder g v xs bound.items → is_numbered xs (left_places left.now) ≡ true → AreDepthsOf g (left_value v (left_view left.now)) depths.now → AreDepthsUnder g v (names_after xs (left_places left.now)) more.items) }
+    ensures { let places = left_places left.now in IfOk result (λ more. (g : KoreSignature) (v : Valuation) (xs : List Text) → AreDepthsUnder g v xs bound.items → is_numbered xs places ≡ true → AreDepthsOfLeft g v left.now depths.now → AreDepthsUnder g v (names_after xs places) more.items) }
 {
     match left {
         CompiledLeft::Variable { slot, .. } => with_slot(*slot, depths, bound),
@@ -49,7 +47,7 @@ fn bound_with_all(
     parts: &[Depths],
     mut bound: Vec<Depths>,
 ) -> Result<Vec<Depths>, AllocError>
-    ensures { IfOk result (λ more. (g : KoreSignature) (v : Valuation) (xs : List Text) → AreDepthsUnder g v xs bound.items → is_numbered xs (joined (map left_places lefts.now)) ≡ true → AreDepthsOfLefts g v lefts.now parts.now → AreDepthsUnder g v (names_after xs (joined (map left_places lefts.now))) more.items) }
+    ensures { let places = places_of_lefts lefts.now in IfOk result (λ more. (g : KoreSignature) (v : Valuation) (xs : List Text) → AreDepthsUnder g v xs bound.items → is_numbered xs places ≡ true → AreDepthsOfLefts g v lefts.now parts.now → AreDepthsUnder g v (names_after xs places) more.items) }
 {
     for i in 0..lefts.len().min(parts.len()) {
         bound = bound_with(&lefts[i], &parts[i], bound)?;
@@ -63,7 +61,7 @@ fn with_slot(
     depths: &Depths,
     mut bound: Vec<Depths>,
 ) -> Result<Vec<Depths>, AllocError>
-    ensures { IfOk result (λ more. (g : KoreSignature) (v : Valuation) (xs : List Text) (x : Text) → AreDepthsUnder g v xs bound.items → stands_at (with_name xs x) x slot ≡ true → AreDepthsOf g (v x) depths.now → AreDepthsUnder g v (with_name xs x) more.items) }
+    ensures { IfOk result (λ more. (g : KoreSignature) (v : Valuation) (xs : List Text) (x : Text) → let names = with_name xs x in AreDepthsUnder g v xs bound.items → stands_at names x slot ≡ true → AreDepthsOf g (v x) depths.now → AreDepthsUnder g v names more.items) }
 {
     if slot < bound.len() {
         return Ok(bound);

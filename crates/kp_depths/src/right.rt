@@ -5,10 +5,8 @@ ghost use Rattle.kp_kore.specs.Syntax.{Text};
 ghost use Rattle.kp_signature.specs.View.{signature_view};
 ghost use Rattle.kp_kore.specs.Instance.{Valuation};
 ghost use Rattle.kp_ground.specs.Slots.{stands_at, term_reads};
-ghost use Rattle.kp_ground.specs.Terms.{term_value};
-ghost use Rattle.kp_ground.specs.TermView.{term_view};
 ghost use Rattle.kp_ground.specs.View.{value_view};
-ghost use Rattle.kp_depths.specs.View.{AreDepthsOf, AreDepthsOfAll, AreDepthsUnder, AreTermValues};
+ghost use Rattle.kp_depths.specs.View.{AreDepthsOf, AreDepthsOfAll, AreDepthsUnder, AreTermValues, IsTermValue};
 
 use crate::built::built;
 use crate::depths::Depths;
@@ -26,7 +24,7 @@ pub fn right_depths(
     signature: &Signature,
     bound: &[Depths],
 ) -> Result<Depths, AllocError>
-    ensures { let g = signature_view signature.now in let value' = value_view value.now in IfOk result (λ d. (v : Valuation) (xs : List Text) → AreDepthsUnder g v xs bound.now → term_reads xs term.now ≡ true → value' ≡ term_value v (term_view term.now) → AreDepthsOf g value' d) }
+    ensures { let g = signature_view signature.now in let value' = value_view value.now in IfOk result (λ d. (v : Valuation) (xs : List Text) → AreDepthsUnder g v xs bound.now → term_reads xs term.now ≡ true → IsTermValue v term.now value.now → AreDepthsOf g value' d) }
 {
     match term {
         CompiledTerm::Variable { slot, .. } => depths_at(value, alloc, signature, *slot, bound),

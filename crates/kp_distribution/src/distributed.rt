@@ -179,7 +179,7 @@ pub fn agreement_of(
     second: &Distributed,
     not_second: &Distributed,
 ) -> Result<Distributed, AllocError>
-    ensures { IfOk result (λ d. distributed_view d ≡ model.agreement_of (distributed_view first.now) (distributed_view not_first.now) (distributed_view second.now) (distributed_view not_second.now)) }
+    ensures { let agreed = model.agreement_of (distributed_view first.now) (distributed_view not_first.now) (distributed_view second.now) (distributed_view not_second.now) in IfOk result (λ d. distributed_view d ≡ agreed) }
 {
     let forwards = one_of_two(alloc, not_first, second)?;
     let backwards = one_of_two(alloc, first, not_second)?;

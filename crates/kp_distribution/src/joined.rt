@@ -74,7 +74,7 @@ fn add_others(
     first: &[Literal],
     second: &[Literal],
 ) -> Result<(), AllocError>
-    ensures { OnOk result (map literal_view found.new.items ≡ map literal_view found.old.items ++ filter (λ l. not (list_any (literals_same l) (map literal_view first.now))) (map literal_view second.now)) }
+    ensures { let first' = map literal_view first.now in let others = filter (λ l. not (list_any (literals_same l) first')) (map literal_view second.now) in OnOk result (map literal_view found.new.items ≡ map literal_view found.old.items ++ others) }
 {
     for literal in second {
         if !is_among(literal, first) {

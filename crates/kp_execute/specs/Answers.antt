@@ -94,6 +94,10 @@ abbrev pub IsRightAnswer : Theory → Options → KorePattern → RunAnswer → 
 IsRightAnswer t o request (executed x) = IsEndedRun t o request x
 IsRightAnswer t o request (left_open d x u) = IsOpenRun t o request d x u
 
+-- the answer, as it is seen, is a right one
+abbrev pub AnswersRight : Theory → Options → KorePattern → Answer → Type 0
+AnswersRight t o request a = IsRightAnswer t o request (answer_view a)
+
 -- ---- refusals
 
 -- T1 and T2 tell the first thing that has no place in a state; the signature has no inj for what would be written; a step is

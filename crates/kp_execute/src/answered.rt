@@ -10,7 +10,7 @@ ghost use Rattle.kp_symbolic.specs.Languages.{language_view};
 ghost use Rattle.kp_symbolic.specs.View.{state_view};
 ghost use Rattle.kp_step.specs.Outcomes.{IsRightStep};
 ghost use Rattle.kp_step.specs.declared.outcome.StepOutcome.TheVariants.{Foreign};
-ghost use Rattle.kp_execute.specs.Answers.{IsOpenBy, IsRightAnswer, aborted_with, answer_view};
+ghost use Rattle.kp_execute.specs.Answers.{AnswersRight, IsOpenBy, aborted_with, answer_view};
 ghost use Rattle.kp_execute.specs.Known.{EndsOpen, EndsWith, IsRunOf};
 ghost use Rattle.kp_execute.specs.Wants.{EndWants, RunWants, StepWants};
 ghost use Rattle.kp_execute.specs.Written.{IsStateWritten};
@@ -53,7 +53,8 @@ fn by_foreign(
     state: ReplyState,
     place: usize,
 ) -> Result<Answer, WritingError>
-    ensures answered { (t : Theory) (o : model.Options) (p : KorePattern) → RunsAs t rules.now → EndsOpen t o p run.now (parts_view state) (Foreign place) → IfOk result (λ a. IsRightAnswer t o p (answer_view a)) }
+    ensures answered { let state' = parts_view state in
+        (t : Theory) (o : model.Options) (p : KorePattern) → RunsAs t rules.now → EndsOpen t o p run.now state' (Foreign place) → IfOk result (AnswersRight t o p) }
     ensures refused { IfErr result (λ e. ¬ IsNoInjection e) }
 {
     match id_at(alloc, rules, place) {
@@ -94,7 +95,8 @@ fn left_open(
     state: ReplyState,
     why: &StepOutcome,
 ) -> Result<Answer, WritingError>
-    ensures answered { (t : Theory) (o : model.Options) (p : KorePattern) → language_view language.now ≡ t.signature → EndsOpen t o p run.now (parts_view state) why.now → IfOk result (λ a. IsRightAnswer t o p (answer_view a)) }
+    ensures answered { let g = language_view language.now in let state' = parts_view state in
+        (t : Theory) (o : model.Options) (p : KorePattern) → g ≡ t.signature → EndsOpen t o p run.now state' why.now → IfOk result (AnswersRight t o p) }
     ensures wants { IfErr result (λ e. IsNoInjection e → StepWants (language_view language.now) (state_view run.now.state).sort why.now) }
 {
     match undecided_of(alloc, language, run, why) {
@@ -116,7 +118,8 @@ fn by_cause(
     state: ReplyState,
     why: &StepOutcome,
 ) -> Result<Answer, WritingError>
-    ensures answered { (t : Theory) (o : model.Options) (p : KorePattern) → RunsAs t rules.now → language_view language.now ≡ t.signature → EndsOpen t o p run.now (parts_view state) why.now → IfOk result (λ a. IsRightAnswer t o p (answer_view a)) }
+    ensures answered { let g = language_view language.now in let state' = parts_view state in
+        (t : Theory) (o : model.Options) (p : KorePattern) → RunsAs t rules.now → g ≡ t.signature → EndsOpen t o p run.now state' why.now → IfOk result (AnswersRight t o p) }
     ensures wants { IfErr result (λ e. IsNoInjection e → StepWants (language_view language.now) (state_view run.now.state).sort why.now) }
 {
     match why {
@@ -137,8 +140,9 @@ fn open_end(
     run: &Run,
     state: ReplyState,
 ) -> Result<Answer, WritingError>
-    ensures answered { (t : Theory) (o : model.Options) (p : KorePattern) → RunsAs t rules.now → language_view language.now ≡ t.signature → IsRunOf t o p run.now → IsStateWritten t.signature (state_view run.now.state) (parts_view state) →
-        IfOk result (λ a. IsRightAnswer t o p (answer_view a)) }
+    ensures answered { let s = state_view run.now.state in
+        (t : Theory) (o : model.Options) (p : KorePattern) → RunsAs t rules.now → language_view language.now ≡ t.signature → IsRunOf t o p run.now → IsStateWritten t.signature s (parts_view state) →
+        IfOk result (AnswersRight t o p) }
     ensures wants { IfErr result (λ e. IsNoInjection e → EndWants (language_view language.now) (state_view run.now.state).sort run.now.ending) }
 {
     if !is_state_computed(alloc, language.signature, &state) {
@@ -153,7 +157,8 @@ fn open_end(
 /// The answer of a run that is written so, if no open call stands in what is written for its last state: else want of memory is
 /// told.
 fn ended(alloc: Global, language: &Language, executed: Executed) -> Result<Answer, WritingError>
-    ensures answered { (t : Theory) (o : model.Options) (p : KorePattern) → language_view language.now ≡ t.signature → EndsWith t o p (executed_view executed) → IfOk result (λ a. IsRightAnswer t o p (answer_view a)) }
+    ensures answered { let g = language_view language.now in
+        (t : Theory) (o : model.Options) (p : KorePattern) → g ≡ t.signature → EndsWith t o p (executed_view executed) → IfOk result (AnswersRight t o p) }
     ensures refused { IfErr result (λ e. ¬ IsNoInjection e) }
 {
     if !is_state_computed(alloc, language.signature, &executed.state) {
@@ -173,7 +178,8 @@ pub fn answer_of(
     rules: &RuleSet,
     run: &Run,
 ) -> Result<Answer, WritingError>
-    ensures answered { (t : Theory) (o : model.Options) (p : KorePattern) → RunsAs t rules.now → language_view language.now ≡ t.signature → IsRunOf t o p run.now → IfOk result (λ a. IsRightAnswer t o p (answer_view a)) }
+    ensures answered { let g = language_view language.now in
+        (t : Theory) (o : model.Options) (p : KorePattern) → RunsAs t rules.now → g ≡ t.signature → IsRunOf t o p run.now → IfOk result (AnswersRight t o p) }
     ensures wants { IfErr result (λ e. IsNoInjection e → RunWants (language_view language.now) run.now) }
 {
     if !is_end_right(alloc, language, &run.ending) {

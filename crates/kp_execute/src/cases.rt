@@ -120,7 +120,8 @@ pub fn case_parts(
     nexts: &[Next],
     remainder: &[Part],
 ) -> Result<Vec<NextState>, WritingError>
-    ensures written { (t : Theory) → RunsAs t rules.now → language_view language.now ≡ t.signature → IfOk result (λ xs. AreCasesWritten t nexts.now remainder.now (nexts_view xs.items)) }
+    ensures written { let g = language_view language.now in
+        (t : Theory) → RunsAs t rules.now → g ≡ t.signature → IfOk result (λ xs. AreCasesWritten t nexts.now remainder.now (nexts_view xs.items)) }
     ensures wants { IfErr result (λ e. IsNoInjection e → CasesWant (language_view language.now) nexts.now remainder.now) }
 {
     let mut found = all_next_parts(alloc, language, rules, nexts)?;

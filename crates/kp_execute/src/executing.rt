@@ -18,7 +18,7 @@ ghost use Rattle.kp_signature.specs.View.{signature_view};
 ghost use Rattle.kp_symbolic.specs.Languages.{language_view};
 ghost use Rattle.kp_symbolic.specs.View.{state_view};
 ghost use Rattle.kp_unify.specs.Views.{signature_of};
-ghost use Rattle.kp_execute.specs.Answers.{IsRightAnswer, IsUnexecuted, answer_view};
+ghost use Rattle.kp_execute.specs.Answers.{AnswersRight, IsUnexecuted};
 ghost use Rattle.kp_execute.specs.Known.{Begins, IsRunOf};
 ghost use Rattle.kp_execute.specs.Told.{IsReadRight};
 ghost use Rattle.kp_execute.specs.Wants.{LacksInjection, RunWants, TellsNoInjection};
@@ -115,7 +115,8 @@ fn answered(
     rules: &RuleSet,
     run: &Run,
 ) -> Result<Answer, ExecuteError>
-    ensures found { (t : Theory) (o : model.Options) (p : KorePattern) → RunsAs t rules.now → language_view language.now ≡ t.signature → IsRunOf t o p run.now → IfOk result (λ a. IsRightAnswer t o p (answer_view a)) }
+    ensures found { let g = language_view language.now in
+        (t : Theory) (o : model.Options) (p : KorePattern) → RunsAs t rules.now → g ≡ t.signature → IsRunOf t o p run.now → IfOk result (AnswersRight t o p) }
     ensures refused { (p : KorePattern) → IfErr result (IsUnexecuted (language_view language.now) p) }
     ensures wants { IfErr result (λ e. TellsNoInjection e → RunWants (language_view language.now) run.now) }
 {
@@ -134,9 +135,11 @@ fn by_run(
     options: &Options,
 ) -> Result<Answer, ExecuteError>
     requires { IsHeadTableOf (signature_of setting) setting.table.now }
-    ensures found { (t : Theory) (p : KorePattern) → Begins t p (state_view state) setting.entry rules.now → IfOk result (λ a. IsRightAnswer t (options_view options.now) p (answer_view a)) }
+    ensures found { let options' = options_view options.now in
+        (t : Theory) (p : KorePattern) → Begins t p (state_view state) setting.entry rules.now → IfOk result (AnswersRight t options' p) }
     ensures refused { (p : KorePattern) → IfErr result (IsUnexecuted (signature_of setting.entry) p) }
-    ensures wants { (t : Theory) (p : KorePattern) → Begins t p (state_view state) setting.entry rules.now → IfErr result (λ e. TellsNoInjection e → LacksInjection t (options_view options.now) p) }
+    ensures wants { let options' = options_view options.now in
+        (t : Theory) (p : KorePattern) → Begins t p (state_view state) setting.entry rules.now → IfErr result (λ e. TellsNoInjection e → LacksInjection t options' p) }
 {
     if !have_own_ids(alloc, rules)? {
         return Err(ExecuteError::Memory);
@@ -159,7 +162,7 @@ fn executed(
 ) -> Result<Answer, ExecuteError>
     requires { IsHeadTableOf (language_view language.now) table.now }
     ensures found { (t : Theory) → let p = view pattern.now in RunsAs t rules.now → language_view language.now ≡ t.signature → IsReadRight t.signature p (state_view state) →
-        IfOk result (λ a. IsRightAnswer t (options_view options.now) p (answer_view a)) }
+        IfOk result (AnswersRight t (options_view options.now) p) }
     ensures refused { (p : KorePattern) → IfErr result (IsUnexecuted (language_view language.now) p) }
     ensures wants { (t : Theory) → let p = view pattern.now in RunsAs t rules.now → language_view language.now ≡ t.signature → IsReadRight t.signature p (state_view state) →
         IfErr result (λ e. TellsNoInjection e → LacksInjection t (options_view options.now) p) }
@@ -190,7 +193,7 @@ pub fn execute(
 ) -> Result<Answer, ExecuteError>
     requires { IsHeadTableOf (language_view language.now) table.now }
     ensures found { (t : Theory) → let p = view pattern.now in RunsAs t rules.now → language_view language.now ≡ t.signature → VerifiesAs t.signature p (sort_view sort) →
-        IfOk result (λ a. IsRightAnswer t (options_view options.now) p (answer_view a)) }
+        IfOk result (AnswersRight t (options_view options.now) p) }
     ensures clear { OnOk result (state_fault (language_view language.now) (view pattern.now) ≡ None) }
     ensures refused { IfErr result (IsUnexecuted (language_view language.now) (view pattern.now)) }
     ensures wants { (t : Theory) → let p = view pattern.now in RunsAs t rules.now → language_view language.now ≡ t.signature → VerifiesAs t.signature p (sort_view sort) →

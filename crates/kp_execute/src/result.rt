@@ -59,7 +59,8 @@ fn branching(
     nexts: &[Next],
     remainder: &[Part],
 ) -> Result<End, WritingError>
-    ensures written { (t : Theory) → RunsAs t rules.now → language_view language.now ≡ t.signature →
+    ensures written { let g = language_view language.now in
+        (t : Theory) → RunsAs t rules.now → g ≡ t.signature →
         IfOk result (λ e. (reason_view e.reason ≡ parts.branching) × AreCasesWritten t nexts.now remainder.now (nexts_view e.nexts.items)) }
     ensures wants { IfErr result (λ e. IsNoInjection e → CasesWant (language_view language.now) nexts.now remainder.now) }
 {
@@ -77,7 +78,8 @@ fn cut_point(
     rules: &RuleSet,
     next: &Next,
 ) -> Result<End, WritingError>
-    ensures written { (t : Theory) → RunsAs t rules.now → language_view language.now ≡ t.signature → IfOk result (λ e. IsCutWritten t next.now (reason_view e.reason) (nexts_view e.nexts.items)) }
+    ensures written { let g = language_view language.now in
+        (t : Theory) → RunsAs t rules.now → g ≡ t.signature → IfOk result (λ e. IsCutWritten t next.now (reason_view e.reason) (nexts_view e.nexts.items)) }
     ensures wants { IfErr result (λ e. IsNoInjection e → NextWants (language_view language.now) next.now) }
 {
     let rule = id_at(alloc, rules, next.rule)?;
@@ -152,7 +154,8 @@ fn result_of(
     end: End,
 ) -> Result<Executed, WritingError>
     ensures same { IfOk result (λ x. executed_view x ≡ result_with depth (parts_view written) (reason_view end.reason) (nexts_view end.nexts.items)) }
-    ensures none_lost { OnOk result (list_all (mentions_none_lost (variables_view state.now.variables.items) (parts_variables (parts_view written))) (nexts_view end.nexts.items) ≡ true) }
+    ensures none_lost { let hand = variables_view state.now.variables.items in let shown = parts_variables (parts_view written) in
+        OnOk result (list_all (mentions_none_lost hand shown) (nexts_view end.nexts.items) ≡ true) }
     ensures shown { OnOk result (IsShown (parts_view written).predicate) }
     ensures refused { IfErr result (λ e. ¬ IsNoInjection e) }
 {

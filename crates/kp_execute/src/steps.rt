@@ -43,7 +43,8 @@ pub enum Onward {
 
 /// What one next state alone means: a rule that is one to stop before and behind is one to stop before.
 fn by_one(rules: &RuleSet, options: &Options, next: Next) -> Onward
-    ensures { (t : Theory) (used : List Text) (s : SymbolicState) → RunsAs t rules.now → AreCasesOf t used s (next ∷ []) [] → IsRightOnward t (options_view options.now) used s result }
+    ensures { let options' = options_view options.now in
+        (t : Theory) (used : List Text) (s : SymbolicState) → RunsAs t rules.now → AreCasesOf t used s (next ∷ []) [] → IsRightOnward t options' used s result }
 {
     if is_listed(rules, &options.cut_points, next.rule) {
         return Onward::Ends {
@@ -65,7 +66,8 @@ fn by_one(rules: &RuleSet, options: &Options, next: Next) -> Onward
 
 /// How a run ends where parts remain in which no rule fires.
 fn with_remainder(nexts: Vec<Next>, remainder: Vec<Part>) -> Ending
-    ensures { (t : Theory) (o : model.Options) (used : List Text) (s : SymbolicState) → AreCasesOf t used s nexts.items remainder.items → ¬ (remainder.items ≡ []) → IsEndOfStep t o used s result }
+    ensures { let the_rest = remainder.items in
+        (t : Theory) (o : model.Options) (used : List Text) (s : SymbolicState) → AreCasesOf t used s nexts.items the_rest → ¬ (the_rest ≡ []) → IsEndOfStep t o used s result }
 {
     if nexts.is_empty() {
         return Ending::Stuck { remainder };
@@ -89,7 +91,8 @@ fn are_of_two(nexts: &[Next]) -> bool
 /// What several next states mean beside which nothing remains. They come by turn, and one rule alone has one part: were they not
 /// of two rules, want of memory would be told.
 fn by_several(nexts: Vec<Next>, remainder: Vec<Part>) -> Result<Onward, AllocError>
-    ensures { (t : Theory) (o : model.Options) (used : List Text) (s : SymbolicState) → AreCasesOf t used s nexts.items remainder.items → remainder.items ≡ [] → IfOk result (IsRightOnward t o used s) }
+    ensures { let the_rest = remainder.items in
+        (t : Theory) (o : model.Options) (used : List Text) (s : SymbolicState) → AreCasesOf t used s nexts.items the_rest → the_rest ≡ [] → IfOk result (IsRightOnward t o used s) }
 {
     if !are_of_two(&nexts) {
         return Err(AllocError);
@@ -101,7 +104,8 @@ fn by_several(nexts: Vec<Next>, remainder: Vec<Part>) -> Result<Onward, AllocErr
 
 /// What at most one next state means beside which nothing remains. Where there is none, the state has no instance.
 fn by_at_most_one(rules: &RuleSet, options: &Options, nexts: Vec<Next>) -> Onward
-    ensures { (t : Theory) (used : List Text) (s : SymbolicState) → RunsAs t rules.now → AreCasesOf t used s nexts.items [] → length nexts.items ≤ 1 → IsRightOnward t (options_view options.now) used s result }
+    ensures { let options' = options_view options.now in let next_states = nexts.items in
+        (t : Theory) (used : List Text) (s : SymbolicState) → RunsAs t rules.now → AreCasesOf t used s next_states [] → length next_states ≤ 1 → IsRightOnward t options' used s result }
 {
     let mut nexts = nexts;
     match nexts.pop() {
@@ -119,7 +123,8 @@ fn by_cases(
     nexts: Vec<Next>,
     remainder: Vec<Part>,
 ) -> Result<Onward, AllocError>
-    ensures { (t : Theory) (used : List Text) (s : SymbolicState) → RunsAs t rules.now → AreCasesOf t used s nexts.items remainder.items → IfOk result (IsRightOnward t (options_view options.now) used s) }
+    ensures { let options' = options_view options.now in
+        (t : Theory) (used : List Text) (s : SymbolicState) → RunsAs t rules.now → AreCasesOf t used s nexts.items remainder.items → IfOk result (IsRightOnward t options' used s) }
 {
     if !remainder.is_empty() {
         return Ok(Onward::Ends {
@@ -138,7 +143,8 @@ fn by_outcome(
     options: &Options,
     outcome: StepOutcome,
 ) -> Result<Onward, AllocError>
-    ensures { (t : Theory) (used : List Text) (s : SymbolicState) → RunsAs t rules.now → IsRightStep t used s outcome → IfOk result (IsRightOnward t (options_view options.now) used s) }
+    ensures { let options' = options_view options.now in
+        (t : Theory) (used : List Text) (s : SymbolicState) → RunsAs t rules.now → IsRightStep t used s outcome → IfOk result (IsRightOnward t options' used s) }
 {
     match outcome {
         StepOutcome::Empty => Ok(Onward::Ends {

@@ -1,8 +1,9 @@
 -- Which reply to execute is right over the rules of a module: what is read of its state is a pattern, or its tree's first
 -- fault.
 -- Source: the K Haskell backend's JSON-RPC documentation (execute, its codes).
-use Rattle.std.specs.Prelude.{◌≡◌, ◌≢◌, Option, Some, None}
+use Rattle.std.specs.Prelude.{◌≡◌, ◌≢◌, ℕ, Option, Some, None, Vec}
 use Rattle.std.specs.Option.{option_map}
+use Rattle.std.specs.declared.alloc.Global.{Global}
 use Rattle.serde_json.specs.Data.{Data}
 use Rattle.kp_kore.specs.Syntax.{Text, KoreSort, KorePattern}
 use Rattle.kp_kore.specs.Signature.{injection, meaning_of}
@@ -20,7 +21,7 @@ use Rattle.kp_replies.specs.Written.{executed_tree}
 use Rattle.kp_server.specs.Normal.{IsNormal, TellsFirst}
 use Rattle.kp_server.specs.Right.{IsTold}
 use Rattle.kp_server.specs.Setting.{Setting}
-use Rattle.kp_simplify_reply.specs.Answered.{IsFirstFault}
+use Rattle.kp_simplify_reply.specs.Answered.{IsFirstFault, IsReplyLine}
 use Rattle.kp_execute.specs.Answers.{RunAnswer, executed, left_open, IsRightAnswer}
 use Rattle.kp_execute.specs.Wants.{LacksInjection}
 
@@ -64,3 +65,17 @@ pub data IsExecutedAs (s : Setting) (id : RequestId) (options : ExecuteOptions) 
   unread : (f : TreeFault) → IsExecutedAs s id options (fault f) (error_reply id (no_pattern f))
   faulty : (p : KorePattern) (f : PatternRefusal) → IsFirstFault s.theory.signature p f → IsExecutedAs s id options (read p) (error_reply id (not_verified f))
   understood : (p : KorePattern) (sort : KoreSort) (reply : Data) → VerifiesAs s.theory.signature p sort → IsUnderstoodAs s id options p reply → IsExecutedAs s id options (read p) reply
+
+-- ---- lines
+
+-- the line is that of a reply that is right for what was read of a state
+abbrev pub IsExecutedLine : Setting → RequestId → ExecuteOptions → Reading KorePattern → Vec ℕ Global → Type 0
+IsExecutedLine s id options state line = IsReplyLine (IsExecutedAs s id options state) line.items
+
+-- the same of a pattern that verifies
+abbrev pub IsUnderstoodLine : Setting → RequestId → ExecuteOptions → KorePattern → Vec ℕ Global → Type 0
+IsUnderstoodLine s id options p line = IsReplyLine (IsUnderstoodAs s id options p) line.items
+
+-- the same of a pattern whose run goes from one ground value to the next
+abbrev pub IsGroundLine : Setting → RequestId → ExecuteOptions → KorePattern → Vec ℕ Global → Type 0
+IsGroundLine s id options p line = IsReplyLine (IsExecuted s (record { id = id; state = p; options = options })) line.items

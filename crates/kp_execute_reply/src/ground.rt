@@ -11,8 +11,7 @@ ghost use Rattle.kp_rule_sets.specs.RuleSets.{RunsAs};
 ghost use Rattle.kp_server.specs.Ends.{result_of as end_result};
 ghost use Rattle.kp_server.specs.Setting.{IsElsewhere, Setting};
 ghost use Rattle.kp_signature.specs.Verify.{VerifiesAs};
-ghost use Rattle.kp_simplify_reply.specs.Answered.{IsReplyLine};
-ghost use Rattle.kp_execute_reply.specs.Answered.{IsExecuted};
+ghost use Rattle.kp_execute_reply.specs.Answered.{IsGroundLine};
 ghost use Rattle.kp_execute_reply.specs.Ground.{IsEndOf, IsStateOf, ListsNone};
 
 use kp_compile::{GroundState, SpellingError, StateError, spelled, state_of};
@@ -95,8 +94,8 @@ fn end_line(
     id: &Id,
     end: &RunEnd,
 ) -> Result<Option<Vec<u8>>, AllocError>
-    ensures { (s : Setting) (options : RequestOptions) (p : KorePattern) → RunsAs s.theory rules.now → ¬ IsElsewhere s.main options.module_name → IsEndOf s.theory options p end.now →
-        IfOk result (λ found. IfSome found (λ line. IsReplyLine (IsExecuted s (record { id = id_view id.now; state = p; options = options })) line.items)) }
+    ensures { (s : Setting) (options : RequestOptions) (p : KorePattern) → let t = s.theory in RunsAs t rules.now → ¬ IsElsewhere s.main options.module_name → IsEndOf t options p end.now →
+        IfOk result (λ found. IfSome found (IsGroundLine s (id_view id.now) options p)) }
 {
     match spelled(alloc, &rules.signature, &end.state.value, &end.state.sort) {
         Ok(term) => written_line(alloc, id, end, term),
@@ -115,8 +114,9 @@ pub fn ground_line(
     sort: Sort,
     options: &ExecuteOptions,
 ) -> Result<Option<Vec<u8>>, AllocError>
-    ensures { (s : Setting) → RunsAs s.theory rules.now → ¬ IsElsewhere s.main (options_view options.now).module_name → VerifiesAs s.theory.signature (view pattern.now) (sort_view sort) →
-        IfOk result (λ found. IfSome found (λ line. IsReplyLine (IsExecuted s (record { id = id_view id.now; state = view pattern.now; options = options_view options.now })) line.items)) }
+    ensures { let options' = options_view options.now in let pattern' = view pattern.now in
+        (s : Setting) → RunsAs s.theory rules.now → ¬ IsElsewhere s.main options'.module_name → VerifiesAs s.theory.signature pattern' (sort_view sort) →
+        IfOk result (λ found. IfSome found (IsGroundLine s (id_view id.now) options' pattern')) }
 {
     match end_of(alloc, rules, pattern, sort, options)? {
         Some(end) => end_line(alloc, rules, id, &end),

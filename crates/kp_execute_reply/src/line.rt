@@ -7,9 +7,8 @@ ghost use Rattle.kp_rpc.specs.View.{id_view, options_view};
 ghost use Rattle.kp_rule_sets.specs.RuleSets.{RunsAs};
 ghost use Rattle.kp_server.specs.Setting.{IsElsewhere, Setting};
 ghost use Rattle.kp_signature.specs.Verify.{VerifiesAs};
-ghost use Rattle.kp_simplify_reply.specs.Answered.{IsReplyLine};
 ghost use Rattle.kp_simplify_reply.specs.Prepared.{IsPrepared, signature_in};
-ghost use Rattle.kp_execute_reply.specs.Answered.{IsExecutedAs, IsUnderstoodAs};
+ghost use Rattle.kp_execute_reply.specs.Answered.{IsExecutedLine, IsUnderstoodLine};
 
 use crate::ground::ground_line;
 use crate::symbolic::symbolic_line;
@@ -37,7 +36,7 @@ pub fn executed_line(
     requires { IsPrepared prepared.now }
     ensures { let options' = options_view options in
         (s : Setting) → RunsAs s.theory rules.now → signature_in prepared.now ≡ s.theory.signature → ¬ IsElsewhere s.main options'.module_name →
-        IfOk result (λ line. IsReplyLine (IsExecutedAs s (id_view id.now) options' (reading_view state)) line.items) }
+        IfOk result (IsExecutedLine s (id_view id.now) options' (reading_view state)) }
 {
     match state {
         Reading::Pattern(pattern) => pattern_line(alloc, prepared, rules, id, &pattern, options),
@@ -57,7 +56,7 @@ fn pattern_line(
     requires { IsPrepared prepared.now }
     ensures { let options' = options_view options in
         (s : Setting) → RunsAs s.theory rules.now → signature_in prepared.now ≡ s.theory.signature → ¬ IsElsewhere s.main options'.module_name →
-        IfOk result (λ line. IsReplyLine (IsExecutedAs s (id_view id.now) options' (faults.read (view pattern.now))) line.items) }
+        IfOk result (IsExecutedLine s (id_view id.now) options' (faults.read (view pattern.now))) }
 {
     match verify(alloc, &rules.signature, pattern) {
         Ok(sort) => verified_line(alloc, prepared, rules, id, pattern, sort, options),
@@ -78,7 +77,7 @@ fn verified_line(
     requires { IsPrepared prepared.now }
     ensures { let options' = options_view options in let pattern' = view pattern.now in
         (s : Setting) → RunsAs s.theory rules.now → signature_in prepared.now ≡ s.theory.signature → ¬ IsElsewhere s.main options'.module_name → VerifiesAs s.theory.signature pattern' (sort_view sort) →
-        IfOk result (λ line. IsReplyLine (IsUnderstoodAs s (id_view id.now) options' pattern') line.items) }
+        IfOk result (IsUnderstoodLine s (id_view id.now) options' pattern') }
 {
     let own = sort.copy(alloc)?;
     match ground_line(alloc, rules, id, pattern, own, &options)? {

@@ -14,11 +14,10 @@ ghost use Rattle.kp_rule_sets.specs.RuleSets.{RunsAs};
 ghost use Rattle.kp_server.specs.Setting.{Setting};
 ghost use Rattle.kp_signature.specs.Verify.{VerifiesAs};
 ghost use Rattle.kp_symbolic.specs.Languages.{language_view};
-ghost use Rattle.kp_simplify_reply.specs.Answered.{IsReplyLine};
 ghost use Rattle.kp_simplify_reply.specs.Prepared.{IsPrepared, signature_in};
 ghost use Rattle.kp_execute.specs.Answers.{IsRightAnswer, IsUnexecuted, answer_view};
 ghost use Rattle.kp_execute.specs.Wants.{LacksInjection, TellsNoInjection};
-ghost use Rattle.kp_execute_reply.specs.Answered.{IsUnderstoodAs, reply_of};
+ghost use Rattle.kp_execute_reply.specs.Answered.{IsUnderstoodLine, reply_of};
 ghost use Rattle.kp_execute_reply.specs.Lines.{IsLineOf, or_t2};
 
 use kp_execute::{Answer, ExecuteError, execute};
@@ -70,8 +69,8 @@ fn line_of(alloc: Global, id: &Id, answer: &Answer) -> Result<Option<Vec<u8>>, A
 
 /// The line that tells an answer; T2 where no reply tells it.
 fn answer_line(alloc: Global, id: &Id, answer: &Answer) -> Result<Vec<u8>, AllocError>
-    ensures { (s : Setting) (options : RequestOptions) (p : KorePattern) → state_fault s.theory.signature p ≡ None → IsRightAnswer s.theory (asked_options options) p (answer_view answer.now) →
-        IfOk result (λ line. IsReplyLine (IsUnderstoodAs s (id_view id.now) options p) line.items) }
+    ensures { (s : Setting) (options : RequestOptions) (p : KorePattern) → let t = s.theory in state_fault t.signature p ≡ None → IsRightAnswer t (asked_options options) p (answer_view answer.now) →
+        IfOk result (IsUnderstoodLine s (id_view id.now) options p) }
 {
     let line = line_of(alloc, id, answer)?;
     line_or_fault(alloc, id, line)
@@ -79,8 +78,8 @@ fn answer_line(alloc: Global, id: &Id, answer: &Answer) -> Result<Vec<u8>, Alloc
 
 /// The line that tells why a pattern isn't executed.
 fn refused_line(alloc: Global, id: &Id, error: ExecuteError) -> Result<Vec<u8>, AllocError>
-    ensures { (s : Setting) (options : RequestOptions) (p : KorePattern) → IsUnexecuted s.theory.signature p error → (TellsNoInjection error → LacksInjection s.theory (asked_options options) p) →
-        IfOk result (λ line. IsReplyLine (IsUnderstoodAs s (id_view id.now) options p) line.items) }
+    ensures { (s : Setting) (options : RequestOptions) (p : KorePattern) → let t = s.theory in IsUnexecuted t.signature p error → (TellsNoInjection error → LacksInjection t (asked_options options) p) →
+        IfOk result (IsUnderstoodLine s (id_view id.now) options p) }
 {
     match error {
         ExecuteError::Memory => Err(AllocError),
@@ -109,7 +108,7 @@ fn asked_line(
     requires { IsHeadTableOf (language_view language.now) table.now }
     ensures { let pattern' = view pattern.now in
         (s : Setting) (options : RequestOptions) → RunsAs s.theory rules.now → language_view language.now ≡ s.theory.signature → results.options_view asked.now ≡ asked_options options →
-        VerifiesAs s.theory.signature pattern' (sort_view sort) → IfOk result (λ line. IsReplyLine (IsUnderstoodAs s (id_view id.now) options pattern') line.items) }
+        VerifiesAs s.theory.signature pattern' (sort_view sort) → IfOk result (IsUnderstoodLine s (id_view id.now) options pattern') }
 {
     match execute(alloc, language, table, rules, pattern, sort, asked) {
         Ok(answer) => answer_line(alloc, id, &answer),
@@ -131,7 +130,7 @@ fn line_over(
     requires { IsHeadTableOf (language_view language.now) table.now }
     ensures { let pattern' = view pattern.now in
         (s : Setting) → RunsAs s.theory rules.now → language_view language.now ≡ s.theory.signature → VerifiesAs s.theory.signature pattern' (sort_view sort) →
-        IfOk result (λ line. IsReplyLine (IsUnderstoodAs s (id_view id.now) (options_view options) pattern') line.items) }
+        IfOk result (IsUnderstoodLine s (id_view id.now) (options_view options) pattern') }
 {
     let asked = asked_of(options);
     asked_line(alloc, language, table, rules, id, pattern, sort, &asked)
@@ -150,7 +149,7 @@ pub fn symbolic_line(
     requires { IsPrepared prepared.now }
     ensures { let pattern' = view pattern.now in
         (s : Setting) → RunsAs s.theory rules.now → signature_in prepared.now ≡ s.theory.signature → VerifiesAs s.theory.signature pattern' (sort_view sort) →
-        IfOk result (λ line. IsReplyLine (IsUnderstoodAs s (id_view id.now) (options_view options) pattern') line.items) }
+        IfOk result (IsUnderstoodLine s (id_view id.now) (options_view options) pattern') }
 {
     let language = prepared.language()?;
     line_over(

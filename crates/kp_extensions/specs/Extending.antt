@@ -3,7 +3,7 @@
 use Rattle.std.specs.Prelude.{◌≡◌, ℕ, suc, ◌^◌, ◌<◌, ◌++◌, Bool, true, false, min, unwrap_or, List, [], ◌∷◌, length, map, Option, Some, None, codes, ◌⊎◌, String}
 use Rattle.std.specs.Borrow.{Bor}
 use Rattle.std.specs.Fmt.{decimal}
-use Rattle.std.specs.List.{AllByRecursion, AllZip}
+use Rattle.std.specs.List.{AllByRecursion, AllZip, flat_map}
 use Rattle.std.specs.declared.alloc.Global.{Global}
 use Rattle.std.specs.declared.sync.Arc.{Arc}
 use Rattle.indexmap.specs.IndexMap.{IndexMap}
@@ -43,6 +43,10 @@ AreTakenFrom g = AllZip (λ a r. IsTakenFrom g a r.now)
 -- the rule sets are made of these lists of axioms, one of each
 abbrev pub AreSetsOf : KoreSignature → List (List NumberedAxiom) → List (Arc RuleSet Global) → Type 0
 AreSetsOf g = AllZip (λ axioms rules. IsSetOf g axioms rules.value)
+
+-- the axioms of these lists, in order and each once
+abbrev pub all_axioms_once : List (List NumberedAxiom) → List NumberedAxiom
+all_axioms_once lists = each_axiom_once [] (flat_map (λ l. l) lists)
 
 -- `KEY#NUMBER`
 abbrev pub name_by_number : NumberedAxiom → Text
@@ -112,6 +116,10 @@ IsExtendFault g id m (declaration i) = AreAllSound g (rewrite_axioms_from id 1 m
 -- the error is want of memory, or tells the module's fault
 abbrev pub TellsExtendFault : KoreSignature → Text → KoreModule → ExtendError → Type 0
 TellsExtendFault g id m e = (f : ExtendFault) → extend_fault e ≡ Some f → IsExtendFault g id m f
+
+-- the error tells this rewrite axiom's number, and the axiom is unsound
+abbrev pub TellsUnsoundAxiom : KoreSignature → NumberedAxiom → ExtendError → Type 0
+TellsUnsoundAxiom g a e = (f : ExtendFault) → extend_fault e ≡ Some f → (f ≡ rule_fault a.number) × IsUnsound g a.axiom_of
 
 -- no rewrite axiom is unsound, and no sentence is a declaration
 pub record IsAddable (g : KoreSignature) (id : Text) (m : KoreModule) : Type 0 where

@@ -13,7 +13,7 @@ ghost use Rattle.kp_rules.specs.Bodies.{IsReadAs};
 ghost use Rattle.kp_sort_index.specs.Index.{IsIndexOf};
 ghost use Rattle.kp_book.specs.Books.{extended};
 ghost use Rattle.kp_modules.specs.Axioms.{axiom_view, axioms_view};
-ghost use Rattle.kp_extensions.specs.Extending.{AreAllSound, AreSetsOf, ExtendFault, IsAddable, IsFirstDeclaration, IsFirstUnsound, IsTakenFrom, IsUnsound, TellsExtendFault, declaration, extend_fault, is_declaration, rule_fault};
+ghost use Rattle.kp_extensions.specs.Extending.{AreAllSound, AreSetsOf, ExtendFault, IsAddable, IsFirstDeclaration, IsFirstUnsound, IsTakenFrom, IsUnsound, TellsExtendFault, TellsUnsoundAxiom, declaration, extend_fault, is_declaration, rule_fault};
 ghost use Rattle.kp_modules.specs.Made.{AreRewriting, IsSetOf};
 ghost use Rattle.kp_modules.specs.Tables.{rule_set_of};
 ghost use Rattle.kp_extensions.specs.declared.extend_error.ExtendError.TheVariants.{Memory, RuleFault};
@@ -41,8 +41,8 @@ pub fn extend(
     id: &str,
     added: &Module,
 ) -> Result<RuleSet, ExtendError>
-    ensures set { (lists : List (List NumberedAxiom)) → AreSetsOf (signature_view (rule_set_of table.now).signature.value) lists imports.now →
-        IfOk result (IsSetOf (signature_view (rule_set_of table.now).signature.value) (extended lists id.now (module_view added.now))) }
+    ensures set { let g = signature_view (rule_set_of table.now).signature.value in (lists : List (List NumberedAxiom)) → AreSetsOf g lists imports.now →
+        IfOk result (IsSetOf g (extended lists id.now (module_view added.now))) }
     ensures none { OnOk result (IsAddable (signature_view (rule_set_of table.now).signature.value) id.now (module_view added.now)) }
     ensures err { IfErr result (TellsExtendFault (signature_view (rule_set_of table.now).signature.value) id.now (module_view added.now)) }
 {
@@ -119,7 +119,7 @@ fn rule_read(
     rewriting: &RewriteAxiom<'_>,
 ) -> Result<Rule, ExtendError>
     requires index { IsIndexOf (signature_view signature.now) index.now }
-    ensures err { let rewriting' = axiom_view rewriting.now in let g = signature_view signature.now in is_rewriting rewriting'.axiom_of.pattern ≡ true → IfErr result (λ e. (f : ExtendFault) → extend_fault e ≡ Some f → (f ≡ rule_fault rewriting.now.number) × IsUnsound g rewriting'.axiom_of) }
+    ensures err { let rewriting' = axiom_view rewriting.now in let g = signature_view signature.now in is_rewriting rewriting'.axiom_of.pattern ≡ true → IfErr result (TellsUnsoundAxiom g rewriting') }
     ensures sound { let rewriting' = axiom_view rewriting.now in is_rewriting rewriting'.axiom_of.pattern ≡ true → OnOk result (¬ IsUnsound (signature_view signature.now) rewriting'.axiom_of) }
     ensures ok { let rewriting' = axiom_view rewriting.now in is_rewriting rewriting'.axiom_of.pattern ≡ true → IfOk result (IsTakenFrom (signature_view signature.now) rewriting') }
 {

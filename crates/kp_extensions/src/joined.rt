@@ -1,12 +1,11 @@
 // The rules of several rule sets together, each once, called anew.
 ghost use Rattle.std.specs.Prelude.{◌≡◌, ◌++◌, ◌∷◌, [], List, ◌<◌, ◌^◌, IfOk, OnOk};
-ghost use Rattle.std.specs.List.{AllZip, flat_map};
+ghost use Rattle.std.specs.List.{AllZip};
 ghost use Rattle.kp_kore.specs.Syntax.{Text};
 ghost use Rattle.kp_kore.specs.Signature.{KoreSignature};
 ghost use Rattle.kp_signature.specs.View.{signature_view};
 ghost use Rattle.kp_kore.specs.Theory.{NumberedAxiom, labels_of as labels_among};
-ghost use Rattle.kp_book.specs.Books.{each_axiom_once};
-ghost use Rattle.kp_extensions.specs.Extending.{IsTakenFrom, AreTakenFrom, AreSetsOf, AreGathered};
+ghost use Rattle.kp_extensions.specs.Extending.{IsTakenFrom, AreTakenFrom, AreSetsOf, AreGathered, all_axioms_once};
 ghost use Rattle.kp_modules.specs.Labels.{Counts};
 ghost use Rattle.kp_modules.specs.Made.{IsMadeOf, AreMadeOf, IsSetOf};
 
@@ -28,7 +27,7 @@ pub fn joined(
 ) -> Result<RuleSet, AllocError>
     ensures { let g = signature_view signature.now.value in
         (lists : List (List NumberedAxiom)) (axioms : List NumberedAxiom) → AreSetsOf g lists sets.now → AllZip (IsTakenFrom g) axioms own.now →
-        IfOk result (IsSetOf g (each_axiom_once [] (flat_map (λ l. l) lists) ++ axioms)) }
+        IfOk result (IsSetOf g (all_axioms_once lists ++ axioms)) }
 {
     let mut found = rules_once(alloc, sets)?;
     add_own(&mut found, own)?;
@@ -50,7 +49,7 @@ pub fn called(
 
 /// The rules of these rule sets, in order and each once.
 fn rules_once<'a>(alloc: Global, sets: &'a [Arc<RuleSet>]) -> Result<Vec<&'a Rule>, AllocError>
-    ensures { (g : KoreSignature) (lists : List (List NumberedAxiom)) → AreSetsOf g lists sets.now → IfOk result (λ found. AreTakenFrom g (each_axiom_once [] (flat_map (λ l. l) lists)) found.items) }
+    ensures { (g : KoreSignature) (lists : List (List NumberedAxiom)) → let axioms = all_axioms_once lists in AreSetsOf g lists sets.now → IfOk result (λ found. AreTakenFrom g axioms found.items) }
 {
     let mut met = IndexMap::new(alloc);
     let mut found = Vec::new(alloc);
@@ -62,7 +61,7 @@ fn rules_once<'a>(alloc: Global, sets: &'a [Arc<RuleSet>]) -> Result<Vec<&'a Rul
 
 /// Adds those of these rules that weren't met yet.
 fn gather<'a>(met: &mut Met, found: &mut Vec<&'a Rule>, rules: &'a [Rule]) -> Result<(), AllocError>
-    ensures { (g : KoreSignature) (passed axioms : List NumberedAxiom) → AllZip (IsTakenFrom g) axioms rules.now → AreGathered g passed met.old found.old.items → OnOk result (AreGathered g (passed ++ axioms) met.new found.new.items) }
+    ensures { (g : KoreSignature) (passed axioms : List NumberedAxiom) → let together = passed ++ axioms in AllZip (IsTakenFrom g) axioms rules.now → AreGathered g passed met.old found.old.items → OnOk result (AreGathered g together met.new found.new.items) }
 {
     for i in 0..rules.len() {
         gather_one(met, found, &rules[i])?;
@@ -76,7 +75,7 @@ fn gather_one<'a>(
     found: &mut Vec<&'a Rule>,
     rule: &'a Rule,
 ) -> Result<(), AllocError>
-    ensures { (g : KoreSignature) (passed : List NumberedAxiom) (a : NumberedAxiom) → IsTakenFrom g a rule.now → AreGathered g passed met.old found.old.items → OnOk result (AreGathered g (passed ++ a ∷ []) met.new found.new.items) }
+    ensures { (g : KoreSignature) (passed : List NumberedAxiom) (a : NumberedAxiom) → let further = passed ++ a ∷ [] in IsTakenFrom g a rule.now → AreGathered g passed met.old found.old.items → OnOk result (AreGathered g further met.new found.new.items) }
 {
     let source = &rule.source;
     let _number = counted(source.number);
@@ -96,7 +95,7 @@ fn counted(number: usize) -> usize
 
 /// Adds these rules.
 pub fn add_own<'a>(found: &mut Vec<&'a Rule>, own: &'a [Rule]) -> Result<(), AllocError>
-    ensures { (g : KoreSignature) (before axioms : List NumberedAxiom) → AreTakenFrom g before found.old.items → AllZip (IsTakenFrom g) axioms own.now → OnOk result (AreTakenFrom g (before ++ axioms) found.new.items) }
+    ensures { (g : KoreSignature) (before axioms : List NumberedAxiom) → let together = before ++ axioms in AreTakenFrom g before found.old.items → AllZip (IsTakenFrom g) axioms own.now → OnOk result (AreTakenFrom g together found.new.items) }
 {
     for i in 0..own.len() {
         found.push(&own[i])?;
@@ -117,7 +116,7 @@ fn labels_in(alloc: Global, rules: &[&Rule]) -> Result<Labels, AllocError>
 
 /// Notes the rule's label, where it has one.
 fn note_label(alloc: Global, labels: &mut Labels, rule: &Rule) -> Result<(), AllocError>
-    ensures { (g : KoreSignature) (names : List Text) (a : NumberedAxiom) → IsTakenFrom g a rule.now → Counts names labels.old → OnOk result (Counts (names ++ labels_among (a ∷ [])) labels.new) }
+    ensures { (g : KoreSignature) (names : List Text) (a : NumberedAxiom) → let noted = names ++ labels_among (a ∷ []) in IsTakenFrom g a rule.now → Counts names labels.old → OnOk result (Counts noted labels.new) }
 {
     match &rule.source.label {
         Some(label) => add_label(alloc, labels, label),
@@ -127,7 +126,7 @@ fn note_label(alloc: Global, labels: &mut Labels, rule: &Rule) -> Result<(), All
 
 /// The rules, each called by these labels.
 fn all_named(alloc: Global, labels: &Labels, rules: &[&Rule]) -> Result<Vec<Rule>, AllocError>
-    ensures { (g : KoreSignature) (names : List Text) (axioms : List NumberedAxiom) → Counts names labels.now → AreTakenFrom g axioms rules.now → IfOk result (λ found. AreMadeOf g names axioms found.items) }
+    ensures { (g : KoreSignature) (names : List Text) (axioms : List NumberedAxiom) → let AreNamed = AreMadeOf g names axioms in Counts names labels.now → AreTakenFrom g axioms rules.now → IfOk result (λ found. AreNamed found.items) }
 {
     let mut found = Vec::new(alloc);
     for i in 0..rules.len() {

@@ -1,15 +1,12 @@
 // The rule set of a module that main reaches, in the order of its own walk.
-ghost use Rattle.std.specs.Prelude.{◌≡◌, ◌++◌, IfOk, List, OnOk, Some, length, map, slice_get};
-ghost use Rattle.kp_kore.specs.Syntax.{Text, KoreDefinition, KoreModule};
-ghost use Rattle.kp_kore.specs.Signature.{KoreSignature};
-ghost use Rattle.kp_kore.specs.Theory.{NumberedAxiom, modules_reached, rewrite_axioms};
+ghost use Rattle.std.specs.Prelude.{◌++◌, IfOk, OnOk, length};
+ghost use Rattle.kp_kore.specs.Theory.{rewrite_axioms};
 ghost use Rattle.kp_book.specs.Books.{Opening, rules_in};
-ghost use Rattle.kp_modules.specs.Keeping.{KeepsReached, own_axioms};
+ghost use Rattle.kp_modules.specs.Keeping.{own_axioms};
 ghost use Rattle.kp_modules.specs.Made.{IsSetOf};
 ghost use Rattle.kp_modules.specs.Openings.{IsTableOf};
-ghost use Rattle.kp_modules.specs.Tables.{rule_set_of};
 ghost use Rattle.kp_extensions.specs.Extending.{AreTakenFrom};
-ghost use Rattle.kp_extensions.specs.OwnSets.{MeansRules};
+ghost use Rattle.kp_extensions.specs.OwnSets.{AtModuleBehind, AtModulesKept, MeansRules};
 
 use crate::joined::{add_own, called};
 use kp_modules::ModuleTable;
@@ -38,8 +35,7 @@ pub fn rules_of(
 
 /// The rule set of the modules at these places.
 fn set_at(alloc: Global, table: &ModuleTable, places: &[usize]) -> Result<Arc<RuleSet>, AllocError>
-    ensures { (g : KoreSignature) (d : KoreDefinition) (main : Text) (ms : List KoreModule) → KeepsReached d main table.now → IsSetOf g (rewrite_axioms (modules_reached d main)) (rule_set_of table.now) →
-        map (slice_get (modules_reached d main)) places.now ≡ map Some ms → IfOk result (λ rules. IsSetOf g (rewrite_axioms ms) rules.value) }
+    ensures { AtModulesKept table.now places.now (λ g ms. IfOk result (λ rules. IsSetOf g (rewrite_axioms ms) rules.value)) }
 {
     let found = rules_at(alloc, table, places)?;
     Ok(Arc::new(alloc, called(alloc, &table.rule_set().signature, &found)?)?)
@@ -51,8 +47,7 @@ fn rules_at<'a>(
     table: &'a ModuleTable,
     places: &[usize],
 ) -> Result<Vec<&'a Rule>, AllocError>
-    ensures { (g : KoreSignature) (d : KoreDefinition) (main : Text) (ms : List KoreModule) → KeepsReached d main table.now → IsSetOf g (rewrite_axioms (modules_reached d main)) (rule_set_of table.now) →
-        map (slice_get (modules_reached d main)) places.now ≡ map Some ms → IfOk result (λ found. AreTakenFrom g (rewrite_axioms ms) found.items) }
+    ensures { AtModulesKept table.now places.now (λ g ms. IfOk result (λ found. AreTakenFrom g (rewrite_axioms ms) found.items)) }
 {
     let mut found = Vec::new(alloc);
     for i in 0..places.len() {
@@ -67,8 +62,7 @@ fn add_at<'a>(
     table: &'a ModuleTable,
     place: usize,
 ) -> Result<(), AllocError>
-    ensures { (g : KoreSignature) (d : KoreDefinition) (main : Text) (m : KoreModule) (before : List NumberedAxiom) → KeepsReached d main table.now → IsSetOf g (rewrite_axioms (modules_reached d main)) (rule_set_of table.now) →
-        slice_get (modules_reached d main) place ≡ Some m → AreTakenFrom g before found.old.items → OnOk result (AreTakenFrom g (before ++ own_axioms m) found.new.items) }
+    ensures { AtModuleBehind table.now place (λ g m before. AreTakenFrom g before found.old.items → OnOk result (AreTakenFrom g (before ++ own_axioms m) found.new.items)) }
 {
     match table.rules_at(place) {
         Some(rules) => add_own(found, rules),

@@ -81,7 +81,8 @@ fn deny_literals(
     signature: &Signature,
     literals: &[Literal],
 ) -> Result<Vec<Distributed>, AllocError>
-    ensures { IfOk result (λ ds. map distributed_view ds.items ≡ distributions_of (opened_literals (signature_view signature.now) false false (map literal_view literals.now))) }
+    ensures { let opened = opened_literals (signature_view signature.now) false false (map literal_view literals.now) in
+        IfOk result (λ ds. map distributed_view ds.items ≡ distributions_of opened) }
 {
     let mut found = Vec::new(alloc);
     for literal in literals {

@@ -19,6 +19,10 @@ pub record Cutting : Type 0 where
 abbrev pub HasCut : Cutting → List ℕ → List (List ℕ) → Type 0
 HasCut c bytes frames = Cuts c.limit bytes frames c.rest c.is_full
 
+-- these frames are cut of the bytes, and this rest is left, which is full where it has as many bytes as the limit
+abbrev pub CutsLeaving : ℕ → List ℕ → List (List ℕ) → List ℕ → Type 0
+CutsLeaving limit bytes frames rest = Cuts limit bytes frames rest (length rest == limit)
+
 -- a rest within the limit, and the nest at its end where it is bracketed
 pub record IsHeld (limit : ℕ) (rest : List ℕ) (n : Nest) : Type 0 where
   pub unended : IsUnended rest

@@ -41,7 +41,7 @@ impl Cutter {
     /// The frames that the piece ends. Once memory ran out, nothing is held any more and each call fails.
     pub fn feed(&mut self, alloc: Global, piece: &[u8]) -> Result<Vec<Vec<u8>>, AllocError>
         ensures limit { self.new.limit ≡ self.old.limit }
-        ensures cut { IfOk result (λ ended. (bytes : List ℕ) → (frames : List (List ℕ)) → HasCut self.old bytes frames → HasCut self.new (bytes ++ piece.now) (frames ++ frames_of ended.items)) }
+        ensures cut { IfOk result (λ ended. let ended' = frames_of ended.items in (bytes : List ℕ) → (frames : List (List ℕ)) → HasCut self.old bytes frames → HasCut self.new (bytes ++ piece.now) (frames ++ ended')) }
         ensures nothing { OnErr result (self.new.rest ≡ []) }
         ensures memory { self.new.is_out_of_memory ≡ (self.old.is_out_of_memory || is_err result) }
         ensures stays { IsTrue self.old.is_out_of_memory → IsErr result }

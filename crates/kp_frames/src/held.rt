@@ -1,7 +1,7 @@
 ghost use Rattle.std.specs.Prelude.{◌≡◌, ◌==◌, ◌+◌, ◌<◌, ◌≤◌, ◌^◌, ℕ, true, false, not, ◌&&◌, List, [], ◌∷◌, ◌++◌, length, get_or, take, drop, min, IfOk, OnOk, IfSome, None};
 ghost use Rattle.std.specs.List.{list_any, list_all};
-ghost use Rattle.kp_frames.specs.Frames.{Cuts, is_white, start, begins_bracketed, begins_malformed};
-ghost use Rattle.kp_frames.specs.Held.{frames_of, IsHeld, Takes};
+ghost use Rattle.kp_frames.specs.Frames.{is_white, start, begins_bracketed, begins_malformed};
+ghost use Rattle.kp_frames.specs.Held.{frames_of, CutsLeaving, IsHeld, Takes};
 
 use crate::nest::{Nest, first_close, is_opening};
 use std::alloc::{AllocError, Global};
@@ -145,7 +145,7 @@ impl Held {
     ) -> Result<Vec<Vec<u8>>, AllocError>
         requires { IsHeld limit self.old.rest.items self.old.nest }
         ensures held { OnOk result (IsHeld limit self.new.rest.items self.new.nest) }
-        ensures cut { IfOk result (λ ended. (bytes : List ℕ) → (frames : List (List ℕ)) → Cuts limit bytes frames self.old.rest.items (length self.old.rest.items == limit) → Cuts limit (bytes ++ piece.now) (frames ++ frames_of ended.items) self.new.rest.items (length self.new.rest.items == limit)) }
+        ensures cut { let rest' = self.old.rest.items in let rest'' = self.new.rest.items in IfOk result (λ ended. (bytes : List ℕ) → (frames : List (List ℕ)) → CutsLeaving limit bytes frames rest' → CutsLeaving limit (bytes ++ piece.now) (frames ++ frames_of ended.items) rest'') }
     {
         let mut frames = Vec::new(alloc);
         let mut at = 0;

@@ -37,7 +37,7 @@ fn first_repeated<'a>(alloc: Global, names: &[&'a Name]) -> Result<Option<&'a Na
 
 /// Notes a name; tells whether it is new.
 pub fn meet(met: &mut Met, name: &Name) -> Result<bool, AllocError>
-    ensures { (names : List Text) → Lists names met.old → IfOk result (λ new. (new ≡ not (has (string_bytes name.now) names)) × Lists (names ++ string_bytes name.now ∷ []) met.new) }
+    ensures { let name' = string_bytes name.now in (names : List Text) → Lists names met.old → IfOk result (λ new. (new ≡ not (has name' names)) × Lists (names ++ name' ∷ []) met.new) }
 {
     if met.contains_key(name.as_str()) {
         return Ok(false);

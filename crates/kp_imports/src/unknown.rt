@@ -51,8 +51,8 @@ fn note_imports(
     ensures len { length marks.new.items ≡ length marks.old.items }
     ensures found { AllByRecursion (λ p. p < length marks.old.items) found.new.items }
     ensures count { OnOk result (unseen_in marks.new.items + length found.new.items ≡ unseen_in marks.old.items + length found.old.items) }
-    ensures reached { (rows : List Module) (main : Text) → Stands rows main places.now sentences.now → AllByRecursion (IsReachedPlace rows main) found.old.items → OnOk result (AllByRecursion (IsReachedPlace rows main) found.new.items) }
-    ensures noted { AreNoted marks.old.items found.old.items → OnOk result (NotedMore marks.new.items found.old.items found.new.items × AllByRecursion (IsNameNoted places.now found.new.items) (import_names sentences.now)) }
+    ensures reached { (rows : List Module) (main : Text) → let AreReached = AllByRecursion (IsReachedPlace rows main) in Stands rows main places.now sentences.now → AreReached found.old.items → OnOk result (AreReached found.new.items) }
+    ensures noted { let found' = found.old.items in let found'' = found.new.items in AreNoted marks.old.items found' → OnOk result (NotedMore marks.new.items found' found'' × AllByRecursion (IsNameNoted places.now found'') (import_names sentences.now)) }
     ensures err { IfErr result (TellsUnplaced places.now (import_names sentences.now)) }
 {
     for i in 0..sentences.len() {
@@ -70,7 +70,7 @@ fn note_place(marks: &mut Vec<Mark>, found: &mut Vec<usize>, place: usize) -> Re
     ensures len { length marks.new.items ≡ length marks.old.items }
     ensures found { AllByRecursion (λ p. p < length marks.old.items) found.new.items }
     ensures count { OnOk result (unseen_in marks.new.items + length found.new.items ≡ unseen_in marks.old.items + length found.old.items) }
-    ensures reached { (rows : List Module) (main : Text) → IsReachedPlace rows main place → AllByRecursion (IsReachedPlace rows main) found.old.items → OnOk result (AllByRecursion (IsReachedPlace rows main) found.new.items) }
+    ensures reached { (rows : List Module) (main : Text) → let AreReached = AllByRecursion (IsReachedPlace rows main) in IsReachedPlace rows main place → AreReached found.old.items → OnOk result (AreReached found.new.items) }
     ensures noted { AreNoted marks.old.items found.old.items → OnOk result (NotedMore marks.new.items found.old.items found.new.items × Contains found.new.items place) }
 {
     if marks[place] == Mark::Unseen {

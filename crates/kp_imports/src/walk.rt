@@ -90,7 +90,7 @@ impl ImportWalk {
         ensures within { OnOk result (IsWithin self.new) }
         ensures len { OnOk result (length self.new.marks.items ≡ length self.old.marks.items) }
         ensures nearer { IfOk result (λ more. IsTrue more → work_left self.new < work_left self.old) }
-        ensures way { (rows : List Module) (main : Text) → ComesToEnd rows main self.old → IfOk result (λ more. MatchBool more (IsWalkOf rows main self.new) (IsOver rows main self.new.done.items)) }
+        ensures way { let done = self.new.done.items in (rows : List Module) (main : Text) → ComesToEnd rows main self.old → IfOk result (λ more. MatchBool more (IsWalkOf rows main self.new) (IsOver rows main done)) }
     {
         self.done.push(self.current)?;
         self.marks[self.current] = Mark::Done;

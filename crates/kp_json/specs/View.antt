@@ -1,7 +1,14 @@
 -- What the answers of the crate's code say.
-use Rattle.std.specs.Prelude.{◌≡◌, Bool, true, false, Option, Some, None, string_bytes}
-use Rattle.serde_json.specs.Data.{Data}
-use Rattle.kp_kore.specs.Syntax.{KorePattern}
+use Rattle.std.specs.Prelude.{◌≡◌, Bool, true, false, Option, Some, None, String, string_bytes}
+use Rattle.std.specs.Borrow.{Bor}
+use Rattle.std.specs.BTreeMap.{BTreeMap}
+use Rattle.std.specs.declared.alloc.Global.{Global}
+use Rattle.serde_json.specs.Data.{Data, Members}
+use Rattle.serde_json.specs.View.{members_view}
+use Rattle.serde_json.specs.declared.value.Value.{Value}
+use Rattle.kp_kore.specs.Syntax.{KoreSort, KorePattern}
+use Rattle.kp_kore.specs.View.{sort_view}
+use Rattle.kp_kore.specs.declared.sort.Sort.{Sort}
 use Rattle.kp_json.specs.declared.fault.JsonFault.{JsonFault}
 use Rattle.kp_json.specs.declared.fault.JsonFault.TheVariants as json_fault
 use Rattle.kp_json.specs.declared.fault.JsonError.{JsonError}
@@ -22,6 +29,10 @@ fault_view json_fault.TooDeep = nested_too_deep
 abbrev pub fault_of : JsonError → Option TreeFault
 fault_of json_error.Memory = None
 fault_of (json_error.Fault f) = Some (fault_view f)
+
+-- what is read of a comparison, \equals or \in: its argument's sort, its own, and the members of its two parts
+abbrev pub comparison_view : Sort × Sort × Bor (BTreeMap (String Global) Value) × Bor (BTreeMap (String Global) Value) → KoreSort × KoreSort × Members × Members
+comparison_view r = (sort_view r.0, sort_view r.1, members_view r.2.now.entries, members_view r.3.now.entries)
 
 -- the error tells the reading's fault, or that memory ran out
 abbrev pub Tells : {A : Type 0} → JsonError → Reading A → Type 0

@@ -3,7 +3,7 @@
 -- \mu, \nu) has no tree, nor has \and or \or of fewer than two patterns, which a list of so few doesn't spell.
 use Rattle.std.specs.Prelude.{List, [], ◌∷◌, Option, Some, None, codes}
 use Rattle.std.specs.Option.{option_map, option_and_then}
-use Rattle.serde_json.specs.Data.{Data, string, number, unsigned, array, Items, no_items, item}
+use Rattle.serde_json.specs.Data.{Data, string, number, unsigned, array, Items, no_items, item, Members, put}
 use Rattle.kp_kore.specs.Syntax.{Text, KoreSort, sort_of, sort_variable, KoreSorts, no_sorts, next_sort, KorePattern, KorePatterns, variable, application, literal, top, bottom, negation, conjunction, disjunction, implication, equivalence, rewriting, exists, forall, ceil, floor, equals, membership, no_patterns, next_pattern}
 use Rattle.kp_json.specs.Members.{object_of}
 
@@ -23,6 +23,18 @@ abbrev mutual
 -- a sort's member, and a member of any tree
 abbrev pub sort_member : KoreSort → Text × Data
 sort_member s = (codes "sort", sort_tree s)
+
+-- the members with a sort's more
+abbrev pub with_sort : Text → KoreSort → Members → Members
+with_sort key s ms = put key (sort_tree s) ms
+
+-- the tree of a quantifier: its tag, its sort, the variable's name and sort, and one tree
+abbrev pub quantifier_tree : Text → KoreSort → Text → KoreSort → Data → Data
+quantifier_tree tag s x t d = tagged tag (sort_member s ∷ (codes "var", string x) ∷ (codes "varSort", sort_tree t) ∷ (codes "arg", d) ∷ [])
+
+-- the tree of a comparison, \equals or \in: its tag, its argument's sort and its own, and two trees
+abbrev pub comparison_tree : Text → KoreSort → KoreSort → Data → Data → Data
+comparison_tree tag a s d e = tagged tag ((codes "argSort", sort_tree a) ∷ sort_member s ∷ (codes "first", d) ∷ (codes "second", e) ∷ [])
 
 abbrev pub one_part : (Data → Data) → Option Data → Option Data
 one_part make p = option_map make p

@@ -3,7 +3,7 @@ ghost use Rattle.std.specs.Prelude.{◌≡◌, [], ◌∷◌, IfOk, codes};
 ghost use Rattle.serde_json.specs.Data.{string, array, object, put as with_member};
 ghost use Rattle.serde_json.specs.View.{items_view, members_view};
 ghost use Rattle.kp_kore.specs.View.{sort_view, sorts_view};
-ghost use Rattle.kp_json.specs.Written.{sort_tree, sort_trees, sort_member, tagged};
+ghost use Rattle.kp_json.specs.Written.{sort_tree, sort_trees, sort_member, with_sort, quantifier_tree, comparison_tree, tagged};
 
 use crate::member::Object;
 use crate::tree::{with_text, with_tree, with_trees};
@@ -29,8 +29,9 @@ pub fn application(
     sorts: &[Sort],
     arguments: Vec<Value>,
 ) -> Result<Object, AllocError>
-    ensures { IfOk result (λ o. object (members_view o.entries) ≡ tagged (codes "App")
-        ((codes "name", string symbol.now) ∷ (codes "sorts", array (sort_trees (sorts_view sorts.now))) ∷ (codes "args", array (items_view arguments.items)) ∷ [])) }
+    ensures { let sorts' = sort_trees (sorts_view sorts.now) in
+        IfOk result (λ o. object (members_view o.entries) ≡ tagged (codes "App")
+        ((codes "name", string symbol.now) ∷ (codes "sorts", array sorts') ∷ (codes "args", array (items_view arguments.items)) ∷ [])) }
 {
     let members = with_trees(alloc, Map::new(alloc), "args", arguments)?;
     let sorts = sort_values(alloc, sorts)?;
@@ -86,8 +87,8 @@ pub fn two_below(
     first: Object,
     second: Object,
 ) -> Result<Object, AllocError>
-    ensures { IfOk result (λ o. object (members_view o.entries) ≡ tagged tag.now
-        (sort_member (sort_view sort.now) ∷ (codes "first", object (members_view first.entries)) ∷ (codes "second", object (members_view second.entries)) ∷ [])) }
+    ensures { let members = sort_member (sort_view sort.now) ∷ (codes "first", object (members_view first.entries)) ∷ (codes "second", object (members_view second.entries)) ∷ [] in
+        IfOk result (λ o. object (members_view o.entries) ≡ tagged tag.now members) }
 {
     let members = with_tree(alloc, Map::new(alloc), "second", second)?;
     let members = with_tree(alloc, members, "first", first)?;
@@ -101,8 +102,8 @@ pub fn rewriting(
     source: Object,
     dest: Object,
 ) -> Result<Object, AllocError>
-    ensures { IfOk result (λ o. object (members_view o.entries) ≡ tagged (codes "Rewrites")
-        (sort_member (sort_view sort.now) ∷ (codes "source", object (members_view source.entries)) ∷ (codes "dest", object (members_view dest.entries)) ∷ [])) }
+    ensures { let members = sort_member (sort_view sort.now) ∷ (codes "source", object (members_view source.entries)) ∷ (codes "dest", object (members_view dest.entries)) ∷ [] in
+        IfOk result (λ o. object (members_view o.entries) ≡ tagged (codes "Rewrites") members) }
 {
     let members = with_tree(alloc, Map::new(alloc), "dest", dest)?;
     let members = with_tree(alloc, members, "source", source)?;
@@ -118,8 +119,8 @@ pub fn bound(
     name_sort: &Sort,
     below: Object,
 ) -> Result<Object, AllocError>
-    ensures { IfOk result (λ o. object (members_view o.entries) ≡ tagged tag.now
-        (sort_member (sort_view sort.now) ∷ (codes "var", string name.now) ∷ (codes "varSort", sort_tree (sort_view name_sort.now)) ∷ (codes "arg", object (members_view below.entries)) ∷ [])) }
+    ensures { let below' = object (members_view below.entries) in
+        IfOk result (λ o. object (members_view o.entries) ≡ quantifier_tree tag.now (sort_view sort.now) name.now (sort_view name_sort.now) below') }
 {
     let members = with_tree(alloc, Map::new(alloc), "arg", below)?;
     let members = with_sort(alloc, members, "varSort", name_sort)?;
@@ -135,8 +136,9 @@ pub fn sorted_one(
     sort: &Sort,
     below: Object,
 ) -> Result<Object, AllocError>
-    ensures { IfOk result (λ o. object (members_view o.entries) ≡ tagged tag.now
-        ((codes "argSort", sort_tree (sort_view argument_sort.now)) ∷ sort_member (sort_view sort.now) ∷ (codes "arg", object (members_view below.entries)) ∷ [])) }
+    ensures { let below' = object (members_view below.entries) in
+        IfOk result (λ o. object (members_view o.entries) ≡ tagged tag.now
+        ((codes "argSort", sort_tree (sort_view argument_sort.now)) ∷ sort_member (sort_view sort.now) ∷ (codes "arg", below') ∷ [])) }
 {
     let members = with_tree(alloc, Map::new(alloc), "arg", below)?;
     sorted_twice(alloc, tag, argument_sort, sort, members)
@@ -151,8 +153,8 @@ pub fn sorted_two(
     first: Object,
     second: Object,
 ) -> Result<Object, AllocError>
-    ensures { IfOk result (λ o. object (members_view o.entries) ≡ tagged tag.now
-        ((codes "argSort", sort_tree (sort_view argument_sort.now)) ∷ sort_member (sort_view sort.now) ∷ (codes "first", object (members_view first.entries)) ∷ (codes "second", object (members_view second.entries)) ∷ [])) }
+    ensures { let first' = object (members_view first.entries) in let second' = object (members_view second.entries) in
+        IfOk result (λ o. object (members_view o.entries) ≡ comparison_tree tag.now (sort_view argument_sort.now) (sort_view sort.now) first' second') }
 {
     let members = with_tree(alloc, Map::new(alloc), "second", second)?;
     let members = with_tree(alloc, members, "first", first)?;
@@ -161,8 +163,8 @@ pub fn sorted_two(
 
 /// The object with its sort and its tag.
 fn sorted(alloc: Global, tag: &str, sort: &Sort, members: Object) -> Result<Object, AllocError>
-    ensures { IfOk result (λ o. members_view o.entries ≡ with_member (codes "tag") (string tag.now)
-        (with_member (codes "sort") (sort_tree (sort_view sort.now)) (members_view members.entries))) }
+    ensures { let members' = members_view members.entries in
+        IfOk result (λ o. members_view o.entries ≡ with_member (codes "tag") (string tag.now) (with_sort (codes "sort") (sort_view sort.now) members')) }
 {
     let members = with_sort(alloc, members, "sort", sort)?;
     with_text(alloc, members, "tag", tag)
@@ -176,9 +178,9 @@ fn sorted_twice(
     sort: &Sort,
     members: Object,
 ) -> Result<Object, AllocError>
-    ensures { IfOk result (λ o. members_view o.entries ≡ with_member (codes "tag") (string tag.now)
-        (with_member (codes "argSort") (sort_tree (sort_view argument_sort.now))
-        (with_member (codes "sort") (sort_tree (sort_view sort.now)) (members_view members.entries)))) }
+    ensures { let members' = members_view members.entries in
+        IfOk result (λ o. members_view o.entries ≡ with_member (codes "tag") (string tag.now)
+        (with_sort (codes "argSort") (sort_view argument_sort.now) (with_sort (codes "sort") (sort_view sort.now) members'))) }
 {
     let members = with_sort(alloc, members, "sort", sort)?;
     let members = with_sort(alloc, members, "argSort", argument_sort)?;

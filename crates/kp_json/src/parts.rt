@@ -4,7 +4,7 @@ ghost use Rattle.kp_kore.specs.Syntax.{variable, literal};
 ghost use Rattle.kp_kore.specs.View.{view, sort_view, sorts_view};
 ghost use Rattle.kp_json.specs.Faults.{read, after};
 ghost use Rattle.kp_json.specs.Faults as spec;
-ghost use Rattle.kp_json.specs.View.{Tells};
+ghost use Rattle.kp_json.specs.View.{Tells, comparison_view};
 
 use crate::fault::JsonError;
 use crate::member::{Object, member, name, text, tree, trees};
@@ -99,7 +99,7 @@ pub fn sort_and_two<'a>(
     first: &str,
     second: &str,
 ) -> Result<(Sort, &'a Object, &'a Object), JsonError>
-    ensures found { IfOk result (λ r. spec.sort_and_two first.now second.now (members_view object.now.entries) ≡ read (sort_view r.0, members_view r.1.now.entries, members_view r.2.now.entries)) }
+    ensures found { let reading = spec.sort_and_two first.now second.now (members_view object.now.entries) in IfOk result (λ r. reading ≡ read (sort_view r.0, members_view r.1.now.entries, members_view r.2.now.entries)) }
     ensures fault { IfErr result (λ e. Tells e (spec.sort_and_two first.now second.now (members_view object.now.entries))) }
 {
     let sort = member(alloc, object, "sort")?;
@@ -133,7 +133,7 @@ fn sorts_and_one_in<'a>(
     sort: &Value,
     below: &'a Value,
 ) -> Result<(Sort, Sort, &'a Object), JsonError>
-    ensures found { IfOk result (λ r. spec.sorts_and_one_in (data_view argument_sort.now) (data_view sort.now) (data_view below.now) ≡ read (sort_view r.0, sort_view r.1, members_view r.2.now.entries)) }
+    ensures found { let reading = spec.sorts_and_one_in (data_view argument_sort.now) (data_view sort.now) (data_view below.now) in IfOk result (λ r. reading ≡ read (sort_view r.0, sort_view r.1, members_view r.2.now.entries)) }
     ensures fault { IfErr result (λ e. Tells e (spec.sorts_and_one_in (data_view argument_sort.now) (data_view sort.now) (data_view below.now))) }
 {
     let argument_sort = tree(alloc, "argSort", argument_sort)?;
@@ -149,7 +149,7 @@ pub fn sorts_and_two<'a>(
     alloc: Global,
     object: &'a Object,
 ) -> Result<(Sort, Sort, &'a Object, &'a Object), JsonError>
-    ensures found { IfOk result (λ r. spec.sorts_and_two (members_view object.now.entries) ≡ read (sort_view r.0, sort_view r.1, members_view r.2.now.entries, members_view r.3.now.entries)) }
+    ensures found { let reading = spec.sorts_and_two (members_view object.now.entries) in IfOk result (λ r. reading ≡ read (comparison_view r)) }
     ensures fault { IfErr result (λ e. Tells e (spec.sorts_and_two (members_view object.now.entries))) }
 {
     let argument_sort = member(alloc, object, "argSort")?;
@@ -167,7 +167,7 @@ fn sorts_and_two_in<'a>(
     left: &'a Value,
     right: &'a Value,
 ) -> Result<(Sort, Sort, &'a Object, &'a Object), JsonError>
-    ensures found { IfOk result (λ r. spec.sorts_and_two_in (data_view argument_sort.now) (data_view sort.now) (data_view left.now) (data_view right.now) ≡ read (sort_view r.0, sort_view r.1, members_view r.2.now.entries, members_view r.3.now.entries)) }
+    ensures found { let reading = spec.sorts_and_two_in (data_view argument_sort.now) (data_view sort.now) (data_view left.now) (data_view right.now) in IfOk result (λ r. reading ≡ read (comparison_view r)) }
     ensures fault { IfErr result (λ e. Tells e (spec.sorts_and_two_in (data_view argument_sort.now) (data_view sort.now) (data_view left.now) (data_view right.now))) }
 {
     let argument_sort = tree(alloc, "argSort", argument_sort)?;
@@ -185,8 +185,8 @@ fn sorts_and_two_of<'a>(
     left: &'a Object,
     right: &'a Object,
 ) -> Result<(Sort, Sort, &'a Object, &'a Object), JsonError>
-    ensures found { IfOk result (λ r. spec.sorts_and_two_of (members_view argument_sort.now.entries) (members_view sort.now.entries) (members_view left.now.entries) (members_view right.now.entries) ≡ read (sort_view r.0, sort_view r.1, members_view r.2.now.entries, members_view r.3.now.entries)) }
-    ensures fault { IfErr result (λ e. Tells e (spec.sorts_and_two_of (members_view argument_sort.now.entries) (members_view sort.now.entries) (members_view left.now.entries) (members_view right.now.entries))) }
+    ensures found { let reading = spec.sorts_and_two_of (members_view argument_sort.now.entries) (members_view sort.now.entries) (members_view left.now.entries) (members_view right.now.entries) in IfOk result (λ r. reading ≡ read (comparison_view r)) }
+    ensures fault { let reading = spec.sorts_and_two_of (members_view argument_sort.now.entries) (members_view sort.now.entries) (members_view left.now.entries) (members_view right.now.entries) in IfErr result (λ e. Tells e reading) }
 {
     let argument_sort = sort_of(alloc, argument_sort)?;
     Ok((argument_sort, sort_of(alloc, sort)?, left, right))
@@ -216,7 +216,7 @@ fn bound_and_one_in<'a>(
     name_sort: &Value,
     below: &'a Value,
 ) -> Result<(Sort, Name, Sort, &'a Object), JsonError>
-    ensures found { IfOk result (λ r. spec.bound_and_one_in (data_view sort.now) (data_view found.now) (data_view name_sort.now) (data_view below.now) ≡ read (sort_view r.0, string_bytes r.1, sort_view r.2, members_view r.3.now.entries)) }
+    ensures found { let reading = spec.bound_and_one_in (data_view sort.now) (data_view found.now) (data_view name_sort.now) (data_view below.now) in IfOk result (λ r. reading ≡ read (sort_view r.0, string_bytes r.1, sort_view r.2, members_view r.3.now.entries)) }
     ensures fault { IfErr result (λ e. Tells e (spec.bound_and_one_in (data_view sort.now) (data_view found.now) (data_view name_sort.now) (data_view below.now))) }
 {
     let sort = tree(alloc, "sort", sort)?;
@@ -234,8 +234,8 @@ fn bound_and_one_of<'a>(
     name_sort: &Object,
     below: &'a Object,
 ) -> Result<(Sort, Name, Sort, &'a Object), JsonError>
-    ensures found { IfOk result (λ r. spec.bound_and_one_of (members_view sort.now.entries) name.now (members_view name_sort.now.entries) (members_view below.now.entries) ≡ read (sort_view r.0, string_bytes r.1, sort_view r.2, members_view r.3.now.entries)) }
-    ensures fault { IfErr result (λ e. Tells e (spec.bound_and_one_of (members_view sort.now.entries) name.now (members_view name_sort.now.entries) (members_view below.now.entries))) }
+    ensures found { let below' = members_view below.now.entries in IfOk result (λ r. spec.bound_and_one_of (members_view sort.now.entries) name.now (members_view name_sort.now.entries) below' ≡ read (sort_view r.0, string_bytes r.1, sort_view r.2, members_view r.3.now.entries)) }
+    ensures fault { let reading = spec.bound_and_one_of (members_view sort.now.entries) name.now (members_view name_sort.now.entries) (members_view below.now.entries) in IfErr result (λ e. Tells e reading) }
 {
     let sort = sort_of(alloc, sort)?;
     let name_sort = sort_of(alloc, name_sort)?;

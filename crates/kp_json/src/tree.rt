@@ -65,8 +65,9 @@ pub fn sort_application(
     name: &str,
     arguments: Vec<Value>,
 ) -> Result<Object, AllocError>
-    ensures { IfOk result (λ o. object (members_view o.entries) ≡ tagged (codes "SortApp")
-        ((codes "name", string name.now) ∷ (codes "args", array (items_view arguments.items)) ∷ [])) }
+    ensures { let arguments' = items_view arguments.items in
+        IfOk result (λ o. object (members_view o.entries) ≡ tagged (codes "SortApp")
+        ((codes "name", string name.now) ∷ (codes "args", array arguments') ∷ [])) }
 {
     let members = with_trees(alloc, Map::new(alloc), "args", arguments)?;
     let members = with_text(alloc, members, "name", name)?;

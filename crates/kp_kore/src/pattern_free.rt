@@ -97,8 +97,8 @@ fn add_others(
     inner: Vec<SortedVariable>,
     name: &str,
 ) -> Result<(), AllocError>
-    ensures { OnOk result (map sorted_variable_view found.new.items
-        ≡ map sorted_variable_view found.old.items ++ without_name name.now (map sorted_variable_view inner.items)) }
+    ensures { let found' = map sorted_variable_view found.old.items in let found'' = map sorted_variable_view found.new.items in
+        OnOk result (found'' ≡ found' ++ without_name name.now (map sorted_variable_view inner.items)) }
 {
     for variable in inner {
         if variable.name.as_str() != name {

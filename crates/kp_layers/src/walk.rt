@@ -114,7 +114,7 @@ impl Walk {
 
     /// Puts a claim on the path.
     fn put(&mut self, claim: usize) -> Result<Step, AllocError>
-        ensures { (needs : List (List ℕ)) → IsWalk needs self.old → ((i : ℕ) → i < length self.old.path.items → DependsOn needs (get_or self.old.path.items i 0) claim) → IfOk result (Finds needs self.old self.new) }
+        ensures { let path' = self.old.path.items in (needs : List (List ℕ)) → IsWalk needs self.old → ((i : ℕ) → i < length path' → DependsOn needs (get_or path' i 0) claim) → IfOk result (Finds needs self.old self.new) }
     {
         set_number(&mut self.places, claim, self.path.len());
         self.path.push(claim)?;
@@ -123,7 +123,7 @@ impl Walk {
 
     /// Gives the last claim of the path its layer, and takes it from the path.
     fn settle(&mut self, claim: usize, needed: &[usize]) -> Result<Step, AllocError>
-        ensures { (needs : List (List ℕ)) → IsLast needs self.old claim needed.now → list_any (is_open self.old.layers.items) needed.now ≡ false → IfOk result (Finds needs self.old self.new) }
+        ensures { let layers' = self.old.layers.items in (needs : List (List ℕ)) → IsLast needs self.old claim needed.now → list_any (is_open layers') needed.now ≡ false → IfOk result (Finds needs self.old self.new) }
     {
         let layer = above(highest(&self.layers, needed));
         self.settled.push(claim)?;

@@ -87,7 +87,7 @@ fn open_ceil(
     sort: &Sort,
     pattern: &Pattern,
 ) -> Result<Formula, CompileError>
-    ensures opened { IfOk result (λ f. formula_view f ≡ model.opened_ceil (language_view language.now) (map replaced_view replaced.now) alone sign (sort_view sort.now) (view pattern.now)) }
+    ensures opened { let g = language_view language.now in let replaced' = map replaced_view replaced.now in IfOk result (λ f. formula_view f ≡ model.opened_ceil g replaced' alone sign (sort_view sort.now) (view pattern.now)) }
     ensures refused { IfErr result (λ e. IsFaultless (language_view language.now) (view pattern.now) → e ≡ Memory) }
 {
     match pattern {
@@ -136,7 +136,7 @@ fn open_question(
     pattern: &Pattern,
     question: &Option<HeadQuestion<'_>>,
 ) -> Result<Formula, CompileError>
-    ensures opened { IfOk result (λ f. formula_view f ≡ opened_question (language_view language.now) (map replaced_view replaced.now) sign (view pattern.now) (option_map question_view question.now)) }
+    ensures opened { let g = language_view language.now in let question' = option_map question_view question.now in IfOk result (λ f. formula_view f ≡ opened_question g (map replaced_view replaced.now) sign (view pattern.now) question') }
     ensures refused { IfErr result (λ e. IsFaultlessQuestion (language_view language.now) (option_map question_view question.now) → e ≡ Memory) }
 {
     match question {
@@ -154,7 +154,7 @@ fn open_asked(
     pattern: &Pattern,
     question: &HeadQuestion<'_>,
 ) -> Result<Formula, CompileError>
-    ensures opened { IfOk result (λ f. formula_view f ≡ opened_question (language_view language.now) (map replaced_view replaced.now) sign (view pattern.now) (Some (question_view question.now))) }
+    ensures opened { let g = language_view language.now in let question' = question_view question.now in IfOk result (λ f. formula_view f ≡ opened_question g (map replaced_view replaced.now) sign (view pattern.now) (Some question')) }
     ensures refused { IfErr result (λ e. IsFaultlessQuestion (language_view language.now) (Some (question_view question.now)) → e ≡ Memory) }
 {
     let term = term_under(question.subject, alloc, language, replaced)?;

@@ -1,7 +1,6 @@
 // A question for the head of a term, as a quantified equality asks it.
 ghost use Rattle.std.specs.Prelude.{◌≡◌, IfOk, map, string_bytes};
 ghost use Rattle.std.specs.Option.{option_map};
-ghost use Rattle.kp_kore.specs.Signature.{meaning_of as named};
 ghost use Rattle.kp_kore.specs.Syntax.{KoreSort, equals, no_patterns, next_pattern};
 ghost use Rattle.kp_kore.specs.View.{view, sort_view, sorts_view, patterns_view};
 ghost use Rattle.kp_signature.specs.Meanings.{meaning_view};
@@ -10,7 +9,7 @@ ghost use Rattle.kp_signature.specs.View.{signature_view};
 ghost use Rattle.kp_symbolic.specs.States.{one_head, head_of_sort};
 ghost use Rattle.kp_symbolic.specs.Opening as model;
 ghost use Rattle.kp_symbolic.specs.View.{test_view};
-ghost use Rattle.kp_leaves.specs.Answers.{is_variable_at, asked_sort};
+ghost use Rattle.kp_leaves.specs.Answers.{is_variable_at, asked_sort, asked_of_application};
 ghost use Rattle.kp_leaves.specs.View.{bound_view, question_view};
 
 use crate::bound::BoundVariable;
@@ -178,7 +177,7 @@ fn ask_under_injection<'a>(
     sorts: &[Sort],
     arguments: &[Pattern],
 ) -> Result<Option<HeadQuestion<'a>>, AllocError>
-    ensures { IfOk result (λ q. option_map question_view q ≡ model.asked_under_inj (signature_view signature.now) (map bound_view bound.now) (view subject.now) (sorts_view sorts.now) (patterns_view arguments.now)) }
+    ensures { let g = signature_view signature.now in let bound' = map bound_view bound.now in IfOk result (λ q. option_map question_view q ≡ model.asked_under_inj g bound' (view subject.now) (sorts_view sorts.now) (patterns_view arguments.now)) }
 {
     if arguments.len() == 1 {
         return ask_argument(alloc, signature, bound, subject, sorts, &arguments[0]);
@@ -196,7 +195,7 @@ fn ask_application<'a>(
     sorts: &[Sort],
     arguments: &[Pattern],
 ) -> Result<Option<HeadQuestion<'a>>, AllocError>
-    ensures { let g = signature_view signature.now in IfOk result (λ q. option_map question_view q ≡ model.asked_of g (map bound_view bound.now) (view subject.now) (named g (string_bytes symbol.now)) (string_bytes symbol.now) (sorts_view sorts.now) (patterns_view arguments.now)) }
+    ensures { let g = signature_view signature.now in IfOk result (λ q. option_map question_view q ≡ asked_of_application g (map bound_view bound.now) (view subject.now) (string_bytes symbol.now) (sorts_view sorts.now) (patterns_view arguments.now)) }
 {
     match meaning_of(signature, symbol) {
         Meaning::Injection => ask_under_injection(
@@ -214,7 +213,7 @@ fn ask_equality<'a>(
     left: &'a Pattern,
     right: &Pattern,
 ) -> Result<Option<HeadQuestion<'a>>, AllocError>
-    ensures { (a s : KoreSort) → IfOk result (λ q. option_map question_view q ≡ model.head_question (signature_view signature.now) (map bound_view bound.now) (equals a s (view left.now) (view right.now))) }
+    ensures { let g = signature_view signature.now in let bound' = map bound_view bound.now in (a s : KoreSort) → IfOk result (λ q. option_map question_view q ≡ model.head_question g bound' (equals a s (view left.now) (view right.now))) }
 {
     match left {
         Pattern::Variable { name, .. } => match right {

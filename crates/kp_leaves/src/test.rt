@@ -55,7 +55,7 @@ fn lower_agree(
     wanted: bool,
     pairs: &[Subsort],
 ) -> Result<bool, AllocError>
-    ensures { IfOk result (λ b. b ≡ all_agree_with (signature_view signature.now) (sort_view sort.now) (test_view test.now) wanted (map tokens (map (λ p. p.0) (map subsort_view pairs.now)))) }
+    ensures { let heads = map tokens (map (λ p. p.0) (map subsort_view pairs.now)) in IfOk result (λ b. b ≡ all_agree_with (signature_view signature.now) (sort_view sort.now) (test_view test.now) wanted heads) }
 {
     for pair in pairs {
         let head = LeafHead::Tokens { sort: &pair.lower };
@@ -75,7 +75,7 @@ fn symbols_agree(
     wanted: bool,
     symbols: &[SymbolSentence],
 ) -> Result<bool, AllocError>
-    ensures { IfOk result (λ b. b ≡ all_agree_with (signature_view signature.now) (sort_view sort.now) (test_view test.now) wanted (map (λ d. constructor_of d.name) (map symbol_sentence_view symbols.now))) }
+    ensures { let heads = map (λ d. constructor_of d.name) (map symbol_sentence_view symbols.now) in IfOk result (λ b. b ≡ all_agree_with (signature_view signature.now) (sort_view sort.now) (test_view test.now) wanted heads) }
 {
     for symbol in symbols {
         let head = LeafHead::Constructor {
@@ -216,7 +216,7 @@ fn open_applied(
     kept: &Literal,
     symbol: &str,
 ) -> Result<Formula, AllocError>
-    ensures { (ts : SymbolicTerms) → IfOk result (λ f. formula_view f ≡ model.opened_test (signature_view signature.now) sign (test_view test.now) (fact (literal_view kept.now)) (headed symbol.now ts)) }
+    ensures { let g = signature_view signature.now in let kept' = literal_view kept.now in (ts : SymbolicTerms) → IfOk result (λ f. formula_view f ≡ model.opened_test g sign (test_view test.now) (fact kept') (headed symbol.now ts)) }
 {
     match meaning_of(signature, symbol) {
         Meaning::Constructor => open_head(
@@ -253,7 +253,7 @@ pub fn open_test(
     kept: &Literal,
     term: &Term,
 ) -> Result<Formula, AllocError>
-    ensures { IfOk result (λ f. formula_view f ≡ model.opened_test (signature_view signature.now) sign (test_view test.now) (fact (literal_view kept.now)) (term_view term.now)) }
+    ensures { let g = signature_view signature.now in let kept' = literal_view kept.now in IfOk result (λ f. formula_view f ≡ model.opened_test g sign (test_view test.now) (fact kept') (term_view term.now)) }
 {
     match term {
         Term::Unknown { variable } => open_variable(alloc, signature, sign, variable, test),

@@ -1,10 +1,13 @@
 -- What a table keeps of the modules that main reaches.
 -- Source: the K framework's Kore language (modules and imports).
-use Rattle.std.specs.Prelude.{◌≡◌, ℕ, ◌+◌, List, [], ◌∷◌, length, map, take, drop, Some, slice_get}
+use Rattle.std.specs.Prelude.{◌≡◌, ℕ, ◌+◌, Bool, List, [], ◌∷◌, length, map, take, drop, Some, slice_get}
 use Rattle.kp_kore.specs.Syntax.{Text, KoreModule, KoreDefinition}
 use Rattle.kp_kore.specs.View.{module_view}
 use Rattle.kp_kore.specs.Theory.{NumberedAxiom, imports_in, modules_reached, names_reached, rewrite_axioms, rewrite_axioms_from}
 use Rattle.kp_rules.specs.declared.rule.Rule.{Rule}
+use Rattle.kp_imports.specs.Faults.{Fault, IsImportFault}
+use Rattle.kp_imports.specs.Names.{names_of}
+use Rattle.kp_imports.specs.Reaching.{has}
 use Rattle.kp_imports.specs.Walks.{IsLaidOut}
 use Rattle.kp_modules.specs.declared.outlines.RuleSpan.{RuleSpan}
 use Rattle.kp_modules.specs.declared.table.ModuleTable.{ModuleTable}
@@ -34,6 +37,18 @@ pub record KeepsReached (d : KoreDefinition) (main : Text) (t : ModuleTable) : T
 -- at these places of the modules that main reaches stand those that another one reaches, in the order of its own walk
 abbrev pub StandsAt : KoreDefinition → Text → Text → List ℕ → Type 0
 StandsAt d main name places = map (slice_get (modules_reached d main)) places ≡ map Some (modules_reached d name)
+
+-- this holds of the module at this place of those that main reaches, in each definition of which the table keeps them
+abbrev pub AtModuleKept : ModuleTable → ℕ → (KoreDefinition → Text → KoreModule → Type 0) → Type 0
+AtModuleKept t place Holds = (d : KoreDefinition) (main : Text) (m : KoreModule) → KeepsReached d main t → slice_get (modules_reached d main) place ≡ Some m → Holds d main m
+
+-- main reaches a module of this name
+abbrev pub is_reached : KoreDefinition → Text → Text → Bool
+is_reached d main name = has name (names_of (modules_reached d main))
+
+-- no import that this module reaches is unknown, and none leads back
+abbrev pub HasNoImportFault : List KoreModule → Text → Type 0
+HasNoImportFault ms name = (f : Fault) → IsImportFault ms name f → ⊥
 
 -- those of the rules of all these modules that are the module's at this place
 abbrev pub own_rules : List KoreModule → ℕ → KoreModule → List Rule → List Rule

@@ -1,9 +1,9 @@
 // The rewrite axioms of modules, in order.
-ghost use Rattle.std.specs.Prelude.{◌≡◌, ◌++◌, ◌∷◌, [], IfOk, OnOk, map, string_bytes, if◌then◌else◌};
+ghost use Rattle.std.specs.Prelude.{◌≡◌, ◌++◌, IfOk, OnOk, map, string_bytes};
 ghost use Rattle.kp_kore.specs.View.{view, sentence_view, axiom_sentence_view, module_view};
 ghost use Rattle.kp_kore.specs.Rules.{is_rewriting as rewriting_test};
 ghost use Rattle.kp_kore.specs.Theory.{rewrite_axioms as axioms_among, rewrite_axioms_from};
-ghost use Rattle.kp_modules.specs.Axioms.{axioms_view};
+ghost use Rattle.kp_modules.specs.Axioms.{axiom_at, axioms_view, if_rewriting};
 
 use kp_kore::{AxiomSentence, Module, Name, Pattern, Sentence};
 use std::alloc::{AllocError, Global};
@@ -68,7 +68,7 @@ fn add_axiom<'a>(
     number: usize,
     statement: &'a AxiomSentence,
 ) -> Result<(), AllocError>
-    ensures { let pattern' = view statement.now.pattern in let the_if = if rewriting_test pattern' then record { key = string_bytes key.now; number = number; axiom_of = axiom_sentence_view statement.now } ∷ [] else [] in OnOk result (axioms_view found.new.items ≡ axioms_view found.old.items ++ the_if) }
+    ensures { let axiom' = axiom_at (string_bytes key.now) number (axiom_sentence_view statement.now) in OnOk result (axioms_view found.new.items ≡ axioms_view found.old.items ++ if_rewriting axiom') }
 {
     if is_rewriting(&statement.pattern) {
         found.push(RewriteAxiom {

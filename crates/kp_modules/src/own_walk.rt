@@ -4,9 +4,10 @@ ghost use Rattle.std.specs.Option.{is_some};
 ghost use Rattle.kp_kore.specs.Syntax.{Text};
 ghost use Rattle.kp_kore.specs.View.{module_view};
 ghost use Rattle.kp_signature.specs.Names.{Indexes, first_place};
-ghost use Rattle.kp_imports.specs.Faults.{Fault, IsImportFault, fault_view};
+ghost use Rattle.kp_imports.specs.Faults.{fault_view};
 ghost use Rattle.kp_imports.specs.Names.{PlacesAreBelow, module_names};
 ghost use Rattle.kp_imports.specs.Walks.{IsOver};
+ghost use Rattle.kp_modules.specs.Keeping.{HasNoImportFault};
 
 use crate::table::ModuleTable;
 use kp_imports::fault::LoadError;
@@ -17,19 +18,18 @@ use kp_rules::Rule;
 use std::alloc::{AllocError, Global};
 
 impl ModuleTable {
-    ghost use Rattle.std.specs.Prelude.{◌≡◌, IfOk, MatchOption, Some, false, true, length, slice_get};
-    ghost use Rattle.kp_kore.specs.Syntax.{Text, KoreDefinition, KoreModule};
-    ghost use Rattle.kp_kore.specs.Theory.{modules_reached, rewrite_axioms};
-    ghost use Rattle.kp_modules.specs.Keeping.{KeepsReached, StandsAt, own_rules};
-    ghost use Rattle.kp_imports.specs.Names.{names_of};
-    ghost use Rattle.kp_imports.specs.Reaching.{has};
+    ghost use Rattle.std.specs.Prelude.{◌≡◌, IfOk, MatchOption, false, true, length};
+    ghost use Rattle.kp_kore.specs.Syntax.{Text, KoreDefinition};
+    ghost use Rattle.kp_kore.specs.Theory.{modules_reached};
+    ghost use Rattle.kp_imports.specs.Faults.{axioms_reached};
+    ghost use Rattle.kp_modules.specs.Keeping.{AtModuleKept, KeepsReached, StandsAt, is_reached, own_rules};
     ghost use Rattle.kp_modules.specs.Tables.{rule_set_of};
 
     /// The places, among the modules that main reaches, of those that the module of this name reaches, in the order of
     /// its own walk; none of a name that main doesn't reach.
     pub fn places_of(&self, alloc: Global, name: &str) -> Result<Option<Vec<usize>>, AllocError>
-        ensures { (d : KoreDefinition) (main : Text) → KeepsReached d main self.now →
-            IfOk result (λ o. MatchOption o (has name.now (names_of (modules_reached d main)) ≡ false) (λ places. (has name.now (names_of (modules_reached d main)) ≡ true) × StandsAt d main name.now places.items)) }
+        ensures { (d : KoreDefinition) (main : Text) → let found = is_reached d main name.now in KeepsReached d main self.now →
+            IfOk result (λ o. MatchOption o (found ≡ false) (λ places. (found ≡ true) × StandsAt d main name.now places.items)) }
     {
         let modules = self.modules.as_slice();
         let places = module_places(alloc, modules)?;
@@ -41,8 +41,8 @@ impl ModuleTable {
 
     /// The rules of the module at this place, among main's.
     pub fn rules_at(&self, place: usize) -> Option<&[Rule]>
-        ensures { (d : KoreDefinition) (main : Text) (m : KoreModule) → KeepsReached d main self.now → slice_get (modules_reached d main) place ≡ Some m →
-            length (rule_set_of self.now).rules.items ≡ length (rewrite_axioms (modules_reached d main)) → MatchOption result ⊥ (λ own. own.now ≡ own_rules (modules_reached d main) place m (rule_set_of self.now).rules.items) }
+        ensures { let rules = (rule_set_of self.now).rules.items in
+            AtModuleKept self.now place (λ d main m. length rules ≡ length (axioms_reached d main) → MatchOption result ⊥ (λ own. own.now ≡ own_rules (modules_reached d main) place m rules)) }
     {
         match self.spans.get(place) {
             Some(span) => self.rule_set.rules.get(span.from..span.to),
@@ -60,7 +60,7 @@ fn order_from(
 ) -> Result<Option<Vec<usize>>, AllocError>
     requires places { PlacesAreBelow places.now (length modules.now) }
     requires start { start < length modules.now }
-    ensures { (name : Text) → Indexes (module_names modules.now) places.now → first_place name (module_names modules.now) ≡ Some start → ((f : Fault) → IsImportFault (map module_view modules.now) name f → ⊥) →
+    ensures { (name : Text) → let names = module_names modules.now in Indexes names places.now → first_place name names ≡ Some start → HasNoImportFault (map module_view modules.now) name →
         IfOk result (λ o. MatchOption o ⊥ (λ order. IsOver modules.now name order.items)) }
 {
     match places_in_order(alloc, modules, places, start) {

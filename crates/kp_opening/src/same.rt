@@ -12,8 +12,8 @@ ghost use Rattle.kp_signature.specs.View.{signature_view};
 ghost use Rattle.kp_compile.specs.Spelled as spelled;
 ghost use Rattle.kp_symbolic.specs.Formulas.{fact};
 ghost use Rattle.kp_symbolic.specs.Opening as model;
-ghost use Rattle.kp_symbolic.specs.View.{term_view, terms_of, literal_view};
-ghost use Rattle.kp_opening.specs.Seen.{told, members_seen, connected_by, opened_constructed};
+ghost use Rattle.kp_symbolic.specs.View.{term_view, literal_view};
+ghost use Rattle.kp_opening.specs.Seen.{told, members_seen, seen_of, all_seen_of, connected_by, opened_constructed, opened_listed};
 ghost use Rattle.kp_opening.specs.View.{formula_view, formula_list};
 
 use crate::formula::{Formula, kept_fact, make_all_if, make_fixed};
@@ -174,7 +174,7 @@ fn open_call(
     sign: bool,
     kept: &Literal,
 ) -> Result<Formula, AllocError>
-    ensures { let g = signature_view signature.now in let kept' = literal_view kept.now in let terms = terms_of (map term_view arguments.now) in IfOk result (λ f. formula_view f ≡ model.opened_call g (spelled.places_of g symbol.now) (named g symbol.now) (model.seen_terms g terms) alone sign (fact kept')) }
+    ensures { let g = signature_view signature.now in let kept' = literal_view kept.now in IfOk result (λ f. formula_view f ≡ model.opened_call g (spelled.places_of g symbol.now) (named g symbol.now) (all_seen_of g arguments.now) alone sign (fact kept')) }
 {
     match meaning_of(signature, symbol) {
         Meaning::Interpreted(Function::Negation) => {
@@ -199,7 +199,7 @@ fn open_negation(
     sign: bool,
     kept: &Literal,
 ) -> Result<Formula, AllocError>
-    ensures { let g = signature_view signature.now in let kept' = literal_view kept.now in let terms = terms_of (map term_view arguments.now) in IfOk result (λ f. formula_view f ≡ model.opened_call g (spelled.places_of g symbol.now) (interpretation truth_negation) (model.seen_terms g terms) alone sign (fact kept')) }
+    ensures { let g = signature_view signature.now in let kept' = literal_view kept.now in IfOk result (λ f. formula_view f ≡ model.opened_call g (spelled.places_of g symbol.now) (interpretation truth_negation) (all_seen_of g arguments.now) alone sign (fact kept')) }
 {
     if arguments.len() == 1 {
         return open_asked(&arguments[0], alloc, signature, alone, !sign);
@@ -220,7 +220,7 @@ fn open_two(
     sign: bool,
     kept: &Literal,
 ) -> Result<Formula, AllocError>
-    ensures { let g = signature_view signature.now in let hook' = hook_view hook in let kept' = literal_view kept.now in let terms = terms_of (map term_view arguments.now) in IfOk result (λ f. formula_view f ≡ model.opened_call g (spelled.places_of g symbol.now) (interpretation hook') (model.seen_terms g terms) alone sign (fact kept')) }
+    ensures { let g = signature_view signature.now in let kept' = literal_view kept.now in IfOk result (λ f. formula_view f ≡ model.opened_call g (spelled.places_of g symbol.now) (interpretation (hook_view hook)) (all_seen_of g arguments.now) alone sign (fact kept')) }
 {
     if arguments.len() != 2 {
         return kept_fact(alloc, kept);
@@ -255,7 +255,7 @@ fn open_compared(
     sign: bool,
     kept: &Literal,
 ) -> Result<Formula, AllocError>
-    ensures { let g = signature_view signature.now in let kept' = literal_view kept.now in let left' = term_view left.now in let right' = term_view right.now in IfOk result (λ f. formula_view f ≡ model.opened_seen g alone sign (model.common_sort (spelled.places_of g symbol.now)) (fact kept') (model.seen_term g left') (model.seen_term g right')) }
+    ensures { let g = signature_view signature.now in let kept' = literal_view kept.now in IfOk result (λ f. formula_view f ≡ model.opened_seen g alone sign (model.common_sort (spelled.places_of g symbol.now)) (fact kept') (seen_of g left.now) (seen_of g right.now)) }
 {
     let sort = common_sort(alloc, places_of(signature, symbol))?;
     open_sides(left, right, alloc, signature, &sort, alone, sign, kept)
@@ -272,7 +272,7 @@ fn open_connected(
     alone: bool,
     sign: bool,
 ) -> Result<Formula, AllocError>
-    ensures { let g = signature_view signature.now in let connective' = connective_view connective in let left' = term_view left.now in let right' = term_view right.now in IfOk result (λ f. formula_view f ≡ connected_by g connective' alone sign (model.seen_term g left') (model.seen_term g right')) }
+    ensures { let g = signature_view signature.now in let connective' = connective_view connective in IfOk result (λ f. formula_view f ≡ connected_by g connective' alone sign (seen_of g left.now) (seen_of g right.now)) }
 {
     match connective {
         Connective::Both => {
@@ -344,7 +344,7 @@ fn open_pair(
     second: bool,
     both: bool,
 ) -> Result<Formula, AllocError>
-    ensures { let g = signature_view signature.now in let left' = term_view left.now in let right' = term_view right.now in IfOk result (λ f. formula_view f ≡ model.all_if both (model.pair (model.asked g alone first (model.seen_term g left')) (model.asked g alone second (model.seen_term g right')))) }
+    ensures { let g = signature_view signature.now in let left' = seen_of g left.now in let right' = seen_of g right.now in IfOk result (λ f. formula_view f ≡ model.all_if both (model.pair (model.asked g alone first left') (model.asked g alone second right'))) }
 {
     let mut parts = Vec::new(alloc);
     parts.push(open_asked(left, alloc, signature, alone, first)?)?;
@@ -382,7 +382,7 @@ fn open_sides(
     sign: bool,
     kept: &Literal,
 ) -> Result<Formula, AllocError>
-    ensures { let g = signature_view signature.now in let sort' = sort_view sort.now in let kept' = literal_view kept.now in let left' = term_view left.now in let right' = term_view right.now in IfOk result (λ f. formula_view f ≡ model.opened_seen g alone sign sort' (fact kept') (model.seen_term g left') (model.seen_term g right')) }
+    ensures { let g = signature_view signature.now in let sort' = sort_view sort.now in let kept' = literal_view kept.now in IfOk result (λ f. formula_view f ≡ model.opened_seen g alone sign sort' (fact kept') (seen_of g left.now) (seen_of g right.now)) }
 {
     if are_same(left, right) {
         return make_fixed(alloc, sign);
@@ -405,7 +405,7 @@ fn open_truths(
     sign: bool,
     kept: &Literal,
 ) -> Result<Formula, AllocError>
-    ensures { let g = signature_view signature.now in let kept' = literal_view kept.now in let left' = term_view left.now in let right' = term_view right.now in IfOk result (λ f. formula_view f ≡ model.opened_truths g alone sign (fact kept') (model.seen_term g left') (model.seen_term g right')) }
+    ensures { let g = signature_view signature.now in let kept' = literal_view kept.now in IfOk result (λ f. formula_view f ≡ model.opened_truths g alone sign (fact kept') (seen_of g left.now) (seen_of g right.now)) }
 {
     if let Some(holds) = truth_known(right) {
         return open_told(left, alloc, signature, alone, holds == sign, kept);
@@ -473,7 +473,7 @@ fn open_alike(
     alone: bool,
     sign: bool,
 ) -> Result<Formula, AllocError>
-    ensures { let g = signature_view signature.now in let left' = term_view left.now in let right' = term_view right.now in let the_members_seen = members_seen (model.seen_term g left') in IfOk result (λ f. formula_view f ≡ model.all_if sign (model.opened_members g alone sign (spelled.places_of g constructor.now) the_members_seen (members_seen (model.seen_term g right')))) }
+    ensures { let g = signature_view signature.now in let lefts = members_seen (seen_of g left.now) in let rights = members_seen (seen_of g right.now) in IfOk result (λ f. formula_view f ≡ opened_listed g alone sign constructor.now lefts rights) }
 {
     let lefts = members_of(alloc, left)?;
     let rights = members_of(alloc, right)?;
@@ -491,7 +491,7 @@ fn open_listed(
     alone: bool,
     sign: bool,
 ) -> Result<Formula, AllocError>
-    ensures { let g = signature_view signature.now in IfOk result (λ f. formula_view f ≡ model.all_if sign (model.opened_members g alone sign (spelled.places_of g constructor.now) (model.seen_terms g (terms_of (map term_view lefts.now))) (model.seen_terms g (terms_of (map term_view rights.now))))) }
+    ensures { let g = signature_view signature.now in let lefts' = all_seen_of g lefts.now in let rights' = all_seen_of g rights.now in IfOk result (λ f. formula_view f ≡ opened_listed g alone sign constructor.now lefts' rights') }
 {
     let sorts = places_of(signature, constructor);
     let parts = open_members(lefts, rights, alloc, signature, sorts, alone, sign)?;
@@ -509,7 +509,7 @@ fn open_member(
     alone: bool,
     sign: bool,
 ) -> Result<Formula, AllocError>
-    ensures { let g = signature_view signature.now in let right' = term_view right.now in let sort' = sort_view sort.now in let left' = term_view left.now in IfOk result (λ f. formula_view f ≡ model.opened_seen g alone sign sort' (model.equality_fact sign sort' left' right') (model.seen_term g left') (model.seen_term g right')) }
+    ensures { let g = signature_view signature.now in let left' = term_view left.now in let right' = term_view right.now in IfOk result (λ f. formula_view f ≡ model.opened_same g alone sign (sort_view sort.now) left' right') }
 {
     let kept = member_equality(alloc, sign, sort, left, right)?;
     open_sides(left, right, alloc, signature, sort, alone, sign, &kept)
@@ -539,7 +539,7 @@ fn open_members(
     alone: bool,
     sign: bool,
 ) -> Result<Vec<Formula>, AllocError>
-    ensures { let g = signature_view signature.now in let sorts' = sorts_view sorts.now in IfOk result (λ fs. map formula_view fs.items ≡ formula_list (model.opened_members g alone sign sorts' (model.seen_terms g (terms_of (map term_view lefts.now))) (model.seen_terms g (terms_of (map term_view rights.now))))) }
+    ensures { let g = signature_view signature.now in let sorts' = sorts_view sorts.now in IfOk result (λ fs. map formula_view fs.items ≡ formula_list (model.opened_members g alone sign sorts' (all_seen_of g lefts.now) (all_seen_of g rights.now))) }
 {
     let both = lesser(lefts.len(), rights.len());
     let most = lesser(both, sorts.len());

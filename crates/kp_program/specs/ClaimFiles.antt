@@ -1,6 +1,6 @@
 -- What is told of a claims' file; for private clauses.
 use Rattle.std.specs.Prelude.{◌≡◌, ◌≤◌, ℕ, List, [], length, Option, Some, IfSome, string_bytes, ⊤}
-use Rattle.std.specs.List.{AllZip}
+use Rattle.std.specs.List.{AllByRecursion, AllZip}
 use Rattle.kp_kore.specs.Syntax.{Text, KoreModule}
 use Rattle.kp_kore.specs.Signature.{KoreSignature}
 use Rattle.kp_io.specs.Outside.{Names, load_limit}
@@ -40,3 +40,7 @@ IsClaimsTrouble names name g failed trouble.Memory = ⊤
 -- no side of the claim has a variable
 abbrev pub IsGroundClaim : LabelledClaim → Type 0
 IsGroundClaim c = IsGround c.claim
+
+-- no side of any of the claims has one
+abbrev pub AreGround : List LabelledClaim → Type 0
+AreGround claims = AllByRecursion IsGroundClaim claims

@@ -3,8 +3,9 @@ use Rattle.std.specs.Prelude.{◌≡◌, ◌⊎◌, ℕ, List, Option}
 use Rattle.std.specs.Io.KnownBytes.{Appends}
 use Rattle.kp_kore.specs.Syntax.{Text}
 use Rattle.kp_io.specs.Outside.{Names}
-use Rattle.kp_program.specs.Proofs.{ProvedWords}
+use Rattle.kp_program.specs.Proofs.{Proved, ProvedWords}
 use Rattle.kp_program.specs.Served.{BreaksWords, GainsFront, ServesWords}
+use Rattle.kp_program.specs.Words.{ProveWords}
 
 -- with this status, from what the input had left and the output held to what they have then
 abbrev pub DoesWords : Option Names → Option (List ℕ) → Option (List ℕ) → Option (List ℕ) → Option (List ℕ) → List Text → ℕ → Type 0
@@ -15,3 +16,12 @@ DoesWords names left left_after held held_after words status =
 abbrev pub BeginsWords : Option Names → Option (List ℕ) → Option (List ℕ) → Option (List ℕ) → Option (List ℕ) → List Text → Type 0
 BeginsWords names left left_after held held_after words =
     BreaksWords names left left_after held held_after words ⊎ ((status : ℕ) × ProvedWords names (GainsFront held held_after) words status)
+
+-- the input and the output are as they were, or a front of it is done
+abbrev pub MayBegin : Option Names → Option (List ℕ) → Option (List ℕ) → Option (List ℕ) → Option (List ℕ) → List Text → Type 0
+MayBegin names left left_after held held_after words =
+    ((left_after ≡ left) × (held_after ≡ held)) ⊎ BeginsWords names left left_after held held_after words
+
+-- the output is as it was, or gained a front of a report, whatever the status was to be
+abbrev pub MayProve : Option Names → Option (List ℕ) → Option (List ℕ) → ProveWords → Type 0
+MayProve names held held_after c = (held_after ≡ held) ⊎ ((status : ℕ) × Proved names (GainsFront held held_after) c status)

@@ -2,7 +2,7 @@
 -- The file's bytes spell a definition; its modules are bound from the start; the frames of the input were answered one
 -- after another, each at the book of modules that those before it made of an empty one.
 -- Source: Kore text; JSON-RPC 2.0 over a stream; the K Haskell backend's JSON-RPC documentation (stdio, add-module).
-use Rattle.std.specs.Prelude.{◌≡◌, ℕ, List, [], take, Option, Some, IfSome, ⊤}
+use Rattle.std.specs.Prelude.{◌≡◌, ◌⊎◌, ℕ, List, [], take, Option, Some, IfSome, ⊤}
 use Rattle.std.specs.Io.KnownBytes.{Appends}
 use Rattle.kp_kore.specs.Syntax.{Text, KoreDefinition}
 use Rattle.kp_io.specs.Outside.{Names}
@@ -60,6 +60,11 @@ ServesFile names left left_after held held_after name main = OverFile names name
 
 abbrev pub BreaksFile : Option Names → Option (List ℕ) → Option (List ℕ) → Option (List ℕ) → Option (List ℕ) → Text → Text → Type 0
 BreaksFile names left left_after held held_after name main = OverFile names name main (λ o. BreaksOff o left left_after held held_after)
+
+-- the input and the output are as they were, or serving broke off
+abbrev pub MayBreakFile : Option Names → Option (List ℕ) → Option (List ℕ) → Option (List ℕ) → Option (List ℕ) → Text → Text → Type 0
+MayBreakFile names left left_after held held_after name main =
+    ((left_after ≡ left) × (held_after ≡ held)) ⊎ BreaksFile names left left_after held held_after name main
 
 -- the same for the command that the words spell
 abbrev pub ServesWords : Option Names → Option (List ℕ) → Option (List ℕ) → Option (List ℕ) → Option (List ℕ) → List Text → Type 0

@@ -4,7 +4,7 @@ use Rattle.std.specs.Prelude.{◌≡◌, ◌⊎◌, ℕ, List, ◌++◌, Option,
 use Rattle.std.specs.Fmt.{decimal}
 use Rattle.std.specs.Io.KnownBytes.{Appends}
 use Rattle.kp_kore.specs.Syntax.{Text}
-use Rattle.kp_io.specs.Outside.{Names}
+use Rattle.kp_io.specs.Outside.{Names, Rose}
 use Rattle.kp_text.specs.Kinds.{kind_number}
 use Rattle.kp_imports.specs.Faults.{fault_code}
 use Rattle.kp_program.specs.Faults.{FileFault, too_long, in_text, in_modules, in_claims, IsFileFault, IsFaultless, IsClaimsFault, AreFaultlessClaims, claim_code}
@@ -49,6 +49,10 @@ abbrev pub Tells : Type 0 → Option (List ℕ) → Option (List ℕ) → Text �
 Tells failed before after line = Appends before after line ⊎ (failed × GainsFront before after line)
 
 -- ---- causes
+
+-- the count of faults of the shelf, of the input or of the output rose
+abbrev pub SomeRose : ℕ → ℕ → ℕ → ℕ → ℕ → ℕ → Type 0
+SomeRose shelf shelf_after input input_after out out_after = Rose shelf shelf_after ⊎ (Rose input input_after ⊎ Rose out out_after)
 
 -- the words name this file as the definition's, and it has this fault
 pub record IsFaultyDefinition (names : Option Names) (words : List Text) (name : Text) (f : FileFault) : Type 0 where

@@ -2,10 +2,11 @@
 use Rattle.std.specs.Prelude.{◌≡◌, ◌⊎◌, ℕ, List, [], Option, Some, None, string_bytes, ⊤}
 use Rattle.kp_kore.specs.Syntax.{Text}
 use Rattle.kp_kore.specs.Signature.{KoreSignature}
+use Rattle.kp_io.specs.Outside.{Names}
 use Rattle.kp_claims.specs.Faults as claims
 use Rattle.kp_imports.specs.Faults.{told_fault}
 use Rattle.kp_program.specs.Faults.{FileFault, too_long, in_text, in_modules, in_claims, IsFileFault, IsClaimsFault}
-use Rattle.kp_program.specs.Statuses.{Ending, faulty, no_file, outside, memory, exit_status, line_of, Tells}
+use Rattle.kp_program.specs.Statuses.{Ending, faulty, no_file, outside, memory, exit_status, line_of, IsCause, Tells}
 use Rattle.kp_program.specs.declared.trouble.FileFault as code
 use Rattle.kp_program.specs.declared.trouble.FileFault.TheVariants as file
 use Rattle.kp_program.specs.declared.trouble.Trouble.{Trouble}
@@ -27,6 +28,10 @@ ending_of (trouble.File name f) = faulty (string_bytes name) (file_fault_view f)
 ending_of (trouble.NoFile name) = no_file (string_bytes name)
 ending_of trouble.Outside = outside
 ending_of trouble.Memory = memory
+
+-- the trouble has its cause, over a shelf with these names
+abbrev pub HasCause : Option Names → List Text → Type 0 → Trouble → Type 0
+HasCause names words failed t = IsCause names words failed (ending_of t)
 
 -- the trouble tells the fault of the file of this name with these bytes, or want of memory
 abbrev pub IsFaulty : List ℕ → Text → Text → Trouble → Type 0

@@ -4,11 +4,11 @@ ghost use Rattle.kp_book.specs.Books.{Opening};
 ghost use Rattle.kp_modules.specs.Openings.{IsTableOf};
 ghost use Rattle.kp_conn.specs.declared.served.Served.TheVariants.{ReadFault, WriteFault, Memory as OutOfMemory};
 ghost use Rattle.kp_program.specs.Commands.{IsCommand};
-ghost use Rattle.kp_program.specs.Does.{BeginsWords, DoesWords};
+ghost use Rattle.kp_program.specs.Does.{DoesWords, MayBegin};
 ghost use Rattle.kp_program.specs.Headline.{PassedHolds};
-ghost use Rattle.kp_program.specs.Served.{BreaksFile, BreaksOff, IsWhole, ServesFile, ServesInput};
-ghost use Rattle.kp_program.specs.Statuses.{IsCause, IsEnded, IsPossible, exit_status};
-ghost use Rattle.kp_program.specs.Troubles.{IsLate, ending_of};
+ghost use Rattle.kp_program.specs.Served.{BreaksOff, IsWhole, MayBreakFile, ServesFile, ServesInput};
+ghost use Rattle.kp_program.specs.Statuses.{IsEnded, IsPossible, SomeRose, exit_status};
+ghost use Rattle.kp_program.specs.Troubles.{HasCause, IsLate, ending_of};
 ghost use Rattle.kp_program.specs.Words.{NamesDefinition, ProveWords, SpellsProve, SpellsSome};
 
 use crate::command::{Command, Stdio, command_of};
@@ -38,18 +38,21 @@ pub fn run<H: Shelf, I: Source, O: Sink, E: Sink>(
     // each line that tells a claim as passed is of a claim that holds
     ensures headline { result ≤ 2 → PassedHolds (H.names shelf.old) (map string_bytes words.now) (O.held out.old) (O.held out.new) }
     // why it is another status, and what standard error got
-    ensures ended { let Failed = Rose (H.fault_count shelf.old) (H.fault_count shelf.new) ⊎ (Rose (I.fault_count input.old) (I.fault_count input.new) ⊎ Rose (O.fault_count out.old) (O.fault_count out.new)) in
-        3 ≤ result → IsEnded (H.names shelf.old) (map string_bytes words.now) Failed (E.held err.old) (E.held err.new) (Rose (E.fault_count err.old) (E.fault_count err.new)) result }
+    ensures ended { let Failed = SomeRose (H.fault_count shelf.old) (H.fault_count shelf.new) (I.fault_count input.old) (I.fault_count input.new) (O.fault_count out.old) (O.fault_count out.new) in
+        let Untold = Rose (E.fault_count err.old) (E.fault_count err.new) in
+        3 ≤ result → IsEnded (H.names shelf.old) (map string_bytes words.now) Failed (E.held err.old) (E.held err.new) Untold result }
     ensures usage { (result ≡ 3) ↔ ¬ SpellsSome (map string_bytes words.now) }
-    ensures complete { let Failed = Rose (H.fault_count shelf.old) (H.fault_count shelf.new) ⊎ (Rose (I.fault_count input.old) (I.fault_count input.new) ⊎ Rose (O.fault_count out.old) (O.fault_count out.new)) in
+    ensures complete { let Failed = SomeRose (H.fault_count shelf.old) (H.fault_count shelf.new) (I.fault_count input.old) (I.fault_count input.new) (O.fault_count out.old) (O.fault_count out.new) in
         IfSome (H.names shelf.old) (λ held. IsPossible (map string_bytes words.now) held → ¬ Failed → (result ≤ 2) ⊎ (result ≡ 7)) }
     ensures untold { result ≤ 2 → E.held err.new ≡ E.held err.old }
     ensures untouched { let Untouched = (I.left input.new ≡ I.left input.old) × (O.held out.new ≡ O.held out.old) in 3 ≤ result → result ≤ 5 → Untouched }
     ensures unread { (c : ProveWords) → SpellsProve (map string_bytes words.now) c → I.left input.new ≡ I.left input.old }
-    ensures front { let Untouched = (I.left input.new ≡ I.left input.old) × (O.held out.new ≡ O.held out.old) in
-        3 ≤ result → Untouched ⊎ BeginsWords (H.names shelf.old) (I.left input.old) (I.left input.new) (O.held out.old) (O.held out.new) (map string_bytes words.now) }
+    ensures front { let words' = map string_bytes words.now in 3 ≤ result → MayBegin (H.names shelf.old) (I.left input.old) (I.left input.new) (O.held out.old) (O.held out.new) words' }
     ensures files_kept { H.names shelf.new ≡ H.names shelf.old }
-    ensures counts { (H.fault_count shelf.old ≤ H.fault_count shelf.new) × (I.fault_count input.old ≤ I.fault_count input.new) × (O.fault_count out.old ≤ O.fault_count out.new) × (E.fault_count err.old ≤ E.fault_count err.new) }
+    ensures shelf_count { H.fault_count shelf.old ≤ H.fault_count shelf.new }
+    ensures input_count { I.fault_count input.old ≤ I.fault_count input.new }
+    ensures out_count { O.fault_count out.old ≤ O.fault_count out.new }
+    ensures err_count { E.fault_count err.old ≤ E.fault_count err.new }
 {
     match command_of(words) {
         None => told(err, "kprove: usage\n", 3),
@@ -68,13 +71,14 @@ fn obey<H: Shelf, I: Source, O: Sink>(
     input: &mut I,
     out: &mut O,
 ) -> Result<u8, Trouble>
-    ensures done { (words : List (List ℕ)) → IsCommand words command.now → IfOk result (λ status. (status ≤ 2) × DoesWords (H.names shelf.old) (I.left input.old) (I.left input.new) (O.held out.old) (O.held out.new) words status) }
-    ensures cause { let Failed = Rose (H.fault_count shelf.old) (H.fault_count shelf.new) ⊎ (Rose (I.fault_count input.old) (I.fault_count input.new) ⊎ Rose (O.fault_count out.old) (O.fault_count out.new)) in
-        (words : List (List ℕ)) → IsCommand words command.now → IfErr result (λ trouble. IsCause (H.names shelf.old) words Failed (ending_of trouble)) }
+    ensures done { let names = H.names shelf.old in
+        (words : List (List ℕ)) → IsCommand words command.now → IfOk result (λ status. (status ≤ 2) × DoesWords names (I.left input.old) (I.left input.new) (O.held out.old) (O.held out.new) words status) }
+    ensures cause { let Failed = SomeRose (H.fault_count shelf.old) (H.fault_count shelf.new) (I.fault_count input.old) (I.fault_count input.new) (O.fault_count out.old) (O.fault_count out.new) in
+        (words : List (List ℕ)) → IsCommand words command.now → IfErr result (HasCause (H.names shelf.old) words Failed) }
     ensures untouched { let Untouched = (I.left input.new ≡ I.left input.old) × (O.held out.new ≡ O.held out.old) in IfErr result (λ trouble. exit_status (ending_of trouble) ≤ 5 → Untouched) }
     ensures unread { (words : List (List ℕ)) (c : ProveWords) → IsCommand words command.now → SpellsProve words c → I.left input.new ≡ I.left input.old }
-    ensures front { let Untouched = (I.left input.new ≡ I.left input.old) × (O.held out.new ≡ O.held out.old) in
-        (words : List (List ℕ)) → IsCommand words command.now → OnErr result (Untouched ⊎ BeginsWords (H.names shelf.old) (I.left input.old) (I.left input.new) (O.held out.old) (O.held out.new) words) }
+    ensures front { let names = H.names shelf.old in
+        (words : List (List ℕ)) → IsCommand words command.now → OnErr result (MayBegin names (I.left input.old) (I.left input.new) (O.held out.old) (O.held out.new) words) }
     ensures files_kept { H.names shelf.new ≡ H.names shelf.old }
     ensures shelf_count { H.fault_count shelf.old ≤ H.fault_count shelf.new }
     ensures input_count { I.fault_count input.old ≤ I.fault_count input.new }
@@ -97,12 +101,14 @@ fn serve_input<H: Shelf, I: Source, O: Sink>(
     input: &mut I,
     out: &mut O,
 ) -> Result<(), Trouble>
-    ensures served { OnOk result (ServesFile (H.names shelf.old) (I.left input.old) (I.left input.new) (O.held out.old) (O.held out.new) command.now.definition.now command.now.module_name.now) }
-    ensures cause { let Failed = Rose (H.fault_count shelf.old) (H.fault_count shelf.new) ⊎ (Rose (I.fault_count input.old) (I.fault_count input.new) ⊎ Rose (O.fault_count out.old) (O.fault_count out.new)) in
-        (words : List (List ℕ)) → NamesDefinition words command.now.definition.now command.now.module_name.now → IfErr result (λ trouble. IsCause (H.names shelf.old) words Failed (ending_of trouble)) }
+    ensures served { let definition' = command.now.definition.now in let main' = command.now.module_name.now in
+        OnOk result (ServesFile (H.names shelf.old) (I.left input.old) (I.left input.new) (O.held out.old) (O.held out.new) definition' main') }
+    ensures cause { let Failed = SomeRose (H.fault_count shelf.old) (H.fault_count shelf.new) (I.fault_count input.old) (I.fault_count input.new) (O.fault_count out.old) (O.fault_count out.new) in
+        let definition' = command.now.definition.now in let main' = command.now.module_name.now in
+        (words : List (List ℕ)) → NamesDefinition words definition' main' → IfErr result (HasCause (H.names shelf.old) words Failed) }
     ensures untouched { let Untouched = (I.left input.new ≡ I.left input.old) × (O.held out.new ≡ O.held out.old) in IfErr result (λ trouble. exit_status (ending_of trouble) ≤ 5 → Untouched) }
-    ensures front { let Untouched = (I.left input.new ≡ I.left input.old) × (O.held out.new ≡ O.held out.old) in
-        OnErr result (Untouched ⊎ BreaksFile (H.names shelf.old) (I.left input.old) (I.left input.new) (O.held out.old) (O.held out.new) command.now.definition.now command.now.module_name.now) }
+    ensures front { let definition' = command.now.definition.now in let main' = command.now.module_name.now in
+        OnErr result (MayBreakFile (H.names shelf.old) (I.left input.old) (I.left input.new) (O.held out.old) (O.held out.new) definition' main') }
     ensures files_kept { H.names shelf.new ≡ H.names shelf.old }
     ensures shelf_count { H.fault_count shelf.old ≤ H.fault_count shelf.new }
     ensures input_count { I.fault_count input.old ≤ I.fault_count input.new }

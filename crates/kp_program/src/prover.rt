@@ -1,6 +1,6 @@
 // The proofs of a claims' file, and their report.
 ghost use Rattle.std.specs.Prelude.{◌≡◌, ◌<◌, ◌≤◌, ◌⊎◌, ℕ, IfErr, IfOk, List, OnErr, Some, length, map, slice_get};
-ghost use Rattle.std.specs.List.{AllByRecursion, AllZip, list_all, list_any};
+ghost use Rattle.std.specs.List.{AllZip, list_all, list_any};
 ghost use Rattle.std.specs.Io.KnownBytes.{Appends};
 ghost use Rattle.kp_kore.specs.Theory.{Theory};
 ghost use Rattle.kp_book.specs.Books.{Opening};
@@ -11,15 +11,16 @@ ghost use Rattle.kp_claims.specs.Items.{items_view};
 ghost use Rattle.kp_report.specs.Report.{IsReport};
 ghost use Rattle.kp_client.specs.View.{outcome_view};
 ghost use Rattle.kp_report.specs.View.{line_view};
-ghost use Rattle.kp_program.specs.ClaimFiles.{IsGroundClaim};
+ghost use Rattle.kp_program.specs.ClaimFiles.{AreGround, IsGroundClaim};
 ghost use Rattle.kp_program.specs.Commands.{prove_view};
 ghost use Rattle.kp_server.specs.Setting.{IsSettingOf};
 ghost use Rattle.kp_program.specs.Loaded.{IsLoaded};
+ghost use Rattle.kp_program.specs.Does.{MayProve};
 ghost use Rattle.kp_program.specs.LocalTold.{IsReadyService, IsTheoryOver, table_of};
 ghost use Rattle.kp_program.specs.Proofs.{AreReported, IsLineFor, Proved, has_failed, has_passed, proof_status};
 ghost use Rattle.kp_program.specs.Served.{GainsFront};
-ghost use Rattle.kp_program.specs.Statuses.{IsCause, exit_status as trouble_status};
-ghost use Rattle.kp_program.specs.Troubles.{IsLate, ending_of};
+ghost use Rattle.kp_program.specs.Statuses.{exit_status as trouble_status};
+ghost use Rattle.kp_program.specs.Troubles.{HasCause, IsLate, ending_of};
 ghost use Rattle.kp_program.specs.Words.{SpellsProve};
 
 use crate::claims::load_claims;
@@ -46,9 +47,9 @@ pub fn prove_file<H: Shelf, O: Sink>(
 ) -> Result<u8, Trouble>
     ensures proved { IfOk result (Proved (H.names shelf.old) (Appends (O.held out.old) (O.held out.new)) (prove_view command.now)) }
     ensures cause { let Failed = Rose (H.fault_count shelf.old) (H.fault_count shelf.new) ⊎ Rose (O.fault_count out.old) (O.fault_count out.new) in
-        (words : List (List ℕ)) → let command' = prove_view command.now in SpellsProve words command' → IfErr result (λ trouble. IsCause (H.names shelf.old) words Failed (ending_of trouble)) }
+        (words : List (List ℕ)) → let command' = prove_view command.now in SpellsProve words command' → IfErr result (HasCause (H.names shelf.old) words Failed) }
     ensures untouched { IfErr result (λ trouble. trouble_status (ending_of trouble) ≤ 5 → O.held out.new ≡ O.held out.old) }
-    ensures front { let command' = prove_view command.now in OnErr result ((O.held out.new ≡ O.held out.old) ⊎ ((status : ℕ) × Proved (H.names shelf.old) (GainsFront (O.held out.old) (O.held out.new)) command' status)) }
+    ensures front { let command' = prove_view command.now in OnErr result (MayProve (H.names shelf.old) (O.held out.old) (O.held out.new) command') }
     ensures files_kept { H.names shelf.new ≡ H.names shelf.old }
     ensures shelf_count { H.fault_count shelf.old ≤ H.fault_count shelf.new }
     ensures out_count { O.fault_count out.old ≤ O.fault_count out.new }
@@ -67,11 +68,14 @@ fn prove_over<H: Shelf, O: Sink>(
     shelf: &mut H,
     out: &mut O,
 ) -> Result<u8, Trouble>
-    ensures proved { (l : IsLoaded (H.names shelf.old) command.now.definition.now command.now.module_name.now) → let command' = prove_view command.now in IsSettingOf l.setting table → IsTableOf (opening_of l.definition command.now.module_name.now) table → IfOk result (Proved (H.names shelf.old) (Appends (O.held out.old) (O.held out.new)) command') }
+    ensures proved { let names = H.names shelf.old in let command' = prove_view command.now in
+        (l : IsLoaded names command'.definition command'.main) → IsSettingOf l.setting table → IsTableOf (opening_of l.definition command'.main) table → IfOk result (Proved names (Appends (O.held out.old) (O.held out.new)) command') }
     ensures cause { let Failed = Rose (H.fault_count shelf.old) (H.fault_count shelf.new) ⊎ Rose (O.fault_count out.old) (O.fault_count out.new) in
-        (words : List (List ℕ)) (l : IsLoaded (H.names shelf.old) command.now.definition.now command.now.module_name.now) → let command' = prove_view command.now in IsSettingOf l.setting table → IsTableOf (opening_of l.definition command.now.module_name.now) table → SpellsProve words command' → IfErr result (λ trouble. IsCause (H.names shelf.old) words Failed (ending_of trouble)) }
+        let command' = prove_view command.now in
+        (words : List (List ℕ)) (l : IsLoaded (H.names shelf.old) command'.definition command'.main) → IsSettingOf l.setting table → IsTableOf (opening_of l.definition command'.main) table → SpellsProve words command' → IfErr result (HasCause (H.names shelf.old) words Failed) }
     ensures untouched { IfErr result (λ trouble. trouble_status (ending_of trouble) ≤ 5 → O.held out.new ≡ O.held out.old) }
-    ensures front { (l : IsLoaded (H.names shelf.old) command.now.definition.now command.now.module_name.now) → let command' = prove_view command.now in IsSettingOf l.setting table → IsTableOf (opening_of l.definition command.now.module_name.now) table → OnErr result ((O.held out.new ≡ O.held out.old) ⊎ ((status : ℕ) × Proved (H.names shelf.old) (GainsFront (O.held out.old) (O.held out.new)) command' status)) }
+    ensures front { let names = H.names shelf.old in let command' = prove_view command.now in
+        (l : IsLoaded names command'.definition command'.main) → IsSettingOf l.setting table → IsTableOf (opening_of l.definition command'.main) table → OnErr result (MayProve names (O.held out.old) (O.held out.new) command') }
     ensures files_kept { H.names shelf.new ≡ H.names shelf.old }
     ensures shelf_count { H.fault_count shelf.old ≤ H.fault_count shelf.new }
     ensures out_count { O.fault_count out.old ≤ O.fault_count out.new }
@@ -90,9 +94,9 @@ fn report_claims<O: Sink>(
     max_depth: u64,
     out: &mut O,
 ) -> Result<u8, Trouble>
-    ensures reported { (o : Opening) (t : Theory) → let claims' = items_view claims.now in IsTheoryOver table o t → AllByRecursion IsGroundClaim claims' → IfOk result (AreReported o t max_depth claims' (Appends (O.held out.old) (O.held out.new))) }
+    ensures reported { (o : Opening) (t : Theory) → let claims' = items_view claims.now in IsTheoryOver table o t → AreGround claims' → IfOk result (AreReported o t max_depth claims' (Appends (O.held out.old) (O.held out.new))) }
     ensures late { IfErr result (IsLate (Rose (O.fault_count out.old) (O.fault_count out.new))) }
-    ensures front { (o : Opening) (t : Theory) → let claims' = items_view claims.now in IsTheoryOver table o t → AllByRecursion IsGroundClaim claims' → OnErr result ((O.held out.new ≡ O.held out.old) ⊎ ((status : ℕ) × AreReported o t max_depth claims' (GainsFront (O.held out.old) (O.held out.new)) status)) }
+    ensures front { (o : Opening) (t : Theory) → let claims' = items_view claims.now in IsTheoryOver table o t → AreGround claims' → OnErr result ((O.held out.new ≡ O.held out.old) ⊎ ((status : ℕ) × AreReported o t max_depth claims' (GainsFront (O.held out.old) (O.held out.new)) status)) }
     ensures count { O.fault_count out.old ≤ O.fault_count out.new }
 {
     let lines = lines_over(alloc, table, claims, max_depth)?;
@@ -111,7 +115,7 @@ fn lines_over(
     claims: &[ClaimItem],
     max_depth: u64,
 ) -> Result<Vec<Line>, AllocError>
-    ensures { (o : Opening) (t : Theory) → let claims' = items_view claims.now in IsTheoryOver table o t → AllByRecursion IsGroundClaim claims' → IfOk result (λ lines. AllZip (IsLineFor o t max_depth) claims' (map line_view lines.items)) }
+    ensures { (o : Opening) (t : Theory) → let claims' = items_view claims.now in IsTheoryOver table o t → AreGround claims' → IfOk result (λ lines. AllZip (IsLineFor o t max_depth) claims' (map line_view lines.items)) }
 {
     let (service, _pass) = Service::begin(alloc, table, 1)?;
     prove_all(alloc, &service, claims, max_depth)
@@ -125,7 +129,7 @@ fn prove_all(
     max_depth: u64,
 ) -> Result<Vec<Line>, AllocError>
     requires ready { IsReadyService service.now }
-    ensures { (o : Opening) (t : Theory) → let claims' = items_view claims.now in IsTheoryOver (table_of service.now) o t → AllByRecursion IsGroundClaim claims' → IfOk result (λ lines. AllZip (IsLineFor o t max_depth) claims' (map line_view lines.items)) }
+    ensures { (o : Opening) (t : Theory) → let claims' = items_view claims.now in IsTheoryOver (table_of service.now) o t → AreGround claims' → IfOk result (λ lines. AllZip (IsLineFor o t max_depth) claims' (map line_view lines.items)) }
 {
     let mut lines = Vec::new(alloc);
     for place in 0..claims.len() {

@@ -77,7 +77,7 @@ fn read_clause<'a>(
     after: &[Clause],
     clause: &'a [Literal],
 ) -> Result<Vec<ReadLiteral<'a>>, AllocError>
-    ensures view { IfOk result (λ c. map read_view c.items ≡ model.read_clause (signature_view signature.now) (state_view state.now) (clauses_view before.now ++ clauses_view after.now) (map literal_view clause.now)) }
+    ensures view { let g = signature_view signature.now in let others = clauses_view before.now ++ clauses_view after.now in IfOk result (λ c. map read_view c.items ≡ model.read_clause g (state_view state.now) others (map literal_view clause.now)) }
     ensures kinds { IfOk result (λ c. IsClauseOfKind (signature_view signature.now) c.items) }
 {
     match clause {

@@ -118,7 +118,7 @@ fn equation_of_variables<'a>(
     second: &'a Variable,
     right: &'a Term,
 ) -> Option<Equation<'a>>
-    ensures { option_map equation_view result ≡ solved_for_either (signature_view signature.now) (variable_view first.now) (term_view left.now) (variable_view second.now) (term_view right.now) }
+    ensures { let first' = variable_view first.now in let second' = variable_view second.now in option_map equation_view result ≡ solved_for_either (signature_view signature.now) first' (term_view left.now) second' (term_view right.now) }
 {
     if goes_first(first, second) {
         return equation_if(signature, second, left);
@@ -255,7 +255,7 @@ fn equation_beside<'a>(
     truth: &'a Term,
     sides: Option<Equation<'a>>,
 ) -> Option<Equation<'a>>
-    ensures { option_map equation_view result ≡ model.first_equation (model.equation_of_truth (signature_view signature.now) holds (term_view truth.now)) (option_map equation_view sides.entry) }
+    ensures { let equated = model.equation_of_truth (signature_view signature.now) holds (term_view truth.now) in option_map equation_view result ≡ model.first_equation equated (option_map equation_view sides.entry) }
 {
     match equation_of_truth(signature, holds, truth) {
         Some(equation) => Some(equation),

@@ -148,7 +148,7 @@ pub fn own_form<'a>(
     after: &[Clause],
     literal: &'a Literal,
 ) -> Result<Option<LiteralForm<'a>>, AllocError>
-    ensures view { IfOk result (λ f. option_map form_view f ≡ model.own_form (signature_view signature.now) (state_view state.now) (clauses_view before.now ++ clauses_view after.now) (literal_view literal.now)) }
+    ensures view { let g = signature_view signature.now in let others = clauses_view before.now ++ clauses_view after.now in IfOk result (λ f. option_map form_view f ≡ model.own_form g (state_view state.now) others (literal_view literal.now)) }
     ensures kinds { IfOk result (IsSaidAmong (signature_view signature.now) (atom_variables (literal_view literal.now).atom)) }
 {
     if let Some(form) = form_of(signature, literal) {

@@ -116,7 +116,7 @@ fn add_rough(
     alloc: Global,
     clause: &[ReadLiteral],
 ) -> Result<(), AllocError>
-    ensures { OnOk result (terms.clauses_view rough.new.items ≡ terms.clauses_view rough.old.items ++ map model.literals_of (filter (λ c. not (model.is_plain_clause c)) (map read_view clause.now ∷ []))) }
+    ensures { let added = filter (λ c. not (model.is_plain_clause c)) (map read_view clause.now ∷ []) in OnOk result (terms.clauses_view rough.new.items ≡ terms.clauses_view rough.old.items ++ map model.literals_of added) }
 {
     if !is_plain(clause) {
         let literals = literals_of(alloc, clause)?;

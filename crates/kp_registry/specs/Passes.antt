@@ -15,6 +15,8 @@ use Rattle.kp_kore.specs.Theory.{NumberedAxiom}
 use Rattle.kp_rule_sets.specs.declared.rule_set.RuleSet.{RuleSet}
 use Rattle.kp_book.specs.Books.{Opening, Registration, meaning_in, most_entries}
 use Rattle.kp_modules.specs.Made.{IsSetOf}
+use Rattle.kp_modules.specs.Openings.{IsTableOf}
+use Rattle.kp_modules.specs.declared.table.ModuleTable.{ModuleTable}
 use Rattle.kp_registry.specs.declared.seen.NameBinding.{NameBinding}
 use Rattle.kp_registry.specs.declared.seen.Entry.{Entry}
 use Rattle.kp_registry.specs.declared.seen.Pass.{Pass}
@@ -32,6 +34,10 @@ pub record IsEntryOf (g : KoreSignature) (r : Registration) (e : Entry) : Type 0
 -- the pass has seen this book
 abbrev pub HasSeen : KoreSignature → List Registration → Pass → Type 0
 HasSeen g book p = AllZip (IsEntryOf g) book p.entries.items
+
+-- this holds at each opening whose table this is and each book that the pass has seen over it
+abbrev pub AtEachSeenBy : ModuleTable → Pass → (Opening → List Registration → Type 0) → Type 0
+AtEachSeenBy t p Holds = (o : Opening) (book : List Registration) → IsTableOf o t → HasSeen o.signature book p → Holds o book
 
 -- what a name means at this book is a rule set made of its axioms; it means nothing where there is none
 abbrev pub MeansAt : Opening → List Registration → Text → Option RuleSet → Type 0

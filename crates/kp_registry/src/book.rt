@@ -4,7 +4,7 @@ ghost use Rattle.std.specs.Str.{IsUtf8};
 ghost use Rattle.kp_book.specs.Books.{Opening, Registration, most_entries};
 ghost use Rattle.kp_modules.specs.Openings.{IsTableOf};
 ghost use Rattle.kp_registry.specs.Legal.{IsExtension, IsLegal, id_of as stated_id};
-ghost use Rattle.kp_registry.specs.Passes.{HasSeen, IsEntryOf, IsPass, IsReady, MeansAt, own_name_asked};
+ghost use Rattle.kp_registry.specs.Passes.{AtEachSeenBy, HasSeen, IsEntryOf, IsPass, IsReady, MeansAt, own_name_asked};
 ghost use Rattle.kp_registry.specs.Refusals.{IsRefused, IsWelcome, TellsAlsoDuplicate, TellsDuplicate, TellsFault, own_name_of};
 
 use crate::entries::MOST_ENTRIES;
@@ -66,8 +66,7 @@ impl Registry {
     ) -> Result<Option<Arc<RuleSet>>, AllocError>
         requires pass { IsPass pass.old }
         ensures pass { pass.new ≡ pass.old }
-        ensures found { (o : Opening) (book : List Registration) → IsTableOf o self.now.table → HasSeen o.signature book pass.old →
-            IfOk result (λ found. MeansAt o book name.now (option_map (λ r. r.value) found)) }
+        ensures found { AtEachSeenBy self.now.table pass.old (λ o book. IfOk result (λ found. MeansAt o book name.now (option_map (λ r. r.value) found))) }
     {
         if self.table.reaches(name) {
             return rules_of(alloc, &self.table, name);
@@ -86,9 +85,9 @@ impl Registry {
         ensures entered { IfOk result (λ id. (id ≡ ready.entry.id) × (pass.new.entries.items ≡ pass.old.entries.items ++ ready.entry ∷ [])) }
         ensures back { IfErr result (λ back. (back.1 ≡ ready) × (pass.new ≡ pass.old)) }
         ensures welcome { (o : Opening) (book : List Registration) → IsTableOf o self.now.table → HasSeen o.signature book pass.old → OnOk result (IsWelcome o book ready.entry) }
-        ensures refused { (o : Opening) (book : List Registration) → IsTableOf o self.now.table → HasSeen o.signature book pass.old → IfErr result (λ back. IsRefused o book ready.entry back.0) }
-        ensures seen { (o : Opening) (book : List Registration) (r : Registration) → HasSeen o.signature book pass.old → IsEntryOf o.signature r ready.entry → OnOk result (HasSeen o.signature (book ++ r ∷ []) pass.new) }
-        ensures legal { (o : Opening) (book : List Registration) (r : Registration) → IsTableOf o self.now.table → HasSeen o.signature book pass.old → IsEntryOf o.signature r ready.entry → IsExtension o book r → IsLegal o book → OnOk result (IsLegal o (book ++ r ∷ [])) }
+        ensures refused { AtEachSeenBy self.now.table pass.old (λ o book. IfErr result (λ back. IsRefused o book ready.entry back.0)) }
+        ensures seen { (o : Opening) (book : List Registration) (r : Registration) → let g = o.signature in HasSeen g book pass.old → IsEntryOf g r ready.entry → OnOk result (HasSeen g (book ++ r ∷ []) pass.new) }
+        ensures legal { (o : Opening) (book : List Registration) (r : Registration) → let g = o.signature in IsTableOf o self.now.table → HasSeen g book pass.old → IsEntryOf g r ready.entry → IsExtension o book r → IsLegal o book → OnOk result (IsLegal o (book ++ r ∷ [])) }
     {
         match self.fault(pass, &ready) {
             Some(fault) => Err((fault, ready)),
@@ -131,7 +130,7 @@ impl Registry {
     fn own_duplicate(&self, pass: &Pass, ready: &Ready) -> Option<usize>
         requires pass { IsPass pass.now }
         requires ready { IsReady ready.now }
-        ensures { (o : Opening) (book : List Registration) → IsTableOf o self.now.table → HasSeen o.signature book pass.now → TellsAlsoDuplicate o book ready.now.entry.text.items (own_name_of ready.now.entry) result }
+        ensures { AtEachSeenBy self.now.table pass.now (λ o book. TellsAlsoDuplicate o book ready.now.entry.text.items (own_name_of ready.now.entry) result) }
     {
         match &ready.own_name {
             Some(name) => self.duplicate(pass, &ready.entry.text, name.as_str()),

@@ -4,7 +4,7 @@ use Rattle.std.specs.Prelude.{Bool, not, ◌&&◌, List, [], ◌∷◌, ◌++◌
 use Rattle.std.specs.Option.{is_some}
 use Rattle.std.specs.List.{filter}
 use Rattle.kp_kore.specs.Syntax.{KorePattern}
-use Rattle.kp_kore.specs.Parts.{free_variables}
+use Rattle.kp_kore.specs.Parts.{SortedName, free_variables}
 use Rattle.kp_kore.specs.Signature.{KoreSignature}
 use Rattle.kp_kore.specs.Instance.{is_named}
 use Rattle.kp_symbolic.specs.Terms.{unknown, Replaced, replacement_for}
@@ -18,9 +18,13 @@ use Rattle.kp_symbolic.specs.Solving.{is_single}
 abbrev pub with_terms : KoreSignature → List Replaced → List Replaced → List Replaced
 with_terms g qs rs = map (λ r. record { name = r.name; term = replaced g qs r.term }) rs
 
+-- the terms for these variables, in the place of which none of the others stands yet
+abbrev pub new_for : List SortedName → List Replaced → List Replaced → List Replaced
+new_for xs rs qs = filter (λ q. is_named q.name xs && not (is_some (replacement_for rs q.name))) qs
+
 -- and the terms for the predicate's own variables
 abbrev pub beside : KoreSignature → List Replaced → KorePattern → List Replaced → List Replaced
-beside g qs p rs = with_terms g qs rs ++ filter (λ q. is_named q.name (free_variables p) && not (is_some (replacement_for rs q.name))) qs
+beside g qs p rs = with_terms g qs rs ++ new_for (free_variables p) rs qs
 
 -- an atom by its sign, as a clause's only literal or one of several
 abbrev pub opened_under : KoreSignature → List Replaced → Bool → Bool → Atom → Formula Literal

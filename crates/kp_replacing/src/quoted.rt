@@ -1,7 +1,7 @@
 // A quoted predicate with terms in the place of variables: they come into the terms that stand in it, and into the place of
 // its own variables.
 ghost use Rattle.std.specs.Prelude.{◌≡◌, ◌&&◌, ◌++◌, not, IfOk, IfErr, OnOk, map};
-ghost use Rattle.std.specs.List.{AllByRecursion, filter};
+ghost use Rattle.std.specs.List.{AllByRecursion};
 ghost use Rattle.std.specs.Option.{is_some};
 ghost use Rattle.kp_compile.specs.declared.error.CompileError.TheVariants.{Memory};
 ghost use Rattle.kp_kore.specs.Parts.{free_variables};
@@ -60,7 +60,7 @@ fn add_new(
     replaced: &[Replaced],
     found: &mut Vec<Replaced>,
 ) -> Result<(), AllocError>
-    ensures { OnOk result (map replaced_view found.new.items ≡ map replaced_view found.old.items ++ filter (λ q. named_among q.name (map sorted_variable_view variables.now) && not (is_some (replacement_for (map replaced_view replaced.now) q.name))) (map replaced_view by.now)) }
+    ensures { let added = model.new_for (map sorted_variable_view variables.now) (map replaced_view replaced.now) (map replaced_view by.now) in OnOk result (map replaced_view found.new.items ≡ map replaced_view found.old.items ++ added) }
 {
     for one in by {
         if is_new(one, variables, replaced) {
@@ -78,7 +78,7 @@ fn beside(
     pattern: &Pattern,
     replaced: &[Replaced],
 ) -> Result<Vec<Replaced>, CompileError>
-    ensures made { IfOk result (λ rs. map replaced_view rs.items ≡ model.beside (language_view language.now) (map replaced_view by.now) (view pattern.now) (map replaced_view replaced.now)) }
+    ensures made { let g = language_view language.now in let replaced' = map replaced_view replaced.now in IfOk result (λ rs. map replaced_view rs.items ≡ model.beside g (map replaced_view by.now) (view pattern.now) replaced') }
     ensures refused { IfErr result (λ e. AllByRecursion (λ r. AreWritten (language_view language.now) (term_view r.term)) replaced.now → e ≡ Memory) }
 {
     let mut found = with_terms(alloc, language, by, replaced)?;

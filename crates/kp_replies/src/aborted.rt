@@ -26,8 +26,8 @@ fn with_predicate_at(
     predicate: &Pattern,
     limit: &Option<Limit>,
 ) -> Result<Option<Object>, AllocError>
-    ensures { IfOk result (λ o. option_map (λ m. members_view m.entries) o
-        ≡ with_undecided (undecided_predicate (pattern_view predicate.now) (option_map limit_view limit.now)) (members_view object.entries)) }
+    ensures { let predicate' = pattern_view predicate.now in let limit' = option_map limit_view limit.now in
+        IfOk result (λ o. option_map (λ m. members_view m.entries) o ≡ with_undecided (undecided_predicate predicate' limit') (members_view object.entries)) }
 {
     let object = with_limit_at(alloc, object, limit)?;
     with_pattern_at(alloc, object, "unknown-predicate", predicate)
@@ -107,8 +107,8 @@ pub fn aborted_text(
     state: &ReplyState,
     undecided: &Undecided,
 ) -> Result<Option<Vec<u8>>, AllocError>
-    ensures { IfOk result (λ o. option_map (λ b. b.items) o
-        ≡ option_map (λ t. reply_bytes (result_reply (id_view id.now) t)) (aborted_tree depth (state_view state.now) (undecided_view undecided.now))) }
+    ensures { let tree = aborted_tree depth (state_view state.now) (undecided_view undecided.now) in
+        IfOk result (λ o. option_map (λ b. b.items) o ≡ option_map (λ t. reply_bytes (result_reply (id_view id.now) t)) tree) }
 {
     match aborted_value(alloc, depth, state, undecided)? {
         Some(tree) => Ok(Some(written_result(alloc, id, tree)?)),

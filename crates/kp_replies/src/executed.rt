@@ -118,8 +118,8 @@ fn members_at(alloc: Global, executed: &Executed, state: Value) -> Result<Object
 
 /// The tree of a result, from its state's.
 fn full_value(alloc: Global, executed: &Executed, state: Value) -> Result<Option<Value>, AllocError>
-    ensures { IfOk result (λ o. option_map view o ≡ option_map object_data (with_nexts (reason_view executed.now.reason) (nexts_view executed.now.next_states.items)
-        (executed_members executed.now.depth (reason_view executed.now.reason) (view state)))) }
+    ensures { let reason' = reason_view executed.now.reason in let nexts' = nexts_view executed.now.next_states.items in
+        IfOk result (λ o. option_map view o ≡ option_map object_data (with_nexts reason' nexts' (executed_members executed.now.depth reason' (view state)))) }
 {
     let object = members_at(alloc, executed, state)?;
     Ok(object_value(with_nexts_at(alloc, object, &executed.reason, &executed.next_states)?))

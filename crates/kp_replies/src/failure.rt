@@ -8,7 +8,7 @@ ghost use Rattle.kp_rpc.specs.Reply.{reply_bytes};
 ghost use Rattle.kp_rpc.specs.View.{id_view};
 ghost use Rattle.kp_results.specs.Results.{weighed, wide_call, predicate as undecided_predicate};
 ghost use Rattle.kp_results.specs.View.{weight_view, limit_view, undecided_view};
-ghost use Rattle.kp_replies.specs.Failures.{sides_data, weight_name, limit_tree, with_limit, undecided_data, addition_data, failure_data, failure_code, failure_message, failure_error, failed_reply, failure_reply};
+ghost use Rattle.kp_replies.specs.Failures.{bad_text, sides_data, weight_name, limit_tree, with_limit, undecided_data, addition_data, failure_data, failure_code, failure_message, failure_error, failed_reply, failure_reply};
 ghost use Rattle.kp_replies.specs.View.{sides_view, addition_view, failure_view};
 
 use crate::members::{empty_object, object_value, with_pattern_at};
@@ -157,8 +157,7 @@ fn undecided_value(alloc: Global, undecided: &Undecided) -> Result<Option<Value>
 
 /// The data of a text that is no module.
 fn text_value(alloc: Global, at: u64, kind: u64) -> Result<Value, AllocError>
-    ensures { IfOk result (λ v. view v ≡ object_of ((codes "at", number (unsigned at))
-        ∷ (codes "kind", string (codes "text")) ∷ (codes "number", number (unsigned kind)) ∷ [])) }
+    ensures { IfOk result (λ v. view v ≡ addition_data (bad_text at kind)) }
 {
     json!(in alloc; {"at": at, "kind": "text", "number": kind})
 }

@@ -37,8 +37,9 @@ fn with_next_at(
     object: Object,
     next: &NextState,
 ) -> Result<Option<Object>, AllocError>
-    ensures { IfOk result (λ o. option_map (λ m. members_view m.entries) o
-        ≡ option_and_then (with_pattern (codes "rule-predicate") (pattern_view next.now.predicate)) (with_state (state_view next.now.state) (members_view object.entries))) }
+    ensures { let written = with_state (state_view next.now.state) (members_view object.entries) in
+        IfOk result (λ o. option_map (λ m. members_view m.entries) o
+        ≡ option_and_then (with_pattern (codes "rule-predicate") (pattern_view next.now.predicate)) written) }
 {
     match with_state_at(alloc, object, &next.state)? {
         Some(object) => with_pattern_at(alloc, object, "rule-predicate", &next.predicate),

@@ -97,7 +97,7 @@ fn pending_text(
     number: usize,
     why: &String,
 ) -> Result<String, AllocError>
-    ensures { IfOk result (λ t. string_bytes t ≡ codes "pending " ++ string_bytes label.now ++ codes " node " ++ decimal number ++ codes " " ++ string_bytes why.now ++ codes "\n") }
+    ensures { let label' = string_bytes label.now in let why' = string_bytes why.now in IfOk result (λ t. string_bytes t ≡ codes "pending " ++ label' ++ codes " node " ++ decimal number ++ codes " " ++ why' ++ codes "\n") }
 {
     format!(in alloc; "pending {label} node {number} {why}\n")
 }

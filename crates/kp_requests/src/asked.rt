@@ -56,8 +56,8 @@ pub fn simplify_text(
     module_name: &Option<String>,
 ) -> Result<Option<Vec<u8>>, AllocError>
     ensures text { IfOk result (λ o. option_map (λ b. b.items) o ≡ option_map compact_text (simplify_tree (id_view id.now) (pattern_view state.now) (name_view module_name.now))) }
-    ensures read_back { IfOk result (λ o. IfSome o (λ b. (d : Data) → simplify_tree (id_view id.now) (pattern_view state.now) (name_view module_name.now) ≡ Some d
-        → depth d ≤ max_depth → length b.items ≤ most_frame → IsJson b.items d)) }
+    ensures read_back { let tree = simplify_tree (id_view id.now) (pattern_view state.now) (name_view module_name.now) in
+        IfOk result (λ o. IfSome o (λ b. (d : Data) → tree ≡ Some d → depth d ≤ max_depth → length b.items ≤ most_frame → IsJson b.items d)) }
 {
     match simplify_value(alloc, id, state, module_name)? {
         Some(tree) => Ok(Some(tree.to_vec(alloc)?)),

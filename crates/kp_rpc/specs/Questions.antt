@@ -49,6 +49,10 @@ abbrev pub request_object : RequestId → Text → Members → Data
 request_object id method params =
     object_of ((codes "id", id_tree id) ∷ (codes "jsonrpc", string (codes "2.0")) ∷ (codes "method", string method) ∷ (codes "params", object params) ∷ [])
 
+-- a request of implies, from the trees of its patterns
+abbrev pub implies_object : RequestId → Option Text → Data → Data → Data
+implies_object id name antecedent consequent = request_object id implies_method (implies_params name antecedent consequent)
+
 -- the tree of a question, where its patterns have trees
 abbrev pub question_tree : Question → Option Data
 question_tree (to_execute q) = option_map (λ s. request_object q.id execute_method (execute_params q.options s)) (wrapped_pattern q.state)

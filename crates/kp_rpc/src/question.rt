@@ -7,8 +7,8 @@ ghost use Rattle.kp_kore.specs.View.{view as pattern_view};
 ghost use Rattle.kp_json.specs.Written.{two_parts, wrapped_pattern};
 ghost use Rattle.kp_frames.specs.Frames.{most_frame};
 ghost use Rattle.kp_rpc.specs.Frame.{IsFrame};
-ghost use Rattle.kp_rpc.specs.Questions.{with_number, with_text, with_texts, text_items, execute_params, implies_params, request_object, question_tree};
-ghost use Rattle.kp_rpc.specs.Request.{execute_method, implies_method};
+ghost use Rattle.kp_rpc.specs.Questions.{with_number, with_text, with_texts, text_items, execute_params, implies_object, implies_params, request_object, question_tree};
+ghost use Rattle.kp_rpc.specs.Request.{execute_method};
 ghost use Rattle.kp_rpc.specs.View.{id_view, name_view, options_view, question_view, texts_view};
 
 use crate::id::{Id, id_value};
@@ -171,8 +171,9 @@ fn execute_value(
     state: &Pattern,
     options: &ExecuteOptions,
 ) -> Result<Option<Value>, AllocError>
-    ensures { IfOk result (λ o. option_map view o
-        ≡ option_map (λ s. request_object (id_view id.now) execute_method (execute_params (options_view options.now) s)) (wrapped_pattern (pattern_view state.now))) }
+    ensures { let options' = options_view options.now in let state' = pattern_view state.now in
+        IfOk result (λ o. option_map view o
+        ≡ option_map (λ s. request_object (id_view id.now) execute_method (execute_params options' s)) (wrapped_pattern state')) }
 {
     let Some(state) = value_of(alloc, state)? else {
         return Ok(None);
@@ -189,8 +190,8 @@ fn implies_value(
     consequent: &Pattern,
     module_name: &Option<String>,
 ) -> Result<Option<Value>, AllocError>
-    ensures { IfOk result (λ o. option_map view o
-        ≡ two_parts (λ a c. request_object (id_view id.now) implies_method (implies_params (name_view module_name.now) a c)) (wrapped_pattern (pattern_view antecedent.now)) (wrapped_pattern (pattern_view consequent.now))) }
+    ensures { let asked_of = implies_object (id_view id.now) (name_view module_name.now) in
+        IfOk result (λ o. option_map view o ≡ two_parts asked_of (wrapped_pattern (pattern_view antecedent.now)) (wrapped_pattern (pattern_view consequent.now))) }
 {
     let Some(antecedent) = value_of(alloc, antecedent)? else {
         return Ok(None);
@@ -224,8 +225,8 @@ fn question_value(alloc: Global, question: &Question) -> Result<Option<Value>, A
 /// Where memory runs out.
 pub fn question_text(alloc: Global, question: &Question) -> Result<Option<Vec<u8>>, AllocError>
     ensures text { IfOk result (λ o. option_map (λ b. b.items) o ≡ option_map compact_text (question_tree (question_view question.now))) }
-    ensures read_back { IfOk result (λ o. IfSome o (λ b. (d : Data) → question_tree (question_view question.now) ≡ Some d
-        → depth d ≤ max_depth → length b.items ≤ most_frame → IsFrame b.items d)) }
+    ensures read_back { let tree = question_tree (question_view question.now) in
+        IfOk result (λ o. IfSome o (λ b. (d : Data) → tree ≡ Some d → depth d ≤ max_depth → length b.items ≤ most_frame → IsFrame b.items d)) }
 {
     match question_value(alloc, question)? {
         Some(tree) => Ok(Some(tree.to_vec(alloc)?)),

@@ -70,6 +70,10 @@ is_top_pattern _ = false
 abbrev pub is_plain_by : (Text → Bool) → KorePattern → List KorePattern → Bool
 is_plain_by named right ensured = not (is_binder right) && (list_all is_top_pattern ensured && list_all (λ x. named x.name) (free_variables right))
 
+-- the same by the names of the left term's variables
+abbrev pub is_plain_over : KorePattern → KorePattern → List KorePattern → Bool
+is_plain_over left right ensured = is_plain_by (λ y. is_named y (free_variables left)) right ensured
+
 -- the shape's parts are the rewrite's, and its left side is read; or no rewrite's is
 abbrev pub IsShapeRead : KoreSignature → KorePattern → KorePattern → Option Shape → Type 0
 IsShapeRead g p right (Some shape) = (model.rewrite_of p ≡ Some (rewrite_seen right shape)) × IsLeftSideRead g (view shape.left.term.now) (seen shape.left.predicates.items)

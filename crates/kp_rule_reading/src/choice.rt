@@ -132,8 +132,8 @@ fn add_unnamed(
     variables: Vec<SortedVariable>,
     names: &NameSet,
 ) -> Result<(), AllocError>
-    ensures { OnOk result (map sorted_variable_view found.new.items
-        ≡ map sorted_variable_view found.old.items ++ filter (λ x. not (contains_text names.now x.name)) (map sorted_variable_view variables.items)) }
+    ensures { let found' = map sorted_variable_view found.old.items in let variables' = map sorted_variable_view variables.items in
+        OnOk result (map sorted_variable_view found.new.items ≡ found' ++ filter (λ x. not (contains_text names.now x.name)) variables') }
 {
     for variable in variables {
         if !names.contains(variable.name.as_str()) {

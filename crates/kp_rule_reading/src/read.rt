@@ -18,7 +18,7 @@ ghost use Rattle.kp_rules.specs.Bodies.{IsReadAs, IsBodyOf, HasFault, IsFaulty};
 ghost use Rattle.kp_sort_index.specs.Index.{IsIndexOf};
 ghost use Rattle.kp_rule_reading.specs.Compiled.{IsKnownRight};
 ghost use Rattle.kp_rule_reading.specs.Priorities.{Tells};
-ghost use Rattle.kp_rule_reading.specs.Reading.{IsStatementRead, rule_error, IsReadBody, IsMadeOf, IsSound, IsShapeRead, IsLeftSideRead, is_left_read, is_predicate_read, is_side_read, RightPasses, is_binder as binder_test, is_top_pattern, is_plain_by};
+ghost use Rattle.kp_rule_reading.specs.Reading.{IsStatementRead, rule_error, IsReadBody, IsMadeOf, IsSound, IsShapeRead, IsLeftSideRead, is_left_read, is_predicate_read, is_side_read, RightPasses, is_binder as binder_test, is_top_pattern, is_plain_by, is_plain_over};
 ghost use Rattle.kp_rules.specs.Shapes.{seen, rewrite_seen};
 ghost use Rattle.kp_rule_reading.specs.declared.read.RuleError.TheVariants.{Memory, Fault};
 ghost use Rattle.kp_rules.specs.declared.rule.RuleBody.TheVariants as body;
@@ -328,10 +328,10 @@ fn rewrite_from(
     shape: &Shape<'_>,
     right: &Pattern,
 ) -> Result<Rewrite, RuleError>
-    requires condition { AllByRecursion (λ p. list_all (λ x. is_named x.name (free_variables (view shape.now.left.term.now))) (free_variables p) ≡ true) (seen shape.now.left.predicates.items) }
+    requires condition { let left_variables = free_variables (view shape.now.left.term.now) in AllByRecursion (λ p. list_all (λ x. is_named x.name left_variables) (free_variables p) ≡ true) (seen shape.now.left.predicates.items) }
     requires right { RightPasses (view shape.now.left.term.now) (view right.now) (view shape.now.right.term.now) }
     requires known { IsKnownRight (rewrite_seen (view right.now) shape.now) }
-    ensures made { let g = signature_view signature.now in let sort' = sort_view sort.now in let term' = view shape.now.left.term.now in let right' = view right.now in IfOk result (λ w. IsMadeOf g sort' (rewrite_seen right' shape.now) w × (w.chooses ≡ not (is_plain_by (λ y. is_named y (free_variables term')) right' (seen shape.now.right.predicates.items)))) }
+    ensures made { let right' = view right.now in let shape' = rewrite_seen right' shape.now in IfOk result (λ w. IsMadeOf (signature_view signature.now) (sort_view sort.now) shape' w × (w.chooses ≡ not (is_plain_over shape'.left right' shape'.ensured))) }
     ensures sound { IfErr result (λ e. IsSound (signature_view signature.now) (rewrite_seen (view right.now) shape.now) → e ≡ Memory) }
 {
     let variables = shape.left.term.free_vars(alloc)?;

@@ -41,7 +41,7 @@ pub fn compiled(
     right: &Pattern,
     chooses: bool,
 ) -> Result<Rewrite, CompileError>
-    requires condition { AllByRecursion (λ p. list_all (λ x. is_named x.name (free_variables (view shape.now.left.term.now))) (free_variables p) ≡ true) (seen shape.now.left.predicates.items) }
+    requires condition { let left_variables = free_variables (view shape.now.left.term.now) in AllByRecursion (λ p. list_all (λ x. is_named x.name left_variables) (free_variables p) ≡ true) (seen shape.now.left.predicates.items) }
     requires right { chooses ≡ false → list_all (λ x. is_named x.name (free_variables (view shape.now.left.term.now))) (free_variables (view shape.now.right.term.now)) ≡ true }
     requires known { IsKnownRight (rewrite_seen (view right.now) shape.now) }
     ensures made { let the_rewrite_seen = rewrite_seen (view right.now) shape.now in let g = signature_view signature.now in IfOk result (λ w. IsMadeOf g (sort_view sort.now) the_rewrite_seen w × (w.chooses ≡ chooses)) }

@@ -3,12 +3,12 @@ ghost use Rattle.std.specs.Prelude.{◌≡◌, ◌∷◌, [], ◌↔◌, true, l
 ghost use Rattle.std.specs.List.{AllByRecursion};
 ghost use Rattle.kp_kore.specs.Syntax.{KoreSorts, application};
 ghost use Rattle.kp_kore.specs.Parts.{free_variables, all_free_variables};
-ghost use Rattle.kp_kore.specs.Signature.{KoreSignature, meaning_of as meaning_named};
+ghost use Rattle.kp_kore.specs.Signature.{KoreSignature};
 ghost use Rattle.kp_kore.specs.View.{view, patterns_view, sort_view, sorts_view};
 ghost use Rattle.kp_signature.specs.View.{signature_view};
 ghost use Rattle.kp_kore.specs.Value.{Value, HasSort, HaveSorts};
 ghost use Rattle.kp_kore.specs.Sorted.{IsSorted};
-ghost use Rattle.kp_kore.specs.Instance.{Valuation, instance, instances, applied, GivesSorts};
+ghost use Rattle.kp_kore.specs.Instance.{Valuation, instance, instances, GivesSorts};
 ghost use Rattle.kp_ground.specs.Slots.{is_one_of};
 ghost use Rattle.kp_compile.specs.Exact.{are_named};
 ghost use Rattle.kp_compile.specs.Names.{names_seen};
@@ -17,7 +17,7 @@ ghost use Rattle.kp_compile.specs.declared.error.CompileError.TheVariants.{Memor
 ghost use Rattle.kp_rules.specs.Bodies.{IsVerifiedLeft};
 ghost use Rattle.kp_rules.specs.Bound.{tests_read};
 ghost use Rattle.kp_rules.specs.Heads.{HasHead};
-ghost use Rattle.kp_rule_reading.specs.Tests.{IsGiven, Adds, ReadMore};
+ghost use Rattle.kp_rule_reading.specs.Tests.{IsGiven, Adds, AddWhere, HasSortedInstance, ReadMore};
 
 use kp_compile::{CompileError, NameSet, slot_of};
 use kp_kore::{Name, Pattern, Sort};
@@ -78,7 +78,7 @@ fn add_tests_of_applied(
     names: &NameSet,
     tests: &mut Vec<SortTest>,
 ) -> Result<(), CompileError>
-    ensures tests { let g = signature_view signature.now in let arguments' = patterns_view arguments.now in let the_string_bytes = string_bytes symbol.now in OnOk result ((v : Valuation) → IsSorted g (applied (meaning_named g the_string_bytes) the_string_bytes (instances g v arguments')) → Adds g v tests.old.items tests.new.items (all_free_variables arguments')) }
+    ensures tests { let g = signature_view signature.now in let arguments' = patterns_view arguments.now in OnOk result (AddWhere g (HasSortedInstance g (string_bytes symbol.now) arguments') tests.old.items tests.new.items (all_free_variables arguments')) }
     ensures reads { OnOk result (ReadMore (names_seen names.now) (all_free_variables (patterns_view arguments.now)) tests.old.items tests.new.items) }
     ensures refused { let g = signature_view signature.now in let arguments' = patterns_view arguments.now in IfErr result (λ e. (ss : KoreSorts) → IsVerifiedLeftTerm g (application (string_bytes symbol.now) ss arguments') → e ≡ Memory) }
 {
@@ -108,7 +108,7 @@ fn add_tests_of_arguments(
     names: &NameSet,
     tests: &mut Vec<SortTest>,
 ) -> Result<(), CompileError>
-    ensures tests { let g = signature_view signature.now in let patterns' = patterns_view patterns.now in let places' = sorts_view places.now in OnOk result ((v : Valuation) → HaveSorts g places' (instances g v patterns') → Adds g v tests.old.items tests.new.items (all_free_variables patterns')) }
+    ensures tests { let g = signature_view signature.now in let patterns' = patterns_view patterns.now in OnOk result (AddWhere g (λ v. HaveSorts g (sorts_view places.now) (instances g v patterns')) tests.old.items tests.new.items (all_free_variables patterns')) }
     ensures reads { OnOk result (ReadMore (names_seen names.now) (all_free_variables (patterns_view patterns.now)) tests.old.items tests.new.items) }
     ensures refused { let g = signature_view signature.now in IfErr result (λ e. length patterns.now ≡ length places.now → AllByRecursion (λ p. IsVerifiedLeftTerm g (view p)) patterns.now → e ≡ Memory) }
 {
@@ -147,8 +147,8 @@ fn add_test(
     names: &NameSet,
     tests: &mut Vec<SortTest>,
 ) -> Result<(), AllocError>
-    ensures reads { OnOk result (is_one_of (string_bytes name.now) (names_seen names.now) ≡ true → tests_read (names_seen names.now) tests.old.items ≡ true → tests_read (names_seen names.now) tests.new.items ≡ true) }
-    ensures tests { OnOk result ((g : KoreSignature) (v : Valuation) → IsGiven g given.entry (v (string_bytes name.now)) → Adds g v tests.old.items tests.new.items (record { name = string_bytes name.now; sort = sort_view sort.now } ∷ [])) }
+    ensures reads { let names' = names_seen names.now in OnOk result (is_one_of (string_bytes name.now) names' ≡ true → tests_read names' tests.old.items ≡ true → tests_read names' tests.new.items ≡ true) }
+    ensures tests { let name' = string_bytes name.now in OnOk result ((g : KoreSignature) (v : Valuation) → IsGiven g given.entry (v name') → Adds g v tests.old.items tests.new.items (record { name = name'; sort = sort_view sort.now } ∷ [])) }
 {
     if gives(given, sort) {
         return Ok(());

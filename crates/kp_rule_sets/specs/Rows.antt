@@ -35,6 +35,10 @@ pub record IsFilled (own : Top → ℕ → Bool) (all : ℕ → Bool) (f : Text 
 abbrev pub Fills : (Top → ℕ → Bool) → (ℕ → Bool) → List Ranked → Index → Type 0
 Fills own all seen index = IsFilled own all (get_by_text index.names) (rows_view index.rows.items) index.any.items seen
 
+-- exactly these heads have the place as their own
+abbrev pub Owns : (Top → ℕ → Bool) → (Top → Bool) → ℕ → Type 0
+Owns own heads place = (h : Top) → own h place ≡ heads h
+
 -- by what the rules at the places have at their tops
 abbrev pub FillsOf : List Rule → List Ranked → Index → Type 0
 FillsOf rules = Fills (λ h i. is_mine (has h) (slice_get rules i)) (λ i. is_mine has_any (slice_get rules i))

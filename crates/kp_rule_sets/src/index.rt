@@ -5,7 +5,7 @@ ghost use Rattle.kp_rule_sets.specs.Merged.{left_of};
 ghost use Rattle.kp_rule_sets.specs.Tops.{Top, constructor_named, has, has_any, is_any, is_only, tops_same};
 ghost use Rattle.kp_rule_sets.specs.Turns.{is_mine};
 ghost use Rattle.kp_rule_sets.specs.HeadView.{head_view, tops_view};
-ghost use Rattle.kp_rule_sets.specs.Rows.{Fills, FillsOf, numbered, places_at, row_at, row_of, rows_view};
+ghost use Rattle.kp_rule_sets.specs.Rows.{Fills, FillsOf, Owns, numbered, places_at, row_at, row_of, rows_view};
 ghost use Rattle.kp_rule_sets.specs.declared.places.Ranked.{Ranked};
 
 use crate::head::ValueTop;
@@ -27,7 +27,7 @@ pub struct Index {
 
 /// Adds a place to a row.
 fn push_at(rows: &mut Vec<Vec<Ranked>>, row: usize, ranked: Ranked) -> Result<(), AllocError>
-    ensures { row < length rows.old.items → OnOk result (rows_view rows.new.items ≡ set (rows_view rows.old.items) row (get_or (rows_view rows.old.items) row [] ++ ranked ∷ [])) }
+    ensures { let rows' = rows_view rows.old.items in row < length rows.old.items → OnOk result (rows_view rows.new.items ≡ set rows' row (get_or rows' row [] ++ ranked ∷ [])) }
 {
     if row < rows.len() {
         rows[row].push(ranked)?;
@@ -108,7 +108,7 @@ impl Index {
     /// Notes a constructor, which gets a row where it has none.
     fn note(&mut self, alloc: Global, name: &str) -> Result<(), AllocError>
         ensures filled { (own : Top → ℕ → Bool) (all : ℕ → Bool) (seen : List Ranked) → Fills own all seen self.old → OnOk result (Fills own all seen self.new) }
-        ensures noted { (own : Top → ℕ → Bool) (all : ℕ → Bool) (seen : List Ranked) → Fills own all seen self.old → OnOk result (row_of (get_by_text self.new.names) (constructor_named name.now) ≢ 0) }
+        ensures noted { let own_row = row_of (get_by_text self.new.names) (constructor_named name.now) in (own : Top → ℕ → Bool) (all : ℕ → Bool) (seen : List Ranked) → Fills own all seen self.old → OnOk result (own_row ≢ 0) }
     {
         if self.names.contains_key(name) {
             return Ok(());
@@ -122,7 +122,7 @@ impl Index {
     /// Sees to it that a head has a row of its own.
     fn prepare(&mut self, alloc: Global, head: &ValueTop<'_>) -> Result<(), AllocError>
         ensures filled { (own : Top → ℕ → Bool) (all : ℕ → Bool) (seen : List Ranked) → Fills own all seen self.old → OnOk result (Fills own all seen self.new) }
-        ensures prepared { (own : Top → ℕ → Bool) (all : ℕ → Bool) (seen : List Ranked) → Fills own all seen self.old → OnOk result (row_of (get_by_text self.new.names) (head_view head.now) ≢ 0) }
+        ensures prepared { let own_row = row_of (get_by_text self.new.names) (head_view head.now) in (own : Top → ℕ → Bool) (all : ℕ → Bool) (seen : List Ranked) → Fills own all seen self.old → OnOk result (own_row ≢ 0) }
     {
         match head {
             ValueTop::Constructor(name) => self.note(alloc, name),
@@ -137,7 +137,8 @@ impl Index {
         head: &ValueTop<'_>,
         ranked: Ranked,
     ) -> Result<(), AllocError>
-        ensures { (own : Top → ℕ → Bool) (all : ℕ → Bool) (seen : List Ranked) → Fills own all seen self.old → ((h : Top) → own h ranked.place ≡ tops_same (head_view head.now) h) → all ranked.place ≡ false →
+        ensures { let head' = head_view head.now in
+            (own : Top → ℕ → Bool) (all : ℕ → Bool) (seen : List Ranked) → Fills own all seen self.old → Owns own (tops_same head') ranked.place → all ranked.place ≡ false →
             OnOk result (Fills own all (seen ++ ranked ∷ []) self.new) }
     {
         self.prepare(alloc, head)?;
@@ -149,7 +150,7 @@ impl Index {
     /// Adds the place of the next rule by turn.
     fn add(&mut self, alloc: Global, tops: &Tops<'_>, ranked: Ranked) -> Result<(), AllocError>
         ensures { let tops' = tops_view tops.now in
-            (own : Top → ℕ → Bool) (all : ℕ → Bool) (seen : List Ranked) → Fills own all seen self.old → ((h : Top) → own h ranked.place ≡ is_only tops' h) → all ranked.place ≡ is_any tops' →
+            (own : Top → ℕ → Bool) (all : ℕ → Bool) (seen : List Ranked) → Fills own all seen self.old → Owns own (is_only tops') ranked.place → all ranked.place ≡ is_any tops' →
             OnOk result (Fills own all (seen ++ ranked ∷ []) self.new) }
     {
         match tops {

@@ -82,7 +82,7 @@ impl Skeleton {
         values: &[Value],
         mut bindings: Vec<Binding>,
     ) -> Result<Option<Vec<Binding>>, AllocError>
-        ensures same { Matches result bindings.items (λ v. ShowAll (signature_view signature.now) v (forms_of (map skeleton_view skeletons.now)) (values_of (map value_view values.now))) }
+        ensures same { let g = signature_view signature.now in let forms = forms_of (map skeleton_view skeletons.now) in let values' = values_of (map value_view values.now) in Matches result bindings.items (λ v. ShowAll g v forms values') }
         ensures solvable { IsSolvable bindings.items → IfOk result (λ o. IfSome o (λ new. IsSolvable new.items)) }
     {
         if skeletons.len() != values.len() {
@@ -136,7 +136,7 @@ fn match_one(
     sort: &Sort,
     bindings: Vec<Binding>,
 ) -> Result<Option<Vec<Binding>>, AllocError>
-    ensures same { Matches result bindings.items (λ v. (v (string_bytes name.now.value) ≡ value_view value.now) × IsHeadOf (signature_view signature.now) (sort_view sort.now) (head_of (value_view value.now))) }
+    ensures same { let g = signature_view signature.now in let value' = value_view value.now in Matches result bindings.items (λ v. (v (string_bytes name.now.value) ≡ value') × IsHeadOf g (sort_view sort.now) (head_of value')) }
     ensures solvable { IsSolvable bindings.items → IfOk result (λ o. IfSome o (λ new. IsSolvable new.items)) }
 {
     if has_sort(alloc, signature, value, sort)? {
@@ -148,7 +148,7 @@ fn match_one(
 
 /// Whether the variable is bound to this value; None where it isn't bound.
 fn is_bound_to(bindings: &[Binding], name: &str, value: &Value) -> Option<bool>
-    ensures { MatchOption result (All (λ b. string_bytes b.name.value ≢ name.now) bindings.now) (λ b. (v : Valuation) → Solves v bindings.now → IsTrue b ↔ (v name.now ≡ value_view value.now)) }
+    ensures { let value' = value_view value.now in MatchOption result (All (λ b. string_bytes b.name.value ≢ name.now) bindings.now) (λ b. (v : Valuation) → Solves v bindings.now → IsTrue b ↔ (v name.now ≡ value')) }
 {
     match find_binding(bindings, name) {
         Some(bound) => Some(bound.equal(value)),

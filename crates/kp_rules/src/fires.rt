@@ -70,7 +70,7 @@ impl Rewrite {
         ensures solvable { IfOk result (λ o. IfSome o (λ new. IsSolvable new.items)) }
         ensures bound { IfOk result (λ o. IfSome o (λ new. bound_names new.items ≡ left_variables self.now.left)) }
         ensures number { IfErr result (λ e. e ≡ Number → IsWide (signature_view signature.now) self.now (value_view value.now)) }
-        ensures narrow { IfOk result (λ o. (v : Valuation) → Meets (signature_view signature.now) self.now v (value_view value.now) → condition_narrow v (condition_view self.now.condition) ≡ true) }
+        ensures narrow { let g = signature_view signature.now in let value' = value_view value.now in IfOk result (λ o. (v : Valuation) → Meets g self.now v value' → condition_narrow v (condition_view self.now.condition) ≡ true) }
     {
         match self.left.match_value(alloc, value, Vec::new(alloc))? {
             Some(bindings) => self.fires_with(alloc, signature, bindings),
@@ -89,7 +89,7 @@ impl Rewrite {
         ensures bound { IfOk result (λ o. IfSome o (λ new. bound_names new.items ≡ left_variables self.now.left)) }
         ensures solvable { IsSolvable bindings.items → IfOk result (λ o. IfSome o (λ new. IsSolvable new.items)) }
         ensures firing { (u : model.Value) → Binds self.now bindings.items u → IsSolvable bindings.items → FindsFiring result (signature_view signature.now) self.now u }
-        ensures number { (u : model.Value) → Binds self.now bindings.items u → IsSolvable bindings.items → IfErr result (λ e. e ≡ Number → IsWide (signature_view signature.now) self.now u) }
+        ensures number { let g = signature_view signature.now in (u : model.Value) → Binds self.now bindings.items u → IsSolvable bindings.items → IfErr result (λ e. e ≡ Number → IsWide g self.now u) }
         ensures narrow { let g = signature_view signature.now in (u : model.Value) → Binds self.now bindings.items u → IfOk result (λ o. (v : Valuation) → Meets g self.now v u → condition_narrow v (condition_view self.now.condition) ≡ true) }
     {
         let passed = pass(&self.tests, alloc, signature, &bindings)?;
@@ -106,9 +106,9 @@ impl Rewrite {
         requires { bound_names bindings.items ≡ left_variables self.now.left }
         ensures bound { IfOk result (λ o. IfSome o (λ new. bound_names new.items ≡ left_variables self.now.left)) }
         ensures solvable { IsSolvable bindings.items → IfOk result (λ o. IfSome o (λ new. IsSolvable new.items)) }
-        ensures firing { (g : KoreSignature) (u : model.Value) → Binds self.now bindings.items u → PassAs g self.now bindings.items passed → IsSolvable bindings.items → FindsFiring result g self.now u }
-        ensures number { (g : KoreSignature) (u : model.Value) → Binds self.now bindings.items u → PassAs g self.now bindings.items passed → IsSolvable bindings.items → IfErr result (λ e. e ≡ Number → IsWide g self.now u) }
-        ensures narrow { (g : KoreSignature) (u : model.Value) → Binds self.now bindings.items u → PassAs g self.now bindings.items passed → IfOk result (λ o. (v : Valuation) → Meets g self.now v u → condition_narrow v (condition_view self.now.condition) ≡ true) }
+        ensures firing { let found = bindings.items in (g : KoreSignature) (u : model.Value) → Binds self.now found u → PassAs g self.now found passed → IsSolvable found → FindsFiring result g self.now u }
+        ensures number { let found = bindings.items in (g : KoreSignature) (u : model.Value) → Binds self.now found u → PassAs g self.now found passed → IsSolvable found → IfErr result (λ e. e ≡ Number → IsWide g self.now u) }
+        ensures narrow { let found = bindings.items in (g : KoreSignature) (u : model.Value) → Binds self.now found u → PassAs g self.now found passed → IfOk result (λ o. (v : Valuation) → Meets g self.now v u → condition_narrow v (condition_view self.now.condition) ≡ true) }
     {
         if !passed {
             return Ok(None);

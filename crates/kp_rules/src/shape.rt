@@ -97,7 +97,7 @@ pub fn only<'a>(terms: &[&'a Pattern]) -> Option<&'a Pattern>
 
 /// A side's one term and predicates, where it has these alone.
 fn side_among<'a>(terms: &[&'a Pattern], predicates: Vec<&'a Pattern>) -> Option<RuleSide<'a>>
-    ensures { option_map side_view result ≡ option_map (λ t. (t, seen predicates.entry.items)) (if list_all predicate_test (seen predicates.entry.items) then only_one (seen terms.now) else None) }
+    ensures { let predicates' = seen predicates.entry.items in let only_term = if list_all predicate_test predicates' then only_one (seen terms.now) else None in option_map side_view result ≡ option_map (λ t. (t, predicates')) only_term }
 {
     if !are_predicates(&predicates) {
         return None;
@@ -200,7 +200,7 @@ pub fn shape_of<'a>(
 
 /// A rule's shape, where both sides have one.
 fn joined<'a>(left: Option<RuleSide<'a>>, right: Option<RuleSide<'a>>) -> Option<Shape<'a>>
-    ensures { (l r : KorePattern) → option_map side_view left.entry ≡ side_of l → option_map side_view right.entry ≡ side_of (what_is_bound r) → option_map (rewrite_seen r) result ≡ joined_sides l r (constrained_term l) (constrained_term (what_is_bound r)) }
+    ensures { (l r : KorePattern) → let bound = what_is_bound r in option_map side_view left.entry ≡ side_of l → option_map side_view right.entry ≡ side_of bound → option_map (rewrite_seen r) result ≡ joined_sides l r (constrained_term l) (constrained_term bound) }
 {
     match left {
         Some(left) => match right {

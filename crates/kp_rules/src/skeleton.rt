@@ -153,7 +153,7 @@ pub fn one_value(alloc: Global, name: &Name, sort: &Sort) -> Result<Skeleton, Al
 
 /// The number that a text writes, where it writes one within signed 128 bits.
 fn whole_number(text: &str) -> Option<Value>
-    ensures { MatchOption result ((writes_number text.now && fits_number (signed_digits_value 10 text.now)) ≡ false) (λ u. ((writes_number text.now && fits_number (signed_digits_value 10 text.now)) ≡ true) × (value_view u ≡ model.whole (signed_digits_value 10 text.now))) }
+    ensures { let written = signed_digits_value 10 text.now in let is_number = writes_number text.now && fits_number written in MatchOption result (is_number ≡ false) (λ u. (is_number ≡ true) × (value_view u ≡ model.whole written)) }
 {
     if !is_numeral(text) {
         return None;
@@ -166,7 +166,7 @@ fn whole_number(text: &str) -> Option<Value>
 
 /// The truth value that a text writes.
 fn truth_value(text: &str) -> Option<Value>
-    ensures { MatchOption result ((bytes_eq text.now (codes "true") || bytes_eq text.now (codes "false")) ≡ false) (λ u. ((bytes_eq text.now (codes "true") || bytes_eq text.now (codes "false")) ≡ true) × (value_view u ≡ model.truth (bytes_eq text.now (codes "true")))) }
+    ensures { let says_true = bytes_eq text.now (codes "true") in let is_truth = says_true || bytes_eq text.now (codes "false") in MatchOption result (is_truth ≡ false) (λ u. (is_truth ≡ true) × (value_view u ≡ model.truth says_true)) }
 {
     if text == "true" {
         return Some(Value::Truth { holds: true });

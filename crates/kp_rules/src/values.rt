@@ -41,7 +41,7 @@ fn is_named_below(
     name: Option<&Name>,
     sort: &Sort,
 ) -> Result<bool, AllocError>
-    ensures { (o : Option KoreSort) → option_map (λ n. sort_of (string_bytes n.now) no_sorts) name.entry ≡ o → IfOk result (λ b. IsTrue b ↔ IsBelowSome (signature_view signature.now) o (sort_view sort.now)) }
+    ensures { let g = signature_view signature.now in let sort' = sort_view sort.now in (o : Option KoreSort) → option_map (λ n. sort_of (string_bytes n.now) no_sorts) name.entry ≡ o → IfOk result (λ b. IsTrue b ↔ IsBelowSome g o sort') }
 {
     match name {
         Some(name) => {

@@ -1,5 +1,5 @@
 -- What the rules of a rule set that fire on a value come to.
-use Rattle.std.specs.Prelude.{◌≡◌, ◌↔◌, ◌⊎◌, ◌<◌, ◌≤◌, ℕ, true, false, List, [], ◌∷◌, Option, MatchOption}
+use Rattle.std.specs.Prelude.{◌≡◌, ◌↔◌, ◌⊎◌, ◌<◌, ◌≤◌, ℕ, true, false, List, [], ◌∷◌, ◌++◌, Option, MatchOption, slice_get}
 use Rattle.std.specs.Borrow.{Bor}
 use Rattle.std.specs.List.{AllByRecursion}
 use Rattle.kp_kore.specs.Syntax.{KoreSort}
@@ -18,6 +18,7 @@ use Rattle.kp_rules.specs.Skeletons.{IsAdmitted}
 use Rattle.kp_rules.specs.declared.rule.Rule.{Rule}
 use Rattle.kp_rules.specs.declared.rule.RuleBody.{RuleBody}
 use Rattle.kp_rules.specs.declared.rule.RuleBody.TheVariants.{Rewrite, Foreign}
+use Rattle.kp_rule_sets.specs.Turns.{with_first}
 use Rattle.kp_compile.specs.Spelled.{spelling}
 use Rattle.kp_compile.specs.declared.state.GroundState.{GroundState}
 use Rattle.kp_run.specs.Causes.{TwoAmong, IsWrittenAt}
@@ -55,12 +56,20 @@ TellsForeign g u rules first = MatchOption first (NoneMight g u rules) (λ f. Is
 abbrev pub GoesAfter : KoreSignature → Value → ℕ → Rule → Type 0
 GoesAfter g u n r = BodyFires g u r.body.value → n < r.priority
 
+-- the rule doesn't fire, or its priority number is no smaller
+abbrev pub GoesNotBefore : KoreSignature → Value → ℕ → Rule → Type 0
+GoesNotBefore g u n r = BodyFires g u r.body.value → n ≤ r.priority
+
 -- the rule fires, under exactly the valuations that the bindings allow, and there are some
 pub record IsFiring (g : KoreSignature) (u : Value) (f : GroundFiring) (r : Rule) : Type 0 where
   pub body : r.body.value ≡ Rewrite f.rewrite.now
   pub priority : r.priority ≡ f.priority
   pub solved : (v : Valuation) → Solves v f.bindings.items ↔ FiresAs g f.rewrite.now u v
   pub solvable : (v : Valuation) × Solves v f.bindings.items
+
+-- the rule's firing, where it fires
+abbrev pub TellsFiring : KoreSignature → Value → Option GroundFiring → Rule → Type 0
+TellsFiring g u firing r = MatchOption firing (¬ BodyFires g u r.body.value) (λ f. IsFiring g u f r)
 
 -- P of one member of the list, Q of each other
 abbrev pub OneAmong : {X : Type 0} → (X → Type 0) → (X → Type 0) → List X → Type 0
@@ -76,7 +85,11 @@ FiresAt g u n r = BodyFires g u r.body.value × (r.priority ≡ n)
 abbrev pub IsTurn : KoreSignature → Value → List Rule → Turn → Type 0
 IsTurn g u rules Nobody = AllByRecursion (λ r. ¬ BodyFires g u r.body.value) rules
 IsTurn g u rules (One f) = OneAmong (IsFiring g u f) (GoesAfter g u f.priority) rules
-IsTurn g u rules (Several n) = AllByRecursion (λ r. BodyFires g u r.body.value → n ≤ r.priority) rules × TwoAmong (FiresAt g u n) rules
+IsTurn g u rules (Several n) = AllByRecursion (GoesNotBefore g u n) rules × TwoAmong (FiresAt g u n) rules
+
+-- where P holds of the rules before, Q holds of these and the rule at the place, if there is one
+abbrev pub TakesRuleAt : List Rule → ℕ → (List Rule → Type 0) → (List Rule → Type 0) → Type 0
+TakesRuleAt rules place P Q = (before : List Rule) → P before → Q (before ++ with_first (slice_get rules place) [])
 
 -- the state after a firing: its value is the right term's under the bindings, and it has the sort that it is written
 -- at where it has the right term's

@@ -1,4 +1,4 @@
-ghost use Rattle.std.specs.Prelude.{◌≡◌, ◌↔◌, ◌++◌, ◌≤◌, List, [], ◌∷◌, IfOk, IfErr, IsTrue, MatchOption, false, slice_get};
+ghost use Rattle.std.specs.Prelude.{◌≡◌, ◌↔◌, ◌++◌, List, [], ◌∷◌, IfOk, IfErr, IsTrue, MatchOption, false, slice_get};
 ghost use Rattle.std.specs.List.{AllByRecursion};
 ghost use Rattle.kp_kore.specs.Syntax.{KoreSort};
 ghost use Rattle.kp_kore.specs.Signature.{KoreSignature};
@@ -11,18 +11,16 @@ ghost use Rattle.kp_kore.specs.Theory.{Theory};
 ghost use Rattle.kp_kore.specs.Steps.{AnyByRecursion, IsUnknown};
 ghost use Rattle.kp_kore.specs.Instance.{Valuation};
 ghost use Rattle.kp_ground.specs.Solves.{Solves};
-ghost use Rattle.kp_ground.specs.LeftView.{left_view};
-ghost use Rattle.kp_ground.specs.Terms.{left_value, term_value};
-ghost use Rattle.kp_ground.specs.TermView.{term_view};
 ghost use Rattle.kp_ground.specs.View.{value_view};
 ghost use Rattle.kp_rule_sets.specs.RuleSets.{RunsAs};
 ghost use Rattle.kp_rule_sets.specs.Turns.{with_first};
 ghost use Rattle.kp_run.specs.Causes.{TwoAmong, IsWrittenAt, IsNotStepped, StopsUntold};
 ghost use Rattle.kp_run.specs.Runs.{IsNext, IsWrittenNext, written_of};
-ghost use Rattle.kp_run.specs.Shallow.{HasDepths, IsMatchOf};
-ghost use Rattle.kp_run.specs.Turns.{BodyFires, BodyIsWide, MightRewrite, IsFirstForeign, TellsForeign, GoesAfter, FiresAt, IsFiring, OneAmong, IsTurn, IsAfterFiring, IsFollowed, NotFollowed};
+ghost use Rattle.kp_run.specs.Shallow.{HasDepths, IsMatchOf, left_instance, right_instance};
+ghost use Rattle.kp_run.specs.Turns.{BodyFires, BodyIsWide, MightRewrite, IsFirstForeign, TellsForeign, GoesNotBefore, FiresAt, IsFiring, TellsFiring, TakesRuleAt, IsTurn, IsAfterFiring, IsFollowed, NotFollowed};
 ghost use Rattle.kp_depths.specs.View.{AreDepthsOf};
 ghost use Rattle.kp_run.specs.declared.step.GroundNext.TheVariants.{Stepped};
+ghost use Rattle.kp_run.specs.declared.step.Turn.TheVariants.{One};
 ghost use Rattle.kp_run.specs.declared.error.RunError.TheVariants.{NotAnswered};
 
 use crate::error::RunError;
@@ -73,7 +71,7 @@ fn might_rewrite(
 
 /// Of a foreign rule and those before it, the one that is told: of the smallest priority number the first.
 fn told_of<'a>(first: Option<&'a Rule>, rule: &'a Rule) -> &'a Rule
-    ensures { (g : KoreSignature) (u : model.Value) (rules : List Rule) → TellsForeign g u rules first.entry → MightRewrite g u rule.now.body.value → IsFirstForeign g u result.now (rules ++ rule.now ∷ []) }
+    ensures { (g : KoreSignature) (u : model.Value) (rules : List Rule) → let asked = rules ++ rule.now ∷ [] in TellsForeign g u rules first.entry → MightRewrite g u rule.now.body.value → IsFirstForeign g u result.now asked }
 {
     match first {
         Some(first) => {
@@ -89,7 +87,7 @@ fn told_of<'a>(first: Option<&'a Rule>, rule: &'a Rule) -> &'a Rule
 
 /// The foreign rule that is told, when one more rule is asked.
 fn told_after<'a>(first: Option<&'a Rule>, rule: &'a Rule, might: bool) -> Option<&'a Rule>
-    ensures { (g : KoreSignature) (u : model.Value) (rules : List Rule) → TellsForeign g u rules first.entry → IsTrue might ↔ MightRewrite g u rule.now.body.value → TellsForeign g u (rules ++ rule.now ∷ []) result }
+    ensures { (g : KoreSignature) (u : model.Value) (rules : List Rule) → let asked = rules ++ rule.now ∷ [] in TellsForeign g u rules first.entry → IsTrue might ↔ MightRewrite g u rule.now.body.value → TellsForeign g u asked result }
 {
     if might {
         return Some(told_of(first, rule));
@@ -107,7 +105,7 @@ fn told_with<'a>(
 ) -> Result<Option<&'a Rule>, AllocError>
     ensures { let g = signature_view rules.now.signature.value in let value' = value_view value.now in
         IsSorted g value' →
-        IfOk result (λ next. (before : List Rule) → TellsForeign g value' before first.entry → TellsForeign g value' (before ++ with_first (slice_get rules.now.rules.items place) []) next) }
+        IfOk result (λ next. TakesRuleAt rules.now.rules.items place (λ rs. TellsForeign g value' rs first.entry) (λ rs. TellsForeign g value' rs next)) }
 {
     match rules.rule_at(place) {
         Some(rule) => {
@@ -137,7 +135,7 @@ pub fn foreign_on<'a>(
 
 /// Who has the turn of two rules that fire: the smaller priority number.
 fn sooner<'a>(first: GroundFiring<'a>, second: GroundFiring<'a>) -> Turn<'a>
-    ensures { (g : KoreSignature) (u : model.Value) (rules : List Rule) (r : Rule) → OneAmong (IsFiring g u first.entry) (GoesAfter g u first.entry.priority) rules → IsFiring g u second.entry r → IsTurn g u (rules ++ r ∷ []) result }
+    ensures { (g : KoreSignature) (u : model.Value) (rules : List Rule) (r : Rule) → let asked = rules ++ r ∷ [] in IsTurn g u rules (One first.entry) → IsFiring g u second.entry r → IsTurn g u asked result }
 {
     if first.priority < second.priority {
         return Turn::One(first);
@@ -150,7 +148,7 @@ fn sooner<'a>(first: GroundFiring<'a>, second: GroundFiring<'a>) -> Turn<'a>
 
 /// Who has the turn when one more rule fires beside several of this priority number.
 fn beside_several<'a>(priority: u32, firing: GroundFiring<'a>) -> Turn<'a>
-    ensures { (g : KoreSignature) (u : model.Value) (rules : List Rule) (r : Rule) → AllByRecursion (λ r. BodyFires g u r.body.value → priority ≤ r.priority) rules → TwoAmong (FiresAt g u priority) rules → IsFiring g u firing.entry r → IsTurn g u (rules ++ r ∷ []) result }
+    ensures { (g : KoreSignature) (u : model.Value) (rules : List Rule) (r : Rule) → let asked = rules ++ r ∷ [] in AllByRecursion (GoesNotBefore g u priority) rules → TwoAmong (FiresAt g u priority) rules → IsFiring g u firing.entry r → IsTurn g u asked result }
 {
     if firing.priority < priority {
         return Turn::One(firing);
@@ -160,7 +158,7 @@ fn beside_several<'a>(priority: u32, firing: GroundFiring<'a>) -> Turn<'a>
 
 /// Who has the turn when one more rule fires.
 fn joined<'a>(turn: Turn<'a>, firing: GroundFiring<'a>) -> Turn<'a>
-    ensures { (g : KoreSignature) (u : model.Value) (rules : List Rule) (r : Rule) → IsTurn g u rules turn.entry → IsFiring g u firing.entry r → IsTurn g u (rules ++ r ∷ []) result }
+    ensures { (g : KoreSignature) (u : model.Value) (rules : List Rule) (r : Rule) → let asked = rules ++ r ∷ [] in IsTurn g u rules turn.entry → IsFiring g u firing.entry r → IsTurn g u asked result }
 {
     match turn {
         Turn::Nobody => Turn::One(firing),
@@ -195,7 +193,7 @@ fn firing_of<'a>(
 
 /// Who has the turn when one more rule is asked.
 fn turn_after<'a>(turn: Turn<'a>, firing: Option<GroundFiring<'a>>) -> Turn<'a>
-    ensures { (g : KoreSignature) (u : model.Value) (rules : List Rule) (r : Rule) → IsTurn g u rules turn.entry → MatchOption firing.entry (¬ BodyFires g u r.body.value) (λ f. IsFiring g u f r) → IsTurn g u (rules ++ r ∷ []) result }
+    ensures { (g : KoreSignature) (u : model.Value) (rules : List Rule) (r : Rule) → let asked = rules ++ r ∷ [] in IsTurn g u rules turn.entry → TellsFiring g u firing.entry r → IsTurn g u asked result }
 {
     match firing {
         Some(firing) => joined(turn, firing),
@@ -211,9 +209,9 @@ fn turn_with<'a>(
     value: &Value,
     turn: Turn<'a>,
 ) -> Result<Turn<'a>, RunError>
-    ensures turn { let g = signature_view rules.now.signature.value in let value' = value_view value.now in IfOk result (λ next. (before : List Rule) → IsTurn g value' before turn.entry → IsTurn g value' (before ++ with_first (slice_get rules.now.rules.items place) []) next) }
-    ensures wide { IfErr result (λ e. e ≡ NotAnswered → AnyByRecursion (λ r. BodyIsWide (signature_view rules.now.signature.value) (value_view value.now) r.body.value) rules.now.rules.items) }
-    ensures narrow { IfOk result (λ _. AllByRecursion (λ r. ¬ BodyIsWide (signature_view rules.now.signature.value) (value_view value.now) r.body.value) (with_first (slice_get rules.now.rules.items place) [])) }
+    ensures turn { let g = signature_view rules.now.signature.value in let value' = value_view value.now in IfOk result (λ next. TakesRuleAt rules.now.rules.items place (λ rs. IsTurn g value' rs turn.entry) (λ rs. IsTurn g value' rs next)) }
+    ensures wide { let g = signature_view rules.now.signature.value in let value' = value_view value.now in IfErr result (λ e. e ≡ NotAnswered → AnyByRecursion (λ r. BodyIsWide g value' r.body.value) rules.now.rules.items) }
+    ensures narrow { let g = signature_view rules.now.signature.value in let value' = value_view value.now in let asked = with_first (slice_get rules.now.rules.items place) [] in IfOk result (λ _. AllByRecursion (λ r. ¬ BodyIsWide g value' r.body.value) asked) }
 {
     match rules.rule_at(place) {
         Some(rule) => {
@@ -238,8 +236,8 @@ fn may_fire(body: &RuleBody, value: &Value) -> bool
 
 /// Whether the rule at a place is to be matched.
 fn is_to_match(rules: &RuleSet, place: usize, value: &Value) -> bool
-    ensures rests { (g : KoreSignature) → result ≡ false → AllByRecursion (λ r. ¬ BodyFires g (value_view value.now) r.body.value) (with_first (slice_get rules.now.rules.items place) []) }
-    ensures narrow { (g : KoreSignature) → result ≡ false → AllByRecursion (λ r. ¬ BodyIsWide g (value_view value.now) r.body.value) (with_first (slice_get rules.now.rules.items place) []) }
+    ensures rests { let value' = value_view value.now in let asked = with_first (slice_get rules.now.rules.items place) [] in (g : KoreSignature) → result ≡ false → AllByRecursion (λ r. ¬ BodyFires g value' r.body.value) asked }
+    ensures narrow { let value' = value_view value.now in let asked = with_first (slice_get rules.now.rules.items place) [] in (g : KoreSignature) → result ≡ false → AllByRecursion (λ r. ¬ BodyIsWide g value' r.body.value) asked }
 {
     match rules.rule_at(place) {
         Some(rule) => may_fire(&rule.body, value),
@@ -250,8 +248,8 @@ fn is_to_match(rules: &RuleSet, place: usize, value: &Value) -> bool
 /// The rules that have their turn on a value. Rules of other heads aren't looked at, nor matched those of other parts.
 fn turn_on<'a>(alloc: Global, rules: &'a RuleSet, value: &Value) -> Result<Turn<'a>, RunError>
     ensures turn { IfOk result (λ turn. IsTurn (signature_view rules.now.signature.value) (value_view value.now) rules.now.rules.items turn) }
-    ensures wide { IfErr result (λ e. e ≡ NotAnswered → AnyByRecursion (λ r. BodyIsWide (signature_view rules.now.signature.value) (value_view value.now) r.body.value) rules.now.rules.items) }
-    ensures narrow { IfOk result (λ _. AllByRecursion (λ r. ¬ BodyIsWide (signature_view rules.now.signature.value) (value_view value.now) r.body.value) rules.now.rules.items) }
+    ensures wide { let g = signature_view rules.now.signature.value in let value' = value_view value.now in IfErr result (λ e. e ≡ NotAnswered → AnyByRecursion (λ r. BodyIsWide g value' r.body.value) rules.now.rules.items) }
+    ensures narrow { let g = signature_view rules.now.signature.value in let value' = value_view value.now in IfOk result (λ _. AllByRecursion (λ r. ¬ BodyIsWide g value' r.body.value) rules.now.rules.items) }
 {
     let mut places = rules.rules_at(&head_of(value));
     let mut turn = Turn::Nobody;
@@ -291,7 +289,7 @@ pub fn next_state(
     ensures next { (t : Theory) → RunsAs t rules.now → IsSorted t.signature (value_view state.now.value) → IfOk result (IsNext t (value_view state.now.value)) }
     ensures written { (t : Theory) → RunsAs t rules.now → IsSorted t.signature (value_view state.now.value) → IfOk result (IsWrittenNext t (written_of state.now)) }
     ensures answered { (t : Theory) → RunsAs t rules.now → IsSorted t.signature (value_view state.now.value) → IfOk result (λ _. ¬ StopsUntold t (written_of state.now) 1) }
-    ensures not_answered { (t : Theory) → RunsAs t rules.now → IsSorted t.signature (value_view state.now.value) → IfErr result (λ e. e ≡ NotAnswered → StopsUntold t (written_of state.now) 1) }
+    ensures not_answered { let value' = value_view state.now.value in (t : Theory) → RunsAs t rules.now → IsSorted t.signature value' → IfErr result (λ e. e ≡ NotAnswered → StopsUntold t (written_of state.now) 1) }
 {
     let depths = depths_of(&state.value, alloc, &rules.signature)?;
     next_of(alloc, rules, state, &depths)
@@ -308,7 +306,7 @@ pub fn next_of(
     ensures next { (t : Theory) → RunsAs t rules.now → IsSorted t.signature (value_view state.now.value) → IfOk result (IsNext t (value_view state.now.value)) }
     ensures written { (t : Theory) → RunsAs t rules.now → IsSorted t.signature (value_view state.now.value) → IfOk result (IsWrittenNext t (written_of state.now)) }
     ensures answered { (t : Theory) → RunsAs t rules.now → IsSorted t.signature (value_view state.now.value) → IfOk result (λ _. ¬ StopsUntold t (written_of state.now) 1) }
-    ensures not_answered { (t : Theory) → RunsAs t rules.now → IsSorted t.signature (value_view state.now.value) → IfErr result (λ e. e ≡ NotAnswered → StopsUntold t (written_of state.now) 1) }
+    ensures not_answered { let value' = value_view state.now.value in (t : Theory) → RunsAs t rules.now → IsSorted t.signature value' → IfErr result (λ e. e ≡ NotAnswered → StopsUntold t (written_of state.now) 1) }
     ensures counted { IfOk result (HasDepths (signature_view rules.now.signature.value)) }
 {
     match foreign_on(alloc, rules, &state.value)? {
@@ -327,10 +325,10 @@ fn known_next(
     depths: &Depths,
 ) -> Result<GroundNext, RunError>
     requires counted { AreDepthsOf (signature_view rules.now.signature.value) (value_view state.now.value) depths.now }
-    ensures next { (t : Theory) → RunsAs t rules.now → IsSorted t.signature (value_view state.now.value) → ¬ IsUnknown t (value_view state.now.value) → IfOk result (IsNext t (value_view state.now.value)) }
-    ensures written { (t : Theory) → RunsAs t rules.now → IsSorted t.signature (value_view state.now.value) → ¬ IsUnknown t (value_view state.now.value) → IfOk result (IsWrittenNext t (written_of state.now)) }
-    ensures answered { (t : Theory) → RunsAs t rules.now → IsSorted t.signature (value_view state.now.value) → ¬ IsUnknown t (value_view state.now.value) → IfOk result (λ _. ¬ IsNotStepped t (written_of state.now)) }
-    ensures not_answered { (t : Theory) → RunsAs t rules.now → IsSorted t.signature (value_view state.now.value) → ¬ IsUnknown t (value_view state.now.value) → IfErr result (λ e. e ≡ NotAnswered → IsNotStepped t (written_of state.now)) }
+    ensures next { let value' = value_view state.now.value in (t : Theory) → RunsAs t rules.now → IsSorted t.signature value' → ¬ IsUnknown t value' → IfOk result (IsNext t value') }
+    ensures written { let value' = value_view state.now.value in (t : Theory) → RunsAs t rules.now → IsSorted t.signature value' → ¬ IsUnknown t value' → IfOk result (IsWrittenNext t (written_of state.now)) }
+    ensures answered { let value' = value_view state.now.value in (t : Theory) → RunsAs t rules.now → IsSorted t.signature value' → ¬ IsUnknown t value' → IfOk result (λ _. ¬ IsNotStepped t (written_of state.now)) }
+    ensures not_answered { let value' = value_view state.now.value in (t : Theory) → RunsAs t rules.now → IsSorted t.signature value' → ¬ IsUnknown t value' → IfErr result (λ e. e ≡ NotAnswered → IsNotStepped t (written_of state.now)) }
     ensures counted { IfOk result (HasDepths (signature_view rules.now.signature.value)) }
 {
     match turn_on(alloc, rules, &state.value)? {
@@ -359,7 +357,7 @@ fn after(
     requires counted { AreDepthsOf (signature_view signature.now) (value_view state.now.value) depths.now }
     requires matched { IsMatchOf firing.now (value_view state.now.value) }
     ensures after { IfOk result (λ next. IsAfterFiring (signature_view signature.now) firing.now next.0) }
-    ensures written { IfOk result (λ next. IsWrittenAt (signature_view signature.now) (sort_view firing.now.rewrite.now.right_sort) (sort_view state.now.sort) (sort_view next.0.sort)) }
+    ensures written { let g = signature_view signature.now in let right' = sort_view firing.now.rewrite.now.right_sort in let state' = sort_view state.now.sort in IfOk result (λ next. IsWrittenAt g right' state' (sort_view next.0.sort)) }
     ensures followed { IfOk result (λ next. IsFollowed (signature_view signature.now) firing.now next.0) }
     ensures not_followed { IfErr result (λ e. e ≡ NotAnswered → NotFollowed (signature_view signature.now) firing.now (sort_view state.now.sort)) }
     ensures counted { IfOk result (λ next. AreDepthsOf (signature_view signature.now) (value_view next.0.value) next.1) }
@@ -385,7 +383,7 @@ fn depths_after(
     depths: &Depths,
 ) -> Result<Depths, AllocError>
     requires plain { firing.now.rewrite.now.chooses ≡ false }
-    ensures { let g = signature_view signature.now in let value' = value_view value.now in IfOk result (λ d. (v : Valuation) → AreDepthsOf g (left_value v (left_view firing.now.rewrite.now.left)) depths.now → value' ≡ term_value v (term_view firing.now.rewrite.now.right) → AreDepthsOf g value' d) }
+    ensures { let g = signature_view signature.now in let value' = value_view value.now in IfOk result (λ d. (v : Valuation) → AreDepthsOf g (left_instance firing.now v) depths.now → value' ≡ right_instance firing.now v → AreDepthsOf g value' d) }
 {
     let bound = bound_depths(alloc, &firing.rewrite.left, depths)?;
     right_depths(&firing.rewrite.right, value, alloc, signature, &bound)

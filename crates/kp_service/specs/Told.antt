@@ -14,13 +14,17 @@ use Rattle.kp_server.specs.Setting.{Setting}
 use Rattle.kp_server.specs.Sides.{IsSideState, AreBothCompared, result_at}
 use Rattle.kp_server.specs.declared.failure.PatternFailure.{PatternFailure}
 use Rattle.kp_server.specs.declared.failure.PatternFailure.TheVariants as failure
-use Rattle.kp_service.specs.Answered.{IsImpliesError}
+use Rattle.kp_service.specs.Answered.{IsImpliedAs, IsImpliesError}
 
 -- ---- lines
 
 -- the line is that of a reply of which this holds
 abbrev pub IsLineOf : (Data → Type 0) → List ℕ → Type 0
 IsLineOf IsRight line = (reply : Data) × IsRight reply × (line ≡ reply_bytes reply)
+
+-- the line is that of a reply to implies that is right for what was read of its sides
+abbrev pub IsLineOfSides : Setting → RequestId → Option Text → Reading KorePattern → Reading KorePattern → List ℕ → Type 0
+IsLineOfSides s id asked antecedent consequent line = IsLineOf (IsImpliedAs s id asked antecedent consequent) line
 
 -- the line tells a fault; want of memory has none
 abbrev pub IsFaultLine : RequestId → PatternFailure → List ℕ → Type 0

@@ -29,7 +29,7 @@ pub fn added_line(
 ) -> Result<Vec<u8>, AllocError>
     requires pass { IsPass pass.old }
     ensures pass { IsPass pass.new }
-    ensures told { IfOk result (λ line. FromEachBookSeen registry.now pass.old pass.new (λ o book. IsReplyLine o book (id_view id.now) (asks (add_module (string_bytes text) name_as_id)) line.items)) }
+    ensures told { let asked = asks (add_module (string_bytes text) name_as_id) in IfOk result (λ line. FromEachBookSeen registry.now pass.old pass.new (λ o book. IsReplyLine o book (id_view id.now) asked line.items)) }
     ensures begun { OnErr result (FromEachBookSeen registry.now pass.old pass.new (λ o book. MayHaveDone o book (asks (add_module (string_bytes text) name_as_id)))) }
 {
     match add_module(alloc, registry, pass, text.into_bytes(), name_as_id) {

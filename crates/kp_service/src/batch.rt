@@ -23,7 +23,7 @@ pub fn answered_batch(
     requires pass { IsPass pass.old }
     requires prepared { IsReadyFor registry.now prepared.now }
     ensures pass { IsPass pass.new }
-    ensures told { IfOk result (λ array. FromEachBookSeen registry.now pass.old pass.new (λ o book. AreMembersText o book (calls_view calls.items) (option_map (λ text. text.items) array))) }
+    ensures told { let calls' = calls_view calls.items in IfOk result (λ array. FromEachBookSeen registry.now pass.old pass.new (λ o book. AreMembersText o book calls' (option_map (λ text. text.items) array))) }
     ensures begun { OnErr result (FromEachBookSeen registry.now pass.old pass.new (λ o book. IsFront o book (calls_view calls.items))) }
 {
     let mut replies = Vec::new(alloc);

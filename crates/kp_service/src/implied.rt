@@ -9,8 +9,7 @@ ghost use Rattle.kp_requests.specs.View.{reading_view};
 ghost use Rattle.kp_server.specs.Ends.{IsWrongPattern};
 ghost use Rattle.kp_server.specs.Right.{NoneLeftOut};
 ghost use Rattle.kp_server.specs.Setting.{IsElsewhere, Setting};
-ghost use Rattle.kp_service.specs.Answered.{IsImpliedAs};
-ghost use Rattle.kp_service.specs.Told.{IsFaultLine, IsImpliedLine, IsImpliedOf, IsLineOf, IsSideOf, IsSidesFailure, IsTreeFailure};
+ghost use Rattle.kp_service.specs.Told.{IsFaultLine, IsImpliedLine, IsImpliedOf, IsLineOfSides, IsSideOf, IsSidesFailure, IsTreeFailure};
 
 use kp_compile::GroundState;
 use kp_kore::{Pattern, Sort};
@@ -30,8 +29,9 @@ pub fn implied_line(
     antecedent: Reading,
     consequent: Reading,
 ) -> Result<Vec<u8>, AllocError>
-    ensures { (s : Setting) (asked : Option Text) → signature_view rules.now.signature.value ≡ s.theory.signature → ¬ IsElsewhere s.main asked →
-        IfOk result (λ line. IsLineOf (IsImpliedAs s (id_view id.now) asked (reading_view antecedent) (reading_view consequent)) line.items) }
+    ensures { let g = signature_view rules.now.signature.value in
+        (s : Setting) (asked : Option Text) → g ≡ s.theory.signature → ¬ IsElsewhere s.main asked →
+        IfOk result (λ line. IsLineOfSides s (id_view id.now) asked (reading_view antecedent) (reading_view consequent) line.items) }
 {
     match implied(alloc, rules, antecedent, consequent) {
         Ok(sort) => result_line(alloc, id, &sort),
@@ -69,7 +69,8 @@ fn implied(
     consequent: Reading,
 ) -> Result<Option<Sort>, PatternFailure>
     ensures found { IfOk result (λ o. IsImpliedOf (signature_view rules.now.signature.value) (reading_view antecedent) (reading_view consequent) (option_map sort_view o)) }
-    ensures failed { (s : Setting) (asked : Option Text) → signature_view rules.now.signature.value ≡ s.theory.signature → IfErr result (IsSidesFailure s asked (reading_view antecedent) (reading_view consequent)) }
+    ensures failed { let antecedent' = reading_view antecedent in let consequent' = reading_view consequent in
+        (s : Setting) (asked : Option Text) → signature_view rules.now.signature.value ≡ s.theory.signature → IfErr result (IsSidesFailure s asked antecedent' consequent') }
 {
     let left = pattern_in(antecedent)?;
     let right = pattern_in(consequent)?;
@@ -84,7 +85,8 @@ fn compared(
     right: &Pattern,
 ) -> Result<Option<Sort>, PatternFailure>
     ensures found { IfOk result (λ o. IsImpliedOf (signature_view signature.now) (faults.read (view left.now)) (faults.read (view right.now)) (option_map sort_view o)) }
-    ensures failed { (s : Setting) (asked : Option Text) → signature_view signature.now ≡ s.theory.signature → IfErr result (IsSidesFailure s asked (faults.read (view left.now)) (faults.read (view right.now))) }
+    ensures failed { let left' = faults.read (view left.now) in let right' = faults.read (view right.now) in
+        (s : Setting) (asked : Option Text) → signature_view signature.now ≡ s.theory.signature → IfErr result (IsSidesFailure s asked left' right') }
 {
     let antecedent = side_at(alloc, signature, left)?;
     let consequent = side_at(alloc, signature, right)?;

@@ -5,10 +5,10 @@ ghost use Rattle.kp_rpc.specs.View.{id_view, name_view, options_view};
 ghost use Rattle.kp_requests.specs.Requests as requests;
 ghost use Rattle.kp_requests.specs.View.{asked_view, call_view, reading_view, request_view};
 ghost use Rattle.kp_registry.specs.Passes.{IsPass, MeansAt};
-ghost use Rattle.kp_service.specs.Answered.{IsImpliedAs, IsReplyIn};
+ghost use Rattle.kp_service.specs.Answered.{IsReplyIn};
 ghost use Rattle.kp_simplify_reply.specs.Answered.{IsSimplifiedAs};
 ghost use Rattle.kp_execute_reply.specs.Answered.{IsExecutedAs};
-ghost use Rattle.kp_service.specs.Answers.{IsFront};
+ghost use Rattle.kp_service.specs.Answers.{IsFront, IsReplyTo};
 ghost use Rattle.kp_service.specs.Batches.{FromEachBookSeen, call_of, IsEffect, IsMemberText, IsReplyLine, MayHaveDone};
 ghost use Rattle.kp_service.specs.Meant.{module_asked};
 ghost use Rattle.kp_service.specs.Ready.{IsReadyFor};
@@ -59,7 +59,7 @@ fn reply_text(
     requires pass { IsPass pass.old }
     requires prepared { IsReadyFor registry.now prepared.now }
     ensures pass { IsPass pass.new }
-    ensures told { IfOk result (λ reply. FromEachBookSeen registry.now pass.old pass.new (λ o book. IsMemberText o book (call_of (Some (id_view id.now)) (asked_view asked)) (option_map (λ text. text.items) reply))) }
+    ensures told { let call = call_of (Some (id_view id.now)) (asked_view asked) in IfOk result (λ reply. FromEachBookSeen registry.now pass.old pass.new (λ o book. IsMemberText o book call (option_map (λ text. text.items) reply))) }
     ensures begun { OnErr result (FromEachBookSeen registry.now pass.old pass.new (λ o book. IsFront o book (call_of (Some (id_view id.now)) (asked_view asked) ∷ []))) }
 {
     let line = reply_line(alloc, registry, prepared, pass, id, asked)?;
@@ -75,7 +75,7 @@ fn no_text(
 ) -> Result<Option<Vec<u8>>, AllocError>
     requires pass { IsPass pass.old }
     ensures pass { IsPass pass.new }
-    ensures told { IfOk result (λ reply. FromEachBookSeen registry.now pass.old pass.new (λ o book. IsMemberText o book (call_of None (asked_view asked)) (option_map (λ text. text.items) reply))) }
+    ensures told { let call = call_of None (asked_view asked) in IfOk result (λ reply. FromEachBookSeen registry.now pass.old pass.new (λ o book. IsMemberText o book call (option_map (λ text. text.items) reply))) }
     ensures begun { OnErr result (FromEachBookSeen registry.now pass.old pass.new (λ o book. IsFront o book (call_of None (asked_view asked) ∷ []))) }
 {
     take_effect(alloc, registry, pass, asked)?;
@@ -164,7 +164,7 @@ fn request_line(
     requires pass { IsPass pass.old }
     requires prepared { IsReadyFor registry.now prepared.now }
     ensures pass { IsPass pass.new }
-    ensures told { IfOk result (λ line. FromEachBookSeen registry.now pass.old pass.new (λ o book. IsReplyLine o book (id_view id.now) (requests.asks (request_view request)) line.items)) }
+    ensures told { let asked = requests.asks (request_view request) in IfOk result (λ line. FromEachBookSeen registry.now pass.old pass.new (λ o book. IsReplyLine o book (id_view id.now) asked line.items)) }
     ensures begun { OnErr result (FromEachBookSeen registry.now pass.old pass.new (λ o book. MayHaveDone o book (requests.asks (request_view request)))) }
 {
     match request {
@@ -226,7 +226,7 @@ fn implies_line(
 ) -> Result<Vec<u8>, AllocError>
     requires pass { IsPass pass.old }
     ensures pass { pass.new ≡ pass.old }
-    ensures line { let module_name' = name_view module_name in let id' = id_view id.now in IfOk result (λ line. AtEachBookSeen registry.now pass.old (λ o book. IsLineOf (IsReplyIn o book module_name' id' (λ s. IsImpliedAs s id' module_name' (reading_view antecedent) (reading_view consequent))) line.items)) }
+    ensures line { let asked = requests.asks (requests.implies (reading_view antecedent) (reading_view consequent) (name_view module_name)) in IfOk result (λ line. AtEachBookSeen registry.now pass.old (λ o book. IsLineOf (IsReplyTo o book (id_view id.now) asked) line.items)) }
 {
     match rules_at(alloc, registry, pass, &module_name)? {
         Some(rules) => implied_line(alloc, &rules, id, antecedent, consequent),

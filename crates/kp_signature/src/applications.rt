@@ -6,9 +6,10 @@ ghost use Rattle.kp_kore.specs.Signature.{symbol_declared};
 ghost use Rattle.kp_kore.specs.Sorting.{at_arguments, result_sort};
 ghost use Rattle.kp_kore.specs.Syntax.{KoreSorts, KorePatterns, application};
 ghost use Rattle.kp_kore.specs.View.{sort_view, sorts_view, names_view};
-ghost use Rattle.kp_signature.specs.Faults.{fault_view};
+ghost use Rattle.kp_signature.specs.Faults.{fault_view, IfTold};
 ghost use Rattle.kp_signature.specs.Nodes.{application_fault, two_sorts, injects};
 ghost use Rattle.kp_signature.specs.Places.{argument_sorts, profile_of};
+ghost use Rattle.kp_signature.specs.Scopes.{wanted_sort};
 ghost use Rattle.kp_signature.specs.Verify.{VerifyFault, symbol_fault, injection_fault};
 ghost use Rattle.kp_signature.specs.View.{signature_view};
 
@@ -42,8 +43,8 @@ pub fn check_application(
     ensures places { IfOk result (λ ss. sorts_view ss.items ≡ argument_sorts (signature_view signature.now) (string_bytes symbol.now) (sorts_view sorts.now)) }
     ensures number { IfOk result (λ ss. length ss.items ≡ count) }
     ensures shallow { OnOk result (depth ≤ 48) }
-    ensures ok { let g = signature_view signature.now in let sorts' = sorts_view sorts.now in OnOk result ((ps : KorePatterns) → length (pattern_list ps) ≡ count → application_fault g (option_map (λ s. sort_view s.now) wanted.entry) depth (string_bytes symbol.now) sorts' ps ≡ None) }
-    ensures err { let g = signature_view signature.now in let sorts' = sorts_view sorts.now in IfErr result (λ e. (f : VerifyFault) → (ps : KorePatterns) → length (pattern_list ps) ≡ count → fault_view e ≡ Some f → application_fault g (option_map (λ s. sort_view s.now) wanted.entry) depth (string_bytes symbol.now) sorts' ps ≡ Some f) }
+    ensures ok { let g = signature_view signature.now in let sorts' = sorts_view sorts.now in OnOk result ((ps : KorePatterns) → length (pattern_list ps) ≡ count → application_fault g (wanted_sort wanted.entry) depth (string_bytes symbol.now) sorts' ps ≡ None) }
+    ensures err { let g = signature_view signature.now in IfErr result (λ e. (f : VerifyFault) → (ps : KorePatterns) → length (pattern_list ps) ≡ count → IfTold e f (application_fault g (wanted_sort wanted.entry) depth (string_bytes symbol.now) (sorts_view sorts.now) ps)) }
 {
     check_all_known(alloc, signature, sorts)?;
     let profile = check_symbol(signature, symbol, sorts.len(), count)?;
@@ -65,7 +66,7 @@ fn check_symbol<'a>(
     ensures gives { let g = signature_view signature.now in IfOk result (λ p. (ss : KoreSorts) → result_sort g (string_bytes symbol.now) ss ≡ Some (at_arguments (names_view p.parameters.now) ss (sort_view p.result_sort.now))) }
     ensures number { IfOk result (λ p. length p.arguments.now ≡ count) }
     ensures ok { let g = signature_view signature.now in OnOk result ((ss : KoreSorts) (ps : KorePatterns) → length (sort_list ss) ≡ sorts → length (pattern_list ps) ≡ count → symbol_fault g (application (string_bytes symbol.now) ss ps) ≡ None) }
-    ensures err { let g = signature_view signature.now in IfErr result (λ e. (f : VerifyFault) → (ss : KoreSorts) (ps : KorePatterns) → length (sort_list ss) ≡ sorts → length (pattern_list ps) ≡ count → fault_view e ≡ Some f → symbol_fault g (application (string_bytes symbol.now) ss ps) ≡ Some f) }
+    ensures err { let g = signature_view signature.now in IfErr result (λ e. (f : VerifyFault) → (ss : KoreSorts) (ps : KorePatterns) → length (sort_list ss) ≡ sorts → length (pattern_list ps) ≡ count → IfTold e f (symbol_fault g (application (string_bytes symbol.now) ss ps))) }
 {
     match signature.profile(symbol) {
         Some(profile) => {
@@ -144,7 +145,7 @@ fn check_upwards(
     upper: &Sort,
 ) -> Result<(), VerifyError>
     ensures ok { let g = signature_view signature.now in let lower' = sort_view lower.now in let upper' = sort_view upper.now in OnOk result ((ps : KorePatterns) → injection_fault g (application (string_bytes symbol.now) (two_sorts lower' upper') ps) ≡ None) }
-    ensures err { let g = signature_view signature.now in let lower' = sort_view lower.now in let upper' = sort_view upper.now in IfErr result (λ e. (f : VerifyFault) → (ps : KorePatterns) → fault_view e ≡ Some f → injection_fault g (application (string_bytes symbol.now) (two_sorts lower' upper') ps) ≡ Some f) }
+    ensures err { let g = signature_view signature.now in let sorts' = two_sorts (sort_view lower.now) (sort_view upper.now) in IfErr result (λ e. (f : VerifyFault) → (ps : KorePatterns) → IfTold e f (injection_fault g (application (string_bytes symbol.now) sorts' ps))) }
 {
     if !signature.injects(symbol) {
         return Ok(());

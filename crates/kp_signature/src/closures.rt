@@ -31,7 +31,7 @@ fn closure_of(
     spans: &[Vec<Span>],
     number: usize,
 ) -> Result<Vec<Span>, AllocError>
-    ensures { IsSpread (edges_of edges.now) spans.now → next.now ≡ get_or (edges_of edges.now) number [] → IfOk result (λ own. (j : ℕ) → IsWithin own.items j ↔ Reaches (edges_of edges.now) number j) }
+    ensures { let edges' = edges_of edges.now in IsSpread edges' spans.now → next.now ≡ get_or edges' number [] → IfOk result (λ own. (j : ℕ) → IsWithin own.items j ↔ Reaches edges' number j) }
 {
     if !are_below(next, spans.len()) {
         return Ok(searched(alloc, edges, number)?);

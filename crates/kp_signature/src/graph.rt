@@ -64,7 +64,7 @@ impl SortGraph {
 
     /// Gives a number to a sort that has none.
     fn add_sort(&mut self, alloc: Global, sort: &Sort) -> Result<usize, AllocError>
-        ensures { (pairs : List (KoreSort × KoreSort)) → IsGraphOf pairs self.old → ¬ Contains (sorts_of self.old) (sort_view sort.now) → IfOk result (HasNew pairs (sorts_of self.old) self.new (sort_view sort.now)) }
+        ensures { let sort' = sort_view sort.now in let before = sorts_of self.old in (pairs : List (KoreSort × KoreSort)) → IsGraphOf pairs self.old → ¬ Contains before sort' → IfOk result (HasNew pairs before self.new sort') }
     {
         let number = self.numbering.add_sort(alloc, sort)?;
         self.above.push(Vec::new(alloc))?;

@@ -3,9 +3,9 @@ ghost use Rattle.std.specs.Prelude.{◌≡◌, ◌++◌, ◌∷◌, [], IfErr, I
 ghost use Rattle.std.specs.Option.{option_map};
 ghost use Rattle.kp_kore.specs.Parts.{SortedName};
 ghost use Rattle.kp_kore.specs.View.{sort_view, sorts_view};
-ghost use Rattle.kp_signature.specs.Faults.{fault_view};
+ghost use Rattle.kp_signature.specs.Faults.{fault_view, IfTold};
 ghost use Rattle.kp_signature.specs.Nodes.{sorts_fault, one_sort, two_sorts, own_fault, form_fault, variable_node_fault};
-ghost use Rattle.kp_signature.specs.Scopes.{Knows};
+ghost use Rattle.kp_signature.specs.Scopes.{Knows, wanted_sort};
 ghost use Rattle.kp_signature.specs.Places.{text_sort};
 ghost use Rattle.kp_signature.specs.Verify.{VerifyFault};
 ghost use Rattle.kp_signature.specs.View.{signature_view};
@@ -100,7 +100,7 @@ pub fn check_form_of_part(
     sort: &Sort,
 ) -> Result<(), VerifyError>
     ensures ok { let g = signature_view signature.now in let part' = sort_view part.now in let sort' = sort_view sort.now in OnOk result (form_fault g (option_map (λ s. sort_view s.now) wanted.entry) depth (two_sorts part' sort') sort' ≡ None) }
-    ensures err { let g = signature_view signature.now in let part' = sort_view part.now in let sort' = sort_view sort.now in IfErr result (λ e. (f : VerifyFault) → fault_view e ≡ Some f → form_fault g (option_map (λ s. sort_view s.now) wanted.entry) depth (two_sorts part' sort') sort' ≡ Some f) }
+    ensures err { let g = signature_view signature.now in let part' = sort_view part.now in let sort' = sort_view sort.now in let wanted' = wanted_sort wanted.entry in IfErr result (λ e. (f : VerifyFault) → IfTold e f (form_fault g wanted' depth (two_sorts part' sort') sort')) }
 {
     check_two_known(alloc, signature, part, sort)?;
     Ok(check_own(alloc, wanted, depth, sort)?)
@@ -116,7 +116,7 @@ pub fn check_binder(
     variable: &Sort,
 ) -> Result<(), VerifyError>
     ensures ok { let g = signature_view signature.now in let sort' = sort_view sort.now in OnOk result (form_fault g (option_map (λ s. sort_view s.now) wanted.entry) depth (two_sorts sort' (sort_view variable.now)) sort' ≡ None) }
-    ensures err { let g = signature_view signature.now in let sort' = sort_view sort.now in let variable' = sort_view variable.now in IfErr result (λ e. (f : VerifyFault) → fault_view e ≡ Some f → form_fault g (option_map (λ s. sort_view s.now) wanted.entry) depth (two_sorts sort' variable') sort' ≡ Some f) }
+    ensures err { let g = signature_view signature.now in let sort' = sort_view sort.now in let wanted' = wanted_sort wanted.entry in IfErr result (λ e. (f : VerifyFault) → IfTold e f (form_fault g wanted' depth (two_sorts sort' (sort_view variable.now)) sort')) }
 {
     check_two_known(alloc, signature, sort, variable)?;
     Ok(check_own(alloc, wanted, depth, sort)?)
@@ -158,7 +158,7 @@ pub fn check_variable(
 ) -> Result<(), VerifyError>
     ensures known { OnOk result ((s : List SortedName) → Knows s scope.old → Knows (s ++ record { name = string_bytes name.now; sort = sort_view sort.now } ∷ []) scope.new) }
     ensures ok { let g = signature_view signature.now in let sort' = sort_view sort.now in OnOk result ((s : List SortedName) → Knows s scope.old → variable_node_fault g (option_map (λ s. sort_view s.now) wanted.entry) depth s (string_bytes name.now) sort' ≡ None) }
-    ensures err { let g = signature_view signature.now in let sort' = sort_view sort.now in IfErr result (λ e. (f : VerifyFault) → (s : List SortedName) → Knows s scope.old → fault_view e ≡ Some f → variable_node_fault g (option_map (λ s. sort_view s.now) wanted.entry) depth s (string_bytes name.now) sort' ≡ Some f) }
+    ensures err { let g = signature_view signature.now in let sort' = sort_view sort.now in IfErr result (λ e. (f : VerifyFault) → (s : List SortedName) → Knows s scope.old → IfTold e f (variable_node_fault g (wanted_sort wanted.entry) depth s (string_bytes name.now) sort')) }
 {
     check_known(alloc, signature, sort)?;
     check_sort(alloc, wanted, sort)?;

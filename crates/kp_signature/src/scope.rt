@@ -6,7 +6,7 @@ ghost use Rattle.kp_kore.specs.Syntax.{KoreSort, variable};
 ghost use Rattle.kp_kore.specs.View.{sort_view};
 ghost use Rattle.kp_signature.specs.Faults.{fault_view};
 ghost use Rattle.kp_signature.specs.Places.{sort_in_scope};
-ghost use Rattle.kp_signature.specs.Scopes.{Knows};
+ghost use Rattle.kp_signature.specs.Scopes.{Knows, sorted_name};
 ghost use Rattle.kp_signature.specs.Verify.{VerifyFault, variable_fault};
 
 use crate::error::VerifyError;
@@ -42,7 +42,7 @@ fn add_variable(
     name: &Name,
     sort: &Sort,
 ) -> Result<(), AllocError>
-    ensures { OnOk result ((s : List SortedName) → Knows s scope.old → sort_in_scope (string_bytes name.now) s ≡ None → Knows (s ++ record { name = string_bytes name.now; sort = sort_view sort.now } ∷ []) scope.new) }
+    ensures { let name' = string_bytes name.now in OnOk result ((s : List SortedName) → Knows s scope.old → sort_in_scope name' s ≡ None → Knows (s ++ sorted_name name' (sort_view sort.now) ∷ []) scope.new) }
 {
     scope.insert(name.clone()?, sort.copy(alloc)?)?;
     Ok(())
@@ -67,7 +67,7 @@ pub fn unbind_variable(
     name: &Name,
     hidden: Option<Sort>,
 ) -> Result<(), AllocError>
-    ensures { let the_string_bytes = string_bytes name.now in OnOk result ((s found : List SortedName) (t : KoreSort) → Knows (record { name = string_bytes name.now; sort = t } ∷ (s ++ found)) scope.old → option_map sort_view hidden ≡ sort_in_scope the_string_bytes s → Knows (s ++ without_name the_string_bytes found) scope.new) }
+    ensures { let name' = string_bytes name.now in OnOk result ((s found : List SortedName) (t : KoreSort) → Knows (sorted_name name' t ∷ (s ++ found)) scope.old → option_map sort_view hidden ≡ sort_in_scope name' s → Knows (s ++ without_name name' found) scope.new) }
 {
     match hidden {
         Some(sort) => {

@@ -1,8 +1,8 @@
 // Which symbols are constructors, and which inj.
-ghost use Rattle.std.specs.Prelude.{◌≡◌, ◌&&◌, not, string_bytes};
-ghost use Rattle.std.specs.Str.{bytes_eq};
+ghost use Rattle.std.specs.Prelude.{◌≡◌, ◌∷◌, [], string_bytes};
 ghost use Rattle.kp_kore.specs.Signature.{is_parameter as parameter_test, goes_across as across_test, is_injection as injection_test, is_identity as identity_test, is_plain as plain_test, has_equations as equation_test, is_constructor as constructor_test};
 ghost use Rattle.kp_kore.specs.View.{sort_view, sorts_view, names_view, symbol_sentence_view};
+ghost use Rattle.kp_signature.specs.Nodes.{one_sort};
 
 use crate::attributes::has_mark;
 use kp_kore::{Name, Sort, SymbolSentence};
@@ -68,7 +68,7 @@ fn goes_across(parameters: &[Name], arguments: &[Sort], result_sort: &Sort) -> b
 
 /// Whether the argument is the first of two different parameters, and the result the second.
 fn goes_between(first: &Name, second: &Name, argument: &Sort, result_sort: &Sort) -> bool
-    ensures { let the_string_bytes = string_bytes second.now in let argument' = sort_view argument.now in let result_sort' = sort_view result_sort.now in let the_bytes_eq = bytes_eq (string_bytes first.now) the_string_bytes in result ≡ (parameter_test (string_bytes first.now) argument' && parameter_test the_string_bytes result_sort' && not the_bytes_eq) }
+    ensures { let first' = string_bytes first.now in let second' = string_bytes second.now in result ≡ across_test (first' ∷ second' ∷ []) (one_sort (sort_view argument.now)) (sort_view result_sort.now) }
 {
     is_parameter(argument, first) && is_parameter(result_sort, second) && first != second
 }

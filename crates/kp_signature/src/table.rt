@@ -68,7 +68,7 @@ impl DeclarationTable {
 
     /// Takes in a sort's declaration.
     fn add_sort(&mut self, alloc: Global, declaration: &SortSentence) -> Result<(), AllocError>
-        ensures { (sentences : List KoreSentence) → IsTableOf self.old sentences → OnOk result (IsTableOf self.new (sentences ++ sort_sentence (sort_sentence_view declaration.now) ∷ [])) }
+        ensures { let added = sort_sentence (sort_sentence_view declaration.now) in (sentences : List KoreSentence) → IsTableOf self.old sentences → OnOk result (IsTableOf self.new (sentences ++ added ∷ [])) }
     {
         note_name(&mut self.sort_places, &declaration.name, self.sorts.len())?;
         Ok(self.sorts.push(declaration.copy(alloc)?)?)
@@ -76,7 +76,7 @@ impl DeclarationTable {
 
     /// Takes in a symbol's declaration.
     fn add_symbol(&mut self, alloc: Global, declaration: &SymbolSentence) -> Result<(), AllocError>
-        ensures { (sentences : List KoreSentence) → IsTableOf self.old sentences → OnOk result (IsTableOf self.new (sentences ++ symbol_sentence (symbol_sentence_view declaration.now) ∷ [])) }
+        ensures { let added = symbol_sentence (symbol_sentence_view declaration.now) in (sentences : List KoreSentence) → IsTableOf self.old sentences → OnOk result (IsTableOf self.new (sentences ++ added ∷ [])) }
     {
         note_name(
             &mut self.symbol_places,
@@ -88,7 +88,7 @@ impl DeclarationTable {
 
     /// Takes in an alias's declaration.
     fn add_alias(&mut self, alloc: Global, declaration: &AliasSentence) -> Result<(), AllocError>
-        ensures { (sentences : List KoreSentence) → IsTableOf self.old sentences → OnOk result (IsTableOf self.new (sentences ++ alias_sentence (alias_sentence_view declaration.now) ∷ [])) }
+        ensures { let added = alias_sentence (alias_sentence_view declaration.now) in (sentences : List KoreSentence) → IsTableOf self.old sentences → OnOk result (IsTableOf self.new (sentences ++ added ∷ [])) }
     {
         note_name(
             &mut self.alias_places,

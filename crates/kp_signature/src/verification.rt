@@ -2,7 +2,7 @@
 ghost use Rattle.std.specs.Prelude.{◌≡◌, ◌+◌, ◌++◌, IfErr, IfOk, OnOk, List, Some, None, length};
 ghost use Rattle.kp_kore.specs.Parts.{SortedName, free_variables, all_free_variables};
 ghost use Rattle.kp_kore.specs.View.{view, patterns_view, sort_view, sorts_view};
-ghost use Rattle.kp_signature.specs.Faults.{fault_view};
+ghost use Rattle.kp_signature.specs.Faults.{fault_view, IfTold};
 ghost use Rattle.kp_signature.specs.Places.{Place};
 ghost use Rattle.kp_signature.specs.Scopes.{Knows, place_of, part_place};
 ghost use Rattle.kp_signature.specs.Verify.{VerifyFault, first_fault, arguments_fault, members_fault, VerifiesAs, FailsWith};
@@ -139,7 +139,7 @@ fn verify_arguments(
 ) -> Result<(), VerifyError>
     ensures known { let arguments' = patterns_view arguments.now in OnOk result (length places.now ≡ length arguments.now → (s : List SortedName) → Knows s scope.old → Knows (s ++ all_free_variables arguments') scope.new) }
     ensures ok { let g = signature_view signature.now in let places' = sorts_view places.now in OnOk result ((c : Place) → c.depth + 1 ≡ depth → Knows c.scope scope.old → arguments_fault g c places' (patterns_view arguments.now) ≡ None) }
-    ensures err { let g = signature_view signature.now in let places' = sorts_view places.now in let arguments' = patterns_view arguments.now in IfErr result (λ e. (f : VerifyFault) → (c : Place) → c.depth + 1 ≡ depth → Knows c.scope scope.old → fault_view e ≡ Some f → arguments_fault g c places' arguments' ≡ Some f) }
+    ensures err { let g = signature_view signature.now in let places' = sorts_view places.now in IfErr result (λ e. (f : VerifyFault) → (c : Place) → c.depth + 1 ≡ depth → Knows c.scope scope.old → IfTold e f (arguments_fault g c places' (patterns_view arguments.now))) }
 {
     for (i, argument) in arguments.iter().enumerate() {
         if i >= places.len() {
@@ -161,7 +161,7 @@ fn verify_members(
 ) -> Result<(), VerifyError>
     ensures known { OnOk result ((s : List SortedName) → Knows s scope.old → Knows (s ++ all_free_variables (patterns_view members.now)) scope.new) }
     ensures ok { let g = signature_view signature.now in let sort' = sort_view sort.now in OnOk result ((s : List SortedName) → Knows s scope.old → members_fault g (part_place sort' s) (patterns_view members.now) ≡ None) }
-    ensures err { let g = signature_view signature.now in let sort' = sort_view sort.now in let members' = patterns_view members.now in IfErr result (λ e. (f : VerifyFault) → (s : List SortedName) → Knows s scope.old → fault_view e ≡ Some f → members_fault g (part_place sort' s) members' ≡ Some f) }
+    ensures err { let g = signature_view signature.now in let sort' = sort_view sort.now in let members' = patterns_view members.now in IfErr result (λ e. (f : VerifyFault) → (s : List SortedName) → Knows s scope.old → IfTold e f (members_fault g (part_place sort' s) members')) }
 {
     for member in members {
         verify_at(member, alloc, signature, Some(sort), 1, scope)?;

@@ -133,7 +133,7 @@ fn understood_line(
 
 /// The line of what simplify found of a pattern of this sort.
 fn found_line(alloc: Global, id: &Id, sort: &Sort, found: Simplified) -> Result<Vec<u8>, AllocError>
-    ensures { (g : KoreSignature) (p : KorePattern) → VerifiesAs g p (sort_view sort.now) → state_fault g p ≡ None → IsFound g p found → IfOk result (λ line. IsReplyLine (IsUnderstoodAs g (id_view id.now) p) line.items) }
+    ensures { (g : KoreSignature) (p : KorePattern) → let is_right = IsUnderstoodAs g (id_view id.now) p in VerifiesAs g p (sort_view sort.now) → state_fault g p ≡ None → IsFound g p found → IfOk result (λ line. IsReplyLine is_right line.items) }
 {
     match found {
         Simplified::State { pattern } => state_line(alloc, id, &pattern),
@@ -153,7 +153,7 @@ fn bottom_at(sort: Sort) -> Pattern
 
 /// The line of a state that has no instance.
 fn nothing_line(alloc: Global, id: &Id, sort: &Sort) -> Result<Vec<u8>, AllocError>
-    ensures { (g : KoreSignature) (p : KorePattern) → IsRightAnswer g p (answered (theory.nothing (sort_view sort.now))) → IfOk result (λ line. IsReplyLine (IsUnderstoodAs g (id_view id.now) p) line.items) }
+    ensures { (g : KoreSignature) (p : KorePattern) → let is_right = IsUnderstoodAs g (id_view id.now) p in IsRightAnswer g p (answered (theory.nothing (sort_view sort.now))) → IfOk result (λ line. IsReplyLine is_right line.items) }
 {
     let sort = sort.copy(alloc)?;
     state_line(alloc, id, &bottom_at(sort))
@@ -161,7 +161,7 @@ fn nothing_line(alloc: Global, id: &Id, sort: &Sort) -> Result<Vec<u8>, AllocErr
 
 /// The line of a result; T2 where Kore JSON has no tag for a pattern in it.
 fn state_line(alloc: Global, id: &Id, state: &Pattern) -> Result<Vec<u8>, AllocError>
-    ensures { (g : KoreSignature) (p : KorePattern) (r : theory.Simplified) → IsRightAnswer g p (answered r) → pattern_of r ≡ view state.now → IfOk result (λ line. IsReplyLine (IsUnderstoodAs g (id_view id.now) p) line.items) }
+    ensures { (g : KoreSignature) (p : KorePattern) (r : theory.Simplified) → let is_right = IsUnderstoodAs g (id_view id.now) p in IsRightAnswer g p (answered r) → pattern_of r ≡ view state.now → IfOk result (λ line. IsReplyLine is_right line.items) }
 {
     match simplified_text(alloc, id, state)? {
         Some(line) => Ok(line),
@@ -171,7 +171,7 @@ fn state_line(alloc: Global, id: &Id, state: &Pattern) -> Result<Vec<u8>, AllocE
 
 /// The line of code 5; T2 where Kore JSON has no tag for a pattern in it.
 fn undecided_line(alloc: Global, id: &Id, cause: &ReplyFailure) -> Result<Vec<u8>, AllocError>
-    ensures { (g : KoreSignature) (p : KorePattern) (u : shown.Undecided) → IsRightAnswer g p (left_open u) → failure_view cause.now ≡ undecided (parts_of_cause u) → IfOk result (λ line. IsReplyLine (IsUnderstoodAs g (id_view id.now) p) line.items) }
+    ensures { (g : KoreSignature) (p : KorePattern) (u : shown.Undecided) → let is_right = IsUnderstoodAs g (id_view id.now) p in IsRightAnswer g p (left_open u) → failure_view cause.now ≡ undecided (parts_of_cause u) → IfOk result (λ line. IsReplyLine is_right line.items) }
 {
     match failure_text(alloc, id, cause)? {
         Some(line) => Ok(line),
@@ -181,7 +181,7 @@ fn undecided_line(alloc: Global, id: &Id, cause: &ReplyFailure) -> Result<Vec<u8
 
 /// The line that tells why a pattern isn't simplified.
 fn unsimplified_line(alloc: Global, id: &Id, error: SimplifyError) -> Result<Vec<u8>, AllocError>
-    ensures { (g : KoreSignature) (p : KorePattern) → IsUnsimplified g p error → (TellsNoInjection error → LacksInjection g p) → IfOk result (λ line. IsReplyLine (IsUnderstoodAs g (id_view id.now) p) line.items) }
+    ensures { (g : KoreSignature) (p : KorePattern) → let is_right = IsUnderstoodAs g (id_view id.now) p in IsUnsimplified g p error → (TellsNoInjection error → LacksInjection g p) → IfOk result (λ line. IsReplyLine is_right line.items) }
 {
     match error {
         SimplifyError::Memory => Err(AllocError),

@@ -1,9 +1,9 @@
 -- Equations that can be solved, and clauses in which one is.
-use Rattle.std.specs.Prelude.{ℕ, Bool, true, List, [], ◌∷◌, if◌then◌else◌}
+use Rattle.std.specs.Prelude.{ℕ, Bool, true, List, [], ◌∷◌, Option, if◌then◌else◌}
 use Rattle.kp_kore.specs.Syntax.{KoreSort, KorePattern}
 use Rattle.kp_kore.specs.Signature.{KoreSignature}
 use Rattle.kp_symbolic.specs.Terms.{Replaced}
-use Rattle.kp_symbolic.specs.States.{quoted, Literal}
+use Rattle.kp_symbolic.specs.States.{quoted, Literal, SymbolicState}
 use Rattle.kp_symbolic.specs.Writing.{written_clause}
 use Rattle.kp_symbolic.specs.Clauses.{distributed, is_too_large}
 use Rattle.kp_symbolic.specs.Solving as model
@@ -16,6 +16,10 @@ solvable_of i e = record { place = i; equation = e }
 
 abbrev pub solvable_view : Solvable → model.Solvable
 solvable_view o = solvable_of o.place (equation_view o.equation)
+
+-- the equation that the clause at a place between others is, where it can be solved
+abbrev pub solvable_clause : KoreSignature → SymbolicState → List (List Literal) → ℕ → List Literal → Option model.Solvable
+solvable_clause g s others i c = model.solvable_if s others i (model.equation_of g c)
 
 -- a predicate with terms in the place of variables, as the one literal of a clause
 abbrev pub quoted_clause : KorePattern → List Replaced → List Literal

@@ -6,7 +6,7 @@ ghost use Rattle.kp_symbolic.specs.Solving as model;
 ghost use Rattle.kp_symbolic.specs.Solving.{most_solved};
 ghost use Rattle.kp_symbolic.specs.View.{literal_view, clause_view, clauses_view, state_view};
 ghost use Rattle.kp_readings.specs.Equations.{equation_view};
-ghost use Rattle.kp_solving.specs.Solvables.{solvable_view};
+ghost use Rattle.kp_solving.specs.Solvables.{solvable_view, solvable_clause};
 
 use kp_readings::equation::{Equation, equation_of};
 use kp_readings::names::stands_alone;
@@ -87,7 +87,7 @@ fn solvable_at<'a>(
     place: usize,
     clause: &'a [Literal],
 ) -> Result<Option<Solvable<'a>>, AllocError>
-    ensures { let others = clauses_view before.now ++ clauses_view after.now in let equation = model.equation_of (signature_view signature.now) (map literal_view clause.now) in IfOk result (λ o. option_map solvable_view o ≡ model.solvable_if (state_view state.now) others place equation) }
+    ensures { let g = signature_view signature.now in let others = clauses_view before.now ++ clauses_view after.now in IfOk result (λ o. option_map solvable_view o ≡ solvable_clause g (state_view state.now) others place (map literal_view clause.now)) }
 {
     match equation_alone(signature, clause) {
         Some(equation) => solvable_if(alloc, state, before, after, place, equation),

@@ -1,5 +1,5 @@
 -- How the code knows what splits: by numbers of sorts, with edges between numbers.
-use Rattle.std.specs.Prelude.{◌≡◌, ℕ, ◌<◌, Bool, true, false, List, length, get_or, IsTrue, ◌↔◌, ◌⊎◌, Vec, Option, Some, None}
+use Rattle.std.specs.Prelude.{◌≡◌, ℕ, ◌<◌, Bool, true, false, List, [], ◌∷◌, ◌++◌, length, get_or, IsTrue, ◌↔◌, ◌⊎◌, Vec, Option, Some, None}
 use Rattle.std.specs.Option.{option_and_then}
 use Rattle.std.specs.List.{Contains}
 use Rattle.std.specs.declared.alloc.Global.{Global}
@@ -9,6 +9,7 @@ use Rattle.kp_signature.specs.Edges.{edges_of, Leads, Reaches, IsNumber}
 use Rattle.kp_signature.specs.Order.{IsOrderOf, sorts_of}
 use Rattle.kp_signature.specs.Order as order
 use Rattle.kp_signature.specs.declared.graph.SortGraph.{SortGraph}
+use Rattle.kp_signature.specs.declared.order.SortOrder.{SortOrder}
 use Rattle.kp_sort_index.specs.declared.sort_index.SortIndex.{SortIndex}
 
 -- ---- what splits, by numbers
@@ -81,6 +82,10 @@ IsAlone x i = (o j : ℕ) → order.Under x i o → order.Under x j o → order.
 abbrev pub IsNarrow : SortGraph → ℕ → Type 0
 IsNarrow x i = (least : ℕ) × (i < least) × ((j : ℕ) → Leads (edges_of x.above.items) i j → order.Under x j least)
 
+-- each number that is marked is such a number
+abbrev pub MarksOnly : (ℕ → Type 0) → List Bool → Type 0
+MarksOnly IsSuch marks = (i : ℕ) → IsTrue (get_or marks i false) → IsSuch i
+
 -- all that lie directly below a marked number are smaller, marked, and narrow by the other marks
 abbrev pub AreStraightBy : List (Vec ℕ Global) → List Bool → List Bool → Type 0
 AreStraightBy below narrow marks = (i j : ℕ) → IsTrue (get_or marks i false) → Leads (edges_of below) i j → (j < i) × IsTrue (get_or marks j false) × IsTrue (get_or narrow j false)
@@ -115,6 +120,10 @@ OwnsBy g ds a = IsTrue (has_literals g a) ⊎ ((d : SymbolDeclaration) × Contai
 pub record AreMarked (g : KoreSignature) (ds : List SymbolDeclaration) (sorts : List KoreSort) (marks : List Bool) : Type 0 where
   pub as_many : length marks ≡ length sorts
   pub told : (i : ℕ) (a : KoreSort) → IsNumber sorts i a → IsTrue (get_or marks i false) ↔ OwnsBy g ds a
+
+-- where the marks before are those of the order's sorts by these declarations, the marks after are those by one more
+abbrev pub MarksOneMore : KoreSignature → SortOrder → List SymbolDeclaration → SymbolDeclaration → List Bool → List Bool → Type 0
+MarksOneMore g x ds d before after = IsOrderOf g.subsorts x → AreMarked g ds (sorts_of x.graph) before → AreMarked g (ds ++ d ∷ []) (sorts_of x.graph) after
 
 -- ---- a variable under inj
 

@@ -4,7 +4,7 @@ ghost use Rattle.std.specs.List.{Contains};
 ghost use Rattle.kp_kore.specs.Syntax.{KoreSort};
 ghost use Rattle.kp_signature.specs.Edges.{edges_of};
 ghost use Rattle.kp_signature.specs.Order.{IsOrderOf, Under, sorts_of};
-ghost use Rattle.kp_sort_index.specs.Index.{AreStraightBy, IsAlone, IsNarrow};
+ghost use Rattle.kp_sort_index.specs.Index.{AreStraightBy, IsAlone, IsNarrow, MarksOnly};
 
 use kp_signature::order::SortOrder;
 use std::alloc::{AllocError, Global};
@@ -12,7 +12,7 @@ use std::alloc::{AllocError, Global};
 /// Marks numbers whose sorts are alone: below them each sort has one directly above it that lies below the others
 /// directly above it. Where sorts are a tree, with pairs that follow from others or without them, all are marked.
 pub fn alone_marks(alloc: Global, order: &SortOrder) -> Result<Vec<bool>, AllocError>
-    ensures { (pairs : List (KoreSort × KoreSort)) → IsOrderOf pairs order.now → IfOk result (λ marks. (i : ℕ) → IsTrue (get_or marks.items i false) → IsAlone order.now.graph i) }
+    ensures { (pairs : List (KoreSort × KoreSort)) → IsOrderOf pairs order.now → IfOk result (λ marks. MarksOnly (IsAlone order.now.graph) marks.items) }
 {
     let narrow = narrow_marks(alloc, order)?;
     Ok(straight_marks(alloc, &order.graph.below, &narrow)?)
@@ -31,7 +31,7 @@ fn is_marked(marks: &[bool], number: usize) -> bool
 
 /// Marks the numbers that have one directly above them that lies below all that are directly above them.
 fn narrow_marks(alloc: Global, order: &SortOrder) -> Result<Vec<bool>, AllocError>
-    ensures { (pairs : List (KoreSort × KoreSort)) → IsOrderOf pairs order.now → IfOk result (λ marks. (i : ℕ) → IsTrue (get_or marks.items i false) → IsNarrow order.now.graph i) }
+    ensures { (pairs : List (KoreSort × KoreSort)) → IsOrderOf pairs order.now → IfOk result (λ marks. MarksOnly (IsNarrow order.now.graph) marks.items) }
 {
     let mut marks = Vec::new(alloc);
     for number in 0..order.graph.above.len() {
@@ -42,7 +42,7 @@ fn narrow_marks(alloc: Global, order: &SortOrder) -> Result<Vec<bool>, AllocErro
 
 /// Whether one of the numbers above, a greater one, lies below all of them.
 fn is_narrow(order: &SortOrder, number: usize, above: &[usize]) -> bool
-    ensures { (pairs : List (KoreSort × KoreSort)) → IsOrderOf pairs order.now → above.now ≡ get_or (edges_of order.now.graph.above.items) number [] → IsTrue result → IsNarrow order.now.graph number }
+    ensures { let upwards = edges_of order.now.graph.above.items in (pairs : List (KoreSort × KoreSort)) → IsOrderOf pairs order.now → above.now ≡ get_or upwards number [] → IsTrue result → IsNarrow order.now.graph number }
 {
     let least = least_of(above);
     if least <= number {
@@ -64,7 +64,7 @@ fn least_of(numbers: &[usize]) -> usize {
 
 /// Whether each of the numbers lies above another.
 fn are_over(order: &SortOrder, numbers: &[usize], lower: usize) -> bool
-    ensures { (pairs : List (KoreSort × KoreSort)) → IsOrderOf pairs order.now → ((i : ℕ) → Contains numbers.now i → i < length (sorts_of order.now.graph)) → IsTrue result → (i : ℕ) → Contains numbers.now i → Under order.now.graph i lower }
+    ensures { let graph = order.now.graph in (pairs : List (KoreSort × KoreSort)) → IsOrderOf pairs order.now → ((i : ℕ) → Contains numbers.now i → i < length (sorts_of graph)) → IsTrue result → (i : ℕ) → Contains numbers.now i → Under graph i lower }
 {
     for number in numbers {
         if !order.is_under(*number, lower) {

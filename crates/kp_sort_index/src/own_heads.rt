@@ -1,12 +1,12 @@
 // Which sorts are the own sort of some head.
-ghost use Rattle.std.specs.Prelude.{◌≡◌, ◌++◌, ◌∷◌, [], IfOk, List, Some, map, string_bytes};
+ghost use Rattle.std.specs.Prelude.{◌≡◌, [], IfOk, List, Some, map, string_bytes};
 ghost use Rattle.std.specs.Option.{option_map};
 ghost use Rattle.kp_kore.specs.Syntax.{KoreSort, SymbolDeclaration};
 ghost use Rattle.kp_kore.specs.Signature.{KoreSignature};
 ghost use Rattle.kp_kore.specs.View.{sort_view, symbol_sentence_view};
 ghost use Rattle.kp_signature.specs.Order.{IsOrderOf, sorts_of};
 ghost use Rattle.kp_signature.specs.View.{signature_view};
-ghost use Rattle.kp_sort_index.specs.Index.{AreMarked, constructed_sort};
+ghost use Rattle.kp_sort_index.specs.Index.{AreMarked, MarksOneMore, constructed_sort};
 
 use kp_kore::{Name, Sort, SymbolSentence};
 use kp_signature::order::SortOrder;
@@ -57,7 +57,7 @@ fn mark_result(
     order: &SortOrder,
     symbol: &SymbolSentence,
 )
-    ensures { (ds : List SymbolDeclaration) → let g = signature_view signature.now in let sorts = sorts_of order.now.graph in let the_ds = ds ++ symbol_sentence_view symbol.now ∷ [] in IsOrderOf g.subsorts order.now → AreMarked g ds sorts marks.old.items → AreMarked g the_ds sorts marks.new.items }
+    ensures { (ds : List SymbolDeclaration) → let g = signature_view signature.now in MarksOneMore g order.now ds (symbol_sentence_view symbol.now) marks.old.items marks.new.items }
 {
     if let Some(sort) = constructed_sort(signature, &symbol.name) {
         mark(marks, order, sort);
@@ -66,7 +66,7 @@ fn mark_result(
 
 /// Marks the number of a sort, where it has one.
 fn mark(marks: &mut Vec<bool>, order: &SortOrder, sort: &Sort)
-    ensures { (g : KoreSignature) (ds : List SymbolDeclaration) (d : SymbolDeclaration) → let sorts = sorts_of order.now.graph in let sort' = sort_view sort.now in constructed_sort g d.name ≡ Some sort' → IsOrderOf g.subsorts order.now → AreMarked g ds sorts marks.old.items → AreMarked g (ds ++ d ∷ []) sorts marks.new.items }
+    ensures { (g : KoreSignature) (ds : List SymbolDeclaration) (d : SymbolDeclaration) → let sort' = sort_view sort.now in constructed_sort g d.name ≡ Some sort' → MarksOneMore g order.now ds d marks.old.items marks.new.items }
 {
     if let Some(number) = order.number_of(sort) {
         if number < marks.len() {

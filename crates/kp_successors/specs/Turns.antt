@@ -1,5 +1,5 @@
 -- What the code's rules come to on a value.
-use Rattle.std.specs.Prelude.{◌≡◌, ◌⊎◌, ◌≤◌, ℕ, false, List, [], ◌∷◌, Option, Some, None}
+use Rattle.std.specs.Prelude.{◌≡◌, ◌⊎◌, ◌≤◌, ℕ, false, List, [], ◌∷◌, ◌++◌, Option, Some, None, slice_get}
 use Rattle.std.specs.List.{AllByRecursion}
 use Rattle.kp_kore.specs.Syntax.{KorePattern}
 use Rattle.kp_kore.specs.Signature.{KoreSignature}
@@ -12,6 +12,7 @@ use Rattle.kp_rules.specs.Heads.{FiresAs}
 use Rattle.kp_rules.specs.declared.rule.Rule.{Rule}
 use Rattle.kp_rules.specs.declared.rule.RuleBody.{RuleBody}
 use Rattle.kp_rules.specs.declared.rule.RuleBody.TheVariants.{Rewrite, Foreign}
+use Rattle.kp_rule_sets.specs.Turns.{with_first}
 use Rattle.kp_run.specs.Turns.{BodyFires, FiresAt}
 use Rattle.kp_successors.specs.Nexts.{IsNextOf, is_right_narrow}
 use Rattle.kp_successors.specs.Successors.{FirstThen}
@@ -45,3 +46,8 @@ abbrev pub AreNexts : KoreSignature → Value → ℕ → List Rule → List Kor
 AreNexts g u n [] ps = ps ≡ []
 AreNexts g u n (r ∷ rs) ps =
     ((¬ FiresAt g u n r) × AreNexts g u n rs ps) ⊎ (FiresAt g u n r × FirstThen (Follows g u r.body.value) (AreNexts g u n rs) ps)
+
+-- behind the patterns of the rules before, the rule at the place, if there is one, has this pattern, or none
+abbrev pub AddsNext : KoreSignature → Value → ℕ → List Rule → ℕ → Option Pattern → Type 0
+AddsNext g u n rules place next = (before : List Rule) (ps : List KorePattern) → AreNexts g u n before ps →
+    AreNexts g u n (before ++ with_first (slice_get rules place) []) (ps ++ next_list next)

@@ -22,7 +22,7 @@ pub fn chosen(
     side: &RightSide,
     replacements: &[Replacement],
 ) -> Result<Pattern, AllocError>
-    ensures { IfOk result (λ p. view p ≡ chosen_pattern (sort_view sort.now) (replacements_view replacements.now) (view side.now.term) (ensured_of side.now) (new_of side.now)) }
+    ensures { let sort' = sort_view sort.now in let replacements' = replacements_view replacements.now in IfOk result (λ p. view p ≡ chosen_pattern sort' replacements' (view side.now.term) (ensured_of side.now) (new_of side.now)) }
 {
     let mut predicates = ensured(alloc, &side.ensured, replacements)?;
     let free = free_beside(alloc, side)?;
@@ -66,8 +66,9 @@ fn add_unused(
     others: &[SortedVariable],
     patterns: &mut Vec<Pattern>,
 ) -> Result<(), AllocError>
-    ensures { OnOk result (map view patterns.new.items ≡ map view patterns.old.items
-        ++ map (equality_of (sort_view sort.now)) (filter (λ x. not (member_of x (map sorted_variable_view others.now))) (map sorted_variable_view variables.now))) }
+    ensures { let others' = map sorted_variable_view others.now in
+        OnOk result (map view patterns.new.items ≡ map view patterns.old.items
+        ++ map (equality_of (sort_view sort.now)) (filter (λ x. not (member_of x others')) (map sorted_variable_view variables.now))) }
 {
     for variable in variables {
         if !is_among(variable, others) {

@@ -38,7 +38,7 @@ fn fires(
 
 /// The least priority number when one more rule is asked.
 fn least_after(least: Option<u32>, priority: u32, fires: bool) -> Option<u32>
-    ensures { (g : KoreSignature) (u : model.Value) (rules : List Rule) (r : Rule) → IsLeast g u rules least → r.priority ≡ priority → IsTrue fires ↔ BodyFires g u r.body.value → IsLeast g u (rules ++ r ∷ []) result }
+    ensures { (g : KoreSignature) (u : model.Value) (rules : List Rule) (r : Rule) → let asked = rules ++ r ∷ [] in IsLeast g u rules least → r.priority ≡ priority → IsTrue fires ↔ BodyFires g u r.body.value → IsLeast g u asked result }
 {
     if !fires {
         return least;
@@ -66,7 +66,7 @@ fn least_with(
     ensures least { let g = signature_view rules.now.signature.value in let value' = value_view value.now in
         IfOk result (λ next. (before : List Rule) → IsLeast g value' before least →
         IsLeast g value' (before ++ with_first (slice_get rules.now.rules.items place) []) next) }
-    ensures narrow { OnOk result (AllByRecursion (λ r. ¬ BodyIsWide (signature_view rules.now.signature.value) (value_view value.now) r.body.value) (with_first (slice_get rules.now.rules.items place) [])) }
+    ensures narrow { let g = signature_view rules.now.signature.value in let value' = value_view value.now in let asked = with_first (slice_get rules.now.rules.items place) [] in OnOk result (AllByRecursion (λ r. ¬ BodyIsWide g value' r.body.value) asked) }
     ensures refused { let g = signature_view rules.now.signature.value in IfErr result (IsCausedBy g (AnyByRecursion (λ r. BodyIsWide g (value_view value.now) r.body.value) rules.now.rules.items)) }
 {
     match rules.rule_at(place) {

@@ -1,7 +1,6 @@
 // The pattern of one rule that has its turn.
-ghost use Rattle.std.specs.Prelude.{◌≡◌, ◌⊎◌, ◌++◌, [], true, false, List, IfOk, OnOk, IfErr, MatchOption, map, slice_get};
+ghost use Rattle.std.specs.Prelude.{◌≡◌, ◌⊎◌, ◌++◌, [], true, false, IfOk, OnOk, IfErr, MatchOption, map, slice_get};
 ghost use Rattle.std.specs.List.{AllByRecursion};
-ghost use Rattle.kp_kore.specs.Syntax.{KorePattern};
 ghost use Rattle.kp_kore.specs.View.{view};
 ghost use Rattle.kp_signature.specs.View.{signature_view};
 ghost use Rattle.kp_kore.specs.Instance.{Valuation};
@@ -11,12 +10,11 @@ ghost use Rattle.kp_ground.specs.View.{value_view};
 ghost use Rattle.kp_successors.specs.Errors.{IsCausedBy};
 ghost use Rattle.kp_successors.specs.Nexts.{PlainBy, ChosenBy, IsNextOf, is_right_narrow};
 ghost use Rattle.kp_rules.specs.WideParts.{all_narrow};
-ghost use Rattle.kp_rules.specs.Heads.{FiresAs};
-ghost use Rattle.kp_rules.specs.declared.rule.Rule.{Rule};
 ghost use Rattle.kp_rules.specs.declared.rule.RuleBody.TheVariants as body;
+ghost use Rattle.kp_rules.specs.Heads.{FiresAs};
 ghost use Rattle.kp_rule_sets.specs.Turns.{with_first};
 ghost use Rattle.kp_run.specs.Turns.{BodyIsWide, FiresAt};
-ghost use Rattle.kp_successors.specs.Turns.{RightIsWide, IsWideAt, Follows, AreNexts, next_list};
+ghost use Rattle.kp_successors.specs.Turns.{RightIsWide, IsWideAt, Follows, AreNexts, AddsNext, next_list};
 ghost use Rattle.kp_ground.specs.Slots.{left_variables, term_reads};
 ghost use Rattle.kp_ground.specs.Terms.{stays_narrow};
 ghost use Rattle.kp_compile.specs.Names.{names_seen};
@@ -95,8 +93,8 @@ fn next_on(
     value: &Value,
 ) -> Result<Option<Pattern>, GroundError>
     ensures next { let g = signature_view signature.now in let value' = value_view value.now in
-        IfOk result (λ o. MatchOption o (¬ ((v : Valuation) × FiresAs g rewrite.now value' v))
-        (λ p. ((v : Valuation) × FiresAs g rewrite.now value' v) × IsNextOf g rewrite.now (FiresAs g rewrite.now value') (view p))) }
+        let fires = FiresAs g rewrite.now value' in
+        IfOk result (λ o. MatchOption o (¬ ((v : Valuation) × fires v)) (λ p. ((v : Valuation) × fires v) × IsNextOf g rewrite.now fires (view p))) }
     ensures narrow { OnOk result (¬ RightIsWide (signature_view signature.now) (value_view value.now) (body.Rewrite rewrite.now)) }
     ensures refused { let g = signature_view signature.now in let value' = value_view value.now in IfErr result (IsCausedBy g (BodyIsWide g value' (body.Rewrite rewrite.now) ⊎ RightIsWide g value' (body.Rewrite rewrite.now))) }
 {
@@ -138,9 +136,8 @@ fn next_with(
     priority: u32,
 ) -> Result<Option<Pattern>, GroundError>
     ensures next { let g = signature_view rules.now.signature.value in let value' = value_view value.now in
-        IfOk result (λ o. (before : List Rule) (ps : List KorePattern) → AreNexts g value' priority before ps →
-        AreNexts g value' priority (before ++ with_first (slice_get rules.now.rules.items place) []) (ps ++ next_list o)) }
-    ensures narrow { OnOk result (AllByRecursion (λ r. ¬ IsWideAt (signature_view rules.now.signature.value) (value_view value.now) priority r) (with_first (slice_get rules.now.rules.items place) [])) }
+        IfOk result (AddsNext g value' priority rules.now.rules.items place) }
+    ensures narrow { let g = signature_view rules.now.signature.value in let value' = value_view value.now in let asked = with_first (slice_get rules.now.rules.items place) [] in OnOk result (AllByRecursion (λ r. ¬ IsWideAt g value' priority r) asked) }
     ensures refused { let g = signature_view rules.now.signature.value in let value' = value_view value.now in IfErr result (IsCausedBy g (AnyByRecursion (λ r. BodyIsWide g value' r.body.value ⊎ IsWideAt g value' priority r) rules.now.rules.items)) }
 {
     match rules.rule_at(place) {

@@ -34,7 +34,7 @@ pub fn ground_step(
 ) -> Result<Vec<Pattern>, GroundError>
     ensures term { OnOk result (IsTrue (is_term (view pattern.now))) }
     ensures closed { OnOk result (free_variables (view pattern.now) ≡ []) }
-    ensures successors { (t : Theory) (s : KoreSort) (c : model.Value) → RunsAs t rules.now → IsGroundState t.signature (view pattern.now) s c →
+    ensures successors { let pattern' = view pattern.now in (t : Theory) (s : KoreSort) (c : model.Value) → RunsAs t rules.now → IsGroundState t.signature pattern' s c →
         IfOk result (λ ps. AreSuccessors t c t.rules (map view ps.items)) }
     ensures known { (t : Theory) (s : KoreSort) (c : model.Value) → RunsAs t rules.now → IsGroundState t.signature (view pattern.now) s c → OnOk result (¬ IsUnknown t c) }
     ensures narrow { let pattern' = view pattern.now in (t : Theory) (s : KoreSort) (c : model.Value) → RunsAs t rules.now → IsGroundState t.signature pattern' s c → OnOk result (¬ IsTooWide t pattern' c) }

@@ -1,6 +1,9 @@
 -- Sums of a variable and a constant, and the numbers that terms are.
-use Rattle.std.specs.Prelude.{◌≡◌, ℤ, pos, neg_ℤ, Option, Some, None, if◌then◌else◌}
+use Rattle.std.specs.Prelude.{◌≡◌, ℤ, pos, neg_ℤ, Option, Some, None, String, string_bytes, if◌then◌else◌}
+use Rattle.std.specs.Borrow.{Bor}
+use Rattle.std.specs.Option.{option_map}
 use Rattle.std.specs.Ordering.{int_eq}
+use Rattle.std.specs.declared.alloc.Global.{Global}
 use Rattle.kp_kore.specs.Syntax.{Text, SymbolDeclaration}
 use Rattle.kp_kore.specs.Hooks as arithmetic
 use Rattle.kp_kore.specs.Parts.{SortedName}
@@ -28,6 +31,10 @@ whole_known _ = None
 
 abbrev pub pair : SymbolicTerm → SymbolicTerm → SymbolicTerms
 pair t u = next_term t (next_term u no_terms)
+
+-- the text of a lent name, if there is one
+abbrev pub text_seen : Option (Bor (String Global)) → Option Text
+text_seen = option_map (λ f. string_bytes f.now)
 
 -- the least name with one more symbol before those that it is the least of
 abbrev pub least_with : KoreSignature → arithmetic.Arithmetic → SymbolDeclaration → Option Text → Option Text

@@ -82,6 +82,10 @@ AreGivenLiterals g v = AllByRecursion (AllByRecursion (λ l. IsGivenAtom g v l.a
 abbrev pub AreAtHand : List SortedName → List SortedName → Type 0
 AreAtHand xs hand = AllByRecursion (λ x. Contains hand x) xs
 
+-- the variables of each of the state's clauses are among those at hand
+abbrev pub AreClausesAtHand : SymbolicState → Type 0
+AreClausesAtHand s = AllByRecursion (λ c. AreAtHand (clause_variables c) s.variables) s.clauses
+
 -- a term is in normal form where folding it again leaves it
 abbrev pub IsFolded : KoreSignature → SymbolicTerm → Type 0
 IsFolded g t = replaced g [] t ≡ t
@@ -97,5 +101,5 @@ pub record IsWellFormed (g : KoreSignature) (s : SymbolicState) : Type 0 where
   pub folded_term : IsFolded g s.term
   pub folded_clauses : AllByRecursion (AllByRecursion (λ l. IsFoldedAtom g l.atom)) s.clauses
   pub term_at_hand : AreAtHand (term_variables s.term) s.variables
-  pub clauses_at_hand : AllByRecursion (λ c. AreAtHand (clause_variables c) s.variables) s.clauses
+  pub clauses_at_hand : AreClausesAtHand s
   pub one_sort_each : (x y : SortedName) → Contains s.variables x → Contains s.variables y → x.name ≡ y.name → x.sort ≡ y.sort

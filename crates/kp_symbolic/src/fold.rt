@@ -100,7 +100,7 @@ fn variable_under(
     name: &Name,
     sort: &Sort,
 ) -> Result<Term, AllocError>
-    ensures { IfOk result (λ t. term_view t ≡ model.term_for (record { name = string_bytes name.now; sort = sort_view sort.now }) (replacement_for (map replaced_view replaced.now) (string_bytes name.now))) }
+    ensures { let name' = string_bytes name.now in IfOk result (λ t. term_view t ≡ model.term_for (record { name = name'; sort = sort_view sort.now }) (replacement_for (map replaced_view replaced.now) name')) }
 {
     match replacement_of(replaced, name) {
         Some(term) => term.share(alloc),

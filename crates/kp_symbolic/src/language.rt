@@ -8,7 +8,7 @@ ghost use Rattle.kp_kore.specs.HookView.{arithmetic_view};
 ghost use Rattle.kp_signature.specs.Meanings.{meaning_view};
 ghost use Rattle.kp_kore.specs.View.{symbol_sentence_view};
 ghost use Rattle.kp_signature.specs.View.{signature_view};
-ghost use Rattle.kp_symbolic.specs.Sums.{least_with};
+ghost use Rattle.kp_symbolic.specs.Sums.{least_with, text_seen};
 ghost use Rattle.kp_symbolic.specs.Folding.{is_text_before, is_arithmetic as arithmetic_test, least_of, least_symbol as least_named};
 
 use kp_kore::{Arithmetic, Hook, Name, SymbolSentence};
@@ -93,7 +93,7 @@ fn least_symbol(
 
 /// The least name among the symbols that compute this.
 fn least_name<'a>(signature: &'a Signature, arithmetic: Arithmetic) -> Option<&'a Name>
-    ensures { option_map (λ f. string_bytes f.now) result ≡ least_named (signature_view signature.now) (arithmetic_view arithmetic) }
+    ensures { text_seen result ≡ least_named (signature_view signature.now) (arithmetic_view arithmetic) }
 {
     let symbols = signature.symbols();
     let mut least: Option<&Name> = None;
@@ -112,7 +112,7 @@ fn lesser_if<'a>(
     symbol: &'a SymbolSentence,
     other: Option<&'a Name>,
 ) -> Option<&'a Name>
-    ensures { let g = signature_view signature.now in let arithmetic' = arithmetic_view arithmetic in let symbol' = symbol_sentence_view symbol.now in option_map (λ f. string_bytes f.now) result ≡ least_with g arithmetic' symbol' (option_map (λ f. string_bytes f.now) other.entry) }
+    ensures { let g = signature_view signature.now in let arithmetic' = arithmetic_view arithmetic in let symbol' = symbol_sentence_view symbol.now in text_seen result ≡ least_with g arithmetic' symbol' (text_seen other.entry) }
 {
     if is_arithmetic(arithmetic, meaning_of(signature, &symbol.name)) {
         Some(lesser(&symbol.name, other))
@@ -123,7 +123,7 @@ fn lesser_if<'a>(
 
 /// The lesser of two names, in the order of bytes.
 fn lesser<'a>(name: &'a Name, other: Option<&'a Name>) -> &'a Name
-    ensures { string_bytes result.now ≡ least_of (string_bytes name.now) (option_map (λ f. string_bytes f.now) other.entry) }
+    ensures { string_bytes result.now ≡ least_of (string_bytes name.now) (text_seen other.entry) }
 {
     match other {
         Some(other) => if is_before(other, name) { other } else { name },

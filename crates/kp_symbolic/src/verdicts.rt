@@ -4,10 +4,10 @@ ghost use Rattle.std.specs.List.{AllByRecursion};
 ghost use Rattle.kp_kore.specs.Signature.{KoreSignature};
 ghost use Rattle.kp_kore.specs.Instance.{Valuation};
 ghost use Rattle.kp_kore.specs.Steps.{AnyByRecursion};
-ghost use Rattle.kp_symbolic.specs.States.{Literal, IsLiteralTrue, IsClauseTrue, clause_variables, SymbolicState, CanBeTrue};
+ghost use Rattle.kp_symbolic.specs.States.{Literal, IsLiteralTrue, IsClauseTrue, SymbolicState, CanBeTrue};
 ghost use Rattle.kp_symbolic.specs.Plain.{read_clauses, plain_part, IsPlainState, plain_clauses};
 ghost use Rattle.kp_symbolic.specs.Weights.{IsWithinLimits};
-ghost use Rattle.kp_symbolic.specs.WellFormed.{AreAtHand};
+ghost use Rattle.kp_symbolic.specs.WellFormed.{AreClausesAtHand};
 ghost use Rattle.kp_symbolic.specs.Shown.{RuleShape, IsEasy};
 ghost use Rattle.kp_symbolic.specs.Verdicts.{Verdict, IsRightVerdict, IsDecision};
 
@@ -19,8 +19,8 @@ pub fn plain_clauses_are_decided()
 /// A state that is easy by itself, its variables at hand, is plain and within the limits: a right verdict on it is a decision.
 pub fn easy_states_are_decided()
     ensures plain { (g : KoreSignature) (s : SymbolicState) (rules : List RuleShape) → IsEasy g s rules → IsPlainState g s }
-    ensures limits { (g : KoreSignature) (s : SymbolicState) → IsEasy g s [] → AllByRecursion (λ c. AreAtHand (clause_variables c) s.variables) s.clauses → IsWithinLimits g s }
-    ensures decided { (g : KoreSignature) (s : SymbolicState) (a : Verdict) → IsRightVerdict g s a → IsEasy g s [] → AllByRecursion (λ c. AreAtHand (clause_variables c) s.variables) s.clauses → IsDecision a }
+    ensures limits { (g : KoreSignature) (s : SymbolicState) → IsEasy g s [] → AreClausesAtHand s → IsWithinLimits g s }
+    ensures decided { (g : KoreSignature) (s : SymbolicState) (a : Verdict) → IsRightVerdict g s a → IsEasy g s [] → AreClausesAtHand s → IsDecision a }
 {}
 
 /// Clauses that can be true can be so without those that aren't plain: where the plain ones can't, there is no valuation.

@@ -14,8 +14,8 @@ ghost use Rattle.kp_symbolic.specs.Weighing.{state_of, count_with, forms_of, rea
 pub fn a_counter_is_plain()
     ensures above { forms_of (count_with (alone (is_above true 0))) ≡ (Some (compares greater (of_x (pos 0)) (number (pos 0))) ∷ []) ∷ [] }
     ensures zero { forms_of (count_with (alone (is_zero true))) ≡ (Some (compares equal (of_x (pos 0)) (number (pos 0))) ∷ []) ∷ [] }
-    ensures neither { forms_of (count_with ((is_zero false ∷ []) ∷ (is_above false 0 ∷ []) ∷ [])) ≡
-        (Some (compares different (of_x (pos 0)) (number (pos 0))) ∷ []) ∷ (Some (compares at_most (of_x (pos 0)) (number (pos 0))) ∷ []) ∷ [] }
+    ensures neither { let x_side = of_x (pos 0) in let zero_side = number (pos 0) in forms_of (count_with ((is_zero false ∷ []) ∷ (is_above false 0 ∷ []) ∷ [])) ≡
+        (Some (compares different x_side zero_side) ∷ []) ∷ (Some (compares at_most x_side zero_side) ∷ []) ∷ [] }
     ensures many { IsWeight literals (read (count_with ((is_zero false ∷ []) ∷ (is_above false 0 ∷ []) ∷ []))) 3 }
     ensures choices { IsWeight product (read (count_with ((is_zero false ∷ []) ∷ (is_above false 0 ∷ []) ∷ []))) 2 }
     ensures size { IsWeight bits (read (count_with ((is_zero false ∷ []) ∷ (is_above false 0 ∷ []) ∷ []))) 2 }
@@ -23,8 +23,8 @@ pub fn a_counter_is_plain()
 
 /// X > 0 with X < 1, and with X >= 5.
 pub fn bounds_are_plain()
-    ensures never { forms_of (count_with ((is_above true 0 ∷ []) ∷ (x_to true (codes "Lbllt") 1 ∷ []) ∷ [])) ≡
-        (Some (compares greater (of_x (pos 0)) (number (pos 0))) ∷ []) ∷ (Some (compares less (of_x (pos 0)) (number (pos 1))) ∷ []) ∷ [] }
+    ensures never { let x_side = of_x (pos 0) in forms_of (count_with ((is_above true 0 ∷ []) ∷ (x_to true (codes "Lbllt") 1 ∷ []) ∷ [])) ≡
+        (Some (compares greater x_side (number (pos 0))) ∷ []) ∷ (Some (compares less x_side (number (pos 1))) ∷ []) ∷ [] }
     ensures size { IsWeight bits (read (count_with ((is_above true 0 ∷ []) ∷ (x_to true (codes "Lbllt") 1 ∷ []) ∷ []))) 2 }
     ensures five { IsWeight bits (read (count_with ((is_above true 0 ∷ []) ∷ (x_to true (codes "Lblge") 5 ∷ []) ∷ []))) 4 }
     ensures one_choice { IsWeight product (read (count_with ((is_above true 0 ∷ []) ∷ (x_to true (codes "Lblge") 5 ∷ []) ∷ []))) 1 }

@@ -246,7 +246,7 @@ fn more_folded<'a>(
 ) -> Result<(Vec<Pattern>, &'a str), TextFailure>
     requires written { level.written ≤ 256 }
     requires meant { level.meant ≤ 256 }
-    ensures found { IfOk result (λ x. (f : Text) (ss : KoreSorts) (k : KorePattern → Place) → run_text tail x.1.now (k (fold_meaning side f ss (view first.now) (map view x.0.items))) ≡ run_text tail text.now (more_folded side f ss level (view first.now) [] k)) }
+    ensures found { let first' = view first.now in IfOk result (λ x. (f : Text) (ss : KoreSorts) (k : KorePattern → Place) → run_text tail x.1.now (k (fold_meaning side f ss first' (map view x.0.items))) ≡ run_text tail text.now (more_folded side f ss level first' [] k)) }
     ensures fault { IfErr result (λ e. (f : Text) (ss : KoreSorts) → Stops tail text.now (more_folded side f ss level (view first.now) []) e) }
     ensures behind { IfOk result (λ x. IsBehind x.1.now text.now) }
 {
@@ -290,8 +290,8 @@ fn a_member<'a>(
     requires meant { level.meant ≤ 256 }
     requires others { others < deep }
     requires deep { deep ≤ 1000 }
-    ensures found { IfOk result (λ x. (f : Text) (ss : KoreSorts) (p : KorePattern) (ps : List KorePattern) → length ps ≡ others → IsDeep side p ps deep → Finds tail text.now (a_pattern (next_in_fold side f ss level p ps)) (view x.0) x.1.now) }
-    ensures fault { IfErr result (λ e. (f : Text) (ss : KoreSorts) (p : KorePattern) (ps : List KorePattern) → length ps ≡ others → IsDeep side p ps deep → Stops tail text.now (a_pattern (next_in_fold side f ss level p ps)) e) }
+    ensures found { IfOk result (λ x. (f : Text) (ss : KoreSorts) (p : KorePattern) (ps : List KorePattern) → let member_level = next_in_fold side f ss level p ps in length ps ≡ others → IsDeep side p ps deep → Finds tail text.now (a_pattern member_level) (view x.0) x.1.now) }
+    ensures fault { IfErr result (λ e. (f : Text) (ss : KoreSorts) (p : KorePattern) (ps : List KorePattern) → let member_level = next_in_fold side f ss level p ps in length ps ≡ others → IsDeep side p ps deep → Stops tail text.now (a_pattern member_level) e) }
     ensures shallow { IfOk result (λ x. deep ≤ 256) }
     ensures behind { IfOk result (λ x. IsBehind x.1.now text.now) }
 {

@@ -18,7 +18,7 @@ pub fn next_token(
     tail: Tail,
 ) -> Result<(usize, Token, &str), TextFailure>
     ensures found { IfOk result (λ x. lexed tail text.now between ≡ lexeme x.0 (token_view x.1) (lexed tail x.2.now between)) }
-    ensures fault { IfErr result (λ e. (g : Place) → at_end g ≡ faulty 0 kind.End → step g (string_token []) ≡ refused → run_text tail text.now g ≡ failed e (run_text tail text.now g)) }
+    ensures fault { IfErr result (λ e. (g : Place) → let outcome = run_text tail text.now g in at_end g ≡ faulty 0 kind.End → step g (string_token []) ≡ refused → outcome ≡ failed e outcome) }
     ensures behind { IfOk result (λ x. IsBehind x.2.now text.now) }
 {
     match look_ahead(alloc, text, tail)? {

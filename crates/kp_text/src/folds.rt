@@ -30,7 +30,7 @@ pub fn next_in_fold(level: Level, side: FoldSide, others: usize, deep: usize) ->
     requires meant { level.meant ≤ 256 }
     requires others { others < deep }
     requires deep { deep ≤ 1000 }
-    ensures alike { (f : Text) (ss : KoreSorts) (p : KorePattern) (ps : List KorePattern) → length ps ≡ others → IsDeep side p ps deep → IsAlike result (next_in_fold side f ss level p ps) }
+    ensures alike { (f : Text) (ss : KoreSorts) (p : KorePattern) (ps : List KorePattern) → let member_level = next_in_fold side f ss level p ps in length ps ≡ others → IsDeep side p ps deep → IsAlike result member_level }
     ensures written { result.written ≤ result.reached }
     ensures meant { result.meant ≤ result.reached }
     ensures deep { deep ≤ result.reached }

@@ -329,7 +329,7 @@ fn fold_begin(
     tail: Tail,
 ) -> Result<(FoldBeginning, &str), TextFailure>
     requires { level.written ≤ 256 }
-    ensures found { IfOk result (λ x. (side : FoldSide) (k : KorePattern → Place) → run_text tail x.1.now (begun_fold level side k x.0) ≡ run_text tail text.now (folded level side k)) }
+    ensures found { let text' = text.now in IfOk result (λ x. (side : FoldSide) (k : KorePattern → Place) → run_text tail x.1.now (begun_fold level side k x.0) ≡ run_text tail text' (folded level side k)) }
     ensures fault { IfErr result (λ e. (side : FoldSide) → Stops tail text.now (folded level side) e) }
     ensures behind { IfOk result (λ x. IsBehind x.1.now text.now) }
 {

@@ -154,8 +154,8 @@ fn alone(tail: Tail, left: usize) -> Skip<'static>
 #[tactic(auto, using(crate::proofs::Words::identifier_goes_on, crate::proofs::Words::identifier_ends, crate::proofs::Words::backslashed_goes_on, crate::proofs::Words::backslashed_ends))]
 fn word(alloc: Global, first: char, text: &str) -> Result<(String, &str), AllocError>
     requires { first < 128 }
-    ensures identifier { IfOk result (λ x. (tail : Tail) (left : ℕ) → lexed tail text.now (in_identifier left (first ∷ [])) ≡ lexeme left (identifier (string_bytes x.0)) (lexed tail x.1.now between)) }
-    ensures backslashed { IfOk result (λ x. (tail : Tail) (left : ℕ) → lexed tail text.now (in_backslashed left (first ∷ [])) ≡ lexeme left (backslashed (string_bytes x.0)) (lexed tail x.1.now between)) }
+    ensures identifier { IfOk result (λ x. (tail : Tail) (left : ℕ) → let name = string_bytes x.0 in let the_rest = lexed tail x.1.now between in lexed tail text.now (in_identifier left (first ∷ [])) ≡ lexeme left (identifier name) the_rest) }
+    ensures backslashed { IfOk result (λ x. (tail : Tail) (left : ℕ) → let name = string_bytes x.0 in let the_rest = lexed tail x.1.now between in lexed tail text.now (in_backslashed left (first ∷ [])) ≡ lexeme left (backslashed name) the_rest) }
     ensures within { IfOk result (λ x. (length x.1.now ≤ length text.now) × IsUtf8 x.1.now) }
 {
     let mut name = String::new(alloc);

@@ -49,7 +49,7 @@ fn a_module(alloc: Global, text: &str, tail: Tail) -> Result<(Module, &str), Tex
 #[tactic(auto, using(crate::proofs::InModules::modules_refused))]
 fn module_ahead(alloc: Global, text: &str, tail: Tail) -> Result<Option<&str>, TextFailure>
     ensures found { IfOk result (IsModuleAhead tail text.now) }
-    ensures fault { IfErr result (λ e. (ms : List KoreModule) (answer : List KoreModule → Answer) → run_text tail text.now (more_modules ms answer) ≡ failed e (run_text tail text.now (more_modules ms answer))) }
+    ensures fault { IfErr result (λ e. (ms : List KoreModule) (answer : List KoreModule → Answer) → let outcome = run_text tail text.now (more_modules ms answer) in outcome ≡ failed e outcome) }
 {
     match look_ahead(alloc, text, tail)? {
         Ahead::Finished => Ok(None),
@@ -134,8 +134,8 @@ fn other_modules(
     text: &str,
     tail: Tail,
 ) -> Result<Vec<Module>, TextFailure>
-    ensures found { IfOk result (λ x. (answer : List KoreModule → Answer) → run_text tail text.now (more_modules (module_view first ∷ []) answer) ≡ answered (answer (map module_view x.items))) }
-    ensures fault { IfErr result (λ e. (answer : List KoreModule → Answer) → run_text tail text.now (more_modules (module_view first ∷ []) answer) ≡ failed e (run_text tail text.now (more_modules (module_view first ∷ []) answer))) }
+    ensures found { IfOk result (λ x. (answer : List KoreModule → Answer) → let outcome = run_text tail text.now (more_modules (module_view first ∷ []) answer) in outcome ≡ answered (answer (map module_view x.items))) }
+    ensures fault { IfErr result (λ e. (answer : List KoreModule → Answer) → let outcome = run_text tail text.now (more_modules (module_view first ∷ []) answer) in outcome ≡ failed e outcome) }
 {
     let mut modules = Vec::new(alloc);
     modules.push(first)?;

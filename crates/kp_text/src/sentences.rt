@@ -290,7 +290,7 @@ fn after_word(
     text: &str,
     tail: Tail,
 ) -> Result<(Option<Sentence>, &str), TextFailure>
-    ensures found { IfOk result (λ x. (so_far : List KoreSentence) (k : List KoreSentence → Place) → run_text tail x.1.now (sentence_goes so_far k x.0) ≡ run_text tail text.now (word_place so_far k word)) }
+    ensures found { IfOk result (λ x. (so_far : List KoreSentence) (k : List KoreSentence → Place) → let place = word_place so_far k word in let place_behind = sentence_goes so_far k x.0 in run_text tail x.1.now place_behind ≡ run_text tail text.now place) }
     ensures fault { IfErr result (λ e. (so_far : List KoreSentence) → Stops tail text.now (λ k. word_place so_far k word) e) }
     ensures behind { IfOk result (λ x. IsNotBefore x.1.now text.now) }
 {
@@ -340,7 +340,7 @@ fn next_sentence(
     text: &str,
     tail: Tail,
 ) -> Result<(Option<Sentence>, &str), TextFailure>
-    ensures found { IfOk result (λ x. (so_far : List KoreSentence) (k : List KoreSentence → Place) → run_text tail x.1.now (sentence_goes so_far k x.0) ≡ run_text tail text.now (sentences so_far k)) }
+    ensures found { IfOk result (λ x. (so_far : List KoreSentence) (k : List KoreSentence → Place) → let place_behind = sentence_goes so_far k x.0 in run_text tail x.1.now place_behind ≡ run_text tail text.now (sentences so_far k)) }
     ensures fault { IfErr result (λ e. (so_far : List KoreSentence) → Stops tail text.now (sentences so_far) e) }
     ensures behind { IfOk result (λ x. IsBehind x.1.now text.now) }
 {

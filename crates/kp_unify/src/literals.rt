@@ -97,7 +97,8 @@ pub fn equal_clauses(
     left: &Term,
     right: &Term,
 ) -> Result<Vec<Clause>, AllocError>
-    ensures { IfOk result (λ cs. clauses_view cs.items ≡ equality_clauses (signature_view signature.now) (equality_of (sort_view sort.now) (term_view left.now) (term_view right.now))) }
+    ensures { let equal = equality_of (sort_view sort.now) (term_view left.now) (term_view right.now) in
+        IfOk result (λ cs. clauses_view cs.items ≡ equality_clauses (signature_view signature.now) equal) }
 {
     let formula = open_same(alloc, signature, true, true, sort, left, right)?;
     let opened = distribute(&formula, alloc)?;

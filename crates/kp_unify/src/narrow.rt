@@ -93,7 +93,7 @@ fn as_terms(alloc: Global, variables: &[Arc<Variable>]) -> Result<Vec<Term>, All
 
 /// A constructor without arguments as a term.
 fn constant(alloc: Global, language: &Language, symbol: &Arc<String>) -> Result<Term, AllocError>
-    ensures { named (language_view language.now) (string_bytes symbol.now.value) ≡ construction → IfOk result (λ t. term_view t ≡ known (constructed (string_bytes symbol.now.value) no_values)) }
+    ensures { let c = string_bytes symbol.now.value in named (language_view language.now) c ≡ construction → IfOk result (λ t. term_view t ≡ known (constructed c no_values)) }
 {
     let arguments = Arc::new(alloc, Vec::new(alloc))?;
     apply(alloc, language, symbol.clone()?, arguments)
@@ -106,7 +106,8 @@ fn without_head(
     variable: &Arc<Variable>,
     symbol: &Arc<String>,
 ) -> Result<Vec<Clause>, AllocError>
-    ensures { IfOk result (λ cs. clauses_view cs.items ≡ model.head_clauses (signature_view signature.now) false (variable_view variable.now.value) (one_head (string_bytes symbol.now.value))) }
+    ensures { let g = signature_view signature.now in let x = variable_view variable.now.value in
+        IfOk result (λ cs. clauses_view cs.items ≡ model.head_clauses g false x (one_head (string_bytes symbol.now.value))) }
 {
     let test = constructor_test(symbol)?;
     head_clauses(alloc, signature, false, variable, &test)
@@ -119,7 +120,8 @@ fn without_sort(
     variable: &Arc<Variable>,
     sort: &Sort,
 ) -> Result<Vec<Clause>, AllocError>
-    ensures { IfOk result (λ cs. clauses_view cs.items ≡ model.head_clauses (signature_view signature.now) false (variable_view variable.now.value) (head_of_sort (sort_view sort.now))) }
+    ensures { let g = signature_view signature.now in let x = variable_view variable.now.value in
+        IfOk result (λ cs. clauses_view cs.items ≡ model.head_clauses g false x (head_of_sort (sort_view sort.now))) }
 {
     let test = sort_test(alloc, sort)?;
     head_clauses(alloc, signature, false, variable, &test)

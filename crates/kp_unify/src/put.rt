@@ -142,7 +142,8 @@ pub fn put_term(
     is: &[Clause],
     new: &[Arc<Variable>],
 ) -> Result<State, CompileError>
-    ensures { IfOk result (λ s. state_view s ≡ model.state_with_term (language_view language.now) (equation_view equation.now) (clauses_view is.now) (variables_view new.now) (state_view state.now)) }
+    ensures { let e = equation_view equation.now in let is' = clauses_view is.now in let new' = variables_view new.now in
+        IfOk result (λ s. state_view s ≡ model.state_with_term (language_view language.now) e is' new' (state_view state.now)) }
 {
     let by = replacement(alloc, equation)?;
     let clauses = put_in_clauses(alloc, language, equation, &by, &state.clauses)?;

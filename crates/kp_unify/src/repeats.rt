@@ -41,7 +41,8 @@ fn stands_for_other(term: &Term, form: LeftPart<'_>, name: &str, value: &Value) 
 /// The same of a constructor's members.
 #[cycle(other)]
 fn members_stand_for_other(term: &Term, members: Members<'_>, name: &str, value: &Value) -> bool
-    ensures { (f : model.Form) (c : Text) → HasMembers f c (forms_of (members_view members.entry)) → IsTrue result → IsNeverWhere (IsValueOf name.now (value_view value.now)) f (term_view term.now) }
+    ensures { let HasValue = IsValueOf name.now (value_view value.now) in
+        (f : model.Form) (c : Text) → HasMembers f c (forms_of (members_view members.entry)) → IsTrue result → IsNeverWhere HasValue f (term_view term.now) }
 {
     match term {
         Term::Headed { arguments, .. } => some_stands_for_other(arguments, members, name, value),
@@ -90,7 +91,8 @@ fn differs_here(term: &Term, form: LeftPart<'_>, all: &Term, left: LeftPart<'_>)
 /// The same of a constructor's members.
 #[cycle(here)]
 fn members_differ(term: &Term, members: Members<'_>, all: &Term, left: LeftPart<'_>) -> bool
-    ensures { (f : model.Form) (c : Text) → HasMembers f c (forms_of (members_view members.entry)) → IsTrue result → IsNeverWhere (StandsForTerm (form_view left.entry) (term_view all.now)) f (term_view term.now) }
+    ensures { let LeftStands = StandsForTerm (form_view left.entry) (term_view all.now) in
+        (f : model.Form) (c : Text) → HasMembers f c (forms_of (members_view members.entry)) → IsTrue result → IsNeverWhere LeftStands f (term_view term.now) }
 {
     match term {
         Term::Headed { arguments, .. } => some_differs(arguments, members, all, left),

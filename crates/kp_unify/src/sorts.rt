@@ -74,7 +74,8 @@ fn meet_among<'a>(
     first: &Sort,
     second: &Sort,
 ) -> Option<&'a Sort>
-    ensures { option_map (λ m. sort_view m.now) result ≡ find (model.is_meet (signature_view signature.now) (sort_view first.now) (sort_view second.now)) (map (λ p. p.0) (map subsort_view pairs.now)) }
+    ensures { let is_it = model.is_meet (signature_view signature.now) (sort_view first.now) (sort_view second.now) in
+        option_map (λ m. sort_view m.now) result ≡ find is_it (map (λ p. p.0) (map subsort_view pairs.now)) }
 {
     for pair in pairs {
         if is_meet(signature, first, second, &pair.lower) {

@@ -99,7 +99,7 @@ fn product_of_lengths(clauses: &[Vec<ReadLiteral>]) -> u64
 
 /// Adds a side's variable, if it has one.
 fn add_name<'a>(names: &mut Vec<&'a Name>, variable: Option<&'a Variable>) -> Result<(), AllocError>
-    ensures { OnOk result (map (λ n. string_bytes n.now) names.new.items ≡ map (λ n. string_bytes n.now) names.old.items ++ model.name_in (option_map (λ x. string_bytes x.now.name) variable.entry)) }
+    ensures { let added = model.name_in (option_map (λ x. string_bytes x.now.name) variable.entry) in OnOk result (map (λ n. string_bytes n.now) names.new.items ≡ map (λ n. string_bytes n.now) names.old.items ++ added) }
 {
     if let Some(variable) = variable {
         names.push(&variable.name)?;

@@ -1,14 +1,16 @@
 -- Parts of what is written for terms and predicates.
 -- Source: the K framework's Kore language; this project.
 use Rattle.std.specs.Prelude.{List, [], map, unwrap_or, ⊤}
-use Rattle.kp_kore.specs.Syntax.{Text, KoreSort, KorePattern, variable, application, literal, sort_variable, no_sorts, no_patterns, next_pattern}
+use Rattle.kp_kore.specs.Syntax.{Text, KoreSort, KorePattern, variable, application, literal, equals, sort_variable, no_sorts, no_patterns, next_pattern}
 use Rattle.kp_kore.specs.Parts.{SortedName}
 use Rattle.kp_kore.specs.Signature.{KoreSignature}
+use Rattle.kp_kore.specs.Sorting.{result_sort}
 use Rattle.kp_signature.specs.Places.{own_sort}
+use Rattle.kp_compile.specs.Spelled.{placed}
 use Rattle.kp_symbolic.specs.Terms.{Replaced, replacement_for}
 use Rattle.kp_symbolic.specs.States.{Atom, same, has_head, quoted, variables_for}
 use Rattle.kp_symbolic.specs.Folding.{folded}
-use Rattle.kp_symbolic.specs.Writing.{bound_name, renamed, written_term, written_under}
+use Rattle.kp_symbolic.specs.Writing.{bound_name, renamed, variables_of, written_term, written_under}
 use Rattle.kp_symbolic_laws.specs.Runs.{IsRoomAt, HasRoom}
 use Rattle.kp_symbolic.specs.Faultless.{IsFaultless}
 
@@ -19,6 +21,10 @@ variable_pattern x = variable x.name x.sort
 -- a symbol applied to a variable and a literal of these digits
 abbrev pub sum_pattern : Text → SortedName → Text → KorePattern
 sum_pattern f x digits = application f no_sorts (next_pattern (variable x.name x.sort) (next_pattern (literal x.sort digits) no_patterns))
+
+-- that a variable is the constructor of these variables, as a predicate of the sort
+abbrev pub construction_pattern : KoreSignature → KoreSort → SortedName → Text → List SortedName → KorePattern
+construction_pattern g sort x c xs = equals x.sort sort (variable_pattern x) (placed (unwrap_or (result_sort g c no_sorts) x.sort) x.sort (application c no_sorts (variables_of xs)))
 
 -- a term of Kore with terms in the place of its variables, at its own sort
 abbrev pub written_leaf : KoreSignature → List Replaced → KorePattern → KorePattern

@@ -1,18 +1,17 @@
 // Tests of a variable's head as patterns.
-ghost use Rattle.std.specs.Prelude.{◌≡◌, ◌+◌, ◌<◌, ◌^◌, [], ◌∷◌, length, IfOk, OnOk, map, string_bytes, unwrap_or};
+ghost use Rattle.std.specs.Prelude.{◌≡◌, ◌+◌, ◌<◌, ◌^◌, [], ◌∷◌, length, IfOk, OnOk, map, string_bytes};
 ghost use Rattle.kp_kore.specs.Parts.{sort_list};
 ghost use Rattle.kp_kore.specs.Signature.{KoreSignature};
-ghost use Rattle.kp_kore.specs.Sorting.{result_sort};
-ghost use Rattle.kp_kore.specs.Syntax.{application, equals, exists as exists_pattern, variable as variable_pattern, no_sorts};
+ghost use Rattle.kp_kore.specs.Syntax.{equals, exists as exists_pattern, variable as variable_pattern};
 ghost use Rattle.kp_kore.specs.View.{view, sort_view, sorts_view, patterns_view};
 ghost use Rattle.kp_signature.specs.View.{signature_view};
 ghost use Rattle.kp_compile.specs.Spelled as spelled;
-ghost use Rattle.kp_compile.specs.Spelled.{placed};
 ghost use Rattle.kp_symbolic.specs.Writing as model;
 ghost use Rattle.kp_symbolic.specs.Writing.{least_fresh, variables_of, written_test};
 ghost use Rattle.kp_symbolic.specs.States.{one_head, head_of_sort, has_head};
 ghost use Rattle.kp_symbolic_laws.specs.Runs.{HasRoomAtom};
 ghost use Rattle.kp_symbolic.specs.View.{test_view, variable_view};
+ghost use Rattle.kp_writing.specs.Parts.{construction_pattern};
 
 use crate::place::{applied_at, variable_at, variable_out};
 use kp_compile::places_of;
@@ -121,7 +120,7 @@ fn construction_out(
     symbol: &Name,
     parts: &[Variable],
 ) -> Result<Box<Pattern>, AllocError>
-    ensures { let x = variable_view variable.now in let c = string_bytes symbol.now in let own = unwrap_or (result_sort (signature_view signature.now) c no_sorts) x.sort in let call = application c no_sorts (variables_of (map variable_view parts.now)) in IfOk result (λ p. view p.value ≡ equals x.sort (sort_view sort.now) (variable_pattern x.name x.sort) (placed own x.sort call)) }
+    ensures { let g = signature_view signature.now in let x = variable_view variable.now in IfOk result (λ p. view p.value ≡ construction_pattern g (sort_view sort.now) x (string_bytes symbol.now) (map variable_view parts.now)) }
 {
     let arguments = variables_out(alloc, parts)?;
     let call = applied_at(alloc, signature, symbol, &variable.sort, arguments)?;
