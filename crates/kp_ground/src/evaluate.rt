@@ -14,6 +14,7 @@ ghost use Rattle.kp_ground.specs.Solves.{Solves, bound_names};
 ghost use Rattle.kp_ground.specs.Outcomes.{Gives, GivesCall, GiveAll};
 
 use crate::binding::{Binding, bound_at};
+use crate::names::share_name;
 use crate::term::CompiledTerm;
 use crate::value::Value;
 use kp_kore::{Arithmetic, Comparison, Connective, Hook};
@@ -53,13 +54,6 @@ fn truth_value(holds: bool) -> Value
     ensures { value_view result ≡ truth holds }
 {
     Value::Truth { holds }
-}
-
-/// The same name, shared.
-fn share_name(name: &Arc<String>) -> Result<Arc<String>, AllocError>
-    ensures { IfOk result (λ copy. copy.value ≡ name.now.value) }
-{
-    Ok(name.clone()?)
 }
 
 /// A constructor with its arguments.

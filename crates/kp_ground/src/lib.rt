@@ -11,6 +11,7 @@ pub mod evaluate;
 pub mod holds;
 pub mod left;
 pub mod matching;
+pub mod names;
 pub mod term;
 pub mod value;
 

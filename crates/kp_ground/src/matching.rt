@@ -10,16 +10,10 @@ ghost use Rattle.kp_ground.specs.View.{value_view};
 
 use crate::binding::{Binding, bound_at};
 use crate::left::CompiledLeft;
+use crate::names::same_name;
 use crate::value::Value;
 use std::alloc::{AllocError, Global};
 use std::sync::Arc;
-
-/// Whether two names are the same.
-fn same_name(name: &Arc<String>, other: &Arc<String>) -> bool
-    ensures { IsTrue result ↔ (string_bytes name.now.value ≡ string_bytes other.now.value) }
-{
-    **name == **other
-}
 
 /// The bindings where two values are the same, else none.
 fn keep_if_equal(left: &Value, right: &Value, bindings: Vec<Binding>) -> Option<Vec<Binding>>

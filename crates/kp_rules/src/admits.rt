@@ -14,6 +14,7 @@ ghost use Rattle.kp_rules.specs.Skeletons.{skeleton_view, forms_of, Shows, ShowA
 use crate::skeleton::Skeleton;
 use crate::values::has_sort;
 use kp_ground::binding::find_binding;
+use kp_ground::names::same_name;
 use kp_ground::{Binding, Value};
 use kp_kore::Sort;
 use kp_signature::Signature;
@@ -96,13 +97,6 @@ impl Skeleton {
         }
         Ok(Some(bindings))
     }
-}
-
-/// Whether two names are the same.
-fn same_name(name: &Arc<String>, other: &Arc<String>) -> bool
-    ensures { IsTrue result ↔ (string_bytes name.now.value ≡ string_bytes other.now.value) }
-{
-    **name == **other
 }
 
 /// The bindings where this is so.

@@ -1,19 +1,12 @@
 // Whether a value has the shape of a left term, before any variable is bound.
-ghost use Rattle.std.specs.Prelude.{◌≡◌, ◌↔◌, IsTrue, string_bytes};
+ghost use Rattle.std.specs.Prelude.{IsTrue};
 ghost use Rattle.kp_kore.specs.Instance.{Valuation};
 ghost use Rattle.kp_ground.specs.LeftView.{left_view};
 ghost use Rattle.kp_ground.specs.Matches.{AreSame, IsSame};
 ghost use Rattle.kp_ground.specs.View.{value_view};
 
+use kp_ground::names::same_name;
 use kp_ground::{CompiledLeft, Value};
-use std::sync::Arc;
-
-/// Whether two names are the same.
-fn same_name(name: &Arc<String>, other: &Arc<String>) -> bool
-    ensures { IsTrue result ↔ (string_bytes name.now.value ≡ string_bytes other.now.value) }
-{
-    **name == **other
-}
 
 /// Whether a value has the shape of a left term, whatever each variable stands for: each instance has it.
 #[cycle(fitting)]

@@ -60,7 +60,7 @@ fn choose_one(
     own: &SortedVariable,
     chosen: &mut Chosen,
 ) -> Result<(), AllocError>
-    ensures { (used : List Text) → IsSetting used setting.entry → OnOk result (IsChosenOne used (sorted_variable_view own.now) (chosen_view chosen.old) (chosen_view chosen.new)) }
+    ensures { let own' = sorted_variable_view own.now in (used : List Text) → IsSetting used setting.entry → OnOk result (IsChosenOne used own' (chosen_view chosen.old) (chosen_view chosen.new)) }
 {
     if is_bound(&chosen.bindings, own) {
         return Ok(());
@@ -130,7 +130,7 @@ pub fn all_bindings(
     bindings: &[Replaced],
     fresh: Vec<Replaced>,
 ) -> Result<Vec<Replaced>, AllocError>
-    ensures { IfOk result (λ bs. map replaced_view bs.items ≡ model.kept_bindings (map sorted_variable_view own.now) (map replaced_view bindings.now) ++ map replaced_view fresh.items) }
+    ensures { let kept = model.kept_bindings (map sorted_variable_view own.now) (map replaced_view bindings.now) in IfOk result (λ bs. map replaced_view bs.items ≡ kept ++ map replaced_view fresh.items) }
 {
     let mut all = kept_bindings(alloc, own, bindings)?;
     let mut fresh = fresh;

@@ -1,6 +1,6 @@
 // A left side with one name at several sorts, as one in which it stands at a sort below them all, of the values that all of them
 // share.
-ghost use Rattle.std.specs.Prelude.{◌≡◌, ◌↔◌, ◌∷◌, [], IfOk, IsTrue, MatchOption, ⊤, map, string_bytes};
+ghost use Rattle.std.specs.Prelude.{◌≡◌, ◌∷◌, [], IfOk, MatchOption, ⊤, map, string_bytes};
 ghost use Rattle.kp_kore.specs.View.{sort_view};
 ghost use Rattle.kp_signature.specs.View.{signature_view};
 ghost use Rattle.kp_rules.specs.Skeletons.{one_of, skeleton_view, forms_of};
@@ -8,19 +8,13 @@ ghost use Rattle.kp_cases.specs.Courses.{form_variables, all_form_variables};
 ghost use Rattle.kp_step.specs.OneSort.{IsLowest, IsLowered, AreLowered};
 
 use kp_compile::CompileError;
+use kp_ground::names::{same_name, share_name};
 use kp_kore::Sort;
 use kp_rules::Skeleton;
 use kp_signature::Signature;
 use kp_unify::sorts::meet_of;
-use std::alloc::{AllocError, Global};
+use std::alloc::Global;
 use std::sync::Arc;
-
-/// Whether both are one name.
-fn is_same(own: &Arc<String>, name: &Arc<String>) -> bool
-    ensures { IsTrue result ↔ (string_bytes own.now.value ≡ string_bytes name.now.value) }
-{
-    **own == **name
-}
 
 /// A sort of the values that both sorts share, if there is one, where a variable of the name stands at the other; else the sort.
 fn lower<'a>(
@@ -32,7 +26,7 @@ fn lower<'a>(
 ) -> Option<&'a Sort>
     ensures { let g = signature_view signature.now in MatchOption result ⊤ (λ low. IsLowest g (string_bytes name.now.value) (sort_view sort.now) (record { name = string_bytes own.now.value; sort = sort_view of.now } ∷ []) (sort_view low.now)) }
 {
-    if is_same(own, name) {
+    if same_name(own, name) {
         return meet_of(signature, sort, of);
     }
     Some(sort)
@@ -46,7 +40,7 @@ fn lowest<'a>(
     name: &Arc<String>,
     sort: &'a Sort,
 ) -> Option<&'a Sort>
-    ensures { MatchOption result ⊤ (λ low. IsLowest (signature_view signature.now) (string_bytes name.now.value) (sort_view sort.now) (form_variables (skeleton_view skeleton.now)) (sort_view low.now)) }
+    ensures { let xs = form_variables (skeleton_view skeleton.now) in MatchOption result ⊤ (λ low. IsLowest (signature_view signature.now) (string_bytes name.now.value) (sort_view sort.now) xs (sort_view low.now)) }
 {
     match skeleton {
         Skeleton::Variable {
@@ -79,13 +73,6 @@ fn lowest_among<'a>(
     Some(low)
 }
 
-/// The same name, shared.
-fn shared(name: &Arc<String>) -> Result<Arc<String>, AllocError>
-    ensures { IfOk result (λ copy. copy.value ≡ name.now.value) }
-{
-    Ok(name.clone()?)
-}
-
 /// A variable at a sort.
 fn variable_at(name: Arc<String>, sort: Sort) -> Skeleton
     ensures { skeleton_view result ≡ one_of (string_bytes name.value) (sort_view sort) }
@@ -101,11 +88,11 @@ fn variable(
     sort: &Sort,
     whole: &Skeleton,
 ) -> Result<Skeleton, CompileError>
-    ensures { IfOk result (λ k. IsLowered (signature_view signature.now) (form_variables (skeleton_view whole.now)) (one_of (string_bytes name.now.value) (sort_view sort.now)) (skeleton_view k)) }
+    ensures { let xs = form_variables (skeleton_view whole.now) in IfOk result (λ k. IsLowered (signature_view signature.now) xs (one_of (string_bytes name.now.value) (sort_view sort.now)) (skeleton_view k)) }
 {
     match lowest(signature, whole, name, sort) {
         Some(low) => {
-            let name = shared(name)?;
+            let name = share_name(name)?;
             Ok(variable_at(name, low.copy(alloc)?))
         }
         None => Err(CompileError::Shape),
@@ -131,7 +118,7 @@ pub fn lowered(
         } => {
             let arguments = all_lowered(alloc, signature, arguments, whole)?;
             Ok(Skeleton::Built {
-                constructor: shared(constructor)?,
+                constructor: share_name(constructor)?,
                 arguments,
             })
         }
@@ -154,7 +141,7 @@ fn all_lowered(
     skeletons: &[Skeleton],
     whole: &Skeleton,
 ) -> Result<Vec<Skeleton>, CompileError>
-    ensures { IfOk result (λ ks. AreLowered (signature_view signature.now) (form_variables (skeleton_view whole.now)) (forms_of (map skeleton_view skeletons.now)) (forms_of (map skeleton_view ks.items))) }
+    ensures { let xs = form_variables (skeleton_view whole.now) in IfOk result (λ ks. AreLowered (signature_view signature.now) xs (forms_of (map skeleton_view skeletons.now)) (forms_of (map skeleton_view ks.items))) }
 {
     let mut made = Vec::new(alloc);
     for skeleton in skeletons {

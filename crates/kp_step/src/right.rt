@@ -72,7 +72,8 @@ fn moved(
     bindings: &[Replaced],
     new: &[Arc<Variable>],
 ) -> Result<State, CompileError>
-    ensures { IfOk result (λ s. state_view s ≡ moved_state (signature_of setting.entry) (part_view part.now) (map replaced_view bindings.now) (variables_view new.now) (sort_view sort.value) (view right.now)) }
+    ensures { let g = signature_of setting.entry in let bindings' = map replaced_view bindings.now in
+        IfOk result (λ s. state_view s ≡ moved_state g (part_view part.now) bindings' (variables_view new.now) (sort_view sort.value) (view right.now)) }
 {
     let term = term_under(right, alloc, setting.language, bindings)?;
     let mut variables = share_variables(alloc, &part.state.variables)?;
@@ -96,7 +97,8 @@ fn make_following(
     bindings: &[Replaced],
     new: &[Arc<Variable>],
 ) -> Result<State, CompileError>
-    ensures { IfOk result (λ s. state_view s ≡ following_state (signature_of setting.entry) (part_view part.now) sides.now (map replaced_view bindings.now) (variables_view new.now) (sort_view sort.value)) }
+    ensures { let g = signature_of setting.entry in let bindings' = map replaced_view bindings.now in
+        IfOk result (λ s. state_view s ≡ following_state g (part_view part.now) sides.now bindings' (variables_view new.now) (sort_view sort.value)) }
 {
     let state = moved(alloc, setting, part, &sides.right, sort, bindings, new)?;
     let ensured = lent(alloc, &sides.ensured)?;

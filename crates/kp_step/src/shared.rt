@@ -66,7 +66,7 @@ fn share(
     sort: &Sort,
 ) -> bool
     requires { IsHeadTableOf (signature_view signature.now) table.now }
-    ensures { IsTrue result ↔ SharesWith (signature_view signature.now) (string_bytes name.now.value) (sort_view sort.now) (all_form_variables (forms_of (map skeleton_view skeletons.now))) }
+    ensures { let xs = all_form_variables (forms_of (map skeleton_view skeletons.now)) in IsTrue result ↔ SharesWith (signature_view signature.now) (string_bytes name.now.value) (sort_view sort.now) xs }
 {
     for skeleton in skeletons {
         if !shares(table, signature, skeleton, name, sort) {
@@ -104,7 +104,7 @@ fn share_all(
     whole: &Skeleton,
 ) -> bool
     requires { IsHeadTableOf (signature_view signature.now) table.now }
-    ensures { IsTrue result ↔ ShareWithAll (signature_view signature.now) (form_variables (skeleton_view whole.now)) (all_form_variables (forms_of (map skeleton_view skeletons.now))) }
+    ensures { let xs = form_variables (skeleton_view whole.now) in IsTrue result ↔ ShareWithAll (signature_view signature.now) xs (all_form_variables (forms_of (map skeleton_view skeletons.now))) }
 {
     for skeleton in skeletons {
         if !shares_all(table, signature, skeleton, whole) {

@@ -7,10 +7,10 @@ use Rattle.kp_cases.specs.Courses.{IsMeet}
 use Rattle.kp_step.proofs.LoweredLemmas.{lower_of, lowest_of_other}
 use Rattle.kp_step.proofs.lowered.lower.Goals as goal
 
-pub returns-then-is_same : goal.returns-then-is_same
-returns-then-is_same c =
+pub returns-then-same_name : goal.returns-then-same_name
+returns-then-same_name c =
     let g = signature_view c.args.signature.now in
     let sort = sort_view c.args.sort.now in
     let of = sort_view c.args.of.now in
     lower_of (λ m. sort_view m.now) c.meet_of.result g (string_bytes c.args.name.now.value) sort (record { name = string_bytes c.args.own.now.value; sort = of })
-    ((m : KoreSort) → ¬ IsMeet g sort of m) (c.is_same.ensures.0 c.if-is_same.true) c.meet_of.ensures.meant
+    ((m : KoreSort) → ¬ IsMeet g sort of m) (c.same_name.ensures.0 c.if-same_name.true) c.meet_of.ensures.meant
