@@ -7,7 +7,8 @@ words.py clauses: lists the clauses of more than 260 characters, the longest fir
 - A type `XFault` is a named refusal and knows no want of memory; a type `XError` knows it, itself or through another one.
   Five names that the public interface fixed know it all the same (FIXED).
 - A limit is a constant of the code once.
-- A public type's name is that of one crate, or stands in the document's table of names of several types.
+- A public type's name is that of one crate.
+- A clause of more than 160 characters names parts of it by `let`; laws and examples aside, whose premises stand one behind another.
 - A file of the repository that a document names is there, and so is the definition that it names behind a file.
 - The tables of docs/ARCHITECTURE.md have the crates of crates.txt but those of tests, in order.
 - No function, outside the crates of tests, has a name that nobody could guess (VAGUE, but for one
@@ -94,20 +95,14 @@ def limits():
 
 
 def types():
-    """A public type's name in several crates stands in the document's table."""
-    table = text_of("docs/DEFINITIONS.md").split("**Names of several types.**")[1].split("\n\n")[1]
-    rows = [line.split(" | ") for line in table.split("\n")[2:]]
-    told = {name: set(re.findall(r"`(kp_\w+)`", row[1])) for row in rows for name in re.findall(r"`(\w+)`", row[0])}
+    """A public type's name is that of one crate."""
     crates = {}
     for path in sources():
         for it in re.finditer(r"(?m)^pub (?:enum|struct|trait) (\w+)", text_of(path)):
             crates.setdefault(it[1], set()).add(path.split("/")[1])
     for name, stands in sorted(crates.items()):
-        if len(stands) > 1 and not stands <= told.get(name, set()):
+        if len(stands) > 1:
             found.add(f"docs/DEFINITIONS.md: `{name}` is a type of {', '.join(sorted(stands))}")
-    for name in told:
-        if len(crates.get(name, set())) < 2:
-            found.add(f"docs/DEFINITIONS.md: `{name}` is no name of several types")
 
 
 def files():
@@ -159,13 +154,20 @@ def functions():
 
 
 def lengths():
-    """How long the clauses are."""
+    """How long the clauses are, and whether the long ones name their parts."""
     for path in sources():
         text = text_of(path)
-        for it in re.finditer(r"(?m)^ +(?:requires|ensures)\b[^\n]*(?:\n {8,}[^\n]*)*", text):
-            size = len(re.sub(r"\s+", " ", it[0]))
-            if size > 260:
-                clauses.append((size, f"{path}:{text[: it.start()].count(chr(10)) + 1}"))
+        for it in re.finditer(r"(?m)^ +(?:requires|ensures)\b[^{\n]*\{", text):
+            end, depth = it.end(), 1
+            while depth:
+                depth += {"{": 1, "}": -1}.get(text[end], 0)
+                end += 1
+            clause = re.sub(r"\s+", " ", text[it.end() : end - 1]).strip()
+            place = f"{path}:{text[: it.start()].count(chr(10)) + 1}"
+            if len(clause) > 260:
+                clauses.append((len(clause), place))
+            if len(clause) > 160 and "let " not in clause and not re.search(r"laws|examples", path):
+                found.add(f"{place}: a clause of {len(clause)} characters names none of its parts")
 
 
 def answers():
