@@ -110,6 +110,18 @@ module REPEATED
 endmodule []
 "#;
 
+/// A rule whose left side has nine names twice each, so that a chain of equalities may follow.
+const CHAINED: &str = r#"[]
+module CHAINED
+  hooked-sort SortInt{} [hook{}("INT.Int"), hasDomainValues{}()]
+  sort SortS{} []
+  hooked-symbol Lblmul{}(SortInt{}, SortInt{}) : SortInt{} [hook{}("INT.mul"), function{}()]
+  symbol Lblk{}(SortInt{}, SortInt{}, SortInt{}, SortInt{}, SortInt{}, SortInt{}, SortInt{}, SortInt{}, SortInt{}, SortInt{}, SortInt{}, SortInt{}, SortInt{}, SortInt{}, SortInt{}, SortInt{}, SortInt{}, SortInt{}) : SortS{} [constructor{}()]
+  symbol Lbldone{}() : SortS{} [constructor{}()]
+  axiom{} \rewrites{SortS{}}(Lblk{}(A:SortInt{}, A:SortInt{}, B:SortInt{}, B:SortInt{}, C:SortInt{}, C:SortInt{}, D:SortInt{}, D:SortInt{}, E:SortInt{}, E:SortInt{}, F:SortInt{}, F:SortInt{}, G:SortInt{}, G:SortInt{}, H:SortInt{}, H:SortInt{}, K:SortInt{}, K:SortInt{}), Lbldone{}()) [label{}("read")]
+endmodule []
+"#;
+
 /// Two sorts above the same two sorts, no one of which has all that is in both; a rule's left term is a variable of the one.
 const LONE: &str = r#"[]
 module LONE
@@ -256,6 +268,8 @@ pub(crate) enum Asked {
     Twice,
     /// The one with rules whose left sides have two names three times each.
     Repeated,
+    /// The one with nine names twice each.
+    Chained,
     /// The one with calls on whole numbers.
     Numbers,
     /// The one whose main module imports the rules that count down and choose.
@@ -276,6 +290,7 @@ pub(crate) fn definition_of(asked: Asked) -> (&'static str, &'static str) {
         Asked::Lone => ("LONE", LONE),
         Asked::Twice => ("TWICE", TWICE),
         Asked::Repeated => ("REPEATED", REPEATED),
+        Asked::Chained => ("CHAINED", CHAINED),
         Asked::Numbers => ("TOYS", NUMBERS),
         Asked::Counting => ("COUNTING", COUNTING),
         Asked::Small => ("TOYS", SMALL),
