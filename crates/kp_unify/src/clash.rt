@@ -1,5 +1,5 @@
 // A left side whose heads differ from those of a term, told without memory before anything is shared.
-ghost use Rattle.std.specs.Prelude.{◌≡◌, not, IsTrue, map};
+ghost use Rattle.std.specs.Prelude.{◌≡◌, ◌↔◌, not, IsTrue, map};
 ghost use Rattle.std.specs.Str.{bytes_eq};
 ghost use Rattle.kp_ground.specs.View.{value_view, values_of};
 ghost use Rattle.kp_rules.specs.Skeletons as model;
@@ -7,7 +7,8 @@ ghost use Rattle.kp_rules.specs.Skeletons.{forms_of};
 ghost use Rattle.kp_symbolic.specs.View.{term_view, terms_of};
 ghost use Rattle.kp_cases.specs.Rows.{HasMembers};
 ghost use Rattle.kp_unify.specs.Forms.{form_view, members_view};
-ghost use Rattle.kp_unify.specs.Clash.{IsNever, AreNever, IsNeverOf, AreNeverOf};
+ghost use Rattle.kp_unify.specs.Clash.{AsksOtherHead, AskOtherHeads, AsksOtherHeadOf, AskOtherHeadsOf};
+ghost use Rattle.kp_unify.specs.Literals.{IsLiteral};
 
 use crate::forms::{Ask, LeftPart, Members, ask_of};
 use kp_ground::Value;
@@ -15,7 +16,7 @@ use kp_symbolic::Term;
 
 /// Whether a literal is another value than a term.
 fn literal_differs(literal: &Value, term: &Term) -> bool
-    ensures { IsTrue result → IsNeverOf (model.fixed (value_view literal.now)) (term_view term.now) }
+    ensures { let l = value_view literal.now in IsLiteral l → IsTrue result ↔ AsksOtherHeadOf (model.fixed l) (term_view term.now) }
 {
     match term {
         Term::Known { value } => !literal.equal(value),
@@ -33,7 +34,7 @@ fn is_other(first: &str, second: &str) -> bool
 /// Whether some head of the form is another than that of the term in its place.
 #[cycle(clash)]
 pub fn clashes(term: &Term, form: LeftPart<'_>) -> bool
-    ensures { IsTrue result → IsNeverOf (form_view form.entry) (term_view term.now) }
+    ensures { IsTrue result ↔ AsksOtherHeadOf (form_view form.entry) (term_view term.now) }
 {
     match ask_of(form) {
         Ask::Literal { value } => literal_differs(value, term),
@@ -45,7 +46,7 @@ pub fn clashes(term: &Term, form: LeftPart<'_>) -> bool
 /// The same of a constructor and its members.
 #[cycle(clash)]
 fn constructor_clashes(term: &Term, symbol: &str, members: Members<'_>) -> bool
-    ensures { (f : model.Form) → HasMembers f symbol.now (forms_of (members_view members.entry)) → IsTrue result → IsNeverOf f (term_view term.now) }
+    ensures { (f : model.Form) → HasMembers f symbol.now (forms_of (members_view members.entry)) → IsTrue result ↔ AsksOtherHeadOf f (term_view term.now) }
 {
     match term {
         Term::Unknown { .. } => false,
@@ -66,7 +67,7 @@ fn constructor_clashes(term: &Term, symbol: &str, members: Members<'_>) -> bool
 /// The same of members and terms, one by one.
 #[cycle(clash)]
 fn some_clash(terms: &[Term], members: Members<'_>) -> bool
-    ensures { IsTrue result → AreNeverOf (members_view members.entry) (terms_of (map term_view terms.now)) }
+    ensures { IsTrue result ↔ AskOtherHeadsOf (forms_of (members_view members.entry)) (terms_of (map term_view terms.now)) }
 {
     if members.count() != terms.len() {
         return true;
@@ -82,7 +83,7 @@ fn some_clash(terms: &[Term], members: Members<'_>) -> bool
 /// Whether some head of the form is another than that of the value in its place.
 #[cycle(clash_with)]
 fn clashes_with(value: &Value, form: LeftPart<'_>) -> bool
-    ensures { IsTrue result → IsNever (form_view form.entry) (value_view value.now) }
+    ensures { IsTrue result ↔ AsksOtherHead (form_view form.entry) (value_view value.now) }
 {
     match ask_of(form) {
         Ask::Literal { value: literal } => !literal.equal(value),
@@ -94,7 +95,7 @@ fn clashes_with(value: &Value, form: LeftPart<'_>) -> bool
 /// The same of a constructor and its members.
 #[cycle(clash_with)]
 fn constructor_clashes_with(value: &Value, symbol: &str, members: Members<'_>) -> bool
-    ensures { (f : model.Form) → HasMembers f symbol.now (forms_of (members_view members.entry)) → IsTrue result → IsNever f (value_view value.now) }
+    ensures { (f : model.Form) → HasMembers f symbol.now (forms_of (members_view members.entry)) → IsTrue result ↔ AsksOtherHead f (value_view value.now) }
 {
     match value {
         Value::Constructed {
@@ -115,7 +116,7 @@ fn constructor_clashes_with(value: &Value, symbol: &str, members: Members<'_>) -
 /// The same of members and values, one by one.
 #[cycle(clash_with)]
 fn some_clash_with(values: &[Value], members: Members<'_>) -> bool
-    ensures { IsTrue result → AreNever (members_view members.entry) (values_of (map value_view values.now)) }
+    ensures { IsTrue result ↔ AskOtherHeads (forms_of (members_view members.entry)) (values_of (map value_view values.now)) }
 {
     if members.count() != values.len() {
         return true;

@@ -1,7 +1,7 @@
 // A variable that stands at two places of a left side, for a value and for a term that is never this value, told without memory.
 // The equalities of a left side are those of the first term under a variable with the others: where the first is a call, what two of
 // the others say isn't told by them.
-ghost use Rattle.std.specs.Prelude.{◌≡◌, IsTrue, map};
+ghost use Rattle.std.specs.Prelude.{◌≡◌, ◌↔◌, IsTrue, map};
 ghost use Rattle.std.specs.Str.{bytes_eq};
 ghost use Rattle.kp_kore.specs.Syntax.{Text, KoreSort};
 ghost use Rattle.kp_ground.specs.View.{value_view};
@@ -9,7 +9,7 @@ ghost use Rattle.kp_rules.specs.Skeletons as model;
 ghost use Rattle.kp_rules.specs.Skeletons.{one_of, forms_of};
 ghost use Rattle.kp_symbolic.specs.View.{term_view, terms_of};
 ghost use Rattle.kp_cases.specs.Rows.{HasMembers};
-ghost use Rattle.kp_unify.specs.Clash.{IsNeverOf, IsNeverWhere, AreNeverWhere, IsValueOf, StandsForTerm};
+ghost use Rattle.kp_unify.specs.Clash.{IsNeverOf, HoldsOfOne, StandsOnOther, StandsOnTwo, Differs};
 ghost use Rattle.kp_unify.specs.Forms.{form_view, members_view};
 
 use crate::clash::clashes;
@@ -24,10 +24,10 @@ fn is_same_name(name: &str, other: &str) -> bool
     name == other
 }
 
-/// Whether the variable of the name stands somewhere for a term that is never the value.
+/// Whether the variable of the name stands somewhere for a term that has another head than the value.
 #[cycle(other)]
 fn stands_for_other(term: &Term, form: LeftPart<'_>, name: &str, value: &Value) -> bool
-    ensures { IsTrue result → IsNeverWhere (IsValueOf name.now (value_view value.now)) (form_view form.entry) (term_view term.now) }
+    ensures { IsTrue result ↔ StandsOnOther name.now (value_view value.now) (form_view form.entry) (term_view term.now) }
 {
     match ask_of(form) {
         Ask::Variable { name: own, .. } => {
@@ -41,19 +41,21 @@ fn stands_for_other(term: &Term, form: LeftPart<'_>, name: &str, value: &Value) 
 /// The same of a constructor's members.
 #[cycle(other)]
 fn members_stand_for_other(term: &Term, members: Members<'_>, name: &str, value: &Value) -> bool
-    ensures { let HasValue = IsValueOf name.now (value_view value.now) in
-        (f : model.Form) (c : Text) → HasMembers f c (forms_of (members_view members.entry)) → IsTrue result → IsNeverWhere HasValue f (term_view term.now) }
+    ensures { let IsThere = StandsOnOther name.now (value_view value.now) in
+        (f : model.Form) (c : Text) → HasMembers f c (forms_of (members_view members.entry)) → IsTrue result ↔ IsThere f (term_view term.now) }
 {
     match term {
         Term::Headed { arguments, .. } => some_stands_for_other(arguments, members, name, value),
-        Term::Unknown { .. } | Term::Offset { .. } | Term::Known { .. } => false,
+        Term::Unknown { .. } => false,
+        Term::Offset { .. } => false,
+        Term::Known { .. } => false,
     }
 }
 
 /// The same of one of the members, each with its term.
 #[cycle(other)]
 fn some_stands_for_other(terms: &[Term], members: Members<'_>, name: &str, value: &Value) -> bool
-    ensures { IsTrue result → AreNeverWhere (IsValueOf name.now (value_view value.now)) (members_view members.entry) (terms_of (map term_view terms.now)) }
+    ensures { IsTrue result ↔ HoldsOfOne (StandsOnOther name.now (value_view value.now)) (forms_of (members_view members.entry)) (terms_of (map term_view terms.now)) }
 {
     if members.count() != terms.len() {
         return false;
@@ -66,9 +68,9 @@ fn some_stands_for_other(terms: &[Term], members: Members<'_>, name: &str, value
     false
 }
 
-/// Whether the term is a value, and the variable of the name stands in the left side for a term that is never this value.
+/// Whether the term is a value, and the variable of the name stands in the left side for a term that has another head.
 fn differs_elsewhere(term: &Term, name: &str, all: &Term, left: LeftPart<'_>) -> bool
-    ensures { (s : KoreSort) → IsTrue result → IsNeverWhere (StandsForTerm (form_view left.entry) (term_view all.now)) (one_of name.now s) (term_view term.now) }
+    ensures { (s : KoreSort) → IsTrue result ↔ StandsOnTwo (form_view left.entry) (term_view all.now) (one_of name.now s) (term_view term.now) }
 {
     match term {
         Term::Known { value } => stands_for_other(all, left, name, value),
@@ -76,10 +78,10 @@ fn differs_elsewhere(term: &Term, name: &str, all: &Term, left: LeftPart<'_>) ->
     }
 }
 
-/// Whether a variable stands here for a value, and elsewhere in the left side for a term that is never this value.
+/// Whether a variable stands here for a value, and in the left side for a term that has another head.
 #[cycle(here)]
 fn differs_here(term: &Term, form: LeftPart<'_>, all: &Term, left: LeftPart<'_>) -> bool
-    ensures { IsTrue result → IsNeverWhere (StandsForTerm (form_view left.entry) (term_view all.now)) (form_view form.entry) (term_view term.now) }
+    ensures { IsTrue result ↔ StandsOnTwo (form_view left.entry) (term_view all.now) (form_view form.entry) (term_view term.now) }
 {
     match ask_of(form) {
         Ask::Variable { name, .. } => differs_elsewhere(term, name, all, left),
@@ -91,8 +93,8 @@ fn differs_here(term: &Term, form: LeftPart<'_>, all: &Term, left: LeftPart<'_>)
 /// The same of a constructor's members.
 #[cycle(here)]
 fn members_differ(term: &Term, members: Members<'_>, all: &Term, left: LeftPart<'_>) -> bool
-    ensures { let LeftStands = StandsForTerm (form_view left.entry) (term_view all.now) in
-        (f : model.Form) (c : Text) → HasMembers f c (forms_of (members_view members.entry)) → IsTrue result → IsNeverWhere LeftStands f (term_view term.now) }
+    ensures { let IsThere = StandsOnTwo (form_view left.entry) (term_view all.now) in
+        (f : model.Form) (c : Text) → HasMembers f c (forms_of (members_view members.entry)) → IsTrue result ↔ IsThere f (term_view term.now) }
 {
     match term {
         Term::Headed { arguments, .. } => some_differs(arguments, members, all, left),
@@ -103,7 +105,7 @@ fn members_differ(term: &Term, members: Members<'_>, all: &Term, left: LeftPart<
 /// The same of one of the members, each with its term.
 #[cycle(here)]
 fn some_differs(terms: &[Term], members: Members<'_>, all: &Term, left: LeftPart<'_>) -> bool
-    ensures { IsTrue result → AreNeverWhere (StandsForTerm (form_view left.entry) (term_view all.now)) (members_view members.entry) (terms_of (map term_view terms.now)) }
+    ensures { IsTrue result ↔ HoldsOfOne (StandsOnTwo (form_view left.entry) (term_view all.now)) (forms_of (members_view members.entry)) (terms_of (map term_view terms.now)) }
 {
     if members.count() != terms.len() {
         return false;
@@ -117,9 +119,10 @@ fn some_differs(terms: &[Term], members: Members<'_>, all: &Term, left: LeftPart
 }
 
 /// Whether some head of the form is another than that of the term in its place, or a variable of the form stands for a value and
-/// for a term that is never this value.
+/// for a term that has another head.
 pub fn differs(term: &Term, form: LeftPart<'_>) -> bool
-    ensures { IsTrue result → IsNeverOf (form_view form.entry) (term_view term.now) }
+    ensures exactly { IsTrue result ↔ Differs (form_view form.entry) (term_view term.now) }
+    ensures never { IsTrue result → IsNeverOf (form_view form.entry) (term_view term.now) }
 {
     clashes(term, form) || differs_here(term, form, term, form)
 }

@@ -8,7 +8,7 @@ use Rattle.kp_unify.proofs.meeting.meet.Goals as goal
 
 pub returns-then-differs : goal.returns-then-differs
 returns-then-differs c used setting ready =
-    clashed_at_once (signature_of c.args.setting.now) used (skeleton_view c.args.left.now) (numbered_view c.args.part.now) ready (c.differs.ensures c.if-differs.true)
+    clashed_at_once (signature_of c.args.setting.now) used (skeleton_view c.args.left.now) (numbered_view c.args.part.now) ready (c.differs.ensures.never c.if-differs.true)
 
 pub returns-then-not-branch : goal.returns-then-not-branch
 returns-then-not-branch c used setting ready =
