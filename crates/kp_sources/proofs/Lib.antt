@@ -1,0 +1,10 @@
+pub mod AvoidConditions
+pub mod AvoidFacts
+pub mod AvoidSourced
+pub mod AvoidTerms
+pub mod Clauses
+pub mod Equations
+pub mod Facts
+pub mod Nothing
+pub mod ShownLemmas
+pub mod SourcedParts

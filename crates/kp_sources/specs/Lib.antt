@@ -1,0 +1,3 @@
+pub mod Laws
+pub mod Sourced
+pub mod Symbols
