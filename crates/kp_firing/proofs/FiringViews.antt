@@ -7,6 +7,7 @@ use Rattle.kp_kore.specs.View.{view}
 use Rattle.kp_kore.specs.Rules.{Rewrite, rewrite}
 use Rattle.kp_symbolic.proofs.Distribution.{all_first}
 use Rattle.kp_rules.specs.Skeletons.{Form, skeleton_view}
+use Rattle.kp_rules.specs.LeftForms.{left_form}
 use Rattle.kp_rules.specs.LeftSides.{IsLeftSide, IsOverLeft}
 use Rattle.kp_rules.specs.Sides.{AreSidesOf}
 use Rattle.kp_rules.specs.declared.sides.ReadSides.{ReadSides}
@@ -36,14 +37,14 @@ pub numbered_as : (q : Part) (p : StatePart) (next : ℕ) → part_view q ≡ p 
 numbered_as q p next e n = ap₂ (λ a k. record { part = a; next = k }) e n
 
 -- what was met, and the clauses of the condition, are a firing
-fires_so : (g : KoreSignature) (used : List Text) (r : Rewrite) (form : Form) (p : StatePart) (f : Firing) → IsMetRight g used form p (met_of f) f.part.next (numbered f.apart.items) → IsLeftSide g r form → IsOverLeft r → IsReadyRule g r form →
+fires_so : (g : KoreSignature) (used : List Text) (r : Rewrite) (form : Form) (p : StatePart) (f : Firing) → IsMetRight g used form p (met_of f) f.part.next (numbered f.apart.items) → form ≡ left_form g r.left → IsLeftSide g r form → IsOverLeft r → IsReadyRule g r form →
     clauses_view f.condition.items ≡ condition_clauses g (met_of f).bindings r.condition → FiresOn g used r form p f
-fires_so g used r form p f met side over ready condition =
+fires_so g used r form p f met spelled side over ready condition =
     let q = numbered_view f.part in
     let equations = clauses_view f.equations.items in
     let conditions = clauses_view f.condition.items in
     let firing : IsFiringOf g used (rewrite r) p q (equations ++ conditions) (numbered f.apart.items) =
-    subst (λ cs. IsFiringOf g used (rewrite r) p q (equations ++ cs) (numbered f.apart.items)) (sym condition) (met_fires g used r form p (met_of f) f.part.next (numbered f.apart.items) met side over ready) in
+    subst (λ cs. IsFiringOf g used (rewrite r) p q (equations ++ cs) (numbered f.apart.items)) (sym condition) (met_fires g used r form p (met_of f) f.part.next (numbered f.apart.items) met spelled side over ready) in
     let here = firing_ready g used (rewrite r) p q (equations ++ conditions) (numbered f.apart.items) firing in
     record {
       firing = firing;
@@ -65,7 +66,7 @@ made_fires g used r s p m f met sides ready condition part equations bindings ap
     (subst (λ es. IsMetRight g used form p (record { part = part_view m.met.part; equations = clauses_view es.items; bindings = map replaced_view f.bindings.items }) m.met.part.next (numbered f.apart.items)) (sym equations)
     (subst (λ bs. IsMetRight g used form p (record { part = part_view m.met.part; equations = clauses_view m.met.equations.items; bindings = map replaced_view bs.items }) m.met.part.next (numbered f.apart.items)) (sym bindings)
     (subst (λ xs. IsMetRight g used form p (met_view m.met) m.met.part.next (numbered xs.items)) (sym apart) met))))
-    sides.left sides.over_left ready
+    sides.form sides.left sides.over_left ready
     (condition ∙ ap₂ (λ bs ps. condition_clauses g (map replaced_view bs.items) ps) (sym bindings) sides.condition)
 
 -- where nothing is met, the rule fires nowhere

@@ -1,5 +1,5 @@
 -- What a rule's variables stand for, and what the equations of its left side are, where the rule may be tried on a part.
-use Rattle.std.proofs.Common.{refl, sym, subst, ℕ, true, List, [], ◌∷◌, ◌++◌}
+use Rattle.std.proofs.Common.{◌≡◌, refl, sym, subst, ℕ, true, List, [], ◌∷◌, ◌++◌}
 use Rattle.std.specs.List.{AllByRecursion, Contains}
 use Rattle.kp_kore.specs.Syntax.{Text, KorePattern}
 use Rattle.kp_kore.specs.Parts.{SortedName, free_variables}
@@ -18,6 +18,7 @@ use Rattle.kp_symbolic_laws.specs.Safe.{IsSoundQuote}
 use Rattle.kp_symbolic_laws.proofs.FormedFacts.{same_formed}
 use Rattle.kp_symbolic_laws.proofs.OpenedGood.{by_size}
 use Rattle.kp_rules.specs.Skeletons.{Form}
+use Rattle.kp_rules.specs.LeftForms.{left_form}
 use Rattle.kp_rules.specs.LeftSides.{IsLeftSide, IsOverLeft}
 use Rattle.kp_cases.specs.Parts.{StatePart}
 use Rattle.kp_cases.specs.Cases.{MetPart}
@@ -91,9 +92,9 @@ all_verified g left p bs (q ∷ qs) w b c = (verified_over g left p bs q w b c.0
 
 -- ---- what was met, with the condition
 
-pub met_fires : (g : KoreSignature) (used : List Text) (r : Rewrite) (left : Form) (p : StatePart) (m : MetPart) (next : ℕ) (apart : List NumberedPart) → IsMetRight g used left p m next apart → IsLeftSide g r left → IsOverLeft r → IsReadyRule g r left →
+pub met_fires : (g : KoreSignature) (used : List Text) (r : Rewrite) (left : Form) (p : StatePart) (m : MetPart) (next : ℕ) (apart : List NumberedPart) → IsMetRight g used left p m next apart → left ≡ left_form g r.left → IsLeftSide g r left → IsOverLeft r → IsReadyRule g r left →
     IsFiringOf g used (rewrite r) p (record { part = m.part; next = next }) (m.equations ++ condition_clauses g m.bindings r.condition) apart
-met_fires g used r left p m next apart w side over ready =
+met_fires g used r left p m next apart w form side over ready =
     let met = w.met in
     let verified = all_verified g left m.part m.bindings r.condition w.bound met.bound ready.condition in
     record {
@@ -101,5 +102,5 @@ met_fires g used r left p m next apart w side over ready =
       here = met.here;
       others = met.others;
       right = all_both (AllByRecursion (Right g m.part.state.variables)) m.equations (condition_clauses g m.bindings r.condition) (equations_right g left m met.equations) (condition_right g m.part.state.variables m.bindings r.condition met.normal verified);
-      of_rule = record { form = left; is_form = side; met = m; of_part = refl; is_met = met.cases.is_met; equalities = met.equations; are = refl };
+      of_rule = record { form = left; is_form = form; met = m; of_part = refl; is_met = met.cases.is_met; equalities = met.equations; are = refl };
     }

@@ -10,7 +10,7 @@ use Rattle.kp_kore.specs.Foreign.{IsSkeletonInstance}
 use Rattle.kp_symbolic.specs.Terms.{Replaced}
 use Rattle.kp_symbolic.specs.States.{Literal}
 use Rattle.kp_symbolic.specs.Solving.{negated, Solving}
-use Rattle.kp_rules.specs.LeftSides.{IsLeftSide}
+use Rattle.kp_rules.specs.LeftForms.{left_form}
 use Rattle.kp_rules.specs.Skeletons.{Form, Admits}
 use Rattle.kp_cases.specs.Parts.{StatePart, with_clauses}
 use Rattle.kp_cases.specs.Cases.{MetPart, IsMetBy, left_side}
@@ -18,9 +18,9 @@ use Rattle.kp_unify.specs.Comes.{IsNarrowedFrom}
 use Rattle.kp_unify.specs.Way.{AreEquations}
 use Rattle.kp_firing.specs.Conditions.{condition_clauses}
 
--- the form is the rule's left side, or what a foreign rule's may stand for
+-- the form is that of the rule's left term, or stands for what a foreign rule's may
 abbrev pub IsFormOf : KoreSignature → RuleBody → Form → Type 0
-IsFormOf g (rewrite m) form = IsLeftSide g m form
+IsFormOf g (rewrite m) form = form ≡ left_form g m.left
 IsFormOf g (foreign_rule l) form = (u : Value) → IsSorted g u → ((v : Valuation) × Admits g v form u) ↔ IsSkeletonInstance g l u
 
 -- the clauses of a rule's condition; of a foreign rule none are asked
