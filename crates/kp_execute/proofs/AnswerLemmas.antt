@@ -181,8 +181,8 @@ pub open_by_clauses : (t : Theory) (s : SymbolicState) (shown : List (List Liter
 open_by_clauses t s shown over place limit q told weighs written = by told.weight told.weighed told.left_open
   where
     by : (h : Option Weighed) → IsWeighedAs h over → IsLeftOpen t s told.rule shown h → IsOpenBy t s (parts.predicate q limit)
-    by None w left = subst (λ l. IsOpenBy t s (parts.predicate q l)) (sym (weighs None w)) (by_clauses told.rule shown q left written)
-    by (Some h) w left = subst (λ l. IsOpenBy t s (parts.predicate q l)) (sym (weighs (Some h) w)) (by_weight told.rule shown q h left written)
+    by None w left = subst (λ l. IsOpenBy t s (parts.predicate q l)) (sym (weighs None w)) (by_clauses place told.rule shown q told.is_rule left written)
+    by (Some h) w left = subst (λ l. IsOpenBy t s (parts.predicate q l)) (sym (weighs (Some h) w)) (by_weight place told.rule shown q h told.is_rule left written)
 
 pub open_by_number : {E : Type 0} (t : Theory) (s : SymbolicState) (f : Text) (m n a b : ℤ) (r : Result Undecided E) → a ≡ m → b ≡ n → IsPassed t s (number (call_of f m n)) → IfOk r (λ u. undecided_view u ≡ parts_of_call (call_of f a b)) → IfOk r (λ u. IsOpenBy t s (undecided_view u))
 open_by_number t s f m n a b (Ok u) is_first is_second passed e =

@@ -23,6 +23,7 @@ use Rattle.kp_simplify.specs.Told.{parts_of_call, parts_of_weight}
 use Rattle.kp_turns.specs.NextStates.{IsPatternOf}
 use Rattle.kp_step.specs.Places.{IsAt}
 use Rattle.kp_step.specs.Causes.{IsLeftOpen, IsFirstMet}
+use Rattle.kp_step.specs.Outcomes.{IsToldRule}
 use Rattle.kp_step.specs.Limits as limits
 use Rattle.kp_step.specs.Limits.{IsPassed}
 use Rattle.kp_execute.specs.Laws.{MeansRight}
@@ -38,13 +39,13 @@ use Rattle.kp_execute.specs.declared.answer.ExecuteError.TheVariants as error
 abbrev pub call_of : Text → ℤ → ℤ → WideCall
 call_of f m n = record { symbol = f; first = m; second = n }
 
--- Clauses of a part of it, where the step asks whether the part has an instance: those that aren't plain, or all with the
--- weight that they pass. Or a call of two numbers beyond 128 bits, or a term with too many levels, in the state, in a rule's
--- condition there, or in what would be written behind it.
+-- Clauses of a part of it, where the step asks whether the part has an instance, for a rule of the theory or for none: those that
+-- aren't plain, or all with the weight that they pass. Or a call of two numbers beyond 128 bits, or a term with too many levels, in
+-- the state, in a rule's condition there, or in what would be written behind it.
 pub data IsOpenBy (t : Theory) (s : SymbolicState) : Undecided → Type 0 where
-  by_clauses : (rule : Option RewriteRule) (shown : List (List Literal)) (q : KorePattern) →
+  by_clauses : (place : Option ℕ) (rule : Option RewriteRule) (shown : List (List Literal)) (q : KorePattern) → IsToldRule t place rule →
       IsLeftOpen t s rule shown None → AreWritten t.signature s.sort shown (Some q) → IsOpenBy t s (parts.predicate q None)
-  by_weight : (rule : Option RewriteRule) (shown : List (List Literal)) (q : KorePattern) (h : Weighed) →
+  by_weight : (place : Option ℕ) (rule : Option RewriteRule) (shown : List (List Literal)) (q : KorePattern) (h : Weighed) → IsToldRule t place rule →
       IsLeftOpen t s rule shown (Some h) → AreWritten t.signature s.sort shown (Some q) → IsOpenBy t s (parts.predicate q (Some (parts_of_weight h)))
   by_number : (c : WideCall) → IsPassed t s (limits.number c) → IsOpenBy t s (parts_of_call c)
   by_depth : (n : ℕ) → IsPassed t s (limits.depth n) → IsOpenBy t s (parts.limit (parts.weighed parts.depth n))
