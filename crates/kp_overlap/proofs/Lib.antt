@@ -1,0 +1,13 @@
+pub mod HolderLemmas
+pub mod LabelLemmas
+pub mod RankCircle
+pub mod RankLemmas
+pub mod RankSteps
+pub mod SolutionLemmas
+pub mod PlaceLemmas
+pub mod PlaceSteps
+pub mod PlaceCode
+pub mod PlaceForms
+pub mod SortLemmas
+pub mod TermLemmas
+pub mod MeetingLemmas

@@ -1,0 +1,10 @@
+pub mod Overlaps
+pub mod Solved
+pub mod Sorted
+pub mod Graphs
+pub mod Labels
+pub mod Placing
+pub mod Ranked
+pub mod Views
+pub mod Joined
+pub mod Held

@@ -1,0 +1,14 @@
+// Whether some value is an instance of a state's term, calls standing for any value, and of a left side: by places that have one
+// value, as unification on term graphs goes.
+#![tactic(auto)]
+
+pub mod graph;
+pub mod holders;
+pub mod labels;
+pub mod meeting;
+pub mod place;
+pub mod ranks;
+pub mod sorts;
+pub mod terms;
+
+pub use meeting::{meets, overlap};
