@@ -1,0 +1,3 @@
+pub mod NameCounts
+pub mod SumLemmas
+pub mod WeightNames
