@@ -26,19 +26,23 @@ use Rattle.kp_unify.specs.Comes.{IsNarrowedFrom}
 use Rattle.kp_unify.specs.Narrowed.{NumberedPart}
 use Rattle.kp_unify.specs.Way.{IsPartOn, IsMeetable, IsMeeting, IsAllApart}
 use Rattle.kp_decide.specs.Read.{HasSortedClauses}
-use Rattle.kp_firing.specs.Comes.{ComesFrom, narrowed, fires, itself}
+use Rattle.kp_firing.specs.Comes.{IsFormOf, ComesFrom, narrowed, fires, itself}
 use Rattle.kp_firing.specs.Ready.{IsReadyPart, HasInstance, parts_of}
 use Rattle.kp_firing.proofs.ComesLemmas.{clauses_of_foreign}
 use Rattle.kp_firing.proofs.ReadyLemmas.{equations_right}
 use Rattle.kp_firing.proofs.SilentLemmas.{right_ready, ready_on}
+use Rattle.kp_step.specs.Counted.{most_for}
+use Rattle.kp_step.specs.Meets.{MeetsRule}
+use Rattle.kp_step.proofs.CountLemmas.{counted_for, most_of_one}
 use Rattle.kp_step.specs.Left.{IsOneOf}
 use Rattle.kp_step.specs.Places.{IsAt}
 use Rattle.kp_step.specs.Ready.{IsWholeReady}
 use Rattle.kp_step.specs.Rules.{IsForeignAt}
-use Rattle.kp_step.specs.Answers.{IsRightAnswerOf, TellsForeign}
+use Rattle.kp_step.specs.Answers.{IsRightAnswerOf, TellsForeign, IsForeignAnswer}
 use Rattle.kp_step.specs.declared.answers.PartAnswer as answers
 use Rattle.kp_step.specs.declared.answers.PartAnswer.TheVariants as answer
 use Rattle.kp_step.proofs.CauseLemmas.{open_foreign}
+use Rattle.kp_step.proofs.MeetLemmas.{foreign_meets}
 use Rattle.kp_step.proofs.ForeignLemmas.{unknown_where, unknown_nowhere, nothing_unknown, meets_foreign}
 use Rattle.kp_step.proofs.FoundLemmas.{one_at, at_contains}
 use Rattle.kp_step.proofs.SortedLemmas.{sorted_clauses}
@@ -85,17 +89,24 @@ instance_there : (g : KoreSignature) (p : StatePart) → HasInstance g (whole p.
 instance_there g p i = record { valuation = i.valuation; configuration = i.configuration; sorts = i.sorts; met = i.met }
 
 pub tells_met : (t : Theory) (used : List Text) (s : SymbolicState) (place : ℕ) (k : Skeleton) (q : NumberedPart) (m : MetPart) (next : ℕ) (apart : List NumberedPart) (a : answers.PartAnswer) → IsWholeReady t.signature used s q → IsForeignAt t place k → IsMeeting t.signature used (skeleton_view k) q.part m next apart →
-    IsRightAnswerOf t.signature s (with_clauses m.part m.equations).state a → TellsForeign t s place a
-tells_met t used s place k q m next apart answer.Instance w f met i =
+    IsForeignAnswer t.signature s (with_clauses m.part m.equations).state (skeleton_view k) a → TellsForeign t s place a
+tells_met t used s place k q m next apart answer.Instance w f met h =
+    let i = h.0.right in
     let r = with_clauses m.part m.equations in
     (f.rule, f.at, meets_foreign t s f.rule r (at_contains t.rules place f.rule f.at) (met_where t used s place k q m next apart w f met) (instance_there t.signature r i))
-tells_met t used s place k q m next apart answer.Nothing w f met none =
+tells_met t used s place k q m next apart answer.Nothing w f met h =
+    let none = h.0.right in
     let r = with_clauses m.part m.equations in
     λ rule at. subst (λ x. OfEachInstance t.signature (whole s) (λ v c. ¬ IsUnknownBy t.signature x.body c)) (one_at t place f.rule rule f.at at)
     (nothing_unknown t.signature (λ c. IsUnknownBy t.signature f.rule.body c) (whole s) r (met_where t used s place k q m next apart w f met) none)
-tells_met t used s place k q m next apart (answer.Open o) w f met shows =
+tells_met t used s place k q m next apart (answer.Open o) w f met h =
+    let shows = h.0.right in
+    let own = subst (MeetsRule t.signature s) (sym f.body) (foreign_meets t.signature s f.left k f.stands (h.0.meets (λ e. absurd (cc)))) in
+    let left = skeleton_view k in
+    let form : IsFormOf t.signature f.rule.body left = subst (λ b. IsFormOf t.signature b left) (sym f.body) f.stands in
+    let compares = counted_for t.signature s (with_clauses m.part m.equations).state (f.rule ∷ []) (most_for t.signature s (left ∷ [])) shows.0 o.over (most_of_one t.signature s f.rule left form) h.1 shows.1 in
     let r = with_clauses m.part m.equations in
-    (f.rule, f.at, shows.0, shows.1, open_foreign t s f.rule f.left r (clauses_view o.shown.items) shows.0 f.body (met_where t used s place k q m next apart w f met) (met_comes t used s place k q m next apart w f met) shows.2)
+    (f.rule, f.at, shows.0, shows.1, open_foreign t s f.rule f.left r (clauses_view o.shown.items) shows.0 f.body own (met_where t used s place k q m next apart w f met) (met_comes t used s place k q m next apart w f met) shows.2 compares)
 
 -- where nothing is met
 pub tells_apart : (t : Theory) (used : List Text) (s : SymbolicState) (place : ℕ) (k : Skeleton) (q : NumberedPart) → IsWholeReady t.signature used s q → IsForeignAt t place k → IsAllApart t.signature (skeleton_view k) q.part → TellsForeign t s place answer.Nothing
@@ -130,9 +141,9 @@ answer_by g s p r x a e f sorted told =
 
 -- over the setting's signature
 pub tells_met_at : (t : Theory) (used : List Text) (s : SymbolicState) (g : KoreSignature) (place : ℕ) (k : Skeleton) (q : NumberedPart) (m : MetPart) (next : ℕ) (apart : List NumberedPart) (a : answers.PartAnswer) → g ≡ t.signature → IsWholeReady g used s q → IsForeignAt t place k → IsMeeting g used (skeleton_view k) q.part m next apart →
-    IsRightAnswerOf g s (with_clauses m.part m.equations).state a → TellsForeign t s place a
+    IsForeignAnswer g s (with_clauses m.part m.equations).state (skeleton_view k) a → TellsForeign t s place a
 tells_met_at t used s g place k q m next apart a e w f met right =
-    tells_met t used s place k q m next apart a (subst (λ h. IsWholeReady h used s q) e w) f (subst (λ h. IsMeeting h used (skeleton_view k) q.part m next apart) e met) (subst (λ h. IsRightAnswerOf h s (with_clauses m.part m.equations).state a) e right)
+    tells_met t used s place k q m next apart a (subst (λ h. IsWholeReady h used s q) e w) f (subst (λ h. IsMeeting h used (skeleton_view k) q.part m next apart) e met) (subst (λ h. IsForeignAnswer h s (with_clauses m.part m.equations).state (skeleton_view k) a) e right)
 
 pub tells_apart_at : (t : Theory) (used : List Text) (s : SymbolicState) (g : KoreSignature) (place : ℕ) (k : Skeleton) (q : NumberedPart) → g ≡ t.signature → IsWholeReady g used s q → IsForeignAt t place k → IsAllApart g (skeleton_view k) q.part → TellsForeign t s place answer.Nothing
 tells_apart_at t used s g place k q e w f apart = tells_apart t used s place k q (subst (λ h. IsWholeReady h used s q) e w) f (subst (λ h. IsAllApart h (skeleton_view k) q.part) e apart)

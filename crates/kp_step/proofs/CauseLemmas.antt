@@ -17,6 +17,9 @@ use Rattle.kp_turns.proofs.TurnsFound.{left_to_none}
 use Rattle.kp_unify.specs.Narrowed.{NumberedPart}
 use Rattle.kp_firing.specs.Comes.{ComesFrom, itself}
 use Rattle.kp_firing.specs.Ready.{parts_of}
+use Rattle.kp_step.specs.Meets.{MeetsRule, AllMeet}
+use Rattle.kp_step.specs.Counted.{ComparesWithin}
+use Rattle.kp_step.proofs.MeetLemmas.{one_of_these_meets, only_it}
 use Rattle.kp_step.specs.Left.{IsOneOf, IsOfThese, AreLeft}
 use Rattle.kp_step.specs.Causes.{MayRewrite, IsAsked, IsShownOf, IsLeftOpen}
 
@@ -38,24 +41,27 @@ part_among (p ∷ ps) q c = elim (Contains-append_cases (p ∷ []) ps q c) [
     first e = subst (λ x. Contains (p.part ∷ parts_of ps) x) (ap (λ x. x.part) e) (Contains-append_left (p.part ∷ []) (parts_of ps) p.part (Contains-push [] p.part))
 
 -- of the state itself
-pub open_state : (t : Theory) (s : SymbolicState) (shown : List (List Literal)) (over : Option Weighed) → IsTold t.signature (whole s) → IsShownOf t.signature s s shown over → IsLeftOpen t s None shown over
-open_state t s shown over told shows = record {
+pub open_state : (t : Theory) (s : SymbolicState) (shown : List (List Literal)) (over : Option Weighed) → IsTold t.signature (whole s) → IsShownOf t.signature s s shown over → ComparesWithin t.signature s s [] over → IsLeftOpen t s None shown over
+open_state t s shown over told shows compares = record {
   turns = [];
   of_theory = tt;
+  meets = one_of_these_meets t.signature s None [] (λ r e. absurd (cc)) tt;
   parts = whole s ∷ [];
   asked = left_to_none t.signature (whole s) told;
   part = whole s;
   among = Contains-push [] (whole s);
   comes = itself;
   shows = shows;
+  compares = compares;
 }
 
 -- of a part that rules leave to a rule
 pub open_rule : (t : Theory) (used : List Text) (s : SymbolicState) (m : StatePart) (r : RewriteRule) (read : Rewrite) (found : List RewriteRule) (parts : List NumberedPart) (q : NumberedPart) (shown : List (List Literal)) (over : Option Weighed) →
-    r.body ≡ rewrite read → AllByRecursion (Contains t.rules) found → AreLeft t.signature used (Some r) found (whole s) m parts → Contains parts q → IsShownOf t.signature s q.part.state shown over → IsLeftOpen t s (Some r) shown over
-open_rule t used s m r read found parts q shown over body members l c shows = record {
+    r.body ≡ rewrite read → AllByRecursion (Contains t.rules) found → MeetsRule t.signature s r.body → AllMeet t.signature s found → AreLeft t.signature used (Some r) found (whole s) m parts → Contains parts q → IsShownOf t.signature s q.part.state shown over → ComparesWithin t.signature s q.part.state (r ∷ found) over → IsLeftOpen t s (Some r) shown over
+open_rule t used s m r read found parts q shown over body members own all l c shows compares = record {
   turns = found;
   of_theory = members;
+  meets = one_of_these_meets t.signature s (Some r) found (only_it t.signature s r own) all;
   parts = parts_of parts;
   asked = said_otherwise t.signature (IsLeftTo t.signature (Some r) found) (IsAsked t.signature (Some r) found) (whole s) (parts_of parts)
       (λ w d h k. ((λ f. (subst (λ b. MayRewrite t.signature b d) (sym body) (subst (λ b. Fires t.signature b d) body f.0), f.1)), (λ a. (subst (λ b. Fires t.signature b d) (sym body) (subst (λ b. MayRewrite t.signature b d) body a.0), a.1)))) l.left;
@@ -63,28 +69,32 @@ open_rule t used s m r read found parts q shown over body members l c shows = re
   among = part_among parts q c;
   comes = of_member (IsOfThese t.signature (Some r) found (whole s)) parts q l.comes c;
   shows = shows;
+  compares = compares;
 }
 
 -- of a part that they leave to none
 pub open_remainder : (t : Theory) (used : List Text) (s : SymbolicState) (m : StatePart) (found : List RewriteRule) (parts : List NumberedPart) (q : NumberedPart) (shown : List (List Literal)) (over : Option Weighed) →
-    AllByRecursion (Contains t.rules) found → AreLeft t.signature used None found (whole s) m parts → Contains parts q → IsShownOf t.signature s q.part.state shown over → IsLeftOpen t s None shown over
-open_remainder t used s m found parts q shown over members l c shows = record {
+    AllByRecursion (Contains t.rules) found → AllMeet t.signature s found → AreLeft t.signature used None found (whole s) m parts → Contains parts q → IsShownOf t.signature s q.part.state shown over → ComparesWithin t.signature s q.part.state found over → IsLeftOpen t s None shown over
+open_remainder t used s m found parts q shown over members all l c shows compares = record {
   turns = found;
   of_theory = members;
+  meets = one_of_these_meets t.signature s None found (λ r e. absurd (cc)) all;
   parts = parts_of parts;
   asked = l.left;
   part = q.part;
   among = part_among parts q c;
   comes = of_member (IsOfThese t.signature None found (whole s)) parts q l.comes c;
   shows = shows;
+  compares = compares;
 }
 
 -- of the part where a foreign rule might rewrite
-pub open_foreign : (t : Theory) (s : SymbolicState) (r : RewriteRule) (left : ForeignLeft) (p : StatePart) (shown : List (List Literal)) (over : Option Weighed) → r.body ≡ foreign_rule left →
-    AreWhere t.signature (λ c. IsUnknownBy t.signature r.body c) (whole s) (p ∷ []) → ComesFrom t.signature (IsOneOf (Some r) []) (whole s) p → IsShownOf t.signature s p.state shown over → IsLeftOpen t s (Some r) shown over
-open_foreign t s r left p shown over body d comes shows = record {
+pub open_foreign : (t : Theory) (s : SymbolicState) (r : RewriteRule) (left : ForeignLeft) (p : StatePart) (shown : List (List Literal)) (over : Option Weighed) → r.body ≡ foreign_rule left → MeetsRule t.signature s r.body →
+    AreWhere t.signature (λ c. IsUnknownBy t.signature r.body c) (whole s) (p ∷ []) → ComesFrom t.signature (IsOneOf (Some r) []) (whole s) p → IsShownOf t.signature s p.state shown over → ComparesWithin t.signature s p.state (r ∷ []) over → IsLeftOpen t s (Some r) shown over
+open_foreign t s r left p shown over body own d comes shows compares = record {
   turns = [];
   of_theory = tt;
+  meets = one_of_these_meets t.signature s (Some r) [] (only_it t.signature s r own) tt;
   parts = p ∷ [];
   asked = said_otherwise t.signature (λ c. IsUnknownBy t.signature r.body c) (IsAsked t.signature (Some r) []) (whole s) (p ∷ [])
       (λ w e h k. ((λ u. (subst (λ b. MayRewrite t.signature b e) (sym body) (subst (λ b. IsUnknownBy t.signature b e) body u), tt)), (λ a. subst (λ b. IsUnknownBy t.signature b e) (sym body) (subst (λ b. MayRewrite t.signature b e) body a.0)))) d;
@@ -92,4 +102,5 @@ open_foreign t s r left p shown over body d comes shows = record {
   among = Contains-push [] p;
   comes = comes;
   shows = shows;
+  compares = compares;
 }

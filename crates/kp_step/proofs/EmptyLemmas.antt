@@ -16,7 +16,7 @@ use Rattle.kp_firing.specs.Ready.{IsReadyPart, narrowed_by}
 use Rattle.kp_firing.proofs.SilentLemmas.{right_ready}
 use Rattle.kp_step.specs.Ready.{IsReadyState}
 use Rattle.kp_step.specs.Left.{IsPartIn}
-use Rattle.kp_step.specs.Follows.{IsNextOf}
+use Rattle.kp_step.specs.Follows.{never as moves_nowhere, IsNextOf}
 use Rattle.kp_step.proofs.FollowLemmas.{nothing_follows}
 use Rattle.kp_step.proofs.NextStateLemmas.{with_these}
 
@@ -33,6 +33,7 @@ pub nothing_next : (g : KoreSignature) (used : List Text) (s m : StatePart) (q :
     IsNextOf g used s (rewrite rule) q.part (with_these q.part.state ([] ∷ [])) q.next
 nothing_next g used s m q rule i none = record {
   follows = nothing_follows g rule q.part (with_these q.part.state ([] ∷ [])) none (never g q.part.state);
+  moved = λ n e. moves_nowhere;
   at_hand = each_member (λ x. Contains q.part.state.variables x) q.part.state.variables (λ x c. c);
   grown = record { new = i.grown.new; variables = i.grown.variables; are_new = i.grown.are_new; each = i.grown.each };
   ready = never_ready g used q i.ready;

@@ -8,6 +8,7 @@ use Rattle.kp_kore.specs.Syntax.{Text}
 use Rattle.kp_kore.specs.Signature.{KoreSignature}
 use Rattle.kp_kore.specs.Rules.{RewriteRule}
 use Rattle.kp_kore.specs.Theory.{Theory}
+use Rattle.kp_kore.proofs.TurnLemmas.{of_member}
 use Rattle.kp_kore.specs.Steps.{IsUnknown, AnyByRecursion}
 use Rattle.kp_symbolic.specs.States.{SymbolicState}
 use Rattle.kp_symbolic.specs.View.{clauses_view}
@@ -22,12 +23,15 @@ use Rattle.kp_decide.specs.Read.{HasSortedClauses}
 use Rattle.kp_wide.specs.Wide.{WideCall, first_wide}
 use Rattle.kp_unify.specs.Views.{IsSetting}
 use Rattle.kp_unify.specs.declared.part.Setting.{Setting}
+use Rattle.kp_step.specs.Meets.{AllMeet}
+use Rattle.kp_step.specs.Counted.{most_for, IsMost, IsCounted}
+use Rattle.kp_step.proofs.CountLemmas.{counted_for, most_of_none}
 use Rattle.kp_step.specs.Ready.{IsReadyState, IsWholeReady}
 use Rattle.kp_step.specs.Rules.{Steps, IsStepFrom}
 use Rattle.kp_step.specs.Left.{IsPartIn, AreLeft, OneTakesAll}
 use Rattle.kp_step.specs.Found.{PlacedTurn, IsRuleAt, AreAllFound}
 use Rattle.kp_step.specs.Follows.{AreNextsOf, IsSolvedPart}
-use Rattle.kp_step.specs.Limits.{TermLimit, number, Passes, PassesNone, told_state, IsPassed}
+use Rattle.kp_step.specs.Limits.{TermLimit, number, Passes, PassesNone, IsCaseMade, told_state, IsPassed}
 use Rattle.kp_step.specs.Tries.{OneFiresOnAll, AreRemaining}
 use Rattle.kp_step.specs.Answers.{ShowsOf, IsRightAnswerOf, AreDecided, TellsRemainder}
 use Rattle.kp_step.specs.Outcomes.{IsCaseOf, IsRemainderOf, AreCasesOf, IsToldOpen}
@@ -60,21 +64,22 @@ is_whole g used s next q e f r = record { is = e; ready = subst (IsReadyPart g u
 
 -- ---- what is left open
 
-pub open_at_all : (t : Theory) (s : SymbolicState) (o : Open) → IsTold t.signature (whole s) → ShowsOf t.signature s s o → IsToldOpen t s (clauses_view o.shown.items) o.over None
-open_at_all t s o told shows = record { rule = None; is_rule = tt; weight = shows.0; weighed = shows.1; left_open = open_state t s (clauses_view o.shown.items) shows.0 told shows.2 }
+pub open_at_all : (t : Theory) (s : SymbolicState) (o : Open) → IsTold t.signature (whole s) → ShowsOf t.signature s s o → IsCounted t.signature s (most_for t.signature s []) o.over → IsToldOpen t s (clauses_view o.shown.items) o.over None
+open_at_all t s o told shows counted = record { rule = None; is_rule = tt; weight = shows.0; weighed = shows.1; left_open = open_state t s (clauses_view o.shown.items) shows.0 told shows.2 (counted_for t.signature s s [] (most_for t.signature s []) shows.0 o.over (most_of_none t.signature s) counted shows.1) }
 
 -- ---- the remainder
 
-pub remainder_told : (t : Theory) (used : List Text) (s : SymbolicState) (q : NumberedPart) (found : List RewriteRule) (left : List NumberedPart) (d : decisions.Decided) → q.part ≡ whole s → AllByRecursion (Contains t.rules) found → AreLeft t.signature used None found (whole s) (whole s) left →
-    OneTakesAll t.signature found (q ∷ []) left → AreDecided t.signature s left d → TellsRemainder t used s found d
-remainder_told t used s q found left (decided.Parts ks) e members l o k = record {
+pub remainder_told : (t : Theory) (used : List Text) (s : SymbolicState) (q : NumberedPart) (found : List RewriteRule) (most : ℕ) (left : List NumberedPart) (d : decisions.Decided) → q.part ≡ whole s → AllByRecursion (Contains t.rules) found → AllMeet t.signature s found → IsMost t.signature s found most → AreLeft t.signature used None found (whole s) (whole s) left →
+    OneTakesAll t.signature found (q ∷ []) left → AreDecided t.signature s most left d → TellsRemainder t used s found d
+remainder_told t used s q found most left (decided.Parts ks) e members meet m l o k = record {
   left = kept_is_left t.signature used None found (whole s) (whole s) left (numbered_views ks.items) k l;
   instances = kept_have t.signature left (numbered_views ks.items) k;
   alone = one_fires t s q found left (numbered_views ks.items) e o k;
 }
-remainder_told t used s q found left (decided.Open o) e members l all k =
+remainder_told t used s q found most left (decided.Open o) e members meet m l all k =
     let shows = k.2 in
-    (shows.0, shows.1, open_remainder t used s (whole s) found left k.0 (clauses_view o.shown.items) shows.0 members l k.1 shows.2)
+    let compares = counted_for t.signature s k.0.part.state found most shows.0 o.over m k.3 shows.1 in
+    (shows.0, shows.1, open_remainder t used s (whole s) found left k.0 (clauses_view o.shown.items) shows.0 members meet l k.1 shows.2 compares)
 
 one_fires_solved : (t : Theory) (used : List Text) (s : SymbolicState) (found : List RewriteRule) (qs rs : List NumberedPart) → AllZip (IsSolvedPart t.signature used) qs rs → OneFiresOnAll t s found qs → OneFiresOnAll t s found rs
 one_fires_solved t used s [] qs rs z o = tt
@@ -144,7 +149,7 @@ passes_written t used s turns found ns ps l f z nexts own known r a =
     let b = by_either t l ns ps k.by_rules k.others k.each_next k.each_part a in
     record {
       state = told_state b.one;
-      which = inr (inr (record { cases = k.by_rules ++ k.others; are = k.are; one = b.one; among = b.among; is = refl }));
+      which = inr (inr (record { cases = k.by_rules ++ k.others; are = k.are; one = b.one; among = b.among; made = of_member (IsCaseMade t s) (k.by_rules ++ k.others) b.one k.made b.among; is = refl }));
       passes = b.passes;
     }
 
@@ -175,11 +180,11 @@ all_left t used s g q parts e w is =
 pub ready_left : (g : KoreSignature) (used : List Text) (o : Option RewriteRule) (found : List RewriteRule) (s m : StatePart) (qs : List NumberedPart) → AreLeft g used o found s m qs → AllByRecursion (IsReadyPart g used) qs
 ready_left g used o found s m qs l = each_ready g used s m qs l.each
 
-pub remainder_by : (t : Theory) (used : List Text) (s : SymbolicState) (g : KoreSignature) (q : NumberedPart) (found : List RewriteRule) (parts left : List NumberedPart) (d : decisions.Decided) (turns : List PlacedTurn) → g ≡ t.signature → IsWholeReady t.signature used s q → AllZip (IsRuleAt t) turns found → parts ≡ q ∷ [] → AreLeft g used None found (whole s) (whole s) left →
-    OneTakesAll g found parts left → AreDecided g q.part.state left d → TellsRemainder t used s found d
-remainder_by t used s g q found parts left d turns e w z is l o k =
-    remainder_told t used s q found left d w.is (rules_in_theory t turns found z) (subst (λ h. AreLeft h used None found (whole s) (whole s) left) e l)
-    (subst (λ xs. OneTakesAll t.signature found xs left) is (subst (λ h. OneTakesAll h found parts left) e o)) (subst (λ p. AreDecided t.signature p.state left d) w.is (subst (λ h. AreDecided h q.part.state left d) e k))
+pub remainder_by : (t : Theory) (used : List Text) (s : SymbolicState) (g : KoreSignature) (q : NumberedPart) (found : List RewriteRule) (most : ℕ) (parts left : List NumberedPart) (d : decisions.Decided) (turns : List PlacedTurn) → g ≡ t.signature → IsWholeReady t.signature used s q → AllZip (IsRuleAt t) turns found → AllMeet t.signature s found → IsMost t.signature q.part.state found most → parts ≡ q ∷ [] → AreLeft g used None found (whole s) (whole s) left →
+    OneTakesAll g found parts left → AreDecided g q.part.state most left d → TellsRemainder t used s found d
+remainder_by t used s g q found most parts left d turns e w z meet m is l o k =
+    remainder_told t used s q found most left d w.is (rules_in_theory t turns found z) meet (subst (λ p. IsMost t.signature p.state found most) w.is m) (subst (λ h. AreLeft h used None found (whole s) (whole s) left) e l)
+    (subst (λ xs. OneTakesAll t.signature found xs left) is (subst (λ h. OneTakesAll h found parts left) e o)) (subst (λ p. AreDecided t.signature p.state most left d) w.is (subst (λ h. AreDecided h q.part.state most left d) e k))
 
 pub told_remainder_open : (t : Theory) (used : List Text) (s : SymbolicState) (found : List RewriteRule) (o : Open) → TellsRemainder t used s found (decided.Open o) → IsToldOpen t s (clauses_view o.shown.items) o.over None
 told_remainder_open t used s found o k = record { rule = None; is_rule = tt; weight = k.0; weighed = k.1; left_open = k.2 }

@@ -23,12 +23,13 @@ use Rattle.kp_cases.proofs.PartLemmas.{below_itself}
 use Rattle.kp_turns.specs.Firing.{AreFiringCases}
 use Rattle.kp_turns.proofs.AtHandLemmas.{named_member}
 use Rattle.kp_unify.specs.Comes.{IsNarrowedFrom}
+use Rattle.kp_unify.specs.Way.{AreEquations}
 use Rattle.kp_unify.specs.Narrowed.{NumberedPart}
 use Rattle.kp_unify.specs.Views.{IsSetting}
 use Rattle.kp_unify.specs.declared.part.Setting.{Setting}
 use Rattle.kp_firing.specs.Comes.{ComesFrom, narrowed, fires, itself}
 use Rattle.kp_firing.specs.Ready.{IsReadyPart}
-use Rattle.kp_firing.specs.Firings.{FiresOn, IsFired}
+use Rattle.kp_firing.specs.Firings.{met_of, FiresOn, IsFired}
 use Rattle.kp_firing.specs.declared.firing.Firing.{Firing}
 use Rattle.kp_firing.proofs.RuleLemmas.{left_variables}
 use Rattle.kp_firing.proofs.SilentLemmas.{fires_nowhere_there}
@@ -72,6 +73,7 @@ is_met_in t used m sides p f s v k named =
       over = s.over_left;
       equations = (firing_model f).equations;
       is_met = k.met.cases.is_met;
+      laid = record { equations = (firing_model f).equations; laid = subst (λ x. AreEquations g x (met_of f)) s.form k.met.equations };
       bound = subst (λ xs. AllByRecursion (IsBoundTo g q bs) xs) same k.met.bound;
       at_hand = all_at_hand g q bs bs (form_variables form) k.met.bound named k.met.cases.is_met.once;
       placed = subst (λ xs. AreWellPlaced g bs xs) same k.bound;
@@ -105,6 +107,9 @@ is_firing t used s place q m sides f w r s' v k named = record {
   body = r.2;
   cases = subst (λ p. AreFiringCases t.signature (rewrite m) p (Some (record { part = (firing_model f).part.part; clauses = (firing_model f).equations ++ (firing_model f).condition })) (firing_model f).apart) w.is k.firing.cases;
   is_met = is_met_in t used m sides q.part f s' v k named;
+  form = skeleton_view sides.left;
+  left = s'.left;
+  meets_so = k.met.cases.is_met;
   part = part_in t used s q m sides f w k;
   comes = fires_from t used s q m sides f w k;
   where_met = k.where_met;

@@ -1,5 +1,5 @@
 -- What is made of a rule's right side and solved follows from the part.
-use Rattle.std.proofs.Common.{◌≡◌, sym, ap, subst, ◌∙◌, List, [], ◌∷◌, ◌++◌, map, Some}
+use Rattle.std.proofs.Common.{◌≡◌, refl, sym, ap, subst, ◌∙◌, List, [], ◌∷◌, ◌++◌, map, Some}
 use Rattle.std.specs.List.{AllByRecursion}
 use Rattle.kp_kore.specs.Syntax.{Text, KoreSort}
 use Rattle.kp_kore.specs.Signature.{KoreSignature}
@@ -64,7 +64,7 @@ following_is t used s m q rule bs c own x met i fires v e values chosen kept run
     let verified = all_ensured g used rule m q.part bs c rule.ensured b k over.one_sort v.ensured v.ensured_of_both in
     let right : AreRight g hand cs = condition_right g hand rs rule.ensured (all_normal g used rule m q.part bs c b k) verified in
     let ready = made_ready g used rule m q bs c own cs b k over.one_sort v e i.ready right in
-    next_of_part t used s m q rule bs c (written_at g own q.part.state.sort) cs x met i fires over values chosen (λ w h. condition_says g hand rs w rule.ensured verified h)
+    next_of_part t used s m q rule bs c (written_at g own q.part.state.sort) cs x met i fires over values chosen (λ w h. condition_says g hand rs w rule.ensured verified h) refl
     (settled_part g used (record { part = whole (right_state t rule q bs c own); next = c.next }) x ready kept run)
 
 -- ---- by what the code makes

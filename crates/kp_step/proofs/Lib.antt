@@ -11,6 +11,8 @@ pub mod DecideLemmas
 pub mod RightLemmas
 pub mod AloneLemmas
 pub mod PlaceLemmas
+pub mod MeetLemmas
+pub mod CountLemmas
 pub mod CauseLemmas
 pub mod TryLemmas
 pub mod ToldLemmas

@@ -1,18 +1,17 @@
 -- A left side in which each name stands at a sort of what its sorts share stands for the same values.
 use Rattle.std.proofs.Common.{◌≡◌, refl, sym, ap, subst, ◌∙◌, ◌↔◌, ℕ, ◌+◌, ◌<◌, ◌≤◌, List, [], ◌∷◌, ◌++◌, map, length, get_or, drop, Option, Some, None}
 use Rattle.std.specs.Prelude.{MatchOption, ⊤}
-use Rattle.std.specs.List.{AllByRecursion}
 use Rattle.kp_kore.specs.Syntax.{Text, KoreSort}
 use Rattle.kp_kore.specs.Parts.{SortedName}
 use Rattle.kp_kore.specs.Signature.{KoreSignature}
-use Rattle.kp_kore.specs.Value.{Value, whole, truth, token, constructed, Values, no_values, next_value, HasSort, head_of}
+use Rattle.kp_kore.specs.Value.{Value, whole, truth, token, constructed, no_values, next_value, HasSort, head_of}
 use Rattle.kp_kore.specs.Instance.{Valuation, GivesSorts}
 use Rattle.kp_kore.specs.Theory.{Theory}
 use Rattle.kp_kore.proofs.TurnLemmas.{of_member, each_member}
 use Rattle.kp_signature.proofs.SortLemmas.{has_sort_above}
 use Rattle.kp_symbolic.proofs.HeadLemmas.{head_from_sort}
 use Rattle.kp_symbolic.proofs.HeadQuestions.{sort_from_head}
-use Rattle.kp_rules.specs.Skeletons.{Form, one_of, built, Forms, no_forms, next_form, Admits, AdmitAll, skeleton_view, forms_of}
+use Rattle.kp_rules.specs.Skeletons.{Form, one_of, built, Forms, no_forms, next_form, Admits, skeleton_view, forms_of}
 use Rattle.kp_rules.specs.declared.skeleton.Skeleton.{Skeleton}
 use Rattle.kp_cases.specs.Courses.{IsMeet, form_variables, all_form_variables}
 use Rattle.kp_step.specs.OneSort.{HasEachOf, IsLowest, IsLowered, AreLowered}

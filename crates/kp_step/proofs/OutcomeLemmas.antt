@@ -4,6 +4,7 @@ use Rattle.std.specs.List.{AllByRecursion, AllZip}
 use Rattle.kp_kore.specs.Syntax.{Text}
 use Rattle.kp_kore.specs.Rules.{RewriteRule}
 use Rattle.kp_kore.specs.Theory.{Theory}
+use Rattle.kp_kore.proofs.ListLemmas.{all_append}
 use Rattle.kp_kore.specs.Steps.{Fires, IsUnknown}
 use Rattle.kp_symbolic.specs.States.{SymbolicState}
 use Rattle.kp_cases.specs.Parts.{whole, OfEachInstance}
@@ -15,7 +16,7 @@ use Rattle.kp_firing.specs.Ready.{HasInstance}
 use Rattle.kp_step.specs.Found.{PlacedTurn, IsRuleAt, IsTurnAt, IsTurnAmong, AreAllFound}
 use Rattle.kp_step.specs.Follows.{AreNextsOf}
 use Rattle.kp_step.specs.Tries.{OneFiresOnAll, AreRemaining}
-use Rattle.kp_step.specs.Limits.{PassesNone}
+use Rattle.kp_step.specs.Limits.{PassesNone, IsCaseMade}
 use Rattle.kp_step.specs.Views.{numbered_views, next_view, next_told}
 use Rattle.kp_step.specs.Left.{IsPartIn}
 use Rattle.kp_step.specs.Outcomes.{IsCaseOf, IsRemainderOf, GoesOnFrom, RemainsOf, FiresAlone, AreCasesOf}
@@ -24,7 +25,8 @@ use Rattle.kp_step.proofs.FoundLemmas.{turns_of, one_at}
 use Rattle.kp_step.proofs.TryLemmas.{rules_in_theory, found_rules}
 use Rattle.kp_step.proofs.AloneLemmas.{one_turn}
 use Rattle.kp_step.proofs.StepLemmas.{all_cases, rest_cases, step_cases, all_within_hand}
-use Rattle.kp_step.proofs.ToldLemmas.{IsCaseAt, GoesOnAt, ComeOfTheory, rest_comes, all_told, rest_told, all_go_on}
+use Rattle.kp_step.proofs.ToldLemmas.{IsCaseAt, GoesOnAt, ComeOfTheory, rest_comes, all_told, rest_told, all_go_on, all_made, rest_made}
+use Rattle.kp_step.proofs.MeetLemmas.{turns_meet}
 
 cases_of : (t : Theory) (ns : List Next) (ks : List StepCase) → AllZip (IsCaseAt t) (map next_view ns) ks → AllZip (IsCaseOf t) ns ks
 cases_of t [] [] z = tt
@@ -89,6 +91,7 @@ pub record AreStepsOf (t : Theory) (s : SymbolicState) (nexts : List Next) (rema
   pub each_next : AllZip (IsCaseOf t) nexts by_rules
   pub each_part : AllZip IsRemainderOf remainder others
   pub are : AreStepCases t s (by_rules ++ others)
+  pub made : AllByRecursion (IsCaseMade t s) (by_rules ++ others)
 
 pub steps_are : (t : Theory) (used : List Text) (s : SymbolicState) (turns : List PlacedTurn) (ns : List Next) (ps : List Part) (f : AreAllFound t used (whole s) turns) → AreNextsOf t used (whole s) turns (map next_view ns) → HaveOwnIds t.rules → OfEachInstance t.signature (whole s) (λ w c. ¬ IsUnknown t c) →
     AreRemaining t used s (rules_of (turns_of t used (whole s) turns turns f.each)) (numbered_views ps) → AreStepsOf t s ns ps
@@ -98,4 +101,8 @@ steps_are t used s turns ns ps f z own known r = record {
   each_next = cases_of t ns (all_cases t used (whole s) turns turns (map next_view ns) f.each z) (all_told t used (whole s) turns turns (map next_view ns) f.each z);
   each_part = remainders_of ps (rest_cases (numbered_views ps)) (rest_told (numbered_views ps));
   are = step_cases t used s turns (map next_view ns) (numbered_views ps) f z own known r.left;
+  made =
+      let found = rules_of (turns_of t used (whole s) turns turns f.each) in
+      all_append (IsCaseMade t s) (all_cases t used (whole s) turns turns (map next_view ns) f.each z) (rest_cases (numbered_views ps)) (all_made t used s turns turns (map next_view ns) f.each z)
+      (rest_made t used s found (numbered_views ps) (rules_in_theory t turns found (found_rules t used (whole s) turns turns f.each)) (turns_meet t used s turns turns f.each) r.left.comes);
 }

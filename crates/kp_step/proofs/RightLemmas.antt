@@ -21,9 +21,11 @@ use Rattle.kp_cases.proofs.GrownLemmas.{grown_further}
 use Rattle.kp_turns.specs.NextStates.{FollowsBy}
 use Rattle.kp_turns.proofs.AtHandLemmas.{hand_in_hand}
 use Rattle.kp_unify.specs.Narrowed.{NumberedPart}
+use Rattle.kp_symbolic.specs.Solving.{Solving}
+use Rattle.kp_firing.specs.Conditions.{condition_clauses}
 use Rattle.kp_step.specs.Left.{IsPartIn}
 use Rattle.kp_step.specs.Found.{IsMetIn}
-use Rattle.kp_step.specs.Follows.{IsNextOf, IsSolvedPart, kept_bindings}
+use Rattle.kp_step.specs.Follows.{IsMovedBy, moves, IsNextOf, IsSolvedPart, kept_bindings}
 use Rattle.kp_step.specs.Rights.{ChosenNew, AreChosen, IsOverBoth, moved_state}
 use Rattle.kp_step.proofs.FollowLemmas.{follows_right, follows_same}
 use Rattle.kp_step.proofs.NewLemmas.{IsChosenFor, all_chosen, is_instantiated}
@@ -52,15 +54,19 @@ made_follows t used s m q rule bs c sort cs met i fires over k says =
     (is_next_state g rule q.part kept k.ys c.new sort cs made (subst (λ rs. SayEnsured g rule (q.part.state.variables ++ c.new) rs cs) same says)) in
     follows_right g rule met.form (record { part = m; equations = met.equations; bindings = bs }) q.part k.ys c.new (made_state g rule q.part bs c sort cs) met.left met.over met.is_met i.below fires i.ready.sorted made next
 
+same_rewrite : {m n : Rewrite} → rewrite m ≡ rewrite n → m ≡ n
+same_rewrite e = cc
+
 pub next_of_part : (t : Theory) (used : List Text) (s m : StatePart) (q : NumberedPart) (rule : Rewrite) (bs : List Replaced) (c : ChosenNew) (sort : KoreSort) (cs : List (List Literal)) (x : SymbolicState) → IsMetIn t rule bs m → IsPartIn t.signature used s m q →
     OfEachInstance t.signature q.part (λ w d. Fires t.signature (rewrite rule) d) → IsOverBoth rule → AllByRecursion (λ y. (u : Value) × HasSort t.signature y.sort u) rule.new_variables → AreChosen used rule.new_variables q.next c →
-    SayEnsured t.signature rule (q.part.state.variables ++ c.new) (kept_bindings rule.new_variables bs ++ c.bindings) cs →
+    SayEnsured t.signature rule (q.part.state.variables ++ c.new) (kept_bindings rule.new_variables bs ++ c.bindings) cs → cs ≡ condition_clauses t.signature (kept_bindings rule.new_variables bs ++ c.bindings) rule.ensured →
     IsSolvedPart t.signature used (record { part = whole (made_state t.signature rule q.part bs c sort cs); next = c.next }) (record { part = whole x; next = c.next }) → IsNextOf t.signature used s (rewrite rule) q.part x c.next
-next_of_part t used s m q rule bs c sort cs x met i fires over values chosen says solved =
+next_of_part t used s m q rule bs c sort cs x met i fires over values chosen says are solved =
     let g = t.signature in
     let k : IsChosenFor g used q.part.state.variables rule.new_variables c = all_chosen g used q.part.state.variables rule.new_variables q.next c i.ready.begun i.ready.names values chosen in
     record {
       follows = follows_same g (rewrite rule) q.part (made_state g rule q.part bs c sort cs) x solved.variables solved.same (made_follows t used s m q rule bs c sort cs met i fires over k says);
+      moved = λ n e. subst (λ r. IsMovedBy g used r q.part x) (same_rewrite e) (moves m bs q.next c sort x met.laid chosen (subst (λ ds. Solving g (made_state g rule q.part bs c sort ds) x) are solved.solving));
       at_hand = subst (λ ys. AreAtHand q.part.state.variables ys) (sym solved.variables) (each_member (λ y. Contains (q.part.state.variables ++ c.new) y) q.part.state.variables (λ y n. Contains-append_left q.part.state.variables c.new y n));
       grown = grown_further g used s q.part (whole x) i.grown (record { new = c.new; variables = solved.variables; are_new = k.are_new; each = k.each });
       ready = solved.ready;

@@ -1,5 +1,5 @@
 -- Sorts of one name that share a value: where two of them share none, a left side stands for nothing.
-use Rattle.std.proofs.Common.{◌≡◌, sym, subst, ◌↔◌, ℕ, ◌+◌, ◌<◌, Bool, true, false, List, map, length, get_or, drop}
+use Rattle.std.proofs.Common.{◌≡◌, subst, ◌↔◌, ℕ, ◌+◌, ◌<◌, Bool, true, false, List, map, length, get_or, drop}
 use Rattle.std.specs.Prelude.{IsTrue}
 use Rattle.std.specs.List.{AllByRecursion}
 use Rattle.kp_kore.specs.Syntax.{Text, KoreSort}

@@ -22,6 +22,7 @@ use Rattle.kp_step.specs.Places.{IsAt}
 use Rattle.kp_step.specs.Left.{AreKept, none_left}
 use Rattle.kp_step.specs.Found.{PlacedTurn, IsTurnAt, AreFound, AreAllFound}
 use Rattle.kp_step.specs.Answers.{ShowsOf}
+use Rattle.kp_step.specs.Counted.{IsCounted}
 use Rattle.kp_step.specs.Follows.{IsSolvedPart}
 use Rattle.kp_step.specs.Views.{numbered_views, turn_view}
 use Rattle.kp_step.specs.declared.turns.Turn.{Turn}
@@ -71,11 +72,11 @@ next_sorted g used all kept items rest p e d =
     sorted_clauses g (numbered_view p).part.state h.0.0.safe.sorted
 
 -- what is left open of it
-pub decides_open : (g : KoreSignature) (used : List Text) (s : SymbolicState) (all kept items rest : List Part) (p : Part) (o : Open) → items ≡ p ∷ rest → ShowsOf g s (numbered_view p).part.state o → Deciding g used (numbered_views all) (numbered_views items) (numbered_views kept) →
-    (q : NumberedPart) × Contains (numbered_views all) q × ShowsOf g s q.part.state o
-decides_open g used s all kept items rest p o e shows d =
+pub decides_open : (g : KoreSignature) (used : List Text) (s : SymbolicState) (most : ℕ) (all kept items rest : List Part) (p : Part) (told o : Open) → items ≡ p ∷ rest → ShowsOf g s (numbered_view p).part.state told → o ≡ told → IsCounted g (numbered_view p).part.state most o.over →
+    Deciding g used (numbered_views all) (numbered_views items) (numbered_views kept) → (q : NumberedPart) × Contains (numbered_views all) q × ShowsOf g s q.part.state o × IsCounted g q.part.state most o.over
+decides_open g used s most all kept items rest p told o e shows same counted d =
     let h : Deciding g used (numbered_views all) (numbered_view p ∷ numbered_views rest) (numbered_views kept) = subst (λ xs. Deciding g used (numbered_views all) (numbered_views xs) (numbered_views kept)) e d in
-    (numbered_view p, h.1.0, shows)
+    (numbered_view p, h.1.0, subst (ShowsOf g s (numbered_view p).part.state) (sym same) shows, counted)
 
 pub decides_all : (g : KoreSignature) (used : List Text) (all kept items : List Part) → items ≡ [] → Deciding g used (numbered_views all) (numbered_views items) (numbered_views kept) → AreKept g (numbered_views all) (numbered_views kept)
 decides_all g used all kept items e d =

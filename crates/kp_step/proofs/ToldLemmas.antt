@@ -6,7 +6,9 @@ use Rattle.kp_kore.specs.Syntax.{Text}
 use Rattle.kp_kore.specs.Rules.{RuleBody, RewriteRule}
 use Rattle.kp_kore.specs.Theory.{Theory}
 use Rattle.kp_kore.proofs.TurnLemmas.{of_member}
+use Rattle.kp_kore.proofs.ListLemmas.{all_append}
 use Rattle.kp_cases.specs.Parts.{StatePart, whole, IsSortedPart, IsGrown}
+use Rattle.kp_symbolic.specs.States.{SymbolicState}
 use Rattle.kp_turns.specs.NextStates.{StepCase}
 use Rattle.kp_unify.specs.Narrowed.{NumberedPart}
 use Rattle.kp_firing.specs.Comes.{ComesFrom}
@@ -15,8 +17,11 @@ use Rattle.kp_step.specs.Places.{IsAt}
 use Rattle.kp_step.specs.Ready.{IsReadyState}
 use Rattle.kp_step.specs.Left.{IsPartIn, IsOneOf, IsOfTheory, IsOfThese}
 use Rattle.kp_step.specs.Found.{PlacedTurn, IsTurnAmong}
-use Rattle.kp_step.specs.Follows.{PlacedNext, IsNextAt, AreNextsOf}
+use Rattle.kp_step.specs.Follows.{IsMovedBy, PlacedNext, IsNextAt, AreNextsOf}
+use Rattle.kp_step.specs.Meets.{MeetsRule, AllMeet}
+use Rattle.kp_step.specs.Limits.{IsRuleMet, IsCaseMade}
 use Rattle.kp_step.proofs.FoundLemmas.{at_contains}
+use Rattle.kp_step.proofs.MeetLemmas.{one_of_these_meets}
 use Rattle.kp_step.proofs.StepLemmas.{all_cases, rest_cases, cases_by}
 
 -- the case of a next state: of the rule of its place
@@ -81,7 +86,12 @@ go_on_by t used s m k r [] [] at z i c = tt
 go_on_by t used s m k r [] (n ∷ ns) at z i c = absurd z
 go_on_by t used s m k r (p ∷ ps) [] at z i c = absurd z
 go_on_by t used s m k r (p ∷ ps) (n ∷ ns) at z i c = (
-  record { comes = subst (λ q. ComesFrom t.signature (IsOfTheory t) s q) (sym z.0.part) c.0; sorted = subst (λ q. IsSortedPart t.signature q) (sym z.0.part) i.0.ready.sorted; grown = (z.0.follows r at).grown; ready = (z.0.follows r at).ready },
+  record {
+    comes = subst (λ q. ComesFrom t.signature (IsOfTheory t) s q) (sym z.0.part) c.0;
+    sorted = subst (λ q. IsSortedPart t.signature q) (sym z.0.part) i.0.ready.sorted;
+    grown = (z.0.follows r at).grown;
+    ready = (z.0.follows r at).ready;
+  },
   go_on_by t used s m k r ps ns at z.1 i.1 c.1,
 )
 
@@ -98,3 +108,45 @@ all_go_on t used s all (k ∷ turns) ns h z = subst (λ xs. AllByRecursion (Goes
 pub nexts_more : (t : Theory) (used : List Text) (s : StatePart) (all rest : List PlacedTurn) (k : PlacedTurn) (found xs : List PlacedNext) → ((ys : List PlacedNext) → AreNextsOf t used s (k ∷ rest) ys → AreNextsOf t used s all (found ++ ys)) →
     AllZip (IsNextAt t used s k) k.parts xs → (ys : List PlacedNext) → AreNextsOf t used s rest ys → AreNextsOf t used s all ((found ++ xs) ++ ys)
 nexts_more t used s all rest k found xs f z ys h = subst (AreNextsOf t used s all) (sym (append_assoc found xs ys)) (f (xs ++ ys) (xs, ys, refl, z, h))
+
+-- ---- by rules that meet the state
+
+one_met : (t : Theory) (s : SymbolicState) (o : Option RewriteRule) (turns : List RewriteRule) → ((r : RewriteRule) → o ≡ Some r → Contains t.rules r × MeetsRule t.signature s r.body) → AllByRecursion (Contains t.rules) turns → AllMeet t.signature s turns → (b : RuleBody) → IsOneOf o turns b → IsRuleMet t s b
+one_met t s o turns f h a b i =
+    (one_of_theory t o turns (λ r e. (f r e).0) h b i, one_of_these_meets t.signature s o turns (λ r e. (f r e).1) a b i)
+
+all_met : (t : Theory) (s : SymbolicState) (o : Option RewriteRule) (turns : List RewriteRule) (parts : List NumberedPart) → ((r : RewriteRule) → o ≡ Some r → Contains t.rules r × MeetsRule t.signature s r.body) → AllByRecursion (Contains t.rules) turns → AllMeet t.signature s turns → AllByRecursion (IsOfThese t.signature o turns (whole s)) parts →
+    AllByRecursion (λ q. ComesFrom t.signature (IsRuleMet t s) (whole s) q.part) parts
+all_met t s o turns [] f h a k = tt
+all_met t s o turns (p ∷ parts) f h a k = (comes_by_more t.signature (IsOneOf o turns) (IsRuleMet t s) (whole s) p.part (one_met t s o turns f h a) k.0, all_met t s o turns parts f h a k.1)
+
+made_by : (t : Theory) (used : List Text) (s : SymbolicState) (k : PlacedTurn) (r : RewriteRule) (ps : List NumberedPart) (ns : List PlacedNext) → IsAt t k.place r → IsRuleMet t s r.body → AllZip (IsNextAt t used (whole s) k) ps ns → AllByRecursion (λ q. ComesFrom t.signature (IsRuleMet t s) (whole s) q.part) ps →
+    AllByRecursion (IsCaseMade t s) (cases_by r ns)
+made_by t used s k r [] [] at m z c = tt
+made_by t used s k r [] (n ∷ ns) at m z c = absurd z
+made_by t used s k r (p ∷ ps) [] at m z c = absurd z
+made_by t used s k r (p ∷ ps) (n ∷ ns) at m z c = (
+  record {
+    comes = subst (λ q. ComesFrom t.signature (IsRuleMet t s) (whole s) q) (sym z.0.part) c.0;
+    used = used;
+    next = (m, λ w e. subst (λ q. IsMovedBy t.signature used w q n.state) (sym z.0.part) ((z.0.follows r at).moved w e));
+  },
+  made_by t used s k r ps ns at m z.1 c.1,
+)
+
+pub all_made : (t : Theory) (used : List Text) (s : SymbolicState) (all turns : List PlacedTurn) (ns : List PlacedNext) (h : AllByRecursion (IsTurnAmong t used (whole s) all) turns) (z : AreNextsOf t used (whole s) turns ns) → AllByRecursion (IsCaseMade t s) (all_cases t used (whole s) all turns ns h z)
+all_made t used s all [] ns h z = tt
+all_made t used s all (k ∷ turns) ns h z =
+    let i = h.0.turn in
+    let own = at_contains t.rules k.place i.rule i.at in
+    all_append (IsCaseMade t s) (cases_by i.rule z.0) (all_cases t used (whole s) all turns z.1 h.1 z.4)
+    (made_by t used s k i.rule k.parts z.0 i.at ((i.rule, own, refl), i.meets) z.3
+    (all_met t s (Some i.rule) i.before k.parts (λ r e. subst (λ x. Contains t.rules x × MeetsRule t.signature s x.body) (inside e) (own, i.meets)) i.of_theory i.before_meet i.left.comes))
+    (all_made t used s all turns z.1 h.1 z.4)
+
+rest_by : (t : Theory) (used : List Text) (s : SymbolicState) (qs : List NumberedPart) → AllByRecursion (λ q. ComesFrom t.signature (IsRuleMet t s) (whole s) q.part) qs → AllByRecursion (IsCaseMade t s) (rest_cases qs)
+rest_by t used s [] c = tt
+rest_by t used s (q ∷ qs) c = (record { comes = c.0; used = used; next = refl }, rest_by t used s qs c.1)
+
+pub rest_made : (t : Theory) (used : List Text) (s : SymbolicState) (turns : List RewriteRule) (qs : List NumberedPart) → AllByRecursion (Contains t.rules) turns → AllMeet t.signature s turns → AllByRecursion (IsOfThese t.signature None turns (whole s)) qs → AllByRecursion (IsCaseMade t s) (rest_cases qs)
+rest_made t used s turns qs h a k = rest_by t used s qs (all_met t s None turns qs (λ r e. absurd (cc)) h a k)

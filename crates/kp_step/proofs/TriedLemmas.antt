@@ -1,5 +1,5 @@
 -- What is found of one rule, by what the code tells of its parts.
-use Rattle.std.proofs.Common.{◌≡◌, refl, sym, ap, subst, ◌∙◌, arith, ℕ, ◌==◌, true, false, length, List, [], ◌∷◌, Option, Some, None, Result, Ok, Err, IfOk, inl, inr, ◌⊎◌}
+use Rattle.std.proofs.Common.{◌≡◌, refl, sym, ap, subst, ◌∙◌, arith, ℕ, ◌==◌, true, false, length, List, [], ◌∷◌, ◌++◌, Option, Some, None, Result, Ok, Err, IfOk, inl, inr, ◌⊎◌}
 use Rattle.std.specs.List.{AllByRecursion, AllZip, Contains}
 use Rattle.std.specs.Option.{option_map}
 use Rattle.std.proofs.lemmas.Bool.Decides.{Decides-eqb}
@@ -8,24 +8,31 @@ use Rattle.kp_kore.specs.Signature.{KoreSignature}
 use Rattle.kp_kore.specs.Rules.{Rewrite, rewrite, RewriteRule}
 use Rattle.kp_kore.specs.Theory.{Theory}
 use Rattle.kp_kore.specs.Steps.{Fires, HasTurn}
-use Rattle.kp_kore.specs.Instance.{is_named}
+use Rattle.kp_kore.specs.Instance.{Valuation, is_named}
 use Rattle.kp_kore.proofs.NameLemmas.{true_is_false}
 use Rattle.kp_symbolic.specs.Terms.{Replaced}
-use Rattle.kp_symbolic.specs.States.{Literal, SymbolicState}
+use Rattle.kp_symbolic.specs.States.{Literal, IsClauseTrue, AreTrue, SymbolicState}
+use Rattle.kp_symbolic.proofs.Distribution.{all_first}
+use Rattle.kp_symbolic_laws.specs.Runs.{IsSortedState}
 use Rattle.kp_symbolic.specs.View.{clauses_view}
-use Rattle.kp_rules.specs.Skeletons.{skeleton_view}
+use Rattle.kp_rules.specs.Skeletons.{Form, skeleton_view}
+use Rattle.kp_rules.specs.declared.skeleton.Skeleton.{Skeleton}
+use Rattle.kp_rules.specs.LeftSides.{IsLeftSide}
+use Rattle.kp_rules.specs.LeftForms.{left_form}
+use Rattle.kp_firing.specs.Comes.{IsFormOf}
+use Rattle.kp_step.specs.Counted.{IsMost}
+use Rattle.kp_overlap.specs.Overlaps.{MeetsForm}
 use Rattle.kp_rules.specs.Sides.{AreSidesOf}
 use Rattle.kp_rules.specs.VerifiedSides.{AreVerifiedSides}
 use Rattle.kp_rules.specs.declared.sides.ReadSides.{ReadSides}
 use Rattle.kp_wide.specs.Wide.{WideCall, first_wide}
-use Rattle.kp_decide.specs.Read.{HasSortedClauses}
 use Rattle.kp_cases.specs.Parts.{StatePart, whole, with_clauses, OfEachInstance}
 use Rattle.kp_cases.specs.Courses.{form_variables}
 use Rattle.kp_turns.specs.Firing.{HasNoInstance, FiresNowhere, AreFiringCases}
 use Rattle.kp_unify.specs.Narrowed.{NumberedPart}
 use Rattle.kp_unify.specs.Views.{part_view, numbered_view}
 use Rattle.kp_unify.specs.declared.part.Part.{Part}
-use Rattle.kp_firing.specs.Ready.{IsReadyPart}
+use Rattle.kp_firing.specs.Ready.{IsReadyPart, parts_of}
 use Rattle.kp_firing.specs.Firings.{clauses_of_firing, FiresOn}
 use Rattle.kp_firing.specs.declared.firing.Firing.{Firing}
 use Rattle.kp_firing.proofs.SilentLemmas.{fires_nowhere_there}
@@ -35,10 +42,11 @@ use Rattle.kp_step.specs.Ready.{IsWholeReady}
 use Rattle.kp_step.specs.Left.{IsPartIn, AreLeft}
 use Rattle.kp_step.specs.Found.{PlacedTurn, IsRuleAt, IsMetIn, IsTurnAt}
 use Rattle.kp_step.specs.Limits.{TermLimit, number, Passes, IsPassed}
-use Rattle.kp_step.specs.Tries.{PlacedFiring, narrowed_of, IsFiringOf, CanMeet, AreTurnParts}
+use Rattle.kp_step.specs.Meets.{MeetsRule, AllMeet}
+use Rattle.kp_step.specs.Tries.{PlacedFiring, narrowed_of, IsLeftAt, IsFiringOf, CanMeet, AreTurnParts}
 use Rattle.kp_step.specs.Views.{numbered_views, limit_view}
 use Rattle.kp_step.specs.Outcomes.{IsToldOpen}
-use Rattle.kp_step.specs.Answers.{IsRightAnswerOf, firing_model, AreDecided, TellsParts}
+use Rattle.kp_step.specs.Answers.{IsRightAnswerOf, AreMet, IsMetAnswer, TellsWhereMet, firing_model, AreDecided, TellsParts}
 use Rattle.kp_step.specs.declared.answers.Open.{Open}
 use Rattle.kp_step.specs.declared.answers.PartAnswer as answers
 use Rattle.kp_step.specs.declared.answers.PartAnswer.TheVariants as answer
@@ -48,6 +56,7 @@ use Rattle.kp_step.specs.declared.outcome.StepLimit.{StepLimit}
 use Rattle.kp_step.proofs.AnswerLemmas.{MayBe, may_by_instance, may_by_open}
 use Rattle.kp_step.proofs.FiringLemmas.{is_firing}
 use Rattle.kp_step.proofs.FoundLemmas.{one_at}
+use Rattle.kp_step.proofs.MeetLemmas.{no_parts, some_part_meets, form_meets, clauses_meet, other_form, met_answer}
 use Rattle.kp_step.proofs.TryLemmas.{fires_there, rules_are_found, rules_in_theory, no_turn_at, unread_no_turn}
 use Rattle.kp_step.proofs.TurnLemmas.{can_meet, met_sorted, narrowed_sorted, nothing_there, parts_told, passes_condition}
 
@@ -62,12 +71,49 @@ pub some_answer : (a : answers.PartAnswer) → (a ≡ answer.Instance) ⊎ ((o :
 some_answer a (inl i) e = let f : answer.Instance ≡ answer.Nothing = sym i ∙ e in absurd (cc)
 some_answer a (inr i) e = let f : answer.Open i.0 ≡ answer.Nothing = sym i.1 ∙ e in absurd (cc)
 
-pub may_meet : (t : Theory) (used : List Text) (s y : SymbolicState) (place : ℕ) (f : PlacedFiring) (g : KoreSignature) (x : SymbolicState) (a : answers.PartAnswer) → g ≡ t.signature → IsFiringOf t used s place f → x ≡ (with_clauses f.part.part f.equations).state → (HasSortedClauses g x → IsRightAnswerOf g y x a) → ¬ (a ≡ answer.Nothing) → CanMeet t f
-may_meet t used s y place f g x a e i same told some =
+same_read : {m n : Rewrite} → rewrite m ≡ rewrite n → m ≡ n
+same_read e = cc
+
+-- the sides' left side is that of the place's rule
+pub left_at : (t : Theory) (place : ℕ) (m : Rewrite) (sides : ReadSides) → IsReadAs t place m → AreSidesOf t.signature m sides → IsLeftAt t place sides.left
+left_at t place m sides r s n h =
+    let body : rewrite m ≡ rewrite n = sym r.2 ∙ (ap (λ q. q.body) (one_at t place r.0 h.0 r.1 h.1) ∙ h.2) in
+    subst (λ x. IsLeftSide t.signature x (skeleton_view sides.left) × (skeleton_view sides.left ≡ left_form t.signature x.left)) (same_read body) (s.left, s.form)
+
+-- the rule's left side, as the form by which it fires
+left_here : (t : Theory) (used : List Text) (s : SymbolicState) (place : ℕ) (f : PlacedFiring) (k : Skeleton) (i : IsFiringOf t used s place f) → IsLeftAt t place k → IsLeftSide t.signature i.read (skeleton_view k)
+left_here t used s place f k i at = (at i.read (i.rule, i.at, i.body)).0
+
+-- as the form of the rule
+pub form_here : (t : Theory) (used : List Text) (s : SymbolicState) (place : ℕ) (f : PlacedFiring) (k : Skeleton) (i : IsFiringOf t used s place f) → IsLeftAt t place k → IsFormOf t.signature i.rule.body (skeleton_view k)
+form_here t used s place f k i at = subst (λ b. IsFormOf t.signature b (skeleton_view k)) (sym i.body) (at i.read (i.rule, i.at, i.body)).1
+
+-- it meets the state where the part with clauses that tell the equations has an instance
+met_there : (t : Theory) (used : List Text) (s : SymbolicState) (place : ℕ) (f : PlacedFiring) (k : Skeleton) (clauses : List (List Literal)) (i : IsFiringOf t used s place f) → IsSortedState t.signature s → IsLeftAt t place k → ((w : Valuation) → AreTrue t.signature w clauses → AreTrue t.signature w f.equations) →
+    AreMet t.signature s (skeleton_view k) (with_clauses f.part.part clauses).state
+met_there t used s place f k clauses i sorted at tell w c h j =
+    other_form t.signature s i.read i.form (skeleton_view k) i.left (left_here t used s place f k i at) (clauses_meet t.signature s i.form f.part.part f.equations clauses f.bindings sorted i.cases.divided.below.0 i.meets_so tell w c h j)
+
+-- and so does the rule
+rule_there : (t : Theory) (used : List Text) (s : SymbolicState) (place : ℕ) (f : PlacedFiring) (k : Skeleton) (i : IsFiringOf t used s place f) → IsLeftAt t place k → MeetsForm t.signature s.sort s.term (skeleton_view k) → (r : RewriteRule) → IsAt t place r → MeetsRule t.signature s r.body
+rule_there t used s place f k i at m r here = subst (λ x. MeetsRule t.signature s x.body) (one_at t place i.rule r i.at here) (subst (MeetsRule t.signature s) (sym i.body) (form_meets t.signature s i.read (skeleton_view k) (left_here t used s place f k i at) m))
+
+pub may_meet : (t : Theory) (used : List Text) (s y : SymbolicState) (place : ℕ) (f : PlacedFiring) (k : Skeleton) (g : KoreSignature) (x : SymbolicState) (a : answers.PartAnswer) → g ≡ t.signature → y ≡ s → IsSortedState t.signature s → IsLeftAt t place k → IsFiringOf t used s place f → x ≡ (with_clauses f.part.part f.equations).state →
+    TellsWhereMet g y x (skeleton_view k) a → ¬ (a ≡ answer.Nothing) → CanMeet t s place f
+may_meet t used s y place f k g x a e d sorted at i same told some =
     let z = (with_clauses f.part.part f.equations).state in
-    let sorted : HasSortedClauses g x = subst (λ h. HasSortedClauses h x) (sym e) (subst (λ u. HasSortedClauses t.signature u) (sym same) (met_sorted t used s place f i)) in
-    let right : IsRightAnswerOf t.signature y z a = subst (λ h. IsRightAnswerOf h y z a) e (subst (λ u. IsRightAnswerOf g y u a) same (told sorted)) in
-    can_meet t f (may_be t.signature y z a some right)
+    let m = met_answer t.signature g s y z x (skeleton_view k) a e d same (met_sorted t used s place f i) (met_there t used s place f k f.equations i sorted at (λ w h. h)) told in
+    can_meet t s place f (rule_there t used s place f k i at (m.meets some)) (may_be t.signature s z a some m.right)
+
+-- of the part where the rule fires
+pub answer_there : (t : Theory) (used : List Text) (s y : SymbolicState) (place : ℕ) (f : PlacedFiring) (k : Skeleton) (g : KoreSignature) (q : NumberedPart) (a : answers.PartAnswer) → g ≡ t.signature → y ≡ s → IsSortedState t.signature s → IsLeftAt t place k → IsFiringOf t used s place f → q ≡ narrowed_of f →
+    TellsWhereMet g y q.part.state (skeleton_view k) a → IsMetAnswer t.signature s (narrowed_of f).part.state (skeleton_view k) a
+answer_there t used s y place f k g q a e d sorted at i same told =
+    met_answer t.signature g s y (narrowed_of f).part.state q.part.state (skeleton_view k) a e d (ap (λ n. n.part.state) same) (narrowed_sorted t used s place f i)
+    (met_there t used s place f k (f.equations ++ f.condition) i sorted at (λ w h. all_first (IsClauseTrue t.signature w) f.equations f.condition h)) told
+
+pub rule_of_firing : (t : Theory) (used : List Text) (s : SymbolicState) (place : ℕ) (f : PlacedFiring) (k : Skeleton) (i : IsFiringOf t used s place f) → IsLeftAt t place k → MeetsForm t.signature s.sort s.term (skeleton_view k) → MeetsRule t.signature s i.rule.body
+rule_of_firing t used s place f k i at m = rule_there t used s place f k i at m i.rule i.at
 
 -- ---- the part where it fires
 
@@ -93,7 +139,7 @@ passes_number g x l e = by (first_wide g x) refl e
     by None h d = absurd (cc)
     by (Some c) h d = subst (Passes g x) (sym (inside d)) h
 
-pub condition_passes : (t : Theory) (used : List Text) (s : SymbolicState) (place : ℕ) (f : PlacedFiring) (g : KoreSignature) (x : SymbolicState) (l : TermLimit) (o : Option StepLimit) → g ≡ t.signature → IsFiringOf t used s place f → CanMeet t f → x ≡ (narrowed_of f).part.state →
+pub condition_passes : (t : Theory) (used : List Text) (s : SymbolicState) (place : ℕ) (f : PlacedFiring) (g : KoreSignature) (x : SymbolicState) (l : TermLimit) (o : Option StepLimit) → g ≡ t.signature → IsFiringOf t used s place f → CanMeet t s place f → x ≡ (narrowed_of f).part.state →
     option_map limit_view o ≡ option_map number (first_wide g x) → option_map limit_view o ≡ Some l → IsPassed t s l
 condition_passes t used s place f g x l o e i m same told is = passes_condition t used s place f x l i m same (subst (λ h. Passes h x l) e (passes_number g x l (sym is ∙ told)))
 
@@ -103,13 +149,11 @@ nothing_in : (g : KoreSignature) (p : StatePart) → HasNoInstance g (whole p.st
 nothing_in g p none = λ w c h k. none w c h k
 
 -- where it is known that it has no instance, nothing is left to the rule
-pub nothing_told : (t : Theory) (used : List Text) (s y : SymbolicState) (place : ℕ) (found : List RewriteRule) (f : PlacedFiring) (g : KoreSignature) (q : NumberedPart) (a : answers.PartAnswer) (parts : List Part) → g ≡ t.signature → IsFiringOf t used s place f → q ≡ narrowed_of f →
-    (HasSortedClauses g q.part.state → IsRightAnswerOf g y q.part.state a) → a ≡ answer.Nothing → parts ≡ [] → AreTurnParts t used s place found f.part.part (numbered_views parts)
-nothing_told t used s y place found f g q a parts e i same told nothing none =
+pub nothing_told : (t : Theory) (used : List Text) (s : SymbolicState) (place : ℕ) (found : List RewriteRule) (f : PlacedFiring) (left : Form) (a : answers.PartAnswer) (parts : List Part) → IsFiringOf t used s place f → IsMetAnswer t.signature s (narrowed_of f).part.state left a → a ≡ answer.Nothing → parts ≡ [] →
+    AreTurnParts t used s place found f.part.part (numbered_views parts)
+nothing_told t used s place found f left a parts i m nothing none =
     let n = narrowed_of f in
-    let sorted : HasSortedClauses g q.part.state = subst (λ h. HasSortedClauses h q.part.state) (sym e) (subst (λ u. HasSortedClauses t.signature u.part.state) (sym same) (narrowed_sorted t used s place f i)) in
-    let right : IsRightAnswerOf g y q.part.state answer.Nothing = subst (λ b. IsRightAnswerOf g y q.part.state b) nothing (told sorted) in
-    let there : HasNoInstance t.signature n.part = nothing_in t.signature n.part (subst (λ h. HasNoInstance h (whole n.part.state)) e (subst (λ u. HasNoInstance g (whole u.part.state)) same right)) in
+    let there : HasNoInstance t.signature n.part = nothing_in t.signature n.part (subst (λ b. IsRightAnswerOf t.signature s n.part.state b) nothing m.right) in
     subst (λ ps. AreTurnParts t used s place found f.part.part (numbered_views ps)) (sym none) (nothing_there t used s place found f i there)
 
 -- where it fires, with nothing left out
@@ -121,20 +165,20 @@ all_ready g used s m [] h = tt
 all_ready g used s m (p ∷ parts) h = (h.0.ready, all_ready g used s m parts h.1)
 
 -- those that are left, as far as that is decided
-pub left_told : (t : Theory) (used : List Text) (s y : SymbolicState) (place : ℕ) (found : List RewriteRule) (f : PlacedFiring) (g : KoreSignature) (i : IsFiringOf t used s place f) (turns : List PlacedTurn) (parts : List NumberedPart) (d : decisions.Decided) → g ≡ t.signature → y ≡ s → AllZip (IsRuleAt t) turns found →
-    AreLeft g used (Some i.rule) found (whole s) f.part.part parts → (AllByRecursion (IsReadyPart g used) parts → AreDecided g y parts d) → TellsParts t used s place found f.part.part d
-left_told t used s y place found f g i turns parts d e same z l told =
-    let k : AreDecided g y parts d = told (all_ready g used (whole s) f.part.part parts l.each) in
-    parts_told t used s place found f i turns parts d z (subst (λ h. AreLeft h used (Some i.rule) found (whole s) f.part.part parts) e l)
-    (subst (λ h. AreDecided h s parts d) e (subst (λ x. AreDecided g x parts d) same k))
+pub left_told : (t : Theory) (used : List Text) (s y : SymbolicState) (place : ℕ) (found : List RewriteRule) (f : PlacedFiring) (g : KoreSignature) (i : IsFiringOf t used s place f) (turns : List PlacedTurn) (most : ℕ) (parts : List NumberedPart) (d : decisions.Decided) → g ≡ t.signature → y ≡ s → AllZip (IsRuleAt t) turns found → MeetsRule t.signature s i.rule.body → AllMeet t.signature s found → IsMost t.signature y (i.rule ∷ found) most →
+    AreLeft g used (Some i.rule) found (whole s) f.part.part parts → (AllByRecursion (IsReadyPart g used) parts → AreDecided g y most parts d) → TellsParts t used s place found f.part.part d
+left_told t used s y place found f g i turns most parts d e same z own all m l told =
+    let k : AreDecided g y most parts d = told (all_ready g used (whole s) f.part.part parts l.each) in
+    parts_told t used s place found f i turns most parts d z own all (subst (λ x. IsMost t.signature x (i.rule ∷ found) most) same m) (subst (λ h. AreLeft h used (Some i.rule) found (whole s) f.part.part parts) e l)
+    (subst (λ h. AreDecided h s most parts d) e (subst (λ x. AreDecided g x most parts d) same k))
 
 -- ---- its turn
 
 -- with the rules that were found before
-pub turn_told : (t : Theory) (used : List Text) (s : SymbolicState) (place priority : ℕ) (earlier : List PlacedTurn) (found : List RewriteRule) (read : Rewrite) (p : StatePart) (parts : List NumberedPart) (bindings : List Replaced) → AllZip (IsRuleAt t) earlier found →
+pub turn_told : (t : Theory) (used : List Text) (s : SymbolicState) (place priority : ℕ) (earlier : List PlacedTurn) (found : List RewriteRule) (read : Rewrite) (p : StatePart) (parts : List NumberedPart) (bindings : List Replaced) → AllZip (IsRuleAt t) earlier found → IsSortedState t.signature s → AllMeet t.signature s found →
     IsReadAs t place read → IsPriorityAt t place priority → IsMetIn t read bindings p → AreTurnParts t used s place found p parts → (¬ (parts ≡ [])) →
     (i : IsTurnAt t used (whole s) (record { place = place; priority = priority; parts = parts; bindings = bindings })) × AllByRecursion (λ n. (r : RewriteRule) → IsAt t n.place r → Contains i.before r) earlier
-turn_told t used s place priority earlier found read p parts bindings z r told met a some =
+turn_told t used s place priority earlier found read p parts bindings z sorted all r told met a some =
     let body : a.rule.body ≡ rewrite read = subst (λ q. q.body ≡ rewrite read) (one_at t place r.0 a.rule r.1 a.at) r.2 in (
       record {
         rule = a.rule;
@@ -146,6 +190,8 @@ turn_told t used s place priority earlier found read p parts bindings z r told m
         is_met = met;
         before = found;
         of_theory = rules_in_theory t earlier found z;
+        meets = some_part_meets t.signature s a.rule found (parts_of parts) sorted (λ e. some (no_parts parts e)) a.left.left.divided.below a.left.left.only a.instances;
+        before_meet = all;
         left = a.left;
         some = some;
         instances = a.instances;

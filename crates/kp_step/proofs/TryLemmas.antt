@@ -8,7 +8,6 @@ use Rattle.kp_kore.specs.Rules.{Rewrite, RuleBody, rewrite, foreign_rule, Rewrit
 use Rattle.kp_kore.specs.Theory.{Theory}
 use Rattle.kp_kore.specs.Steps.{Fires, HasTurn}
 use Rattle.kp_kore.proofs.ListLemmas.{all_map}
-use Rattle.kp_symbolic.specs.Terms.{Replaced}
 use Rattle.kp_symbolic.specs.States.{SymbolicState}
 use Rattle.kp_cases.specs.Parts.{StatePart, whole, OfEachInstance, with_clauses}
 use Rattle.kp_cases.proofs.PartLemmas.{clauses_restrict, divides_of_these}
@@ -16,12 +15,11 @@ use Rattle.kp_cases.proofs.Excluding.{restricted_alone}
 use Rattle.kp_turns.specs.Firing.{AreWhere}
 use Rattle.kp_turns.specs.Turns.{FiresFirst}
 use Rattle.kp_turns.proofs.FiringLemmas.{firing_part}
-use Rattle.kp_unify.specs.Narrowed.{NumberedPart}
-use Rattle.kp_step.specs.Places.{IsAt, IsReadAs, IsPriorityAt}
+use Rattle.kp_step.specs.Places.{IsAt}
 use Rattle.kp_firing.specs.Ready.{narrowed_by}
 use Rattle.kp_firing.proofs.ComesLemmas.{comes_by_more}
 use Rattle.kp_step.specs.Left.{IsOneOf, AreLeft}
-use Rattle.kp_step.specs.Found.{PlacedTurn, IsRuleAt, IsMetIn, IsTurnAt, IsTurnAmong}
+use Rattle.kp_step.specs.Found.{PlacedTurn, IsRuleAt, IsTurnAmong}
 use Rattle.kp_step.specs.Tries.{PlacedFiring, IsFiringOf, AreTurnParts}
 use Rattle.kp_step.proofs.LeftLemmas.{firing_is_left}
 use Rattle.kp_step.proofs.FoundLemmas.{one_at, at_contains, nothing_left, turns_of}
@@ -77,27 +75,7 @@ nothing_for_it g used r found s m l = record {
   comes = tt;
 }
 
--- parts that are left to it are its turn
-pub turn_at : (t : Theory) (used : List Text) (s : SymbolicState) (place priority : ℕ) (found : List RewriteRule) (read : Rewrite) (p : StatePart) (parts : List NumberedPart) (bindings : List Replaced) → AllByRecursion (Contains t.rules) found →
-    IsReadAs t place read → IsPriorityAt t place priority → IsMetIn t read bindings p → AreTurnParts t used s place found p parts → (¬ (parts ≡ [])) → IsTurnAt t used (whole s) (record { place = place; priority = priority; parts = parts; bindings = bindings })
-turn_at t used s place priority found read p parts bindings members r number met a some =
-    let body : a.rule.body ≡ rewrite read = subst (λ q. q.body ≡ rewrite read) (one_at t place r.0 a.rule r.1 a.at) r.2 in
-    record {
-      rule = a.rule;
-      at = a.at;
-      number = number a.rule read a.at body;
-      read = read;
-      body = body;
-      met_part = p;
-      is_met = met;
-      before = found;
-      of_theory = members;
-      left = a.left;
-      some = some;
-      instances = a.instances;
-    }
-
--- and where there are none, it has no turn
+-- where no parts are left to it, it has no turn
 pub no_turn_at : (t : Theory) (used : List Text) (s : SymbolicState) (place : ℕ) (found : List RewriteRule) (p : StatePart) → AllByRecursion (Contains t.rules) found → AreTurnParts t used s place found p [] → (r : RewriteRule) → IsAt t place r → OfEachInstance t.signature (whole s) (λ w c. ¬ HasTurn t r c)
 no_turn_at t used s place found p members a r at = subst (λ q. OfEachInstance t.signature (whole s) (λ w c. ¬ HasTurn t q c)) (one_at t place a.rule r a.at at) (nothing_left t used (whole s) p found a.rule members a.left)
 

@@ -14,6 +14,10 @@ use Rattle.kp_unify.specs.Narrowed.{NumberedPart}
 use Rattle.kp_unify.specs.declared.part.Part.{Part}
 use Rattle.kp_decide.specs.Read.{HasSortedClauses}
 use Rattle.kp_firing.specs.Ready.{parts_of}
+use Rattle.kp_step.specs.Meets.{MeetsRule, AllMeet}
+use Rattle.kp_step.specs.Counted.{IsMost}
+use Rattle.kp_step.proofs.CountLemmas.{counted_for}
+use Rattle.kp_firing.specs.Comes.{ComesFrom}
 use Rattle.kp_step.specs.Places.{IsAt}
 use Rattle.kp_step.specs.Left.{IsPartIn, AreLeft, falls_away, none_left}
 use Rattle.kp_step.specs.Found.{PlacedTurn, IsRuleAt, IsTurnAt}
@@ -38,11 +42,11 @@ narrowed_sorted t used s place f i = sorted_clauses t.signature (narrowed_of f).
 pub met_sorted : (t : Theory) (used : List Text) (s : SymbolicState) (place : ℕ) (f : PlacedFiring) → IsFiringOf t used s place f → HasSortedClauses t.signature (with_clauses f.part.part f.equations).state
 met_sorted t used s place f i = sorted_clauses t.signature (with_clauses f.part.part f.equations).state i.where_met.safe.sorted
 
-pub can_meet : (t : Theory) (f : PlacedFiring) → MayBe t.signature (with_clauses f.part.part f.equations).state → CanMeet t f
-can_meet t f m = record { answer = m.verdict; right = m.right; may_be = m.not_none }
+pub can_meet : (t : Theory) (s : SymbolicState) (place : ℕ) (f : PlacedFiring) → ((r : RewriteRule) → IsAt t place r → MeetsRule t.signature s r.body) → MayBe t.signature (with_clauses f.part.part f.equations).state → CanMeet t s place f
+can_meet t s place f meets m = record { meets = meets; answer = m.verdict; right = m.right; may_be = m.not_none }
 
 -- a limit of the condition is one of the step
-pub passes_condition : (t : Theory) (used : List Text) (s : SymbolicState) (place : ℕ) (f : PlacedFiring) (x : SymbolicState) (l : TermLimit) → IsFiringOf t used s place f → CanMeet t f → x ≡ (narrowed_of f).part.state → Passes t.signature x l → IsPassed t s l
+pub passes_condition : (t : Theory) (used : List Text) (s : SymbolicState) (place : ℕ) (f : PlacedFiring) (x : SymbolicState) (l : TermLimit) → IsFiringOf t used s place f → CanMeet t s place f → x ≡ (narrowed_of f).part.state → Passes t.signature x l → IsPassed t s l
 passes_condition t used s place f x l i m e p = record {
   state = x;
   which = inr (inl (record {
@@ -51,6 +55,8 @@ passes_condition t used s place f x l i m e p = record {
     firing = record { part = f.part.part; clauses = f.equations ++ f.condition };
     apart = f.apart;
     cases = subst (λ b. AreFiringCases t.signature b (whole s) (Some (record { part = f.part.part; clauses = f.equations ++ f.condition })) f.apart) (sym i.body) i.cases;
+    comes = subst (λ b. ComesFrom t.signature (λ d. d ≡ b) (whole s) (narrowed_of f).part) (sym i.body) i.comes;
+    meets = m.meets i.rule i.at;
     equations = f.equations;
     condition = f.condition;
     are = refl;
@@ -74,17 +80,18 @@ nothing_there t used s place found f i none =
     }
 
 -- the parts that are left to it, as far as that is decided
-pub parts_told : (t : Theory) (used : List Text) (s : SymbolicState) (place : ℕ) (found : List RewriteRule) (f : PlacedFiring) (i : IsFiringOf t used s place f) (turns : List PlacedTurn) (parts : List NumberedPart) (d : decisions.Decided) → AllZip (IsRuleAt t) turns found →
-    AreLeft t.signature used (Some i.rule) found (whole s) f.part.part parts → AreDecided t.signature s parts d → TellsParts t used s place found f.part.part d
-parts_told t used s place found f i turns parts (decided.Parts ks) z l k = record {
+pub parts_told : (t : Theory) (used : List Text) (s : SymbolicState) (place : ℕ) (found : List RewriteRule) (f : PlacedFiring) (i : IsFiringOf t used s place f) (turns : List PlacedTurn) (most : ℕ) (parts : List NumberedPart) (d : decisions.Decided) → AllZip (IsRuleAt t) turns found → MeetsRule t.signature s i.rule.body → AllMeet t.signature s found → IsMost t.signature s (i.rule ∷ found) most →
+    AreLeft t.signature used (Some i.rule) found (whole s) f.part.part parts → AreDecided t.signature s most parts d → TellsParts t used s place found f.part.part d
+parts_told t used s place found f i turns most parts (decided.Parts ks) z own all m l k = record {
   rule = i.rule;
   at = i.at;
   left = kept_is_left t.signature used (Some i.rule) found (whole s) f.part.part parts (numbered_views ks.items) k l;
   instances = kept_have t.signature parts (numbered_views ks.items) k;
 }
-parts_told t used s place found f i turns parts (decided.Open o) z l k =
+parts_told t used s place found f i turns most parts (decided.Open o) z own all m l k =
     let shows = k.2 in
-    (i.rule, i.at, shows.0, shows.1, open_rule t used s f.part.part i.rule i.read found parts k.0 (clauses_view o.shown.items) shows.0 i.body (rules_in_theory t turns found z) l k.1 shows.2)
+    let compares = counted_for t.signature s k.0.part.state (i.rule ∷ found) most shows.0 o.over m k.3 shows.1 in
+    (i.rule, i.at, shows.0, shows.1, open_rule t used s f.part.part i.rule i.read found parts k.0 (clauses_view o.shown.items) shows.0 i.body (rules_in_theory t turns found z) own all l k.1 shows.2 compares)
 
 -- ---- the parts of a turn
 

@@ -1,5 +1,5 @@
 -- What the code finds of parts and rules, and when that is right.
-use Rattle.std.specs.Prelude.{◌≡◌, ℕ, List, [], ◌++◌, ◌∷◌, Option, Some, None, map}
+use Rattle.std.specs.Prelude.{◌≡◌, ℕ, List, [], ◌++◌, ◌∷◌, Option, Some, None, map, ⊤}
 use Rattle.std.specs.List.{AllByRecursion, Contains}
 use Rattle.kp_kore.specs.Syntax.{Text}
 use Rattle.kp_kore.specs.Signature.{KoreSignature}
@@ -9,11 +9,15 @@ use Rattle.kp_kore.specs.Steps.{Fires, HasTurn, IsUnknownBy, IsUnknown}
 use Rattle.kp_symbolic.specs.States.{SymbolicState}
 use Rattle.kp_symbolic.specs.Verdicts.{Weighed, undecided, IsRightVerdict}
 use Rattle.kp_decide.specs.Answers.{IsWeighedAs}
+use Rattle.kp_decide.specs.Read.{HasSortedClauses}
+use Rattle.kp_rules.specs.Skeletons.{Form}
 use Rattle.kp_symbolic.specs.View.{clauses_view, replaced_view}
 use Rattle.kp_cases.specs.Parts.{StatePart, whole, OfEachInstance}
 use Rattle.kp_turns.specs.Firing.{HasNoInstance}
 use Rattle.kp_unify.specs.Narrowed.{NumberedPart}
 use Rattle.kp_unify.specs.Views.{numbered_view}
+use Rattle.kp_overlap.specs.Overlaps.{MeetsForm}
+use Rattle.kp_step.specs.Counted.{most_for, IsCounted}
 use Rattle.kp_firing.specs.declared.firing.Firing.{Firing}
 use Rattle.kp_step.specs.Places.{IsAt}
 use Rattle.kp_firing.specs.Ready.{HasInstance, parts_of}
@@ -50,10 +54,31 @@ IsRightAnswerOf g s p answer.Instance = HasInstance g (whole p)
 IsRightAnswerOf g s p answer.Nothing = HasNoInstance g (whole p)
 IsRightAnswerOf g s p (answer.Open o) = ShowsOf g s p o
 
--- those of the parts that have an instance, or what is shown of one of them
-abbrev pub AreDecided : KoreSignature → SymbolicState → List NumberedPart → decisions.Decided → Type 0
-AreDecided g s ps (decided.Parts ks) = AreKept g ps (numbered_views ks.items)
-AreDecided g s ps (decided.Open o) = (q : NumberedPart) × Contains ps q × ShowsOf g s q.part.state o
+-- the left side meets the state where the part has an instance
+abbrev pub AreMet : KoreSignature → SymbolicState → Form → SymbolicState → Type 0
+AreMet g s left p = OfEachInstance g (whole p) (λ w c. MeetsForm g s.sort s.term left)
+
+-- what is answered of such a part: where it has an instance, or that is open, the left side meets the state
+pub record IsMetAnswer (g : KoreSignature) (s p : SymbolicState) (left : Form) (a : answers.PartAnswer) : Type 0 where
+  pub right : IsRightAnswerOf g s p a
+  pub meets : ¬ (a ≡ answer.Nothing) → MeetsForm g s.sort s.term left
+
+abbrev pub TellsWhereMet : KoreSignature → SymbolicState → SymbolicState → Form → answers.PartAnswer → Type 0
+TellsWhereMet g s p left a = HasSortedClauses g p → AreMet g s left p → IsMetAnswer g s p left a
+
+-- where it is left open with a weight, it compares no more whole-number variables than so many
+abbrev pub IsCountedAnswer : KoreSignature → SymbolicState → ℕ → answers.PartAnswer → Type 0
+IsCountedAnswer g p most (answer.Open o) = IsCounted g p most o.over
+IsCountedAnswer g p most a = ⊤
+
+-- what is answered where a foreign rule's left side is met
+abbrev pub IsForeignAnswer : KoreSignature → SymbolicState → SymbolicState → Form → answers.PartAnswer → Type 0
+IsForeignAnswer g s p left a = IsMetAnswer g s p left a × IsCountedAnswer g p (most_for g s (left ∷ [])) a
+
+-- those of the parts that have an instance, or what is shown of one of them, where so many whole-number variables may be compared
+abbrev pub AreDecided : KoreSignature → SymbolicState → ℕ → List NumberedPart → decisions.Decided → Type 0
+AreDecided g s most ps (decided.Parts ks) = AreKept g ps (numbered_views ks.items)
+AreDecided g s most ps (decided.Open o) = (q : NumberedPart) × Contains ps q × ShowsOf g s q.part.state o × IsCounted g q.part.state most o.over
 
 -- ---- what rules leave
 

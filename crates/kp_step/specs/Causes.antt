@@ -16,6 +16,8 @@ use Rattle.kp_turns.specs.Firing.{AreWhere}
 use Rattle.kp_turns.specs.Turns.{NoneGoesBefore, NoneOfThese}
 use Rattle.kp_firing.specs.Comes.{ComesFrom}
 use Rattle.kp_step.specs.Left.{IsOneOf}
+use Rattle.kp_step.specs.Meets.{MeetsRule}
+use Rattle.kp_step.specs.Counted.{these_rules, ComparesWithin}
 use Rattle.kp_step.specs.Places.{IsAt}
 
 -- ---- clauses that aren't decided
@@ -38,16 +40,19 @@ IsShownOf g s p shown None = IsOpen g p shown
 IsShownOf g s p shown (Some h) = IsTooHeavy g p shown h × (rough_clauses g s ≡ [])
 
 -- It isn't decided whether one of the parts where something is asked has an instance. That part comes of the state, of the rule
--- and of those that take from it: nothing else stands in it.
+-- and of those that take from it, and nothing else stands in it; each of these rules meets the state. Where a
+-- weight is told, no more whole-number variables are compared than stand in the state and in these rules' left sides.
 pub record IsLeftOpen (t : Theory) (s : SymbolicState) (rule : Option RewriteRule) (shown : List (List Literal)) (over : Option Weighed) : Type 0 where
   pub turns : List RewriteRule
   pub of_theory : AllByRecursion (Contains t.rules) turns
+  pub meets : (body : RuleBody) → IsOneOf rule turns body → MeetsRule t.signature s body
   pub parts : List StatePart
   pub asked : AreWhere t.signature (IsAsked t.signature rule turns) (whole s) parts
   pub part : StatePart
   pub among : Contains parts part
   pub comes : ComesFrom t.signature (IsOneOf rule turns) (whole s) part
   pub shows : IsShownOf t.signature s part.state shown over
+  pub compares : ComparesWithin t.signature s part.state (these_rules rule turns) over
 
 -- ---- foreign rules
 

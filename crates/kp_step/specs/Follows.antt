@@ -2,12 +2,12 @@
 -- Source: K's rewrite rules (right sides, ensured conditions, new variables).
 use Rattle.std.specs.Prelude.{◌≡◌, ◌↔◌, ℕ, not, List, [], ◌∷◌, ◌++◌}
 use Rattle.std.specs.List.{AllZip, filter}
-use Rattle.kp_kore.specs.Syntax.{Text}
+use Rattle.kp_kore.specs.Syntax.{Text, KoreSort}
 use Rattle.kp_kore.specs.Parts.{SortedName}
 use Rattle.kp_kore.specs.Signature.{KoreSignature}
 use Rattle.kp_kore.specs.Value.{Value}
 use Rattle.kp_kore.specs.Instance.{Valuation, GivesSorts, is_named}
-use Rattle.kp_kore.specs.Rules.{RuleBody, RewriteRule}
+use Rattle.kp_kore.specs.Rules.{Rewrite, RuleBody, rewrite, RewriteRule}
 use Rattle.kp_kore.specs.Theory.{Theory}
 use Rattle.kp_symbolic.specs.Terms.{Replaced}
 use Rattle.kp_symbolic.specs.States.{SymbolicState, IsStateInstance}
@@ -16,15 +16,35 @@ use Rattle.kp_symbolic.specs.WellFormed.{AreAtHand}
 use Rattle.kp_cases.specs.Parts.{StatePart, whole, IsGrown}
 use Rattle.kp_turns.specs.NextStates.{FollowsBy}
 use Rattle.kp_unify.specs.Narrowed.{NumberedPart}
+use Rattle.kp_solving.specs.Further.{constrained}
+use Rattle.kp_firing.specs.Conditions.{condition_clauses}
+use Rattle.kp_step.specs.Meets.{IsLaidBy}
 use Rattle.kp_step.specs.Places.{IsAt}
 use Rattle.kp_firing.specs.Ready.{IsReadyPart}
 use Rattle.kp_step.specs.Ready.{IsReadyState}
 use Rattle.kp_step.specs.Found.{PlacedTurn}
+use Rattle.kp_step.specs.Rights.{ChosenNew, AreChosen, moved_state}
 
--- The state's instances are what the rule rewrites those of the part to. It has the part's variables, and new ones besides; a
--- step may go on from it.
+-- what a rule's variables stand for behind it, but for those of the name of a new one, which hide them
+abbrev pub kept_bindings : List SortedName → List Replaced → List Replaced
+kept_bindings new bindings = filter (λ b. not (is_named b.name new)) bindings
+
+-- what the rule's variables stand for in what follows: what its left side binds, and new variables with the next names for its new ones
+abbrev pub bindings_behind : Rewrite → List Replaced → ChosenNew → List Replaced
+bindings_behind m bindings c = kept_bindings m.new_variables bindings ++ c.bindings
+
+-- By form: the rule's right term, with these terms in its variables' places, where the part's clauses and what the rule ensures are true, its
+-- equations solved; or the part with a clause that is never true, where a new variable's sort has no value.
+pub data IsMovedBy (g : KoreSignature) (used : List Text) (m : Rewrite) (p : StatePart) : SymbolicState → Type 0 where
+  moves : (met : StatePart) (bindings : List Replaced) (from : ℕ) (c : ChosenNew) (sort : KoreSort) (x : SymbolicState) → IsLaidBy g m bindings met → AreChosen used m.new_variables from c →
+      Solving g (constrained (moved_state g p (bindings_behind m bindings c) c.new sort m.right) (condition_clauses g (bindings_behind m bindings c) m.ensured)) x → IsMovedBy g used m p x
+  never : IsMovedBy g used m p (constrained p.state ([] ∷ []))
+
+-- The state's instances are what the rule rewrites those of the part to, and it is made so by form. It has the part's variables, and new
+-- ones besides; a step may go on from it.
 pub record IsNextOf (g : KoreSignature) (used : List Text) (s : StatePart) (body : RuleBody) (p : StatePart) (next : SymbolicState) (after : ℕ) : Type 0 where
   pub follows : FollowsBy g body p next
+  pub moved : (m : Rewrite) → body ≡ rewrite m → IsMovedBy g used m p next
   pub at_hand : AreAtHand p.state.variables next.variables
   pub grown : IsGrown g used s (whole next)
   pub ready : IsReadyState g used next after
@@ -54,7 +74,3 @@ pub record IsSolvedPart (g : KoreSignature) (used : List Text) (q r : NumberedPa
   pub solving : Solving g q.part.state r.part.state
   pub same : (w : Valuation) (c : Value) → GivesSorts g w q.part.state.variables → IsStateInstance g w q.part.state c ↔ IsStateInstance g w r.part.state c
   pub ready : IsReadyPart g used r
-
--- what a rule's variables stand for behind it, but for those of the name of a new one, which hide them
-abbrev pub kept_bindings : List SortedName → List Replaced → List Replaced
-kept_bindings new bindings = filter (λ b. not (is_named b.name new)) bindings

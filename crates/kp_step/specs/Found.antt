@@ -17,6 +17,7 @@ use Rattle.kp_cases.specs.Cases.{IsMetBy, left_side}
 use Rattle.kp_cases.specs.Courses.{IsBoundTo}
 use Rattle.kp_rules.specs.LeftSides.{IsLeftSide, IsOverLeft}
 use Rattle.kp_unify.specs.Narrowed.{NumberedPart}
+use Rattle.kp_step.specs.Meets.{MeetsRule, AllMeet, IsLaidBy}
 use Rattle.kp_step.specs.Places.{IsAt}
 use Rattle.kp_firing.specs.Ready.{HasInstance, parts_of}
 use Rattle.kp_step.specs.Left.{AreLeft}
@@ -40,13 +41,14 @@ pub record IsMetIn (t : Theory) (read : Rewrite) (bindings : List Replaced) (m :
   pub over : IsOverLeft read
   pub equations : List (List Literal)
   pub is_met : IsMetBy t.signature (left_side t.signature form) (record { part = m; equations = equations; bindings = bindings })
+  pub laid : IsLaidBy t.signature read bindings m
   pub bound : AllByRecursion (IsBoundTo t.signature m bindings) (free_variables read.left)
   pub at_hand : AllByRecursion (λ b. AreAtHand (term_variables b.term) m.state.variables) bindings
   pub placed : AreWellPlaced t.signature bindings (free_variables read.left)
   pub normal : PutNormal t.signature bindings
 
 -- the rule of the place is read, and its parts, of which there are some, each with an instance, are those that the rules found
--- before leave to it
+-- before leave to it; all of these rules meet the state
 pub record IsTurnAt (t : Theory) (used : List Text) (s : StatePart) (k : PlacedTurn) : Type 0 where
   pub rule : RewriteRule
   pub at : IsAt t k.place rule
@@ -57,6 +59,8 @@ pub record IsTurnAt (t : Theory) (used : List Text) (s : StatePart) (k : PlacedT
   pub is_met : IsMetIn t read k.bindings met_part
   pub before : List RewriteRule
   pub of_theory : AllByRecursion (Contains t.rules) before
+  pub meets : MeetsRule t.signature s.state rule.body
+  pub before_meet : AllMeet t.signature s.state before
   pub left : AreLeft t.signature used (Some rule) before s met_part k.parts
   pub some : ¬ (k.parts ≡ [])
   pub instances : AllByRecursion (HasInstance t.signature) (parts_of k.parts)

@@ -1,10 +1,13 @@
 pub mod Places
+pub mod Meets
 pub mod Rules
 pub mod OneSort
 pub mod Ready
 pub mod Left
 pub mod Found
+pub mod Rights
 pub mod Follows
+pub mod Counted
 pub mod Causes
 pub mod Limits
 pub mod Views
@@ -12,6 +15,5 @@ pub mod Outcomes
 pub mod Tries
 pub mod Answers
 pub mod Implied
-pub mod Rights
 pub mod Chosen
 pub mod Promises

@@ -1,9 +1,10 @@
 -- Which limits a step may pass: numbers beyond 128 bits, and deep terms.
 -- Source: this project.
-use Rattle.std.specs.Prelude.{◌≡◌, ◌⊎◌, ℕ, List, ◌++◌, Some, None}
+use Rattle.std.specs.Prelude.{◌≡◌, ◌⊎◌, ℕ, List, ◌++◌, Some, None, MatchOption}
 use Rattle.std.specs.List.{Contains}
+use Rattle.kp_kore.specs.Syntax.{Text}
 use Rattle.kp_kore.specs.Signature.{KoreSignature}
-use Rattle.kp_kore.specs.Rules.{RewriteRule}
+use Rattle.kp_kore.specs.Rules.{Rewrite, RuleBody, rewrite, RewriteRule}
 use Rattle.kp_kore.specs.Theory.{Theory}
 use Rattle.kp_symbolic.specs.States.{Literal, SymbolicState}
 use Rattle.kp_symbolic.specs.Verdicts.{Verdict, no_valuation, IsRightVerdict}
@@ -12,6 +13,10 @@ use Rattle.kp_simplify.specs.Answers.{first_deep, state_sides}
 use Rattle.kp_cases.specs.Parts.{StatePart, whole, with_clauses}
 use Rattle.kp_turns.specs.Firing.{FiringPart, AreFiringCases}
 use Rattle.kp_turns.specs.NextStates.{StepCase, AreStepCases}
+use Rattle.kp_firing.specs.Comes.{ComesFrom}
+use Rattle.kp_step.specs.Meets.{MeetsRule}
+use Rattle.kp_step.specs.Left.{IsOfTheory}
+use Rattle.kp_step.specs.Follows.{IsMovedBy}
 
 -- the first call of two numbers in the state whose number leaves 128 bits, or the levels of its first term that has too many
 pub data TermLimit : Type 0 where
@@ -25,13 +30,16 @@ Passes g s (depth n) = first_deep g (state_sides s) ≡ Some n
 abbrev pub PassesNone : KoreSignature → SymbolicState → Type 0
 PassesNone g s = (first_wide g s ≡ None) × (first_deep g (state_sides s) ≡ None)
 
--- the state that a rule meets, with the clauses under which it fires there; it isn't known that its left side meets no instance
+-- the part that a rule's left side meets, with the clauses under which it fires there: it comes of the state and of the rule; the rule
+-- meets the state, and it isn't known that its left side meets no instance
 pub record IsConditionOf (t : Theory) (s x : SymbolicState) : Type 0 where
   pub rule : RewriteRule
   pub of_theory : Contains t.rules rule
   pub firing : FiringPart
   pub apart : List StatePart
   pub cases : AreFiringCases t.signature rule.body (whole s) (Some firing) apart
+  pub comes : ComesFrom t.signature (λ b. b ≡ rule.body) (whole s) (with_clauses firing.part firing.clauses)
+  pub meets : MeetsRule t.signature s rule.body
   pub equations : List (List Literal)
   pub condition : List (List Literal)
   pub are : firing.clauses ≡ equations ++ condition
@@ -47,11 +55,23 @@ with_more s clauses = record { term = s.term; sort = s.sort; clauses = s.clauses
 abbrev pub told_state : StepCase → SymbolicState
 told_state k = with_more k.next k.part.added
 
+-- a rule of the theory that meets the state
+abbrev pub IsRuleMet : Theory → SymbolicState → RuleBody → Type 0
+IsRuleMet t s b = IsOfTheory t b × MeetsRule t.signature s b
+
+-- by form, the case's part comes of the state and of rules that meet it, and its next state of the rule's right side; where no rule fires,
+-- it is the part's own
+pub record IsCaseMade (t : Theory) (s : SymbolicState) (k : StepCase) : Type 0 where
+  pub comes : ComesFrom t.signature (IsRuleMet t s) (whole s) k.part
+  pub used : List Text
+  pub next : MatchOption k.rule (k.next ≡ k.part.state) (λ r. IsRuleMet t s r.body × ((m : Rewrite) → r.body ≡ rewrite m → IsMovedBy t.signature used m k.part k.next))
+
 pub record IsWrittenOf (t : Theory) (s x : SymbolicState) : Type 0 where
   pub cases : List StepCase
   pub are : AreStepCases t s cases
   pub one : StepCase
   pub among : Contains cases one
+  pub made : IsCaseMade t s one
   pub is : x ≡ told_state one
 
 -- a limit is passed by the state, by a rule's condition, or by what is written for a case of the step

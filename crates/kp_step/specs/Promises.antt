@@ -1,6 +1,6 @@
 -- What the calls promise that make a step, by name.
 -- Source: this project.
-use Rattle.std.specs.Prelude.{◌≡◌, ◌∷◌, ◌++◌, [], ℕ, ⊤, Bool, IsTrue, List, Vec, Option, Some, None, Result, IfOk, MatchOption, map}
+use Rattle.std.specs.Prelude.{◌≡◌, ◌+◌, ◌∷◌, ◌++◌, [], ℕ, ⊤, Bool, IsTrue, List, Vec, Option, Some, None, Result, IfOk, MatchOption, map}
 use Rattle.std.specs.List.{AllByRecursion, AllZip}
 use Rattle.std.specs.declared.alloc.Global.{Global}
 use Rattle.kp_kore.specs.Syntax.{Text, KoreSort}
@@ -13,13 +13,18 @@ use Rattle.kp_kore.specs.View.{view}
 use Rattle.kp_heads.specs.Heads.{HasValue}
 use Rattle.kp_symbolic.specs.States.{SymbolicState}
 use Rattle.kp_symbolic.specs.Terms as terms
+use Rattle.kp_symbolic_laws.specs.Runs.{IsSortedState}
 use Rattle.kp_symbolic.specs.View.{clauses_view, replaced_view, state_view}
 use Rattle.kp_symbolic.specs.declared.atom.Replaced.{Replaced}
 use Rattle.kp_symbolic.specs.declared.state.State.{State}
 use Rattle.kp_solving.specs.Further.{constrained}
 use Rattle.kp_rules.specs.Sides.{AreSidesOf}
 use Rattle.kp_rules.specs.VerifiedSides.{AreVerifiedSides}
-use Rattle.kp_rules.specs.Skeletons.{Form}
+use Rattle.kp_rules.specs.Skeletons.{Form, skeleton_view}
+use Rattle.kp_symbolic.specs.Shown.{sum_over}
+use Rattle.kp_compared.specs.Compared.{numeric_places}
+use Rattle.kp_step.specs.Counted.{AreLeftsOf, IsMost}
+use Rattle.kp_firing.specs.Comes.{IsFormOf}
 use Rattle.kp_rules.specs.declared.rule.Rewrite as code
 use Rattle.kp_rules.specs.declared.sides.ReadSides.{ReadSides}
 use Rattle.kp_rules.specs.declared.skeleton.Skeleton.{Skeleton}
@@ -37,14 +42,15 @@ use Rattle.kp_firing.specs.Ready.{IsReadyPart, HasInstance}
 use Rattle.kp_firing.specs.declared.firing.Firing.{Firing}
 use Rattle.kp_step.specs.Rules.{Steps, IsReadBy, IsReadAt, IsForeignAt, IsStepFrom}
 use Rattle.kp_step.specs.Places.{IsReadAs, IsPriorityAt}
+use Rattle.kp_step.specs.Meets.{MeetsRule, AllMeet}
 use Rattle.kp_step.specs.Ready.{IsReadyState, IsWholeReady}
 use Rattle.kp_step.specs.Limits.{Passes, PassesNone, IsPassed}
 use Rattle.kp_step.specs.Left.{IsPartIn, AreLeft, IsNumberOf, OneTakesAll}
 use Rattle.kp_step.specs.Found.{PlacedTurn, IsRuleAt, IsMetIn, IsTurnAt, AreAllFound}
-use Rattle.kp_step.specs.Tries.{PlacedFiring, narrowed_of, IsFiringOf, CanMeet, AreTurnParts, AreRemaining}
+use Rattle.kp_step.specs.Tries.{PlacedFiring, narrowed_of, IsLeftAt, IsFiringOf, CanMeet, AreTurnParts, AreRemaining}
 use Rattle.kp_step.specs.Follows.{IsNextOf, IsNextAt, AreNextsOf, IsSolvedPart}
 use Rattle.kp_step.specs.Rights.{moved_state}
-use Rattle.kp_step.specs.Answers.{IsRightAnswerOf, ShowsOf, AreDecided, AreWithout, TellsForeign, TellsTurn, TellsParts, TellsRemainder, firing_model}
+use Rattle.kp_step.specs.Answers.{IsForeignAnswer, ShowsOf, AreDecided, AreWithout, TellsForeign, TellsTurn, TellsParts, TellsRemainder, firing_model}
 use Rattle.kp_step.specs.Views.{numbered_views, turn_view, next_view, limit_view}
 use Rattle.kp_step.specs.Outcomes.{IsRightStep}
 use Rattle.kp_step.specs.declared.answers.PartAnswer.{PartAnswer}
@@ -68,8 +74,31 @@ abbrev pub TellsLimitAmong : KoreSignature → List SymbolicState → Option Ste
 TellsLimitAmong g ss o = MatchOption o (AllByRecursion (λ x. PassesNone g x) ss) (λ l. AnyByRecursion (λ x. Passes g x (limit_view l)) ss)
 
 -- those of the parts that have an instance, or what is shown of one, where a rule can be tried on each
-abbrev pub DecidesParts : KoreSignature → SymbolicState → List NumberedPart → Decided → Type 0
-DecidesParts g s parts d = (used : List Text) → AllByRecursion (IsReadyPart g used) parts → AreDecided g s parts d
+abbrev pub DecidesParts : KoreSignature → SymbolicState → ℕ → List NumberedPart → Decided → Type 0
+DecidesParts g s most parts d = (used : List Text) → AllByRecursion (IsReadyPart g used) parts → AreDecided g s most parts d
+
+-- the count with the places in the left side of the turn's rule at which a whole-number variable stands, or a number
+abbrev pub CountsTurn : {E : Type 0} → Setting → RuleSet → Turn → ℕ → Result ℕ E → Type 0
+CountsTurn setting rules turn count result =
+    (t : Theory) (r : RewriteRule) → Steps t setting rules → IsRuleAt t (turn_view turn) r →
+    IfOk result (λ n. (left : Form) × IsFormOf t.signature r.body left × (n ≡ count + numeric_places t.signature left))
+
+-- the same of the rules of all turns
+abbrev pub CountsTurns : {E : Type 0} → Setting → RuleSet → List Turn → ℕ → Result ℕ E → Type 0
+CountsTurns setting rules turns begun result =
+    (t : Theory) (found : List RewriteRule) → Steps t setting rules → AllZip (IsRuleAt t) (map turn_view turns) found →
+    IfOk result (λ n. (lefts : List Form) × AreLeftsOf t.signature found lefts × (n ≡ begun + sum_over (numeric_places t.signature) lefts))
+
+-- what may be compared of the state, where the rules of these turns take from what is left to none
+abbrev pub MostOfTurns : {E : Type 0} → Setting → RuleSet → List Turn → SymbolicState → Result ℕ E → Type 0
+MostOfTurns setting rules turns s result =
+    (t : Theory) (found : List RewriteRule) → Steps t setting rules → AllZip (IsRuleAt t) (map turn_view turns) found → IfOk result (IsMost t.signature s found)
+
+-- and where they take from what is left to a rule of this left side
+abbrev pub MostWithLeft : {E : Type 0} → Setting → RuleSet → List Turn → SymbolicState → Form → Result ℕ E → Type 0
+MostWithLeft setting rules turns s left result =
+    (t : Theory) (r : RewriteRule) (found : List RewriteRule) → Steps t setting rules → IsFormOf t.signature r.body left → AllZip (IsRuleAt t) (map turn_view turns) found →
+    IfOk result (IsMost t.signature s (r ∷ found))
 
 -- ---- foreign rules
 
@@ -77,12 +106,13 @@ DecidesParts g s parts d = (used : List Text) → AllByRecursion (IsReadyPart g 
 abbrev pub OfEachStep : Setting → RuleSet → Part → (Theory → List Text → SymbolicState → Type 0) → Type 0
 OfEachStep setting rules p Told = (t : Theory) (used : List Text) (s : SymbolicState) → IsStepFrom t used s setting rules (numbered_view p) → Told t used s
 
--- of a part that a left side meets: whether it has an instance, where the equations are true
-abbrev pub TellsMet : {E : Type 0} → KoreSignature → Part → MetPart → Result PartAnswer E → Type 0
-TellsMet g p met result =
-    (used : List Text) (s : SymbolicState) (left : Form) (apart : List NumberedPart) →
+-- of a part that a left side meets: whether it has an instance, where the equations are true, and that the left side meets the state, if
+-- it has or that is open
+abbrev pub TellsMet : {E : Type 0} → KoreSignature → Part → Skeleton → MetPart → Result PartAnswer E → Type 0
+TellsMet g p k met result =
+    (used : List Text) (s : SymbolicState) (apart : List NumberedPart) → let left = skeleton_view k in
     IsWholeReady g used s (numbered_view p) → IsMeeting g used left (part_view p) (met_view met) met.part.next apart →
-    IfOk result (IsRightAnswerOf g s (with_clauses (part_view met.part) (clauses_view met.equations.items)).state)
+    IfOk result (IsForeignAnswer g s (with_clauses (part_view met.part) (clauses_view met.equations.items)).state left)
 
 -- whether the foreign rule of each place whose left side this skeleton is might rewrite an instance of the whole of a state
 abbrev pub TellsSkeletonMeets : {E : Type 0} → Setting → Part → Skeleton → Result PartAnswer E → Type 0
@@ -137,55 +167,63 @@ LeavesTo setting rules turns priority part result =
 
 -- ---- turns
 
--- of the rule of each place that fires so on the whole of a state
-abbrev pub WhereFiringIs : Setting → Part → Firing → (Theory → SymbolicState → Type 0) → Type 0
-WhereFiringIs setting p f Told =
+-- of the rule of each place that has this left side and fires so on the whole of a state
+abbrev pub WhereFiringIs : Setting → Part → Skeleton → Firing → (Theory → SymbolicState → ℕ → Type 0) → Type 0
+WhereFiringIs setting p k f Told =
     (t : Theory) (used : List Text) (s : SymbolicState) (place : ℕ) →
-    signature_of setting ≡ t.signature → IsSetting used setting → IsWholeReady t.signature used s (numbered_view p) → IsFiringOf t used s place (firing_model f) → Told t s
+    signature_of setting ≡ t.signature → IsSetting used setting → IsWholeReady t.signature used s (numbered_view p) → IsLeftAt t place k → IsFiringOf t used s place (firing_model f) → Told t s place
 
--- where it is told, it isn't known that the left side stands for no instance
-abbrev pub TellsMayMeet : {E : Type 0} → Setting → Part → Firing → Result Bool E → Type 0
-TellsMayMeet setting p f result = WhereFiringIs setting p f (λ t s. IfOk result (λ b. IsTrue b → CanMeet t (firing_model f)))
+-- where it is told, the rule meets the state, and it isn't known that its left side stands for no instance
+abbrev pub TellsMayMeet : {E : Type 0} → Setting → Part → Skeleton → Firing → Result Bool E → Type 0
+TellsMayMeet setting p k f result = WhereFiringIs setting p k f (λ t s place. IfOk result (λ b. IsTrue b → CanMeet t s place (firing_model f)))
 
 -- a limit that is told is passed, where the narrowed state is that on which the rule fires
-abbrev pub TellsWideCondition : {E : Type 0} → Setting → Part → Firing → State → Result (Option StepLimit) E → Type 0
-TellsWideCondition setting p f narrowed result =
-    WhereFiringIs setting p f (λ t s. state_view narrowed ≡ (narrowed_of (firing_model f)).part.state → IfOk result (λ o. MatchOption o ⊤ (λ l. IsPassed t s (limit_view l))))
+abbrev pub TellsWideCondition : {E : Type 0} → Setting → Part → Skeleton → Firing → State → Result (Option StepLimit) E → Type 0
+TellsWideCondition setting p k f narrowed result =
+    WhereFiringIs setting p k f (λ t s place. state_view narrowed ≡ (narrowed_of (firing_model f)).part.state → IfOk result (λ o. MatchOption o ⊤ (λ l. IsPassed t s (limit_view l))))
 
--- the parts of a rule's turn, of the part where it fires
-abbrev pub TellsTurnParts : {E : Type 0} → Setting → RuleSet → List Turn → Part → ℕ → Part → Result Decided E → Type 0
-TellsTurnParts setting rules turns p priority part result =
-    (t : Theory) (used : List Text) (s : SymbolicState) (place : ℕ) (found : List RewriteRule) →
-    IsStepFrom t used s setting rules (numbered_view p) → IsPriorityAt t place priority → AllZip (IsRuleAt t) (map turn_view turns) found →
-    (f : PlacedFiring) → IsFiringOf t used s place f → numbered_view part ≡ narrowed_of f → IfOk result (TellsParts t used s place found f.part.part)
+-- behind these turns, of the rules that are found so far, which meet the state
+abbrev pub BehindTurns : Setting → RuleSet → List Turn → Part → (Theory → List Text → SymbolicState → List RewriteRule → Type 0) → Type 0
+BehindTurns setting rules turns p Told =
+    (t : Theory) (used : List Text) (s : SymbolicState) (found : List RewriteRule) →
+    IsStepFrom t used s setting rules (numbered_view p) → AllZip (IsRuleAt t) (map turn_view turns) found → AllMeet t.signature s found → Told t used s found
+
+-- the parts of the turn of the rule of this number, of the part where it fires
+abbrev pub IsTurnToldBy : {E : Type 0} → ℕ → Part → Result Decided E → Theory → List Text → SymbolicState → List RewriteRule → ℕ → PlacedFiring → Type 0
+IsTurnToldBy priority part result t used s found place f =
+    IsPriorityAt t place priority → numbered_view part ≡ narrowed_of f → IfOk result (TellsParts t used s place found f.part.part)
+
+-- of the rule of each place that has this left side
+abbrev pub TellsTurnParts : {E : Type 0} → Setting → RuleSet → List Turn → Part → Skeleton → ℕ → Part → Result Decided E → Type 0
+TellsTurnParts setting rules turns p k priority part result =
+    BehindTurns setting rules turns p (λ t used s found. (place : ℕ) (f : PlacedFiring) → IsLeftAt t place k → IsFiringOf t used s place f → IsTurnToldBy priority part result t used s found place f)
+
+-- and meets the state
+abbrev pub TellsPartsLeft : {E : Type 0} → Setting → RuleSet → List Turn → Part → Skeleton → ℕ → Part → Result Decided E → Type 0
+TellsPartsLeft setting rules turns p k priority part result =
+    BehindTurns setting rules turns p (λ t used s found. (place : ℕ) (f : PlacedFiring) → IsLeftAt t place k → (i : IsFiringOf t used s place f) → MeetsRule t.signature s i.rule.body → IsTurnToldBy priority part result t used s found place f)
 
 -- the turn of the rule that is read at the place, if these parts are some
 abbrev pub MakesTurn : ℕ → ℕ → Vec Part Global → Vec Replaced Global → Tried → Type 0
 MakesTurn place priority parts bindings made =
     (t : Theory) (used : List Text) (s : SymbolicState) (earlier : List PlacedTurn) (found : List RewriteRule) (m : Rewrite) (p : StatePart) →
-    AllZip (IsRuleAt t) earlier found → IsReadAs t place m → IsPriorityAt t place priority → IsMetIn t m (map replaced_view bindings.items) p →
+    AllZip (IsRuleAt t) earlier found → IsSortedState t.signature s → AllMeet t.signature s found → IsReadAs t place m → IsPriorityAt t place priority → IsMetIn t m (map replaced_view bindings.items) p →
     AreTurnParts t used s place found p (numbered_views parts.items) → TellsTurn t used s earlier place made
 
 -- what is found of the rule of the place, behind these turns
 abbrev pub TriesRule : {E : Type 0} → Setting → RuleSet → List Turn → Part → ℕ → Result Tried E → Type 0
-TriesRule setting rules turns p place result =
-    (t : Theory) (used : List Text) (s : SymbolicState) (found : List RewriteRule) →
-    IsStepFrom t used s setting rules (numbered_view p) → AllZip (IsRuleAt t) (map turn_view turns) found →
-    IfOk result (TellsTurn t used s (map turn_view turns) place)
+TriesRule setting rules turns p place result = BehindTurns setting rules turns p (λ t used s found. IfOk result (TellsTurn t used s (map turn_view turns) place))
 
 -- the same where the place's rule is read, with these sides
 abbrev pub TriesSides : {E : Type 0} → Setting → RuleSet → List Turn → Part → ℕ → ReadSides → Result Tried E → Type 0
 TriesSides setting rules turns p place sides result =
-    (t : Theory) (used : List Text) (s : SymbolicState) (found : List RewriteRule) (m : Rewrite) →
-    IsStepFrom t used s setting rules (numbered_view p) → AllZip (IsRuleAt t) (map turn_view turns) found →
-    IsReadAs t place m → AreSidesOf t.signature m sides → AreVerifiedSides t.signature m → IfOk result (TellsTurn t used s (map turn_view turns) place)
+    BehindTurns setting rules turns p (λ t used s found. (m : Rewrite) → IsReadAs t place m → AreSidesOf t.signature m sides → AreVerifiedSides t.signature m →
+    IfOk result (TellsTurn t used s (map turn_view turns) place))
 
--- the same where the place's rule fires so
-abbrev pub TriesFiring : {E : Type 0} → Setting → RuleSet → List Turn → Part → ℕ → Firing → Result Tried E → Type 0
-TriesFiring setting rules turns p place f result =
-    (t : Theory) (used : List Text) (s : SymbolicState) (found : List RewriteRule) →
-    IsStepFrom t used s setting rules (numbered_view p) → AllZip (IsRuleAt t) (map turn_view turns) found → IsFiringOf t used s place (firing_model f) →
-    IfOk result (TellsTurn t used s (map turn_view turns) place)
+-- the same where the place's rule has this left side and fires so
+abbrev pub TriesFiring : {E : Type 0} → Setting → RuleSet → List Turn → Part → ℕ → Skeleton → Firing → Result Tried E → Type 0
+TriesFiring setting rules turns p place k f result =
+    BehindTurns setting rules turns p (λ t used s found. IsLeftAt t place k → IsFiringOf t used s place (firing_model f) → IfOk result (TellsTurn t used s (map turn_view turns) place))
 
 -- ---- what follows
 
@@ -287,6 +325,4 @@ StepsByCases setting rules turns remainder result =
 
 -- the parts that the rules of these turns leave
 abbrev pub LeavesRemainder : {E : Type 0} → Setting → RuleSet → Part → List Turn → Result Decided E → Type 0
-LeavesRemainder setting rules p turns result =
-    (t : Theory) (used : List Text) (s : SymbolicState) (found : List RewriteRule) → IsStepFrom t used s setting rules (numbered_view p) →
-    HasInstance t.signature (whole s) → AllZip (IsRuleAt t) (map turn_view turns) found → IfOk result (TellsRemainder t used s found)
+LeavesRemainder setting rules p turns result = BehindTurns setting rules turns p (λ t used s found. HasInstance t.signature (whole s) → IfOk result (TellsRemainder t used s found))

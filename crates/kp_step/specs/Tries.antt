@@ -10,9 +10,15 @@ use Rattle.kp_symbolic.specs.Terms.{Replaced}
 use Rattle.kp_symbolic.specs.States.{Literal, SymbolicState}
 use Rattle.kp_symbolic.specs.Verdicts.{Verdict, no_valuation, IsRightVerdict}
 use Rattle.kp_cases.specs.Parts.{StatePart, whole, with_clauses, OfEachInstance}
+use Rattle.kp_rules.specs.LeftForms.{left_form}
+use Rattle.kp_rules.specs.LeftSides.{IsLeftSide}
+use Rattle.kp_rules.specs.Skeletons.{Form, skeleton_view}
+use Rattle.kp_rules.specs.declared.skeleton.Skeleton.{Skeleton}
+use Rattle.kp_cases.specs.Cases.{IsMetBy, left_side}
 use Rattle.kp_turns.specs.Firing.{AreFiringCases}
 use Rattle.kp_unify.specs.Narrowed.{NumberedPart}
-use Rattle.kp_step.specs.Places.{IsAt}
+use Rattle.kp_step.specs.Meets.{MeetsRule}
+use Rattle.kp_step.specs.Places.{IsAt, IsReadAs}
 use Rattle.kp_firing.specs.Comes.{ComesFrom}
 use Rattle.kp_firing.specs.Ready.{IsReadyPart, narrowed_by, HasInstance, parts_of}
 use Rattle.kp_step.specs.Left.{IsPartIn, AreLeft}
@@ -31,6 +37,10 @@ pub record PlacedFiring : Type 0 where
 abbrev pub narrowed_of : PlacedFiring → NumberedPart
 narrowed_of f = narrowed_by f.part (f.equations ++ f.condition)
 
+-- the skeleton is the left side of the rule of the place, where that is read
+abbrev pub IsLeftAt : Theory → ℕ → Skeleton → Type 0
+IsLeftAt t place k = (m : Rewrite) → IsReadAs t place m → IsLeftSide t.signature m (skeleton_view k) × (skeleton_view k ≡ left_form t.signature m.left)
+
 -- the rule of the place is read, and fires so on the state
 pub record IsFiringOf (t : Theory) (used : List Text) (s : SymbolicState) (place : ℕ) (f : PlacedFiring) : Type 0 where
   pub rule : RewriteRule
@@ -39,13 +49,17 @@ pub record IsFiringOf (t : Theory) (used : List Text) (s : SymbolicState) (place
   pub body : rule.body ≡ rewrite read
   pub cases : AreFiringCases t.signature (rewrite read) (whole s) (Some (record { part = f.part.part; clauses = f.equations ++ f.condition })) f.apart
   pub is_met : IsMetIn t read f.bindings f.part.part
+  pub form : Form
+  pub left : IsLeftSide t.signature read form
+  pub meets_so : IsMetBy t.signature (left_side t.signature form) (record { part = f.part.part; equations = f.equations; bindings = f.bindings })
   pub part : IsPartIn t.signature used (whole s) f.part.part f.part
   pub comes : ComesFrom t.signature (λ b. b ≡ rewrite read) (whole s) (narrowed_of f).part
   pub where_met : IsReadyPart t.signature used (narrowed_by f.part f.equations)
   pub where_it_fires : IsReadyPart t.signature used (narrowed_by f.part (f.equations ++ f.condition))
 
--- it isn't known that the left side stands for no instance
-pub record CanMeet (t : Theory) (f : PlacedFiring) : Type 0 where
+-- the rule of the place meets the state, and it isn't known that its left side stands for no instance
+pub record CanMeet (t : Theory) (s : SymbolicState) (place : ℕ) (f : PlacedFiring) : Type 0 where
+  pub meets : (r : RewriteRule) → IsAt t place r → MeetsRule t.signature s r.body
   pub answer : Verdict
   pub right : IsRightVerdict t.signature (with_clauses f.part.part f.equations).state answer
   pub may_be : ¬ (answer ≡ no_valuation)

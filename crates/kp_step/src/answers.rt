@@ -8,6 +8,7 @@ ghost use Rattle.kp_step.specs.Views.{numbered_views};
 ghost use Rattle.kp_step.specs.Answers.{IsRightOpen, ShowsOf, IsRightAnswerOf};
 ghost use Rattle.kp_step.specs.Promises.{DecidesParts};
 
+use crate::counted::told_within;
 use kp_decide::{Verdict, decide};
 use kp_readings::clauses::read_clauses;
 use kp_readings::parts::rough_clauses;
@@ -81,22 +82,27 @@ pub fn answer_of(
     }
 }
 
-/// The parts of these that have an instance; what is left open of the first of which that isn't decided.
+/// The parts of these that have an instance; what is left open of the first of which that isn't decided. With a weight, that compares no
+/// more whole-number variables than so many.
 pub fn decided_parts(
     alloc: Global,
     setting: Setting<'_>,
     state: &State,
+    most: usize,
     parts: Vec<Part>,
 ) -> Result<Decided, AllocError>
     requires { HasItsTable setting }
-    ensures { IfOk result (DecidesParts (signature_of setting.entry) (state_view state.now) (numbered_views parts.items)) }
+    ensures { IfOk result (DecidesParts (signature_of setting.entry) (state_view state.now) most (numbered_views parts.items)) }
 {
     let mut found = Vec::new(alloc);
     for part in parts {
         match answer_of(alloc, setting, state, &part.state)? {
             PartAnswer::Instance => found.push(part)?,
             PartAnswer::Nothing => {}
-            PartAnswer::Open { told } => return Ok(Decided::Open { told }),
+            PartAnswer::Open { told } => {
+                let told = told_within(alloc, setting, most, &part.state, told)?;
+                return Ok(Decided::Open { told });
+            }
         }
     }
     Ok(Decided::Parts { parts: found })

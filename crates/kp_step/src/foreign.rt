@@ -13,8 +13,9 @@ ghost use Rattle.kp_step.specs.Outcomes.{IsRightStep};
 ghost use Rattle.kp_step.specs.Promises.{TellsMet, TellsSkeletonMeets, OfEachStep};
 
 use crate::answers::{Open, PartAnswer};
-use crate::implied::answer_with_implied;
+use crate::counted::{most_of_left, told_within};
 use crate::lowered::lowered;
+use crate::met::answer_where_met;
 use crate::outcome::StepOutcome;
 use crate::rules::foreign_at;
 use crate::shared::has_shared_sorts;
@@ -26,18 +27,28 @@ use kp_rules::Skeleton;
 use kp_unify::{MetPart, Part, Setting, meet};
 use std::alloc::Global;
 
-/// Whether the part that the left side meets has an instance, by its equations and what follows of them.
+/// Whether the part that the left side meets has an instance, by its equations and what follows of them, and where the left side meets
+/// the state at all.
 fn met_answer(
     alloc: Global,
     setting: Setting<'_>,
     whole: &Part,
+    skeleton: &Skeleton,
     met: &MetPart,
 ) -> Result<PartAnswer, CompileError>
     requires { HasItsTable setting }
-    ensures { TellsMet (signature_of setting.entry) whole.now met.now result }
+    ensures { TellsMet (signature_of setting.entry) whole.now skeleton.now met.now result }
 {
     let part = constrained(alloc, &met.part, &met.equations)?;
-    Ok(answer_with_implied(alloc, setting, &whole.state, &part.state)?)
+    match answer_where_met(alloc, setting, &whole.state, &part.state, skeleton)? {
+        PartAnswer::Instance => Ok(PartAnswer::Instance),
+        PartAnswer::Nothing => Ok(PartAnswer::Nothing),
+        PartAnswer::Open { told } => {
+            let most = most_of_left(alloc, setting, &whole.state, skeleton)?;
+            let told = told_within(alloc, setting, most, &part.state, told)?;
+            Ok(PartAnswer::Open { told })
+        }
+    }
 }
 
 /// Whether a left side in which each name stands at one sort stands for an instance of the part.
@@ -51,7 +62,7 @@ fn meets_at_one_sort(
     ensures { HasOneSortEach (form_variables (skeleton_view skeleton.now)) → TellsSkeletonMeets setting.entry whole.now skeleton.now result }
 {
     match meet(alloc, &setting, whole, skeleton)? {
-        Some(meeting) => met_answer(alloc, setting, whole, &meeting.met),
+        Some(meeting) => met_answer(alloc, setting, whole, skeleton, &meeting.met),
         None => Ok(PartAnswer::Nothing),
     }
 }

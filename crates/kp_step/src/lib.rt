@@ -4,11 +4,13 @@
 
 pub mod answers;
 pub mod chosen;
+pub mod counted;
 pub mod foreign;
 pub mod implied;
 pub mod left;
 pub mod limits;
 pub mod lowered;
+pub mod met;
 pub mod nexts;
 pub mod outcome;
 pub mod right;

@@ -4,6 +4,7 @@ ghost use Rattle.kp_step.specs.Promises.{StepsFrom, StepsFromInstance, StepsFrom
 ghost use Rattle.kp_unify.specs.Views.{HasItsTable};
 
 use crate::answers::{Decided, Open, PartAnswer, answer_of, decided_parts};
+use crate::counted::{most_alone, most_left, told_within};
 use crate::foreign::foreign;
 use crate::left::left_after;
 use crate::limits::{first_limit, limit_of, wide_in};
@@ -50,7 +51,8 @@ fn remainder_of(
     let mut parts = Vec::new(alloc);
     parts.push(part.share(alloc)?)?;
     let left = left_after(alloc, setting, rules, turns, None, parts)?;
-    Ok(decided_parts(alloc, setting, &part.state, left)?)
+    let most = most_left(alloc, setting, rules, turns, &part.state)?;
+    Ok(decided_parts(alloc, setting, &part.state, most, left)?)
 }
 
 /// The step by the rules that have their turn.
@@ -119,13 +121,32 @@ fn from_state(
     }
 }
 
+/// What is left open of a state alone.
+fn open_alone(
+    alloc: Global,
+    setting: Setting<'_>,
+    state: &State,
+    told: Open,
+) -> Result<StepOutcome, AllocError>
+    ensures { StepsFromOpen setting.entry (state_view state.now) told result }
+{
+    let most = most_alone(alloc, setting, state)?;
+    let told = told_within(alloc, setting, most, state, told)?;
+    Ok(StepOutcome::Undecided { told, rule: None })
+}
+
 /// The step of a state whose clauses aren't decided: a number beyond 128 bits goes before them.
-fn from_open(setting: Setting<'_>, state: &State, told: Open) -> Result<StepOutcome, AllocError>
+fn from_open(
+    alloc: Global,
+    setting: Setting<'_>,
+    state: &State,
+    told: Open,
+) -> Result<StepOutcome, AllocError>
     ensures { StepsFromOpen setting.entry (state_view state.now) told result }
 {
     match wide_in(setting, state)? {
         Some(limit) => Ok(StepOutcome::Limited { limit }),
-        None => Ok(StepOutcome::Undecided { told, rule: None }),
+        None => open_alone(alloc, setting, state, told),
     }
 }
 
@@ -145,6 +166,6 @@ pub fn step(
     match answer_of(alloc, setting, state, state)? {
         PartAnswer::Nothing => Ok(StepOutcome::Empty),
         PartAnswer::Instance => from_state(alloc, setting, rules, state, next),
-        PartAnswer::Open { told } => Ok(from_open(setting, state, told)?),
+        PartAnswer::Open { told } => Ok(from_open(alloc, setting, state, told)?),
     }
 }

@@ -3,19 +3,20 @@ ghost use Rattle.std.specs.Prelude.{◌≡◌, IfOk};
 ghost use Rattle.kp_unify.specs.Views.{numbered_view, HasItsTable};
 ghost use Rattle.kp_step.specs.Tries.{narrowed_of};
 ghost use Rattle.kp_step.specs.Answers.{TellsTurns, firing_model};
-ghost use Rattle.kp_step.specs.Promises.{LeavesTo, TellsMayMeet, TellsWideCondition, TellsTurnParts, MakesTurn, TriesRule, TriesSides, TriesFiring, OfEachStep};
+ghost use Rattle.kp_step.specs.Promises.{LeavesTo, TellsMayMeet, TellsWideCondition, TellsPartsLeft, TellsTurnParts, MakesTurn, TriesRule, TriesSides, TriesFiring, OfEachStep};
 
 use crate::answers::{Decided, PartAnswer, decided_parts};
-use crate::implied::answer_with_implied;
+use crate::counted::most_with;
 use crate::left::left_after;
 use crate::limits::wide_in;
+use crate::met::answer_where_met;
 use crate::outcome::{StepLimit, StepOutcome};
 use crate::rules::{priority_at, read_at};
 use crate::variables::are_of_left;
 use kp_compile::CompileError;
 use kp_firing::{Firing, all_clauses, constrained, fire};
 use kp_rule_sets::RuleSet;
-use kp_rules::ReadSides;
+use kp_rules::{ReadSides, Skeleton};
 use kp_solving::constrain;
 use kp_symbolic::{Replaced, State};
 use kp_unify::{Part, Setting};
@@ -45,18 +46,19 @@ pub enum Searched {
     Ended { outcome: StepOutcome },
 }
 
-/// Whether it isn't known that the rule's left side stands for no instance of the part that it meets.
+/// Whether the rule meets the state, and it isn't known that its left side stands for no instance of the part that it meets.
 fn may_meet(
     alloc: Global,
     setting: Setting<'_>,
     whole: &Part,
+    left: &Skeleton,
     firing: &Firing,
 ) -> Result<bool, AllocError>
     requires { HasItsTable setting }
-    ensures { TellsMayMeet setting.entry whole.now firing.now result }
+    ensures { TellsMayMeet setting.entry whole.now left.now firing.now result }
 {
     let met = constrain(alloc, &firing.part.state, &firing.equations)?;
-    match answer_with_implied(alloc, setting, &whole.state, &met)? {
+    match answer_where_met(alloc, setting, &whole.state, &met, left)? {
         PartAnswer::Nothing => Ok(false),
         PartAnswer::Instance | PartAnswer::Open { .. } => Ok(true),
     }
@@ -75,15 +77,16 @@ fn wide_condition(
     alloc: Global,
     setting: Setting<'_>,
     whole: &Part,
+    left: &Skeleton,
     firing: &Firing,
     narrowed: &State,
 ) -> Result<Option<StepLimit>, AllocError>
     requires { HasItsTable setting }
-    ensures { TellsWideCondition setting.entry whole.now firing.now narrowed.now result }
+    ensures { TellsWideCondition setting.entry whole.now left.now firing.now narrowed.now result }
 {
     match wide_in(setting, narrowed)? {
         Some(limit) => {
-            if may_meet(alloc, setting, whole, firing)? {
+            if may_meet(alloc, setting, whole, left, firing)? {
                 return Ok(Some(limit));
             }
             Ok(None)
@@ -110,24 +113,47 @@ fn left_to(
 }
 
 /// The parts where the rule of this number has its turn, of the part where it fires, or what is left open of one.
+fn parts_left(
+    alloc: Global,
+    setting: Setting<'_>,
+    rules: &RuleSet,
+    turns: &[Turn],
+    whole: &Part,
+    left: &Skeleton,
+    priority: u32,
+    part: Part,
+) -> Result<Decided, CompileError>
+    requires { HasItsTable setting }
+    ensures { TellsPartsLeft setting.entry rules.now turns.now whole.now left.now priority part result }
+{
+    let most = most_with(alloc, setting, rules, turns, &whole.state, left)?;
+    let parts = left_to(alloc, setting, rules, turns, priority, part)?;
+    Ok(decided_parts(alloc, setting, &whole.state, most, parts)?)
+}
+
+/// The same, where the rule's left side may meet none of the state's instances.
 fn turn_parts(
     alloc: Global,
     setting: Setting<'_>,
     rules: &RuleSet,
     turns: &[Turn],
     whole: &Part,
+    left: &Skeleton,
     priority: u32,
     part: Part,
 ) -> Result<Decided, CompileError>
     requires { HasItsTable setting }
-    ensures { TellsTurnParts setting.entry rules.now turns.now whole.now priority part result }
+    ensures { TellsTurnParts setting.entry rules.now turns.now whole.now left.now priority part result }
 {
-    if let PartAnswer::Nothing = answer_with_implied(alloc, setting, &whole.state, &part.state)? {
-        let parts = Vec::new(alloc);
-        return Ok(Decided::Parts { parts });
+    match answer_where_met(alloc, setting, &whole.state, &part.state, left)? {
+        PartAnswer::Nothing => {
+            let parts = Vec::new(alloc);
+            Ok(Decided::Parts { parts })
+        }
+        PartAnswer::Instance | PartAnswer::Open { .. } => parts_left(
+            alloc, setting, rules, turns, whole, left, priority, part,
+        ),
     }
-    let left = left_to(alloc, setting, rules, turns, priority, part)?;
-    Ok(decided_parts(alloc, setting, &whole.state, left)?)
 }
 
 /// A rule's turn, if it has one.
@@ -154,18 +180,21 @@ fn try_firing(
     turns: &[Turn],
     whole: &Part,
     place: usize,
+    left: &Skeleton,
     firing: Firing,
 ) -> Result<Tried, CompileError>
     requires { HasItsTable setting }
-    ensures { TriesFiring setting.entry rules.now turns.now whole.now place firing result }
+    ensures { TriesFiring setting.entry rules.now turns.now whole.now place left.now firing result }
 {
     let narrowed = narrowed_part(alloc, &firing)?;
-    if let Some(limit) = wide_condition(alloc, setting, whole, &firing, &narrowed.state)? {
+    if let Some(limit) = wide_condition(alloc, setting, whole, left, &firing, &narrowed.state)? {
         let outcome = StepOutcome::Limited { limit };
         return Ok(Tried::Ended { outcome });
     }
     let priority = priority_at(rules, place);
-    match turn_parts(alloc, setting, rules, turns, whole, priority, narrowed)? {
+    match turn_parts(
+        alloc, setting, rules, turns, whole, left, priority, narrowed,
+    )? {
         Decided::Parts { parts } => Ok(turn_of(place, priority, parts, firing.bindings)),
         Decided::Open { told } => {
             let rule = Some(place);
@@ -194,7 +223,16 @@ fn try_sides(
             if !are_of_left(&sides.left, &firing.bindings) {
                 return Err(CompileError::Memory);
             }
-            try_firing(alloc, setting, rules, turns, whole, place, firing)
+            try_firing(
+                alloc,
+                setting,
+                rules,
+                turns,
+                whole,
+                place,
+                &sides.left,
+                firing,
+            )
         }
         None => Ok(Tried::NoTurn),
     }

@@ -52,7 +52,7 @@ returns-in-Open c used ready =
     let was = c.loop-part.invariant used ready in
     let sorted = next_sorted g used all found items rest p c.in-Some.ensures.steps.0 was in
     let answer = subst (IsRightAnswerOf g s (state_view p.state)) c.in-Open.is (c.in_ok-answer_of.ensures sorted) in
-    decides_open g used s all found items rest p c.in-Open.told c.in-Some.ensures.steps.0 answer was
+    decides_open g used s c.args.most all found items rest p c.in-Open.told c.in_ok-told-in-Open.told c.in-Some.ensures.steps.0 answer c.in_ok-told-in-Open.ensures.same c.in_ok-told-in-Open.ensures.counted was
 
 pub returns : goal.returns
 returns c used ready =

@@ -16,7 +16,7 @@ returns-in-Some c one t used s place e setting w f =
     let met = subst (λ o. MatchOption o (IsAllApart g form q.part) (λ x. IsMeeting g used form q.part (met_view x.met) x.met.part.next (map numbered_view x.apart.items))) c.in-Some.is all in
     let x = c.in-Some.meeting in
     let apart = map numbered_view x.apart.items in
-    tells_answer t used s place c.args.skeleton.now q (met_view x.met) x.met.part.next apart g c.met_answer.result e w f met (c.met_answer.ensures used s form apart w met)
+    tells_answer t used s place c.args.skeleton.now q (met_view x.met) x.met.part.next apart g c.met_answer.result e w f met (c.met_answer.ensures used s apart w met)
 
 pub returns-in-None : goal.returns-in-None
 returns-in-None c one t used s place e setting w f =

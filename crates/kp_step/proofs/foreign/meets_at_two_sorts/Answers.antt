@@ -1,4 +1,3 @@
-use Rattle.std.proofs.Common.{◌≡◌, true}
 use Rattle.kp_unify.specs.Views.{signature_of, numbered_view}
 use Rattle.kp_step.proofs.OneSortLemmas.{so_false}
 use Rattle.kp_step.proofs.SharedLemmas.{tells_unshared}

@@ -1,10 +1,9 @@
 use Rattle.std.proofs.Common.{string_bytes}
-use Rattle.std.specs.Prelude.{◌≡◌}
 use Rattle.kp_kore.specs.Syntax.{KoreSort}
 use Rattle.kp_kore.specs.View.{sort_view}
 use Rattle.kp_signature.specs.View.{signature_view}
 use Rattle.kp_cases.specs.Courses.{IsMeet}
-use Rattle.kp_step.proofs.LoweredLemmas.{lower_of, lowest_of_other}
+use Rattle.kp_step.proofs.LoweredLemmas.{lower_of}
 use Rattle.kp_step.proofs.lowered.lower.Goals as goal
 
 pub returns-then-same_name : goal.returns-then-same_name

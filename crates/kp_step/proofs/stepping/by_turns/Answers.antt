@@ -5,6 +5,7 @@ use Rattle.kp_step.specs.Answers.{TellsRemainder}
 use Rattle.kp_step.specs.Views.{turn_view}
 use Rattle.kp_step.proofs.FoundLemmas.{turns_of}
 use Rattle.kp_step.proofs.TryLemmas.{found_rules}
+use Rattle.kp_step.proofs.MeetLemmas.{turns_meet}
 use Rattle.kp_step.proofs.EndLemmas.{told_remainder_open}
 use Rattle.kp_step.proofs.stepping.by_turns.Goals as goal
 
@@ -13,11 +14,13 @@ returns-in-Parts c t used s from some known f =
     let ks = map turn_view c.args.turns.now in
     let found = rules_of (turns_of t used (whole s) ks ks f.each) in
     let z = found_rules t used (whole s) ks ks f.each in
-    c.cases.ensures t used s found from.steps from.setting some known f z (subst (TellsRemainder t used s found) c.in-Parts.is (c.in_ok-parts.ensures t used s found from some z))
+    let meet = turns_meet t used s ks ks f.each in
+    c.cases.ensures t used s found from.steps from.setting some known f z (subst (TellsRemainder t used s found) c.in-Parts.is (c.in_ok-parts.ensures t used s found from z meet some))
 
 pub returns-in-Open : goal.returns-in-Open
 returns-in-Open c t used s from some known f =
     let ks = map turn_view c.args.turns.now in
     let found = rules_of (turns_of t used (whole s) ks ks f.each) in
     let z = found_rules t used (whole s) ks ks f.each in
-    told_remainder_open t used s found c.in-Open.told (subst (TellsRemainder t used s found) c.in-Open.is (c.in_ok-parts.ensures t used s found from some z))
+    let meet = turns_meet t used s ks ks f.each in
+    told_remainder_open t used s found c.in-Open.told (subst (TellsRemainder t used s found) c.in-Open.is (c.in_ok-parts.ensures t used s found from z meet some))

@@ -1,6 +1,6 @@
 use Rattle.kp_symbolic.specs.View.{state_view}
 use Rattle.kp_unify.specs.Views.{signature_of}
-use Rattle.kp_step.proofs.EndLemmas.{passes_number, open_at_all}
+use Rattle.kp_step.proofs.EndLemmas.{passes_number}
 use Rattle.kp_step.proofs.stepping.from_open.Goals as goal
 
 pub returns-in-Some : goal.returns-in-Some
@@ -8,4 +8,4 @@ returns-in-Some c t used same told shows =
     passes_number t (state_view c.args.state.now) (signature_of c.args.setting) c.in_ok-limit.field-0 c.in-Some.limit same c.in-Some.is c.in_ok-limit.ensures
 
 pub returns-in-None : goal.returns-in-None
-returns-in-None c t used same told shows = open_at_all t (state_view c.args.state.now) c.args.told told shows
+returns-in-None c t used same told shows = c.open_alone.ensures t used same told shows

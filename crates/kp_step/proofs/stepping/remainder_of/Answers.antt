@@ -6,7 +6,7 @@ use Rattle.kp_step.proofs.EndLemmas.{all_left, ready_left, remainder_by}
 use Rattle.kp_step.proofs.stepping.remainder_of.Goals as goal
 
 pub returns : goal.returns
-returns c t used s found from some z =
+returns c t used s found from z meet some =
     let g = signature_of c.args.setting in
     let q = numbered_view c.args.part.now in
     let left = numbered_views c.in_ok-left.left.items in
@@ -14,4 +14,5 @@ returns c t used s found from some z =
     let begun = all_left t used s g q (numbered_views c.push.new.self.items) from.steps.signature from.whole one in
     let after = c.in_ok-left.ensures.left t used None found (whole s) (whole s) from.steps from.setting tt z begun in
     let alone = c.in_ok-left.ensures.alone t used found (whole s) (whole s) from.steps from.setting refl z begun in
-    remainder_by t used s g q found (numbered_views c.push.new.self.items) left c.in_ok-decided_parts.field-0 (map turn_view c.args.turns.now) from.steps.signature from.whole z one after alone (c.in_ok-decided_parts.ensures used (ready_left g used None found (whole s) (whole s) left after))
+    let most = c.in_ok-most.ensures t found from.steps z in
+    remainder_by t used s g q found c.in_ok-most.most (numbered_views c.push.new.self.items) left c.in_ok-decided_parts.field-0 (map turn_view c.args.turns.now) from.steps.signature from.whole z meet most one after alone (c.in_ok-decided_parts.ensures used (ready_left g used None found (whole s) (whole s) left after))

@@ -7,6 +7,7 @@ use Rattle.kp_step.specs.Found.{IsRuleAt}
 use Rattle.kp_step.specs.Answers.{TellsTurn}
 use Rattle.kp_step.specs.Views.{turn_view}
 use Rattle.kp_step.proofs.FoundLemmas.{turns_of}
+use Rattle.kp_step.proofs.MeetLemmas.{turns_meet}
 use Rattle.kp_step.proofs.StageLemmas.{FoundAt, finds_no_turn, finds_turn, finds_all}
 use Rattle.kp_step.proofs.TryLemmas.{found_rules}
 use Rattle.kp_step.proofs.turns.find_turns.Goals.{in-NoTurn, in-Turn+in_ok-push-in-Turn}
@@ -19,7 +20,7 @@ returns-in-Ended c t used s k =
     let all = c.loop-place.invariant t used s k in
     let rs = rules_of (turns_of t used (whole s) ks ks all.each) in
     let same = c.deref.ensures.value in
-    let told = c.in_ok-try_rule.ensures t used s rs k (subst (λ ts. AllZip (IsRuleAt t) (map turn_view ts) rs) (sym same) (found_rules t used (whole s) ks ks all.each)) in
+    let told = c.in_ok-try_rule.ensures t used s rs k (subst (λ ts. AllZip (IsRuleAt t) (map turn_view ts) rs) (sym same) (found_rules t used (whole s) ks ks all.each)) (turns_meet t used s ks ks all.each) in
     subst (TellsTurn t used s ks place) c.in-Ended.is (subst (λ ts. TellsTurn t used s (map turn_view ts) place c.in_ok-try_rule.field-0) same told)
 
 pub loop-place-preserved : goal.loop-place-preserved
@@ -32,7 +33,7 @@ loop-place-preserved c t used s k =
     let all = c.loop-place.invariant t used s k in
     let rs = rules_of (turns_of t used (whole s) ks ks all.each) in
     let same = c.deref.ensures.value in
-    let given = c.in_ok-try_rule.ensures t used s rs k (subst (λ ts. AllZip (IsRuleAt t) (map turn_view ts) rs) (sym same) (found_rules t used (whole s) ks ks all.each)) in
+    let given = c.in_ok-try_rule.ensures t used s rs k (subst (λ ts. AllZip (IsRuleAt t) (map turn_view ts) rs) (sym same) (found_rules t used (whole s) ks ks all.each)) (turns_meet t used s ks ks all.each) in
     let told = subst (λ ts. TellsTurn t used s (map turn_view ts) place c.in_ok-try_rule.field-0) same given in
     elim c.match-branch-2.branch [
       | in-NoTurn w ↦

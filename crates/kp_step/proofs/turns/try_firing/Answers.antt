@@ -3,24 +3,26 @@ use Rattle.std.specs.Prelude.{MatchOption, ⊤}
 use Rattle.kp_step.specs.Limits.{IsPassed}
 use Rattle.kp_step.specs.Views.{turn_view, limit_view}
 use Rattle.kp_step.specs.Answers.{firing_model, TellsParts}
+use Rattle.kp_unify.specs.Views.{numbered_view}
+use Rattle.kp_step.proofs.MeetLemmas.{whole_sorted}
 use Rattle.kp_step.proofs.TriedLemmas.{open_told}
 use Rattle.kp_step.proofs.turns.try_firing.Goals as goal
 
 pub returns-in-Some : goal.returns-in-Some
-returns-in-Some c t used s found k z i =
+returns-in-Some c t used s found k z all at i =
     let f = firing_model c.args.firing in
     let same = ap (λ q. q.part.state) c.in_ok-narrowed.ensures in
-    subst (λ o. MatchOption o ⊤ (λ l. IsPassed t s (limit_view l))) c.in-Some.is (c.in_ok-limit.ensures t used s c.args.place k.steps.signature k.setting k.whole i same)
+    subst (λ o. MatchOption o ⊤ (λ l. IsPassed t s (limit_view l))) c.in-Some.is (c.in_ok-limit.ensures t used s c.args.place k.steps.signature k.setting k.whole at i same)
 
 pub returns-in-Parts : goal.returns-in-Parts
-returns-in-Parts c t used s found k z i =
+returns-in-Parts c t used s found k z all at i =
     let f = firing_model c.args.firing in
     let number = c.priority_at-priority.ensures t k.steps.runs in
-    let told = c.in_ok-parts.ensures t used s c.args.place found k number z f i c.in_ok-narrowed.ensures in
-    c.turn_of.ensures t used s (map turn_view c.args.turns.now) found i.read f.part.part z (i.rule, i.at, i.body) number i.is_met (subst (TellsParts t used s c.args.place found f.part.part) c.in-Parts.is told)
+    let told = c.in_ok-parts.ensures t used s found k z all c.args.place f at i number c.in_ok-narrowed.ensures in
+    c.turn_of.ensures t used s (map turn_view c.args.turns.now) found i.read f.part.part z (whole_sorted t.signature used s (numbered_view c.args.whole.now) k.whole) all (i.rule, i.at, i.body) number i.is_met (subst (TellsParts t used s c.args.place found f.part.part) c.in-Parts.is told)
 
 pub returns-in-Open : goal.returns-in-Open
-returns-in-Open c t used s found k z i =
+returns-in-Open c t used s found k z all at i =
     let f = firing_model c.args.firing in
-    let told = c.in_ok-parts.ensures t used s c.args.place found k (c.priority_at-priority.ensures t k.steps.runs) z f i c.in_ok-narrowed.ensures in
+    let told = c.in_ok-parts.ensures t used s found k z all c.args.place f at i (c.priority_at-priority.ensures t k.steps.runs) c.in_ok-narrowed.ensures in
     open_told t used s c.args.place found f.part.part c.in-Open.told (subst (TellsParts t used s c.args.place found f.part.part) c.in-Open.is told)

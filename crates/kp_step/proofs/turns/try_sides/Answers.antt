@@ -6,11 +6,11 @@ use Rattle.kp_rules.specs.VerifiedSides.{AreVerifiedSides}
 use Rattle.kp_unify.specs.Views.{signature_of, numbered_view}
 use Rattle.kp_firing.specs.Ready.{IsReadyPart}
 use Rattle.kp_firing.specs.Firings.{IsFired}
-use Rattle.kp_step.proofs.TriedLemmas.{is_fired, unmet_no_turn}
+use Rattle.kp_step.proofs.TriedLemmas.{left_at, is_fired, unmet_no_turn}
 use Rattle.kp_step.proofs.turns.try_sides.Goals as goal
 
 pub returns-else-not-are_of_left : goal.returns-else-not-are_of_left
-returns-else-not-are_of_left c t used s found m k z read are verified =
+returns-else-not-are_of_left c t used s found k z all m read are verified =
     let g = signature_of c.args.setting in
     let e = k.steps.signature in
     let q = numbered_view c.args.whole.now in
@@ -18,10 +18,10 @@ returns-else-not-are_of_left c t used s found m k z read are verified =
     let fired = c.in_ok-firing.ensures used m k.setting (subst (λ h. AreSidesOf h m sides) (sym e) are) (subst (λ h. AreVerifiedSides h m) (sym e) verified) (subst (λ h. IsReadyPart h used q) (sym e) k.whole.ready) in
     let fires = subst (IsFired g used m (skeleton_view sides.left) q.part) c.in-Some.is fired in
     let i = is_fired t used s c.args.place q m sides c.in-Some.firing g (map replaced_view c.deref.result.now) e k.whole read are verified fires (ap (map replaced_view) c.deref.ensures.value) (c.are_of_left.ensures c.if-not-are_of_left.false) in
-    c.try_firing.ensures t used s found k z i
+    c.try_firing.ensures t used s found k z all (left_at t c.args.place m sides read are) i
 
 pub returns-in-None : goal.returns-in-None
-returns-in-None c t used s found m k z read are verified =
+returns-in-None c t used s found k z all m read are verified =
     let g = signature_of c.args.setting in
     let e = k.steps.signature in
     let q = numbered_view c.args.whole.now in
