@@ -10,15 +10,17 @@ use Rattle.kp_kore.proofs.TurnLemmas.{of_member, each_member}
 use Rattle.kp_symbolic.specs.States.{Literal, SymbolicState}
 use Rattle.kp_symbolic.specs.Plain.{form_of, read_clause, read_from, read_clauses, is_plain_clause, literals_of, rough_clauses}
 use Rattle.kp_symbolic.specs.Verdicts.{Weighed}
-use Rattle.kp_cases.specs.Parts.{whole}
+use Rattle.kp_cases.specs.Parts.{whole, with_clauses}
 use Rattle.kp_firing.proofs.ComesLemmas.{comes_by_more}
 use Rattle.kp_unify.specs.Views.{part_view}
+use Rattle.kp_step.specs.Meets.{MeetsRule}
+use Rattle.kp_step.specs.Limits.{IsRuleMet}
 use Rattle.kp_step.specs.Outcomes.{IsToldRule}
 use Rattle.kp_step.proofs.FoundLemmas.{at_contains}
 use Rattle.kp_step.specs.Left.{IsOneOf, IsOfTheory}
 use Rattle.kp_step.specs.Causes.{IsShownOf, IsLeftOpen}
 use Rattle.kp_sources.specs.Sourced.{AreSourcedClauses, IsAllSourced, OfNew}
-use Rattle.kp_sources.specs.Laws.{IsPartSourced, IsGrownSourced, IsShownSourced, IsMaybeOf, IsShownSourcedInTheory, IsNextSourced, IsRemainderSourced, IsUndecidedSourced}
+use Rattle.kp_sources.specs.Laws.{IsPartSourced, IsGrownSourced, IsShownSourced, IsMaybeOf, IsShownSourcedInTheory, IsNextSourced, IsRemainderSourced, IsUndecidedSourced, IsConditionSourced, IsCaseSourced}
 use Rattle.kp_sources.proofs.SourcedParts.{itself_sourced, comes_sourced}
 
 none_is_some : {A : Type 0} {a : A} → None ≡ Some a → ⊥
@@ -95,7 +97,7 @@ pub shown_sourced : (t : Theory) → IsShownSourced t
 shown_sourced t s rule shown over k = shown_by t (IsOneOf rule k.turns) s rule shown over k (λ b i. i)
 
 pub shown_in_theory : (t : Theory) → IsShownSourcedInTheory t
-shown_in_theory t s rule shown over among k = shown_by t (IsOfTheory t) s rule shown over k of
+shown_in_theory t s rule shown over among k = shown_by t (IsRuleMet t s) s rule shown over k (λ b i. (of b i, k.meets b i))
   where
     of : (b : RuleBody) → IsOneOf rule k.turns b → IsOfTheory t b
     of b (r, inl c, e) = (r, of_member (Contains t.rules) k.turns r k.of_theory c, e)
@@ -117,3 +119,13 @@ undecided_sourced t s shown over place k = shown_in_theory t s k.rule shown k.we
     of None None at r e = absurd (none_is_some e)
     of (Some i) None at r e = absurd at
     of None (Some q) at r e = absurd at
+
+-- ---- where a limit is passed
+
+pub condition_sourced : (t : Theory) → IsConditionSourced t
+condition_sourced t s x k =
+    let part = with_clauses k.firing.part k.firing.clauses in
+    (k.is, part_sourced t.signature (IsRuleMet t s) s part (comes_by_more t.signature (λ b. b ≡ k.rule.body) (IsRuleMet t s) (whole s) part (λ b e. ((k.rule, k.of_theory, sym e), subst (MeetsRule t.signature s) (sym e) k.meets)) k.comes))
+
+pub case_sourced : (t : Theory) → IsCaseSourced t
+case_sourced t s k m = part_sourced t.signature (IsRuleMet t s) s k.part m.comes

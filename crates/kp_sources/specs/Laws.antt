@@ -13,12 +13,14 @@ use Rattle.kp_symbolic.specs.Verdicts.{Weighed}
 use Rattle.kp_weights.specs.declared.weight.Weighed as code
 use Rattle.kp_symbolic.specs.Sources.{StandsIn}
 use Rattle.kp_rules.specs.Skeletons.{Form}
-use Rattle.kp_cases.specs.Parts.{StatePart, whole, IsGrown}
+use Rattle.kp_cases.specs.Parts.{StatePart, whole, with_clauses, IsGrown}
+use Rattle.kp_turns.specs.NextStates.{StepCase}
 use Rattle.kp_unify.specs.Views.{part_view}
 use Rattle.kp_unify.specs.declared.part.Part.{Part}
 use Rattle.kp_firing.specs.Comes.{ComesFrom}
 use Rattle.kp_step.specs.Left.{IsOneOf, IsOfTheory}
 use Rattle.kp_step.specs.Causes.{IsLeftOpen}
+use Rattle.kp_step.specs.Limits.{IsConditionOf, IsRuleMet, IsCaseMade}
 use Rattle.kp_step.specs.Outcomes.{GoesOnFrom, RemainsOf, IsToldOpen}
 use Rattle.kp_step.specs.declared.outcome.Next.{Next}
 use Rattle.kp_sources.specs.Sourced.{IsLeftOfSome, IsSourcedTerm, IsSourcedAtom, AreSourcedClauses, IsAllSourced, OfNew}
@@ -43,10 +45,10 @@ IsShownSourced t = (s : SymbolicState) (rule : Option RewriteRule) (shown : List
 abbrev pub IsMaybeOf : Theory → Option RewriteRule → Type 0
 IsMaybeOf t rule = (r : RewriteRule) → rule ≡ Some r → Contains t.rules r
 
--- the same of the theory's rules
+-- the same of the theory's rules that meet the state
 abbrev pub IsShownSourcedInTheory : Theory → Type 0
 IsShownSourcedInTheory t = (s : SymbolicState) (rule : Option RewriteRule) (shown : List (List Literal)) (over : Option Weighed) → IsMaybeOf t rule → (k : IsLeftOpen t s rule shown over) →
-    OfNew s k.part.state.variables (λ new. AreSourcedClauses t.signature (IsOfTheory t) new s shown)
+    OfNew s k.part.state.variables (λ new. AreSourcedClauses t.signature (IsRuleMet t s) new s shown)
 
 -- ---- what a step tells
 
@@ -58,10 +60,21 @@ IsNextSourced t = (used : List Text) (s : SymbolicState) (n : Next) → GoesOnFr
 abbrev pub IsRemainderSourced : Theory → Type 0
 IsRemainderSourced t = (used : List Text) (s : SymbolicState) (p : Part) (k : RemainsOf t used s p) → IsAllSourced t.signature (IsOfTheory t) k.grown.new s (part_view p)
 
--- what is told as undecided
+-- what is told as undecided, in the theory's rules that meet the state
 abbrev pub IsUndecidedSourced : Theory → Type 0
 IsUndecidedSourced t = (s : SymbolicState) (shown : List (List Literal)) (over : Option code.Weighed) (place : Option ℕ) (k : IsToldOpen t s shown over place) →
-    OfNew s k.left_open.part.state.variables (λ new. AreSourcedClauses t.signature (IsOfTheory t) new s shown)
+    OfNew s k.left_open.part.state.variables (λ new. AreSourcedClauses t.signature (IsRuleMet t s) new s shown)
+
+-- ---- where a limit is passed
+
+-- the part on which a rule's condition passes it, in the theory's rules that meet the state
+abbrev pub IsConditionSourced : Theory → Type 0
+IsConditionSourced t = (s x : SymbolicState) (k : IsConditionOf t s x) → let part = with_clauses k.firing.part k.firing.clauses in
+    (x ≡ part.state) × OfNew s part.state.variables (λ new. IsAllSourced t.signature (IsRuleMet t s) new s part)
+
+-- the part of the case for which it is passed by what is written
+abbrev pub IsCaseSourced : Theory → Type 0
+IsCaseSourced t = (s : SymbolicState) (k : StepCase) → IsCaseMade t s k → OfNew s k.part.state.variables (λ new. IsAllSourced t.signature (IsRuleMet t s) new s k.part)
 
 -- ---- what isn't sourced
 

@@ -4,7 +4,7 @@ ghost use Rattle.kp_kore.specs.Signature.{KoreSignature};
 ghost use Rattle.kp_kore.specs.Rules.{RewriteRule};
 ghost use Rattle.kp_kore.specs.Theory.{Theory};
 ghost use Rattle.kp_step.specs.Left.{IsOneOf, IsOfTheory};
-ghost use Rattle.kp_sources.specs.Laws.{IsPartSourced, IsGrownSourced, IsShownSourced, IsShownSourcedInTheory, NoneIsSourcedInNothing, NoneIsSourcedBeside, NowhereIsNoneSourced, IsNextSourced, IsRemainderSourced, IsUndecidedSourced};
+ghost use Rattle.kp_sources.specs.Laws.{IsPartSourced, IsGrownSourced, IsShownSourced, IsShownSourcedInTheory, NoneIsSourcedInNothing, NoneIsSourcedBeside, NowhereIsNoneSourced, IsNextSourced, IsRemainderSourced, IsUndecidedSourced, IsConditionSourced, IsCaseSourced};
 
 /// Of a part that comes of a state and rules step by step, the term and each atom are sourced in them, its new variables being those
 /// that stand behind the state's; also where these are known to have new names.
@@ -15,7 +15,7 @@ pub fn what_comes_of_a_state_is_sourced()
 {}
 
 /// Where a step leaves something undecided, each atom that is shown is sourced in the state and in the rules: the one that is asked
-/// for, if there is one, and those that take from it.
+/// for, if there is one, and those that take from it, all of which meet the state.
 pub fn what_is_shown_is_sourced()
     ensures by_rules { (t : Theory) → IsShownSourced t }
     ensures in_theory { (t : Theory) → IsShownSourcedInTheory t }
@@ -27,6 +27,13 @@ pub fn what_a_step_tells_is_sourced()
     ensures next { (t : Theory) → IsNextSourced t }
     ensures remainder { (t : Theory) → IsRemainderSourced t }
     ensures undecided { (t : Theory) → IsUndecidedSourced t }
+{}
+
+/// So is the part on which a rule's condition passes a limit, and the part of the case for which one is passed by what is written, in the
+/// theory's rules that meet the state.
+pub fn what_passes_a_limit_is_sourced()
+    ensures condition { (t : Theory) → IsConditionSourced t }
+    ensures written { (t : Theory) → IsCaseSourced t }
 {}
 
 /// Nothing is sourced in nothing: a state without clauses, where there are no rules, has no sourced atom, and no term but its own.
