@@ -1,5 +1,6 @@
--- A state that implies the claim's target is covered.
-use Rattle.std.proofs.Common.{◌≡◌, refl, sym, ◌∙◌, subst, Bool, true, false, not, List, [], ◌∷◌, ◌++◌, inl, inr}
+-- A state that implies the claim's target, which binds each name once, is covered.
+use Rattle.std.proofs.Common.{◌≡◌, refl, sym, ap, ◌∙◌, subst, Bool, true, false, not, List, [], ◌∷◌, ◌++◌, inl, inr}
+use Rattle.std.specs.Prelude.{if◌then◌else◌, ◌||◌}
 use Rattle.std.specs.List.{AllByRecursion, filter}
 use Rattle.std.specs.Str.{bytes_eq}
 use Rattle.std.proofs.lemmas.Slice.Eq.{bytes_eq-Decides}
@@ -13,12 +14,37 @@ use Rattle.kp_kore.specs.AtHand.{OfEach, HasSome}
 use Rattle.kp_kore.specs.Cases.{HaveOneSort}
 use Rattle.kp_kore.specs.Arcs.{CoverSays, VacuousSays}
 use Rattle.kp_kore.specs.ClaimModules.{SortedClaim}
-use Rattle.kp_kore.specs.Children.{under_exists, right_alone, target_of}
+use Rattle.kp_kore.specs.Children.{under_exists, once, right_alone, target_of}
+use Rattle.kp_kore.specs.Replies.{variables_beyond}
 use Rattle.kp_kore.proofs.ListLemmas.{all_left, all_right, all_map, all_both, all_filter}
 use Rattle.kp_kore.proofs.NameLemmas.{members_named, first_false, second_false, same_bytes, true_is_false}
 use Rattle.kp_kore.proofs.ClaimModuleRules.{one_sort_back}
 use Rattle.kp_kore.proofs.Rebased.{beyond_other, not_beyond, is_named_or}
 use Rattle.kp_kore.proofs.Branching.{sort_there}
+
+-- ---- each name once
+
+-- a name stands among them exactly where it stood
+once_named : (y : Text) (xs : List SortedName) → is_named y (once xs) ≡ is_named y xs
+once_named y [] = refl
+once_named y (x ∷ xs) = by_test (is_named x.name xs) refl (once_named y xs)
+  where
+    by_test : (b : Bool) → is_named x.name xs ≡ b → is_named y (once xs) ≡ is_named y xs → is_named y (if b then once xs else x ∷ once xs) ≡ (bytes_eq x.name y || is_named y xs)
+    by_test true e more = more ∙ sym (either (bytes_eq x.name y) refl)
+      where
+        either : (c : Bool) → bytes_eq x.name y ≡ c → (c || is_named y xs) ≡ is_named y xs
+        either true same = sym (subst (λ z. is_named z xs ≡ true) ((bytes_eq-Decides x.name y).0 same) e)
+        either false same = refl
+    by_test false e more = ap (λ b. bytes_eq x.name y || b) more
+
+-- what holds of all holds of each that is kept
+all_once : (P : SortedName → Type 0) (xs : List SortedName) → AllByRecursion P xs → AllByRecursion P (once xs)
+all_once P [] h = tt
+all_once P (x ∷ xs) h = by_test (is_named x.name xs) (all_once P xs h.1)
+  where
+    by_test : (b : Bool) → AllByRecursion P (once xs) → AllByRecursion P (if b then once xs else x ∷ once xs)
+    by_test true more = more
+    by_test false more = (h.0, more)
 
 -- of names with one sort in ys, each has it in xs
 OneSort : List SortedName → List SortedName → Type 0
@@ -101,7 +127,7 @@ some_one test ys zs a = all_map (λ z. AllByRecursion (λ y. y.name ≡ z.name �
 
 -- of the right's variables, those that stay free in the target stand on the left
 named_left : (c : SortedClaim) → AllByRecursion (λ x. is_named x.name (free_variables c.claim.left) ≡ true) (free_variables (target_of c))
-named_left c = all_map (λ x. (is_named x.name rs ≡ true) × (is_named x.name xs ≡ false)) (λ x. is_named x.name (free_variables c.claim.left) ≡ true) (free_variables (target_of c)) (λ x h. beyond_other c.claim.left c.claim.right x.name h.0 h.1)
+named_left c = all_map (λ x. (is_named x.name rs ≡ true) × (is_named x.name xs ≡ false)) (λ x. is_named x.name (free_variables c.claim.left) ≡ true) (free_variables (target_of c)) (λ x h. beyond_other c.claim.left c.claim.right x.name h.0 (sym (once_named x.name (variables_beyond c.claim.left c.claim.right)) ∙ h.1))
     (all_both (λ x. is_named x.name rs ≡ true) (λ x. is_named x.name xs ≡ false) (free_variables (target_of c)) (of_under (λ x. is_named x.name rs ≡ true) c.sort xs c.claim.right (members_named rs)) (none_bound c.sort xs c.claim.right))
   where
     rs : List SortedName
@@ -138,7 +164,7 @@ pub covered : (t : Theory) (c : SortedClaim) (s : KorePattern) → HaveOneSort (
 unfolding OneSort
 covered t c s one implies v u on_left on_s met = record {
   chosen = opened.at;
-  agrees = all_map (λ x. is_named x.name ls ≡ true) (λ x. opened.at x.name ≡ v x.name) ls (λ x h. opened.off x.name (not_beyond c.claim.left c.claim.right x.name h)) (members_named ls);
+  agrees = all_map (λ x. is_named x.name ls ≡ true) (λ x. opened.at x.name ≡ v x.name) ls (λ x h. opened.off x.name (once_named x.name (variables_beyond c.claim.left c.claim.right) ∙ not_beyond c.claim.left c.claim.right x.name h)) (members_named ls);
   sorts = each rs right_one (members_named rs);
   met = opened.met;
 }
@@ -156,18 +182,19 @@ covered t c s one implies v u on_left on_s met = record {
     right_one = of_right c one
 
     beyond_one : OneSort xs rs
-    beyond_one = some_one (λ x. not (is_named x.name ls)) rs rs (second_one ls rs rs right_one)
+    beyond_one = all_map (λ z. AllByRecursion (λ y. y.name ≡ z.name → y.sort ≡ z.sort) (variables_beyond c.claim.left c.claim.right)) (λ z. AllByRecursion (λ y. y.name ≡ z.name → y.sort ≡ z.sort) xs) rs
+        (λ z h. all_once (λ y. y.name ≡ z.name → y.sort ≡ z.sort) (variables_beyond c.claim.left c.claim.right) h) (some_one (λ x. not (is_named x.name ls)) rs rs (second_one ls rs rs right_one))
 
     own_one : OneSort xs xs
-    own_one = all_filter (λ x. AllByRecursion (λ y. y.name ≡ x.name → y.sort ≡ x.sort) xs) (λ x. not (is_named x.name ls)) rs beyond_one
+    own_one = all_once (λ x. AllByRecursion (λ y. y.name ≡ x.name → y.sort ≡ x.sort) xs) (variables_beyond c.claim.left c.claim.right) (all_filter (λ x. AllByRecursion (λ y. y.name ≡ x.name → y.sort ≡ x.sort) xs) (λ x. not (is_named x.name ls)) rs beyond_one)
 
     opened : Opened t.signature v xs c.claim.right u
     opened = opened_under t.signature c.sort v xs c.claim.right u own_one (implies v u (on_s, (target_sorts t.signature c v one on_left, tt)) met)
 
     one_of : (x : SortedName) → AllByRecursion (λ y. y.name ≡ x.name → y.sort ≡ x.sort) (ls ++ rs) → is_named x.name rs ≡ true → HasSort t.signature x.sort (opened.at x.name)
     one_of x h named = elim (is_named_or x.name xs) [
-      | inl e ↦ sort_there t.signature opened.at x xs e (all_filter (λ y. y.name ≡ x.name → y.sort ≡ x.sort) (λ y. not (is_named y.name ls)) rs (all_right (λ y. y.name ≡ x.name → y.sort ≡ x.sort) ls rs h)) opened.sorts
-      | inr e ↦ subst (HasSort t.signature x.sort) (sym (opened.off x.name e)) (sort_there t.signature v x ls (beyond_other c.claim.left c.claim.right x.name named e) (all_left (λ y. y.name ≡ x.name → y.sort ≡ x.sort) ls rs h) on_left)
+      | inl e ↦ sort_there t.signature opened.at x xs e (all_once (λ y. y.name ≡ x.name → y.sort ≡ x.sort) (variables_beyond c.claim.left c.claim.right) (all_filter (λ y. y.name ≡ x.name → y.sort ≡ x.sort) (λ y. not (is_named y.name ls)) rs (all_right (λ y. y.name ≡ x.name → y.sort ≡ x.sort) ls rs h))) opened.sorts
+      | inr e ↦ subst (HasSort t.signature x.sort) (sym (opened.off x.name e)) (sort_there t.signature v x ls (beyond_other c.claim.left c.claim.right x.name named (sym (once_named x.name (variables_beyond c.claim.left c.claim.right)) ∙ e)) (all_left (λ y. y.name ≡ x.name → y.sort ≡ x.sort) ls rs h) on_left)
     ]
 
     each : (zs : List SortedName) → OneSort (ls ++ rs) zs → AllByRecursion (λ x. is_named x.name rs ≡ true) zs → GivesSorts t.signature opened.at zs

@@ -1,10 +1,10 @@
 -- What the prover makes of a reply: the children of a node, and the target of a claim.
 -- Source: pyk's KCFG (split, branch); pyk's APRProver (the target as consequent of implies).
-use Rattle.std.specs.Prelude.{List, [], ◌∷◌, ◌++◌}
+use Rattle.std.specs.Prelude.{List, [], ◌∷◌, ◌++◌, if◌then◌else◌}
 use Rattle.kp_kore.specs.Syntax.{KoreSort, KorePattern, conjunction, top, exists}
 use Rattle.kp_kore.specs.Parts.{SortedName}
 use Rattle.kp_kore.specs.View.{patterns_of}
-use Rattle.kp_kore.specs.Instance.{conjoined_terms, conjoined_predicates}
+use Rattle.kp_kore.specs.Instance.{conjoined_terms, conjoined_predicates, is_named}
 use Rattle.kp_kore.specs.Claims.{ReachabilityClaim}
 use Rattle.kp_kore.specs.ClaimModules.{SortedClaim}
 use Rattle.kp_kore.specs.Replies.{variables_beyond}
@@ -28,10 +28,15 @@ abbrev pub under_exists : KoreSort → List SortedName → KorePattern → KoreP
 under_exists s [] p = p
 under_exists s (x ∷ xs) p = exists s x.name x.sort (under_exists s xs p)
 
--- the variables of the right side that the left hasn't
-abbrev pub right_alone : ReachabilityClaim → List SortedName
-right_alone claim = variables_beyond claim.left claim.right
+-- each name once, where it stands last
+abbrev pub once : List SortedName → List SortedName
+once [] = []
+once (x ∷ xs) = if is_named x.name xs then once xs else x ∷ once xs
 
--- the right side, under \exists for each variable that the left hasn't
+-- the variables of the right side that the left hasn't, each once
+abbrev pub right_alone : ReachabilityClaim → List SortedName
+right_alone claim = once (variables_beyond claim.left claim.right)
+
+-- the right side, under \exists for each variable that the left hasn't, bound once
 abbrev pub target_of : SortedClaim → KorePattern
 target_of c = under_exists c.sort (right_alone c.claim) c.claim.right
