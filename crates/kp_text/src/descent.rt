@@ -37,7 +37,7 @@ pub fn a_pattern<'a>(
 {
     let (beginning, rest) = begin(alloc, level, text, tail)?;
     let (head, rest) = pattern_head(alloc, level, beginning, rest, tail)?;
-    Ok(with_patterns(alloc, level, head, rest, tail)?)
+    with_patterns(alloc, level, head, rest, tail)
 }
 
 /// A pattern whose head was read.
@@ -57,16 +57,16 @@ fn with_patterns<'a>(
 {
     match head {
         PatternStart::Whole(pattern) => Ok((pattern, text)),
-        PatternStart::One(form) => Ok(with_one(alloc, level, form, text, tail)?),
-        PatternStart::Two(form) => Ok(with_two(alloc, level, form, text, tail)?),
-        PatternStart::Many(form) => Ok(with_many(alloc, level, form, text, tail)?),
+        PatternStart::One(form) => with_one(alloc, level, form, text, tail),
+        PatternStart::Two(form) => with_two(alloc, level, form, text, tail),
+        PatternStart::Many(form) => with_many(alloc, level, form, text, tail),
         PatternStart::Fold {
             side,
             symbol,
             sorts,
-        } => Ok(with_members(alloc, level, side, symbol, sorts, text, tail)?),
+        } => with_members(alloc, level, side, symbol, sorts, text, tail),
         PatternStart::VariadicFold { variadic, sort } => {
-            Ok(with_variadic(alloc, level, variadic, sort, text, tail)?)
+            with_variadic(alloc, level, variadic, sort, text, tail)
         }
     }
 }
@@ -173,7 +173,7 @@ pub fn patterns<'a>(
         Some(rest) => Ok((Vec::new(alloc), rest)),
         None => {
             let (first, rest) = a_pattern(alloc, level, text, tail)?;
-            Ok(more_patterns(alloc, level, close, first, rest, tail)?)
+            more_patterns(alloc, level, close, first, rest, tail)
         }
     }
 }
@@ -296,5 +296,5 @@ fn a_member<'a>(
     ensures behind { IfOk result (λ x. IsBehind x.1.now text.now) }
 {
     let inner = next_in_fold(level, side, others, deep);
-    Ok(a_pattern(alloc, inner, text, tail)?)
+    a_pattern(alloc, inner, text, tail)
 }

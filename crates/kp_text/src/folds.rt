@@ -115,7 +115,7 @@ fn fold_right(
     while let Some(other) = others.pop() {
         folded = applied(alloc, symbol, sorts, other, folded)?;
     }
-    Ok(applied(alloc, symbol, sorts, first, folded)?)
+    applied(alloc, symbol, sorts, first, folded)
 }
 
 /// What a fold means.
@@ -130,7 +130,7 @@ pub fn folded(
     ensures { IfOk result (λ p. view p ≡ fold_meaning side (string_bytes symbol.now) (sorts_view sorts.now) (view first) (map view others.items)) }
 {
     match side {
-        FoldSide::Left => Ok(fold_left(alloc, symbol, sorts, first, others)?),
-        FoldSide::Right => Ok(fold_right(alloc, symbol, sorts, first, others)?),
+        FoldSide::Left => fold_left(alloc, symbol, sorts, first, others),
+        FoldSide::Right => fold_right(alloc, symbol, sorts, first, others),
     }
 }

@@ -55,23 +55,23 @@ impl OfOne {
         ensures { IfOk result (λ p. view p ≡ one_meaning self (view pattern)) }
     {
         match self {
-            OfOne::Unary { unary: form, sort } => Ok(unary(alloc, form, sort, pattern)?),
+            OfOne::Unary { unary: form, sort } => unary(alloc, form, sort, pattern),
             OfOne::Quantified {
                 quantifier,
                 sort,
                 name,
                 name_sort,
-            } => Ok(quantified(alloc, quantifier, sort, name, name_sort, pattern)?),
+            } => quantified(alloc, quantifier, sort, name, name_sort, pattern),
             OfOne::Rounded {
                 rounding,
                 argument_sort,
                 sort,
-            } => Ok(rounded(alloc, rounding, argument_sort, sort, pattern)?),
+            } => rounded(alloc, rounding, argument_sort, sort, pattern),
             OfOne::Fixed {
                 fixed_point,
                 name,
                 sort,
-            } => Ok(fixed(alloc, fixed_point, name, sort, pattern)?),
+            } => fixed(alloc, fixed_point, name, sort, pattern),
         }
     }
 }
@@ -101,12 +101,12 @@ impl OfTwo {
         ensures { IfOk result (λ p. view p ≡ two_meaning self (view left) (view right)) }
     {
         match self {
-            OfTwo::Binary { binary: form, sort } => Ok(binary(alloc, form, sort, left, right)?),
+            OfTwo::Binary { binary: form, sort } => binary(alloc, form, sort, left, right),
             OfTwo::Compared {
                 comparison,
                 argument_sort,
                 sort,
-            } => Ok(compared(alloc, comparison, argument_sort, sort, left, right)?),
+            } => compared(alloc, comparison, argument_sort, sort, left, right),
         }
     }
 }
@@ -260,7 +260,7 @@ fn no_sorts_opened(alloc: Global, text: &str, tail: Tail) -> Result<&str, TextFa
     ensures behind { IfOk result (λ rest. IsBehind rest.now text.now) }
 {
     let rest = no_braces(alloc, text, tail)?;
-    Ok(mark(alloc, '(', rest, tail)?)
+    mark(alloc, '(', rest, tail)
 }
 
 /// `{S}("text")`.
@@ -398,7 +398,7 @@ fn opened_fold_head(
     ensures behind { IfOk result (λ x. IsBehind x.1.now text.now) }
 {
     let rest = no_sorts_opened(alloc, text, tail)?;
-    Ok(fold_head(alloc, level, side, rest, tail)?)
+    fold_head(alloc, level, side, rest, tail)
 }
 
 /// `{sorts}(`.
@@ -490,7 +490,7 @@ fn keyword_head(
             let (head, rest) = fixed_head(alloc, form, text, tail)?;
             Ok((PatternStart::One(head), rest))
         }
-        Keyword::Fold(side) => Ok(opened_fold_head(alloc, level, side, text, tail)?),
+        Keyword::Fold(side) => opened_fold_head(alloc, level, side, text, tail),
     }
 }
 
@@ -509,7 +509,7 @@ pub fn pattern_head(
     ensures behind { IfOk result (λ x. IsNotBefore x.1.now text.now) }
 {
     match beginning {
-        Beginning::Name(name) => Ok(named_head(alloc, name, text, tail)?),
+        Beginning::Name(name) => named_head(alloc, name, text, tail),
         Beginning::SetVariable => {
             let (name, sort, rest) = variable(alloc, text, tail)?;
             Ok((
@@ -521,6 +521,6 @@ pub fn pattern_head(
             PatternStart::Whole(Pattern::StringLiteral { text: characters }),
             text,
         )),
-        Beginning::Keyword(keyword) => Ok(keyword_head(alloc, level, keyword, text, tail)?),
+        Beginning::Keyword(keyword) => keyword_head(alloc, level, keyword, text, tail),
     }
 }

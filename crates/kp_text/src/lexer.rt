@@ -274,8 +274,8 @@ fn token_from<'a>(
     }
     match c {
         ':' => Ok(after_colon(after, tail, left)),
-        '\\' => Ok(after_backslash(alloc, after, tail, left)?),
-        '"' => Ok(string(alloc, after, tail, left)?),
+        '\\' => after_backslash(alloc, after, tail, left),
+        '"' => string(alloc, after, tail, left),
         _ => Ok(Ahead::Broken {
             left,
             kind: FaultKind::Byte,
@@ -296,7 +296,7 @@ pub fn look_ahead<'a>(alloc: Global, text: &'a str, tail: Tail) -> Result<Ahead<
             continue;
         }
         if c != '/' {
-            return Ok(token_from(alloc, c, after, tail, rest.len())?);
+            return token_from(alloc, c, after, tail, rest.len());
         }
         match after_slash(after, tail, rest.len()) {
             Skip::To(behind) => rest = behind,

@@ -42,7 +42,7 @@ fn a_module(alloc: Global, text: &str, tail: Tail) -> Result<(Module, &str), Tex
     ensures behind { IfOk result (λ x. IsBehind x.1.now text.now) }
 {
     let rest = word(alloc, "module", text, tail)?;
-    Ok(after_module(alloc, rest, tail)?)
+    after_module(alloc, rest, tail)
 }
 
 /// Whether a word stands next that begins a module, and then what comes behind it; nothing at the end.
@@ -123,7 +123,7 @@ fn some_modules(alloc: Global, text: &str, tail: Tail) -> Result<Vec<Module>, Te
     ensures fault { IfErr result (λ e. (answer : List KoreModule → Answer) → run_text tail text.now (some_modules answer) ≡ failed e (run_text tail text.now (some_modules answer))) }
 {
     let (first, rest) = a_module(alloc, text, tail)?;
-    Ok(other_modules(alloc, first, rest, tail)?)
+    other_modules(alloc, first, rest, tail)
 }
 
 /// Modules up to the end, of which the first was read.
@@ -153,7 +153,7 @@ pub fn whole_modules(alloc: Global, text: &str, tail: Tail) -> Result<Vec<Module
     ensures found { IfOk result (λ x. run_text tail text.now modules_start ≡ answered (modules_answer (map module_view x.items))) }
     ensures fault { IfErr result (λ e. run_text tail text.now modules_start ≡ failed e (run_text tail text.now modules_start)) }
 {
-    Ok(some_modules(alloc, text, tail)?)
+    some_modules(alloc, text, tail)
 }
 
 /// Attributes and one or more modules, up to the end.

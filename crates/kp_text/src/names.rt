@@ -29,7 +29,7 @@ fn names(alloc: Global, text: &str, tail: Tail) -> Result<(Vec<Name>, &str), Tex
                 kind: FaultKind::Token,
             })
         }
-        Token::Identifier(first) => Ok(more_names(alloc, first, rest, tail)?),
+        Token::Identifier(first) => more_names(alloc, first, rest, tail),
         _ => Err(TextFailure::Fault {
             left,
             kind: FaultKind::Token,
@@ -71,5 +71,5 @@ pub fn braced_names(alloc: Global, text: &str, tail: Tail) -> Result<(Vec<Name>,
     ensures behind { IfOk result (λ x. IsBehind x.1.now text.now) }
 {
     let rest = mark(alloc, '{', text, tail)?;
-    Ok(names(alloc, rest, tail)?)
+    names(alloc, rest, tail)
 }

@@ -10,6 +10,7 @@ use crate::keyword::{
     Unary, Variadic,
 };
 use crate::lexer::{Ahead, Token, look_ahead};
+use crate::sentences::is_word;
 use crate::sorts::a_sort;
 use crate::tail::Tail;
 use kp_kore::Sort;
@@ -52,7 +53,7 @@ pub fn no_braces(alloc: Global, text: &str, tail: Tail) -> Result<&str, TextFail
     ensures behind { IfOk result (λ rest. IsBehind rest.now text.now) }
 {
     let rest = mark(alloc, '{', text, tail)?;
-    Ok(mark(alloc, '}', rest, tail)?)
+    mark(alloc, '}', rest, tail)
 }
 
 /// `x:S`.
@@ -94,45 +95,45 @@ pub fn string_literal(alloc: Global, text: &str, tail: Tail) -> Result<(String, 
 pub fn keyword(word: &str) -> Option<Keyword>
     ensures { result ≡ keyword_of word.now }
 {
-    if word == "top" {
+    if is_word(word, "top") {
         Some(Keyword::Constant(Constant::Top))
-    } else if word == "bottom" {
+    } else if is_word(word, "bottom") {
         Some(Keyword::Constant(Constant::Bottom))
-    } else if word == "not" {
+    } else if is_word(word, "not") {
         Some(Keyword::Unary(Unary::Not))
-    } else if word == "next" {
+    } else if is_word(word, "next") {
         Some(Keyword::Unary(Unary::Next))
-    } else if word == "and" {
+    } else if is_word(word, "and") {
         Some(Keyword::Variadic(Variadic::And))
-    } else if word == "or" {
+    } else if is_word(word, "or") {
         Some(Keyword::Variadic(Variadic::Or))
-    } else if word == "implies" {
+    } else if is_word(word, "implies") {
         Some(Keyword::Binary(Binary::Implies))
-    } else if word == "iff" {
+    } else if is_word(word, "iff") {
         Some(Keyword::Binary(Binary::Iff))
-    } else if word == "rewrites" {
+    } else if is_word(word, "rewrites") {
         Some(Keyword::Binary(Binary::Rewrites))
-    } else if word == "exists" {
+    } else if is_word(word, "exists") {
         Some(Keyword::Quantifier(Quantifier::Exists))
-    } else if word == "forall" {
+    } else if is_word(word, "forall") {
         Some(Keyword::Quantifier(Quantifier::Forall))
-    } else if word == "ceil" {
+    } else if is_word(word, "ceil") {
         Some(Keyword::Rounding(Rounding::Ceil))
-    } else if word == "floor" {
+    } else if is_word(word, "floor") {
         Some(Keyword::Rounding(Rounding::Floor))
-    } else if word == "equals" {
+    } else if is_word(word, "equals") {
         Some(Keyword::Comparison(ComparisonKeyword::Equals))
-    } else if word == "in" {
+    } else if is_word(word, "in") {
         Some(Keyword::Comparison(ComparisonKeyword::In))
-    } else if word == "dv" {
+    } else if is_word(word, "dv") {
         Some(Keyword::Literal)
-    } else if word == "mu" {
+    } else if is_word(word, "mu") {
         Some(Keyword::FixedPoint(FixedPoint::Mu))
-    } else if word == "nu" {
+    } else if is_word(word, "nu") {
         Some(Keyword::FixedPoint(FixedPoint::Nu))
-    } else if word == "left-assoc" {
+    } else if is_word(word, "left-assoc") {
         Some(Keyword::Fold(FoldSide::Left))
-    } else if word == "right-assoc" {
+    } else if is_word(word, "right-assoc") {
         Some(Keyword::Fold(FoldSide::Right))
     } else {
         None

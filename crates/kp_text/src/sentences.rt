@@ -37,23 +37,23 @@ pub enum SentenceWord {
 fn word_of(word: &str) -> Option<SentenceWord>
     ensures { result ≡ sentence_word_of word.now }
 {
-    if word == "endmodule" {
+    if is_word(word, "endmodule") {
         Some(SentenceWord::End)
-    } else if word == "import" {
+    } else if is_word(word, "import") {
         Some(SentenceWord::Import)
-    } else if word == "sort" {
+    } else if is_word(word, "sort") {
         Some(SentenceWord::Sort { hooked: false })
-    } else if word == "hooked-sort" {
+    } else if is_word(word, "hooked-sort") {
         Some(SentenceWord::Sort { hooked: true })
-    } else if word == "symbol" {
+    } else if is_word(word, "symbol") {
         Some(SentenceWord::Symbol { hooked: false })
-    } else if word == "hooked-symbol" {
+    } else if is_word(word, "hooked-symbol") {
         Some(SentenceWord::Symbol { hooked: true })
-    } else if word == "alias" {
+    } else if is_word(word, "alias") {
         Some(SentenceWord::Alias)
-    } else if word == "axiom" {
+    } else if is_word(word, "axiom") {
         Some(SentenceWord::Axiom)
-    } else if word == "claim" {
+    } else if is_word(word, "claim") {
         Some(SentenceWord::Claim)
     } else {
         None
@@ -78,7 +78,7 @@ pub fn attributes(
     ensures behind { IfOk result (λ x. IsBehind x.1.now text.now) }
 {
     let rest = mark(alloc, '[', text, tail)?;
-    Ok(patterns(alloc, Level::first(), ']', rest, tail)?)
+    patterns(alloc, Level::first(), ']', rest, tail)
 }
 
 /// A name with its parameters, the sorts of arguments and that of the result.
@@ -350,7 +350,7 @@ fn next_sentence(
             left,
             kind: FaultKind::Token,
         }),
-        Some(word) => Ok(after_word(alloc, word, rest, tail)?),
+        Some(word) => after_word(alloc, word, rest, tail),
     }
 }
 

@@ -33,7 +33,7 @@ pub fn a_sort<'a>(
                     kind: FaultKind::Deep,
                 });
             }
-            Ok(named_sort(alloc, level, name, rest, tail)?)
+            named_sort(alloc, level, name, rest, tail)
         }
         _ => Err(TextFailure::Fault {
             left,
@@ -85,7 +85,7 @@ pub fn sorts<'a>(
         Some(rest) => Ok((Vec::new(alloc), rest)),
         None => {
             let (first, rest) = a_sort(alloc, level, text, tail)?;
-            Ok(more_sorts(alloc, level, close, first, rest, tail)?)
+            more_sorts(alloc, level, close, first, rest, tail)
         }
     }
 }

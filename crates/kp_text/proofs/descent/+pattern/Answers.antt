@@ -1,11 +1,12 @@
 use Rattle.std.proofs.Common.{rules, ◌≡◌, ◌∷◌, [], ◌++◌, ◌∙◌, sym, ap, subst, map, length}
+use Rattle.std.proofs.lemmas.Result.{IfErr-weaker}
 use Rattle.std.proofs.lemmas.List.{length-map, map-append}
 use Rattle.kp_kore.specs.View.{view}
 use Rattle.kp_text.specs.Grammar.{next_in_fold}
 use Rattle.kp_text.specs.Heads.{IsDeep}
 use Rattle.kp_text.specs.Next.{a_pattern, patterns, more_patterns, more_folded}
 use Rattle.kp_text.specs.Reads.{IsMarkAhead, IsSeparator, run_text}
-use Rattle.kp_text.proofs.Exits.{exit, stops_there}
+use Rattle.kp_text.proofs.Exits.{exit, stops_there, found_on, stopped_on}
 use Rattle.kp_text.proofs.InPatterns.{patterns_begin, fold_goes_on}
 use Rattle.kp_text.proofs.Alike.{alike}
 use Rattle.kp_text.proofs.descent.+pattern.Goals as goal
@@ -16,18 +17,33 @@ patterns-returns-in_err-first-in-None-clause-fault t c =
     let no = subst (IsMarkAhead c.args.tail c.args.text.now c.args.close) c.in-None.is c.in_ok-rest.ensures.found in
     exit c.from_residual-in_err-first-in-None.result _ c.in_err-first-in-None.field-0.0 c.from_residual-in_err-first-in-None.ensures (stops_there c.args.tail c.args.text.now c.args.text.now (patterns c.args.level c.args.close) (a_pattern c.args.level) (λ k p. more_patterns c.args.level c.args.close (p ∷ []) k) _ (λ k. patterns_begin c.args.tail c.args.text.now c.args.level c.args.close k no) c.in_err-first-in-None.ensures.fault)
 
-pub patterns-returns-in_err-more_patterns-in-None-clause-fault :
-    goal.patterns-returns-in_err-more_patterns-in-None-clause-fault
-patterns-returns-in_err-more_patterns-in-None-clause-fault t c =
+pub patterns-returns-in_ok-first-in-None-clause-found :
+    goal.patterns-returns-in_ok-first-in-None-clause-found
+patterns-returns-in_ok-first-in-None-clause-found t c =
     let no = subst (IsMarkAhead c.args.tail c.args.text.now c.args.close) c.in-None.is c.in_ok-rest.ensures.found in
     let l = c.args.level in
     let close = c.args.close in
-    exit c.from_residual-in_err-more_patterns-in-None.result _ c.in_err-more_patterns-in-None.field-0.0 c.from_residual-in_err-more_patterns-in-None.ensures (stops_there c.args.tail c.args.text.now c.in_ok-first-in-None.rest.now (patterns l close) (more_patterns l close (view c.in_ok-first-in-None.first ∷ [])) (λ k. k) _ (λ k. patterns_begin c.args.tail c.args.text.now l close k no ∙ sym (c.in_ok-first-in-None.ensures.found (λ p. more_patterns l close (p ∷ []) k))) c.in_err-more_patterns-in-None.ensures.fault)
+    found_on c.more_patterns.result _ _ _ (λ k. c.in_ok-first-in-None.ensures.found (λ p. more_patterns l close (p ∷ []) k) ∙ sym (patterns_begin c.args.tail c.args.text.now l close k no)) c.more_patterns.ensures.found
 
-pub a_member-returns-in_err-a_pattern-clause-fault :
-    goal.a_member-returns-in_err-a_pattern-clause-fault
-a_member-returns-in_err-a_pattern-clause-fault t c =
-    exit c.from_residual.result _ c.in_err-a_pattern.field-0.0 c.from_residual.ensures (λ f ss p ps long deep. stops_there c.args.tail c.args.text.now c.args.text.now (a_pattern (next_in_fold c.args.side f ss c.args.level p ps)) (a_pattern c.next_in_fold-inner.result) (λ k. k) _ (λ k. sym (alike c.args.tail c.args.text.now c.next_in_fold-inner.result (next_in_fold c.args.side f ss c.args.level p ps) k (c.next_in_fold-inner.ensures.alike f ss p ps long deep))) c.in_err-a_pattern.ensures.fault)
+pub patterns-returns-in_ok-first-in-None-clause-fault :
+    goal.patterns-returns-in_ok-first-in-None-clause-fault
+patterns-returns-in_ok-first-in-None-clause-fault t c =
+    let no = subst (IsMarkAhead c.args.tail c.args.text.now c.args.close) c.in-None.is c.in_ok-rest.ensures.found in
+    let l = c.args.level in
+    let close = c.args.close in
+    stopped_on c.more_patterns.result _ _ (λ k. c.in_ok-first-in-None.ensures.found (λ p. more_patterns l close (p ∷ []) k) ∙ sym (patterns_begin c.args.tail c.args.text.now l close k no)) c.more_patterns.ensures.fault
+
+pub a_pattern-returns-clause-found : goal.a_pattern-returns-clause-found
+a_pattern-returns-clause-found t c =
+    found_on c.with_patterns.result _ _ _ (λ k. c.in_ok-head.ensures.found k ∙ c.in_ok-beginning.ensures.found k) c.with_patterns.ensures.found
+
+pub a_pattern-returns-clause-fault : goal.a_pattern-returns-clause-fault
+a_pattern-returns-clause-fault t c =
+    stopped_on c.with_patterns.result _ _ (λ k. c.in_ok-head.ensures.found k ∙ c.in_ok-beginning.ensures.found k) c.with_patterns.ensures.fault
+
+pub a_member-returns-clause-fault : goal.a_member-returns-clause-fault
+a_member-returns-clause-fault t c =
+    IfErr-weaker c.a_pattern.result _ _ (λ e stop f ss p ps long deep. stops_there c.args.tail c.args.text.now c.args.text.now (a_pattern (next_in_fold c.args.side f ss c.args.level p ps)) (a_pattern c.next_in_fold-inner.result) (λ k. k) e (λ k. sym (alike c.args.tail c.args.text.now c.next_in_fold-inner.result (next_in_fold c.args.side f ss c.args.level p ps) k (c.next_in_fold-inner.ensures.alike f ss p ps long deep))) stop) c.a_pattern.ensures.fault
 
 pub more_folded-returns-in_err-member-in-Comma-clause-fault :
     goal.more_folded-returns-in_err-member-in-Comma-clause-fault
