@@ -4,6 +4,7 @@ pub mod ArcLemmas
 pub mod ConjunctionLemmas
 pub mod Dividing
 pub mod AfterLemmas
+pub mod Apart
 pub mod InstanceLemmas
 pub mod RunLemmas
 pub mod Branching

@@ -1,3 +1,4 @@
+pub mod Apart
 pub mod Arcs
 pub mod AtHand
 pub mod Attributes

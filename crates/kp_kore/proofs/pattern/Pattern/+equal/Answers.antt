@@ -1,5 +1,7 @@
-use Rattle.std.proofs.Common.{◌≡◌, map, arith}
-use Rattle.kp_kore.specs.View.{view}
+use Rattle.std.proofs.Common.{◌≡◌, ◌≤◌, map, arith}
+use Rattle.kp_kore.specs.Parts.{nesting, most_nesting}
+use Rattle.kp_kore.specs.View.{view, patterns_view}
+use Rattle.kp_kore.proofs.Apart.{member_is_no_deeper}
 use Rattle.kp_kore.proofs.Views.{same_length, same_at, same_patterns, no_is_right}
 use Rattle.kp_kore.proofs.pattern.Pattern.+equal.Goals as goal
 
@@ -16,3 +18,9 @@ all_equal-returns-then-not-equal t c =
     (same_patterns (map view c.args.patterns.now) (map view c.args.others.now) e)
     c.loop-i-test.true (omega arith) c.index-patterns-i.is c.index-others-i.is in
     absurd (cc (c.equal.ensures.1 at_place, c.if-not-equal.true)))
+
+pub all_equal-equal-requires : goal.all_equal-equal-requires
+all_equal-equal-requires t c =
+    let deep : nesting (view c.index-patterns-i.result) ≤ most_nesting (patterns_view c.args.patterns.now) =
+    member_is_no_deeper c.args.patterns.now c.loop-i.i c.index-patterns-i.result c.loop-i-test.true c.index-patterns-i.is in
+    (omega (arith, deep), tt)
