@@ -28,10 +28,19 @@ use kp_signature::{Meaning, Signature, meaning_of};
 use std::alloc::{AllocError, Global};
 
 /// A configuration and the sort that it is written at.
-#[derive(Drop)]
 pub struct GroundState {
     pub value: Value,
     pub sort: Sort,
+}
+
+// Written out: a derived one is proved again in each crate that owns such a value.
+impl Drop for GroundState {
+    fn drop(self) {
+        let GroundState {
+            value: _value,
+            sort: _sort,
+        } = self;
+    }
 }
 
 /// The state that a verified pattern of this sort is: T1 of the first foreign symbol that stands in it, then T2 where it

@@ -10,10 +10,19 @@ use std::sync::Arc;
 
 /// What a variable stands for. Its place among the bindings is the variable's slot; the name, which left terms share,
 /// only says whose it is.
-#[derive(Drop)]
 pub struct Binding {
     pub name: Arc<String>,
     pub value: Value,
+}
+
+// Written out: a derived one is proved again in each crate that owns such a value.
+impl Drop for Binding {
+    fn drop(self) {
+        let Binding {
+            name: _name,
+            value: _value,
+        } = self;
+    }
 }
 
 /// What the variable of a slot is bound to.

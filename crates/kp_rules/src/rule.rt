@@ -11,7 +11,6 @@ use kp_kore::{Name, Sort};
 use std::sync::Arc;
 
 /// A rule of a rule set. A smaller priority number goes first. Rule sets share all but the priority.
-#[derive(Drop)]
 pub struct Rule {
     pub id: Arc<String>,
     pub priority: u32,
@@ -19,8 +18,19 @@ pub struct Rule {
     pub source: Arc<RuleSource>,
 }
 
+// Written out: a derived one is proved again in each crate that owns such a value.
+impl Drop for Rule {
+    fn drop(self) {
+        let Rule {
+            id: _id,
+            priority: _priority,
+            body: _body,
+            source: _source,
+        } = self;
+    }
+}
+
 /// Where a rule stands, and what it may be called.
-#[derive(Drop)]
 pub struct RuleSource {
     /// The name of its module, or the id of a module that was added.
     pub module: Name,
@@ -30,6 +40,18 @@ pub struct RuleSource {
     pub label: Option<Arc<String>>,
     /// `MODULE#NUMBER`.
     pub numbered: Arc<String>,
+}
+
+// Written out: a derived one is proved again in each crate that owns such a value.
+impl Drop for RuleSource {
+    fn drop(self) {
+        let RuleSource {
+            module: _module,
+            number: _number,
+            label: _label,
+            numbered: _numbered,
+        } = self;
+    }
 }
 
 /// What a rewrite axiom says, where all of it has a meaning; else what its left side may stand for.
@@ -84,9 +106,19 @@ impl Drop for Rewrite {
 }
 
 /// A left variable whose place doesn't give its sort, as under `inj` or alone at the top, with its slot.
-#[derive(Drop)]
 pub struct SortTest {
     pub name: String,
     pub slot: usize,
     pub sort: Sort,
+}
+
+// Written out: a derived one is proved again in each crate that owns such a value.
+impl Drop for SortTest {
+    fn drop(self) {
+        let SortTest {
+            name: _name,
+            slot: _slot,
+            sort: _sort,
+        } = self;
+    }
 }

@@ -15,10 +15,19 @@ use kp_kore::{Name, Pattern, Sort};
 use std::alloc::{AllocError, Global};
 
 /// A conjunction, in any order and nesting, of one term and predicates.
-#[derive(Drop)]
 pub struct RuleSide<'a> {
     pub term: &'a Pattern,
     pub predicates: Vec<&'a Pattern>,
+}
+
+// Written out: a derived one is proved again in each crate that owns such a value.
+impl<'a> Drop for RuleSide<'a> {
+    fn drop(self) {
+        let RuleSide {
+            term: _term,
+            predicates: _predicates,
+        } = self;
+    }
 }
 
 /// A variable that `\exists` binds.
@@ -29,18 +38,36 @@ pub struct Binder<'a> {
 }
 
 /// What `\exists` binds at the top, outermost first, and what stands under it.
-#[derive(Drop)]
 pub struct Bound<'a> {
     pub variables: Vec<Binder<'a>>,
     pub pattern: &'a Pattern,
 }
 
+// Written out: a derived one is proved again in each crate that owns such a value.
+impl<'a> Drop for Bound<'a> {
+    fn drop(self) {
+        let Bound {
+            variables: _variables,
+            pattern: _pattern,
+        } = self;
+    }
+}
+
 /// The parts of a `\rewrites`: each side is a conjunction of one term and predicates, the right one maybe under
 /// `\exists` of different names.
-#[derive(Drop)]
 pub struct Shape<'a> {
     pub left: RuleSide<'a>,
     pub right: RuleSide<'a>,
+}
+
+// Written out: a derived one is proved again in each crate that owns such a value.
+impl<'a> Drop for Shape<'a> {
+    fn drop(self) {
+        let Shape {
+            left: _left,
+            right: _right,
+        } = self;
+    }
 }
 
 /// The terms among the patterns.

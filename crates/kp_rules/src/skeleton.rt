@@ -28,7 +28,6 @@ use std::alloc::{AllocError, Global};
 use std::sync::Arc;
 
 /// What a rule's left side may stand for.
-#[derive(Drop)]
 pub enum Skeleton {
     /// Any value.
     Anything,
@@ -49,6 +48,26 @@ pub enum Skeleton {
         constructor: Arc<String>,
         arguments: Vec<Skeleton>,
     },
+}
+
+// Written out: a derived one is proved again in each crate that owns such a value.
+impl Drop for Skeleton {
+    fn drop(self) {
+        match self {
+            Skeleton::Anything => {}
+            Skeleton::Nothing => {}
+            Skeleton::Any { sort: _sort } => {}
+            Skeleton::Variable {
+                name: _name,
+                sort: _sort,
+            } => {}
+            Skeleton::Fixed { value: _value } => {}
+            Skeleton::Built {
+                constructor: _constructor,
+                arguments: _arguments,
+            } => {}
+        }
+    }
 }
 
 /// Any value of the sort; of a sort variable, any value.
