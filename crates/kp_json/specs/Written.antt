@@ -78,6 +78,32 @@ abbrev mutual
   pattern_trees no_patterns = Some no_items
   pattern_trees (next_pattern p ps) = first_and_rest (pattern_tree p) (pattern_trees ps)
 
+-- the trees of forms that are alike but for their tag, from the tree of the pattern below, where it has one; of two
+-- patterns the first has its tree already
+abbrev pub one_tree : Text → KoreSort → Option Data → Option Data
+one_tree tag s = one_part (λ d. tagged tag (sort_member s ∷ (codes "arg", d) ∷ []))
+
+abbrev pub bound_tree : Text → KoreSort → Text → KoreSort → Option Data → Option Data
+bound_tree tag s x t = one_part (λ d. quantifier_tree tag s x t d)
+
+abbrev pub bracketed_tree : Text → KoreSort → KoreSort → Option Data → Option Data
+bracketed_tree tag a s = one_part (λ d. tagged tag ((codes "argSort", sort_tree a) ∷ sort_member s ∷ (codes "arg", d) ∷ []))
+
+abbrev pub list_tree : Text → KoreSort → KorePatterns → Option Data
+list_tree tag s ps = one_list (λ ds. tagged tag (sort_member s ∷ (codes "patterns", array ds) ∷ [])) (of_two_or_more ps (pattern_trees ps))
+
+abbrev pub application_tree : Text → KoreSorts → KorePatterns → Option Data
+application_tree f ss ps = one_list (λ ds. tagged (codes "App") ((codes "name", string f) ∷ (codes "sorts", array (sort_trees ss)) ∷ (codes "args", array ds) ∷ [])) (pattern_trees ps)
+
+abbrev pub two_tree : Text → KoreSort → Data → Option Data → Option Data
+two_tree tag s d = one_part (λ e. tagged tag (sort_member s ∷ (codes "first", d) ∷ (codes "second", e) ∷ []))
+
+abbrev pub rewriting_tree : KoreSort → Data → Option Data → Option Data
+rewriting_tree s d = one_part (λ e. tagged (codes "Rewrites") (sort_member s ∷ (codes "source", d) ∷ (codes "dest", e) ∷ []))
+
+abbrev pub compared_tree : Text → KoreSort → KoreSort → Data → Option Data → Option Data
+compared_tree tag a s d = one_part (λ e. comparison_tree tag a s d e)
+
 -- {"format":"KORE","term":T,"version":1}
 abbrev pub wrapped : Data → Data
 wrapped tree = object_of ((codes "format", string (codes "KORE")) ∷ (codes "version", number (unsigned 1)) ∷ (codes "term", tree) ∷ [])

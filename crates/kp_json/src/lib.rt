@@ -7,6 +7,7 @@ pub mod laws;
 mod member;
 mod parts;
 mod pattern;
+mod shape;
 mod sort;
 mod tree;
 mod vecs;

@@ -3,6 +3,7 @@ ghost use Rattle.serde_json.specs.View.{view as data_view, items_view, members_v
 ghost use Rattle.kp_kore.specs.View.{view, sort_view, patterns_view};
 ghost use Rattle.kp_json.specs.Faults.{read, pattern_within, pattern_items};
 ghost use Rattle.kp_json.specs.Faults as spec;
+ghost use Rattle.kp_json.specs.Shapes.{quantified_reading, bracketed_reading, connected_reading, compared_reading};
 ghost use Rattle.kp_json.specs.View.{Tells};
 
 use crate::fault::{JsonError, JsonFault, missing, no_tag};
@@ -11,6 +12,7 @@ use crate::parts::{
     bound_and_one, literal_of, sort_alone, sort_and_one, sort_and_two, sorts_and_one,
     sorts_and_two, symbol_and_lists, variable_of,
 };
+use crate::shape::{Bracketed, Compared, Connected, Quantified};
 use crate::sort::sort_of;
 use crate::vecs::{conjunction, disjunction, two};
 use kp_kore::{Pattern, Sort};
@@ -105,39 +107,13 @@ fn single_tagged(
         let pattern = boxed(alloc, below, tree)?;
         Ok(Pattern::Not { sort, pattern })
     } else if tag == "Exists" {
-        let (sort, name, name_sort, tree) = bound_and_one(alloc, object)?;
-        let pattern = boxed(alloc, below, tree)?;
-        Ok(Pattern::Exists {
-            sort,
-            name,
-            name_sort,
-            pattern,
-        })
+        quantified(alloc, below, object, Quantified::Exists)
     } else if tag == "Forall" {
-        let (sort, name, name_sort, tree) = bound_and_one(alloc, object)?;
-        let pattern = boxed(alloc, below, tree)?;
-        Ok(Pattern::Forall {
-            sort,
-            name,
-            name_sort,
-            pattern,
-        })
+        quantified(alloc, below, object, Quantified::Forall)
     } else if tag == "Ceil" {
-        let (argument_sort, sort, tree) = sorts_and_one(alloc, object)?;
-        let pattern = boxed(alloc, below, tree)?;
-        Ok(Pattern::Ceil {
-            argument_sort,
-            sort,
-            pattern,
-        })
+        bracketed(alloc, below, object, Bracketed::Ceil)
     } else if tag == "Floor" {
-        let (argument_sort, sort, tree) = sorts_and_one(alloc, object)?;
-        let pattern = boxed(alloc, below, tree)?;
-        Ok(Pattern::Floor {
-            argument_sort,
-            sort,
-            pattern,
-        })
+        bracketed(alloc, below, object, Bracketed::Floor)
     } else {
         double_tagged(alloc, below, object, tag)
     }
@@ -156,43 +132,86 @@ fn double_tagged(
     ensures fault { IfErr result (λ e. Tells e (spec.double_tagged (pattern_within below) (members_view object.now.entries) tag.now)) }
 {
     if tag == "Implies" {
-        let (sort, first, second) = sort_and_two(alloc, object, "first", "second")?;
-        let left = boxed(alloc, below, first)?;
-        let right = boxed(alloc, below, second)?;
-        Ok(Pattern::Implies { sort, left, right })
+        connected(alloc, below, object, Connected::Implies, "first", "second")
     } else if tag == "Iff" {
-        let (sort, first, second) = sort_and_two(alloc, object, "first", "second")?;
-        let left = boxed(alloc, below, first)?;
-        let right = boxed(alloc, below, second)?;
-        Ok(Pattern::Iff { sort, left, right })
+        connected(alloc, below, object, Connected::Iff, "first", "second")
     } else if tag == "Rewrites" {
-        let (sort, source, dest) = sort_and_two(alloc, object, "source", "dest")?;
-        let left = boxed(alloc, below, source)?;
-        let right = boxed(alloc, below, dest)?;
-        Ok(Pattern::Rewrites { sort, left, right })
+        connected(alloc, below, object, Connected::Rewrites, "source", "dest")
     } else if tag == "Equals" {
-        let (argument_sort, sort, first, second) = sorts_and_two(alloc, object)?;
-        let left = boxed(alloc, below, first)?;
-        let right = boxed(alloc, below, second)?;
-        Ok(Pattern::Equals {
-            argument_sort,
-            sort,
-            left,
-            right,
-        })
+        compared(alloc, below, object, Compared::Equals)
     } else if tag == "In" {
-        let (argument_sort, sort, first, second) = sorts_and_two(alloc, object)?;
-        let left = boxed(alloc, below, first)?;
-        let right = boxed(alloc, below, second)?;
-        Ok(Pattern::In {
-            argument_sort,
-            sort,
-            left,
-            right,
-        })
+        compared(alloc, below, object, Compared::In)
     } else {
         Err(no_tag(alloc, tag))
     }
+}
+
+/// The quantifier that an object spells.
+#[cycle(pattern)]
+fn quantified(
+    alloc: Global,
+    below: usize,
+    object: &Object,
+    form: Quantified,
+) -> Result<Pattern, JsonError>
+    ensures found { IfOk result (λ p. quantified_reading (pattern_within below) form (members_view object.now.entries) ≡ read (view p)) }
+    ensures fault { IfErr result (λ e. Tells e (quantified_reading (pattern_within below) form (members_view object.now.entries))) }
+{
+    let (sort, name, name_sort, tree) = bound_and_one(alloc, object)?;
+    let pattern = boxed(alloc, below, tree)?;
+    Ok(form.over(sort, name, name_sort, pattern))
+}
+
+/// `\ceil` or `\floor`, as an object spells it.
+#[cycle(pattern)]
+fn bracketed(
+    alloc: Global,
+    below: usize,
+    object: &Object,
+    form: Bracketed,
+) -> Result<Pattern, JsonError>
+    ensures found { IfOk result (λ p. bracketed_reading (pattern_within below) form (members_view object.now.entries) ≡ read (view p)) }
+    ensures fault { IfErr result (λ e. Tells e (bracketed_reading (pattern_within below) form (members_view object.now.entries))) }
+{
+    let (argument_sort, sort, tree) = sorts_and_one(alloc, object)?;
+    let pattern = boxed(alloc, below, tree)?;
+    Ok(form.over(argument_sort, sort, pattern))
+}
+
+/// The connective of two patterns under these keys.
+#[cycle(pattern)]
+fn connected(
+    alloc: Global,
+    below: usize,
+    object: &Object,
+    form: Connected,
+    first: &str,
+    second: &str,
+) -> Result<Pattern, JsonError>
+    ensures found { IfOk result (λ p. connected_reading (pattern_within below) form first.now second.now (members_view object.now.entries) ≡ read (view p)) }
+    ensures fault { let reading = connected_reading (pattern_within below) form first.now second.now (members_view object.now.entries) in IfErr result (λ e. Tells e reading) }
+{
+    let (sort, first, second) = sort_and_two(alloc, object, first, second)?;
+    let left = boxed(alloc, below, first)?;
+    let right = boxed(alloc, below, second)?;
+    Ok(form.over(sort, left, right))
+}
+
+/// `\equals` or `\in`, as an object spells it.
+#[cycle(pattern)]
+fn compared(
+    alloc: Global,
+    below: usize,
+    object: &Object,
+    form: Compared,
+) -> Result<Pattern, JsonError>
+    ensures found { IfOk result (λ p. compared_reading (pattern_within below) form (members_view object.now.entries) ≡ read (view p)) }
+    ensures fault { IfErr result (λ e. Tells e (compared_reading (pattern_within below) form (members_view object.now.entries))) }
+{
+    let (argument_sort, sort, first, second) = sorts_and_two(alloc, object)?;
+    let left = boxed(alloc, below, first)?;
+    let right = boxed(alloc, below, second)?;
+    Ok(form.over(argument_sort, sort, left, right))
 }
 
 /// The members of And and Or.

@@ -1,13 +1,14 @@
 ghost use Rattle.std.specs.Prelude.{◌≡◌, IfOk, IfErr, Some, option_map};
 ghost use Rattle.serde_json.specs.Data.{object};
 ghost use Rattle.serde_json.specs.View.{view as data_view, items_view, members_view};
-ghost use Rattle.kp_kore.specs.View.{view, patterns_view};
+ghost use Rattle.kp_kore.specs.View.{view, patterns_view, sort_view, sorts_view};
 ghost use Rattle.kp_json.specs.Written.{of_two_or_more, pattern_tree, pattern_trees, wrapped_pattern};
+ghost use Rattle.kp_json.specs.Written.{application_tree, list_tree, one_tree, bound_tree, bracketed_tree, two_tree, rewriting_tree, compared_tree};
 ghost use Rattle.kp_json.specs.View.{Untold};
 
 use crate::member::Object;
 use crate::{form, tree};
-use kp_kore::Pattern;
+use kp_kore::{Pattern, Sort};
 use serde_json::{Value, push};
 use std::alloc::{AllocError, AllocFailed, Global};
 
@@ -83,72 +84,43 @@ fn pattern_object(alloc: Global, pattern: &Pattern) -> Result<Object, Unwritten>
             symbol,
             sorts,
             arguments,
-        } => {
-            let arguments = pattern_values(alloc, arguments)?;
-            Ok(form::application(alloc, symbol, sorts, arguments)?)
-        }
-        Pattern::And { sort, patterns } => {
-            check_two(patterns)?;
-            let below = pattern_values(alloc, patterns)?;
-            Ok(form::list_below(alloc, "And", sort, below)?)
-        }
-        Pattern::Or { sort, patterns } => {
-            check_two(patterns)?;
-            let below = pattern_values(alloc, patterns)?;
-            Ok(form::list_below(alloc, "Or", sort, below)?)
-        }
-        Pattern::Not { sort, pattern } => {
-            let below = pattern_object(alloc, pattern)?;
-            Ok(form::one_below(alloc, "Not", sort, below)?)
-        }
+        } => applied(arguments, alloc, symbol, sorts),
+        Pattern::And { sort, patterns } => listed(patterns, alloc, "And", sort),
+        Pattern::Or { sort, patterns } => listed(patterns, alloc, "Or", sort),
+        Pattern::Not { sort, pattern } => over_one(pattern, alloc, "Not", sort),
         Pattern::Exists {
             sort,
             name,
             name_sort,
             pattern,
-        } => {
-            let below = pattern_object(alloc, pattern)?;
-            Ok(form::bound(alloc, "Exists", sort, name, name_sort, below)?)
-        }
+        } => quantified(pattern, alloc, "Exists", sort, name, name_sort),
         Pattern::Forall {
             sort,
             name,
             name_sort,
             pattern,
-        } => {
-            let below = pattern_object(alloc, pattern)?;
-            Ok(form::bound(alloc, "Forall", sort, name, name_sort, below)?)
-        }
+        } => quantified(pattern, alloc, "Forall", sort, name, name_sort),
         Pattern::Ceil {
             argument_sort,
             sort,
             pattern,
-        } => {
-            let below = pattern_object(alloc, pattern)?;
-            Ok(form::sorted_one(alloc, "Ceil", argument_sort, sort, below)?)
-        }
+        } => bracketed(pattern, alloc, "Ceil", argument_sort, sort),
         Pattern::Floor {
             argument_sort,
             sort,
             pattern,
-        } => {
-            let below = pattern_object(alloc, pattern)?;
-            Ok(form::sorted_one(alloc, "Floor", argument_sort, sort, below)?)
-        }
+        } => bracketed(pattern, alloc, "Floor", argument_sort, sort),
         Pattern::Implies { sort, left, right } => {
             let first = pattern_object(alloc, left)?;
-            let second = pattern_object(alloc, right)?;
-            Ok(form::two_below(alloc, "Implies", sort, first, second)?)
+            over_two(right, alloc, "Implies", sort, first)
         }
         Pattern::Iff { sort, left, right } => {
             let first = pattern_object(alloc, left)?;
-            let second = pattern_object(alloc, right)?;
-            Ok(form::two_below(alloc, "Iff", sort, first, second)?)
+            over_two(right, alloc, "Iff", sort, first)
         }
         Pattern::Rewrites { sort, left, right } => {
             let source = pattern_object(alloc, left)?;
-            let dest = pattern_object(alloc, right)?;
-            Ok(form::rewriting(alloc, sort, source, dest)?)
+            rewriting(right, alloc, sort, source)
         }
         Pattern::Equals {
             argument_sort,
@@ -157,8 +129,7 @@ fn pattern_object(alloc: Global, pattern: &Pattern) -> Result<Object, Unwritten>
             right,
         } => {
             let first = pattern_object(alloc, left)?;
-            let second = pattern_object(alloc, right)?;
-            Ok(form::sorted_two(alloc, "Equals", argument_sort, sort, first, second)?)
+            compared(right, alloc, "Equals", argument_sort, sort, first)
         }
         Pattern::In {
             argument_sort,
@@ -167,8 +138,7 @@ fn pattern_object(alloc: Global, pattern: &Pattern) -> Result<Object, Unwritten>
             right,
         } => {
             let first = pattern_object(alloc, left)?;
-            let second = pattern_object(alloc, right)?;
-            Ok(form::sorted_two(alloc, "In", argument_sort, sort, first, second)?)
+            compared(right, alloc, "In", argument_sort, sort, first)
         }
         Pattern::SetVariable { .. }
         | Pattern::StringLiteral { .. }
@@ -176,6 +146,123 @@ fn pattern_object(alloc: Global, pattern: &Pattern) -> Result<Object, Unwritten>
         | Pattern::Mu { .. }
         | Pattern::Nu { .. } => Err(Unwritten::NoTag),
     }
+}
+
+/// The object of a symbol applied to these.
+#[cycle(pattern)]
+fn applied(
+    arguments: &[Pattern],
+    alloc: Global,
+    symbol: &str,
+    sorts: &[Sort],
+) -> Result<Object, Unwritten>
+    ensures written { IfOk result (λ o. application_tree symbol.now (sorts_view sorts.now) (patterns_view arguments.now) ≡ Some (object (members_view o.entries))) }
+    ensures unwritten { IfErr result (λ e. Untold e (application_tree symbol.now (sorts_view sorts.now) (patterns_view arguments.now))) }
+{
+    let arguments = pattern_values(alloc, arguments)?;
+    Ok(form::application(alloc, symbol, sorts, arguments)?)
+}
+
+/// The object of a connective of these, where they are two or more.
+#[cycle(pattern)]
+fn listed(patterns: &[Pattern], alloc: Global, tag: &str, sort: &Sort) -> Result<Object, Unwritten>
+    ensures written { IfOk result (λ o. list_tree tag.now (sort_view sort.now) (patterns_view patterns.now) ≡ Some (object (members_view o.entries))) }
+    ensures unwritten { IfErr result (λ e. Untold e (list_tree tag.now (sort_view sort.now) (patterns_view patterns.now))) }
+{
+    check_two(patterns)?;
+    let below = pattern_values(alloc, patterns)?;
+    Ok(form::list_below(alloc, tag, sort, below)?)
+}
+
+/// The object of a pattern over this one.
+#[cycle(pattern)]
+fn over_one(pattern: &Pattern, alloc: Global, tag: &str, sort: &Sort) -> Result<Object, Unwritten>
+    ensures written { IfOk result (λ o. one_tree tag.now (sort_view sort.now) (pattern_tree (view pattern.now)) ≡ Some (object (members_view o.entries))) }
+    ensures unwritten { IfErr result (λ e. Untold e (one_tree tag.now (sort_view sort.now) (pattern_tree (view pattern.now)))) }
+{
+    let below = pattern_object(alloc, pattern)?;
+    Ok(form::one_below(alloc, tag, sort, below)?)
+}
+
+/// The object of a quantifier over this pattern.
+#[cycle(pattern)]
+fn quantified(
+    pattern: &Pattern,
+    alloc: Global,
+    tag: &str,
+    sort: &Sort,
+    name: &str,
+    name_sort: &Sort,
+) -> Result<Object, Unwritten>
+    ensures written { let below = pattern_tree (view pattern.now) in IfOk result (λ o. bound_tree tag.now (sort_view sort.now) name.now (sort_view name_sort.now) below ≡ Some (object (members_view o.entries))) }
+    ensures unwritten { IfErr result (λ e. Untold e (bound_tree tag.now (sort_view sort.now) name.now (sort_view name_sort.now) (pattern_tree (view pattern.now)))) }
+{
+    let below = pattern_object(alloc, pattern)?;
+    Ok(form::bound(alloc, tag, sort, name, name_sort, below)?)
+}
+
+/// The object of `\ceil` or `\floor` of this pattern.
+#[cycle(pattern)]
+fn bracketed(
+    pattern: &Pattern,
+    alloc: Global,
+    tag: &str,
+    argument_sort: &Sort,
+    sort: &Sort,
+) -> Result<Object, Unwritten>
+    ensures written { let below = pattern_tree (view pattern.now) in IfOk result (λ o. bracketed_tree tag.now (sort_view argument_sort.now) (sort_view sort.now) below ≡ Some (object (members_view o.entries))) }
+    ensures unwritten { IfErr result (λ e. Untold e (bracketed_tree tag.now (sort_view argument_sort.now) (sort_view sort.now) (pattern_tree (view pattern.now)))) }
+{
+    let below = pattern_object(alloc, pattern)?;
+    Ok(form::sorted_one(alloc, tag, argument_sort, sort, below)?)
+}
+
+/// The object of a connective of two patterns, the first of which is written.
+#[cycle(pattern)]
+fn over_two(
+    right: &Pattern,
+    alloc: Global,
+    tag: &str,
+    sort: &Sort,
+    first: Object,
+) -> Result<Object, Unwritten>
+    ensures written { let second = pattern_tree (view right.now) in IfOk result (λ o. two_tree tag.now (sort_view sort.now) (object (members_view first.entries)) second ≡ Some (object (members_view o.entries))) }
+    ensures unwritten { IfErr result (λ e. Untold e (two_tree tag.now (sort_view sort.now) (object (members_view first.entries)) (pattern_tree (view right.now)))) }
+{
+    let second = pattern_object(alloc, right)?;
+    Ok(form::two_below(alloc, tag, sort, first, second)?)
+}
+
+/// The object of `\rewrites`, whose source is written.
+#[cycle(pattern)]
+fn rewriting(
+    right: &Pattern,
+    alloc: Global,
+    sort: &Sort,
+    source: Object,
+) -> Result<Object, Unwritten>
+    ensures written { let dest = pattern_tree (view right.now) in IfOk result (λ o. rewriting_tree (sort_view sort.now) (object (members_view source.entries)) dest ≡ Some (object (members_view o.entries))) }
+    ensures unwritten { IfErr result (λ e. Untold e (rewriting_tree (sort_view sort.now) (object (members_view source.entries)) (pattern_tree (view right.now)))) }
+{
+    let dest = pattern_object(alloc, right)?;
+    Ok(form::rewriting(alloc, sort, source, dest)?)
+}
+
+/// The object of `\equals` or `\in`, whose first pattern is written.
+#[cycle(pattern)]
+fn compared(
+    right: &Pattern,
+    alloc: Global,
+    tag: &str,
+    argument_sort: &Sort,
+    sort: &Sort,
+    first: Object,
+) -> Result<Object, Unwritten>
+    ensures written { let first' = object (members_view first.entries) in let second = pattern_tree (view right.now) in IfOk result (λ o. compared_tree tag.now (sort_view argument_sort.now) (sort_view sort.now) first' second ≡ Some (object (members_view o.entries))) }
+    ensures unwritten { let first' = object (members_view first.entries) in IfErr result (λ e. Untold e (compared_tree tag.now (sort_view argument_sort.now) (sort_view sort.now) first' (pattern_tree (view right.now)))) }
+{
+    let second = pattern_object(alloc, right)?;
+    Ok(form::sorted_two(alloc, tag, argument_sort, sort, first, second)?)
 }
 
 /// The objects of the patterns, in order.

@@ -22,17 +22,29 @@ decreases-sort_and_list l = 8 * l.below + 2
 abbrev pub decreases-sort_and_members : goal.decreases-sort_and_members
 decreases-sort_and_members l = 8 * l.below + 3
 
+abbrev pub decreases-quantified : goal.decreases-quantified
+decreases-quantified l = 8 * l.below + 2
+
+abbrev pub decreases-bracketed : goal.decreases-bracketed
+decreases-bracketed l = 8 * l.below + 2
+
+abbrev pub decreases-connected : goal.decreases-connected
+decreases-connected l = 8 * l.below + 2
+
+abbrev pub decreases-compared : goal.decreases-compared
+decreases-compared l = 8 * l.below + 2
+
 abbrev pub decreases-double_tagged : goal.decreases-double_tagged
-decreases-double_tagged l = 8 * l.below + 2
+decreases-double_tagged l = 8 * l.below + 3
 
 abbrev pub decreases-single_tagged : goal.decreases-single_tagged
-decreases-single_tagged l = 8 * l.below + 3
+decreases-single_tagged l = 8 * l.below + 4
 
 abbrev pub decreases-listed_tagged : goal.decreases-listed_tagged
-decreases-listed_tagged l = 8 * l.below + 4
+decreases-listed_tagged l = 8 * l.below + 5
 
 abbrev pub decreases-pattern_tagged : goal.decreases-pattern_tagged
-decreases-pattern_tagged l = 8 * l.below + 5
+decreases-pattern_tagged l = 8 * l.below + 6
 
 abbrev pub invariant-patterns_of-loop-value : goal.invariant-patterns_of-loop-value
 invariant-patterns_of-loop-value l =
