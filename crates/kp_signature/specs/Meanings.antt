@@ -1,5 +1,6 @@
 -- Which meanings of the model the code's are.
-use Rattle.std.specs.Prelude.{List, take, drop}
+use Rattle.std.specs.Prelude.{List, map}
+use Rattle.std.specs.Borrow.{Bor}
 use Rattle.kp_kore.specs.Syntax.{Text}
 use Rattle.kp_kore.specs.Hooks as model
 use Rattle.kp_kore.specs.Signature.{SymbolMeaning, injection, construction, interpretation, foreign}
@@ -19,22 +20,9 @@ meaning_view Constructor = construction
 meaning_view (Interpreted f) = interpretation (function_view f)
 meaning_view Foreign = foreign
 
--- the rows of the table of hooks by their kinds, as the table has them
-abbrev pub arithmetic_rows : List (Text × model.Hook)
-arithmetic_rows = take 3 model.hook_table
+-- rows of a table of hooks: names with the functions that they stand for
+abbrev pub row_view : Bor Text × Function → Text × model.Hook
+row_view r = (r.0.now, function_view r.1)
 
-abbrev pub comparison_rows : List (Text × model.Hook)
-comparison_rows = take 6 (drop 3 model.hook_table)
-
-abbrev pub truth_rows : List (Text × model.Hook)
-truth_rows = take 8 (drop 9 model.hook_table)
-
-abbrev pub equality_rows : List (Text × model.Hook)
-equality_rows = drop 17 model.hook_table
-
--- those of truth values: and and or, then not, then the others
-abbrev pub joining_rows : List (Text × model.Hook)
-joining_rows = take 4 truth_rows
-
-abbrev pub comparing_rows : List (Text × model.Hook)
-comparing_rows = drop 5 truth_rows
+abbrev pub rows_view : List (Bor Text × Function) → List (Text × model.Hook)
+rows_view = map row_view

@@ -16,7 +16,6 @@ use kp_kore::{AliasSentence, Module, Name, Sort, SortSentence, SymbolSentence};
 use std::alloc::{AllocError, Global};
 
 /// The declarations, the order of their sorts, and the names of the sorts of whole numbers and truth values.
-#[derive(Drop)]
 pub struct Declarations {
     pub table: DeclarationTable,
     pub(crate) order: SortOrder,
@@ -26,6 +25,18 @@ pub struct Declarations {
     ghost ordered: { ∥ IsOrderOf (table_view table).subsorts order ∥₁ },
     ghost integers_named: { option_map string_bytes integers ≡ name_hooked (codes "INT.Int") (table_view table).sorts } by { Prim.hlevel props },
     ghost booleans_named: { option_map string_bytes booleans ≡ name_other_than (name_hooked (codes "INT.Int") (table_view table).sorts) (name_hooked (codes "BOOL.Bool") (table_view table).sorts) } by { Prim.hlevel props },
+}
+
+// Written out: a derived one is proved again at each exit where declarations are let go.
+impl Drop for Declarations {
+    fn drop(self) {
+        let Declarations {
+            table: _table,
+            order: _order,
+            integers: _integers,
+            booleans: _booleans,
+        } = self;
+    }
 }
 
 impl Declarations {

@@ -6,7 +6,6 @@ use kp_kore::{AliasSentence, Sentence, SortSentence, SymbolSentence};
 use std::alloc::{AllocError, Global};
 
 /// The declarations in order, and the first place of each name among them.
-#[derive(Drop)]
 pub struct DeclarationTable {
     pub sorts: Vec<SortSentence>,
     pub symbols: Vec<SymbolSentence>,
@@ -15,6 +14,21 @@ pub struct DeclarationTable {
     pub sort_places: NamePlaces,
     pub symbol_places: NamePlaces,
     pub alias_places: NamePlaces,
+}
+
+// Written out: a derived one is proved again at each exit where a table is let go.
+impl Drop for DeclarationTable {
+    fn drop(self) {
+        let DeclarationTable {
+            sorts: _sorts,
+            symbols: _symbols,
+            aliases: _aliases,
+            subsorts: _subsorts,
+            sort_places: _sort_places,
+            symbol_places: _symbol_places,
+            alias_places: _alias_places,
+        } = self;
+    }
 }
 
 impl DeclarationTable {
