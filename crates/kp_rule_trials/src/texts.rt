@@ -1,5 +1,5 @@
 // What texts spell.
-use kp_compile::{GroundState, state_of};
+use kp_compile::{state_of};
 use kp_ground::Value;
 use kp_kore::{Module, Pattern, Sort};
 use kp_signature::Signature;
@@ -42,10 +42,7 @@ pub(crate) fn sort(alloc: Global, name: &str) -> Result<Sort, AllocError> {
 pub(crate) fn value(alloc: Global, signature: &Signature, text: &str) -> Result<Value, Fail> {
     let pattern = pattern(alloc, text)?;
     match state_of(alloc, signature, &pattern, sort(alloc, "S")?) {
-        Ok(state) => {
-            let GroundState { value, .. } = state;
-            Ok(value)
-        }
+        Ok(state) => Ok(state.value.share(alloc)?),
         Err(_) => Err(Fail::from("no value")),
     }
 }
