@@ -43,6 +43,10 @@ abbrev pub many_meaning : OfMany → List KorePattern → KorePattern
 many_meaning (many.Application f ss) ps = application (string_bytes f) (sorts_view ss.items) (patterns_of ps)
 many_meaning (many.Variadic v s) ps = variadic_meaning v (sort_view s) ps
 
+-- a pattern and the mark behind it
+abbrev pub closed_place : Level → ℕ → (KorePattern → Place) → Place
+closed_place l c k = a_pattern l (λ p. a_mark c (k p))
+
 -- what may come next behind a head
 abbrev pub one_place : Level → OfOne → (KorePattern → Place) → Place
 one_place l h k = a_pattern (below l) (λ p. a_mark 41 (k (one_meaning h p)))

@@ -17,6 +17,9 @@ decreases-a_member l = 4 * length l.text.now + 1
 abbrev pub decreases-with_patterns : goal.decreases-with_patterns
 decreases-with_patterns l = 4 * length l.text.now + 3
 
+abbrev pub decreases-closed_pattern : goal.decreases-closed_pattern
+decreases-closed_pattern l = 4 * length l.text.now + 1
+
 abbrev pub decreases-with_one : goal.decreases-with_one
 decreases-with_one l = 4 * length l.text.now + 2
 
