@@ -2,9 +2,9 @@ ghost use Rattle.std.specs.Prelude.{◌≡◌, ℕ, ◌+◌, ◌<◌, ◌≤◌,
 ghost use Rattle.kp_kore.specs.Syntax.{Text, KoreSorts, KorePattern};
 ghost use Rattle.kp_kore.specs.View.{view, sort_view, sorts_view};
 ghost use Rattle.kp_text.specs.Grammar.{next_in_fold, fold_meaning};
-ghost use Rattle.kp_text.specs.Next.{Place, a_pattern, patterns, more_patterns, more_folded};
+ghost use Rattle.kp_text.specs.Next.{Place, a_pattern, patterns, more_folded};
 ghost use Rattle.kp_text.specs.Reads.{run_text, failed, Finds, Stops, IsBehind, IsNotBefore};
-ghost use Rattle.kp_text.specs.Heads.{head_place, closed_place, one_place, two_place, many_place, fold_place, variadic_fold_place, IsDeep};
+ghost use Rattle.kp_text.specs.Heads.{head_place, closed_place, some_patterns, one_place, two_place, many_place, fold_place, variadic_fold_place, IsDeep};
 
 use crate::expected::{Separator, mark, mark_ahead, next_separator};
 use crate::fault::TextFailure;
@@ -188,41 +188,34 @@ pub fn patterns<'a>(
 {
     match mark_ahead(alloc, close, text, tail)? {
         Some(rest) => Ok((Vec::new(alloc), rest)),
-        None => {
-            let (first, rest) = a_pattern(alloc, level, text, tail)?;
-            more_patterns(alloc, level, close, first, rest, tail)
-        }
+        None => some_patterns(alloc, level, close, text, tail),
     }
 }
 
-/// Patterns of which the first was read.
+/// Patterns with commas between them, one at least, and what comes behind the mark that closes them.
 #[cycle(pattern)]
 #[tactic(auto, using(crate::proofs::InPatterns::patterns_close, crate::proofs::InPatterns::patterns_go_on, crate::proofs::InPatterns::patterns_separated))]
-fn more_patterns<'a>(
+fn some_patterns<'a>(
     alloc: Global,
     level: Level,
     close: char,
-    first: Pattern,
     text: &'a str,
     tail: Tail,
 ) -> Result<(Vec<Pattern>, &'a str), TextFailure>
     requires written { level.written ≤ level.reached }
     requires meant { level.meant ≤ level.reached }
-    ensures found { IfOk result (λ x. Finds tail text.now (more_patterns level close (view first ∷ [])) (map view x.0.items) x.1.now) }
-    ensures fault { IfErr result (Stops tail text.now (more_patterns level close (view first ∷ []))) }
+    ensures found { IfOk result (λ x. Finds tail text.now (some_patterns level close) (map view x.0.items) x.1.now) }
+    ensures fault { IfErr result (Stops tail text.now (some_patterns level close)) }
     ensures behind { IfOk result (λ x. IsBehind x.1.now text.now) }
 {
     let mut patterns = Vec::new(alloc);
-    patterns.push(first)?;
     let mut rest = text;
     loop {
-        match next_separator(alloc, close, rest, tail)? {
+        let (pattern, after) = a_pattern(alloc, level, rest, tail)?;
+        patterns.push(pattern)?;
+        match next_separator(alloc, close, after, tail)? {
             Separator::Close(behind) => return Ok((patterns, behind)),
-            Separator::Comma(behind) => {
-                let (pattern, after) = a_pattern(alloc, level, behind, tail)?;
-                patterns.push(pattern)?;
-                rest = after;
-            }
+            Separator::Comma(behind) => rest = behind,
         }
     }
 }

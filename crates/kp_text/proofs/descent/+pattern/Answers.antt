@@ -5,34 +5,22 @@ use Rattle.kp_kore.specs.View.{view}
 use Rattle.kp_text.specs.Grammar.{below, next_in_fold}
 use Rattle.kp_text.specs.Heads.{one_meaning, two_meaning, closed_place, one_place, two_place, IsDeep}
 use Rattle.kp_kore.specs.Syntax.{KorePattern}
-use Rattle.kp_text.specs.Next.{Place, a_pattern, patterns, more_patterns, more_folded}
+use Rattle.kp_text.specs.Next.{Place, a_pattern, more_folded}
 use Rattle.kp_text.specs.Reads.{IsMarkAhead, IsSeparator, run_text}
 use Rattle.kp_text.proofs.Exits.{exit, stops_there, found_on, stopped_on}
 use Rattle.kp_text.proofs.InPatterns.{patterns_begin, fold_goes_on}
 use Rattle.kp_text.proofs.Alike.{alike}
 use Rattle.kp_text.proofs.descent.+pattern.Goals as goal
 
-pub patterns-returns-in_err-first-in-None-clause-fault :
-    goal.patterns-returns-in_err-first-in-None-clause-fault
-patterns-returns-in_err-first-in-None-clause-fault t c =
+pub patterns-returns-in-None-clause-found : goal.patterns-returns-in-None-clause-found
+patterns-returns-in-None-clause-found t c =
     let no = subst (IsMarkAhead c.args.tail c.args.text.now c.args.close) c.in-None.is c.in_ok-rest.ensures.found in
-    exit c.from_residual-in_err-first-in-None.result _ c.in_err-first-in-None.field-0.0 c.from_residual-in_err-first-in-None.ensures (stops_there c.args.tail c.args.text.now c.args.text.now (patterns c.args.level c.args.close) (a_pattern c.args.level) (λ k p. more_patterns c.args.level c.args.close (p ∷ []) k) _ (λ k. patterns_begin c.args.tail c.args.text.now c.args.level c.args.close k no) c.in_err-first-in-None.ensures.fault)
+    found_on c.some_patterns.result _ _ _ (λ k. sym (patterns_begin c.args.tail c.args.text.now c.args.level c.args.close k no)) c.some_patterns.ensures.found
 
-pub patterns-returns-in_ok-first-in-None-clause-found :
-    goal.patterns-returns-in_ok-first-in-None-clause-found
-patterns-returns-in_ok-first-in-None-clause-found t c =
+pub patterns-returns-in-None-clause-fault : goal.patterns-returns-in-None-clause-fault
+patterns-returns-in-None-clause-fault t c =
     let no = subst (IsMarkAhead c.args.tail c.args.text.now c.args.close) c.in-None.is c.in_ok-rest.ensures.found in
-    let l = c.args.level in
-    let close = c.args.close in
-    found_on c.more_patterns.result _ _ _ (λ k. c.in_ok-first-in-None.ensures.found (λ p. more_patterns l close (p ∷ []) k) ∙ sym (patterns_begin c.args.tail c.args.text.now l close k no)) c.more_patterns.ensures.found
-
-pub patterns-returns-in_ok-first-in-None-clause-fault :
-    goal.patterns-returns-in_ok-first-in-None-clause-fault
-patterns-returns-in_ok-first-in-None-clause-fault t c =
-    let no = subst (IsMarkAhead c.args.tail c.args.text.now c.args.close) c.in-None.is c.in_ok-rest.ensures.found in
-    let l = c.args.level in
-    let close = c.args.close in
-    stopped_on c.more_patterns.result _ _ (λ k. c.in_ok-first-in-None.ensures.found (λ p. more_patterns l close (p ∷ []) k) ∙ sym (patterns_begin c.args.tail c.args.text.now l close k no)) c.more_patterns.ensures.fault
+    stopped_on c.some_patterns.result _ _ (λ k. sym (patterns_begin c.args.tail c.args.text.now c.args.level c.args.close k no)) c.some_patterns.ensures.fault
 
 pub a_pattern-returns-clause-found : goal.a_pattern-returns-clause-found
 a_pattern-returns-clause-found t c =
