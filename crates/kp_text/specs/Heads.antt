@@ -5,7 +5,7 @@ use Rattle.kp_kore.specs.Parts.{nesting}
 use Rattle.kp_kore.specs.View.{view, sort_view, sorts_view, patterns_of, sorts_of}
 use Rattle.kp_text.specs.Tokens.{mark, lexeme, lexed, between}
 use Rattle.kp_text.specs.Grammar.{below, in_fold, first_in_fold, constant_meaning, unary_meaning, variadic_meaning, binary_meaning, quantifier_meaning, rounding_meaning, comparison_meaning, fixed_point_meaning, fold_meaning}
-use Rattle.kp_text.specs.Next.{Place, a_mark, a_braced_sort, two_braced, no_braced, a_variable, a_string, a_pattern, patterns, more_folded, folded, sorts, Step, goes, refused}
+use Rattle.kp_text.specs.Next.{Place, a_mark, a_braced_sort, two_braced, no_braced, a_variable, a_string, a_pattern, patterns, more_patterns, more_folded, folded, sorts, Step, goes, refused}
 use Rattle.kp_text.specs.Reads.{run_text, IsBehind}
 use Rattle.kp_text.specs.declared.tail.Tail.{Tail}
 use Rattle.kp_text.specs.declared.keyword.Variadic.{Variadic}
@@ -42,6 +42,14 @@ two_meaning (two.Compared c a s) p q = comparison_meaning c (sort_view a) (sort_
 abbrev pub many_meaning : OfMany → List KorePattern → KorePattern
 many_meaning (many.Application f ss) ps = application (string_bytes f) (sorts_view ss.items) (patterns_of ps)
 many_meaning (many.Variadic v s) ps = variadic_meaning v (sort_view s) ps
+
+-- a pattern and the mark behind it
+abbrev pub closed_place : Level → ℕ → (KorePattern → Place) → Place
+closed_place l c k = a_pattern l (λ p. a_mark c (k p))
+
+-- one pattern or more before a mark that closes them
+abbrev pub some_patterns : Level → ℕ → (List KorePattern → Place) → Place
+some_patterns l close k = a_pattern l (λ p. more_patterns l close (p ∷ []) k)
 
 -- what may come next behind a head
 abbrev pub one_place : Level → OfOne → (KorePattern → Place) → Place

@@ -1,10 +1,10 @@
 -- What it says that a part of a text was read, or that a fault was met in it: whatever may follow that part, the
 -- text is read on from its place as what comes behind the part is read on from the place after it.
-use Rattle.std.specs.Prelude.{◌≡◌, ◌≢◌, ℕ, ◌<◌, ◌≤◌, Bool, false, ◌==◌, List, length, Option, Some, None, IsUtf8, string_bytes}
+use Rattle.std.specs.Prelude.{◌≡◌, ◌≢◌, ℕ, ◌<◌, ◌≤◌, Bool, false, ◌==◌, List, [], ◌∷◌, length, Option, Some, None, IsUtf8, string_bytes}
 use Rattle.std.specs.Borrow.{Bor}
 use Rattle.kp_text.specs.Tokens.{KoreToken, identifier, backslashed, mark, defined_as, Lexemes, finished, lexeme, broken, broken_string, lexed, between, string_token}
 use Rattle.kp_kore.specs.Syntax.{Text, KoreSort, KorePattern, set_variable, string_literal}
-use Rattle.kp_text.specs.Next.{a_variable, after_name, after_keyword, a_mark, a_pattern, Place, Outcome, faulty, run, step, Step, refused, goes, at_end}
+use Rattle.kp_text.specs.Next.{a_sort, more_sorts, a_variable, after_name, after_keyword, a_mark, a_pattern, Place, Outcome, faulty, run, step, Step, refused, goes, at_end}
 use Rattle.kp_text.specs.declared.tail.Tail.{Tail}
 use Rattle.kp_text.specs.declared.fault.FaultKind.TheVariants as kind
 use Rattle.kp_text.specs.Grammar.{below}
@@ -76,6 +76,10 @@ IsSeparator tail text close (separator.Close rest) = ((left : ℕ) × (lexed tai
 pub record IsSeparated (close : ℕ) (g : Place) : Type 0 where
   pub ends : at_end g ≡ faulty 0 kind.End
   pub others : (t : KoreToken) → is_that_mark close t ≡ false → is_that_mark 44 t ≡ false → step g t ≡ refused
+
+-- one sort or more before a mark that closes them
+abbrev pub some_sorts : ℕ → ℕ → (List KoreSort → Place) → Place
+some_sorts n close k = a_sort n (λ s. more_sorts n close (s ∷ []) k)
 
 -- the same of two and of three values
 abbrev pub Finds2 : {V W : Type 0} → Tail → List ℕ → ((V → W → Place) → Place) → V → W → List ℕ → Type 0

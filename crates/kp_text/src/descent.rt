@@ -2,9 +2,9 @@ ghost use Rattle.std.specs.Prelude.{◌≡◌, ℕ, ◌+◌, ◌<◌, ◌≤◌,
 ghost use Rattle.kp_kore.specs.Syntax.{Text, KoreSorts, KorePattern};
 ghost use Rattle.kp_kore.specs.View.{view, sort_view, sorts_view};
 ghost use Rattle.kp_text.specs.Grammar.{next_in_fold, fold_meaning};
-ghost use Rattle.kp_text.specs.Next.{Place, a_pattern, patterns, more_patterns, more_folded};
+ghost use Rattle.kp_text.specs.Next.{Place, a_pattern, patterns, more_folded};
 ghost use Rattle.kp_text.specs.Reads.{run_text, failed, Finds, Stops, IsBehind, IsNotBefore};
-ghost use Rattle.kp_text.specs.Heads.{head_place, one_place, two_place, many_place, fold_place, variadic_fold_place, IsDeep};
+ghost use Rattle.kp_text.specs.Heads.{head_place, closed_place, some_patterns, one_place, two_place, many_place, fold_place, variadic_fold_place, IsDeep};
 
 use crate::expected::{Separator, mark, mark_ahead, next_separator};
 use crate::fault::TextFailure;
@@ -71,6 +71,26 @@ fn with_patterns<'a>(
     }
 }
 
+/// A pattern and the mark behind it, and what comes behind that.
+#[cycle(pattern)]
+fn closed_pattern<'a>(
+    alloc: Global,
+    level: Level,
+    close: char,
+    text: &'a str,
+    tail: Tail,
+) -> Result<(Box<Pattern>, &'a str), TextFailure>
+    requires written { level.written ≤ level.reached }
+    requires meant { level.meant ≤ level.reached }
+    ensures found { IfOk result (λ x. Finds tail text.now (closed_place level close) (view x.0.value) x.1.now) }
+    ensures fault { IfErr result (Stops tail text.now (closed_place level close)) }
+    ensures behind { IfOk result (λ x. IsBehind x.1.now text.now) }
+{
+    let (pattern, rest) = a_pattern(alloc, level, text, tail)?;
+    let rest = mark(alloc, close, rest, tail)?;
+    Ok((Box::new(alloc, pattern)?, rest))
+}
+
 /// `p)` in a form.
 #[cycle(pattern)]
 fn with_one<'a>(
@@ -86,9 +106,8 @@ fn with_one<'a>(
     ensures fault { IfErr result (Stops tail text.now (one_place level form)) }
     ensures behind { IfOk result (λ x. IsNotBefore x.1.now text.now) }
 {
-    let (pattern, rest) = a_pattern(alloc, level.below(), text, tail)?;
-    let rest = mark(alloc, ')', rest, tail)?;
-    Ok((form.with(alloc, pattern)?, rest))
+    let (pattern, rest) = closed_pattern(alloc, level.below(), ')', text, tail)?;
+    Ok((form.with(pattern), rest))
 }
 
 /// `p,q)` in a form.
@@ -106,11 +125,9 @@ fn with_two<'a>(
     ensures fault { IfErr result (Stops tail text.now (two_place level form)) }
     ensures behind { IfOk result (λ x. IsNotBefore x.1.now text.now) }
 {
-    let (left, rest) = a_pattern(alloc, level.below(), text, tail)?;
-    let rest = mark(alloc, ',', rest, tail)?;
-    let (right, rest) = a_pattern(alloc, level.below(), rest, tail)?;
-    let rest = mark(alloc, ')', rest, tail)?;
-    Ok((form.with(alloc, left, right)?, rest))
+    let (left, rest) = closed_pattern(alloc, level.below(), ',', text, tail)?;
+    let (right, rest) = closed_pattern(alloc, level.below(), ')', rest, tail)?;
+    Ok((form.with(left, right), rest))
 }
 
 /// Patterns and `)` in a form.
@@ -171,41 +188,34 @@ pub fn patterns<'a>(
 {
     match mark_ahead(alloc, close, text, tail)? {
         Some(rest) => Ok((Vec::new(alloc), rest)),
-        None => {
-            let (first, rest) = a_pattern(alloc, level, text, tail)?;
-            more_patterns(alloc, level, close, first, rest, tail)
-        }
+        None => some_patterns(alloc, level, close, text, tail),
     }
 }
 
-/// Patterns of which the first was read.
+/// Patterns with commas between them, one at least, and what comes behind the mark that closes them.
 #[cycle(pattern)]
 #[tactic(auto, using(crate::proofs::InPatterns::patterns_close, crate::proofs::InPatterns::patterns_go_on, crate::proofs::InPatterns::patterns_separated))]
-fn more_patterns<'a>(
+fn some_patterns<'a>(
     alloc: Global,
     level: Level,
     close: char,
-    first: Pattern,
     text: &'a str,
     tail: Tail,
 ) -> Result<(Vec<Pattern>, &'a str), TextFailure>
     requires written { level.written ≤ level.reached }
     requires meant { level.meant ≤ level.reached }
-    ensures found { IfOk result (λ x. Finds tail text.now (more_patterns level close (view first ∷ [])) (map view x.0.items) x.1.now) }
-    ensures fault { IfErr result (Stops tail text.now (more_patterns level close (view first ∷ []))) }
+    ensures found { IfOk result (λ x. Finds tail text.now (some_patterns level close) (map view x.0.items) x.1.now) }
+    ensures fault { IfErr result (Stops tail text.now (some_patterns level close)) }
     ensures behind { IfOk result (λ x. IsBehind x.1.now text.now) }
 {
     let mut patterns = Vec::new(alloc);
-    patterns.push(first)?;
     let mut rest = text;
     loop {
-        match next_separator(alloc, close, rest, tail)? {
+        let (pattern, after) = a_pattern(alloc, level, rest, tail)?;
+        patterns.push(pattern)?;
+        match next_separator(alloc, close, after, tail)? {
             Separator::Close(behind) => return Ok((patterns, behind)),
-            Separator::Comma(behind) => {
-                let (pattern, after) = a_pattern(alloc, level, behind, tail)?;
-                patterns.push(pattern)?;
-                rest = after;
-            }
+            Separator::Comma(behind) => rest = behind,
         }
     }
 }

@@ -1,4 +1,4 @@
-ghost use Rattle.std.specs.Prelude.{◌≡◌, ℕ, List, [], ◌∷◌, map, length, IfOk, string_bytes, Some, None};
+ghost use Rattle.std.specs.Prelude.{◌≡◌, ℕ, List, [], ◌∷◌, map, length, string_bytes, Some, None};
 ghost use Rattle.kp_kore.specs.View.{view, sort_view};
 ghost use Rattle.kp_text.specs.Grammar.{constant_meaning, unary_meaning, variadic_meaning, binary_meaning, quantifier_meaning, rounding_meaning, comparison_meaning, fixed_point_meaning};
 
@@ -6,7 +6,6 @@ use crate::keyword::{
     Binary, ComparisonKeyword, Constant, FixedPoint, Quantifier, Rounding, Unary, Variadic,
 };
 use kp_kore::{Pattern, Sort};
-use std::alloc::{AllocError, AllocFailed, Global};
 
 /// `\top{S}()` and `\bottom{S}()`.
 pub fn constant(constant: Constant, sort: Sort) -> Pattern
@@ -19,18 +18,12 @@ pub fn constant(constant: Constant, sort: Sort) -> Pattern
 }
 
 /// `\not{S}(p)` and `\next{S}(p)`.
-pub fn unary(
-    alloc: Global,
-    unary: Unary,
-    sort: Sort,
-    pattern: Pattern,
-) -> Result<Pattern, AllocFailed<Pattern>>
-    ensures { IfOk result (λ p. view p ≡ unary_meaning unary (sort_view sort) (view pattern)) }
+pub fn unary(unary: Unary, sort: Sort, pattern: Box<Pattern>) -> Pattern
+    ensures { view result ≡ unary_meaning unary (sort_view sort) (view pattern.value) }
 {
-    let pattern = Box::new(alloc, pattern)?;
     match unary {
-        Unary::Not => Ok(Pattern::Not { sort, pattern }),
-        Unary::Next => Ok(Pattern::Next { sort, pattern }),
+        Unary::Not => Pattern::Not { sort, pattern },
+        Unary::Next => Pattern::Next { sort, pattern },
     }
 }
 
@@ -58,127 +51,105 @@ pub fn variadic(variadic: Variadic, sort: Sort, patterns: Vec<Pattern>) -> Patte
 }
 
 /// `\implies{S}(p,q)`, `\iff{S}(p,q)` and `\rewrites{S}(p,q)`.
-pub fn binary(
-    alloc: Global,
-    binary: Binary,
-    sort: Sort,
-    left: Pattern,
-    right: Pattern,
-) -> Result<Pattern, AllocFailed<Pattern>>
-    ensures { IfOk result (λ p. view p ≡ binary_meaning binary (sort_view sort) (view left) (view right)) }
+pub fn binary(binary: Binary, sort: Sort, left: Box<Pattern>, right: Box<Pattern>) -> Pattern
+    ensures { view result ≡ binary_meaning binary (sort_view sort) (view left.value) (view right.value) }
 {
-    let left = Box::new(alloc, left)?;
-    let right = Box::new(alloc, right)?;
     match binary {
-        Binary::Implies => Ok(Pattern::Implies { sort, left, right }),
-        Binary::Iff => Ok(Pattern::Iff { sort, left, right }),
-        Binary::Rewrites => Ok(Pattern::Rewrites { sort, left, right }),
+        Binary::Implies => Pattern::Implies { sort, left, right },
+        Binary::Iff => Pattern::Iff { sort, left, right },
+        Binary::Rewrites => Pattern::Rewrites { sort, left, right },
     }
 }
 
 /// `\exists{S}(x:T,p)` and `\forall{S}(x:T,p)`.
 pub fn quantified(
-    alloc: Global,
     quantifier: Quantifier,
     sort: Sort,
     name: String,
     name_sort: Sort,
-    pattern: Pattern,
-) -> Result<Pattern, AllocFailed<Pattern>>
-    ensures { IfOk result (λ p. view p ≡ quantifier_meaning quantifier (sort_view sort) (string_bytes name) (sort_view name_sort) (view pattern)) }
+    pattern: Box<Pattern>,
+) -> Pattern
+    ensures { view result ≡ quantifier_meaning quantifier (sort_view sort) (string_bytes name) (sort_view name_sort) (view pattern.value) }
 {
-    let pattern = Box::new(alloc, pattern)?;
     match quantifier {
-        Quantifier::Exists => Ok(Pattern::Exists {
+        Quantifier::Exists => Pattern::Exists {
             sort,
             name,
             name_sort,
             pattern,
-        }),
-        Quantifier::Forall => Ok(Pattern::Forall {
+        },
+        Quantifier::Forall => Pattern::Forall {
             sort,
             name,
             name_sort,
             pattern,
-        }),
+        },
     }
 }
 
 /// `\ceil{A,S}(p)` and `\floor{A,S}(p)`.
 pub fn rounded(
-    alloc: Global,
     rounding: Rounding,
     argument_sort: Sort,
     sort: Sort,
-    pattern: Pattern,
-) -> Result<Pattern, AllocFailed<Pattern>>
-    ensures { IfOk result (λ p. view p ≡ rounding_meaning rounding (sort_view argument_sort) (sort_view sort) (view pattern)) }
+    pattern: Box<Pattern>,
+) -> Pattern
+    ensures { view result ≡ rounding_meaning rounding (sort_view argument_sort) (sort_view sort) (view pattern.value) }
 {
-    let pattern = Box::new(alloc, pattern)?;
     match rounding {
-        Rounding::Ceil => Ok(Pattern::Ceil {
+        Rounding::Ceil => Pattern::Ceil {
             argument_sort,
             sort,
             pattern,
-        }),
-        Rounding::Floor => Ok(Pattern::Floor {
+        },
+        Rounding::Floor => Pattern::Floor {
             argument_sort,
             sort,
             pattern,
-        }),
+        },
     }
 }
 
 /// `\equals{A,S}(p,q)` and `\in{A,S}(p,q)`.
 pub fn compared(
-    alloc: Global,
     comparison: ComparisonKeyword,
     argument_sort: Sort,
     sort: Sort,
-    left: Pattern,
-    right: Pattern,
-) -> Result<Pattern, AllocFailed<Pattern>>
-    ensures { IfOk result (λ p. view p ≡ comparison_meaning comparison (sort_view argument_sort) (sort_view sort) (view left) (view right)) }
+    left: Box<Pattern>,
+    right: Box<Pattern>,
+) -> Pattern
+    ensures { view result ≡ comparison_meaning comparison (sort_view argument_sort) (sort_view sort) (view left.value) (view right.value) }
 {
-    let left = Box::new(alloc, left)?;
-    let right = Box::new(alloc, right)?;
     match comparison {
-        ComparisonKeyword::Equals => Ok(Pattern::Equals {
+        ComparisonKeyword::Equals => Pattern::Equals {
             argument_sort,
             sort,
             left,
             right,
-        }),
-        ComparisonKeyword::In => Ok(Pattern::In {
+        },
+        ComparisonKeyword::In => Pattern::In {
             argument_sort,
             sort,
             left,
             right,
-        }),
+        },
     }
 }
 
 /// `\mu{}(@x:S,p)` and `\nu{}(@x:S,p)`.
-pub fn fixed(
-    alloc: Global,
-    fixed_point: FixedPoint,
-    name: String,
-    sort: Sort,
-    pattern: Pattern,
-) -> Result<Pattern, AllocFailed<Pattern>>
-    ensures { IfOk result (λ p. view p ≡ fixed_point_meaning fixed_point (string_bytes name) (sort_view sort) (view pattern)) }
+pub fn fixed(fixed_point: FixedPoint, name: String, sort: Sort, pattern: Box<Pattern>) -> Pattern
+    ensures { view result ≡ fixed_point_meaning fixed_point (string_bytes name) (sort_view sort) (view pattern.value) }
 {
-    let pattern = Box::new(alloc, pattern)?;
     match fixed_point {
-        FixedPoint::Mu => Ok(Pattern::Mu {
+        FixedPoint::Mu => Pattern::Mu {
             name,
             sort,
             pattern,
-        }),
-        FixedPoint::Nu => Ok(Pattern::Nu {
+        },
+        FixedPoint::Nu => Pattern::Nu {
             name,
             sort,
             pattern,
-        }),
+        },
     }
 }

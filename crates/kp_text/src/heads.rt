@@ -16,13 +16,13 @@ use crate::keyword::{
 };
 use crate::level::Level;
 use crate::lexer::Token;
-use crate::parts::{braced_sort, keyword, no_braces, string_literal, two_braced_sorts, variable};
+use crate::parts::{keyword, string_literal, variable};
 use crate::patterns::Beginning;
 use crate::sorts::{a_sort, sorts};
 use crate::tail::Tail;
 use kp_kore::sort::Name;
 use kp_kore::{Pattern, Sort};
-use std::alloc::{AllocFailed, Global};
+use std::alloc::Global;
 
 /// A form with one pattern in it, without that pattern.
 #[derive(Drop)]
@@ -51,27 +51,27 @@ pub enum OfOne {
 
 impl OfOne {
     /// The form with its pattern.
-    pub fn with(self, alloc: Global, pattern: Pattern) -> Result<Pattern, AllocFailed<Pattern>>
-        ensures { IfOk result (λ p. view p ≡ one_meaning self (view pattern)) }
+    pub fn with(self, pattern: Box<Pattern>) -> Pattern
+        ensures { view result ≡ one_meaning self (view pattern.value) }
     {
         match self {
-            OfOne::Unary { unary: form, sort } => unary(alloc, form, sort, pattern),
+            OfOne::Unary { unary: form, sort } => unary(form, sort, pattern),
             OfOne::Quantified {
                 quantifier,
                 sort,
                 name,
                 name_sort,
-            } => quantified(alloc, quantifier, sort, name, name_sort, pattern),
+            } => quantified(quantifier, sort, name, name_sort, pattern),
             OfOne::Rounded {
                 rounding,
                 argument_sort,
                 sort,
-            } => rounded(alloc, rounding, argument_sort, sort, pattern),
+            } => rounded(rounding, argument_sort, sort, pattern),
             OfOne::Fixed {
                 fixed_point,
                 name,
                 sort,
-            } => fixed(alloc, fixed_point, name, sort, pattern),
+            } => fixed(fixed_point, name, sort, pattern),
         }
     }
 }
@@ -92,21 +92,16 @@ pub enum OfTwo {
 
 impl OfTwo {
     /// The form with its patterns.
-    pub fn with(
-        self,
-        alloc: Global,
-        left: Pattern,
-        right: Pattern,
-    ) -> Result<Pattern, AllocFailed<Pattern>>
-        ensures { IfOk result (λ p. view p ≡ two_meaning self (view left) (view right)) }
+    pub fn with(self, left: Box<Pattern>, right: Box<Pattern>) -> Pattern
+        ensures { view result ≡ two_meaning self (view left.value) (view right.value) }
     {
         match self {
-            OfTwo::Binary { binary: form, sort } => binary(alloc, form, sort, left, right),
+            OfTwo::Binary { binary: form, sort } => binary(form, sort, left, right),
             OfTwo::Compared {
                 comparison,
                 argument_sort,
                 sort,
-            } => compared(alloc, comparison, argument_sort, sort, left, right),
+            } => compared(comparison, argument_sort, sort, left, right),
         }
     }
 }
@@ -226,7 +221,9 @@ fn opened(alloc: Global, text: &str, tail: Tail) -> Result<(Sort, &str), TextFai
     ensures fault { IfErr result (Stops tail text.now sort_opened) }
     ensures behind { IfOk result (λ x. IsBehind x.1.now text.now) }
 {
-    let (sort, rest) = braced_sort(alloc, text, tail)?;
+    let rest = mark(alloc, '{', text, tail)?;
+    let (sort, rest) = a_sort(alloc, 1, rest, tail)?;
+    let rest = mark(alloc, '}', rest, tail)?;
     let rest = mark(alloc, '(', rest, tail)?;
     Ok((sort, rest))
 }
@@ -237,7 +234,11 @@ fn two_opened(alloc: Global, text: &str, tail: Tail) -> Result<(Sort, Sort, &str
     ensures fault { IfErr result (Stops2 tail text.now sorts_opened) }
     ensures behind { IfOk result (λ x. IsBehind x.2.now text.now) }
 {
-    let (argument_sort, sort, rest) = two_braced_sorts(alloc, text, tail)?;
+    let rest = mark(alloc, '{', text, tail)?;
+    let (argument_sort, rest) = a_sort(alloc, 1, rest, tail)?;
+    let rest = mark(alloc, ',', rest, tail)?;
+    let (sort, rest) = a_sort(alloc, 1, rest, tail)?;
+    let rest = mark(alloc, '}', rest, tail)?;
     let rest = mark(alloc, '(', rest, tail)?;
     Ok((argument_sort, sort, rest))
 }
@@ -259,20 +260,21 @@ fn no_sorts_opened(alloc: Global, text: &str, tail: Tail) -> Result<&str, TextFa
     ensures fault { IfErr result (StopsAt tail text.now none_opened) }
     ensures behind { IfOk result (λ rest. IsBehind rest.now text.now) }
 {
-    let rest = no_braces(alloc, text, tail)?;
+    let rest = mark(alloc, '{', text, tail)?;
+    let rest = mark(alloc, '}', rest, tail)?;
     mark(alloc, '(', rest, tail)
 }
 
 /// `{S}("text")`.
-fn literal(alloc: Global, text: &str, tail: Tail) -> Result<(Pattern, &str), TextFailure>
-    ensures found { IfOk result (λ x. Finds tail text.now literal_place (view x.0) x.1.now) }
+fn literal(alloc: Global, text: &str, tail: Tail) -> Result<(PatternStart, &str), TextFailure>
+    ensures found { IfOk result (λ x. (l : Level) → FindsHead tail text.now literal_place l x.0 x.1.now) }
     ensures fault { IfErr result (Stops tail text.now literal_place) }
     ensures behind { IfOk result (λ x. IsBehind x.1.now text.now) }
 {
     let (sort, rest) = opened(alloc, text, tail)?;
     let (text, rest) = string_literal(alloc, rest, tail)?;
     let rest = mark(alloc, ')', rest, tail)?;
-    Ok((Pattern::Literal { sort, text }, rest))
+    Ok((PatternStart::Whole(Pattern::Literal { sort, text }), rest))
 }
 
 /// `{}(@x:S,`.
@@ -281,8 +283,8 @@ fn fixed_head(
     fixed_point: FixedPoint,
     text: &str,
     tail: Tail,
-) -> Result<(OfOne, &str), TextFailure>
-    ensures found { IfOk result (λ x. (l : Level) (k : KorePattern → Place) → run_text tail x.1.now (one_place l x.0 k) ≡ run_text tail text.now (fixed_place l fixed_point k)) }
+) -> Result<(PatternStart, &str), TextFailure>
+    ensures found { IfOk result (λ x. (l : Level) → FindsHead tail text.now (fixed_place l fixed_point) l x.0 x.1.now) }
     ensures fault { IfErr result (λ e. (l : Level) → Stops tail text.now (fixed_place l fixed_point) e) }
     ensures behind { IfOk result (λ x. IsBehind x.1.now text.now) }
 {
@@ -290,11 +292,11 @@ fn fixed_head(
     let rest = mark(alloc, '@', rest, tail)?;
     let (name, sort, rest) = bound(alloc, rest, tail)?;
     Ok((
-        OfOne::Fixed {
+        PatternStart::One(OfOne::Fixed {
             fixed_point,
             name,
             sort,
-        },
+        }),
         rest,
     ))
 }
@@ -482,14 +484,8 @@ fn keyword_head(
                 rest,
             ))
         }
-        Keyword::Literal => {
-            let (pattern, rest) = literal(alloc, text, tail)?;
-            Ok((PatternStart::Whole(pattern), rest))
-        }
-        Keyword::FixedPoint(form) => {
-            let (head, rest) = fixed_head(alloc, form, text, tail)?;
-            Ok((PatternStart::One(head), rest))
-        }
+        Keyword::Literal => literal(alloc, text, tail),
+        Keyword::FixedPoint(form) => fixed_head(alloc, form, text, tail),
         Keyword::Fold(side) => opened_fold_head(alloc, level, side, text, tail),
     }
 }

@@ -1,7 +1,7 @@
 ghost use Rattle.std.specs.Prelude.{◌≡◌, ℕ, List, [], map, length, IfOk, IfErr, string_bytes};
 ghost use Rattle.kp_kore.specs.View.{sort_view};
-ghost use Rattle.kp_text.specs.Next.{a_braced_sort, two_braced, a_variable, no_braced, a_string, a_mark, keyword_of};
-ghost use Rattle.kp_text.specs.Reads.{run_text, failed, Leads, StopsAt, Finds, Stops, Finds2, Stops2, IsBehind};
+ghost use Rattle.kp_text.specs.Next.{a_variable, a_string, keyword_of};
+ghost use Rattle.kp_text.specs.Reads.{run_text, failed, Finds, Stops, Finds2, Stops2, IsBehind};
 
 use crate::expected::{mark, name};
 use crate::fault::{FaultKind, TextFailure};
@@ -15,46 +15,6 @@ use crate::sorts::a_sort;
 use crate::tail::Tail;
 use kp_kore::Sort;
 use std::alloc::Global;
-
-/// `{S}`.
-pub fn braced_sort(alloc: Global, text: &str, tail: Tail) -> Result<(Sort, &str), TextFailure>
-    ensures found { IfOk result (λ x. Finds tail text.now a_braced_sort (sort_view x.0) x.1.now) }
-    ensures fault { IfErr result (Stops tail text.now a_braced_sort) }
-    ensures behind { IfOk result (λ x. IsBehind x.1.now text.now) }
-{
-    let rest = mark(alloc, '{', text, tail)?;
-    let (sort, rest) = a_sort(alloc, 1, rest, tail)?;
-    let rest = mark(alloc, '}', rest, tail)?;
-    Ok((sort, rest))
-}
-
-/// `{A,S}`.
-pub fn two_braced_sorts(
-    alloc: Global,
-    text: &str,
-    tail: Tail,
-) -> Result<(Sort, Sort, &str), TextFailure>
-    ensures found { IfOk result (λ x. Finds2 tail text.now two_braced (sort_view x.0) (sort_view x.1) x.2.now) }
-    ensures fault { IfErr result (Stops2 tail text.now two_braced) }
-    ensures behind { IfOk result (λ x. IsBehind x.2.now text.now) }
-{
-    let rest = mark(alloc, '{', text, tail)?;
-    let (argument_sort, rest) = a_sort(alloc, 1, rest, tail)?;
-    let rest = mark(alloc, ',', rest, tail)?;
-    let (sort, rest) = a_sort(alloc, 1, rest, tail)?;
-    let rest = mark(alloc, '}', rest, tail)?;
-    Ok((argument_sort, sort, rest))
-}
-
-/// `{}`.
-pub fn no_braces(alloc: Global, text: &str, tail: Tail) -> Result<&str, TextFailure>
-    ensures found { IfOk result (λ rest. Leads tail text.now no_braced rest.now) }
-    ensures fault { IfErr result (StopsAt tail text.now no_braced) }
-    ensures behind { IfOk result (λ rest. IsBehind rest.now text.now) }
-{
-    let rest = mark(alloc, '{', text, tail)?;
-    mark(alloc, '}', rest, tail)
-}
 
 /// `x:S`.
 pub fn variable(alloc: Global, text: &str, tail: Tail) -> Result<(String, Sort, &str), TextFailure>

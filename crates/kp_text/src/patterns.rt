@@ -6,16 +6,12 @@ ghost use Rattle.kp_text.specs.declared.level.Level.{Level};
 ghost use Rattle.kp_text.specs.Next.{Place, a_pattern, after_name, after_keyword, one_argument, two_arguments, arguments, patterns, more_patterns, by_pattern};
 ghost use Rattle.kp_text.specs.Reads.{run_text, failed, Finds, Stops, Finds2, Stops2, Finds3, Stops3, IsBehind, IsNotBefore, begun_place, begun_step, bound_argument, IsSmall};
 
-use crate::expected::{Separator, mark, mark_ahead, next_separator};
 use crate::fault::{FaultKind, TextFailure};
-use crate::forms::{binary, compared, constant, fixed, quantified, rounded, unary, variadic};
 use crate::keyword::Keyword;
 use crate::level::Level;
 use crate::lexer::{Ahead, Token, look_ahead};
-use crate::parts::{braced_sort, keyword, no_braces, string_literal, two_braced_sorts, variable};
-use crate::sorts::{a_sort, sorts};
+use crate::parts::keyword;
 use crate::tail::Tail;
-use kp_kore::Pattern;
 use std::alloc::Global;
 
 /// How a pattern begins.

@@ -1,7 +1,7 @@
 ghost use Rattle.std.specs.Prelude.{◌≡◌, ℕ, ◌+◌, ◌≤◌, List, [], ◌∷◌, map, length, IfOk, IfErr, string_bytes};
 ghost use Rattle.kp_kore.specs.View.{sort_view};
-ghost use Rattle.kp_text.specs.Next.{a_sort, after_sort_name, sorts, more_sorts};
-ghost use Rattle.kp_text.specs.Reads.{Finds, Stops, IsBehind, IsNotBefore};
+ghost use Rattle.kp_text.specs.Next.{a_sort, after_sort_name, sorts};
+ghost use Rattle.kp_text.specs.Reads.{Finds, Stops, IsBehind, IsNotBefore, some_sorts};
 
 use crate::expected::{Separator, mark_ahead, next_separator, next_token};
 use crate::fault::{FaultKind, TextFailure};
@@ -83,40 +83,33 @@ pub fn sorts<'a>(
 {
     match mark_ahead(alloc, close, text, tail)? {
         Some(rest) => Ok((Vec::new(alloc), rest)),
-        None => {
-            let (first, rest) = a_sort(alloc, level, text, tail)?;
-            more_sorts(alloc, level, close, first, rest, tail)
-        }
+        None => some_sorts(alloc, level, close, text, tail),
     }
 }
 
-/// Sorts of which the first was read.
+/// Sorts with commas between them, one at least, and what comes behind the mark that closes them.
 #[cycle(sort)]
 #[tactic(auto, using(crate::proofs::InSorts::sorts_close, crate::proofs::InSorts::sorts_go_on, crate::proofs::InSorts::sorts_separated))]
-fn more_sorts<'a>(
+fn some_sorts<'a>(
     alloc: Global,
     level: usize,
     close: char,
-    first: Sort,
     text: &'a str,
     tail: Tail,
 ) -> Result<(Vec<Sort>, &'a str), TextFailure>
     requires { level ≤ 257 }
-    ensures found { IfOk result (λ x. Finds tail text.now (more_sorts level close (sort_view first ∷ [])) (map sort_view x.0.items) x.1.now) }
-    ensures fault { IfErr result (Stops tail text.now (more_sorts level close (sort_view first ∷ []))) }
+    ensures found { IfOk result (λ x. Finds tail text.now (some_sorts level close) (map sort_view x.0.items) x.1.now) }
+    ensures fault { IfErr result (Stops tail text.now (some_sorts level close)) }
     ensures behind { IfOk result (λ x. IsBehind x.1.now text.now) }
 {
     let mut sorts = Vec::new(alloc);
-    sorts.push(first)?;
     let mut rest = text;
     loop {
-        match next_separator(alloc, close, rest, tail)? {
+        let (sort, after) = a_sort(alloc, level, rest, tail)?;
+        sorts.push(sort)?;
+        match next_separator(alloc, close, after, tail)? {
             Separator::Close(behind) => return Ok((sorts, behind)),
-            Separator::Comma(behind) => {
-                let (sort, after) = a_sort(alloc, level, behind, tail)?;
-                sorts.push(sort)?;
-                rest = after;
-            }
+            Separator::Comma(behind) => rest = behind,
         }
     }
 }
