@@ -14,11 +14,14 @@ use Rattle.kp_kore.specs.Instance.{Valuation, instance, GivesSorts, is_named, Is
 use Rattle.kp_kore.specs.Rules as model
 use Rattle.kp_kore.specs.Foreign.{IsRead, Reads, none_within, has_foreign_head, applies_undeclared, is_read_priority}
 use Rattle.kp_signature.specs.Places.{Place, the_top}
-use Rattle.kp_signature.specs.Verify.{first_fault}
+use Rattle.kp_signature.specs.Faults.{fault_view}
+use Rattle.kp_signature.specs.Verify.{VerifyFault, FailsWith, first_fault}
+use Rattle.kp_signature.specs.declared.error.VerifyError.{VerifyError}
 use Rattle.kp_compile.specs.Verified.{misapplies_injection}
 use Rattle.kp_rules.specs.Bodies.{IsBodyOf, IsReadAs, IsRewriteOf, IsVerifiedLeft, IsConstrained, HasFault, IsFaulty}
 use Rattle.kp_rule_reading.specs.Priorities.{Tells}
-use Rattle.kp_rule_reading.specs.Reading.{IsStatementRead, IsReadBody, IsMadeOf, IsSound, IsShapeRead, IsLeftSideRead, is_plain_by}
+use Rattle.kp_rule_reading.specs.Reading.{IsStatementRead, IsReadBody, IsMadeOf, IsSound, IsShapeRead, IsLeftSideRead, is_plain_by, rule_error}
+use Rattle.kp_rule_reading.specs.declared.read.RuleError.TheVariants.{Fault}
 use Rattle.kp_rules.specs.Shapes.{seen}
 use Rattle.kp_rule_reading.specs.declared.priority.Priority.{Priority}
 use Rattle.kp_rules.specs.declared.rule.RuleBody.{RuleBody}
@@ -189,3 +192,11 @@ read_as g a p n b tells number kept h = record {
     by : (meant : model.RuleBody) → Reads g a.parameters a.attributes a.pattern meant → IsBodyOf g meant b → (w : code.Rewrite) → b ≡ Rewrite w → IsTrue (is_read_priority (model.priority_of a.attributes))
     by (model.rewrite m) read body w e = read.priority
     by (model.foreign_rule l) read body w e = absurd (no_rewrite g l b w e body)
+
+-- what the error of a verification says, where it says that there is a fault
+pub fault_had : (g : KoreSignature) (p : KorePattern) (e : VerifyError) → ((f : VerifyFault) → fault_view e ≡ Some f → FailsWith g p f) → rule_error (fault_view e) ≡ Fault → HasFault g p
+fault_had g p e told = by (fault_view e) told
+  where
+    by : (o : Option VerifyFault) → ((f : VerifyFault) → o ≡ Some f → FailsWith g p f) → rule_error o ≡ Fault → HasFault g p
+    by (Some f) had is = inl (f, had f refl)
+    by None had is = absurd (cc)

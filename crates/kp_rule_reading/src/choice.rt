@@ -4,7 +4,7 @@ ghost use Rattle.std.specs.List.{filter};
 ghost use Rattle.indexmap.specs.IndexSet.{contains_text};
 ghost use Rattle.kp_kore.specs.Parts.{free_variables};
 ghost use Rattle.kp_kore.specs.View.{view, sort_view, sorted_variable_view};
-ghost use Rattle.kp_kore.specs.Rules.{top_binders};
+ghost use Rattle.kp_kore.specs.Rules.{top_binders, new_variables_of};
 ghost use Rattle.kp_signature.specs.View.{signature_view};
 ghost use Rattle.kp_compile.specs.Exact.{are_named};
 ghost use Rattle.kp_compile.specs.Names.{names_seen};
@@ -59,9 +59,7 @@ fn right_side(
     ensures side { IfOk result (IsSideOf (signature_view signature.now) (rewrite_seen (view right.now) shape.now)) }
     ensures refused { IfErr result (λ e. IsVerifiedTerm (signature_view signature.now) (view shape.now.right.term.now) → e ≡ Memory) }
 {
-    let left_variables = shape.left.term.free_vars(alloc)?;
-    let names = names_of(alloc, &left_variables)?;
-    let new_variables = new_variables(alloc, right, &names)?;
+    let new_variables = new_beside(alloc, shape.left.term, right)?;
     let parts = old_parts(
         alloc,
         signature,
@@ -69,14 +67,29 @@ fn right_side(
         &new_variables,
         &left_names,
     )?;
+    let left_variables = shape.left.term.free_vars(alloc)?;
+    let (term, ensured) = copied_side(alloc, shape.right.term, &shape.right.predicates)?;
     Ok(RightSide {
-        term: shape.right.term.copy(alloc)?,
-        ensured: copies(alloc, &shape.right.predicates)?,
+        term,
+        ensured,
         new_variables,
         left_variables,
         left_names,
         parts,
     })
+}
+
+/// A term and predicates once more.
+pub fn copied_side(
+    alloc: Global,
+    term: &Pattern,
+    predicates: &[&Pattern],
+) -> Result<(Pattern, Vec<Pattern>), AllocError>
+    ensures { IfOk result (λ c. (view c.0 ≡ view term.now) × (map view c.1.items ≡ seen predicates.now)) }
+{
+    let term = term.copy(alloc)?;
+    let predicates = copies(alloc, predicates)?;
+    Ok((term, predicates))
 }
 
 /// The patterns once more.
@@ -90,8 +103,21 @@ pub fn copies(alloc: Global, patterns: &[&Pattern]) -> Result<Vec<Pattern>, Allo
     Ok(copies)
 }
 
+/// The variables of a right side that are new beside a left term.
+pub fn new_beside(
+    alloc: Global,
+    left: &Pattern,
+    right: &Pattern,
+) -> Result<Vec<SortedVariable>, AllocError>
+    ensures { IfOk result (λ vs. map sorted_variable_view vs.items ≡ new_variables_of (view left.now) (view right.now)) }
+{
+    let variables = left.free_vars(alloc)?;
+    let names = names_of(alloc, &variables)?;
+    new_variables(alloc, right, &names)
+}
+
 /// The variables of a right side that aren't named: those that `\exists` binds at the top, then those without a name.
-pub fn new_variables(
+fn new_variables(
     alloc: Global,
     right: &Pattern,
     names: &NameSet,

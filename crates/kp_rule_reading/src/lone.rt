@@ -1,13 +1,14 @@
 // Left terms that are a variable alone.
-ghost use Rattle.std.specs.Prelude.{◌≡◌, ◌↔◌, IfOk, IsTrue, MatchBool};
+ghost use Rattle.std.specs.Prelude.{◌≡◌, ◌↔◌, ℕ, IfOk, IsTrue, MatchBool};
 ghost use Rattle.kp_kore.specs.Foreign.{LoneVariableSplits};
 ghost use Rattle.kp_kore.specs.View.{view, sort_view};
 ghost use Rattle.kp_signature.specs.View.{signature_view};
 ghost use Rattle.kp_sort_index.specs.Index.{IsIndexOf, AreOpposite};
-ghost use Rattle.kp_rule_reading.specs.Lone.{SortSplits, NumberSplits};
+ghost use Rattle.kp_rule_reading.specs.Lone.{SortSplits, NumberSplits, AreBelow, AreAbove};
 
 use kp_kore::{Pattern, Sort};
 use kp_signature::Signature;
+use kp_signature::edges::Numbers;
 use kp_sort_index::sort_index::SortIndex;
 use std::alloc::{AllocError, Global};
 
@@ -54,7 +55,20 @@ fn number_splits(alloc: Global, index: &SortIndex, number: usize) -> Result<bool
 {
     let below = index.down_from(alloc, number)?;
     let above = index.up_from(alloc, number)?;
+    is_settled(alloc, index, &below, &above)
+}
+
+/// The same of a number with those below it and those above it.
+fn is_settled(
+    alloc: Global,
+    index: &SortIndex,
+    below: &Numbers,
+    above: &Numbers,
+) -> Result<bool, AllocError>
+    requires { AreOpposite index.now }
+    ensures { IfOk result (λ b. (t : ℕ) → AreBelow index.now t below.now.keys → AreAbove index.now t above.now.keys → IsTrue b ↔ NumberSplits index.now t) }
+{
     let heads = index.with_heads(alloc, below.as_slice())?;
     let sharing = index.all_above(alloc, &heads)?;
-    index.all_settled(alloc, sharing.as_slice(), &sharing, &below, &above, &heads)
+    index.all_settled(alloc, sharing.as_slice(), &sharing, below, above, &heads)
 }

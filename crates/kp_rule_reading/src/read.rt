@@ -334,9 +334,7 @@ fn rewrite_from(
     ensures made { let right' = view right.now in let shape' = rewrite_seen right' shape.now in IfOk result (λ w. IsMadeOf (signature_view signature.now) (sort_view sort.now) shape' w × (w.chooses ≡ not (is_plain_over shape'.left right' shape'.ensured))) }
     ensures sound { IfErr result (λ e. IsSound (signature_view signature.now) (rewrite_seen (view right.now) shape.now) → e ≡ Memory) }
 {
-    let variables = shape.left.term.free_vars(alloc)?;
-    let names = names_of(alloc, &variables)?;
-    let chooses = chooses(alloc, &shape.right.predicates, right, &names)?;
+    let chooses = chooses_beside(alloc, shape, right)?;
     match compiled(alloc, signature, sort, shape, right, chooses) {
         Ok(rewrite) => Ok(rewrite),
         Err(error) => Err(refused(&error)),
@@ -351,6 +349,15 @@ fn refused(error: &CompileError) -> RuleError
         CompileError::Memory => RuleError::Memory,
         CompileError::Shape => RuleError::Fault,
     }
+}
+
+/// Whether the right side has a variable that the left term hasn't, or an ensured condition other than `\top`.
+fn chooses_beside(alloc: Global, shape: &Shape<'_>, right: &Pattern) -> Result<bool, AllocError>
+    ensures { IfOk result (λ b. b ≡ not (is_plain_over (view shape.now.left.term.now) (view right.now) (seen shape.now.right.predicates.items))) }
+{
+    let variables = shape.left.term.free_vars(alloc)?;
+    let names = names_of(alloc, &variables)?;
+    chooses(alloc, &shape.right.predicates, right, &names)
 }
 
 /// Whether the right side has a new variable, or an ensured condition other than `\top`.

@@ -11,30 +11,21 @@ use Rattle.kp_rules.specs.Known.{are_known}
 use Rattle.kp_rules.specs.Shapes.{seen}
 use Rattle.kp_rules.specs.WideParts.{part_computes_wide}
 use Rattle.kp_rule_reading.specs.Compiled.{IsOldNamed}
-use Rattle.kp_rule_reading.specs.Reading.{Names}
-use Rattle.kp_rule_reading.proofs.NewVariables.{new_named}
 use Rattle.kp_rule_reading.proofs.OldParts.{verified_parts, old_parts_named}
 use Rattle.kp_rule_reading.proofs.choice.right_side.Goals as goal
 
 pub returns-clause-side : goal.returns-clause-side
 returns-clause-side c =
     let g = signature_view c.args.signature.now in
-    let left = view c.args.shape.now.left.term.now in
-    let right = view c.args.right.now in
     let term = view c.args.shape.now.right.term.now in
-    let names = c.in_ok-names.names in
-    let variables = map sorted_variable_view c.in_ok-left_variables.left_variables.items in
-    let named : Names names variables = subst (λ vs. Names names (map sorted_variable_view vs)) c.deref.ensures.value c.in_ok-names.ensures in
-    let new : map sorted_variable_view c.in_ok-new_variables.new_variables.items ≡ new_variables_of left right =
-    c.in_ok-new_variables.ensures ∙ new_named names variables left right named c.in_ok-left_variables.ensures in
     record {
-      term = c.in_ok-copy.ensures;
-      ensured = subst (λ ps. map view c.in_ok-copies.field-0.items ≡ seen ps) c.deref-3.ensures.value c.in_ok-copies.ensures;
-      new_variables = new;
+      term = c.in_ok-term.ensures.0;
+      ensured = subst (λ ps. map view c.in_ok-term.ensured.items ≡ seen ps) c.deref-2.ensures.value c.in_ok-term.ensures.1;
+      new_variables = c.in_ok-new_variables.ensures;
       left_variables = c.in_ok-left_variables.ensures;
       parts = λ v. c.in_ok-parts.ensures.parts.narrow v
-          ∙ ap (λ vs. not (part_computes_wide g v (map sorted_variable_view vs) term)) c.deref-2.ensures.value
-          ∙ ap (λ xs. not (part_computes_wide g v xs term)) new;
+          ∙ ap (λ vs. not (part_computes_wide g v (map sorted_variable_view vs) term)) c.deref.ensures.value
+          ∙ ap (λ xs. not (part_computes_wide g v xs term)) c.in_ok-new_variables.ensures;
     }
 
 pub returns-in_err-parts-clause-refused : goal.returns-in_err-parts-clause-refused
@@ -49,15 +40,13 @@ invariant_of-result-clause-known c =
     let left = view c.args.shape.now.left.term.now in
     let right = view c.args.right.now in
     let term = view c.args.shape.now.right.term.now in
-    let names = c.in_ok-names.names in
-    let olds = map sorted_variable_view c.in_ok-left_variables.left_variables.items in
     let news = map sorted_variable_view c.in_ok-new_variables.new_variables.items in
-    let named : Names names olds = subst (λ vs. Names names (map sorted_variable_view vs)) c.deref.ensures.value c.in_ok-names.ensures in
-    let new : news ≡ new_variables_of left right = c.in_ok-new_variables.ensures ∙ new_named names olds left right named c.in_ok-left_variables.ensures in
-    let ensured : map view c.in_ok-copies.field-0.items ≡ seen c.args.shape.now.right.predicates.items = subst (λ ps. map view c.in_ok-copies.field-0.items ≡ seen ps) c.deref-3.ensures.value c.in_ok-copies.ensures in
-    ap (λ xs. are_known xs news (view c.in_ok-copy.field-0) (map view c.in_ok-copies.field-0.items)) c.in_ok-left_variables.ensures
-    ∙ ap (λ xs. are_known (free_variables left) xs (view c.in_ok-copy.field-0) (map view c.in_ok-copies.field-0.items)) new
-    ∙ ap (λ t. are_known (free_variables left) (new_variables_of left right) t (map view c.in_ok-copies.field-0.items)) c.in_ok-copy.ensures
+    let copy = view c.in_ok-term.term in
+    let copies = map view c.in_ok-term.ensured.items in
+    let ensured : copies ≡ seen c.args.shape.now.right.predicates.items = subst (λ ps. copies ≡ seen ps) c.deref-2.ensures.value c.in_ok-term.ensures.1 in
+    ap (λ xs. are_known xs news copy copies) c.in_ok-left_variables.ensures
+    ∙ ap (λ xs. are_known (free_variables left) xs copy copies) c.in_ok-new_variables.ensures
+    ∙ ap (λ t. are_known (free_variables left) (new_variables_of left right) t copies) c.in_ok-term.ensures.0
     ∙ ap (are_known (free_variables left) (new_variables_of left right) term) ensured
     ∙ c.requires.known.known
 
@@ -69,11 +58,7 @@ invariant_of-result-clause-bound c =
     let left = view c.args.shape.now.left.term.now in
     let right = view c.args.right.now in
     let term = view c.args.shape.now.right.term.now in
-    let names = c.in_ok-names.names in
-    let olds = map sorted_variable_view c.in_ok-left_variables.left_variables.items in
-    let named : Names names olds = subst (λ vs. Names names (map sorted_variable_view vs)) c.deref.ensures.value c.in_ok-names.ensures in
-    let new : map sorted_variable_view c.deref-2.result.now ≡ new_variables_of left right =
-    ap (map sorted_variable_view) c.deref-2.ensures.value ∙ c.in_ok-new_variables.ensures ∙ new_named names olds left right named c.in_ok-left_variables.ensures in
+    let new : map sorted_variable_view c.deref.result.now ≡ new_variables_of left right = ap (map sorted_variable_view) c.deref.ensures.value ∙ c.in_ok-new_variables.ensures in
     c.in_ok-parts.ensures.parts.reads
     (subst (λ xs. AllByRecursion (IsOldNamed (names_seen c.args.left_names) xs) (subpatterns term)) (sym new)
     (old_parts_named (names_seen c.args.left_names) (free_variables left) (new_variables_of left right) term (seen c.args.shape.now.right.predicates.items) c.requires.known.term c.requires.named c.requires.known.known))

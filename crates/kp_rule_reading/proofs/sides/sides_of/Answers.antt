@@ -8,8 +8,8 @@ pub returns-clause-made : goal.returns-clause-made
 returns-clause-made c = record {
   left = c.in_ok-left.ensures.form;
   condition = subst (λ ps. map view c.in_ok-condition.condition.items ≡ seen ps) c.deref.ensures.value c.in_ok-condition.ensures;
-  right = c.in_ok-copy.ensures;
-  ensured = subst (λ ps. map view c.in_ok-ensured.ensured.items ≡ seen ps) c.deref-2.ensures.value c.in_ok-ensured.ensures;
+  right = c.in_ok-right.ensures.0;
+  ensured = subst (λ ps. map view c.in_ok-right.ensured.items ≡ seen ps) c.deref-2.ensures.value c.in_ok-right.ensures.1;
   new_variables = c.in_ok-new_variables.ensures;
 }
 

@@ -6,7 +6,7 @@ use Rattle.kp_kore.specs.View.{view, sorted_variable_view}
 use Rattle.kp_kore.specs.Rules.{top_binders, new_variables_of}
 use Rattle.kp_rule_reading.specs.Reading.{Names}
 use Rattle.kp_rule_reading.proofs.NewVariables.{new_named, seen_also}
-use Rattle.kp_rule_reading.proofs.sides.new_beside.Goals as goal
+use Rattle.kp_rule_reading.proofs.choice.new_beside.Goals as goal
 
 pub returns : goal.returns
 returns c =
