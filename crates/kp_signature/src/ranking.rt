@@ -16,15 +16,9 @@ struct Walk {
 impl Walk {
     /// No number is met yet.
     fn new(alloc: Global, count: usize) -> Result<Walk, AllocError> {
-        let mut met = Vec::new(alloc);
-        let mut followed = Vec::new(alloc);
-        for _i in 0..count {
-            met.push(false)?;
-            followed.push(0)?;
-        }
         Ok(Walk {
-            met,
-            followed,
+            met: vec![in alloc; false; count]?,
+            followed: vec![in alloc; 0; count]?,
             open: Vec::new(alloc),
             done: Vec::new(alloc),
         })
