@@ -11,7 +11,7 @@ ghost use Rattle.kp_modules.specs.Made.{IsRunOf, IsSetOf};
 ghost use Rattle.kp_imports.specs.Names.{Lists, names_of as names_among};
 ghost use Rattle.kp_modules.specs.Openings.{IsTableOf, opening_of};
 ghost use Rattle.kp_imports.specs.Reaching.{has};
-ghost use Rattle.kp_modules.specs.Tables.{rule_set_of, main_of, does_reach, RunsTable};
+ghost use Rattle.kp_modules.specs.Tables.{rule_set_of, main_of, does_reach, RunsTable, IsTableOver};
 
 use crate::order::reached;
 use crate::outlines::{RuleSpan, outlines, rule_spans};
@@ -27,13 +27,25 @@ use std::sync::Arc;
 
 /// The rule set of a definition's main module, with the names of the modules that it reaches. Of these modules it has the
 /// imports, in order, and where their rules stand among main's: the rule set of each can be made of main's.
-#[derive(Drop)]
 pub struct ModuleTable {
     pub(crate) main: Name,
     pub(crate) names: IndexMap<Name, ()>,
     pub(crate) modules: Vec<Module>,
     pub(crate) spans: Vec<RuleSpan>,
     pub(crate) rule_set: Arc<RuleSet>,
+}
+
+// Written out: a derived one is proved again in each crate that owns such a value.
+impl Drop for ModuleTable {
+    fn drop(self) {
+        let ModuleTable {
+            main: _main,
+            names: _names,
+            modules: _modules,
+            spans: _spans,
+            rule_set: _rule_set,
+        } = self;
+    }
 }
 
 impl ModuleTable {
@@ -81,12 +93,28 @@ pub fn load(alloc: Global, definition: &Definition, main: &str) -> Result<Module
     let modules = reached(alloc, definition, main)?;
     check_sorts(alloc, &modules)?;
     check_symbols(alloc, &modules)?;
+    let set = rule_set(alloc, &modules)?;
+    Ok(table_over(alloc, main, &modules, set)?)
+}
+
+/// The table of these modules with this rule set.
+fn table_over(
+    alloc: Global,
+    main: &str,
+    modules: &[&Module],
+    set: RuleSet,
+) -> Result<ModuleTable, AllocError>
+    ensures table { IfOk result (IsTableOver main.now modules.now) }
+    ensures rules { IfOk result (λ table. rule_set_of table ≡ set) }
+{
+    let rule_set = Arc::new(alloc, set)?;
+    let main = String::from_str(alloc, main)?;
     Ok(ModuleTable {
-        main: String::from_str(alloc, main)?,
-        names: names_of(alloc, &modules)?,
-        modules: outlines(alloc, &modules)?,
-        spans: rule_spans(alloc, &modules)?,
-        rule_set: Arc::new(alloc, rule_set(alloc, &modules)?)?,
+        main,
+        names: names_of(alloc, modules)?,
+        modules: outlines(alloc, modules)?,
+        spans: rule_spans(alloc, modules)?,
+        rule_set,
     })
 }
 
