@@ -2,13 +2,13 @@
 use Rattle.std.specs.Prelude.{◌≡◌, ◌≤◌, ◌<◌, ◌+◌, ◌%◌, ◌^◌, ℕ, true, false, List, [], ◌∷◌, ◌++◌, length, Some, None}
 use Rattle.kp_history.specs.declared.history.History.{History}
 use Rattle.kp_history.specs.declared.pass.Pass.{Pass}
-use Rattle.kp_history.specs.Views.{IsAtRest, times}
+use Rattle.kp_history.specs.Views.{IsAtRest, most_entries, times}
 
 module _ {E : Type 0} where
   -- nothing is added, or one entry for which there is room, and which keeps the list legal
   pub data MayAdd (legal : List E → Type 0) (before : List E) : List E → Type 0 where
     nothing : MayAdd legal before []
-    one : (e : E) → length before < 4096 → legal (before ++ e ∷ []) → MayAdd legal before (e ∷ [])
+    one : (e : E) → length before < most_entries → legal (before ++ e ∷ []) → MayAdd legal before (e ∷ [])
 
 module _ {B E K : Type 0} where
   -- the entries that it has seen

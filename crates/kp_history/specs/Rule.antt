@@ -8,7 +8,7 @@ use lib.ListN.{get_elem?}
 use Rattle.atomic_table.specs.Table.{State}
 use Rattle.kp_history.specs.declared.view.Terms.{Terms}
 use Rattle.kp_history.specs.declared.view.View.{View}
-use Rattle.kp_history.specs.Views.{times, total}
+use Rattle.kp_history.specs.Views.{most_entries, most_seats, times, total}
 
 module _ {E K : Type 0} where
   -- how many views have the ticket
@@ -48,10 +48,10 @@ module _ {B E K : Type 0} (entries : B → List E) (sound : B → Type 0) where
     pub serving : ℕ
     pub log : List E
     pub words : s.words ≡ (ticket % 2 ^ 64) ∷ (serving % 2 ^ 64) ∷ length log ∷ []
-    -- there are at most 4,096 entries
-    pub room : length log ≤ 4096
-    -- the views that aren't spent and their spare places are together the seats, of which there are at most 64
-    pub few_seats : terms.seats ≤ 64
+    -- there is room for the entries
+    pub room : length log ≤ most_entries
+    -- the views that aren't spent and their spare places are together the seats, of which there aren't too many
+    pub few_seats : terms.seats ≤ most_seats
     pub places : total (λ v. v.places) s.views ≡ terms.seats
     -- the ticket that has the turn and the number of views with a ticket are together the next ticket
     pub waiting : serving + total (λ v. length v.tickets) s.views ≡ ticket

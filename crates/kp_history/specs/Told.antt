@@ -5,12 +5,12 @@ use mathlib.Core.List.{IsPrefix}
 use Rattle.atomic_table.specs.Table.{Me, Step, rest}
 use Rattle.kp_history.specs.declared.view.Terms.{Terms}
 use Rattle.kp_history.specs.declared.view.View.{View}
-use Rattle.kp_history.specs.Views.{after_count, rested, settled, times, with_ticket, with_turn}
+use Rattle.kp_history.specs.Views.{after_count, most_entries, most_seats, rested, settled, times, with_ticket, with_turn}
 
 module _ {E K : Type 0} where
-  -- its places are no more than the seats, and these at most 64
+  -- its places are no more than the seats, and these not too many
   abbrev pub HasFewPlaces : View E K → Type 0
-  HasFewPlaces v = (k : Terms K) → v.terms ≡ Some k → (v.places ≤ k.seats) × (k.seats ≤ 64)
+  HasFewPlaces v = (k : Terms K) → v.terms ≡ Some k → (v.places ≤ k.seats) × (k.seats ≤ most_seats)
 
   -- where it has all places, it has all positions of the entries that it has seen
   abbrev pub HasAllPositions : View E K → View E K → Type 0
@@ -45,7 +45,7 @@ module _ {B E K : Type 0} (entries : B → List E) (sound : B → Type 0) (legal
     pub ahead : IsPrefix before.0.seen hand
     pub is_legal : (k : Terms K) → before.0.terms ≡ Some k → legal k.about hand
     pub below : AllByRecursion (λ p. p ≤ length hand) before.0.positions
-    pub room : length hand ≤ 4096
+    pub room : length hand ≤ most_entries
 
   -- it has the turn, and took the value, where the number found is its ticket's; else nothing changed
   abbrev pub Watched : Step (Option B) → Me (Option B) (View E K) → ℕ → Me (Option B) (View E K) → Type 0

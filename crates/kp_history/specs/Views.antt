@@ -6,6 +6,14 @@ use Rattle.kp_history.specs.declared.view.View.{View}
 
 -- ---- numbers
 
+-- the most entries of a history
+abbrev pub most_entries : ℕ
+most_entries = 4096
+
+-- the most passes that a history may have at once
+abbrev pub most_seats : ℕ
+most_seats = 64
+
 -- what the function gives of each, added up
 abbrev pub total : {A : Type 0} → (A → ℕ) → List A → ℕ
 total f [] = 0

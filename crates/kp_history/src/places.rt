@@ -2,7 +2,7 @@
 ghost use Rattle.std.specs.Prelude.{◌≡◌, ◌≤◌, ◌<◌, ◌+◌, ◌++◌, [], IfOk, OnErr};
 ghost use mathlib.Core.List.{IsPrefix};
 ghost use Rattle.kp_history.specs.Passes.{IsPass, positions, seen};
-ghost use Rattle.kp_history.specs.Views.{longer};
+ghost use Rattle.kp_history.specs.Views.{longer, most_seats};
 
 use crate::archive::Archive;
 use crate::history::{History, TICKET};
@@ -24,7 +24,7 @@ impl<B: Archive<E, K> + Drop, E, K: Drop> History<B, E, K> {
         about: K,
         value: B,
     ) -> Result<(History<B, E, K>, Pass<B, E, K>), AllocError>
-        requires seats { (0 < seats) × (seats ≤ 64) }
+        requires seats { (0 < seats) × (seats ≤ most_seats) }
         requires value { (B.entries value ≡ []) × B.sound value × B.legal about [] }
         ensures pass { IfOk result (λ begun. IsPass begun.0 begun.1) }
         ensures begun { IfOk result (λ begun. (seen begun.1 ≡ []) × (positions begun.1 ≡ []) × (begun.1.spare + 1 ≡ seats)) }

@@ -3,7 +3,7 @@ ghost use Rattle.std.specs.Prelude.{◌≡◌, ◌≤◌, ◌<◌, ◌++◌, ◌
 ghost use mathlib.Core.List.{IsPrefix};
 ghost use Rattle.std.specs.List.{AllByRecursion};
 ghost use Rattle.kp_history.specs.Passes.{HasTurn, IsPass, IsWaiting, Keeps, MayAdd, hand, positions, seen};
-ghost use Rattle.kp_history.specs.Views.{positions_from};
+ghost use Rattle.kp_history.specs.Views.{most_entries, positions_from};
 
 use crate::archive::Archive;
 use crate::history::{COUNT, History, SERVING, TICKET, VALUE};
@@ -20,7 +20,7 @@ impl<B: Archive<E, K> + Drop, E, K> History<B, E, K> {
         ensures same { Keeps pass.old pass.new × (seen pass.new ≡ seen pass.old) }
         ensures hand { (B.entries result ≡ hand pass.new) × IsPrefix (seen pass.old) (hand pass.new) }
         ensures good { B.sound result × B.legal self.now.terms.about (hand pass.new) }
-        ensures room { length (hand pass.new) ≤ 4096 }
+        ensures room { length (hand pass.new) ≤ most_entries }
         ensures own { AllByRecursion (λ p. p ≤ length (hand pass.new)) (positions pass.new) }
     {
         let ticket = self.draw(pass);
@@ -45,7 +45,7 @@ impl<B: Archive<E, K> + Drop, E, K> History<B, E, K> {
         ensures same { Keeps pass.old pass.new × (seen pass.new ≡ seen pass.old) }
         ensures hand { (B.entries result ≡ hand pass.new) × IsPrefix (seen pass.old) (hand pass.new) }
         ensures good { B.sound result × B.legal self.now.terms.about (hand pass.new) }
-        ensures room { length (hand pass.new) ≤ 4096 }
+        ensures room { length (hand pass.new) ≤ most_entries }
         ensures own { AllByRecursion (λ p. p ≤ length (hand pass.new)) (positions pass.new) }
     {
         for _ in rt.forever() {
@@ -67,7 +67,7 @@ impl<B: Archive<E, K> + Drop, E, K> History<B, E, K> {
         ensures same { Keeps pass.old pass.new × (seen pass.new ≡ seen pass.old) }
         ensures hand { IfOk result (λ b. (B.entries b ≡ hand pass.new) × IsPrefix (seen pass.old) (hand pass.new)) }
         ensures good { IfOk result (λ b. B.sound b × B.legal self.now.terms.about (hand pass.new)) }
-        ensures room { OnOk result (length (hand pass.new) ≤ 4096) }
+        ensures room { OnOk result (length (hand pass.new) ≤ most_entries) }
         ensures own { OnOk result (AllByRecursion (λ p. p ≤ length (hand pass.new)) (positions pass.new)) }
         ensures waiting { OnErr result (IsWaiting self.now ticket pass.new) }
     {
@@ -97,7 +97,7 @@ impl<B: Archive<E, K> + Drop, E, K> History<B, E, K> {
         requires turn { HasTurn self.now pass.old }
         requires value { B.sound value }
         requires longer { (e : E) × (B.entries value ≡ hand pass.old ++ e ∷ []) }
-        requires room { length (hand pass.old) < 4096 }
+        requires room { length (hand pass.old) < most_entries }
         requires legal { B.legal self.now.terms.about (B.entries value) }
         ensures pass { IsPass self.now pass.new }
         ensures seen { seen pass.new ≡ B.entries value }
