@@ -126,7 +126,7 @@ def files():
 
 def crates():
     """The tables of crates are those of crates.txt."""
-    listed = [it for it in re.findall(r"(?m)^(\w+):", text_of("crates.txt")) if not it.endswith("_trials")]
+    listed = [it for it in re.findall(r"(?m)^(\w+)(?: [^:#\n]*)?:", text_of("crates.txt")) if not it.endswith("_trials")]
     told = re.findall(r"(?m)^\| `(kp\w+)` \|", text_of("docs/ARCHITECTURE.md"))
     for name in sorted(set(listed) ^ set(told)):
         found.add(f"docs/ARCHITECTURE.md: `{name}` stands in one of crates.txt and the tables of crates")
