@@ -67,7 +67,7 @@ refused_is_asked : (question : RequestId → Question) (method : Method) (es : L
 refused_is_asked question method _ code (by_error e c t) = asked e (record { number = t.number; lawful = t.lawful; asked = t.asked })
 refused_is_asked question method _ code (by_no_reply e t) = asked e (record { number = t.number; lawful = t.lawful; asked = t.asked })
 refused_is_asked question method _ code (by_reason e x t f) = asked e (record { number = t.number; lawful = t.lawful; asked = t.asked })
-refused_is_asked question method _ code (by_unfinished e t) = asked e (record { number = t.number; lawful = t.lawful; asked = t.asked })
+refused_is_asked question method _ code (by_unfinished e u t) = asked e (record { number = t.number; lawful = t.lawful; asked = t.asked })
 refused_is_asked question method _ code (by_no_text i n) = unasked
 
 cover_is_asked : (claim : ReachabilityClaim) (s : KorePattern) (es : List Exchange) (a : CoverAnswer) → IsCoverAnswer claim s es a → MayAsk (cover_question claim s) es

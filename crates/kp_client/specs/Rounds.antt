@@ -12,7 +12,7 @@ use Rattle.kp_rpc.specs.Request.{RequestId, id_number}
 use Rattle.kp_rpc.specs.Questions.{Question, to_execute, to_imply, question_tree}
 use Rattle.kp_results.specs.Results as parts
 use Rattle.kp_results.specs.Results.{Ending, ExecutedParts, IsPatternOf}
-use Rattle.kp_replies.specs.Read.{Method, execute, implies, ServerReply, executed, unfinished, implied, failed}
+use Rattle.kp_replies.specs.Read.{Method, execute, implies, ServerReply, executed, UnfinishedParts, unfinished, implied, failed}
 use Rattle.kp_replies.specs.Replies.{IsReplyOf}
 use Rattle.kp_client.specs.Links.{Exchange, IsTextOf}
 
@@ -67,7 +67,7 @@ pub data Refuses (question : RequestId → Question) (method : Method) : List Ex
   by_error : (e : Exchange) (code : ℤ) → Tells question method e (failed code) → Refuses question method (e ∷ []) code
   by_no_reply : (e : Exchange) → TellsNothing question method e → Refuses question method (e ∷ []) (negsuc 32699)
   by_reason : (e : Exchange) (x : ExecutedParts) → Tells question method e (executed x) → is_followed x.ending ≡ false → Refuses question method (e ∷ []) (pos 2)
-  by_unfinished : (e : Exchange) → Tells question method e unfinished → Refuses question method (e ∷ []) (pos 2)
+  by_unfinished : (e : Exchange) (u : UnfinishedParts) → Tells question method e (unfinished u) → Refuses question method (e ∷ []) (pos 2)
   by_no_text : (i : RequestId) → question_tree (question i) ≡ None → Refuses question method [] (pos 1)
 
 -- ---- one round

@@ -84,7 +84,7 @@ fn told_cover(reply: ServerReply, line: Vec<u8>) -> CoverAnswer
         ServerReply::Implied(Implied::NotValid) => CoverAnswer::Uncovered,
         ServerReply::Failed { code } => failed_cover(code, line),
         ServerReply::Executed(_) => CoverAnswer::Refused(PARSE_ERROR),
-        ServerReply::Unfinished => CoverAnswer::Refused(UNSUPPORTED),
+        ServerReply::Unfinished { .. } => CoverAnswer::Refused(UNSUPPORTED),
         ServerReply::Simplified(_) => CoverAnswer::Refused(PARSE_ERROR),
         ServerReply::Added(_) => CoverAnswer::Refused(PARSE_ERROR),
     }

@@ -187,7 +187,7 @@ fn told_steps(alloc: Global, reply: ServerReply, line: Vec<u8>) -> Result<StepAn
 {
     match reply {
         ServerReply::Executed(run) => run_answer(alloc, run, line),
-        ServerReply::Unfinished => Ok(StepAnswer::Refused(UNSUPPORTED)),
+        ServerReply::Unfinished { .. } => Ok(StepAnswer::Refused(UNSUPPORTED)),
         ServerReply::Failed { code } => Ok(StepAnswer::Refused(code)),
         ServerReply::Implied(_) => Ok(StepAnswer::Refused(PARSE_ERROR)),
         ServerReply::Simplified(_) => Ok(StepAnswer::Refused(PARSE_ERROR)),

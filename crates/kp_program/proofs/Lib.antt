@@ -1,4 +1,3 @@
-pub mod AbortedBack
 pub mod Answering
 pub mod AnySort
 pub mod Causes
@@ -12,5 +11,4 @@ pub mod RequestsRead
 pub mod Served
 pub mod Spelled
 pub mod Theories
-pub mod WideNumbers
 pub mod WordsRead

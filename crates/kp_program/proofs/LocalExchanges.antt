@@ -18,10 +18,11 @@ use Rattle.kp_rpc.proofs.ReadBack.{Back, IsBack, reply_back, wrapped_back}
 use Rattle.kp_results.specs.Results.{NextParts, Ending, vacuous, depth_bound, stuck, branching, cut_point, terminal, aborted, ExecutedParts, IsNextOf, IsReasonOf, StateParts, Undecided}
 use Rattle.kp_replies.specs.Aborted.{aborted_tree}
 use Rattle.kp_replies.specs.Failures.{Failure, undecided, failure_data, failure_error, failed_reply, failure_reply}
-use Rattle.kp_replies.specs.Read.{execute, implies, executed, unfinished, implied, failed, read_reply}
-use Rattle.kp_replies.specs.Replies.{IsReplyOf, StandWith}
+use Rattle.kp_replies.specs.Read.{execute, implies, executed, UnfinishedParts, unfinished, implied, failed, read_reply}
+use Rattle.kp_replies.specs.Replies.{IsReplyOf, StandWith, unfinished_parts}
 use Rattle.kp_replies.specs.Right.{asked_options, IsMainAsked}
 use Rattle.kp_replies.specs.Written.{executed_tree, simplified_tree, added_tree}
+use Rattle.kp_replies.proofs.AbortedBack.{aborted_back, aborted_no_implication}
 use Rattle.kp_replies.proofs.Alone.{run_line_alone, run_line_no_implication, implication_line_alone, implication_line_no_run}
 use Rattle.kp_replies.proofs.Texts.{line_read}
 use Rattle.kp_requests.specs.Requests as requests
@@ -49,7 +50,6 @@ use Rattle.kp_program.specs.Proofs.{IsMainTheory, told_theory, IsRepliedBy}
 use Rattle.kp_program.proofs.AnySort.{right_run}
 use Rattle.kp_program.proofs.PlainTexts.{error_tells, array_tells}
 use Rattle.kp_program.proofs.RequestsRead.{IsAsked, frame_asked, asked_id, run_request, implication_request}
-use Rattle.kp_program.proofs.AbortedBack.{aborted_back, aborted_no_implication}
 use Rattle.kp_program.proofs.Theories.{served_main}
 
 from_some : {A : Type 0} (x y : A) → Some x ≡ Some y → x ≡ y
@@ -86,8 +86,8 @@ nothing_told = record {
 no_run_failed : (x : ExecutedParts) (code : ℤ) → executed x ≡ failed code → ⊥
 no_run_failed x code e = cc e
 
-no_run_unfinished : (x : ExecutedParts) → executed x ≡ unfinished → ⊥
-no_run_unfinished x e = cc e
+no_run_unfinished : (x : ExecutedParts) (y : UnfinishedParts) → executed x ≡ unfinished y → ⊥
+no_run_unfinished x y e = cc e
 
 no_implication_failed : (x : Implied) (code : ℤ) → implied x ≡ failed code → ⊥
 no_implication_failed x code e = cc e
@@ -197,7 +197,7 @@ left_open : (id : RequestId) (depth : ℕ) (state : StateParts) (u : Undecided) 
 left_open id depth state u d lawful short made =
     let m = mapped (result_reply id) (aborted_tree depth state u) d made in
     subst (λ (y : Data). TellsNothing (reply_bytes y)) m.2 (record {
-      no_run = λ x h. no_run_unfinished x (aborted_back id depth state u m.0 (executed x) lawful short m.1 h);
+      no_run = λ x h. no_run_unfinished x (unfinished_parts depth state u) (aborted_back id depth state u m.0 (executed x) lawful short m.1 h);
       no_implication = λ x h. aborted_no_implication id depth state u m.0 (implied x) lawful short m.1 h;
     })
 

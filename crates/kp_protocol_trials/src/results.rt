@@ -5,19 +5,41 @@ use kp_replies::{
     AdditionFault, Failure, Method, ServerReply, SidesFault, added_text, executed_text,
     failure_text, is_rule_id, reply_of, simplified_text,
 };
-use kp_results::{Executed, Limit, Undecided, Weight};
+use kp_results::{Executed, Limit, ReplyState, Undecided, Weight};
 use kp_rpc::Id;
 use serde_json::Value;
 use std::alloc::Global;
 use std::process::Abort;
 
-/// A result of execute is written again, a module's id and a code are told, of another reply its kind.
+/// The depth of a run that is aborted, the limit's name, and its term as that of a simplified state.
+fn unfinished_text(
+    rt: &impl Abort,
+    alloc: Global,
+    depth: u64,
+    state: &ReplyState,
+    limit: &Option<String>,
+) -> Vec<u8> {
+    let name = limit.as_deref().unwrap_or("none");
+    let mut told = format!(in alloc; "{depth} {name} ")
+        .expect(rt, "memory")
+        .into_bytes();
+    let line = written(rt, simplified_text(alloc, &Id::Unsigned(1), &state.term));
+    told.extend_from_slice(&line).expect(rt, "memory");
+    told
+}
+
+/// A result of execute is written again, and the state of a run that is aborted; a module's id and a code are told, of
+/// another reply its kind.
 fn reply_text(rt: &impl Abort, alloc: Global, reply: &ServerReply) -> Vec<u8> {
     match reply {
         ServerReply::Executed(executed) => {
             written(rt, executed_text(alloc, &Id::Unsigned(1), executed))
         }
-        ServerReply::Unfinished => bytes(rt, alloc, "unfinished"),
+        ServerReply::Unfinished {
+            depth,
+            state,
+            limit,
+        } => unfinished_text(rt, alloc, *depth, state, limit),
         ServerReply::Implied(_) => bytes(rt, alloc, "implied"),
         ServerReply::Simplified(_) => bytes(rt, alloc, "simplified"),
         ServerReply::Added(id) => bytes(rt, alloc, id),
@@ -87,9 +109,29 @@ const TWO_LINES: &str =
     r#"{"id":1,"jsonrpc":"2.0","result":{"depth":0,"foreign-rule":"a\nb","reason":"aborted","state":{"term":{"format":"KORE","term":{"args":[],"name":"Lbldone","sorts":[],"tag":"App"},"version":1}}}}
 "#;
 
-/// A run that a limit aborts.
+/// A run that a limit aborts behind one step.
 const LIMITED: &str =
-    r#"{"id":1,"jsonrpc":"2.0","result":{"depth":2,"limit":{"name":"depth","number":49},"reason":"aborted","state":{"term":{"format":"KORE","term":{"args":[],"name":"Lbldone","sorts":[],"tag":"App"},"version":1}}}}
+    r#"{"id":1,"jsonrpc":"2.0","result":{"depth":1,"limit":{"name":"depth","number":49},"reason":"aborted","state":{"term":{"format":"KORE","term":{"args":[],"name":"Lbldone","sorts":[],"tag":"App"},"version":1}}}}
+"#;
+
+/// Its depth, its limit and its state.
+const LIMITED_TOLD: &str =
+    r#"1 depth {"id":1,"jsonrpc":"2.0","result":{"state":{"format":"KORE","term":{"args":[],"name":"Lbldone","sorts":[],"tag":"App"},"version":1}}}
+"#;
+
+/// A predicate isn't decided, since its weight passes a limit.
+const UNKNOWN_RUN: &str =
+    r#"{"id":1,"jsonrpc":"2.0","result":{"depth":0,"limit":{"name":"bits","number":130},"reason":"aborted","state":{"term":{"format":"KORE","term":{"args":[],"name":"Lbldone","sorts":[],"tag":"App"},"version":1}},"unknown-predicate":{"format":"KORE","term":{"sort":{"args":[],"name":"SortS","tag":"SortApp"},"tag":"Top"},"version":1}}}
+"#;
+
+/// Its depth and its state: no limit alone isn't decided.
+const UNKNOWN_TOLD: &str =
+    r#"0 none {"id":1,"jsonrpc":"2.0","result":{"state":{"format":"KORE","term":{"args":[],"name":"Lbldone","sorts":[],"tag":"App"},"version":1}}}
+"#;
+
+/// The limit's name is that of none.
+const OTHER_LIMIT: &str =
+    r#"{"id":1,"jsonrpc":"2.0","result":{"depth":1,"limit":{"name":"depth\nT.down passed","number":49},"reason":"aborted","state":{"term":{"format":"KORE","term":{"args":[],"name":"Lbldone","sorts":[],"tag":"App"},"version":1}}}}
 "#;
 
 /// Its state is missing.
@@ -103,13 +145,15 @@ const NO_CAUSE: &str =
 "#;
 
 /// What is heard, and what it tells.
-const TOLD: [(Heard, &str); 19] = [
+const TOLD: [(Heard, &str); 21] = [
     (Heard::Line(Method::Execute, BRANCHING), BRANCHING),
     (Heard::Line(Method::Execute, CUT_POINT), CUT_POINT),
     (Heard::Line(Method::Execute, TERMINAL), TERMINAL),
     (Heard::Line(Method::Execute, VACUOUS), VACUOUS),
     (Heard::Line(Method::Execute, ABORTED), ABORTED),
-    (Heard::Line(Method::Execute, LIMITED), "unfinished"),
+    (Heard::Line(Method::Execute, LIMITED), LIMITED_TOLD),
+    (Heard::Line(Method::Execute, UNKNOWN_RUN), UNKNOWN_TOLD),
+    (Heard::Line(Method::Execute, OTHER_LIMIT), "none"),
     (Heard::Line(Method::Execute, NO_STATE), "none"),
     (Heard::Line(Method::Execute, NO_CAUSE), "none"),
     (Heard::Line(Method::Execute, NO_NEXT_STATE), "none"),

@@ -79,12 +79,21 @@ fn question(rt: &impl Abort, alloc: Global) -> Question {
     }
 }
 
+/// A question to add a module.
+fn addition(rt: &impl Abort, alloc: Global) -> Question {
+    Question::AddModule {
+        id: Id::Unsigned(1),
+        text: text(rt, alloc, "module M endmodule []"),
+    }
+}
+
 /// What a client asks.
 #[derive(Clone, Copy)]
 enum Wanted {
     Simplify,
     AddModule,
     AddNothing,
+    AskToAdd,
     Execute,
 }
 
@@ -104,6 +113,7 @@ fn bytes_of(rt: &impl Abort, alloc: Global, wanted: Wanted) -> Vec<u8> {
         Wanted::AddNothing => add_module_text(alloc, &Id::Signed(-1), "", false).expect(
             rt, "memory",
         ),
+        Wanted::AskToAdd => written(rt, question_text(alloc, &addition(rt, alloc))),
         Wanted::Execute => written(rt, question_text(alloc, &question(rt, alloc))),
     }
 }
@@ -121,7 +131,7 @@ impl Subject for Wanted {
 }
 
 /// What a client asks, its bytes, and behind them what is read of them. The own name is bound only where it is asked.
-const ROWS: [(Wanted, &str); 4] = [
+const ROWS: [(Wanted, &str); 5] = [
     (
         Wanted::Simplify,
         "{\"id\":7,\"jsonrpc\":\"2.0\",\"method\":\"simplify\",\"params\":{\"state\":{\"format\":\"KORE\",\"term\":{\"sort\":{\"args\":[],\"name\":\"SortS\",\"tag\":\"SortApp\"},\"tag\":\"Top\"},\"version\":1}}}\nsimplify pattern, named module false",
@@ -133,6 +143,10 @@ const ROWS: [(Wanted, &str); 4] = [
     (
         Wanted::AddNothing,
         "{\"id\":-1,\"jsonrpc\":\"2.0\",\"method\":\"add-module\",\"params\":{\"module\":\"\"}}\nadd-module , own name false",
+    ),
+    (
+        Wanted::AskToAdd,
+        "{\"id\":1,\"jsonrpc\":\"2.0\",\"method\":\"add-module\",\"params\":{\"module\":\"module M endmodule []\"}}\nadd-module module M endmodule [], own name false",
     ),
     (
         Wanted::Execute,

@@ -1,6 +1,6 @@
 -- The line that is written of a result tells that result alone.
-use Rattle.std.proofs.Common.{◌≡◌, ℕ, ◌^◌, ◌<◌, List, Bool, false, Option, Some, None, option_map, option_and_then, refl, sym, ap, ◌∙◌}
-use Rattle.std.specs.Prelude.{codes, if◌then◌else◌}
+use Rattle.std.proofs.Common.{◌≡◌, ℕ, ◌^◌, ◌<◌, List, Option, Some, None, option_map, option_and_then, refl, sym, ap, ◌∙◌}
+use Rattle.std.specs.Prelude.{codes}
 use Rattle.serde_json.specs.Data.{Data, array, object, Items, no_members, put}
 use Rattle.serde_json.specs.Find.{get}
 use Rattle.kp_kore.specs.Syntax.{Text, KorePattern}
@@ -11,9 +11,9 @@ use Rattle.kp_kore.specs.Implied.{Implied, not_valid, valid}
 use Rattle.kp_rpc.specs.Request.{IsReadId}
 use Rattle.kp_rpc.specs.Reply.{result_reply, reply_bytes}
 use Rattle.kp_rpc.specs.Request.{RequestId}
-use Rattle.kp_results.specs.Results.{NextParts, Ending, vacuous, depth_bound, stuck, branching, cut_point, terminal, aborted, ExecutedParts}
+use Rattle.kp_results.specs.Results.{StateParts, NextParts, Ending, vacuous, depth_bound, stuck, branching, cut_point, terminal, aborted, ExecutedParts}
 use Rattle.kp_replies.specs.Written.{state_tree, next_trees, with_nexts, executed_members, executed_tree, not_valid_object, valid_object, implied_tree, simplified_tree}
-use Rattle.kp_replies.specs.Read.{execute, implies, simplify, ServerReply, executed, unfinished, implied, simplified, read_wrapped, pattern_in, read_executed, is_unfinished, read_run, read_implied, condition_from}
+use Rattle.kp_replies.specs.Read.{execute, implies, simplify, ServerReply, executed, UnfinishedParts, unfinished, implied, simplified, read_wrapped, pattern_in, read_executed, read_state, read_unfinished, read_run, read_implied, condition_from}
 use Rattle.kp_replies.specs.Replies.{IsReplyOf, StandWith}
 use Rattle.kp_replies.proofs.PatternsRead.{only_in}
 use Rattle.kp_replies.proofs.ResultTrees.{result_only, result_is_no_implication}
@@ -60,41 +60,48 @@ implication_is_no_run (valid p q) tree e =
 
 -- ---- a result of execute names no limit and no predicate
 
-branching_is_finished : (n : ℕ) (x : Option Items) (s tree : Data) → option_map object (option_map (λ ds. put (codes "next-states") (array ds) (executed_members n branching s)) x) ≡ Some tree → is_unfinished tree ≡ false
+abbrev nothing : StateParts → Option UnfinishedParts
+nothing s = None
+
+no_state : (x : Option StateParts) → option_and_then nothing x ≡ None
+no_state None = refl
+no_state (Some s) = refl
+
+branching_is_finished : (n : ℕ) (x : Option Items) (s tree : Data) → option_map object (option_map (λ ds. put (codes "next-states") (array ds) (executed_members n branching s)) x) ≡ Some tree → read_unfinished tree ≡ None
 branching_is_finished n None s tree e = absurd (cc e)
-branching_is_finished n (Some ds) s tree e = ap is_unfinished (sym (same _ tree e))
+branching_is_finished n (Some ds) s tree e = ap read_unfinished (sym (same _ tree e))
 
-cut_is_finished : (n : ℕ) (id : Text) (x : Option Items) (s tree : Data) → option_map object (option_map (λ ds. put (codes "next-states") (array ds) (executed_members n (cut_point id) s)) x) ≡ Some tree → is_unfinished tree ≡ false
+cut_is_finished : (n : ℕ) (id : Text) (x : Option Items) (s tree : Data) → option_map object (option_map (λ ds. put (codes "next-states") (array ds) (executed_members n (cut_point id) s)) x) ≡ Some tree → read_unfinished tree ≡ None
 cut_is_finished n id None s tree e = absurd (cc e)
-cut_is_finished n id (Some ds) s tree e = ap is_unfinished (sym (same _ tree e))
+cut_is_finished n id (Some ds) s tree e = ap read_unfinished (sym (same _ tree e))
 
-ending_is_finished : (n : ℕ) (e : Ending) (ns : List NextParts) (s tree : Data) → option_map object (with_nexts e ns (executed_members n e s)) ≡ Some tree → is_unfinished tree ≡ false
-ending_is_finished n vacuous ns s tree e = ap is_unfinished (sym (same _ tree e))
-ending_is_finished n depth_bound ns s tree e = ap is_unfinished (sym (same _ tree e))
-ending_is_finished n stuck ns s tree e = ap is_unfinished (sym (same _ tree e))
+ending_is_finished : (n : ℕ) (e : Ending) (ns : List NextParts) (s tree : Data) → option_map object (with_nexts e ns (executed_members n e s)) ≡ Some tree → read_unfinished tree ≡ None
+ending_is_finished n vacuous ns s tree e = ap read_unfinished (sym (same _ tree e))
+ending_is_finished n depth_bound ns s tree e = ap read_unfinished (sym (same _ tree e))
+ending_is_finished n stuck ns s tree e = ap read_unfinished (sym (same _ tree e))
 ending_is_finished n branching ns s tree e = branching_is_finished n (next_trees ns) s tree e
 ending_is_finished n (cut_point id) ns s tree e = cut_is_finished n id (next_trees ns) s tree e
-ending_is_finished n (terminal id) ns s tree e = ap is_unfinished (sym (same _ tree e))
-ending_is_finished n (aborted (foreign id)) ns s tree e = ap is_unfinished (sym (same _ tree e))
+ending_is_finished n (terminal id) ns s tree e = ap read_unfinished (sym (same _ tree e))
+ending_is_finished n (aborted (foreign id)) ns s tree e = ap read_unfinished (sym (same _ tree e)) ∙ no_state (read_state s)
 
-state_is_finished : (x : ExecutedParts) (y : Option Data) (tree : Data) → option_and_then (λ s. option_map object (with_nexts x.ending x.nexts (executed_members x.depth x.ending s))) y ≡ Some tree → is_unfinished tree ≡ false
+state_is_finished : (x : ExecutedParts) (y : Option Data) (tree : Data) → option_and_then (λ s. option_map object (with_nexts x.ending x.nexts (executed_members x.depth x.ending s))) y ≡ Some tree → read_unfinished tree ≡ None
 state_is_finished x None tree e = absurd (cc e)
 state_is_finished x (Some s) tree e = ending_is_finished x.depth x.ending x.nexts s tree e
 
-pub run_is_finished : (x : ExecutedParts) (tree : Data) → executed_tree x ≡ Some tree → is_unfinished tree ≡ false
+pub run_is_finished : (x : ExecutedParts) (tree : Data) → executed_tree x ≡ Some tree → read_unfinished tree ≡ None
 run_is_finished x tree e = state_is_finished x (state_tree x.state) tree e
 
-implication_is_finished : (x : Implied) (tree : Data) → implied_tree x ≡ Some tree → is_unfinished tree ≡ false
-implication_is_finished not_valid tree e = ap is_unfinished (sym (same not_valid_object tree e))
+implication_is_finished : (x : Implied) (tree : Data) → implied_tree x ≡ Some tree → read_unfinished tree ≡ None
+implication_is_finished not_valid tree e = ap read_unfinished (sym (same not_valid_object tree e))
 implication_is_finished (valid p q) tree e =
     let t = both_of valid_object (wrapped_pattern p) (wrapped_pattern q) tree e in
-    ap is_unfinished (sym t.4)
+    ap read_unfinished (sym t.4)
 
 -- what is told of such a tree is a run that is read of it
-pub run_told : (x : Option ExecutedParts) (d : Data) (r : ServerReply) → is_unfinished d ≡ false → read_run x d ≡ Some r → (y : ExecutedParts) × (x ≡ Some y) × (executed y ≡ r)
+pub run_told : (x : Option ExecutedParts) (d : Data) (r : ServerReply) → read_unfinished d ≡ None → read_run x d ≡ Some r → (y : ExecutedParts) × (x ≡ Some y) × (executed y ≡ r)
 run_told (Some y) d r decided e = (y, refl, cc e)
 run_told None d r decided e =
-    let none : read_run None d ≡ None = ap (λ (b : Bool). if b then Some unfinished else None) decided in
+    let none : read_run None d ≡ None = ap (option_map unfinished) decided in
     let both : None ≡ Some r = sym none ∙ e in absurd (cc both)
 
 -- ---- lines

@@ -28,7 +28,7 @@ one_state t = object (put (codes "term") t no_members)
 abbrev two_state : Data → Data → Data
 two_state p t = object (put (codes "predicate") p (put (codes "term") t no_members))
 
-state_back : (term : KorePattern) (predicate : Option KorePattern) (tree : Data) → IsSpelledState term predicate → state_tree (record { term = term; predicate = predicate }) ≡ Some tree
+pub state_back : (term : KorePattern) (predicate : Option KorePattern) (tree : Data) → IsSpelledState term predicate → state_tree (record { term = term; predicate = predicate }) ≡ Some tree
     → read_state tree ≡ Some (record { term = term; predicate = predicate })
 state_back term None tree h e =
     let t = written term h in

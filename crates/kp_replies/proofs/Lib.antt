@@ -1,3 +1,4 @@
+pub mod AbortedBack
 pub mod Alone
 mod Back
 pub mod ErrorLines
@@ -9,3 +10,4 @@ pub mod PatternsRead
 mod Plain
 pub mod ResultTrees
 pub mod Texts
+mod WideNumbers

@@ -9,7 +9,7 @@ use Rattle.kp_kore.specs.Syntax.{Text, KorePattern}
 use Rattle.kp_json.specs.Faults.{wrapped_reading}
 use Rattle.kp_kore.specs.Causes.{foreign}
 use Rattle.kp_results.specs.Results.{StateParts, NextParts, Ending, vacuous, depth_bound, stuck, branching, cut_point, terminal, aborted, ExecutedParts}
-use Rattle.kp_replies.specs.Read.{Method, execute, implies, simplify, add_module, ServerReply, executed, unfinished, implied, simplified, added, failed, is_unfinished, read_run, pattern_in, read_wrapped, read_optional, text_in, is_rule_id, if_rule_id, read_rule, if_module_id, state_from, read_state, ending_named, read_ending, one_alone, read_next_states, nexts_of, executed_from, read_executed, read_implied, read_code, read_result, read_either, is_two, read_reply}
+use Rattle.kp_replies.specs.Read.{Method, execute, implies, simplify, add_module, ServerReply, executed, UnfinishedParts, unfinished, implied, simplified, added, failed, read_unfinished, read_run, pattern_in, read_wrapped, read_optional, text_in, is_rule_id, if_rule_id, read_rule, if_module_id, state_from, read_state, ending_named, read_ending, one_alone, read_next_states, nexts_of, executed_from, read_executed, read_implied, read_code, read_result, read_either, is_two, read_reply}
 use Rattle.kp_replies.specs.Replies.{IsOfMethod, IsSpelled, IsSpelledState, StandWith, IsNamedEnding, IsReplyOf}
 use Rattle.kp_replies.proofs.PatternsRead.{spelled_in}
 
@@ -44,7 +44,7 @@ same_reply r s e = cc e
 
 run_of_method : (x : Option ExecutedParts) (d : Data) (r : ServerReply) → read_run x d ≡ Some r → IsOfMethod execute r
 run_of_method (Some x) d r e = subst (IsOfMethod execute) (same_reply (executed x) r e) tt
-run_of_method None d r e = subst (IsOfMethod execute) (same_reply unfinished r (if_holds (is_unfinished d) (Some unfinished) r e)) tt
+run_of_method None d r e = let u = mapped unfinished (read_unfinished d) r e in subst (IsOfMethod execute) u.2 tt
 
 result_of_method : (method : Method) (d : Data) (r : ServerReply) → read_result method d ≡ Some r → IsOfMethod method r
 result_of_method execute d r e = run_of_method (read_executed d) d r e
@@ -71,12 +71,12 @@ line_of_method method line r (text, is, (d, frame, tells)) = reply_of_method met
 one_run : (x z : ExecutedParts) → executed x ≡ executed z → x ≡ z
 one_run x z e = cc e
 
-not_unfinished : (z : ExecutedParts) → unfinished ≡ executed z → ⊥
-not_unfinished z e = cc e
+not_unfinished : (u : UnfinishedParts) (z : ExecutedParts) → unfinished u ≡ executed z → ⊥
+not_unfinished u z e = cc e
 
 run_read : (x : Option ExecutedParts) (d : Data) (z : ExecutedParts) → read_run x d ≡ Some (executed z) → x ≡ Some z
 run_read (Some x) d z e = let is : executed x ≡ executed z = same_reply (executed x) (executed z) e in ap Some (one_run x z is)
-run_read None d z e = absurd (not_unfinished z (same_reply unfinished (executed z) (if_holds (is_unfinished d) (Some unfinished) (executed z) e)))
+run_read None d z e = let u = mapped unfinished (read_unfinished d) (executed z) e in absurd (not_unfinished u.0 z u.2)
 
 -- the result that is read of a reply is read of some tree
 run_at : (x y : Option Data) (z : ExecutedParts) → read_either execute x y ≡ Some (executed z) → (d : Data) × (read_executed d ≡ Some z)

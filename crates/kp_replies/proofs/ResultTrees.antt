@@ -63,7 +63,7 @@ some_found : (x : Option KorePattern) (y : Option KorePattern) (q : KorePattern)
 some_found None y q only e = absurd (cc e)
 some_found (Some k) y q only e = sym (same (Some k) y e) ∙ ap Some (only k refl)
 
-state_only : (term : KorePattern) (predicate : Option KorePattern) (d : Data) (s : StateParts) → state_tree (record { term = term; predicate = predicate }) ≡ Some d
+pub state_only : (term : KorePattern) (predicate : Option KorePattern) (d : Data) (s : StateParts) → state_tree (record { term = term; predicate = predicate }) ≡ Some d
     → read_state d ≡ Some s → s ≡ record { term = term; predicate = predicate }
 state_only term None d s made read =
     let m = one_made (wrapped_pattern term) d made in

@@ -1,8 +1,8 @@
 -- What is read of the tree of a reply, or None where it is no reply to the method.
 -- Source: JSON-RPC 2.0 (response objects); the K Haskell backend's JSON-RPC documentation (execute, implies, simplify,
 -- add-module).
-use Rattle.std.specs.Prelude.{ℕ, ℤ, Bool, true, false, ◌&&◌, ◌||◌, ◌==◌, List, [], ◌∷◌, length, nat_lt, nat_le, Option, Some, None, is_some, option_map, option_and_then, if◌then◌else◌, codes}
-use Rattle.std.specs.List.{list_all}
+use Rattle.std.specs.Prelude.{ℕ, ℤ, Bool, true, false, ◌&&◌, ◌==◌, List, [], ◌∷◌, length, nat_lt, nat_le, Option, Some, None, is_some, option_map, option_and_then, if◌then◌else◌, codes}
+use Rattle.std.specs.List.{list_all, list_any}
 use Rattle.std.specs.Str.{bytes_eq}
 use Rattle.serde_json.specs.Data.{Data, Items, no_items, item}
 use Rattle.serde_json.specs.Find.{get, as_array, as_bool, as_i64, as_number, as_str, as_u64}
@@ -17,10 +17,16 @@ use Rattle.kp_results.specs.Results.{StateParts, NextParts, Ending, vacuous, dep
 pub data Method : Type 0 where
   execute implies simplify add_module : Method
 
--- what a reply tells: a method's result, or an error's code; of a run that is aborted by what isn't decided, that alone
+-- a run that is aborted by what isn't decided: how far it came, and the name of a limit where that alone is told
+pub record UnfinishedParts : Type 0 where
+  pub depth : ℕ
+  pub state : StateParts
+  pub limit : Option Text
+
+-- what a reply tells: a method's result, or an error's code
 pub data ServerReply : Type 0 where
   executed : ExecutedParts → ServerReply
-  unfinished : ServerReply
+  unfinished : UnfinishedParts → ServerReply
   implied : Implied → ServerReply
   simplified : KorePattern → ServerReply
   added : Text → ServerReply
@@ -136,17 +142,31 @@ abbrev pub is_word : Option Text → Text → Bool
 is_word None word = false
 is_word (Some t) word = bytes_eq t word
 
--- a run that is aborted by a limit or by a predicate: what isn't decided has a member, and depth and state are read
-abbrev pub is_unfinished : Data → Bool
-is_unfinished d =
-    is_word (text_in (get (codes "reason") d)) (codes "aborted")
-    && (is_some (get (codes "limit") d) || is_some (get (codes "unknown-predicate") d))
-    && (is_some (read_depth (get (codes "depth") d)) && is_some (option_and_then read_state (get (codes "state") d)))
+-- the name of a limit: one of five
+abbrev pub is_limit_name : Text → Bool
+is_limit_name w = list_any (bytes_eq w) (codes "bits" ∷ codes "literals" ∷ codes "product" ∷ codes "depth" ∷ codes "number" ∷ [])
+
+abbrev pub if_limit_name : Text → Option Text
+if_limit_name w = if is_limit_name w then Some w else None
+
+abbrev pub limit_name : Data → Option Text
+limit_name d = option_and_then if_limit_name (option_and_then (λ l. text_in (get (codes "name") l)) (get (codes "limit") d))
+
+-- with unknown-predicate no limit's name is read, else one is needed
+abbrev pub told_limit : Data → Option (Option Text)
+told_limit d = if is_some (get (codes "unknown-predicate") d) then Some None else option_map Some (limit_name d)
+
+-- a run that is aborted by a limit or by a predicate: depth, state and what isn't decided are read
+abbrev pub read_unfinished : Data → Option UnfinishedParts
+read_unfinished d =
+    if is_word (text_in (get (codes "reason") d)) (codes "aborted")
+    then option_and_then (λ n. option_and_then (λ s. option_map (λ l. record { depth = n; state = s; limit = l }) (told_limit d)) (option_and_then read_state (get (codes "state") d))) (read_depth (get (codes "depth") d))
+    else None
 
 -- the run, where one was read
 abbrev pub read_run : Option ExecutedParts → Data → Option ServerReply
 read_run (Some x) d = Some (executed x)
-read_run None d = if is_unfinished d then Some unfinished else None
+read_run None d = option_map unfinished (read_unfinished d)
 
 -- ---- implies
 

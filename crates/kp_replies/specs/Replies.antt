@@ -1,16 +1,16 @@
 -- What a client is told by the bytes of a reply, and what a server writes that is read back.
 -- Source: JSON-RPC 2.0 (response objects); the K Haskell backend's JSON-RPC documentation.
-use Rattle.std.specs.Prelude.{◌≡◌, ◌<◌, ◌^◌, ℕ, List, [], ◌∷◌, ◌++◌, Option, Some, None, true}
+use Rattle.std.specs.Prelude.{◌≡◌, ◌<◌, ◌^◌, ℕ, List, [], ◌∷◌, ◌++◌, Option, Some, None, true, codes}
 use Rattle.std.specs.List.{AllByRecursion}
 use Rattle.serde_json.specs.Data.{Data}
 use Rattle.kp_kore.specs.Syntax.{Text, KorePattern}
 use Rattle.kp_json.specs.Trees.{SpellsWrapped}
 use Rattle.kp_kore.specs.Causes.{foreign}
 use Rattle.kp_kore.specs.Implied.{Implied, not_valid, valid}
-use Rattle.kp_results.specs.Results.{NextParts, Ending, vacuous, depth_bound, stuck, branching, cut_point, terminal, aborted, ExecutedParts, Limit, weighed, wide_call, predicate, limit}
+use Rattle.kp_results.specs.Results.{StateParts, NextParts, Ending, vacuous, depth_bound, stuck, branching, cut_point, terminal, aborted, ExecutedParts, Limit, weighed, wide_call, Undecided, predicate, limit}
 use Rattle.kp_rpc.specs.Frame.{IsFrame}
-use Rattle.kp_replies.specs.Failures.{Failure, undecided, bad_module, duplicate, bad_text, bad_axiom, bad_sentence}
-use Rattle.kp_replies.specs.Read.{Method, execute, implies, simplify, add_module, ServerReply, executed, unfinished, implied, simplified, added, failed, is_rule_id, read_reply}
+use Rattle.kp_replies.specs.Failures.{weight_name, Failure, undecided, bad_module, duplicate, bad_text, bad_axiom, bad_sentence}
+use Rattle.kp_replies.specs.Read.{Method, execute, implies, simplify, add_module, ServerReply, executed, UnfinishedParts, unfinished, implied, simplified, added, failed, is_rule_id, read_reply}
 
 -- the text is a frame of a reply to the method that tells this
 abbrev pub IsFrameReply : Method → List ℕ → ServerReply → Type 0
@@ -23,7 +23,7 @@ IsReplyOf method line reply = (text : List ℕ) × (line ≡ text ++ 10 ∷ []) 
 -- a method's result, or an error's code
 abbrev pub IsOfMethod : Method → ServerReply → Type 0
 IsOfMethod execute (executed x) = Unit {0}
-IsOfMethod execute unfinished = Unit {0}
+IsOfMethod execute (unfinished x) = Unit {0}
 IsOfMethod implies (implied x) = Unit {0}
 IsOfMethod simplify (simplified p) = Unit {0}
 IsOfMethod add_module (added id) = Unit {0}
@@ -85,6 +85,16 @@ pub record IsWritable (x : ExecutedParts) : Type 0 where
 pub record IsBare (x : ExecutedParts) : Type 0 where
   pub predicate : x.state.predicate ≡ None
   pub nexts : x.nexts ≡ []
+
+-- the name of a limit, where that alone isn't decided
+abbrev pub told_name : Undecided → Option Text
+told_name (predicate p l) = None
+told_name (limit (weighed w n)) = Some (weight_name w)
+told_name (limit (wide_call first second symbol)) = Some (codes "number")
+
+-- what is told of a run that is aborted by what isn't decided
+abbrev pub unfinished_parts : ℕ → StateParts → Undecided → UnfinishedParts
+unfinished_parts n s u = record { depth = n; state = s; limit = told_name u }
 
 -- the numbers are of 64 bits
 abbrev pub Fits : Limit → Type 0

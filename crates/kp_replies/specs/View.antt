@@ -1,7 +1,7 @@
 -- The data of replies that the Rust types stand for.
-use Rattle.std.specs.Prelude.{string_bytes}
+use Rattle.std.specs.Prelude.{string_bytes, option_map}
 use Rattle.kp_kore.specs.View.{view}
-use Rattle.kp_results.specs.View.{executed_view, implied_view, undecided_view}
+use Rattle.kp_results.specs.View.{executed_view, implied_view, undecided_view, state_view}
 use Rattle.kp_replies.specs.Failures as failures
 use Rattle.kp_replies.specs.Read as read
 use Rattle.kp_replies.specs.declared.failure.AdditionFault.{AdditionFault}
@@ -41,7 +41,7 @@ method_view method.AddModule = read.add_module
 
 abbrev pub reply_view : ServerReply → read.ServerReply
 reply_view (reply.Executed e) = read.executed (executed_view e)
-reply_view reply.Unfinished = read.unfinished
+reply_view (reply.Unfinished depth state limit) = read.unfinished (record { depth = depth; state = state_view state; limit = option_map string_bytes limit })
 reply_view (reply.Implied i) = read.implied (implied_view i)
 reply_view (reply.Simplified p) = read.simplified (view p)
 reply_view (reply.Added id) = read.added (string_bytes id)

@@ -9,16 +9,24 @@ ghost use Rattle.kp_rpc.specs.Request.{RequestId};
 ghost use Rattle.kp_kore.specs.Implied.{Implied};
 ghost use Rattle.kp_rpc.specs.Reply.{RequestError, error_parts, error_reply, result_reply, reply_bytes};
 ghost use Rattle.kp_rpc.specs.Request.{IsReadId};
-ghost use Rattle.kp_results.specs.Results.{ExecutedParts};
+ghost use Rattle.kp_results.specs.Results.{StateParts, ExecutedParts, Undecided};
+ghost use Rattle.kp_replies.specs.Aborted.{aborted_tree};
 ghost use Rattle.kp_replies.specs.Written.{executed_tree, implied_tree, simplified_tree, added_tree};
 ghost use Rattle.kp_replies.specs.Failures.{Failure, failure_code, failure_reply};
-ghost use Rattle.kp_replies.specs.Read.{Method, execute, implies, simplify, add_module, executed, implied, simplified, added, failed, ServerReply, is_module_id, read_reply};
-ghost use Rattle.kp_replies.specs.Replies.{IsReplyOf, IsOfMethod, IsSpelled, IsSpelledState, IsSpelledImplied, StandWith, IsNamedEnding, IsWritable, FailureFits};
+ghost use Rattle.kp_replies.specs.Read.{Method, execute, implies, simplify, add_module, executed, unfinished, implied, simplified, added, failed, ServerReply, is_module_id, read_reply};
+ghost use Rattle.kp_replies.specs.Replies.{IsReplyOf, IsOfMethod, IsSpelled, IsSpelledState, IsSpelledImplied, StandWith, IsNamedEnding, IsWritable, unfinished_parts, FailureFits};
 
 /// What is written of a result of execute is read as that result.
 pub fn what_is_executed_is_read_back()
     ensures { (id : RequestId) (x : ExecutedParts) (tree : Data) → IsWritable x → executed_tree x ≡ Some tree
         → read_reply execute (result_reply id tree) ≡ Some (executed x) }
+{}
+
+/// What is written of a run that is aborted by what isn't decided is read as its depth, its state and the name of a limit,
+/// where that alone is told.
+pub fn what_is_aborted_is_read_back()
+    ensures { (id : RequestId) (n : ℕ) (s : StateParts) (u : Undecided) (tree : Data) → IsSpelledState s.term s.predicate → aborted_tree n s u ≡ Some tree
+        → read_reply execute (result_reply id tree) ≡ Some (unfinished (unfinished_parts n s u)) }
 {}
 
 /// What is written of a result of implies is read as that result.
@@ -98,6 +106,16 @@ pub fn a_runs_line_tells_the_run()
         → executed_tree x ≡ Some tree → IsReplyOf execute (reply_bytes (result_reply id tree)) r → r ≡ executed x }
     ensures nothing { (id : RequestId) (x : ExecutedParts) (tree : Data) (r : ServerReply) → IsReadId id → x.depth < 2 ^ 64
         → executed_tree x ≡ Some tree → ¬ IsReplyOf implies (reply_bytes (result_reply id tree)) r }
+{}
+
+/// The line that is written of a run that is aborted by what isn't decided tells its depth, its state and the name of a
+/// limit, where that alone is told, and nothing else, however deep it nests and whatever numbers stand in it; asked of
+/// implies, it tells nothing.
+pub fn an_aborted_runs_line_tells_the_run()
+    ensures alone { (id : RequestId) (n : ℕ) (s : StateParts) (u : Undecided) (tree : Data) (r : ServerReply) → IsReadId id → n < 2 ^ 64
+        → aborted_tree n s u ≡ Some tree → IsReplyOf execute (reply_bytes (result_reply id tree)) r → r ≡ unfinished (unfinished_parts n s u) }
+    ensures nothing { (id : RequestId) (n : ℕ) (s : StateParts) (u : Undecided) (tree : Data) (r : ServerReply) → IsReadId id → n < 2 ^ 64
+        → aborted_tree n s u ≡ Some tree → ¬ IsReplyOf implies (reply_bytes (result_reply id tree)) r }
 {}
 
 /// The line that is written of a result of implies tells that result and nothing else, however deep it nests; asked of execute, it

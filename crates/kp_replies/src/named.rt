@@ -3,7 +3,7 @@ ghost use Rattle.std.specs.List.{list_all};
 ghost use Rattle.serde_json.specs.Find.{get, as_str};
 ghost use Rattle.serde_json.specs.View.{view};
 ghost use Rattle.kp_kore.specs.ClaimRules.{is_lower_hexadecimal};
-ghost use Rattle.kp_replies.specs.Read.{is_visible as visible_test, is_rule_id as rule_id_test, is_module_id as module_id_test, if_module_id, if_rule_id, read_rule, read_optional_rule, text_in};
+ghost use Rattle.kp_replies.specs.Read.{is_visible as visible_test, is_rule_id as rule_id_test, is_module_id as module_id_test, if_module_id, if_rule_id, read_rule, read_optional_rule, is_limit_name as limit_name_test, if_limit_name, limit_name, told_limit, text_in};
 
 use kp_rpc::member_text;
 use serde_json::Value;
@@ -125,6 +125,49 @@ pub fn optional_rule_at(
     };
     match rule_of(alloc, tree)? {
         Some(id) => Ok(Some(Some(id))),
+        None => Ok(None),
+    }
+}
+
+/// Whether a text is the name of a limit.
+fn is_limit_name(text: &str) -> bool
+    ensures { result ≡ limit_name_test text.now }
+{
+    text == "bits" || text == "literals" || text == "product" || text == "depth" || text == "number"
+}
+
+/// The name of a limit that a text is.
+fn limit_named(alloc: Global, text: &str) -> Result<Option<String>, AllocError>
+    ensures { IfOk result (λ o. option_map string_bytes o ≡ if_limit_name text.now) }
+{
+    if is_limit_name(text) {
+        return Ok(Some(String::from_str(alloc, text)?));
+    }
+    Ok(None)
+}
+
+/// The name of the limit of a result.
+fn limit_at(alloc: Global, value: &Value) -> Result<Option<String>, AllocError>
+    ensures { IfOk result (λ o. option_map string_bytes o ≡ limit_name (view value.now)) }
+{
+    let Some(limit) = value.get("limit") else {
+        return Ok(None);
+    };
+    match member_text(limit, "name") {
+        Some(name) => limit_named(alloc, name),
+        None => Ok(None),
+    }
+}
+
+/// What isn't decided of a result: with a predicate no limit is read, else one is needed.
+pub fn told_limit_at(alloc: Global, value: &Value) -> Result<Option<Option<String>>, AllocError>
+    ensures { IfOk result (λ o. option_map (option_map string_bytes) o ≡ told_limit (view value.now)) }
+{
+    if value.get("unknown-predicate").is_some() {
+        return Ok(Some(None));
+    }
+    match limit_at(alloc, value)? {
+        Some(name) => Ok(Some(Some(name))),
         None => Ok(None),
     }
 }

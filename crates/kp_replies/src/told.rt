@@ -1,19 +1,19 @@
-ghost use Rattle.std.specs.Prelude.{◌≡◌, ◌≢◌, ◌∷◌, ◌++◌, ◌&&◌, ◌||◌, [], ℕ, List, Some, IfOk, IfSome, IfNone, option_map, option_and_then, is_some, codes};
+ghost use Rattle.std.specs.Prelude.{◌≡◌, ◌≢◌, ◌∷◌, ◌++◌, [], ℕ, List, Some, IfOk, IfSome, IfNone, option_map, option_and_then, codes};
 ghost use Rattle.serde_json.specs.Find.{get};
 ghost use Rattle.serde_json.specs.View.{view};
 ghost use Rattle.kp_kore.specs.Causes.{foreign};
 ghost use Rattle.kp_results.specs.Results.{cut_point, terminal, aborted};
 ghost use Rattle.kp_results.specs.View.{reason_view, nexts_view, executed_view};
-ghost use Rattle.kp_replies.specs.Read.{read_rule, one_alone, ending_named, read_ending, read_next_states, nexts_of as spec_nexts_of, read_executed, read_run, is_word, text_in, is_unfinished as spec_is_unfinished, read_result, read_code, read_reply, ServerReply as SpecReply};
+ghost use Rattle.kp_replies.specs.Read.{read_rule, one_alone, ending_named, read_ending, read_next_states, nexts_of as spec_nexts_of, read_executed, read_run, is_word, text_in, unfinished, read_unfinished, read_result, read_code, read_reply, ServerReply as SpecReply};
 ghost use Rattle.kp_replies.specs.Replies.{IsFrameReply, IsReplyOf};
 ghost use Rattle.kp_replies.specs.View.{method_view, reply_view};
 
 use crate::implied::implied_of;
-use crate::named::{module_at, rule_at};
+use crate::named::{module_at, rule_at, told_limit_at};
 use crate::patterns::wrapped_at;
 use crate::read_states::{nexts_at, state_at};
 use kp_kore::Pattern;
-use kp_results::{Cause, Executed, Implied, NextState, Reason};
+use kp_results::{Cause, Executed, Implied, NextState, Reason, ReplyState};
 use kp_rpc::{FrameError, frame_of, is_version_two, member_text};
 use serde_json::Value;
 use std::alloc::{AllocError, Global};
@@ -32,15 +32,21 @@ pub enum Method {
 #[derive(Drop)]
 pub enum ServerReply {
     Executed(Executed),
-    /// A run that is aborted by what isn't decided.
-    Unfinished,
+    /// A run that is aborted by what isn't decided: how far it came, and the name of a limit where that alone is told.
+    Unfinished {
+        depth: u64,
+        state: ReplyState,
+        limit: Option<String>,
+    },
     Implied(Implied),
     /// The simplified state.
     Simplified(Pattern),
     /// The added module's id.
     Added(String),
     /// An error's code.
-    Failed { code: i64 },
+    Failed {
+        code: i64,
+    },
 }
 
 // ---- execute
@@ -182,26 +188,27 @@ fn is_member_word(value: &Value, key: &str, word: &str) -> bool
     }
 }
 
-/// Whether a member names what isn't decided of a run that is aborted.
-fn is_left_open(value: &Value) -> bool
-    ensures { let value' = view value.now in
-        result ≡ is_word (text_in (get (codes "reason") value')) (codes "aborted")
-        && (is_some (get (codes "limit") value') || is_some (get (codes "unknown-predicate") value')) }
+/// A run that is aborted by what isn't decided.
+fn unfinished_of(alloc: Global, value: &Value) -> Result<Option<ServerReply>, AllocError>
+    ensures { IfOk result (λ o. option_map reply_view o ≡ option_map unfinished (read_unfinished (view value.now))) }
 {
     if !is_member_word(value, "reason", "aborted") {
-        return false;
+        return Ok(None);
     }
-    value.get("limit").is_some() || value.get("unknown-predicate").is_some()
-}
-
-/// Whether a run is aborted by what isn't decided.
-fn is_unfinished(alloc: Global, value: &Value) -> Result<bool, AllocError>
-    ensures { IfOk result (λ b. b ≡ spec_is_unfinished (view value.now)) }
-{
-    if !is_left_open(value) || value.get("depth").and_then(Value::as_u64).is_none() {
-        return Ok(false);
-    }
-    Ok(state_at(alloc, value)?.is_some())
+    let Some(depth) = value.get("depth").and_then(Value::as_u64) else {
+        return Ok(None);
+    };
+    let Some(state) = state_at(alloc, value)? else {
+        return Ok(None);
+    };
+    let Some(limit) = told_limit_at(alloc, value)? else {
+        return Ok(None);
+    };
+    Ok(Some(ServerReply::Unfinished {
+        depth,
+        state,
+        limit,
+    }))
 }
 
 /// What the result of execute tells.
@@ -210,11 +217,7 @@ fn run_told(alloc: Global, value: &Value) -> Result<Option<ServerReply>, AllocEr
 {
     match executed_of(alloc, value)? {
         Some(executed) => Ok(Some(ServerReply::Executed(executed))),
-        None => if is_unfinished(alloc, value)? {
-            Ok(Some(ServerReply::Unfinished))
-        } else {
-            Ok(None)
-        },
+        None => unfinished_of(alloc, value),
     }
 }
 

@@ -3,7 +3,7 @@ use Rattle.std.proofs.Common.{◌≡◌, refl, sym, ◌∙◌, ap, subst, ℕ, s
 use Rattle.std.proofs.Math.Seq.{drop-length}
 use Rattle.std.specs.Prelude.{codes, ℤ}
 use Rattle.kp_results.specs.Results.{ExecutedParts}
-use Rattle.kp_replies.specs.Read.{execute, executed, unfinished, failed, ServerReply}
+use Rattle.kp_replies.specs.Read.{execute, executed, UnfinishedParts, unfinished, failed, ServerReply}
 use Rattle.kp_replies.specs.Replies.{IsReplyOf}
 use Rattle.kp_report.specs.Report.{IsLine, IsReport, no_lines, one_line, IsReplyWhy, by_run, by_unfinished, by_error, by_nothing, run_why}
 use Rattle.kp_client.specs.View.{outcome_view}
@@ -36,8 +36,8 @@ all_written lines text h = subst (IsReport (map line_view lines)) (append_none t
 pub why_by_run : (line why : List ℕ) (x : ExecutedParts) → IsReplyOf execute line (executed x) → why ≡ run_why x.ending → IsReplyWhy line why
 why_by_run line why x told is = subst (IsReplyWhy line) (sym is) (by_run x told)
 
-pub why_by_unfinished : (line why : List ℕ) → IsReplyOf execute line unfinished → why ≡ codes "undecided" → IsReplyWhy line why
-why_by_unfinished line why told is = subst (IsReplyWhy line) (sym is) (by_unfinished told)
+pub why_by_unfinished : (line why : List ℕ) (x : UnfinishedParts) → IsReplyOf execute line (unfinished x) → why ≡ codes "undecided" → IsReplyWhy line why
+why_by_unfinished line why x told is = subst (IsReplyWhy line) (sym is) (by_unfinished x told)
 
 pub why_by_error : (line why : List ℕ) (code : ℤ) → IsReplyOf execute line (failed code) → why ≡ codes "undecided" → IsReplyWhy line why
 why_by_error line why code told is = subst (IsReplyWhy line) (sym is) (by_error code told)

@@ -179,7 +179,7 @@ told_reason (aborted (foreign id)) h = each_visible id (both_parts (nat_lt 0 (le
 
 reply_in_one_line : (line : List ℕ) (why : Text) → IsReplyWhy line why → is_one_line why ≡ true
 reply_in_one_line line _ (by_run x told) = told_reason x.ending (told_ids line x told)
-reply_in_one_line line _ (by_unfinished told) = refl
+reply_in_one_line line _ (by_unfinished x told) = refl
 reply_in_one_line line _ (by_error code told) = refl
 reply_in_one_line line _ (by_nothing none) = refl
 

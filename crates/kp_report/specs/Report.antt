@@ -7,7 +7,7 @@ use Rattle.kp_kore.specs.Syntax.{Text}
 use Rattle.kp_kore.specs.Causes.{foreign}
 use Rattle.kp_graph.specs.Tree.{HeldBy, reply, rounds, nodes}
 use Rattle.kp_results.specs.Results.{Ending, vacuous, depth_bound, stuck, branching, cut_point, terminal, aborted, ExecutedParts}
-use Rattle.kp_replies.specs.Read.{execute, executed, unfinished, failed, ServerReply}
+use Rattle.kp_replies.specs.Read.{execute, executed, UnfinishedParts, unfinished, failed, ServerReply}
 use Rattle.kp_replies.specs.Replies.{IsReplyOf}
 use Rattle.kp_client.specs.Rounds.{ProofOutcome, passed, failed_at, pending_at, refused_with}
 
@@ -24,7 +24,7 @@ run_why (terminal id) = codes "undecided"
 -- by the run that a reply tells; a run that is aborted by what isn't decided, an error, and what is no reply, leave undecided
 pub data IsReplyWhy (line : List ℕ) : Text → Type 0 where
   by_run : (x : ExecutedParts) → IsReplyOf execute line (executed x) → IsReplyWhy line (run_why x.ending)
-  by_unfinished : IsReplyOf execute line unfinished → IsReplyWhy line (codes "undecided")
+  by_unfinished : (x : UnfinishedParts) → IsReplyOf execute line (unfinished x) → IsReplyWhy line (codes "undecided")
   by_error : (code : ℤ) → IsReplyOf execute line (failed code) → IsReplyWhy line (codes "undecided")
   by_nothing : ((r : ServerReply) → ¬ IsReplyOf execute line r) → IsReplyWhy line (codes "undecided")
 

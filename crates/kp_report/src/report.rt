@@ -54,7 +54,7 @@ fn told_why(alloc: Global, reply: ServerReply) -> Result<String, AllocError>
 {
     match reply {
         ServerReply::Executed(run) => run_why(alloc, &run.reason),
-        ServerReply::Unfinished => undecided(alloc),
+        ServerReply::Unfinished { .. } => undecided(alloc),
         ServerReply::Failed { code: _ } => undecided(alloc),
         ServerReply::Implied(_) => undecided(alloc),
         ServerReply::Simplified(_) => undecided(alloc),

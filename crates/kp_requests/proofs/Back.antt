@@ -1,7 +1,8 @@
 -- The tree that a client writes of a request asks that request.
-use Rattle.std.proofs.Common.{◌≡◌, true, Bool, false, Option, Some, None, option_map, option_and_then, refl, sym, ap, ◌∙◌}
+use Rattle.std.proofs.Common.{◌≡◌, ℕ, List, true, Bool, false, Option, Some, None, option_map, option_and_then, refl, sym, ap, ◌∙◌}
 use Rattle.std.specs.Prelude.{codes}
 use Rattle.serde_json.specs.Data.{Data, unsigned, negative, float, object, Members}
+use Rattle.serde_json.specs.Written.{compact_text}
 use Rattle.kp_kore.specs.Syntax.{Text, KorePattern}
 use Rattle.kp_json.specs.Faults.{read, wrapped_reading}
 use Rattle.kp_json.specs.Trees.{SpellsWrapped, wrapper}
@@ -10,9 +11,11 @@ use Rattle.kp_json.proofs.Complete.{wrapped_complete}
 use Rattle.kp_json.proofs.RoundTrip.{wrapped_written}
 use Rattle.kp_rpc.specs.Request.{RequestId, id_text, id_number, id_null, id_tree, ExecuteRequest, ImpliesRequest, execute_method, implies_method}
 use Rattle.kp_rpc.specs.Readings.{read_id, read_options, if_object}
-use Rattle.kp_rpc.specs.Questions.{IsLawfulId, to_execute, to_imply, execute_params, implies_params, request_object, question_tree}
+use Rattle.kp_rpc.specs.Questions.{IsAskable, IsLawfulId, to_execute, to_imply, to_add, execute_params, implies_params, request_object, question_tree}
 use Rattle.kp_rpc.proofs.Asked.{options_are, state_is}
 use Rattle.kp_rpc.proofs.OptionsRead.{options_told}
+use Rattle.kp_rpc.proofs.QuestionsRead.{lawful, add_module_tree_read}
+use Rattle.kp_requests.specs.Frames.{IsJson}
 use Rattle.kp_requests.specs.Requests.{Request, execute, implies, simplify, add_module, asks, Frame, single}
 use Rattle.kp_requests.specs.Read.{call_from, asked_of, or_invalid_params, read_frame, read_execute, read_implies, read_simplify}
 use Rattle.kp_requests.specs.Asked.{simplify_params, simplify_tree, add_module_params, add_module_tree}
@@ -112,3 +115,9 @@ simplify_back id p name tree d lawful spelled e =
 pub add_module_back : (id : RequestId) (text : Text) (name_as_id : Bool) → IsLawfulId id → read_frame (add_module_tree id text name_as_id) ≡ asks_alone id (add_module text name_as_id)
 add_module_back id text false lawful = call_back id (codes "add-module") (add_module_params text false) (add_module text false) lawful refl
 add_module_back id text true lawful = call_back id (codes "add-module") (add_module_params text true) (add_module text true) lawful refl
+
+-- so does what is read of the text of a question to add a module
+pub question_to_add_read : (id : RequestId) (text : Text) (d e : Data) (frame : List ℕ) → IsAskable (to_add id text) → question_tree (to_add id text) ≡ Some d → frame ≡ compact_text d → IsJson frame e
+    → read_frame e ≡ asks_alone id (add_module text false)
+question_to_add_read id text d e frame askable made written json =
+    ap read_frame (add_module_tree_read id text d e frame askable made written json.reads ∙ sym (from_some _ _ made)) ∙ add_module_back id text false (lawful id askable)

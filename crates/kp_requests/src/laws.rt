@@ -1,6 +1,7 @@
 // Laws of requests: bytes ask one thing, and what a client writes asks what it was written of.
 ghost use Rattle.std.specs.Prelude.{◌≡◌, ◌≢◌, ℕ, Bool, List, Option, Some, codes};
 ghost use Rattle.serde_json.specs.Data.{Data, object, Members};
+ghost use Rattle.serde_json.specs.Written.{compact_text};
 ghost use Rattle.kp_kore.specs.Syntax.{Text, KorePattern};
 ghost use Rattle.kp_json.specs.Faults.{read};
 ghost use Rattle.kp_json.specs.Trees.{SpellsWrapped};
@@ -8,7 +9,7 @@ ghost use Rattle.kp_rpc.specs.Frame.{IsFrame};
 ghost use Rattle.kp_rpc.specs.Request.{RequestId, ExecuteRequest, ImpliesRequest};
 ghost use Rattle.kp_rpc.specs.Readings.{read_object};
 ghost use Rattle.kp_rpc.specs.Reply.{invalid_request, method_not_found};
-ghost use Rattle.kp_rpc.specs.Questions.{IsLawfulId, question_tree, to_execute, to_imply};
+ghost use Rattle.kp_rpc.specs.Questions.{IsAskable, IsLawfulId, question_tree, to_execute, to_imply, to_add};
 ghost use Rattle.kp_requests.specs.Asked.{simplify_tree, add_module_tree};
 ghost use Rattle.kp_requests.specs.Frames.{Asks, IsJson};
 ghost use Rattle.kp_requests.specs.Read.{asked_of, echoed, read_call, read_frame};
@@ -61,6 +62,13 @@ pub fn what_is_written_of_simplify_asks_it()
 pub fn what_is_written_of_add_module_asks_it()
     ensures { (id : RequestId) (text : Text) (name_as_id : Bool) → IsLawfulId id
         → read_frame (add_module_tree id text name_as_id) ≡ single (record { id = Some id; asked = asks (add_module text name_as_id) }) }
+{}
+
+/// What is read of the text of a question to add a module asks to add it, under its id for a name alone.
+#[tactic(auto, using(crate::proofs::Back::question_to_add_read))]
+pub fn what_is_read_of_a_question_to_add_asks_it()
+    ensures { (id : RequestId) (text : Text) (d e : Data) (frame : List ℕ) → IsAskable (to_add id text) → question_tree (to_add id text) ≡ Some d
+        → frame ≡ compact_text d → IsJson frame e → read_frame e ≡ single (record { id = Some id; asked = asks (add_module text false) }) }
 {}
 
 /// A request object asks what its method is asked by its params, and its reply carries its id; without an id it is a

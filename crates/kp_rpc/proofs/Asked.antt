@@ -10,11 +10,11 @@ use Rattle.kp_json.specs.Members.{Has, Lacks, members_of}
 use Rattle.kp_json.specs.Trees.{SpellsWrapped, wrapper}
 use Rattle.kp_json.specs.Written.{two_parts, wrapped_pattern}
 use Rattle.kp_json.proofs.RoundTrip.{wrapped_written}
-use Rattle.kp_rpc.specs.Request.{RequestId, id_number, id_tree, NumberAt, TextAt, AreTexts, TextsAt, ExecuteOptions, HasOptions, IsRequest, IsExecute, IsImplies, HasSides, ExecuteRequest, ImpliesRequest, execute_method, implies_method}
+use Rattle.kp_rpc.specs.Request.{RequestId, id_number, id_tree, NumberAt, TextAt, AreTexts, TextsAt, ExecuteOptions, HasOptions, IsRequest, IsExecute, IsImplies, HasSides, ExecuteRequest, ImpliesRequest, execute_method, implies_method, IsAddModule}
 use Rattle.kp_rpc.specs.View.{id_view}
 use Rattle.kp_rpc.specs.declared.id.Id.{Id}
 use Rattle.kp_rpc.specs.declared.id.Id.TheVariants as id
-use Rattle.kp_rpc.specs.Questions.{to_execute, to_imply, IsLawfulId, with_number, with_text, text_items, with_texts, execute_params, implies_params, request_object, question_tree}
+use Rattle.kp_rpc.specs.Questions.{to_execute, to_imply, to_add, IsLawfulId, with_number, with_text, text_items, with_texts, execute_params, implies_params, request_object, question_tree}
 
 pub apart : (q k : Text) → bytes_eq q k ≡ false → q ≡ k → ⊥
 apart q k e h = true≢false (sym ((bytes_eq-Decides q k).1 h) ∙ e)
@@ -174,6 +174,14 @@ implies_asked q tree other d lawful left right e =
         spells_antecedent = a.spells;
         spells_consequent = c.spells;
       },
+    )
+
+pub add_module_asked : (id : RequestId) (text : Text) (d : Data) → IsLawfulId id → question_tree (to_add id text) ≡ Some d → (o : Members) × (d ≡ object o) × IsAddModule o id text
+add_module_asked id text d lawful e =
+    let params : Members = put named (string text) no_members in (
+      request_members id (codes "add-module") params,
+      sym (from_some _ _ e),
+      record { is_request = request_is id (codes "add-module") params lawful; params = params; has_params = refl; has_text = refl; has_no_flag = inl refl },
     )
 
 -- ---- ids

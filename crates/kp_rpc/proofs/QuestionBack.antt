@@ -1,10 +1,11 @@
 -- The tree of a question is what JSON makes of its outline.
 use Rattle.std.proofs.Common.{ℕ, List, [], ◌∷◌, Option, Some, None, refl}
-use Rattle.serde_json.specs.Data.{Data, object, Members}
+use Rattle.std.specs.Prelude.{codes}
+use Rattle.serde_json.specs.Data.{Data, string, object, Members, no_members, put}
 use Rattle.kp_kore.specs.Syntax.{Text}
 use Rattle.kp_json.specs.Written.{wrapped_pattern}
 use Rattle.kp_rpc.specs.Request.{IsReadId, RequestId, ExecuteRequest, ImpliesRequest, execute_method, implies_method}
-use Rattle.kp_rpc.specs.Questions.{to_execute, to_imply, text_items, execute_params, implies_params, request_object, question_tree, IsReadNumber, IsAskable}
+use Rattle.kp_rpc.specs.Questions.{to_execute, to_imply, to_add, text_items, execute_params, implies_params, request_object, question_tree, IsReadNumber, IsAskable}
 use Rattle.kp_rpc.proofs.ReadBack.{Back, ItemsBack, IsBack, one_back, two_back, number_back, id_back, wrapped_back}
 
 texts_back : (ts : List Text) → ItemsBack (text_items ts)
@@ -52,3 +53,8 @@ pub implies_back : (q : ImpliesRequest) → IsAskable (to_imply q) → IsBack (q
 implies_back q h =
     two_back (λ a c. request_object q.id implies_method (implies_params q.module_name a c)) (wrapped_pattern q.antecedent) (wrapped_pattern q.consequent)
     (λ a c b d. request_back q.id implies_method (implies_params q.module_name a c) h (sides_back q.module_name a c b d)) (wrapped_back q.antecedent) (wrapped_back q.consequent)
+
+-- ---- add-module
+
+pub add_module_back : (id : RequestId) (text : Text) → IsAskable (to_add id text) → IsBack (question_tree (to_add id text))
+add_module_back id text h = request_back id (codes "add-module") (put (codes "module") (string text) no_members) h (record { numbers = (tt, tt); is = refl })

@@ -1,7 +1,7 @@
 -- The text that is written of a question: it is exact, since there is no float, and it is a frame of the question.
 use Rattle.std.proofs.Common.{◌≡◌, ℕ, ◌≤◌, List, [], ◌∷◌, length, false, Option, Some, None, option_map, Ordering, Less, Equal, Greater, refl, sym, ap, ◌∙◌, subst}
 use Rattle.std.proofs.lemmas.Bool.{or_parts}
-use Rattle.std.specs.Prelude.{codes, IsUtf8}
+use Rattle.std.specs.Prelude.{codes, string_bytes, IsUtf8}
 use Rattle.std.specs.Cmp.Lexicographic.{slice_cmp}
 use Rattle.std.specs.Ordering.{nat_cmp, match_ordering}
 use Rattle.serde_json.specs.Data.{Data, unsigned, negative, float, number, string, array, Members, no_members, member, put, depth}
@@ -13,7 +13,7 @@ use Rattle.kp_json.specs.Written.{two_parts, wrapped_pattern}
 use Rattle.kp_frames.specs.Frames.{most_frame}
 use Rattle.kp_rpc.specs.Frame.{IsFrame, IsFrameData}
 use Rattle.kp_rpc.specs.Request.{RequestId, id_text, id_number, id_null, id_tree, ExecuteOptions, ExecuteRequest, ImpliesRequest, execute_method, implies_method}
-use Rattle.kp_rpc.specs.Questions.{Question, to_execute, to_imply, IsLawfulId, with_number, with_text, text_items, with_texts, execute_params, implies_params, request_object, question_tree}
+use Rattle.kp_rpc.specs.Questions.{Question, to_execute, to_imply, to_add, IsLawfulId, with_number, with_text, text_items, with_texts, execute_params, implies_params, request_object, question_tree}
 use Rattle.kp_rpc.specs.View.{id_view, options_view, name_view, question_view}
 use Rattle.kp_rpc.specs.declared.question.Question.{Question as RustQuestion}
 use Rattle.kp_rpc.specs.declared.question.Question.TheVariants as question
@@ -90,6 +90,7 @@ question_plain : (q : RustQuestion) → IsPlain (question_tree (question_view q)
 question_plain (question.Execute i state options) = execute_plain (record { id = id_view i; state = view state; options = options_view options }) (ids_are_lawful i)
 question_plain (question.Implies i antecedent consequent name) =
     implies_plain (record { id = id_view i; antecedent = view antecedent; consequent = view consequent; module_name = name_view name }) (ids_are_lawful i)
+question_plain (question.AddModule i text) = request_plain (id_view i) (codes "add-module") (put (codes "module") (string (string_bytes text)) no_members) (ids_are_lawful i) refl
 
 pub question_written : (q : RustQuestion) (d : Data) (text : List ℕ) → Some d ≡ question_tree (question_view q) → (has_float d ≡ false → text ≡ compact_text d)
     → Some text ≡ option_map compact_text (question_tree (question_view q))
@@ -114,6 +115,7 @@ implies_bracketed id name (Some a) (Some c) = tt
 question_bracketed : (q : Question) → IsBracketed (question_tree q)
 question_bracketed (to_execute q) = execute_bracketed q.id q.options (wrapped_pattern q.state)
 question_bracketed (to_imply q) = implies_bracketed q.id q.module_name (wrapped_pattern q.antecedent) (wrapped_pattern q.consequent)
+question_bracketed (to_add id text) = tt
 
 from_some : (d e : Data) → Some d ≡ Some e → d ≡ e
 from_some d e same = cc same

@@ -6,18 +6,18 @@ use Rattle.serde_json.specs.Read.{read}
 use Rattle.serde_json.specs.Written.{compact_text}
 use Rattle.serde_json.proofs.Views.{get_member-put}
 use Rattle.kp_kore.specs.Syntax.{Text, KorePattern}
-use Rattle.kp_json.specs.Members.{Has}
+use Rattle.kp_json.specs.Members.{Has, HasText}
 use Rattle.kp_json.specs.Trees.{SpellsWrapped}
 use Rattle.kp_json.specs.Written.{two_parts, wrapped_pattern}
 use Rattle.kp_json.proofs.SortsBack.{one_data, same_members}
 use Rattle.kp_json.proofs.TreesBack.{tree_back}
 use Rattle.kp_rpc.specs.Frame.{IsFrame}
-use Rattle.kp_rpc.specs.Request.{IsReadId, RequestId, id_text, id_number, id_null, id_tree, IsIdTree, HasId, TextAt, ExecuteOptions, HasOptions, ExecuteRequest, IsExecute, execute_method, ImpliesRequest, IsImplies, implies_method}
-use Rattle.kp_rpc.specs.Questions.{IsLawfulId, to_execute, to_imply, with_text, execute_params, implies_params, question_tree, IsAskable}
+use Rattle.kp_rpc.specs.Request.{IsReadId, RequestId, id_text, id_number, id_null, id_tree, IsIdTree, HasId, TextAt, ExecuteOptions, HasOptions, ExecuteRequest, IsExecute, execute_method, ImpliesRequest, IsImplies, implies_method, IsAddModule}
+use Rattle.kp_rpc.specs.Questions.{IsLawfulId, to_execute, to_imply, to_add, with_text, execute_params, implies_params, question_tree, IsAskable}
 use Rattle.kp_rpc.proofs.Asked.{put_other, text_here, named, options_are, state_is, request_members}
 use Rattle.kp_rpc.proofs.CompactRead.{compact_reads}
 use Rattle.kp_rpc.proofs.OptionsRead.{options_told, text_told}
-use Rattle.kp_rpc.proofs.QuestionBack.{execute_back, implies_back}
+use Rattle.kp_rpc.proofs.QuestionBack.{execute_back, implies_back, add_module_back}
 use Rattle.kp_rpc.proofs.ReadBack.{plain_back}
 
 from_some : {A : Type 0} (x y : A) → Some x ≡ Some y → x ≡ y
@@ -28,7 +28,7 @@ one_object o key p q h k = same_members p q (one_data o key (object p) (object q
 
 -- ---- ids
 
-lawful : (id : RequestId) → IsReadId id → IsLawfulId id
+pub lawful : (id : RequestId) → IsReadId id → IsLawfulId id
 lawful (id_text t) h = refl
 lawful (id_number (unsigned n)) h = refl
 lawful (id_number (negative (pos n))) h = absurd h
@@ -157,3 +157,28 @@ implies_read q r d o frame askable e text framed asked =
     let m : Members = request_members q.id implies_method (implies_params q.module_name sides.left sides.right) in
     let same : object o ≡ d = compact_reads d (object o) (plain_back (question_tree (to_imply q)) d (implies_back q askable) e) (ap read (sym text) ∙ framed.reads) in
     implies_is q r sides.left sides.right askable sides.left_written sides.right_written (subst (λ n. IsImplies n r) (same_members o m (same ∙ sym sides.is)) asked)
+
+-- ---- add-module
+
+-- the tree of the question itself is read
+pub add_module_tree_read : (id : RequestId) (text : Text) (d e : Data) (frame : List ℕ) → IsAskable (to_add id text) → question_tree (to_add id text) ≡ Some d → frame ≡ compact_text d → read frame ≡ Some e → e ≡ d
+add_module_tree_read id text d e frame askable made written reads =
+    compact_reads d e (plain_back (question_tree (to_add id text)) d (add_module_back id text askable) made) (ap read (sym written) ∙ reads)
+
+pub add_module_frame_read : (id : RequestId) (text : Text) (d e : Data) (frame : List ℕ) → IsAskable (to_add id text) → question_tree (to_add id text) ≡ Some d → frame ≡ compact_text d → IsFrame frame e → e ≡ d
+add_module_frame_read id text d e frame askable made written framed = add_module_tree_read id text d e frame askable made written framed.reads
+
+add_module_is : (id i : RequestId) (text t : Text) → IsAskable (to_add id text) → IsAddModule (request_members id (codes "add-module") (put named (string text) no_members)) i t → (i ≡ id) × (t ≡ text)
+add_module_is id i text t askable asked =
+    let params : Members = put named (string text) no_members in
+    let m : Members = request_members id (codes "add-module") params in
+    let same : asked.params ≡ params = one_object m (codes "params") asked.params params asked.has_params refl in
+    let here : Some (string text) ≡ Some (string t) = subst (λ p. HasText p named t) same asked.has_text in
+    (id_is m i id refl askable asked.is_request.has_id, cc here)
+
+pub add_module_read : (id i : RequestId) (text t : Text) (d : Data) (o : Members) (frame : List ℕ) → IsAskable (to_add id text) → question_tree (to_add id text) ≡ Some d → frame ≡ compact_text d → IsFrame frame (object o)
+    → IsAddModule o i t → (i ≡ id) × (t ≡ text)
+add_module_read id i text t d o frame askable e written framed asked =
+    let m : Members = request_members id (codes "add-module") (put named (string text) no_members) in
+    let same : object o ≡ object m = add_module_tree_read id text d (object o) frame askable e written framed.reads ∙ sym (from_some _ _ e) in
+    add_module_is id i text t askable (subst (λ n. IsAddModule n i t) (same_members o m same) asked)

@@ -1,5 +1,6 @@
--- What a client asks, as JSON trees: requests of execute and of implies, with the optional members that there are.
--- Source: JSON-RPC 2.0 (request objects); the K Haskell backend's JSON-RPC documentation (execute, implies).
+-- What a client asks, as JSON trees: requests of execute, of implies and of add-module, with the optional members that there
+-- are.
+-- Source: JSON-RPC 2.0 (request objects); the K Haskell backend's JSON-RPC documentation (execute, implies, add-module).
 use Rattle.std.specs.Prelude.{◌<◌, ◌^◌, ℕ, List, [], ◌∷◌, Option, Some, None, codes, ⊤}
 use Rattle.std.specs.Option.{option_map}
 use Rattle.serde_json.specs.Data.{Data, unsigned, number, string, array, object, Items, no_items, item, Members, no_members, put}
@@ -11,6 +12,8 @@ use Rattle.kp_rpc.specs.Request.{RequestId, IsReadId, id_tree, IsIdTree, Execute
 pub data Question : Type 0 where
   to_execute : ExecuteRequest → Question
   to_imply : ImpliesRequest → Question
+  -- the text of a module, which gets its id for a name alone
+  to_add : RequestId → Text → Question
 
 -- a whole number that isn't written as a float, a text, or null
 abbrev pub IsLawfulId : RequestId → Type 0
@@ -57,6 +60,7 @@ implies_object id name antecedent consequent = request_object id implies_method 
 abbrev pub question_tree : Question → Option Data
 question_tree (to_execute q) = option_map (λ s. request_object q.id execute_method (execute_params q.options s)) (wrapped_pattern q.state)
 question_tree (to_imply q) = two_parts (λ a c. request_object q.id implies_method (implies_params q.module_name a c)) (wrapped_pattern q.antecedent) (wrapped_pattern q.consequent)
+question_tree (to_add id text) = Some (request_object id (codes "add-module") (put (codes "module") (string text) no_members))
 
 -- ---- questions that are read as they were asked
 
@@ -69,3 +73,4 @@ IsReadNumber (Some n) = n < 2 ^ 64
 abbrev pub IsAskable : Question → Type 0
 IsAskable (to_execute q) = IsReadId q.id × IsReadNumber q.options.max_depth
 IsAskable (to_imply q) = IsReadId q.id
+IsAskable (to_add id text) = IsReadId id

@@ -1,5 +1,5 @@
 -- Requests as JSON trees.
--- Source: JSON-RPC 2.0 (request objects); the K Haskell backend's JSON-RPC documentation (execute, implies).
+-- Source: JSON-RPC 2.0 (request objects); the K Haskell backend's JSON-RPC documentation (execute, implies, add-module).
 use Rattle.std.specs.Prelude.{◌≡◌, ◌<◌, ◌^◌, ◌⊎◌, ℕ, pos, negsuc, min, List, [], ◌∷◌, Option, Some, None, codes}
 use Rattle.serde_json.specs.Data.{Data, Num, unsigned, negative, float, null, number, string, array, object, Items, no_items, item, Members}
 use Rattle.kp_kore.specs.Syntax.{Text, KorePattern}
@@ -133,6 +133,14 @@ pub record IsImplies (o : Members) (request : ImpliesRequest) : Type 0 where
   pub has_sides : HasSides o antecedent consequent request.module_name
   pub spells_antecedent : SpellsWrapped (object antecedent) request.antecedent
   pub spells_consequent : SpellsWrapped (object consequent) request.consequent
+
+-- the tree is a request to add the module of this text, which gets its id for a name alone
+pub record IsAddModule (o : Members) (id : RequestId) (text : Text) : Type 0 where
+  pub is_request : IsRequest o id (codes "add-module")
+  pub params : Members
+  pub has_params : Has o (codes "params") (object params)
+  pub has_text : HasText params (codes "module") text
+  pub has_no_flag : IsUnset params (codes "name-as-id")
 
 -- the bound of a run: more than the most, and none, is the most
 abbrev pub most_steps : ℕ

@@ -80,3 +80,4 @@ state_fault_view (state.NoModule name) = no_module (string_bytes name)
 abbrev pub question_view : Question → questions.Question
 question_view (question.Execute i state options) = questions.to_execute (record { id = id_view i; state = view state; options = options_view options })
 question_view (question.Implies i antecedent consequent name) = questions.to_imply (record { id = id_view i; antecedent = view antecedent; consequent = view consequent; module_name = name_view name })
+question_view (question.AddModule i text) = questions.to_add (id_view i) (string_bytes text)

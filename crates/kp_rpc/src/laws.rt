@@ -2,10 +2,11 @@
 ghost use Rattle.std.specs.Prelude.{◌≡◌, Some, ℕ, List};
 ghost use Rattle.serde_json.specs.Written.{compact_text};
 ghost use Rattle.serde_json.specs.Data.{Data, object, Members};
+ghost use Rattle.kp_kore.specs.Syntax.{Text};
 ghost use Rattle.kp_json.specs.Trees.{SpellsWrapped};
 ghost use Rattle.kp_rpc.specs.Frame.{IsFrame};
-ghost use Rattle.kp_rpc.specs.Request.{ExecuteRequest, ImpliesRequest, IsExecute, IsImplies};
-ghost use Rattle.kp_rpc.specs.Questions.{IsAskable, IsLawfulId, question_tree, to_execute, to_imply};
+ghost use Rattle.kp_rpc.specs.Request.{RequestId, ExecuteRequest, ImpliesRequest, IsExecute, IsImplies, IsAddModule};
+ghost use Rattle.kp_rpc.specs.Questions.{IsAskable, IsLawfulId, question_tree, to_execute, to_imply, to_add};
 ghost use Rattle.kp_rpc.specs.View.{id_view};
 ghost use Rattle.kp_rpc.specs.declared.id.Id.{Id as SpecId};
 
@@ -21,6 +22,12 @@ pub fn what_is_asked_is_that_request()
 pub fn what_is_asked_to_imply_is_that_request()
     ensures { (q : ImpliesRequest) (tree other d : Data) → IsLawfulId q.id → SpellsWrapped tree q.antecedent → SpellsWrapped other q.consequent
         → question_tree (to_imply q) ≡ Some d → (o : Members) × (d ≡ object o) × IsImplies o q }
+{}
+
+/// The tree of a question of add-module is that request.
+#[tactic(auto, using(crate::proofs::Asked::add_module_asked))]
+pub fn what_is_asked_to_add_is_that_request()
+    ensures { (id : RequestId) (text : Text) (d : Data) → IsLawfulId id → question_tree (to_add id text) ≡ Some d → (o : Members) × (d ≡ object o) × IsAddModule o id text }
 {}
 
 /// Each id of the code is lawful.
@@ -39,4 +46,12 @@ pub fn what_is_read_of_a_question()
 pub fn what_is_read_of_a_question_to_imply()
     ensures { (q r : ImpliesRequest) (d : Data) (o : Members) (frame : List ℕ) → IsAskable (to_imply q) → question_tree (to_imply q) ≡ Some d
         → frame ≡ compact_text d → IsFrame frame (object o) → IsImplies o r → r ≡ q }
+{}
+
+/// What is read of the text of a question of add-module is that question: the tree that was written, and its id and its text.
+pub fn what_is_read_of_a_question_to_add()
+    ensures tree { (id : RequestId) (text : Text) (d e : Data) (frame : List ℕ) → IsAskable (to_add id text) → question_tree (to_add id text) ≡ Some d
+        → frame ≡ compact_text d → IsFrame frame e → e ≡ d }
+    ensures request { (id i : RequestId) (text t : Text) (d : Data) (o : Members) (frame : List ℕ) → IsAskable (to_add id text) → question_tree (to_add id text) ≡ Some d
+        → frame ≡ compact_text d → IsFrame frame (object o) → IsAddModule o i t → (i ≡ id) × (t ≡ text) }
 {}

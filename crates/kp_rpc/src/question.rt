@@ -1,5 +1,5 @@
-ghost use Rattle.std.specs.Prelude.{◌≡◌, ◌≤◌, false, length, IfOk, IfSome, Some, option_map, string_bytes};
-ghost use Rattle.serde_json.specs.Data.{Data, depth, string, put as with_member};
+ghost use Rattle.std.specs.Prelude.{◌≡◌, ◌≤◌, false, length, IfOk, IfSome, Some, option_map, string_bytes, codes};
+ghost use Rattle.serde_json.specs.Data.{Data, depth, string, no_members, put as with_member};
 ghost use Rattle.serde_json.specs.Read.{max_depth};
 ghost use Rattle.serde_json.specs.View.{view, items_view, members_view};
 ghost use Rattle.serde_json.specs.Written.{compact_text, has_float};
@@ -7,7 +7,7 @@ ghost use Rattle.kp_kore.specs.View.{view as pattern_view};
 ghost use Rattle.kp_json.specs.Written.{two_parts, wrapped_pattern};
 ghost use Rattle.kp_frames.specs.Frames.{most_frame};
 ghost use Rattle.kp_rpc.specs.Frame.{IsFrame};
-ghost use Rattle.kp_rpc.specs.Questions.{with_number, with_text, with_texts, text_items, execute_params, implies_object, implies_params, request_object, question_tree};
+ghost use Rattle.kp_rpc.specs.Questions.{with_number, with_text, with_texts, text_items, execute_params, implies_object, implies_params, request_object, to_add, question_tree};
 ghost use Rattle.kp_rpc.specs.Request.{execute_method};
 ghost use Rattle.kp_rpc.specs.View.{id_view, name_view, options_view, question_view, texts_view};
 
@@ -31,6 +31,11 @@ pub enum Question {
         antecedent: Pattern,
         consequent: Pattern,
         module_name: Option<String>,
+    },
+    /// The text of a module, which gets its id for a name alone.
+    AddModule {
+        id: Id,
+        text: String,
     },
 }
 
@@ -203,6 +208,22 @@ fn implies_value(
     Ok(Some(request_value(alloc, id, "implies", params)?))
 }
 
+/// The params of add-module.
+fn add_module_object(alloc: Global, text: &String) -> Result<Object, AllocError>
+    ensures { IfOk result (λ o. members_view o.entries ≡ with_member (codes "module") (string (string_bytes text.now)) no_members) }
+{
+    let module = text_value(text)?;
+    with_member_at(alloc, Map::new(alloc), "module", module)
+}
+
+/// The tree of a request of add-module.
+fn add_module_value(alloc: Global, id: &Id, text: &String) -> Result<Option<Value>, AllocError>
+    ensures { IfOk result (λ o. option_map view o ≡ question_tree (to_add (id_view id.now) (string_bytes text.now))) }
+{
+    let params = add_module_object(alloc, text)?;
+    Ok(Some(request_value(alloc, id, "add-module", params)?))
+}
+
 /// The tree of a question; none where Kore JSON has no tag for a pattern in it.
 fn question_value(alloc: Global, question: &Question) -> Result<Option<Value>, AllocError>
     ensures { IfOk result (λ o. option_map view o ≡ question_tree (question_view question.now)) }
@@ -215,6 +236,7 @@ fn question_value(alloc: Global, question: &Question) -> Result<Option<Value>, A
             consequent,
             module_name,
         } => implies_value(alloc, id, antecedent, consequent, module_name),
+        Question::AddModule { id, text } => add_module_value(alloc, id, text),
     }
 }
 

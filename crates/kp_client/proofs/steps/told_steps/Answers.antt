@@ -16,7 +16,7 @@ returns-in-Failed c depth s e same h =
     subst (Refuses (step_question depth s) execute (e ∷ [])) (sym (to_z-of_z w64 code fits)) (by_error e code told)
 
 pub returns-in-Unfinished : goal.returns-in-Unfinished
-returns-in-Unfinished c depth s e same h = by_unfinished e (subst (λ r. Tells (step_question depth s) execute e (reply_view r)) c.in-Unfinished.is h)
+returns-in-Unfinished c depth s e same h = by_unfinished e _ (subst (λ r. Tells (step_question depth s) execute e (reply_view r)) c.in-Unfinished.is h)
 
 pub returns-in-Implied : goal.returns-in-Implied
 returns-in-Implied c depth s e same h = let told = subst (λ r. Tells (step_question depth s) execute e (reply_view r)) c.in-Implied.is h in absurd (line_of_method execute e.reply _ told.told)

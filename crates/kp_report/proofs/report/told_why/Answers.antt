@@ -19,7 +19,7 @@ returns-in-Executed c line told =
 pub returns-in-Unfinished : goal.returns-in-Unfinished
 returns-in-Unfinished c line told =
     IfOk-weaker c.undecided.result (λ t. string_bytes t ≡ codes "undecided") (λ t. IsReplyWhy line (string_bytes t))
-    (λ t is. why_by_unfinished line (string_bytes t) (subst (λ r. IsReplyOf execute line (reply_view r)) c.in-Unfinished.is told) is)
+    (λ t is. why_by_unfinished line (string_bytes t) _ (subst (λ r. IsReplyOf execute line (reply_view r)) c.in-Unfinished.is told) is)
     c.undecided.ensures
 
 pub returns-in-Failed : goal.returns-in-Failed

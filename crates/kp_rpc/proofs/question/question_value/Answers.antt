@@ -10,3 +10,6 @@ returns-in-Execute c = subst (λ q. IfOk c.execute_value.result (λ o. option_ma
 
 pub returns-in-Implies : goal.returns-in-Implies
 returns-in-Implies c = subst (λ q. IfOk c.implies_value.result (λ o. option_map view o ≡ question_tree (question_view q))) (sym c.in-Implies.is) c.implies_value.ensures
+
+pub returns-in-AddModule : goal.returns-in-AddModule
+returns-in-AddModule c = subst (λ q. IfOk c.add_module_value.result (λ o. option_map view o ≡ question_tree (question_view q))) (sym c.in-AddModule.is) c.add_module_value.ensures
