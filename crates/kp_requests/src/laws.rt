@@ -1,5 +1,5 @@
 // Laws of requests: bytes ask one thing, and what a client writes asks what it was written of.
-ghost use Rattle.std.specs.Prelude.{◌≡◌, ◌≢◌, ℕ, Bool, List, Option, Some, codes};
+ghost use Rattle.std.specs.Prelude.{◌≡◌, ◌≢◌, ℕ, Bool, false, List, Option, Some, codes};
 ghost use Rattle.serde_json.specs.Data.{Data, object, Members};
 ghost use Rattle.serde_json.specs.Written.{compact_text};
 ghost use Rattle.kp_kore.specs.Syntax.{Text, KorePattern};
