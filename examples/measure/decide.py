@@ -1,6 +1,6 @@
-# Conditions for kp_decide and for Z3, both from the same random draws.
+# Conditions for kp_satisfiability and for Z3, both from the same random draws.
 # python3 decide.py crate        writes the crate crates/decided, a program that decides a condition a line; to be
-#                                added to crates.txt as decided: and kp_kore kp_text kp_signature kp_heads kp_symbolic kp_weights kp_decide
+#                                added to crates.txt as decided: and kp_kore kp_text kp_signature kp_heads kp_symbolic kp_limits kp_satisfiability
 # python3 decide.py FIRST LAST LINES SMT   a condition for each number from FIRST to below LAST: to LINES as the program
 #                                reads them, to SMT as SMT-LIB, with a push and a pop each
 # python3 decide.py halves LINES SMT       one of the longest conditions within the limits; or apart, tokens
@@ -172,7 +172,7 @@ CRATE = r"""// Decides conditions, one a line, and tells how long that took with
 mod conditions;
 
 use conditions::{answer, signature, state};
-use kp_decide::decide;
+use kp_satisfiability::decide;
 use kp_heads::HeadTable;
 use kp_symbolic::Language;
 use std::io;
@@ -195,7 +195,7 @@ fn main(rt: HostRuntime) -> io::Result<()> {
 }
 """
 
-CONDITIONS = r'''use kp_decide::Verdict;
+CONDITIONS = r'''use kp_satisfiability::Verdict;
 use kp_kore::Sort;
 use kp_signature::Signature;
 use kp_symbolic::{Atom, Clause, Language, Literal, State, Term, Variable, term_under};

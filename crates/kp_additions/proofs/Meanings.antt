@@ -11,7 +11,7 @@ use Rattle.kp_imports.proofs.Sentences.{all_taken, imports_in-append, one_furthe
 use Rattle.kp_rule_sets.specs.declared.rule_set.RuleSet.{RuleSet}
 use Rattle.kp_kore.specs.Theory.{NumberedAxiom, imports_in}
 use Rattle.kp_book.specs.Books.{Opening, Registration, meaning_in}
-use Rattle.kp_extensions.specs.Extending.{AreSetsOf}
+use Rattle.kp_modules.specs.Extending.{AreSetsOf}
 use Rattle.kp_registry.specs.Passes.{MeansAt}
 use Rattle.kp_additions.specs.Added.{AreBound, IsFirstUnbound}
 use Rattle.kp_additions.specs.Told.{AreMeant}

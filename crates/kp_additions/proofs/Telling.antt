@@ -11,7 +11,7 @@ use Rattle.kp_text.specs.declared.fault.TextFault.{TextFault}
 use Rattle.kp_rule_sets.specs.declared.rule_set.RuleSet.{RuleSet}
 use Rattle.kp_kore.specs.Theory.{NumberedAxiom, imports_in}
 use Rattle.kp_book.specs.Books.{Opening, Registration, IsDuplicate, extended}
-use Rattle.kp_extensions.specs.Extending.{AreSetsOf, ExtendFault, IsAddable, IsExtendFault, declaration, rule_fault}
+use Rattle.kp_modules.specs.Extending.{AreSetsOf, ExtendFault, IsAddable, IsExtendFault, declaration, rule_fault}
 use Rattle.kp_modules.specs.Made.{IsSetOf}
 use Rattle.kp_registry.specs.Legal.{AreLegalFrom, Fits, IsExtension, IsLegal, id_of}
 use Rattle.kp_registry.specs.Passes.{IsEntryOf, own_name_asked}

@@ -9,7 +9,7 @@ use Rattle.kp_text.specs.Spelling.{SpellsModule, IsModuleText, IsFaultOf}
 use Rattle.kp_text.specs.declared.fault.TextFault.{TextFault}
 use Rattle.kp_kore.specs.Theory.{NumberedAxiom, imports_in}
 use Rattle.kp_replies.specs.Failures.{bad_text, unknown_import, bad_axiom, bad_sentence, full_book, Failure, bad_module, duplicate}
-use Rattle.kp_extensions.specs.Extending.{IsAddable, IsExtendFault, rule_fault, declaration}
+use Rattle.kp_modules.specs.Extending.{IsAddable, IsExtendFault, rule_fault, declaration}
 use Rattle.kp_book.specs.Books.{Opening, Registration, IsDuplicate, meaning_in, most_entries}
 use Rattle.kp_registry.specs.Legal.{Fits, id_of}
 use Rattle.kp_registry.specs.Passes.{own_name_asked}

@@ -13,7 +13,7 @@ use Rattle.kp_rule_sets.specs.declared.rule_set.RuleSet.{RuleSet}
 use Rattle.kp_replies.specs.Failures.{AdditionFault, bad_text, bad_axiom, bad_sentence, unknown_import, Failure, bad_module, duplicate}
 use Rattle.kp_replies.specs.View.{addition_view}
 use Rattle.kp_book.specs.Books.{Opening, Registration, meaning_in, extended}
-use Rattle.kp_extensions.specs.Extending.{ExtendFault, IsExtendFault, rule_fault, declaration}
+use Rattle.kp_modules.specs.Extending.{ExtendFault, IsExtendFault, rule_fault, declaration}
 use Rattle.kp_modules.specs.Made.{IsSetOf}
 use Rattle.kp_registry.specs.Legal.{id_of}
 use Rattle.kp_registry.specs.Passes.{MeansAt, own_name_asked}

@@ -8,7 +8,7 @@ ghost use Rattle.kp_kore.specs.Theory.{NumberedAxiom};
 ghost use Rattle.kp_signature.specs.View.{signature_view};
 ghost use Rattle.kp_text.specs.Spelling.{SpellsModule};
 ghost use Rattle.kp_book.specs.Books.{Opening, Registration, extended as extended_by};
-ghost use Rattle.kp_extensions.specs.Extending.{AreSetsOf, ExtendFault, IsAddable, extend_fault};
+ghost use Rattle.kp_modules.specs.Extending.{AreSetsOf, ExtendFault, IsAddable, extend_fault};
 ghost use Rattle.kp_modules.specs.Made.{IsSetOf};
 ghost use Rattle.kp_modules.specs.Tables.{rule_set_of};
 ghost use Rattle.kp_registry.specs.Legal.{id_of as stated_id};
@@ -20,9 +20,8 @@ ghost use Rattle.kp_additions.specs.Told.{IsEntered, IsReadied, TellsRefusal, Te
 
 use crate::error::AdditionError;
 use crate::imports::imports_of;
-use kp_extensions::{ExtendError, extend};
 use kp_kore::{Module, Name};
-use kp_modules::ModuleTable;
+use kp_modules::{ExtendError, ModuleTable, extend};
 use kp_registry::{Id, Pass, Ready, RegisterFault, Registry, id_of, prepare};
 use kp_replies::AdditionFault;
 use kp_rule_sets::RuleSet;

@@ -4,7 +4,7 @@ ghost use Rattle.std.specs.List.{AllZip};
 ghost use Rattle.kp_kore.specs.Syntax.{Text, KoreModule, claim_sentence};
 ghost use Rattle.kp_kore.specs.View.{axiom_sentence_view, sentence_view};
 ghost use Rattle.kp_signature.specs.View.{signature_view};
-ghost use Rattle.kp_sort_index.specs.Index.{IsIndexOf};
+ghost use Rattle.kp_rules.specs.Index.{IsIndexOf};
 ghost use Rattle.kp_claims.specs.Claims.{counted};
 ghost use Rattle.kp_claims.specs.Faults.{label_at, TellsOf};
 ghost use Rattle.kp_claims.specs.Files.{SpellsFile};
@@ -29,9 +29,9 @@ use kp_claims::sentences::counted_sentences;
 use kp_claims::{ClaimError, ClaimFault};
 use kp_kore::{AxiomSentence, Claim, Name, Sentence};
 use kp_names::names::Names;
+use kp_rules::SortIndex;
 use kp_signature::Signature;
 use kp_signature::attributes::has_mark;
-use kp_sort_index::SortIndex;
 use std::alloc::{AllocError, Global};
 
 /// The claims of a file over a signature, in order; else the file's fault: that of its text, or the first fault of the

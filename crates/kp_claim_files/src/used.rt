@@ -10,7 +10,7 @@ ghost use Rattle.kp_signature.specs.Names.{Indexes};
 ghost use Rattle.kp_signature.specs.Places.{the_top};
 ghost use Rattle.kp_signature.specs.Verify.{first_fault};
 ghost use Rattle.kp_signature.specs.View.{signature_view};
-ghost use Rattle.kp_sort_index.specs.Index.{IsIndexOf};
+ghost use Rattle.kp_rules.specs.Index.{IsIndexOf};
 ghost use Rattle.kp_claims.specs.Faults.{bare_claim, no_rule, unknown_label, TellsOf};
 ghost use Rattle.kp_names.specs.Met.{Lists};
 ghost use Rattle.kp_claim_sentences.specs.Faults.{FileLabels as Stated, IsRuleFault, IsUsable, unknown_fault};
@@ -25,9 +25,8 @@ use kp_claims::{ClaimError, ClaimFault};
 use kp_kore::Name;
 use kp_names::names::is_noted;
 use kp_rule_reading::{RuleError, read_rule};
-use kp_rules::RuleBody;
+use kp_rules::{RuleBody, SortIndex};
 use kp_signature::Signature;
-use kp_sort_index::SortIndex;
 use std::alloc::{AllocError, Global};
 
 /// C8 where a claim is its own circularity or some claim depends on it, and it can't be a rule; then C4 of the first label

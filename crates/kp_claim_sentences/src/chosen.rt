@@ -14,7 +14,7 @@ ghost use Rattle.kp_claim_sentences.specs.Claims.{has_chosen_in_term};
 use crate::names::note_all;
 use indexmap::IndexMap;
 use kp_claims::outline::ClaimOutline;
-use kp_forms::conjuncts;
+use kp_compile::conjuncts;
 use kp_kore::{Pattern, SortedVariable};
 use kp_names::names::Names;
 use kp_rules::shape::{Binder, only, terms_among, under_binders};

@@ -13,7 +13,7 @@ use Rattle.kp_symbolic.specs.Formulas.{Formula, fact, size_of}
 use Rattle.kp_symbolic.specs.States.{Literal}
 use Rattle.kp_symbolic.specs.Clauses.{distributed, is_too_large, quoted_literal, clauses_of_conjunct, literals_of_conjunct, clauses_of_conjuncts}
 use Rattle.kp_symbolic.specs.Opening.{literal_fact, quotation, opened_predicate}
-use Rattle.kp_distribution.specs.Distribution.{Distribution, distribution_of}
+use Rattle.kp_formulas.specs.Distribution.{Distribution, distribution_of}
 
 -- ---- a predicate that is no negation, as one literal
 

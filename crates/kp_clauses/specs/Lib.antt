@@ -1,3 +1,4 @@
 pub mod Faults
 pub mod Opened
+pub mod OpenedPredicates
 pub mod View

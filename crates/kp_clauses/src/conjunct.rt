@@ -8,15 +8,14 @@ ghost use Rattle.kp_symbolic.specs.Faultless.{IsFaultless};
 ghost use Rattle.kp_symbolic.specs.Languages.{language_view};
 ghost use Rattle.kp_symbolic.specs.View.{clauses_view, literal_view, replaced_view};
 ghost use Rattle.kp_compile.specs.Parts.{seen};
-ghost use Rattle.kp_distribution.specs.Distribution.{most_counted};
+ghost use Rattle.kp_formulas.specs.Distribution.{most_counted};
 
-use kp_compile::CompileError;
-use kp_connectives::open_predicate;
-use kp_distribution::count::{MOST_OPENED, at_most};
-use kp_distribution::joined::{kept_once, make_clause};
-use kp_forms::conjuncts;
+use crate::open_predicate;
+use kp_compile::{CompileError, conjuncts};
+use kp_formulas::count::{MOST_OPENED, at_most};
+use kp_formulas::joined::{kept_once, make_clause};
+use kp_formulas::quotation::quoted_literal;
 use kp_kore::Pattern;
-use kp_leaves::quotation::quoted_literal;
 use kp_symbolic::{Clause, Language, Literal, Replaced};
 use std::alloc::{AllocError, Global};
 

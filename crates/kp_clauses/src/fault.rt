@@ -9,8 +9,7 @@ ghost use Rattle.kp_compile.specs.Parts.{seen as patterns_seen};
 ghost use Rattle.kp_clauses.specs.Faults as model;
 ghost use Rattle.kp_clauses.specs.View.{misplaced_view};
 
-use kp_compile::subpatterns;
-use kp_forms::is_predicate;
+use kp_compile::{is_predicate, subpatterns};
 use kp_kore::{Name, Pattern};
 use kp_signature::{Meaning, Signature, meaning_of};
 use std::alloc::{AllocError, Global};

@@ -20,8 +20,7 @@ ghost use Rattle.kp_clauses.specs.View.{IsToldOf, IsUnread, misplaced_view};
 
 use crate::conjunct::clauses_of_all;
 use crate::fault::{Misplaced, members_fault};
-use kp_compile::{CompileError, is_term};
-use kp_forms::conjuncts;
+use kp_compile::{CompileError, conjuncts, is_term};
 use kp_kore::{Name, Pattern, Sort, SortedVariable};
 use kp_signature::Signature;
 use kp_symbolic::{Language, State, Variable, term_under};

@@ -2,7 +2,7 @@ pub mod Made
 pub mod EachNode
 pub mod Nodes
 pub mod Trees
-pub mod Right
+pub mod RightExchanges
 pub mod Said
 pub mod Hearing
 pub mod Playing

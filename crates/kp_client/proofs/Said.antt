@@ -20,7 +20,7 @@ use Rattle.kp_client.specs.Answers.{IsProved}
 use Rattle.kp_client.proofs.Made.{all_front, all_back, all_into}
 use Rattle.kp_client.proofs.Nodes.{open_at}
 use Rattle.kp_client.proofs.Trees.{IsFrom, end_tree, from_proves, passed_proves}
-use Rattle.kp_client.proofs.Right.{cover_is_right, uncovered_is_right, edge_is_right, stuck_is_right}
+use Rattle.kp_client.proofs.RightExchanges.{cover_is_right, uncovered_is_right, edge_is_right, stuck_is_right}
 
 -- ---- a round keeps what the arcs say
 

@@ -14,7 +14,7 @@ use Rattle.kp_rpc.specs.Questions.{Question, question_tree}
 use Rattle.kp_results.specs.Results.{ExecutedParts, IsResultOf}
 use Rattle.kp_replies.specs.Read.{execute, executed, implies, implied}
 use Rattle.kp_replies.specs.Replies.{IsReplyOf}
-use Rattle.kp_replies.specs.Right.{asked_options, IsMainAsked}
+use Rattle.kp_replies.specs.RightReplies.{asked_options, IsMainAsked}
 
 -- a frame, and the line that replied to it
 pub record Exchange : Type 0 where

@@ -19,7 +19,7 @@ use Rattle.kp_ground.specs.LeftView.{left_view, lefts_of}
 use Rattle.kp_ground.specs.Conditions.{all_hold, any_holds}
 use Rattle.kp_ground.specs.ConditionView.{condition_view, conditions_of}
 use Rattle.kp_ground.specs.declared.term.CompiledTerm.{CompiledTerm}
-use Rattle.kp_ground.specs.declared.left.CompiledLeft.{CompiledLeft}
+use Rattle.kp_ground.specs.declared.left_side.CompiledLeft.{CompiledLeft}
 use Rattle.kp_ground.specs.declared.condition.Condition.{Condition}
 use Rattle.kp_compile.specs.Exact.{IsConditionOf, AreTermsOf, AreLeftsOf, AreConditionsOf}
 

@@ -13,7 +13,7 @@ use Rattle.kp_kore.specs.View.{view, patterns_view}
 use Rattle.kp_kore.specs.declared.pattern.Pattern.{Pattern}
 use Rattle.kp_ground.specs.Slots.{Place, is_one_of, stands_at, with_name, names_after, is_numbered, joined, left_places, left_variables, term_reads, condition_reads}
 use Rattle.kp_ground.specs.declared.term.CompiledTerm.{CompiledTerm}
-use Rattle.kp_ground.specs.declared.left.CompiledLeft.{CompiledLeft}
+use Rattle.kp_ground.specs.declared.left_side.CompiledLeft.{CompiledLeft}
 use Rattle.kp_ground.specs.declared.condition.Condition.{Condition}
 use Rattle.kp_ground.proofs.SlotLemmas.{first_so, second_so, numbered_both, names_both}
 use Rattle.kp_compile.specs.Exact.{are_named, ReadAllAs, ConditionsReadAs, ConditionReadsAs, HasPlacesOf, IsPlaceOf}

@@ -17,7 +17,7 @@ use Rattle.kp_ground.specs.LeftView.{left_view}
 use Rattle.kp_ground.specs.Conditions.{condition_holds, condition_narrow}
 use Rattle.kp_ground.specs.ConditionView.{condition_view}
 use Rattle.kp_ground.specs.declared.term.CompiledTerm.{CompiledTerm}
-use Rattle.kp_ground.specs.declared.left.CompiledLeft.{CompiledLeft}
+use Rattle.kp_ground.specs.declared.left_side.CompiledLeft.{CompiledLeft}
 use Rattle.kp_ground.specs.declared.condition.Condition.{Condition}
 
 -- what the symbol of this name makes of the instances of these patterns

@@ -4,33 +4,38 @@
 // equality of two terms. \ceil of a term is its equality with itself, of two conjoined terms their equality; \ceil and \floor of
 // a predicate are that predicate. What has no such condition is a Shape: quantifiers, \equals and \in of what is no
 // term, and \floor of a term, which tells whether the term's sort has one value.
-// Ground states: reading a request's term, and the one normal spelling in which a configuration is written.
+// Ground states: reading a request's term, and the one normal spelling in which a configuration is written. Patterns told
+// apart by their form: predicates, and the members of a conjunction in any nesting.
 #![tactic(auto)]
 
 mod condition;
+pub mod conjunction;
 mod error;
-mod left;
+pub mod form;
+mod head_sort;
+mod home_sort;
+mod left_side;
 mod literal;
 mod names;
-mod own;
-mod parts;
+mod pattern_parts;
 mod shape;
-mod spell;
+mod spelling;
 mod state;
 mod state_error;
 mod term;
-mod within;
 
 pub use condition::compile_condition;
+pub use conjunction::conjuncts;
 pub use error::CompileError;
-pub use left::compile_left;
+pub use form::{is_conjoined_pair, is_predicate};
+pub use head_sort::own_sort;
+pub use home_sort::is_home;
+pub use left_side::compile_left;
 pub use literal::literal_value;
 pub use names::{NameSet, has_name, no_names, slot_of};
-pub use own::own_sort;
-pub use parts::{add_subpatterns, subpatterns};
+pub use pattern_parts::{add_subpatterns, subpatterns};
 pub use shape::is_term;
-pub use spell::{has_injection, injects, placed_at, places_of, spelled, spelled_at};
+pub use spelling::{has_injection, injects, placed_at, places_of, spelled, spelled_at};
 pub use state::{GroundState, first_foreign, state_of};
 pub use state_error::{SpellingError, StateError};
 pub use term::compile_term;
-pub use within::is_home;

@@ -1,7 +1,7 @@
 -- The sizes of the three tables together.
 use Rattle.std.specs.Prelude.{◌≡◌, ◌^◌, length}
 use Rattle.kp_demands.specs.declared.tables.Tables.{Tables}
-use Rattle.kp_demands.specs.declared.sized.Limits.{Limits}
+use Rattle.kp_demands.specs.declared.sized_demands.Limits.{Limits}
 use Rattle.kp_demands.specs.Demands.{Sizes}
 
 pub record AreSizesOf (s : Sizes) (t : Tables) : Type 0 where

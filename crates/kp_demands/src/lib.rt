@@ -5,14 +5,14 @@
 
 mod classes;
 mod demand;
-mod known;
+mod known_bounds;
 mod places;
 mod search;
-mod sized;
+mod sized_demands;
 mod tables;
 mod truths;
 
 pub use demand::Demand;
 pub use search::can_be_met;
-pub use sized::Limits;
+pub use sized_demands::Limits;
 pub use tables::Tables;

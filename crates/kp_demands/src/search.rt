@@ -6,7 +6,7 @@ ghost use Rattle.kp_demands.specs.Known.{HasRoom, Follow};
 ghost use Rattle.kp_demands.specs.Tabled.{AreSizesOf};
 
 use crate::demand::Demand;
-use crate::known::{Known, known_of, leave_all, with_way};
+use crate::known_bounds::{Known, known_of, leave_all, with_way};
 use crate::tables::Tables;
 use std::alloc::{AllocError, Global};
 

@@ -1,0 +1,4 @@
+pub mod CaseLemmas
+pub mod CounterCauses
+pub mod ShownExamples
+pub mod SquareCauses

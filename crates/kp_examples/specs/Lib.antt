@@ -1,1 +1,9 @@
+pub mod Cases
+pub mod Causes
 pub mod Claims
+pub mod Clauses
+pub mod Replies
+pub mod Requests
+pub mod States
+pub mod Verifying
+pub mod Weights

@@ -21,8 +21,8 @@ use Rattle.kp_symbolic_laws.proofs.WrittenForms.{clause_predicate, clauses_are_p
 use Rattle.kp_symbolic_laws.proofs.WrittenStates.{clause_says}
 use Rattle.kp_symbolic_laws.proofs.WrittenUnder.{Well, well_left, well_right, well_behind}
 use Rattle.kp_symbolic_laws.proofs.WrittenVariables.{written_of_these}
-use Rattle.kp_cases.specs.Parts.{StatePart}
-use Rattle.kp_turns.specs.NextStates.{IsPredicateOf}
+use Rattle.kp_case_laws.specs.Parts.{StatePart}
+use Rattle.kp_case_laws.specs.NextStates.{IsPredicateOf}
 use Rattle.kp_outward.specs.Arranged.{AreArranged}
 use Rattle.kp_outward.specs.Errors.{InjectsIfThere}
 use Rattle.kp_execute.specs.Written.{IsAddedWritten}

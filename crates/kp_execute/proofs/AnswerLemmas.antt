@@ -23,13 +23,13 @@ use Rattle.kp_symbolic.specs.Verdicts.{Weighed}
 use Rattle.kp_symbolic.specs.View.{state_view}
 use Rattle.kp_symbolic_laws.specs.Runs.{OfEachKept}
 use Rattle.kp_symbolic_laws.specs.Safe.{IsSafe}
-use Rattle.kp_kept.specs.Kept.{CanBeWritten}
-use Rattle.kp_weights.specs.declared.weight.Weighed as code
-use Rattle.kp_decide.specs.Answers.{IsWeighedAs}
-use Rattle.kp_turns.specs.NextStates.{HaveOwnIds, IsAtHand}
-use Rattle.kp_turns.proofs.EndLaws.{some_instance}
-use Rattle.kp_turns.proofs.RunLaws.{reaches_as_pattern}
-use Rattle.kp_turns.proofs.StepCases.{any_member}
+use Rattle.kp_symbolic_laws.specs.Kept.{CanBeWritten}
+use Rattle.kp_limits.specs.declared.weight.Weighed as code
+use Rattle.kp_satisfiability.specs.Answers.{IsWeighedAs}
+use Rattle.kp_case_laws.specs.NextStates.{HaveOwnIds, IsAtHand}
+use Rattle.kp_case_laws.proofs.EndLaws.{some_instance}
+use Rattle.kp_case_laws.proofs.RunLaws.{reaches_as_pattern}
+use Rattle.kp_case_laws.proofs.StepCases.{any_member}
 use Rattle.kp_results.specs.Results as parts
 use Rattle.kp_results.specs.Results.{StateParts, NextParts, Ending, ExecutedParts}
 use Rattle.kp_results.specs.View.{undecided_view}
@@ -37,9 +37,9 @@ use Rattle.kp_results.specs.declared.undecided.Undecided.{Undecided}
 use Rattle.kp_simplify.specs.Told.{parts_of_call, parts_of_weight}
 use Rattle.kp_unify.specs.declared.part.Setting.{Setting}
 use Rattle.kp_rule_sets.specs.declared.rule_set.RuleSet.{RuleSet}
-use Rattle.kp_step.specs.Causes.{IsLeftOpen, MeetsForeign, IsFirstMet}
+use Rattle.kp_step.specs.Causes.{IsUndecidedStep, MeetsForeign, IsFirstMet}
 use Rattle.kp_step.specs.Limits.{number, IsPassed}
-use Rattle.kp_step.specs.Outcomes.{IsToldOpen, IsRightStep}
+use Rattle.kp_step.specs.RightSteps.{IsToldUndecided, IsRightStep}
 use Rattle.kp_step.specs.declared.outcome.StepOutcome.{StepOutcome}
 use Rattle.kp_step.specs.declared.outcome.StepOutcome.TheVariants.{Foreign}
 use Rattle.kp_step.proofs.FoundLemmas.{one_at}
@@ -49,8 +49,8 @@ use Rattle.kp_execute.specs.declared.ending.Ending.TheVariants.{Vacuous, DepthBo
 use Rattle.kp_execute.specs.declared.ending.Run.{Run}
 use Rattle.kp_execute.specs.Written.{AreWritten, IsIdAt, IsEndWritten, pattern_of}
 use Rattle.kp_execute.specs.Told.{IsReadRight}
-use Rattle.kp_execute.specs.Known.{Begins, IsRunOf, EndsWith, EndsOpen}
-use Rattle.kp_execute.specs.Answers.{IsOpenBy, call_of, by_clauses, by_weight, by_number, IsFirstTold, IsEndedRun, IsOpenRun, IsRightAnswer, aborted_with}
+use Rattle.kp_execute.specs.Known.{Begins, IsRunOf, EndsWith, EndsUndecided}
+use Rattle.kp_execute.specs.Answers.{IsUndecidedBy, call_of, by_clauses, by_weight, by_number, IsFirstTold, IsEndedRun, IsUndecidedRun, IsRightAnswer, aborted_with}
 use Rattle.kp_execute.proofs.JoinedLemmas.{state_pattern}
 use Rattle.kp_execute.proofs.NextLemmas.{parts_pattern}
 use Rattle.kp_execute.proofs.EndLemmas.{Stands, stands, leads, at_hand}
@@ -111,20 +111,20 @@ ended_right t o request x e computed = let r = e.whole in let h = e.run in recor
 
 -- ---- a run that ends with what a step tells
 
-here : (t : Theory) (o : Options) (request : KorePattern) (r : Run) (x : StateParts) (why : StepOutcome) (h : EndsOpen t o request r x why) → Stands t h.run.used request (pattern_of (state_view r.state).sort x) h.run.first (state_view r.state) r.depth
+here : (t : Theory) (o : Options) (request : KorePattern) (r : Run) (x : StateParts) (why : StepOutcome) (h : EndsUndecided t o request r x why) → Stands t h.run.used request (pattern_of (state_view r.state).sort x) h.run.first (state_view r.state) r.depth
 here t o request r x why h =
     let now = state_view r.state in
     let safe : IsSafe t.signature now = h.run.run.ready.safe in
     stands t h.run.used request (pattern_of now.sort x) h.run.first now r.depth h.run.request_of h.run.run.run (state_pattern t.signature now x safe h.written) safe.sorted.one_sort_each
 
-ending_of : (t : Theory) (o : Options) (request : KorePattern) (r : Run) (x : StateParts) (why : StepOutcome) (h : EndsOpen t o request r x why) → IsRightEnding t o h.run.used h.run.first r.depth (state_view r.state) (Aborted why)
+ending_of : (t : Theory) (o : Options) (request : KorePattern) (r : Run) (x : StateParts) (why : StepOutcome) (h : EndsUndecided t o request r x why) → IsRightEnding t o h.run.used h.run.first r.depth (state_view r.state) (Aborted why)
 ending_of t o request r x why h = subst (IsRightEnding t o h.run.used h.run.first r.depth (state_view r.state)) h.is h.run.run.ending
 
 -- what the step tells is so
-pub step_of : (t : Theory) (o : Options) (request : KorePattern) (r : Run) (x : StateParts) (why : StepOutcome) (h : EndsOpen t o request r x why) → IsRightStep t h.run.used (state_view r.state) why
+pub step_of : (t : Theory) (o : Options) (request : KorePattern) (r : Run) (x : StateParts) (why : StepOutcome) (h : EndsUndecided t o request r x why) → IsRightStep t h.run.used (state_view r.state) why
 step_of t o request r x why h = (ending_of t o request r x why h).2.0
 
-pub open_right : (t : Theory) (o : Options) (request : KorePattern) (r : Run) (x : StateParts) (why : StepOutcome) (u : parts.Undecided) → EndsOpen t o request r x why → IsOpenBy t (state_view r.state) u → IsOpenRun t o request r.depth x u
+pub open_right : (t : Theory) (o : Options) (request : KorePattern) (r : Run) (x : StateParts) (why : StepOutcome) (u : parts.Undecided) → EndsUndecided t o request r x why → IsUndecidedBy t (state_view r.state) u → IsUndecidedRun t o request r.depth x u
 open_right t o request r x why u h by =
     let now = state_view r.state in
     let p = pattern_of now.sort x in
@@ -148,7 +148,7 @@ foreign_shown : (t : Theory) (request p : KorePattern) (s : SymbolicState) (r : 
 foreign_shown t request p s r hand m = any_member (λ q. (q.id ≡ r.id) × OfSome t.signature (request ∷ []) p (λ v c. IsUnknownBy t.signature q.body c)) t.rules r m.of_theory
     (refl, some_instance t.signature (λ v c. IsUnknownBy t.signature r.body c) request p s m.valuation m.configuration hand m.sorts m.met m.unknown)
 
-pub foreign_right : (t : Theory) (o : Options) (request : KorePattern) (r : Run) (x : StateParts) (place : ℕ) (id : Text) → EndsOpen t o request r x (Foreign place) → IsIdAt t place id → IsRightAnswer t o request (aborted_with r.depth x id)
+pub foreign_right : (t : Theory) (o : Options) (request : KorePattern) (r : Run) (x : StateParts) (place : ℕ) (id : Text) → EndsUndecided t o request r x (Foreign place) → IsIdAt t place id → IsRightAnswer t o request (aborted_with r.depth x id)
 foreign_right t o request r x place id h at =
     let now = state_view r.state in
     let p = pattern_of now.sort x in
@@ -176,15 +176,15 @@ foreign_right t o request r x place id h at =
 
 -- ---- what isn't decided
 
-pub open_by_clauses : (t : Theory) (s : SymbolicState) (shown : List (List Literal)) (over : Option code.Weighed) (place : Option ℕ) (limit : Option parts.Limit) (q : KorePattern) → IsToldOpen t s shown over place → ((h : Option Weighed) → IsWeighedAs h over → limit ≡ option_map parts_of_weight h) →
-    AreWritten t.signature s.sort shown (Some q) → IsOpenBy t s (parts.predicate q limit)
-open_by_clauses t s shown over place limit q told weighs written = by told.weight told.weighed told.left_open
+pub open_by_clauses : (t : Theory) (s : SymbolicState) (shown : List (List Literal)) (over : Option code.Weighed) (place : Option ℕ) (limit : Option parts.Limit) (q : KorePattern) → IsToldUndecided t s shown over place → ((h : Option Weighed) → IsWeighedAs h over → limit ≡ option_map parts_of_weight h) →
+    AreWritten t.signature s.sort shown (Some q) → IsUndecidedBy t s (parts.predicate q limit)
+open_by_clauses t s shown over place limit q told weighs written = by told.weight told.weighed told.what_is_undecided
   where
-    by : (h : Option Weighed) → IsWeighedAs h over → IsLeftOpen t s told.rule shown h → IsOpenBy t s (parts.predicate q limit)
-    by None w left = subst (λ l. IsOpenBy t s (parts.predicate q l)) (sym (weighs None w)) (by_clauses place told.rule shown q told.is_rule left written)
-    by (Some h) w left = subst (λ l. IsOpenBy t s (parts.predicate q l)) (sym (weighs (Some h) w)) (by_weight place told.rule shown q h told.is_rule left written)
+    by : (h : Option Weighed) → IsWeighedAs h over → IsUndecidedStep t s told.rule shown h → IsUndecidedBy t s (parts.predicate q limit)
+    by None w left = subst (λ l. IsUndecidedBy t s (parts.predicate q l)) (sym (weighs None w)) (by_clauses place told.rule shown q told.is_rule left written)
+    by (Some h) w left = subst (λ l. IsUndecidedBy t s (parts.predicate q l)) (sym (weighs (Some h) w)) (by_weight place told.rule shown q h told.is_rule left written)
 
-pub open_by_number : {E : Type 0} (t : Theory) (s : SymbolicState) (f : Text) (m n a b : ℤ) (r : Result Undecided E) → a ≡ m → b ≡ n → IsPassed t s (number (call_of f m n)) → IfOk r (λ u. undecided_view u ≡ parts_of_call (call_of f a b)) → IfOk r (λ u. IsOpenBy t s (undecided_view u))
+pub open_by_number : {E : Type 0} (t : Theory) (s : SymbolicState) (f : Text) (m n a b : ℤ) (r : Result Undecided E) → a ≡ m → b ≡ n → IsPassed t s (number (call_of f m n)) → IfOk r (λ u. undecided_view u ≡ parts_of_call (call_of f a b)) → IfOk r (λ u. IsUndecidedBy t s (undecided_view u))
 open_by_number t s f m n a b (Ok u) is_first is_second passed e =
-    subst (IsOpenBy t s) (sym (e ∙ ap (λ k. parts_of_call (call_of f k b)) is_first ∙ ap (λ k. parts_of_call (call_of f m k)) is_second)) (by_number (call_of f m n) passed)
+    subst (IsUndecidedBy t s) (sym (e ∙ ap (λ k. parts_of_call (call_of f k b)) is_first ∙ ap (λ k. parts_of_call (call_of f m k)) is_second)) (by_number (call_of f m n) passed)
 open_by_number t s f m n a b (Err x) is_first is_second passed e = tt

@@ -26,7 +26,7 @@ use Rattle.kp_symbolic_laws.specs.Safe.{IsSoundQuote}
 use Rattle.kp_symbolic_laws.proofs.Sound.{place_sound}
 use Rattle.kp_rules.specs.Bodies.{IsCodeOf}
 use Rattle.kp_rules.specs.declared.rule.Rule.{Rule}
-use Rattle.kp_turns.specs.NextStates.{HaveOwnIds}
+use Rattle.kp_case_laws.specs.NextStates.{HaveOwnIds}
 use Rattle.kp_execute.specs.Checks.{are_new, rule_ids, both_of, IsAlways, IsWideCall}
 
 -- ---- ids

@@ -18,11 +18,11 @@ use Rattle.kp_symbolic.specs.Writing.{InjectsWhereItStands, written_term, writte
 use Rattle.kp_symbolic_laws.specs.Runs.{IsSortedLiteral}
 use Rattle.kp_symbolic_laws.specs.Safe.{IsNormal, AreNormal, IsSoundQuote, Formed, IsSafe}
 use Rattle.kp_symbolic_laws.proofs.NormalTerms.{normal_folded}
-use Rattle.kp_computed.proofs.Settled.{IsSettledValue, AreSettledValues, HaveRoom, IsSettled, AreSettled, ArePutSettled}
-use Rattle.kp_computed.proofs.Fit.{IsFit, Any}
-use Rattle.kp_computed.proofs.OpenedSettled.{IsSettledAtom, IsSettledLiteral, AreSettledClauses}
-use Rattle.kp_computed.proofs.SolvedSettled.{IsSettledState}
-use Rattle.kp_computed.proofs.ReadStates.{settled_is_computed}
+use Rattle.kp_symbolic_laws.proofs.Settled.{IsSettledValue, AreSettledValues, HaveRoom, IsSettled, AreSettled, ArePutSettled}
+use Rattle.kp_symbolic_laws.proofs.Fit.{IsFit, Any}
+use Rattle.kp_symbolic_laws.proofs.OpenedSettled.{IsSettledAtom, IsSettledLiteral, AreSettledClauses}
+use Rattle.kp_symbolic_laws.proofs.SolvedSettled.{IsSettledState}
+use Rattle.kp_symbolic_laws.proofs.ReadStates.{settled_is_computed}
 use Rattle.kp_outward.specs.Arranged.{AreArranged, with_clauses}
 use Rattle.kp_outward.specs.Errors.{InjectsIfThere}
 use Rattle.kp_results.specs.Results.{StateParts}

@@ -14,13 +14,13 @@ use Rattle.kp_kore.proofs.TurnLemmas.{each_member}
 use Rattle.kp_symbolic.specs.States.{SymbolicState}
 use Rattle.kp_symbolic.specs.WellFormed.{AreAtHand}
 use Rattle.kp_symbolic_laws.specs.Runs.{HasOneSortEach}
-use Rattle.kp_cases.specs.Parts.{whole}
-use Rattle.kp_turns.specs.NextStates.{IsPatternOf, IsAtHand, HaveValues}
-use Rattle.kp_turns.specs.Runs.{HasRunTo}
-use Rattle.kp_turns.specs.RunLaws.{AreEndsOf}
-use Rattle.kp_turns.proofs.AtHandLemmas.{sorts_of_hand, hand_in_hand}
-use Rattle.kp_turns.proofs.RunLaws.{leads_as_patterns}
-use Rattle.kp_turns.proofs.EndLaws.{gives_values}
+use Rattle.kp_case_laws.specs.Parts.{whole}
+use Rattle.kp_case_laws.specs.NextStates.{IsPatternOf, IsAtHand, HaveValues}
+use Rattle.kp_case_laws.specs.Runs.{HasRunTo}
+use Rattle.kp_case_laws.specs.RunLaws.{AreEndsOf}
+use Rattle.kp_case_laws.proofs.AtHandLemmas.{sorts_of_hand, hand_in_hand}
+use Rattle.kp_case_laws.proofs.RunLaws.{leads_as_patterns}
+use Rattle.kp_case_laws.proofs.EndLaws.{gives_values}
 use Rattle.kp_execute.specs.Told.{IsRequestOf}
 use Rattle.kp_execute.proofs.NextLemmas.{new_names}
 

@@ -21,7 +21,7 @@ use Rattle.kp_symbolic_laws.specs.Runs.{HasRoomClause}
 use Rattle.kp_symbolic_laws.specs.Safe.{IsSafe}
 use Rattle.kp_symbolic_laws.proofs.SoundCourse.{safe_sound}
 use Rattle.kp_symbolic_laws.proofs.WrittenUnder.{Well, well_behind}
-use Rattle.kp_turns.specs.NextStates.{IsPatternOf}
+use Rattle.kp_case_laws.specs.NextStates.{IsPatternOf}
 use Rattle.kp_outward.specs.Arranged.{AreArranged, with_clauses}
 use Rattle.kp_outward.specs.Errors.{InjectsIfThere}
 use Rattle.kp_outward.proofs.LawLemmas.{has_instances, has_variables}

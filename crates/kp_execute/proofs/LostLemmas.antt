@@ -6,7 +6,7 @@ use Rattle.kp_kore.specs.Syntax.{KoreSort, KorePattern}
 use Rattle.kp_kore.specs.Parts.{SortedName, free_variables}
 use Rattle.kp_kore.specs.Instance.{is_named}
 use Rattle.kp_kore.proofs.InstanceLemmas.{first_true, second_true}
-use Rattle.kp_turns.specs.NextStates.{HasNoLost}
+use Rattle.kp_case_laws.specs.NextStates.{HasNoLost}
 use Rattle.kp_results.specs.Results.{StateParts, NextParts}
 use Rattle.kp_execute.specs.Lost.{is_kept, if_any, parts_variables, mentions_none_lost}
 use Rattle.kp_execute.specs.Written.{joined, pattern_of, MentionsNoLost}

@@ -18,12 +18,12 @@ use Rattle.kp_symbolic.specs.States.{SymbolicState}
 use Rattle.kp_symbolic.specs.WellFormed.{AreAtHand}
 use Rattle.kp_symbolic_laws.specs.Safe.{IsSafe}
 use Rattle.kp_symbolic.specs.View.{state_view}
-use Rattle.kp_cases.specs.Parts.{StatePart, whole, IsNewVariable, IsGrown}
-use Rattle.kp_turns.specs.NextStates.{StepCase, HasNoLost, IsPatternOf, IsWritten, IsWithinHand}
-use Rattle.kp_turns.proofs.AtHandLemmas.{of_hand, hand_in_hand, member_named}
+use Rattle.kp_case_laws.specs.Parts.{StatePart, whole, IsNewVariable, IsGrown}
+use Rattle.kp_case_laws.specs.NextStates.{StepCase, HasNoLost, IsPatternOf, IsWritten, IsWithinHand}
+use Rattle.kp_case_laws.proofs.AtHandLemmas.{of_hand, hand_in_hand, member_named}
 use Rattle.kp_unify.specs.Views.{part_view}
 use Rattle.kp_unify.specs.declared.part.Part.{Part}
-use Rattle.kp_step.specs.Outcomes.{IsCaseOf, IsRemainderOf, GoesOnFrom, RemainsOf}
+use Rattle.kp_step.specs.RightSteps.{IsCaseOf, IsRemainderOf, GoesOnFrom, RemainsOf}
 use Rattle.kp_step.specs.declared.outcome.Next.{Next}
 use Rattle.kp_results.specs.Results.{StateParts, NextParts, IsPatternOf as IsReadAs, IsNextOf}
 use Rattle.kp_execute.specs.Written.{IsNextWritten, IsRemainderWritten, MentionsNoLost, joined, pattern_of}

@@ -16,14 +16,14 @@ use Rattle.kp_rules.specs.Bodies.{IsCodeOf}
 use Rattle.kp_rules.specs.declared.rule.Rule.{Rule}
 use Rattle.kp_rule_sets.specs.RuleSets.{RunsAs}
 use Rattle.kp_rule_sets.specs.declared.rule_set.RuleSet.{RuleSet}
-use Rattle.kp_cases.specs.Parts.{whole, IsGrown}
-use Rattle.kp_turns.specs.Firing.{HasNoInstance}
-use Rattle.kp_turns.specs.NextStates.{StepCase, AreStepCases, IsWithinHand}
-use Rattle.kp_turns.specs.RunLaws.{IsAloneBy}
-use Rattle.kp_turns.proofs.StepCases.{HoldsIn, RuleHolds, some_turn_case, some_case}
+use Rattle.kp_case_laws.specs.Parts.{whole, IsGrown}
+use Rattle.kp_case_laws.specs.Firing.{HasNoInstance}
+use Rattle.kp_case_laws.specs.NextStates.{StepCase, AreStepCases, IsWithinHand}
+use Rattle.kp_case_laws.specs.RunLaws.{IsAloneBy}
+use Rattle.kp_case_laws.proofs.StepCases.{HoldsIn, RuleHolds, some_turn_case, some_case}
 use Rattle.kp_unify.specs.declared.part.Part.{Part}
 use Rattle.kp_step.specs.Places.{IsAt}
-use Rattle.kp_step.specs.Outcomes.{IsCaseOf, IsRemainderOf, AreCasesOf}
+use Rattle.kp_step.specs.RightSteps.{IsCaseOf, IsRemainderOf, AreCasesOf}
 use Rattle.kp_step.specs.declared.outcome.Next.{Next}
 use Rattle.kp_step.proofs.FoundLemmas.{at_contains}
 use Rattle.kp_step.proofs.PlaceLemmas.{zip_back}

@@ -12,7 +12,7 @@ use Rattle.kp_symbolic_laws.specs.Safe.{IsSafe, IsSoundQuote}
 use Rattle.kp_symbolic_laws.proofs.FormedSteps.{opened_formed}
 use Rattle.kp_symbolic_laws.proofs.ReadState.{opened_sorted}
 use Rattle.kp_symbolic_laws.proofs.Sound.{sound}
-use Rattle.kp_kept.proofs.KeptCourse.{solving_safe, read_kept}
+use Rattle.kp_symbolic_laws.proofs.KeptCourse.{solving_safe, read_kept}
 use Rattle.kp_unify.specs.Way.{IsInUse}
 use Rattle.kp_step.specs.Ready.{IsReadyState}
 use Rattle.kp_execute.specs.Told.{IsReadRight, IsRequestOf}

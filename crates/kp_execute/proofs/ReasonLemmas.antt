@@ -15,18 +15,18 @@ use Rattle.kp_kore.specs.Executions.{Options, listed_in, IsStuck, IsBranching, E
 use Rattle.kp_kore.proofs.ListLemmas.{all_left, all_right}
 use Rattle.kp_symbolic.specs.States.{SymbolicState}
 use Rattle.kp_symbolic_laws.specs.Safe.{IsSafe}
-use Rattle.kp_cases.specs.Parts.{whole, IsGrown}
-use Rattle.kp_turns.specs.Firing.{HasNoInstance}
-use Rattle.kp_turns.specs.NextStates.{StepCase, HaveOwnIds, AreStepCases, IsWithinHand, HaveValues, IsWritten}
-use Rattle.kp_turns.specs.Runs.{StatePasses}
-use Rattle.kp_turns.specs.RunLaws.{IsAloneBy}
-use Rattle.kp_turns.specs.EndLaws.{id_of_case}
-use Rattle.kp_turns.proofs.AtHandLemmas.{sorts_of_hand, hand_in_hand}
-use Rattle.kp_turns.proofs.RunLaws.{passes_as_pattern, ends_as_pattern}
-use Rattle.kp_turns.proofs.EndLaws.{says_some, says_none, says_stuck, says_branching, says_cut_point}
+use Rattle.kp_case_laws.specs.Parts.{whole, IsGrown}
+use Rattle.kp_case_laws.specs.Firing.{HasNoInstance}
+use Rattle.kp_case_laws.specs.NextStates.{StepCase, HaveOwnIds, AreStepCases, IsWithinHand, HaveValues, IsWritten}
+use Rattle.kp_case_laws.specs.Runs.{StatePasses}
+use Rattle.kp_case_laws.specs.RunLaws.{IsAloneBy}
+use Rattle.kp_case_laws.specs.EndLaws.{id_of_case}
+use Rattle.kp_case_laws.proofs.AtHandLemmas.{sorts_of_hand, hand_in_hand}
+use Rattle.kp_case_laws.proofs.RunLaws.{passes_as_pattern, ends_as_pattern}
+use Rattle.kp_case_laws.proofs.EndLaws.{says_some, says_none, says_stuck, says_branching, says_cut_point}
 use Rattle.kp_unify.specs.declared.part.Part.{Part}
 use Rattle.kp_step.specs.Places.{IsAt}
-use Rattle.kp_step.specs.Outcomes.{IsCaseOf, IsRemainderOf, AreCasesOf}
+use Rattle.kp_step.specs.RightSteps.{IsCaseOf, IsRemainderOf, AreCasesOf}
 use Rattle.kp_step.specs.declared.outcome.Next.{Next}
 use Rattle.kp_step.proofs.FoundLemmas.{one_at, at_contains, own_id_at}
 use Rattle.kp_execute.specs.Endings.{IsEndAtBound, IsListedAt, AreOfTwo, AreSeveral, IsTerminal}

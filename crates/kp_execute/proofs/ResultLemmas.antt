@@ -8,8 +8,8 @@ use Rattle.kp_kore.specs.Executions.{Options, Reason, RunsTo, IsRightReason}
 use Rattle.kp_symbolic.specs.States.{SymbolicState}
 use Rattle.kp_symbolic_laws.specs.Safe.{IsSafe}
 use Rattle.kp_symbolic.specs.View.{state_view}
-use Rattle.kp_turns.specs.NextStates.{HaveOwnIds}
-use Rattle.kp_turns.proofs.RunLaws.{reaches_as_pattern}
+use Rattle.kp_case_laws.specs.NextStates.{HaveOwnIds}
+use Rattle.kp_case_laws.proofs.RunLaws.{reaches_as_pattern}
 use Rattle.kp_execute.specs.Endings.{IsRightEnding}
 use Rattle.kp_execute.specs.declared.ending.Ending as runs
 use Rattle.kp_execute.specs.declared.ending.Ending.TheVariants.{Vacuous, DepthBound, Stuck, Branching, CutPoint, Terminal, Aborted}

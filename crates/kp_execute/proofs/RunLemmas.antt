@@ -11,15 +11,15 @@ use Rattle.kp_kore.specs.Replies.{is_listed}
 use Rattle.kp_symbolic.specs.States.{Literal, SymbolicState}
 use Rattle.kp_symbolic.specs.Verdicts.{Weighed}
 use Rattle.kp_symbolic.specs.View.{state_view, clauses_view}
-use Rattle.kp_turns.specs.Runs.{HasRunTo}
-use Rattle.kp_turns.proofs.RunLaws.{begins, passes_none, goes_on, passes_on, ends_by}
-use Rattle.kp_decide.specs.Read.{HasSortedClauses}
+use Rattle.kp_case_laws.specs.Runs.{HasRunTo}
+use Rattle.kp_case_laws.proofs.RunLaws.{begins, passes_none, goes_on, passes_on, ends_by}
+use Rattle.kp_satisfiability.specs.Read.{HasSortedClauses}
 use Rattle.kp_step.specs.Ready.{IsReadyState}
 use Rattle.kp_step.specs.Causes.{IsShownOf}
 use Rattle.kp_step.specs.Answers.{ShowsOf, IsRightAnswerOf}
-use Rattle.kp_step.specs.declared.answers.PartAnswer.{PartAnswer}
-use Rattle.kp_step.specs.declared.answers.PartAnswer.TheVariants as answer
-use Rattle.kp_step.specs.declared.answers.Open.{Open}
+use Rattle.kp_step.specs.declared.part_answers.PartAnswer.{PartAnswer}
+use Rattle.kp_step.specs.declared.part_answers.PartAnswer.TheVariants as answer
+use Rattle.kp_step.specs.declared.part_answers.UndecidedClauses.{UndecidedClauses}
 use Rattle.kp_step.proofs.SortedLemmas.{sorted_clauses}
 use Rattle.kp_execute.specs.Endings.{IsUndecided, IsEndAtBound, IsEndOfStep, IsRightEnding, IsUnderWay, IsRightRun}
 use Rattle.kp_execute.specs.Onward.{IsTakenBy, StopsBehind, GoesOn}
@@ -35,10 +35,10 @@ shown_undecided g s shown None (inr h) = record { shown = h.1; over = Some h.0; 
 shown_undecided g s shown (Some h) r = record { shown = shown; over = Some h; right = r.0 }
 
 -- what is left open of the state isn't decided
-left_undecided : (g : KoreSignature) (s : SymbolicState) (o : Open) → ShowsOf g s s o → IsUndecided g s
+left_undecided : (g : KoreSignature) (s : SymbolicState) (o : UndecidedClauses) → ShowsOf g s s o → IsUndecided g s
 left_undecided g s o x = shown_undecided g s (clauses_view o.shown.items) x.0 x.2
 
-pub open_undecided : (g : KoreSignature) (s : SymbolicState) (a : PartAnswer) (o : Open) → a ≡ answer.Open o → IsRightAnswerOf g s s a → IsUndecided g s
+pub open_undecided : (g : KoreSignature) (s : SymbolicState) (a : PartAnswer) (o : UndecidedClauses) → a ≡ answer.UndecidedClauses o → IsRightAnswerOf g s s a → IsUndecided g s
 open_undecided g s a o e right = left_undecided g s o (subst (IsRightAnswerOf g s s) e right)
 
 -- ---- on its way

@@ -15,15 +15,15 @@ use Rattle.kp_clauses.specs.Faults.{state_fault, foreign_symbol, other_shape}
 use Rattle.kp_compile.specs.Spelled.{injection_name}
 use Rattle.kp_symbolic.specs.States.{Literal, SymbolicState}
 use Rattle.kp_symbolic.specs.Verdicts.{Weighed}
-use Rattle.kp_wide.specs.Wide.{WideCall}
+use Rattle.kp_limits.specs.Wide.{WideCall}
 use Rattle.kp_results.specs.Results as parts
 use Rattle.kp_results.specs.Results.{StateParts, Ending, aborted, ExecutedParts, Undecided}
 use Rattle.kp_results.specs.View as results
 use Rattle.kp_simplify.specs.Told.{parts_of_call, parts_of_weight}
-use Rattle.kp_turns.specs.NextStates.{IsPatternOf}
+use Rattle.kp_case_laws.specs.NextStates.{IsPatternOf}
 use Rattle.kp_step.specs.Places.{IsAt}
-use Rattle.kp_step.specs.Causes.{IsLeftOpen, IsFirstMet}
-use Rattle.kp_step.specs.Outcomes.{IsToldRule}
+use Rattle.kp_step.specs.Causes.{IsUndecidedStep, IsFirstMet}
+use Rattle.kp_step.specs.RightSteps.{IsToldRule}
 use Rattle.kp_step.specs.Limits as limits
 use Rattle.kp_step.specs.Limits.{IsPassed}
 use Rattle.kp_execute.specs.Laws.{MeansRight}
@@ -42,20 +42,20 @@ call_of f m n = record { symbol = f; first = m; second = n }
 -- Clauses of a part of it, where the step asks whether the part has an instance, for a rule of the theory or for none: those that
 -- aren't plain, or all with the weight that they pass. Or a call of two numbers beyond 128 bits, or a term with too many levels, in
 -- the state, in a rule's condition there, or in what would be written behind it.
-pub data IsOpenBy (t : Theory) (s : SymbolicState) : Undecided → Type 0 where
+pub data IsUndecidedBy (t : Theory) (s : SymbolicState) : Undecided → Type 0 where
   by_clauses : (place : Option ℕ) (rule : Option RewriteRule) (shown : List (List Literal)) (q : KorePattern) → IsToldRule t place rule →
-      IsLeftOpen t s rule shown None → AreWritten t.signature s.sort shown (Some q) → IsOpenBy t s (parts.predicate q None)
+      IsUndecidedStep t s rule shown None → AreWritten t.signature s.sort shown (Some q) → IsUndecidedBy t s (parts.predicate q None)
   by_weight : (place : Option ℕ) (rule : Option RewriteRule) (shown : List (List Literal)) (q : KorePattern) (h : Weighed) → IsToldRule t place rule →
-      IsLeftOpen t s rule shown (Some h) → AreWritten t.signature s.sort shown (Some q) → IsOpenBy t s (parts.predicate q (Some (parts_of_weight h)))
-  by_number : (c : WideCall) → IsPassed t s (limits.number c) → IsOpenBy t s (parts_of_call c)
-  by_depth : (n : ℕ) → IsPassed t s (limits.depth n) → IsOpenBy t s (parts.limit (parts.weighed parts.depth n))
+      IsUndecidedStep t s rule shown (Some h) → AreWritten t.signature s.sort shown (Some q) → IsUndecidedBy t s (parts.predicate q (Some (parts_of_weight h)))
+  by_number : (c : WideCall) → IsPassed t s (limits.number c) → IsUndecidedBy t s (parts_of_call c)
+  by_depth : (n : ℕ) → IsPassed t s (limits.depth n) → IsUndecidedBy t s (parts.limit (parts.weighed parts.depth n))
 
 -- ---- answers
 
 -- the result of a run; or after so many steps, in this state, what isn't decided
 pub data RunAnswer : Type 0 where
   executed : ExecutedParts → RunAnswer
-  left_open : ℕ → StateParts → Undecided → RunAnswer
+  what_is_undecided : ℕ → StateParts → Undecided → RunAnswer
 
 -- the run stopped in this state, since the foreign rule of this id might rewrite an instance
 abbrev pub aborted_with : ℕ → StateParts → Text → RunAnswer
@@ -63,7 +63,7 @@ aborted_with depth state id = executed (record { depth = depth; ending = aborted
 
 abbrev pub answer_view : Answer → RunAnswer
 answer_view (answer.Executed e) = executed (results.executed_view e)
-answer_view (answer.LeftOpen depth state u) = left_open depth (results.state_view state) (results.undecided_view u)
+answer_view (answer.UndecidedStep depth state u) = what_is_undecided depth (results.state_view state) (results.undecided_view u)
 
 -- a foreign rule that is told is the first, by priority number and then by place, that might rewrite an instance of the state
 abbrev pub IsFirstTold : Theory → SymbolicState → Ending → Type 0
@@ -80,7 +80,7 @@ pub record IsEndedRun (t : Theory) (o : Options) (request : KorePattern) (x : Ex
 
 -- the run came to this state below its bound, after so many steps; none that it passed is final or has the turn of a listed
 -- rule; and of this state something isn't decided
-pub record IsOpenRun (t : Theory) (o : Options) (request : KorePattern) (d : ℕ) (x : StateParts) (u : Undecided) : Type 0 where
+pub record IsUndecidedRun (t : Theory) (o : Options) (request : KorePattern) (d : ℕ) (x : StateParts) (u : Undecided) : Type 0 where
   pub state : SymbolicState
   pub below : d < o.bound
   pub written : IsStateWritten t.signature state x
@@ -89,11 +89,11 @@ pub record IsOpenRun (t : Theory) (o : Options) (request : KorePattern) (d : ℕ
   pub passes : Passes t (listed_in o) request d
   pub reached : (n : ℕ) → d ≡ suc n → OfSome t.signature [] request (λ v c. (later : _) × StepsIn t n c later)
   pub computed : IsComputed t.signature (pattern_of state.sort x)
-  pub open_by : IsOpenBy t state u
+  pub open_by : IsUndecidedBy t state u
 
 abbrev pub IsRightAnswer : Theory → Options → KorePattern → RunAnswer → Type 0
 IsRightAnswer t o request (executed x) = IsEndedRun t o request x
-IsRightAnswer t o request (left_open d x u) = IsOpenRun t o request d x u
+IsRightAnswer t o request (what_is_undecided d x u) = IsUndecidedRun t o request d x u
 
 -- the answer, as it is seen, is a right one
 abbrev pub AnswersRight : Theory → Options → KorePattern → Answer → Type 0

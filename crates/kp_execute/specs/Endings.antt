@@ -10,18 +10,18 @@ use Rattle.kp_kore.specs.Executions.{Options, listed_in, is_among}
 use Rattle.kp_symbolic.specs.States.{Literal, SymbolicState}
 use Rattle.kp_symbolic.specs.Verdicts.{Weighed, undecided, IsRightVerdict}
 use Rattle.kp_symbolic.specs.View.{state_view}
-use Rattle.kp_cases.specs.Parts.{whole}
-use Rattle.kp_turns.specs.Firing.{HasNoInstance}
-use Rattle.kp_turns.specs.Runs.{StatePasses, HasRunTo, RunEndsBy}
+use Rattle.kp_case_laws.specs.Parts.{whole}
+use Rattle.kp_case_laws.specs.Firing.{HasNoInstance}
+use Rattle.kp_case_laws.specs.Runs.{StatePasses, HasRunTo, RunEndsBy}
 use Rattle.kp_unify.specs.declared.part.Part.{Part}
 use Rattle.kp_unify.specs.declared.part.Setting.{Setting}
 use Rattle.kp_unify.specs.Views.{IsSetting}
 use Rattle.kp_rule_sets.specs.declared.rule_set.RuleSet.{RuleSet}
-use Rattle.kp_firing.specs.Ready.{HasInstance}
+use Rattle.kp_step.specs.ReadyParts.{HasInstance}
 use Rattle.kp_step.specs.Places.{IsAt}
 use Rattle.kp_step.specs.Ready.{IsReadyState}
 use Rattle.kp_step.specs.Rules.{Steps}
-use Rattle.kp_step.specs.Outcomes.{AreCasesOf, IsRightStep}
+use Rattle.kp_step.specs.RightSteps.{AreCasesOf, IsRightStep}
 use Rattle.kp_step.specs.declared.outcome.Next.{Next}
 use Rattle.kp_step.specs.declared.outcome.StepOutcome.{StepOutcome}
 use Rattle.kp_step.specs.declared.outcome.StepOutcome.TheVariants.{Undecided, Foreign, Limited}

@@ -8,7 +8,7 @@ use Rattle.kp_kore.specs.Theory.{Theory}
 use Rattle.kp_kore.specs.Executions.{Options}
 use Rattle.kp_symbolic.specs.States.{SymbolicState}
 use Rattle.kp_symbolic.specs.View.{state_view}
-use Rattle.kp_turns.specs.NextStates.{HaveOwnIds}
+use Rattle.kp_case_laws.specs.NextStates.{HaveOwnIds}
 use Rattle.kp_results.specs.Results.{StateParts, ExecutedParts}
 use Rattle.kp_unify.specs.Views.{signature_of, IsSetting}
 use Rattle.kp_unify.specs.declared.part.Setting.{Setting}
@@ -46,7 +46,7 @@ pub record EndsWith (t : Theory) (o : Options) (request : KorePattern) (x : Exec
   pub written : IsRunWritten t whole x
 
 -- it ends with what a step tells of its last state; that is written so, and no open call stands in it
-pub record EndsOpen (t : Theory) (o : Options) (request : KorePattern) (r : Run) (x : StateParts) (why : StepOutcome) : Type 0 where
+pub record EndsUndecided (t : Theory) (o : Options) (request : KorePattern) (r : Run) (x : StateParts) (why : StepOutcome) : Type 0 where
   pub run : IsRunOf t o request r
   pub is : r.ending ≡ Aborted why
   pub written : IsStateWritten t.signature (state_view r.state) x

@@ -11,7 +11,7 @@ use Rattle.kp_kore.specs.Theory.{Theory}
 use Rattle.kp_kore.specs.Executions.{Options, Executed, IsRightExecuted}
 use Rattle.kp_symbolic.specs.States.{SymbolicState}
 use Rattle.kp_symbolic.specs.View.{state_view}
-use Rattle.kp_turns.specs.NextStates.{HaveOwnIds}
+use Rattle.kp_case_laws.specs.NextStates.{HaveOwnIds}
 use Rattle.kp_results.specs.Results.{ExecutedParts, IsResultOf}
 use Rattle.kp_step.specs.Ready.{IsReadyState}
 use Rattle.kp_execute.specs.Endings.{IsRightRun}

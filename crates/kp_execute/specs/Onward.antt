@@ -7,13 +7,13 @@ use Rattle.kp_kore.specs.Theory.{Theory}
 use Rattle.kp_kore.specs.Executions.{Options, is_among}
 use Rattle.kp_symbolic.specs.States.{SymbolicState}
 use Rattle.kp_symbolic.specs.View.{state_view}
-use Rattle.kp_turns.specs.NextStates.{StepCase}
-use Rattle.kp_turns.specs.RunLaws.{IsAloneBy}
+use Rattle.kp_case_laws.specs.NextStates.{StepCase}
+use Rattle.kp_case_laws.specs.RunLaws.{IsAloneBy}
 use Rattle.kp_step.specs.Places.{IsAt}
 use Rattle.kp_step.specs.Ready.{IsReadyState}
 use Rattle.kp_execute.specs.Endings.{IsEndOfStep}
-use Rattle.kp_execute.specs.declared.steps.Onward.{Onward}
-use Rattle.kp_execute.specs.declared.steps.Onward.TheVariants.{Ends, Stops, Steps}
+use Rattle.kp_execute.specs.declared.onward.Onward.{Onward}
+use Rattle.kp_execute.specs.declared.onward.Onward.TheVariants.{Ends, Stops, Steps}
 
 -- the rule alone takes the state to a later one, from which a step may go on; it is none to stop before
 pub record IsTakenBy (t : Theory) (o : Options) (used : List Text) (now : SymbolicState) (r : RewriteRule) (later : SymbolicState) (next : ℕ) : Type 0 where

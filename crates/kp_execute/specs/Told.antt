@@ -14,8 +14,8 @@ use Rattle.kp_signature.specs.Verify.{first_fault}
 use Rattle.kp_symbolic.specs.States.{SymbolicState, HasInstancesOf}
 use Rattle.kp_symbolic.specs.Solving.{IsReadAs}
 use Rattle.kp_symbolic_laws.specs.Runs.{IsSoundAtom, OfEachKept}
-use Rattle.kp_kept.specs.Kept.{CanBeWritten}
-use Rattle.kp_cases.specs.Parts.{StatePart}
+use Rattle.kp_symbolic_laws.specs.Kept.{CanBeWritten}
+use Rattle.kp_case_laws.specs.Parts.{StatePart}
 use Rattle.kp_unify.specs.Views.{part_view}
 use Rattle.kp_unify.specs.declared.part.Part.{Part}
 use Rattle.kp_step.specs.declared.outcome.Next.{Next}

@@ -9,7 +9,7 @@ use Rattle.kp_kore.specs.Executions.{Options}
 use Rattle.kp_symbolic.specs.States.{Literal, SymbolicState}
 use Rattle.kp_symbolic.specs.Writing.{InjectsWhereItStands, written_term, written_predicate}
 use Rattle.kp_symbolic.specs.View.{clauses_view, state_view}
-use Rattle.kp_cases.specs.Parts.{StatePart}
+use Rattle.kp_case_laws.specs.Parts.{StatePart}
 use Rattle.kp_outward.specs.Arranged.{AreArranged}
 use Rattle.kp_outward.specs.Errors.{InjectsIfThere}
 use Rattle.kp_unify.specs.Views.{part_view}

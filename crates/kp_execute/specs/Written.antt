@@ -13,7 +13,7 @@ use Rattle.kp_symbolic.specs.States.{Literal, SymbolicState}
 use Rattle.kp_symbolic.specs.Writing.{InjectsWhereItStands, written_term, written_predicate}
 use Rattle.kp_symbolic_laws.specs.Runs.{HasRoomClause}
 use Rattle.kp_symbolic.specs.View.{state_view}
-use Rattle.kp_turns.specs.NextStates.{HasNoLost}
+use Rattle.kp_case_laws.specs.NextStates.{HasNoLost}
 use Rattle.kp_outward.specs.Arranged.{AreArranged}
 use Rattle.kp_outward.specs.Errors.{InjectsIfThere}
 use Rattle.kp_unify.specs.Views.{part_view}

@@ -10,7 +10,7 @@ pub enum Answer {
     Executed {
         executed: Executed,
     },
-    LeftOpen {
+    UndecidedStep {
         depth: u64,
         state: ReplyState,
         undecided: Undecided,

@@ -8,20 +8,20 @@ ghost use Rattle.kp_results.specs.View.{executed_view, undecided_view, state_vie
 ghost use Rattle.kp_rule_sets.specs.RuleSets.{RunsAs};
 ghost use Rattle.kp_symbolic.specs.Languages.{language_view};
 ghost use Rattle.kp_symbolic.specs.View.{state_view};
-ghost use Rattle.kp_step.specs.Outcomes.{IsRightStep};
+ghost use Rattle.kp_step.specs.RightSteps.{IsRightStep};
 ghost use Rattle.kp_step.specs.declared.outcome.StepOutcome.TheVariants.{Foreign};
-ghost use Rattle.kp_execute.specs.Answers.{AnswersRight, IsOpenBy, aborted_with, answer_view};
-ghost use Rattle.kp_execute.specs.Known.{EndsOpen, EndsWith, IsRunOf};
+ghost use Rattle.kp_execute.specs.Answers.{AnswersRight, IsUndecidedBy, aborted_with, answer_view};
+ghost use Rattle.kp_execute.specs.Known.{EndsUndecided, EndsWith, IsRunOf};
 ghost use Rattle.kp_execute.specs.Wants.{EndWants, RunWants, StepWants};
 ghost use Rattle.kp_execute.specs.Written.{IsStateWritten};
 
 use crate::answer::Answer;
-use crate::cases::id_at;
+use crate::end_tests::{is_end_right, is_state_computed};
 use crate::ending::{Ending, Run};
-use crate::open::{clauses_told, limit_told};
-use crate::order::is_end_in_turn;
-use crate::result::{Ended, run_parts};
-use crate::tested::{is_end_right, is_state_computed};
+use crate::next_order::is_end_in_turn;
+use crate::next_states::id_at;
+use crate::result::{WrittenRun, run_parts};
+use crate::undecided::{clauses_told, limit_told};
 use kp_outward::WritingError;
 use kp_results::{Cause, Executed, Reason, ReplyState, Undecided};
 use kp_rule_sets::RuleSet;
@@ -54,7 +54,7 @@ fn by_foreign(
     place: usize,
 ) -> Result<Answer, WritingError>
     ensures answered { let state' = parts_view state in
-        (t : Theory) (o : model.Options) (p : KorePattern) → RunsAs t rules.now → EndsOpen t o p run.now state' (Foreign place) → IfOk result (AnswersRight t o p) }
+        (t : Theory) (o : model.Options) (p : KorePattern) → RunsAs t rules.now → EndsUndecided t o p run.now state' (Foreign place) → IfOk result (AnswersRight t o p) }
     ensures refused { IfErr result (λ e. ¬ IsNoInjection e) }
 {
     match id_at(alloc, rules, place) {
@@ -70,7 +70,7 @@ fn undecided_of(
     run: &Run,
     why: &StepOutcome,
 ) -> Result<Undecided, WritingError>
-    ensures told { (t : Theory) (used : List Text) → let s = state_view run.now.state in language_view language.now ≡ t.signature → IsRightStep t used s why.now → IfOk result (λ u. IsOpenBy t s (undecided_view u)) }
+    ensures told { (t : Theory) (used : List Text) → let s = state_view run.now.state in language_view language.now ≡ t.signature → IsRightStep t used s why.now → IfOk result (λ u. IsUndecidedBy t s (undecided_view u)) }
     ensures wants { IfErr result (λ e. IsNoInjection e → StepWants (language_view language.now) (state_view run.now.state).sort why.now) }
 {
     match why {
@@ -88,7 +88,7 @@ fn undecided_of(
 }
 
 /// The answer that tells what isn't decided of the last state, which is written so.
-fn left_open(
+fn what_is_undecided(
     alloc: Global,
     language: &Language,
     run: &Run,
@@ -96,11 +96,11 @@ fn left_open(
     why: &StepOutcome,
 ) -> Result<Answer, WritingError>
     ensures answered { let g = language_view language.now in let state' = parts_view state in
-        (t : Theory) (o : model.Options) (p : KorePattern) → g ≡ t.signature → EndsOpen t o p run.now state' why.now → IfOk result (AnswersRight t o p) }
+        (t : Theory) (o : model.Options) (p : KorePattern) → g ≡ t.signature → EndsUndecided t o p run.now state' why.now → IfOk result (AnswersRight t o p) }
     ensures wants { IfErr result (λ e. IsNoInjection e → StepWants (language_view language.now) (state_view run.now.state).sort why.now) }
 {
     match undecided_of(alloc, language, run, why) {
-        Ok(undecided) => Ok(Answer::LeftOpen {
+        Ok(undecided) => Ok(Answer::UndecidedStep {
             depth: run.depth,
             state,
             undecided,
@@ -119,7 +119,7 @@ fn by_cause(
     why: &StepOutcome,
 ) -> Result<Answer, WritingError>
     ensures answered { let g = language_view language.now in let state' = parts_view state in
-        (t : Theory) (o : model.Options) (p : KorePattern) → RunsAs t rules.now → g ≡ t.signature → EndsOpen t o p run.now state' why.now → IfOk result (AnswersRight t o p) }
+        (t : Theory) (o : model.Options) (p : KorePattern) → RunsAs t rules.now → g ≡ t.signature → EndsUndecided t o p run.now state' why.now → IfOk result (AnswersRight t o p) }
     ensures wants { IfErr result (λ e. IsNoInjection e → StepWants (language_view language.now) (state_view run.now.state).sort why.now) }
 {
     match why {
@@ -127,13 +127,13 @@ fn by_cause(
         StepOutcome::Undecided { .. }
         | StepOutcome::Limited { .. }
         | StepOutcome::Empty
-        | StepOutcome::Cases { .. } => left_open(alloc, language, run, state, why),
+        | StepOutcome::Cases { .. } => what_is_undecided(alloc, language, run, state, why),
     }
 }
 
 /// The answer where what follows isn't known, if no open call stands in what is written for the last state: else want of memory is
 /// told.
-fn open_end(
+fn undecided_end(
     alloc: Global,
     language: &Language,
     rules: &RuleSet,
@@ -189,7 +189,7 @@ pub fn answer_of(
         return Err(WritingError::Memory);
     }
     match run_parts(alloc, language, rules, run)? {
-        Ended::Result { executed } => ended(alloc, language, executed),
-        Ended::Open { state } => open_end(alloc, language, rules, run, state),
+        WrittenRun::Result { executed } => ended(alloc, language, executed),
+        WrittenRun::Undecided { state } => undecided_end(alloc, language, rules, run, state),
     }
 }

@@ -25,8 +25,8 @@ ghost use Rattle.kp_execute.specs.Wants.{LacksInjection, RunWants, TellsNoInject
 
 use crate::answer::{Answer, ExecuteError};
 use crate::answered::answer_of;
-use crate::checks::have_own_ids;
 use crate::ending::Run;
+use crate::part_tests::have_own_ids;
 use crate::runs::run;
 use indexmap::IndexMap;
 use kp_clauses::TermFault;
@@ -35,13 +35,13 @@ use kp_heads::HeadTable;
 use kp_kore::{Name, Pattern, Sort};
 use kp_names::names::{Names, note};
 use kp_outward::WritingError;
+use kp_outward::incoming_names::add_variable_names;
 use kp_results::Options;
 use kp_rule_sets::RuleSet;
 use kp_signature::Signature;
 use kp_solving::inward;
 use kp_symbolic::{Language, State};
 use kp_unify::Setting;
-use kp_writing::incoming::add_variable_names;
 use std::alloc::{AllocError, Global};
 
 /// These names, each once.

@@ -4,23 +4,23 @@
 
 pub mod answer;
 pub mod answered;
-pub mod cases;
-pub mod checks;
+pub mod end_tests;
 pub mod ending;
 pub mod executing;
 pub mod laws;
-pub mod listed;
-pub mod lost;
-pub mod open;
-pub mod order;
+pub mod listed_rules;
+pub mod lost_variables;
+pub mod next_order;
+pub mod next_states;
+pub mod onward;
+pub mod part_tests;
 pub mod result;
 pub mod runs;
-pub mod steps;
-pub mod tested;
+pub mod undecided;
 pub mod written;
 
 pub use answer::{Answer, ExecuteError};
 pub use ending::{Ending, Run};
 pub use executing::execute;
-pub use result::{Ended, run_parts};
+pub use result::{WrittenRun, run_parts};
 pub use runs::run;

@@ -14,8 +14,8 @@ ghost use Rattle.kp_execute.specs.Lost.{mentions_none_lost, parts_variables};
 ghost use Rattle.kp_execute.specs.Wants.{CasesWant, EndWants, NextWants, RunWants};
 ghost use Rattle.kp_execute.specs.Written.{AreCasesWritten, IsShown};
 
-use crate::cases::{add, case_parts, id_at, next_parts};
-use crate::lost::{is_predicate_shown, none_lost};
+use crate::lost_variables::{is_predicate_shown, none_lost};
+use crate::next_states::{add, case_parts, id_at, next_parts};
 use crate::written::state_parts;
 use crate::{Ending, Run};
 use kp_outward::WritingError;
@@ -28,24 +28,24 @@ use std::alloc::{AllocError, Global};
 
 /// Why a run ended, with the next states.
 #[derive(Drop)]
-pub struct End {
+pub struct WrittenEnding {
     pub reason: Reason,
     pub nexts: Vec<NextState>,
 }
 
 /// What is written for a run: its result, or its last state where what follows isn't known.
 #[derive(Drop)]
-pub enum Ended {
+pub enum WrittenRun {
     Result { executed: Executed },
-    Open { state: ReplyState },
+    Undecided { state: ReplyState },
 }
 
 /// A reason without next states.
-fn without_nexts(alloc: Global, reason: Reason) -> End
+fn without_nexts(alloc: Global, reason: Reason) -> WrittenEnding
     ensures reason { result.reason ≡ reason }
     ensures none { nexts_view result.nexts.items ≡ [] }
 {
-    End {
+    WrittenEnding {
         reason,
         nexts: Vec::new(alloc),
     }
@@ -58,14 +58,14 @@ fn branching(
     rules: &RuleSet,
     nexts: &[Next],
     remainder: &[Part],
-) -> Result<End, WritingError>
+) -> Result<WrittenEnding, WritingError>
     ensures written { let g = language_view language.now in
         (t : Theory) → RunsAs t rules.now → g ≡ t.signature →
         IfOk result (λ e. (reason_view e.reason ≡ parts.branching) × AreCasesWritten t nexts.now remainder.now (nexts_view e.nexts.items)) }
     ensures wants { IfErr result (λ e. IsNoInjection e → CasesWant (language_view language.now) nexts.now remainder.now) }
 {
     let nexts = case_parts(alloc, language, rules, nexts, remainder)?;
-    Ok(End {
+    Ok(WrittenEnding {
         reason: Reason::Branching,
         nexts,
     })
@@ -77,7 +77,7 @@ fn cut_point(
     language: &Language,
     rules: &RuleSet,
     next: &Next,
-) -> Result<End, WritingError>
+) -> Result<WrittenEnding, WritingError>
     ensures written { let g = language_view language.now in
         (t : Theory) → RunsAs t rules.now → g ≡ t.signature → IfOk result (λ e. IsCutWritten t next.now (reason_view e.reason) (nexts_view e.nexts.items)) }
     ensures wants { IfErr result (λ e. IsNoInjection e → NextWants (language_view language.now) next.now) }
@@ -85,14 +85,14 @@ fn cut_point(
     let rule = id_at(alloc, rules, next.rule)?;
     let mut nexts = Vec::new(alloc);
     add(&mut nexts, next_parts(alloc, language, rules, next)?)?;
-    Ok(End {
+    Ok(WrittenEnding {
         reason: Reason::CutPoint { rule },
         nexts,
     })
 }
 
 /// The last step was by the rule of this place, which is one to stop behind.
-fn terminal(alloc: Global, rules: &RuleSet, place: usize) -> Result<End, WritingError>
+fn terminal(alloc: Global, rules: &RuleSet, place: usize) -> Result<WrittenEnding, WritingError>
     ensures written { (t : Theory) → RunsAs t rules.now → IfOk result (λ e. IsStopWritten t place (reason_view e.reason) (nexts_view e.nexts.items)) }
     ensures refused { IfErr result (λ e. ¬ IsNoInjection e) }
 {
@@ -106,7 +106,7 @@ fn end_of(
     language: &Language,
     rules: &RuleSet,
     ending: &Ending,
-) -> Result<Option<End>, WritingError>
+) -> Result<Option<WrittenEnding>, WritingError>
     ensures written { (t : Theory) → RunsAs t rules.now → language_view language.now ≡ t.signature → IfOk result (IsEndOf t ending.now) }
     ensures wants { IfErr result (λ e. IsNoInjection e → (sort : KoreSort) → EndWants (language_view language.now) sort ending.now) }
 {
@@ -151,7 +151,7 @@ fn result_of(
     state: &State,
     depth: u64,
     written: ReplyState,
-    end: End,
+    end: WrittenEnding,
 ) -> Result<Executed, WritingError>
     ensures same { IfOk result (λ x. executed_view x ≡ result_with depth (parts_view written) (reason_view end.reason) (nexts_view end.nexts.items)) }
     ensures none_lost { let hand = variables_view state.now.variables.items in let shown = parts_variables (parts_view written) in
@@ -160,7 +160,7 @@ fn result_of(
     ensures refused { IfErr result (λ e. ¬ IsNoInjection e) }
 {
     test_told(alloc, state, &written, &end.nexts)?;
-    let End { reason, nexts } = end;
+    let WrittenEnding { reason, nexts } = end;
     Ok(Executed {
         depth,
         state: written,
@@ -180,7 +180,7 @@ pub fn run_parts(
     language: &Language,
     rules: &RuleSet,
     run: &Run,
-) -> Result<Ended, WritingError>
+) -> Result<WrittenRun, WritingError>
     ensures written { (t : Theory) → RunsAs t rules.now → language_view language.now ≡ t.signature → IfOk result (IsEnded t run.now) }
     ensures wants { IfErr result (λ e. IsNoInjection e → RunWants (language_view language.now) run.now) }
 {
@@ -188,8 +188,8 @@ pub fn run_parts(
     match end_of(alloc, language, rules, &run.ending)? {
         Some(end) => {
             let executed = result_of(alloc, &run.state, run.depth, written, end)?;
-            Ok(Ended::Result { executed })
+            Ok(WrittenRun::Result { executed })
         }
-        None => Ok(Ended::Open { state: written }),
+        None => Ok(WrittenRun::Undecided { state: written }),
     }
 }

@@ -6,18 +6,18 @@ ghost use Rattle.kp_heads.specs.Made.{IsHeadTableOf};
 ghost use Rattle.kp_kore.specs.Theory.{Theory};
 ghost use Rattle.kp_symbolic.specs.States.{SymbolicState};
 ghost use Rattle.kp_symbolic.specs.View.{state_view};
-ghost use Rattle.kp_decide.specs.Read.{HasSortedClauses};
+ghost use Rattle.kp_satisfiability.specs.Read.{HasSortedClauses};
 ghost use Rattle.kp_results.specs.View.{options_view};
 ghost use Rattle.kp_unify.specs.Views.{signature_of};
 ghost use Rattle.kp_step.specs.Answers.{IsRightAnswerOf};
 ghost use Rattle.kp_execute.specs.Endings.{IsRunFrom, IsEndAtBound, IsRightRun};
 
 use crate::ending::{Ending, Run};
-use crate::steps::{Onward, after_step};
+use crate::onward::{Onward, after_step};
 use kp_compile::CompileError;
 use kp_results::Options;
 use kp_rule_sets::RuleSet;
-use kp_step::answers::{PartAnswer, answer_of};
+use kp_step::part_answers::{PartAnswer, answer_of};
 use kp_symbolic::State;
 use kp_unify::Setting;
 use std::alloc::{AllocError, Global};
@@ -29,7 +29,7 @@ fn ending_of(answer: &PartAnswer) -> Ending
     match answer {
         PartAnswer::Nothing => Ending::Vacuous,
         PartAnswer::Instance => Ending::DepthBound,
-        PartAnswer::Open { .. } => Ending::DepthBound,
+        PartAnswer::UndecidedClauses { .. } => Ending::DepthBound,
     }
 }
 

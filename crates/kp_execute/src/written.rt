@@ -12,11 +12,10 @@ ghost use Rattle.kp_execute.specs.Written.{AreWritten, IsAddedWritten, IsStateWr
 
 use kp_compile::{has_injection, injects};
 use kp_kore::{Pattern, Sort};
-use kp_outward::{WritingError, predicate_out};
+use kp_outward::{WritingError, boxed_term, predicate_out};
 use kp_results::ReplyState;
 use kp_signature::Signature;
 use kp_symbolic::{Clause, Language, State};
-use kp_writing::boxed_term;
 use std::alloc::Global;
 
 /// The pattern, unless an `inj` stands in it that the signature doesn't have.

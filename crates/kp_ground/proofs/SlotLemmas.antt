@@ -12,7 +12,7 @@ use Rattle.kp_ground.specs.Slots.{Place, is_one_of, stands_at, with_name, names_
 use Rattle.kp_ground.specs.Solves.{Solves, bound_names}
 use Rattle.kp_ground.specs.View.{value_view}
 use Rattle.kp_ground.specs.declared.binding.Binding.{Binding}
-use Rattle.kp_ground.specs.declared.left.CompiledLeft.{CompiledLeft}
+use Rattle.kp_ground.specs.declared.left_side.CompiledLeft.{CompiledLeft}
 
 pub first_so : (b c : Bool) → b && c ≡ true → b ≡ true
 first_so true c h = refl

@@ -2,8 +2,8 @@
 use Rattle.std.specs.Prelude.{List, [], ◌∷◌, string_bytes}
 use Rattle.kp_ground.specs.Terms.{LeftTerm, left_bound, left_fixed, left_built, LeftTerms, no_lefts, next_left}
 use Rattle.kp_ground.specs.View.{value_view}
-use Rattle.kp_ground.specs.declared.left.CompiledLeft.{CompiledLeft, fold-CompiledLeft}
-use Rattle.kp_ground.specs.declared.left.CompiledLeft.TheOpen.{CompiledLeft-F}
+use Rattle.kp_ground.specs.declared.left_side.CompiledLeft.{CompiledLeft, fold-CompiledLeft}
+use Rattle.kp_ground.specs.declared.left_side.CompiledLeft.TheOpen.{CompiledLeft-F}
 
 abbrev pub lefts_of : List LeftTerm → LeftTerms
 lefts_of [] = no_lefts

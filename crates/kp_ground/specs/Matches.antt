@@ -10,7 +10,7 @@ use Rattle.kp_ground.specs.View.{value_view}
 use Rattle.kp_ground.specs.Slots.{Place, names_after}
 use Rattle.kp_ground.specs.Solves.{Solves, bound_names}
 use Rattle.kp_ground.specs.declared.binding.Binding.{Binding}
-use Rattle.kp_ground.specs.declared.left.CompiledLeft.{CompiledLeft}
+use Rattle.kp_ground.specs.declared.left_side.CompiledLeft.{CompiledLeft}
 use Rattle.kp_ground.specs.declared.value.Value.{Value}
 
 abbrev pub Matches : {E : Type 0} → Result (Option (Vec Binding Global)) E → List Binding → (Valuation → Type 0) → Type 0

@@ -4,8 +4,8 @@ use Rattle.std.specs.Prelude.{Bool, true, false, ◌&&◌, if◌then◌else◌, 
 use Rattle.std.specs.List.{list_all, list_any}
 use Rattle.std.specs.Str.{bytes_eq}
 use Rattle.kp_kore.specs.Syntax.{Text}
-use Rattle.kp_ground.specs.declared.left.CompiledLeft.{CompiledLeft, fold-CompiledLeft}
-use Rattle.kp_ground.specs.declared.left.CompiledLeft.TheOpen.{CompiledLeft-F}
+use Rattle.kp_ground.specs.declared.left_side.CompiledLeft.{CompiledLeft, fold-CompiledLeft}
+use Rattle.kp_ground.specs.declared.left_side.CompiledLeft.TheOpen.{CompiledLeft-F}
 use Rattle.kp_ground.specs.declared.term.CompiledTerm.{CompiledTerm, fold-CompiledTerm}
 use Rattle.kp_ground.specs.declared.term.CompiledTerm.TheOpen.{CompiledTerm-F}
 use Rattle.kp_ground.specs.declared.condition.Condition.{Condition, fold-Condition}

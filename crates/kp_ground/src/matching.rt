@@ -9,7 +9,7 @@ ghost use Rattle.kp_ground.specs.LeftView.{left_view};
 ghost use Rattle.kp_ground.specs.View.{value_view};
 
 use crate::binding::{Binding, bound_at};
-use crate::left::CompiledLeft;
+use crate::left_side::CompiledLeft;
 use crate::names::same_name;
 use crate::value::Value;
 use std::alloc::{AllocError, Global};

@@ -1,7 +1,7 @@
 -- A pass between two calls, and while it has the turn.
 use Rattle.std.specs.Prelude.{◌≡◌, ◌≤◌, ◌<◌, ◌+◌, ◌%◌, ◌^◌, ℕ, true, false, List, [], ◌∷◌, ◌++◌, length, Some, None}
 use Rattle.kp_history.specs.declared.history.History.{History}
-use Rattle.kp_history.specs.declared.pass.Pass.{Pass}
+use Rattle.kp_history.specs.declared.pass.HistoryPass.{HistoryPass}
 use Rattle.kp_history.specs.Views.{IsAtRest, most_entries, times}
 
 module _ {E : Type 0} where
@@ -12,27 +12,27 @@ module _ {E : Type 0} where
 
 module _ {B E K : Type 0} where
   -- the entries that it has seen
-  abbrev pub seen : Pass B E K → List E
+  abbrev pub seen : HistoryPass B E K → List E
   seen p = p.seat.me.0.seen
 
   -- where its own entries stand, from 1
-  abbrev pub positions : Pass B E K → List ℕ
+  abbrev pub positions : HistoryPass B E K → List ℕ
   positions p = p.seat.me.0.positions
 
   -- the entries of the value that it has in hand, while it has the turn
-  abbrev pub hand : Pass B E K → List E
+  abbrev pub hand : HistoryPass B E K → List E
   hand p = p.seat.me.0.hand
 
   -- its positions and its spare places are what they were
-  abbrev pub Keeps : Pass B E K → Pass B E K → Type 0
+  abbrev pub Keeps : HistoryPass B E K → HistoryPass B E K → Type 0
   Keeps before after = (positions after ≡ positions before) × (after.spare ≡ before.spare)
 
   -- with all places it has all positions: each entry that it has seen is its own
-  abbrev pub HasAll : History B E K → Pass B E K → Type 0
+  abbrev pub HasAll : History B E K → HistoryPass B E K → Type 0
   HasAll h p = p.spare + 1 ≡ h.terms.seats → (x : ℕ) → 0 < x → x ≤ length (seen p) → times x (positions p) ≡ 1
 
   -- the pass is one of this history, between two calls
-  pub record IsPass (h : History B E K) (p : Pass B E K) : Type 0 where
+  pub record IsPass (h : History B E K) (p : HistoryPass B E K) : Type 0 where
     pub seated : p.seat.table_id ≡ h.table.shared.table_id
     pub at_rest : IsAtRest p.seat.me.0
     pub empty : p.seat.me.1 ≡ []
@@ -42,7 +42,7 @@ module _ {B E K : Type 0} where
     pub all : HasAll h p
 
   -- the pass is one of this history, and waits with a ticket, whose number in a word is this
-  pub record IsWaiting (h : History B E K) (ticket : ℕ) (p : Pass B E K) : Type 0 where
+  pub record IsWaiting (h : History B E K) (ticket : ℕ) (p : HistoryPass B E K) : Type 0 where
     pub seated : p.seat.table_id ≡ h.table.shared.table_id
     pub waits : (n : ℕ) × (ticket ≡ n % 2 ^ 64) × (p.seat.me.0.tickets ≡ n ∷ [])
     pub no_turn : p.seat.me.0.turn ≡ false
@@ -53,7 +53,7 @@ module _ {B E K : Type 0} where
     pub few : p.spare < h.terms.seats
 
   -- the pass is one of this history, has the turn, and has taken the value out of the slot
-  pub record HasTurn (h : History B E K) (p : Pass B E K) : Type 0 where
+  pub record HasTurn (h : History B E K) (p : HistoryPass B E K) : Type 0 where
     pub seated : p.seat.table_id ≡ h.table.shared.table_id
     pub turn : p.seat.me.0.turn ≡ true
     pub none_told : p.seat.me.0.told ≡ []

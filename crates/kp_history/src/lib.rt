@@ -15,6 +15,6 @@ mod view;
 
 pub use archive::{Archive, Law};
 pub use history::History;
-pub use pass::Pass;
+pub use pass::HistoryPass;
 pub use places::Full;
 pub use view::{Terms, View};

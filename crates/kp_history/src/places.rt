@@ -6,7 +6,7 @@ ghost use Rattle.kp_history.specs.Views.{longer, most_seats};
 
 use crate::archive::Archive;
 use crate::history::{History, TICKET};
-use crate::pass::Pass;
+use crate::pass::HistoryPass;
 use crate::plays::{Joins, Settles, Spares};
 use crate::view::Terms;
 use atomic_table::Table;
@@ -23,7 +23,7 @@ impl<B: Archive<E, K> + Drop, E, K: Drop> History<B, E, K> {
         seats: u64,
         about: K,
         value: B,
-    ) -> Result<(History<B, E, K>, Pass<B, E, K>), AllocError>
+    ) -> Result<(History<B, E, K>, HistoryPass<B, E, K>), AllocError>
         requires seats { (0 < seats) × (seats ≤ most_seats) }
         requires value { (B.entries value ≡ []) × B.sound value × B.legal about [] }
         ensures pass { IfOk result (λ begun. IsPass begun.0 begun.1) }
@@ -36,7 +36,7 @@ impl<B: Archive<E, K> + Drop, E, K: Drop> History<B, E, K> {
         let made = Table::new(alloc, &[0, 0, 0], slots, &terms);
         match made {
             Ok((table, seat)) => {
-                let pass = Pass {
+                let pass = HistoryPass {
                     seat,
                     spare: seats - 1,
                 };
@@ -56,7 +56,7 @@ impl<B: Archive<E, K> + Drop, E, K> History<B, E, K> {
     }
 
     /// A pass more, where there is a spare place.
-    pub fn split(&self, pass: &mut Pass<B, E, K>) -> Result<Pass<B, E, K>, Full>
+    pub fn split(&self, pass: &mut HistoryPass<B, E, K>) -> Result<HistoryPass<B, E, K>, Full>
         requires pass { IsPass self.now pass.old }
         ensures pass { IsPass self.now pass.new × (seen pass.new ≡ seen pass.old) × (positions pass.new ≡ positions pass.old) }
         ensures new { IfOk result (λ new. IsPass self.now new × (seen new ≡ seen pass.old) × (positions new ≡ []) × (new.spare ≡ 0)) }
@@ -68,11 +68,11 @@ impl<B: Archive<E, K> + Drop, E, K> History<B, E, K> {
         }
         let seat = self.table.shared.split_seat::<Spares>(&mut pass.seat);
         pass.spare -= 1;
-        Ok(Pass { seat, spare: 0 })
+        Ok(HistoryPass { seat, spare: 0 })
     }
 
     /// One pass takes in another: it has seen what both had, and has the positions and the places of both.
-    pub fn join(&self, pass: &mut Pass<B, E, K>, other: Pass<B, E, K>)
+    pub fn join(&self, pass: &mut HistoryPass<B, E, K>, other: HistoryPass<B, E, K>)
         requires pass { IsPass self.now pass.old }
         requires other { IsPass self.now other }
         ensures pass { IsPass self.now pass.new }
@@ -80,7 +80,7 @@ impl<B: Archive<E, K> + Drop, E, K> History<B, E, K> {
         ensures longer { seen pass.new ≡ longer (seen pass.old) (seen other) }
         ensures own { (positions pass.new ≡ positions pass.old ++ positions other) × (pass.new.spare ≡ pass.old.spare + other.spare + 1) }
     {
-        let Pass { seat, spare } = other;
+        let HistoryPass { seat, spare } = other;
         self.table.shared.join_seat::<Joins>(&mut pass.seat, seat);
         self.table.shared.load::<Settles>(&mut pass.seat, TICKET);
         pass.spare += spare + 1;

@@ -7,14 +7,14 @@ ghost use Rattle.kp_history.specs.Views.{most_entries, positions_from};
 
 use crate::archive::Archive;
 use crate::history::{COUNT, History, SERVING, TICKET, VALUE};
-use crate::pass::Pass;
+use crate::pass::HistoryPass;
 use crate::plays::{Adding, Counts, Draws, Passes, Watches};
 use std::marker::Brand;
 use std::sync::Wait;
 
 impl<B: Archive<E, K> + Drop, E, K> History<B, E, K> {
     /// Waits for the turn, and takes the value, whose entries begin with what the pass has seen.
-    pub fn take<R: Wait>(&self, rt: &R, pass: &mut Pass<B, E, K>) -> B
+    pub fn take<R: Wait>(&self, rt: &R, pass: &mut HistoryPass<B, E, K>) -> B
         requires pass { IsPass self.now pass.old }
         ensures turn { HasTurn self.now pass.new }
         ensures same { Keeps pass.old pass.new × (seen pass.new ≡ seen pass.old) }
@@ -28,7 +28,7 @@ impl<B: Archive<E, K> + Drop, E, K> History<B, E, K> {
     }
 
     /// Draws a ticket.
-    fn draw(&self, pass: &mut Pass<B, E, K>) -> u64
+    fn draw(&self, pass: &mut HistoryPass<B, E, K>) -> u64
         requires pass { IsPass self.now pass.old }
         ensures waiting { IsWaiting self.now result pass.new }
         ensures same { Keeps pass.old pass.new × (seen pass.new ≡ seen pass.old) }
@@ -39,7 +39,7 @@ impl<B: Archive<E, K> + Drop, E, K> History<B, E, K> {
     }
 
     /// Sleeps until the ticket has the turn, and takes the value.
-    fn wait_for<R: Wait>(&self, rt: &R, pass: &mut Pass<B, E, K>, ticket: u64) -> B
+    fn wait_for<R: Wait>(&self, rt: &R, pass: &mut HistoryPass<B, E, K>, ticket: u64) -> B
         requires waiting { IsWaiting self.now ticket pass.old }
         ensures turn { HasTurn self.now pass.new }
         ensures same { Keeps pass.old pass.new × (seen pass.new ≡ seen pass.old) }
@@ -61,7 +61,7 @@ impl<B: Archive<E, K> + Drop, E, K> History<B, E, K> {
     }
 
     /// The value, where the ticket has the turn; else the ticket that has it.
-    fn watch(&self, pass: &mut Pass<B, E, K>, ticket: u64) -> Result<B, u64>
+    fn watch(&self, pass: &mut HistoryPass<B, E, K>, ticket: u64) -> Result<B, u64>
         requires waiting { IsWaiting self.now ticket pass.old }
         ensures turn { OnOk result (HasTurn self.now pass.new) }
         ensures same { Keeps pass.old pass.new × (seen pass.new ≡ seen pass.old) }
@@ -82,7 +82,7 @@ impl<B: Archive<E, K> + Drop, E, K> History<B, E, K> {
     }
 
     /// Puts the value back as it was taken, and passes the turn on.
-    pub fn put_back(&self, pass: &mut Pass<B, E, K>, value: B)
+    pub fn put_back(&self, pass: &mut HistoryPass<B, E, K>, value: B)
         requires turn { HasTurn self.now pass.old }
         requires value { (B.entries value ≡ hand pass.old) × B.sound value }
         ensures pass { IsPass self.now pass.new }
@@ -93,7 +93,7 @@ impl<B: Archive<E, K> + Drop, E, K> History<B, E, K> {
     }
 
     /// Puts the value back with one entry more, which is the pass's own, and passes the turn on.
-    pub fn put_longer(&self, pass: &mut Pass<B, E, K>, value: B)
+    pub fn put_longer(&self, pass: &mut HistoryPass<B, E, K>, value: B)
         requires turn { HasTurn self.now pass.old }
         requires value { B.sound value }
         requires longer { (e : E) × (B.entries value ≡ hand pass.old ++ e ∷ []) }
@@ -107,7 +107,7 @@ impl<B: Archive<E, K> + Drop, E, K> History<B, E, K> {
     }
 
     /// Counts the entries that N adds, puts the value back, passes the turn on and wakes those who wait.
-    fn put<N: Adding<E>>(&self, pass: &mut Pass<B, E, K>, value: B, more: u64)
+    fn put<N: Adding<E>>(&self, pass: &mut HistoryPass<B, E, K>, value: B, more: u64)
         requires turn { HasTurn self.now pass.old }
         requires value { (B.entries value ≡ hand pass.old ++ N.added) × B.sound value }
         requires more { more ≡ length N.added }

@@ -3,7 +3,7 @@ ghost use Rattle.kp_history.specs.Passes.{IsPass};
 
 use crate::ledger::{Anything, Ledger};
 use crate::work::{Worker, work_all};
-use kp_history::{History, Pass};
+use kp_history::{History, HistoryPass};
 use std::alloc::{AllocError, Global};
 use std::sync::Wait;
 use std::thread::Threads;
@@ -23,7 +23,7 @@ fn are_in_order(numbers: &[u64]) -> bool {
 /// A worker more, where there is a spare place.
 fn hire(
     history: &History<Ledger, u64, Anything>,
-    first: &mut Pass<Ledger, u64, Anything>,
+    first: &mut HistoryPass<Ledger, u64, Anything>,
     workers: &mut Vec<Worker>,
 ) -> Result<bool, AllocError>
     requires first { IsPass history.now first.old }
@@ -46,7 +46,7 @@ fn hire(
 /// The first pass takes in those of all workers: whether each was complete.
 fn gather(
     history: &History<Ledger, u64, Anything>,
-    first: &mut Pass<Ledger, u64, Anything>,
+    first: &mut HistoryPass<Ledger, u64, Anything>,
     workers: &mut Vec<Worker>,
 ) -> bool
     requires first { IsPass history.now first.old }

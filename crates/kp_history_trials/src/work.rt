@@ -2,7 +2,7 @@ ghost use Rattle.std.specs.Prelude.{All};
 ghost use Rattle.kp_history.specs.Passes.{IsPass};
 
 use crate::ledger::{Anything, Ledger, MOST};
-use kp_history::{History, Pass};
+use kp_history::{History, HistoryPass};
 use std::sync::Wait;
 use std::thread;
 use std::thread::Threads;
@@ -10,7 +10,7 @@ use std::thread::Threads;
 /// A worker with its pass, and whether all its numbers found room.
 #[derive(Drop)]
 pub struct Worker {
-    pub pass: Pass<Ledger, u64, Anything>,
+    pub pass: HistoryPass<Ledger, u64, Anything>,
     pub complete: bool,
 }
 
@@ -18,7 +18,7 @@ pub struct Worker {
 pub fn enter<R: Wait>(
     rt: &R,
     history: &History<Ledger, u64, Anything>,
-    pass: &mut Pass<Ledger, u64, Anything>,
+    pass: &mut HistoryPass<Ledger, u64, Anything>,
     number: u64,
 ) -> bool
     requires { IsPass history.now pass.old }

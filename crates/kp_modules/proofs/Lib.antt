@@ -1,6 +1,11 @@
 pub mod Firsts
+pub mod Gathering
 pub mod Kept
 pub mod Labelled
+pub mod Numbering
 pub mod Opened
 pub mod Outlined
+pub mod Owned
 pub mod Ruled
+pub mod Taken
+pub mod Unsound

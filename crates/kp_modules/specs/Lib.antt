@@ -1,7 +1,9 @@
 pub mod Axioms
+pub mod Extending
 pub mod Keeping
 pub mod Labels
 pub mod Made
 pub mod Openings
+pub mod OwnSets
 pub mod Sources
 pub mod Tables

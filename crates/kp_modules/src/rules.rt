@@ -8,7 +8,7 @@ ghost use Rattle.kp_kore.specs.Theory.{rewrite_axioms as axioms_among, labels_of
 ghost use Rattle.kp_kore.specs.Signature.{KoreSignature};
 ghost use Rattle.kp_rules.specs.Bodies.{IsFaulty, IsReadAs};
 ghost use Rattle.kp_imports.specs.declared.fault.LoadError.TheVariants.{Memory};
-ghost use Rattle.kp_sort_index.specs.Index.{IsIndexOf};
+ghost use Rattle.kp_rules.specs.Index.{IsIndexOf};
 ghost use Rattle.kp_modules.specs.Axioms.{axiom_view, axioms_view};
 ghost use Rattle.kp_imports.specs.Faults.{AreSound, TellsAxiom, TellsFaulty};
 ghost use Rattle.kp_modules.specs.Labels.{Counts};
@@ -19,9 +19,8 @@ use crate::labels::{Labels, labels_of, rule_id, source_of};
 use kp_imports::fault::{LoadError, ModuleFault};
 use kp_kore::Module;
 use kp_rule_reading::{RuleError, read_rule};
-use kp_rules::{Rule, RuleBody};
+use kp_rules::{Rule, RuleBody, SortIndex};
 use kp_signature::Signature;
-use kp_sort_index::SortIndex;
 use std::alloc::Global;
 use std::sync::Arc;
 

@@ -13,8 +13,8 @@ ghost use Rattle.kp_modules.specs.Openings.{IsTableOf, opening_of};
 ghost use Rattle.kp_imports.specs.Reaching.{has};
 ghost use Rattle.kp_modules.specs.Tables.{rule_set_of, main_of, does_reach, RunsTable, IsTableOver};
 
-use crate::order::reached;
 use crate::outlines::{RuleSpan, outlines, rule_spans};
+use crate::reached_modules::reached;
 use crate::rules::rules_of;
 use indexmap::IndexMap;
 use kp_imports::duplicates::{check_sorts, check_symbols};

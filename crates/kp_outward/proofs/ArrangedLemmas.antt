@@ -17,7 +17,7 @@ use Rattle.kp_outward.specs.Arranged.{IsArrangedClause, IsWrittenClause, IsSpell
 use Rattle.kp_outward.specs.Joined.{joined_all, beside_term}
 use Rattle.kp_outward.specs.Order.{AreInOrder, IsOrderedOnce}
 use Rattle.kp_outward.specs.View.{spelled_view, patterns_in}
-use Rattle.kp_outward.specs.declared.spelled.Spelled.{Spelled}
+use Rattle.kp_outward.specs.declared.texts.Spelled.{Spelled}
 use Rattle.kp_outward.proofs.OrderLemmas.{once_of_moved}
 
 -- ---- what is made of each member moves with the members

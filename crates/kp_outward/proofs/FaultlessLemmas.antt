@@ -5,7 +5,7 @@ use Rattle.kp_kore.specs.Signature.{KoreSignature}
 use Rattle.kp_symbolic.specs.View.{literal_view, clauses_view}
 use Rattle.kp_symbolic.specs.declared.clause.Clause.{Clause}
 use Rattle.kp_symbolic.specs.declared.clause.Literal.{Literal}
-use Rattle.kp_writing.specs.Parts.{IsFaultlessAtom}
+use Rattle.kp_outward.specs.Parts.{IsFaultlessAtom}
 use Rattle.kp_outward.specs.Errors.{AreFaultless, AreFaultlessIn}
 
 literals_faultless : (g : KoreSignature) (ls : List Literal) → AllByRecursion (λ l. IsFaultlessAtom g l.atom) (map literal_view ls) → AllByRecursion (λ l. IsFaultlessAtom g (literal_view l).atom) ls

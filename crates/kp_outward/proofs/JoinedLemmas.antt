@@ -7,7 +7,7 @@ use Rattle.kp_kore.specs.Syntax.{KoreSort, KorePattern, conjunction, next_patter
 use Rattle.kp_kore.specs.View.{patterns_of}
 use Rattle.kp_outward.specs.Joined.{joined_all, beside_term}
 use Rattle.kp_outward.specs.View.{spelled_view, patterns_in}
-use Rattle.kp_outward.specs.declared.spelled.Spelled.{Spelled}
+use Rattle.kp_outward.specs.declared.texts.Spelled.{Spelled}
 
 -- the last of at most one
 pub last_joined : (s : KoreSort) (n m : ℕ) (ss rest : List Spelled) (o : Option Spelled) → n ≡ length ss → n < 2 → ss ≡ rest ++ option_to_list o → MatchOption o ((n ≡ 0) × (m ≡ 0)) (λ _. m + 1 ≡ n) → option_map spelled_view o ≡ joined_all s (patterns_in ss)

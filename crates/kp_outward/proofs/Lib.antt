@@ -1,9 +1,16 @@
 pub mod ArrangedLemmas
+pub mod BoundLemmas
 pub mod FaultlessLemmas
+pub mod FaultlessTerms
+pub mod FreshLemmas
 pub mod InjectionLemmas
 pub mod JoinedLemmas
 pub mod LawLemmas
+pub mod NamesLemmas
 pub mod OrderLemmas
 pub mod RoomLemmas
+pub mod SumLemmas
+pub mod TermLists
+pub mod TermRoom
 pub mod TextLemmas
 pub mod TurnedLemmas

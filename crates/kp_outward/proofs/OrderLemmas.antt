@@ -16,7 +16,7 @@ use Rattle.kp_symbolic.specs.Folding.{is_text_before}
 use Rattle.kp_symbolic.specs.Shown.{AreDifferent}
 use Rattle.kp_outward.specs.Order.{json_text, AreInOrder, IsOrderedOnce}
 use Rattle.kp_outward.specs.View.{spelled_view, patterns_in}
-use Rattle.kp_outward.specs.declared.spelled.Spelled.{Spelled}
+use Rattle.kp_outward.specs.declared.texts.Spelled.{Spelled}
 
 -- ---- texts
 

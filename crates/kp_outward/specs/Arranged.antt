@@ -13,7 +13,7 @@ use Rattle.kp_symbolic.specs.View.{clause_view}
 use Rattle.kp_symbolic.specs.declared.clause.Clause.{Clause}
 use Rattle.kp_outward.specs.Order.{AreInOrder}
 use Rattle.kp_outward.specs.View.{spelled_view}
-use Rattle.kp_outward.specs.declared.spelled.Spelled.{Spelled}
+use Rattle.kp_outward.specs.declared.texts.Spelled.{Spelled}
 
 -- the clause with its literals in the order of what is written for them
 pub record IsArrangedClause (g : KoreSignature) (sort : KoreSort) (c d : List Literal) : Type 0 where

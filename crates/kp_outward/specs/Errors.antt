@@ -7,7 +7,7 @@ use Rattle.kp_symbolic.specs.States.{Literal}
 use Rattle.kp_symbolic.specs.Writing.{InjectsWhereItStands}
 use Rattle.kp_symbolic.specs.View.{literal_view}
 use Rattle.kp_symbolic.specs.declared.clause.Clause.{Clause}
-use Rattle.kp_writing.specs.Parts.{IsFaultlessAtom}
+use Rattle.kp_outward.specs.Parts.{IsFaultlessAtom}
 use Rattle.kp_outward.specs.declared.error.WritingError.{WritingError}
 use Rattle.kp_outward.specs.declared.error.WritingError.TheVariants.{NoInjection, Shape}
 

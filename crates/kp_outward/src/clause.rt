@@ -11,16 +11,16 @@ ghost use Rattle.kp_symbolic.specs.Languages.{language_view};
 ghost use Rattle.kp_symbolic.specs.View.{clause_view, literal_view};
 ghost use Rattle.kp_outward.specs.Arranged.{IsArrangedClause, IsWrittenClause};
 ghost use Rattle.kp_outward.specs.View.{patterns_in};
-ghost use Rattle.kp_writing.specs.Parts.{IsFaultlessAtom};
+ghost use Rattle.kp_outward.specs.Parts.{IsFaultlessAtom};
 
-use crate::alone::alone_out;
 use crate::joined::{bottom_out, either_out};
+use crate::literal_out;
 use crate::order::put_in_order;
-use crate::spelled::{Spelled, spell};
+use crate::own_clause::alone_out;
+use crate::texts::{Spelled, spell};
 use kp_compile::CompileError;
 use kp_kore::{Pattern, Sort};
 use kp_symbolic::{Clause, Language, Literal};
-use kp_writing::literal_out;
 use std::alloc::Global;
 
 /// The literals as predicates.

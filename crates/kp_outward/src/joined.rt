@@ -6,9 +6,9 @@ ghost use Rattle.kp_kore.specs.View.{view, sort_view, patterns_of};
 ghost use Rattle.kp_outward.specs.Joined.{beside_term, joined_all};
 ghost use Rattle.kp_outward.specs.View.{patterns_in, spelled_view};
 
-use crate::spelled::Spelled;
+use crate::texts::Spelled;
 use kp_kore::{Pattern, Sort};
-use kp_substitution::build::{conjunction_of, disjunction_of};
+use kp_pattern_substitution::build::{conjunction_of, disjunction_of};
 use std::alloc::{AllocError, Global};
 
 /// `\bottom`.

@@ -5,7 +5,7 @@ ghost use Rattle.std.specs.List.Sorted.{IsPermutation};
 ghost use Rattle.kp_outward.specs.Order.{AreInOrder, IsOrderedOnce};
 ghost use Rattle.kp_outward.specs.View.{patterns_in, spelled_view};
 
-use crate::spelled::Spelled;
+use crate::texts::Spelled;
 use std::alloc::{AllocError, Global};
 
 /// Puts the patterns in order.

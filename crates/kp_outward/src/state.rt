@@ -19,16 +19,16 @@ ghost use Rattle.kp_outward.specs.Arranged.{AreArranged, IsSpelledClause, with_c
 ghost use Rattle.kp_outward.specs.Errors.{AreFaultless, AreFaultlessIn, InjectsIfThere, IsNoInjection, IsUnread};
 ghost use Rattle.kp_outward.specs.View.{patterns_in};
 
+use crate::boxed_term;
 use crate::clause::clause_out;
 use crate::error::WritingError;
 use crate::joined::{all_out, beside_out};
 use crate::order::{each_once, put_in_order};
-use crate::spelled::{Spelled, spell};
+use crate::texts::{Spelled, spell};
 use kp_compile::{CompileError, has_injection, injects};
 use kp_kore::{Pattern, Sort};
 use kp_signature::Signature;
 use kp_symbolic::{Clause, Language, State};
-use kp_writing::boxed_term;
 use std::alloc::{AllocError, Global};
 
 /// The clauses as predicates.

@@ -10,8 +10,8 @@ use Rattle.kp_overlap.specs.Held.{IsLeafShape, TellsShapes, TellsShapesAt, AreSh
 use Rattle.kp_overlap.specs.Labels.{HaveOneLabel, HaveOneLabelEach, SaySame, IsClosed, AreHolders, IsShapeIn, IsGraph}
 use Rattle.kp_overlap.specs.Views.{shape_view}
 use Rattle.kp_overlap.specs.declared.graph.PlaceShape.{PlaceShape}
-use Rattle.kp_overlap.specs.declared.holders.Agreement.{Agreement}
-use Rattle.kp_overlap.specs.declared.holders.Agreement.TheVariants.{Same, Clash, Apart}
+use Rattle.kp_overlap.specs.declared.label_holders.Agreement.{Agreement}
+use Rattle.kp_overlap.specs.declared.label_holders.Agreement.TheVariants.{Same, Clash, Apart}
 
 -- ---- places of lists
 

@@ -4,10 +4,10 @@ use Rattle.kp_kore.specs.Signature.{KoreSignature}
 use Rattle.kp_kore.specs.Value.{Value}
 use Rattle.kp_overlap.specs.Graphs.{IsAt, Shape, any_value, never, leaf, made, Graph, HasShape, HasSolution, IsLeafValue}
 use Rattle.kp_overlap.specs.Labels.{Follows, SaySame, IsClosed, AreHolders}
-use Rattle.kp_overlap.specs.declared.holders.Agreement.{Agreement}
-use Rattle.kp_overlap.specs.declared.holders.Agreement.TheVariants.{Same, Clash, Apart}
-use Rattle.kp_overlap.specs.declared.holders.Holders.{Holders}
-use Rattle.kp_overlap.specs.declared.holders.Holders.TheVariants as answer
+use Rattle.kp_overlap.specs.declared.label_holders.Agreement.{Agreement}
+use Rattle.kp_overlap.specs.declared.label_holders.Agreement.TheVariants.{Same, Clash, Apart}
+use Rattle.kp_overlap.specs.declared.label_holders.Holders.{Holders}
+use Rattle.kp_overlap.specs.declared.label_holders.Holders.TheVariants as answer
 
 -- the holders, or that there is no solution
 abbrev pub TellsHolders : KoreSignature → Graph → ℕ → ℕ → List ℕ → Holders → Type 0

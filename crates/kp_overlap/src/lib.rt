@@ -3,12 +3,12 @@
 #![tactic(auto)]
 
 pub mod graph;
-pub mod holders;
+pub mod label_holders;
 pub mod labels;
 pub mod meeting;
-pub mod place;
 pub mod ranks;
 pub mod sorts;
 pub mod terms;
+pub mod value_places;
 
 pub use meeting::{meets, overlap};

@@ -13,12 +13,12 @@ ghost use Rattle.kp_overlap.specs.Solved.{is_ranked};
 ghost use Rattle.kp_overlap.specs.Views.{graph_view};
 
 use crate::graph::Graph;
-use crate::holders::{Holders, find_holders};
+use crate::label_holders::{Holders, find_holders};
 use crate::labels::{are_settled, labels};
-use crate::place::place_both;
 use crate::ranks::{Ranks, find_ranks};
 use crate::sorts::sorts_fit;
 use crate::terms::term_skeleton;
+use crate::value_places::place_both;
 use kp_heads::HeadTable;
 use kp_kore::Sort;
 use kp_rules::Skeleton;

@@ -8,7 +8,7 @@ ghost use Rattle.kp_overlap.specs.Ranked.{members, IsMadeOf, HasRank, HasLabelRa
 ghost use Rattle.kp_overlap.specs.Views.{shape_view};
 
 use crate::graph::PlaceShape;
-use crate::holders::{holder_of, nones};
+use crate::label_holders::{holder_of, nones};
 use std::alloc::{AllocError, Global};
 
 /// What is found: that some labels are made of each other, or each label's rank.

@@ -15,11 +15,11 @@ ghost use Rattle.kp_overlap.specs.Sorted.{HasHeadAt, HasHeadTold, HaveValue, Hav
 ghost use Rattle.kp_overlap.specs.Views.{shape_view, placed_view, graph_view};
 
 use crate::graph::{Graph, PlaceShape, PlacedSort};
-use crate::holders::holder_of;
-use kp_deciding::kinds::{has_numbers, has_tokens_of, has_truths, lies_below};
+use crate::label_holders::holder_of;
 use kp_ground::Value;
 use kp_heads::HeadTable;
 use kp_kore::{Sort, SymbolSentence};
+use kp_literals::value_kinds::{has_numbers, has_tokens_of, has_truths, lies_below};
 use kp_signature::Signature;
 use kp_signature::edges::add_edge;
 use kp_signature::symbols::is_constructor;

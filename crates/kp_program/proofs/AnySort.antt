@@ -17,7 +17,7 @@ use Rattle.kp_kore.proofs.ListLemmas.{all_map, any_map}
 use Rattle.kp_results.specs.Results as parts
 use Rattle.kp_results.specs.Results.{NextParts, Ending, ExecutedParts, IsPatternOf, IsNextOf, IsReasonOf, IsResultOf}
 use Rattle.kp_rpc.specs.Request.{ExecuteRequest}
-use Rattle.kp_replies.specs.Right.{asked_options}
+use Rattle.kp_replies.specs.RightReplies.{asked_options}
 use Rattle.kp_execute.specs.Laws.{MeansRight}
 use Rattle.kp_client.specs.Links.{IsRightRun}
 

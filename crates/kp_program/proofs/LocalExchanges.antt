@@ -20,30 +20,31 @@ use Rattle.kp_replies.specs.Aborted.{aborted_tree}
 use Rattle.kp_replies.specs.Failures.{Failure, undecided, failure_data, failure_error, failed_reply, failure_reply}
 use Rattle.kp_replies.specs.Read.{execute, implies, executed, UnfinishedParts, unfinished, implied, failed, read_reply}
 use Rattle.kp_replies.specs.Replies.{IsReplyOf, StandWith, unfinished_parts}
-use Rattle.kp_replies.specs.Right.{asked_options, IsMainAsked}
+use Rattle.kp_replies.specs.RightReplies.{asked_options, IsMainAsked}
 use Rattle.kp_replies.specs.Written.{executed_tree, simplified_tree, added_tree}
 use Rattle.kp_replies.proofs.AbortedBack.{aborted_back, aborted_no_implication}
 use Rattle.kp_replies.proofs.Alone.{run_line_alone, run_line_no_implication, implication_line_alone, implication_line_no_run}
 use Rattle.kp_replies.proofs.Texts.{line_read}
 use Rattle.kp_requests.specs.Requests as requests
 use Rattle.kp_requests.specs.Requests.{Asked, asks, refused, Call, Frame, single}
-use Rattle.kp_requests.specs.Read.{read_frame}
+use Rattle.kp_requests.specs.Calls.{read_frame}
 use Rattle.kp_requests.specs.Frames.{IsJson, Asks, no_json, json}
 use Rattle.kp_book.specs.Books.{Opening, Registration}
 use Rattle.kp_client.specs.Links.{Exchange, ToldTheory, IsRightRun, IsRightExchange}
 use Rattle.kp_conn.specs.Conversations.{line_of}
 use Rattle.kp_execute.specs.Answers as runs
 use Rattle.kp_execute.specs.Laws.{MeansRight}
-use Rattle.kp_execute_reply.specs.Answered as execution
-use Rattle.kp_execute_reply.specs.Answered.{IsExecutedAs, IsUnderstoodAs}
+use Rattle.kp_methods.specs.Executed as execution
+use Rattle.kp_methods.specs.Executed.{IsExecutedAs, IsUnderstoodAs}
 use Rattle.kp_symbolic.specs.Endings as endings
 use Rattle.kp_symbolic.specs.Endings.{Result, answered}
 use Rattle.kp_simplify.specs.Spelled.{parts_of_cause}
-use Rattle.kp_simplify_reply.specs.Answered as simplification
-use Rattle.kp_simplify_reply.specs.Answered.{IsSimplifiedAs}
-use Rattle.kp_server.specs.Setting.{Setting}
-use Rattle.kp_service.specs.Answered as implication
-use Rattle.kp_service.specs.Answered.{IsImpliedAs, IsReplyIn, no_such_module, in_module}
+use Rattle.kp_methods.specs.Simplified as simplification
+use Rattle.kp_methods.specs.Simplified.{IsSimplifiedAs}
+use Rattle.kp_methods.specs.ServedTheory.{ServedTheory}
+use Rattle.kp_methods.specs.Implied as implication
+use Rattle.kp_methods.specs.Implied.{IsImpliedAs}
+use Rattle.kp_service.specs.Answered.{IsReplyIn, no_such_module, in_module}
 use Rattle.kp_service.specs.Answers.{Adds, IsReplyTo, IsMember, told, added, silent, added_silently, IsAnswer, refusal, alone, together, items_of, batch_reply}
 use Rattle.kp_service.specs.Meant.{IsServedAt}
 use Rattle.kp_program.specs.Proofs.{IsMainTheory, told_theory, IsRepliedBy}
@@ -161,17 +162,17 @@ reason_stands (terminal id) ns r h = h.0
 reason_stands (aborted cause) ns r h = h.0
 
 -- what was asked, and what is served at this book
-record Setup (o : Opening) (t : Theory) (frame : List ℕ) (book : List Registration) (s : Setting) (name : Option Text) : Type 0 where
+record Setup (o : Opening) (t : Theory) (frame : List ℕ) (book : List Registration) (s : ServedTheory) (name : Option Text) : Type 0 where
   main : IsMainTheory o t
   tree : Data
   is_frame : IsFrame frame tree
   served : IsServedAt o book name s
 
-theory_is : (o : Opening) (t : Theory) (frame : List ℕ) (book : List Registration) (s : Setting) (name : Option Text) → Setup o t frame book s name → IsMainAsked o.main name → s.theory ≡ t
+theory_is : (o : Opening) (t : Theory) (frame : List ℕ) (book : List Registration) (s : ServedTheory) (name : Option Text) → Setup o t frame book s name → IsMainAsked o.main name → s.theory ≡ t
 theory_is o t frame book s name u asked = served_main o t book name s u.main asked u.served
 
 -- a right result, as it is written
-run_told : (o : Opening) (t : Theory) (frame : List ℕ) (book : List Registration) (s : Setting) (id : RequestId) (options : ExecuteOptions) (p : KorePattern) (x : ExecutedParts) (tree d : Data) →
+run_told : (o : Opening) (t : Theory) (frame : List ℕ) (book : List Registration) (s : ServedTheory) (id : RequestId) (options : ExecuteOptions) (p : KorePattern) (x : ExecutedParts) (tree d : Data) →
     (u : Setup o t frame book s options.module_name) → IsAsked u.tree id (requests.execute (read p) options) → MeansRight s.theory (asked_options options) p x → executed_tree x ≡ Some tree → d ≡ result_reply id tree → IsRightExchange (told_theory o t) (record { frame = frame; reply = reply_bytes d })
 run_told o t frame book s id options p x tree d u a means written is =
     let q : ExecuteRequest = record { id = id; state = p; options = options } in
@@ -193,8 +194,8 @@ run_told o t frame book s id options p x tree d u a means written is =
       implies_so = λ y h. absurd (run_line_no_implication id x tree (implied y) lawful short written (subst (λ (e : Data). IsReplyOf implies (reply_bytes e) (implied y)) is h));
     }
 
-left_open : (id : RequestId) (depth : ℕ) (state : StateParts) (u : Undecided) (d : Data) → IsReadId id → depth < 2 ^ 64 → execution.reply_of id (runs.left_open depth state u) ≡ Some d → TellsNothing (reply_bytes d)
-left_open id depth state u d lawful short made =
+what_is_undecided : (id : RequestId) (depth : ℕ) (state : StateParts) (u : Undecided) (d : Data) → IsReadId id → depth < 2 ^ 64 → execution.reply_of id (runs.what_is_undecided depth state u) ≡ Some d → TellsNothing (reply_bytes d)
+what_is_undecided id depth state u d lawful short made =
     let m = mapped (result_reply id) (aborted_tree depth state u) d made in
     subst (λ (y : Data). TellsNothing (reply_bytes y)) m.2 (record {
       no_run = λ x h. no_run_unfinished x (unfinished_parts depth state u) (aborted_back id depth state u m.0 (executed x) lawful short m.1 h);
@@ -205,15 +206,15 @@ below_bound : (depth : ℕ) (options : ExecuteOptions) → depth < bound_of opti
 below_bound depth options below =
     fits depth (bound_of options) (omega (arith, below)) (bounded options.max_depth options.module_name options.cut_points options.terminals)
 
-answer_told : (o : Opening) (t : Theory) (frame : List ℕ) (book : List Registration) (s : Setting) (id : RequestId) (options : ExecuteOptions) (p : KorePattern) (r : runs.RunAnswer) (d : Data) →
+answer_told : (o : Opening) (t : Theory) (frame : List ℕ) (book : List Registration) (s : ServedTheory) (id : RequestId) (options : ExecuteOptions) (p : KorePattern) (r : runs.RunAnswer) (d : Data) →
     (u : Setup o t frame book s options.module_name) → IsAsked u.tree id (requests.execute (read p) options) → runs.IsRightAnswer s.theory (asked_options options) p r → execution.reply_of id r ≡ Some d → IsRightExchange (told_theory o t) (record { frame = frame; reply = reply_bytes d })
 answer_told o t frame book s id options p (runs.executed x) d u a right made =
     let m = mapped (result_reply id) (executed_tree x) d made in
     run_told o t frame book s id options p x m.0 d u a right.means m.1 (sym m.2)
-answer_told o t frame book s id options p (runs.left_open depth state cause) d u a right made =
-    with_nothing (told_theory o t) frame (reply_bytes d) (left_open id depth state cause d (asked_id frame u.tree id _ u.is_frame a) (below_bound depth options right.below) made)
+answer_told o t frame book s id options p (runs.what_is_undecided depth state cause) d u a right made =
+    with_nothing (told_theory o t) frame (reply_bytes d) (what_is_undecided id depth state cause d (asked_id frame u.tree id _ u.is_frame a) (below_bound depth options right.below) made)
 
-understood : (o : Opening) (t : Theory) (frame : List ℕ) (book : List Registration) (s : Setting) (id : RequestId) (options : ExecuteOptions) (p : KorePattern) (d : Data) →
+understood : (o : Opening) (t : Theory) (frame : List ℕ) (book : List Registration) (s : ServedTheory) (id : RequestId) (options : ExecuteOptions) (p : KorePattern) (d : Data) →
     (u : Setup o t frame book s options.module_name) → IsAsked u.tree id (requests.execute (read p) options) → IsUnderstoodAs s id options p d → IsRightExchange (told_theory o t) (record { frame = frame; reply = reply_bytes d })
 understood o t frame book s id options p _ u a (execution.by_values d x) =
     let r = x.right in
@@ -222,7 +223,7 @@ understood o t frame book s id options p _ u a (execution.told r d clear right m
 understood o t frame book s id options p _ u a (execution.foreign name found) = with_nothing (told_theory o t) frame _ (error_told id (not_verified (foreign_symbol name)))
 understood o t frame book s id options p _ u a (execution.left_out untold) = with_nothing (told_theory o t) frame _ (error_told id (not_verified other_shape))
 
-run_replied : (o : Opening) (t : Theory) (frame : List ℕ) (book : List Registration) (s : Setting) (id : RequestId) (options : ExecuteOptions) (state : Reading KorePattern) (d : Data) →
+run_replied : (o : Opening) (t : Theory) (frame : List ℕ) (book : List Registration) (s : ServedTheory) (id : RequestId) (options : ExecuteOptions) (state : Reading KorePattern) (d : Data) →
     (u : Setup o t frame book s options.module_name) → IsAsked u.tree id (requests.execute state options) → IsExecutedAs s id options state d → IsRightExchange (told_theory o t) (record { frame = frame; reply = reply_bytes d })
 run_replied o t frame book s id options _ _ u a (execution.unread f) = with_nothing (told_theory o t) frame _ (error_told id (no_pattern f))
 run_replied o t frame book s id options _ _ u a (execution.faulty p f first) = with_nothing (told_theory o t) frame _ (error_told id (not_verified f))
@@ -233,7 +234,7 @@ run_replied o t frame book s id options _ _ u a (execution.understood p sort d v
 same_implication : (x y : Implied) → implied y ≡ implied x → y ≡ x
 same_implication x y e = cc e
 
-implication_told : (o : Opening) (t : Theory) (frame : List ℕ) (book : List Registration) (s : Setting) (id : RequestId) (name : Option Text) (p q : KorePattern) (d : Data) →
+implication_told : (o : Opening) (t : Theory) (frame : List ℕ) (book : List Registration) (s : ServedTheory) (id : RequestId) (name : Option Text) (p q : KorePattern) (d : Data) →
     (u : Setup o t frame book s name) → IsAsked u.tree id (requests.implies (read p) (read q) name) → implication.IsImplied s (record { id = id; antecedent = p; consequent = q; module_name = name }) d →
     IsRightExchange (told_theory o t) (record { frame = frame; reply = reply_bytes d })
 implication_told o t frame book s id name p q d u a r =
@@ -254,25 +255,25 @@ implication_told o t frame book s id name p q d u a r =
       };
     }
 
-implication_replied : (o : Opening) (t : Theory) (frame : List ℕ) (book : List Registration) (s : Setting) (id : RequestId) (name : Option Text) (left right : Reading KorePattern) (d : Data) →
+implication_replied : (o : Opening) (t : Theory) (frame : List ℕ) (book : List Registration) (s : ServedTheory) (id : RequestId) (name : Option Text) (left right : Reading KorePattern) (d : Data) →
     (u : Setup o t frame book s name) → IsAsked u.tree id (requests.implies left right name) → IsImpliedAs s id name left right d → IsRightExchange (told_theory o t) (record { frame = frame; reply = reply_bytes d })
 implication_replied o t frame book s id name _ _ _ u a (implication.bad_sides left right e wrong) = with_nothing (told_theory o t) frame _ (error_told id e)
 implication_replied o t frame book s id name _ _ _ u a (implication.implied p q d r) = implication_told o t frame book s id name p q d u a r
 
 -- ---- simplify
 
-simplify_understood : (s : Setting) (id : RequestId) (p : KorePattern) (d : Data) → IsReadId id → simplification.IsUnderstoodAs s.theory.signature id p d → TellsNothing (reply_bytes d)
+simplify_understood : (s : ServedTheory) (id : RequestId) (p : KorePattern) (d : Data) → IsReadId id → simplification.IsUnderstoodAs s.theory.signature id p d → TellsNothing (reply_bytes d)
 simplify_understood s id p _ lawful (simplification.told r d right made) = by r made
   where
     by : (x : Result Simplified) → simplification.reply_of id x ≡ Some d → TellsNothing (reply_bytes d)
     by (answered q) e =
         let m = mapped (λ tree. result_reply id tree) (simplified_tree (simplification.pattern_of q)) d e in
         subst (λ (y : Data). TellsNothing (reply_bytes y)) m.2 (simplified_told id (simplification.pattern_of q) m.0 lawful m.1)
-    by (endings.left_open cause) e = failure_told id (undecided (parts_of_cause cause)) d e
+    by (endings.what_is_undecided cause) e = failure_told id (undecided (parts_of_cause cause)) d e
 simplify_understood s id p _ lawful (simplification.foreign name found) = error_told id (not_verified (foreign_symbol name))
 simplify_understood s id p _ lawful (simplification.left_out untold) = error_told id (not_verified other_shape)
 
-simplify_replied : (s : Setting) (id : RequestId) (state : Reading KorePattern) (d : Data) → IsReadId id → IsSimplifiedAs s.theory.signature id state d → TellsNothing (reply_bytes d)
+simplify_replied : (s : ServedTheory) (id : RequestId) (state : Reading KorePattern) (d : Data) → IsReadId id → IsSimplifiedAs s.theory.signature id state d → TellsNothing (reply_bytes d)
 simplify_replied s id _ _ lawful (simplification.unread f) = error_told id (no_pattern f)
 simplify_replied s id _ _ lawful (simplification.faulty p f first) = error_told id (not_verified f)
 simplify_replied s id _ _ lawful (simplification.understood p sort d verifies x) = simplify_understood s id p d lawful x
@@ -302,8 +303,8 @@ call_asks frame call id r c named asked =
     let a = frame_asked c.tree call id r c.reads named asked in
     (a, object_frame frame c.tree a.members c.is_json a.tree)
 
-in_reply : (o : Opening) (t : Theory) (frame : List ℕ) (book : List Registration) (name : Option Text) (id : RequestId) (RightOver : Setting → Data → Type 0) (d : Data) →
-    ((s : Setting) → IsServedAt o book name s → RightOver s d → IsRightExchange (told_theory o t) (record { frame = frame; reply = reply_bytes d })) →
+in_reply : (o : Opening) (t : Theory) (frame : List ℕ) (book : List Registration) (name : Option Text) (id : RequestId) (RightOver : ServedTheory → Data → Type 0) (d : Data) →
+    ((s : ServedTheory) → IsServedAt o book name s → RightOver s d → IsRightExchange (told_theory o t) (record { frame = frame; reply = reply_bytes d })) →
     IsReplyIn o book name id RightOver d → IsRightExchange (told_theory o t) (record { frame = frame; reply = reply_bytes d })
 in_reply o t frame book name id RightOver _ right (no_such_module missing unbound) = with_nothing (told_theory o t) frame _ (error_told id (no_module missing))
 in_reply o t frame book name id RightOver _ right (in_module s d served over) = right s served over

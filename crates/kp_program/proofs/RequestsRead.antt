@@ -17,7 +17,7 @@ use Rattle.kp_rpc.proofs.HeadingsRead.{request_is}
 use Rattle.kp_rpc.proofs.ParamsRead.{params_found, sides_found, side_told}
 use Rattle.kp_rpc.proofs.IdsRead.{id_read}
 use Rattle.kp_requests.specs.Requests.{Request, execute, implies, simplify, add_module, asks, refused, Call, single}
-use Rattle.kp_requests.specs.Read.{asked_of, call_from, is_two, or_invalid_params, read_call, read_call_id, read_execute, read_flag, read_implies, read_simplify, read_add_module, read_batch, read_frame}
+use Rattle.kp_requests.specs.Calls.{asked_of, call_from, is_two, or_invalid_params, read_call, read_call_id, read_execute, read_flag, read_implies, read_simplify, read_add_module, read_batch, read_frame}
 
 from_some : {A : Type 0} (x y : A) → Some x ≡ Some y → x ≡ y
 from_some x y e = cc e

@@ -12,8 +12,8 @@ use Rattle.kp_book.specs.Books.{Opening, Registration, rules_in, first_of, rules
 use Rattle.kp_modules.specs.Openings as openings
 use Rattle.kp_modules.specs.Openings.{bound_in, opening_of}
 use Rattle.kp_modules.specs.declared.table.ModuleTable.{ModuleTable}
-use Rattle.kp_replies.specs.Right.{IsMainAsked}
-use Rattle.kp_server.specs.Setting.{Setting, IsSetting}
+use Rattle.kp_replies.specs.RightReplies.{IsMainAsked}
+use Rattle.kp_methods.specs.ServedTheory.{ServedTheory, IsServedTheory}
 use Rattle.kp_service.specs.Meant.{module_asked, IsServedAt}
 use Rattle.kp_program.specs.Proofs.{IsMainTheory}
 
@@ -62,7 +62,7 @@ meant : (o : Opening) (book : List Registration) (axioms : List NumberedAxiom) �
 meant o book axioms bound = ap (λ x. first_of x (rules_bound book o.main)) bound
 
 -- what is served where main is asked is the main module's theory
-pub served_main : (o : Opening) (t : Theory) (book : List Registration) (asked : Option Text) (s : Setting) → IsMainTheory o t → IsMainAsked o.main asked → IsServedAt o book asked s → s.theory ≡ t
+pub served_main : (o : Opening) (t : Theory) (book : List Registration) (asked : Option Text) (s : ServedTheory) → IsMainTheory o t → IsMainAsked o.main asked → IsServedAt o book asked s → s.theory ≡ t
 served_main o t book asked s is main served =
     let named : meaning_in o book o.main ≡ Some served.axioms = ap (meaning_in o book) (sym (main_named o asked main)) ∙ served.bound in
     let same : served.axioms ≡ is.axioms = from_some served.axioms is.axioms (sym named ∙ meant o book is.axioms is.bound) in
@@ -80,7 +80,7 @@ bound_axioms : (d : KoreDefinition) (name : Text) (axioms : List NumberedAxiom) 
 bound_axioms d name axioms [] e = absurd (cc e)
 bound_axioms d name axioms (m ∷ ms) e = bound_here d name axioms m (bytes_eq name m.name) (rules_in (bound_in d ms) name) refl (bound_axioms d name axioms ms) e
 
-pub main_theory : (d : KoreDefinition) (main : Text) (s : Setting) (table : ModuleTable) → IsSetting d main s → openings.IsTableOf (opening_of d main) table → IsMainTheory (opening_of d main) s.theory
+pub main_theory : (d : KoreDefinition) (main : Text) (s : ServedTheory) (table : ModuleTable) → IsServedTheory d main s → openings.IsTableOf (opening_of d main) table → IsMainTheory (opening_of d main) s.theory
 main_theory d main s table is opens =
     let same = bound_axioms d main opens.axioms (modules_reached d main) opens.bound in
     let rules = subst (λ (h : KoreSignature). AllZip (IsRuleOf h (labels_of (rewrite_axioms (modules_reached d main)))) (rewrite_axioms (modules_reached d main)) s.theory.rules) is.means.signature is.means.rules in

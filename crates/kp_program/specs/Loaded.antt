@@ -4,7 +4,7 @@ use Rattle.kp_kore.specs.Syntax.{Text, KoreDefinition}
 use Rattle.kp_io.specs.Outside.{Names}
 use Rattle.kp_text.specs.Spelling.{SpellsDefinition}
 use Rattle.kp_program.specs.Faults.{IsFaultless}
-use Rattle.kp_server.specs.Setting.{Setting, IsSetting}
+use Rattle.kp_methods.specs.ServedTheory.{ServedTheory, IsServedTheory}
 
 pub record IsLoaded (names : Option Names) (name main : Text) : Type 0 where
   pub file : List ℕ
@@ -12,5 +12,5 @@ pub record IsLoaded (names : Option Names) (name main : Text) : Type 0 where
   pub faultless : IsFaultless file main
   pub definition : KoreDefinition
   pub spells : SpellsDefinition file definition
-  pub setting : Setting
-  pub is_setting : IsSetting definition main setting
+  pub setting : ServedTheory
+  pub is_setting : IsServedTheory definition main setting

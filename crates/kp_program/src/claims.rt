@@ -1,14 +1,14 @@
 ghost use Rattle.std.specs.Prelude.{◌≡◌, ◌≤◌, IfErr, IfOk, length};
 ghost use Rattle.kp_io.specs.Outside.{Rose, load_limit};
 ghost use Rattle.kp_program.specs.ClaimFiles.{AreClaimsAt, AreClaimsIn, IsClaimsTrouble};
-ghost use Rattle.kp_server.specs.Setting.{IsSettingOf, Setting};
+ghost use Rattle.kp_methods.specs.ServedTheory.{IsServedTheoryOf, ServedTheory};
 ghost use Rattle.kp_program.specs.Troubles.{AreFaulty};
 
 use crate::trouble::{FileFault, Trouble, claim_trouble, file_trouble, no_file};
 use kp_claims::{ClaimItem, read_claims};
 use kp_io::{LoadFault, Shelf};
+use kp_methods::rules_of;
 use kp_modules::ModuleTable;
-use kp_server::rules_of;
 use std::alloc::Global;
 
 /// The claims in the file of this name, over a table's signature.
@@ -18,9 +18,9 @@ pub fn load_claims<H: Shelf>(
     name: &str,
     table: &ModuleTable,
 ) -> Result<Vec<ClaimItem>, Trouble>
-    ensures loaded { (s : Setting) → IsSettingOf s table.now → IfOk result (λ claims. AreClaimsAt (H.names shelf.old) name.now s.theory.signature claims.items) }
+    ensures loaded { (s : ServedTheory) → IsServedTheoryOf s table.now → IfOk result (λ claims. AreClaimsAt (H.names shelf.old) name.now s.theory.signature claims.items) }
     ensures trouble { let Failed = Rose (H.fault_count shelf.old) (H.fault_count shelf.new) in
-        (s : Setting) → IsSettingOf s table.now → IfErr result (IsClaimsTrouble (H.names shelf.old) name.now s.theory.signature Failed) }
+        (s : ServedTheory) → IsServedTheoryOf s table.now → IfErr result (IsClaimsTrouble (H.names shelf.old) name.now s.theory.signature Failed) }
     ensures kept { H.names shelf.new ≡ H.names shelf.old }
     ensures never_falls { H.fault_count shelf.old ≤ H.fault_count shelf.new }
 {
@@ -40,8 +40,8 @@ fn claims_of(
     bytes: &[u8],
     table: &ModuleTable,
 ) -> Result<Vec<ClaimItem>, Trouble>
-    ensures claims { (s : Setting) → IsSettingOf s table.now → IfOk result (λ claims. AreClaimsIn s.theory.signature bytes.now claims.items) }
-    ensures fault { (s : Setting) → IsSettingOf s table.now → length bytes.now ≤ load_limit → IfErr result (AreFaulty s.theory.signature bytes.now name.now) }
+    ensures claims { (s : ServedTheory) → IsServedTheoryOf s table.now → IfOk result (λ claims. AreClaimsIn s.theory.signature bytes.now claims.items) }
+    ensures fault { (s : ServedTheory) → IsServedTheoryOf s table.now → length bytes.now ≤ load_limit → IfErr result (AreFaulty s.theory.signature bytes.now name.now) }
 {
     match read_claims(alloc, bytes, &rules_of(table).signature) {
         Ok(claims) => Ok(claims),

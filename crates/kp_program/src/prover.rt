@@ -13,7 +13,7 @@ ghost use Rattle.kp_client.specs.View.{outcome_view};
 ghost use Rattle.kp_report.specs.View.{line_view};
 ghost use Rattle.kp_program.specs.ClaimFiles.{AreGround, IsGroundClaim};
 ghost use Rattle.kp_program.specs.Commands.{prove_view};
-ghost use Rattle.kp_server.specs.Setting.{IsSettingOf};
+ghost use Rattle.kp_methods.specs.ServedTheory.{IsServedTheoryOf};
 ghost use Rattle.kp_program.specs.Loaded.{IsLoaded};
 ghost use Rattle.kp_program.specs.Does.{MayProve};
 ghost use Rattle.kp_program.specs.LocalTold.{IsReadyService, IsTheoryOver, table_of};
@@ -69,13 +69,13 @@ fn prove_over<H: Shelf, O: Sink>(
     out: &mut O,
 ) -> Result<u8, Trouble>
     ensures proved { let names = H.names shelf.old in let command' = prove_view command.now in
-        (l : IsLoaded names command'.definition command'.main) → IsSettingOf l.setting table → IsTableOf (opening_of l.definition command'.main) table → IfOk result (Proved names (Appends (O.held out.old) (O.held out.new)) command') }
+        (l : IsLoaded names command'.definition command'.main) → IsServedTheoryOf l.setting table → IsTableOf (opening_of l.definition command'.main) table → IfOk result (Proved names (Appends (O.held out.old) (O.held out.new)) command') }
     ensures cause { let Failed = Rose (H.fault_count shelf.old) (H.fault_count shelf.new) ⊎ Rose (O.fault_count out.old) (O.fault_count out.new) in
         let command' = prove_view command.now in
-        (words : List (List ℕ)) (l : IsLoaded (H.names shelf.old) command'.definition command'.main) → IsSettingOf l.setting table → IsTableOf (opening_of l.definition command'.main) table → SpellsProve words command' → IfErr result (HasCause (H.names shelf.old) words Failed) }
+        (words : List (List ℕ)) (l : IsLoaded (H.names shelf.old) command'.definition command'.main) → IsServedTheoryOf l.setting table → IsTableOf (opening_of l.definition command'.main) table → SpellsProve words command' → IfErr result (HasCause (H.names shelf.old) words Failed) }
     ensures untouched { IfErr result (λ trouble. trouble_status (ending_of trouble) ≤ 5 → O.held out.new ≡ O.held out.old) }
     ensures front { let names = H.names shelf.old in let command' = prove_view command.now in
-        (l : IsLoaded names command'.definition command'.main) → IsSettingOf l.setting table → IsTableOf (opening_of l.definition command'.main) table → OnErr result (MayProve names (O.held out.old) (O.held out.new) command') }
+        (l : IsLoaded names command'.definition command'.main) → IsServedTheoryOf l.setting table → IsTableOf (opening_of l.definition command'.main) table → OnErr result (MayProve names (O.held out.old) (O.held out.new) command') }
     ensures files_kept { H.names shelf.new ≡ H.names shelf.old }
     ensures shelf_count { H.fault_count shelf.old ≤ H.fault_count shelf.new }
     ensures out_count { O.fault_count out.old ≤ O.fault_count out.new }

@@ -14,7 +14,7 @@ use Rattle.kp_book.specs.Books.{Opening, Registration, IsDuplicate, by_opening, 
 use Rattle.kp_modules.specs.Openings.{IsTableOf}
 use Rattle.kp_modules.specs.Tables.{does_reach}
 use Rattle.kp_modules.specs.declared.table.ModuleTable.{ModuleTable}
-use Rattle.kp_extensions.specs.OwnSets.{MeansRules}
+use Rattle.kp_modules.specs.OwnSets.{MeansRules}
 use Rattle.kp_registry.specs.Passes.{IsEntryOf, first_binding, binds_name, is_either, MeansAt}
 use Rattle.kp_registry.specs.Refusals.{IsFree}
 use Rattle.kp_registry.specs.declared.seen.Entry.{Entry}

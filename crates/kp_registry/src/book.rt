@@ -10,9 +10,8 @@ ghost use Rattle.kp_registry.specs.Refusals.{IsRefused, IsWelcome, TellsAlsoDupl
 use crate::entries::MOST_ENTRIES;
 use crate::id::{Id, id_of};
 use crate::seen::{Entry, Pass, Ready};
-use kp_extensions::rules_of;
 use kp_kore::{Module, Name};
-use kp_modules::ModuleTable;
+use kp_modules::{ModuleTable, rules_of};
 use kp_rule_sets::RuleSet;
 use std::alloc::{AllocError, Global};
 use std::sync::Arc;

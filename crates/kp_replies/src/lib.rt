@@ -5,7 +5,6 @@
 #![tactic(auto)]
 
 mod aborted;
-pub mod examples;
 mod executed;
 mod failure;
 mod implied;

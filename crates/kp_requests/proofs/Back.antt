@@ -17,7 +17,7 @@ use Rattle.kp_rpc.proofs.OptionsRead.{options_told}
 use Rattle.kp_rpc.proofs.QuestionsRead.{lawful, add_module_tree_read}
 use Rattle.kp_requests.specs.Frames.{IsJson}
 use Rattle.kp_requests.specs.Requests.{Request, execute, implies, simplify, add_module, asks, Frame, single}
-use Rattle.kp_requests.specs.Read.{call_from, asked_of, or_invalid_params, read_frame, read_execute, read_implies, read_simplify}
+use Rattle.kp_requests.specs.Calls.{call_from, asked_of, or_invalid_params, read_frame, read_execute, read_implies, read_simplify}
 use Rattle.kp_requests.specs.Asked.{simplify_params, simplify_tree, add_module_params, add_module_tree}
 
 from_some : {A : Type 0} (x y : A) → Some x ≡ Some y → x ≡ y

@@ -7,7 +7,7 @@ use Rattle.serde_json.specs.View.{view, items_view}
 use Rattle.serde_json.specs.declared.value.Value.{Value}
 use Rattle.kp_rpc.specs.Frame.{IsFrame}
 use Rattle.kp_requests.specs.Requests.{Call, Frame, batch}
-use Rattle.kp_requests.specs.Read.{read_calls, read_batch, read_frame}
+use Rattle.kp_requests.specs.Calls.{read_calls, read_batch, read_frame}
 use Rattle.kp_requests.specs.Frames.{IsJson, Asks, no_json, json}
 use Rattle.kp_requests.specs.View.{parsed_view}
 use Rattle.kp_requests.specs.declared.frame.Parsed.{Parsed}

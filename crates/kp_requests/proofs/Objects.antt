@@ -9,7 +9,7 @@ use Rattle.kp_rpc.specs.Request.{RequestId, IsIdTree}
 use Rattle.kp_rpc.specs.Readings.{read_id, read_object}
 use Rattle.kp_rpc.specs.Reply.{method_not_found}
 use Rattle.kp_requests.specs.Requests.{refused}
-use Rattle.kp_requests.specs.Read.{asked_of, read_call_id, is_two, invalid_call, call_from, read_call}
+use Rattle.kp_requests.specs.Calls.{asked_of, read_call_id, is_two, invalid_call, call_from, read_call}
 use Rattle.kp_requests.specs.Objects.{IdAt, IsRequestObject}
 
 -- ---- ids

@@ -6,7 +6,7 @@ use Rattle.serde_json.specs.Read.{read}
 use Rattle.kp_frames.specs.Frames.{most_frame}
 use Rattle.kp_rpc.specs.Reply.{parse_error}
 use Rattle.kp_requests.specs.Requests.{Frame, refused_whole}
-use Rattle.kp_requests.specs.Read.{read_frame}
+use Rattle.kp_requests.specs.Calls.{read_frame}
 
 -- the bytes are the text of this JSON value, with or without white space around it
 pub record IsJson (bytes : List ℕ) (d : Data) : Type 0 where

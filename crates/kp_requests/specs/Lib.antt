@@ -1,6 +1,6 @@
 pub mod Asked
 pub mod Frames
 pub mod Objects
-pub mod Read
+pub mod Calls
 pub mod Requests
 pub mod View

@@ -2,7 +2,7 @@ ghost use Rattle.std.specs.Prelude.{◌≡◌, option_map, IfOk, codes};
 ghost use Rattle.serde_json.specs.Find.{get};
 ghost use Rattle.serde_json.specs.View.{view};
 ghost use Rattle.kp_rpc.specs.View.{id_view};
-ghost use Rattle.kp_requests.specs.Read.{or_invalid_params, asked_of as spec_asked_of, read_call_id, echoed, invalid_call, read_call};
+ghost use Rattle.kp_requests.specs.Calls.{or_invalid_params, asked_of as spec_asked_of, read_call_id, echoed, invalid_call, read_call};
 ghost use Rattle.kp_requests.specs.View.{request_view, asked_view, call_view};
 
 use crate::params::{add_module_of, execute_of, implies_of, simplify_of};

@@ -2,7 +2,7 @@ ghost use Rattle.std.specs.Prelude.{◌≡◌, IfOk, IfSome, IfNone};
 ghost use Rattle.serde_json.specs.Data.{Data};
 ghost use Rattle.serde_json.specs.View.{view, items_view};
 ghost use Rattle.kp_requests.specs.Frames.{IsJson, Asks};
-ghost use Rattle.kp_requests.specs.Read.{read_batch, read_calls, read_frame};
+ghost use Rattle.kp_requests.specs.Calls.{read_batch, read_calls, read_frame};
 ghost use Rattle.kp_requests.specs.View.{calls_view, parsed_view};
 
 use crate::call::{Call, call_of};

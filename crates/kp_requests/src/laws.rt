@@ -12,7 +12,7 @@ ghost use Rattle.kp_rpc.specs.Reply.{invalid_request, method_not_found};
 ghost use Rattle.kp_rpc.specs.Questions.{IsAskable, IsLawfulId, question_tree, to_execute, to_imply, to_add};
 ghost use Rattle.kp_requests.specs.Asked.{simplify_tree, add_module_tree};
 ghost use Rattle.kp_requests.specs.Frames.{Asks, IsJson};
-ghost use Rattle.kp_requests.specs.Read.{asked_of, echoed, read_call, read_frame};
+ghost use Rattle.kp_requests.specs.Calls.{asked_of, echoed, read_call, read_frame};
 ghost use Rattle.kp_requests.specs.Objects.{IsRequestObject};
 ghost use Rattle.kp_requests.specs.Requests.{Frame, execute, implies, simplify, add_module, asks, refused, single};
 

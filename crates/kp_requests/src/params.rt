@@ -3,7 +3,7 @@ ghost use Rattle.serde_json.specs.Find.{get};
 ghost use Rattle.serde_json.specs.View.{view};
 ghost use Rattle.kp_json.specs.Faults.{wrapped_reading};
 ghost use Rattle.kp_requests.specs.Requests.{implies, simplify};
-ghost use Rattle.kp_requests.specs.Read.{read_flag, read_execute, read_implies, read_simplify, read_add_module};
+ghost use Rattle.kp_requests.specs.Calls.{read_flag, read_execute, read_implies, read_simplify, read_add_module};
 ghost use Rattle.kp_requests.specs.View.{reading_view, request_view};
 
 use crate::request::{Reading, Request};

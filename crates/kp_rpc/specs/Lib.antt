@@ -1,4 +1,3 @@
-pub mod Examples
 pub mod Frame
 pub mod Questions
 pub mod Readings

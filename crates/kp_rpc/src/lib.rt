@@ -4,7 +4,6 @@
 // kp_requests; replies with a result are kp_replies'.
 #![tactic(auto)]
 
-pub mod examples;
 mod fault;
 mod frame;
 mod id;

@@ -5,7 +5,7 @@ use Rattle.kp_kore.specs.Parts.{free_variables}
 use Rattle.kp_kore.specs.Signature.{KoreSignature}
 use Rattle.kp_kore.specs.Rules as model
 use Rattle.kp_ground.specs.Slots.{is_numbered, left_places, left_variables, term_reads, condition_reads}
-use Rattle.kp_ground.specs.declared.left.CompiledLeft.{CompiledLeft}
+use Rattle.kp_ground.specs.declared.left_side.CompiledLeft.{CompiledLeft}
 use Rattle.kp_ground.specs.declared.term.CompiledTerm.{CompiledTerm}
 use Rattle.kp_ground.specs.declared.condition.Condition.{Condition}
 use Rattle.kp_compile.specs.Exact.{HasPlacesOf, are_named}

@@ -8,10 +8,10 @@ use Rattle.kp_signature.specs.Edges.{stays, goes, IsNumber, IsReachedFrom}
 use Rattle.kp_signature.specs.Order.{sorts_of}
 use Rattle.kp_signature.proofs.Below.{onwards}
 use Rattle.kp_signature.proofs.OrderLemmas.{one_sort, sort_below, number_below, under_is_below, below_is_under, none_below}
-use Rattle.kp_sort_index.specs.Index.{IsIndexOf, IsAlone, AreOpposite, OwnsHeads, Under, Over, NumberMeet, SetMeet, IsSettled, up}
-use Rattle.kp_sort_index.specs.declared.sort_index.SortIndex.{SortIndex}
-use Rattle.kp_sort_index.proofs.IndexLemmas.{one_own}
-use Rattle.kp_sort_index.proofs.SplitLemmas.{under_over, over_under}
+use Rattle.kp_rules.specs.Index.{IsIndexOf, IsAlone, AreOpposite, OwnsHeads, Under, Over, NumberMeet, SetMeet, IsSettled, up}
+use Rattle.kp_rules.specs.declared.sort_index.SortIndex.{SortIndex}
+use Rattle.kp_rules.proofs.IndexLemmas.{one_own}
+use Rattle.kp_rules.proofs.SplitLemmas.{under_over, over_under}
 use Rattle.kp_rule_reading.specs.Lone.{SortSplits, NumberSplits}
 
 -- ---- sets of numbers

@@ -12,7 +12,7 @@ use Rattle.kp_kore.specs.View.{sorted_variable_view, sort_view}
 use Rattle.kp_kore.specs.declared.pattern_free.SortedVariable.{SortedVariable}
 use Rattle.kp_kore.specs.Instance.{is_named}
 use Rattle.kp_kore.specs.Foreign.{repeats_literals_only}
-use Rattle.kp_rule_reading.specs.Reading.{Names, is_condition_part, is_predicate_read}
+use Rattle.kp_rule_reading.specs.ReadRules.{Names, is_condition_part, is_predicate_read}
 
 -- the names so far and those of what is left are all names
 abbrev pub Fills : {S : Type 0} → IndexSet (String Global) S → List SortedVariable → ℕ → Type 0

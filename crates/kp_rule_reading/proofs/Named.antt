@@ -13,7 +13,7 @@ use Rattle.kp_signature.proofs.RuleSides.{sides_of, no_binders, holds_of_term}
 use Rattle.kp_ground.specs.Slots.{is_one_of}
 use Rattle.kp_compile.specs.Exact.{are_named}
 use Rattle.kp_compile.proofs.Reading.{both_so}
-use Rattle.kp_rule_reading.specs.Reading.{is_binder, is_predicate_read, RightPasses}
+use Rattle.kp_rule_reading.specs.ReadRules.{is_binder, is_predicate_read, RightPasses}
 use Rattle.kp_rule_reading.proofs.PlainRules.{no_binder}
 use Rattle.kp_rule_reading.proofs.ReadParts.{both_true}
 

@@ -11,7 +11,7 @@ use Rattle.kp_kore.specs.View.{sorted_variable_view}
 use Rattle.kp_kore.specs.declared.pattern_free.SortedVariable.{SortedVariable}
 use Rattle.kp_kore.specs.Instance.{is_named}
 use Rattle.kp_kore.specs.Rules.{top_binders, new_variables_of}
-use Rattle.kp_rule_reading.specs.Reading.{Names}
+use Rattle.kp_rule_reading.specs.ReadRules.{Names}
 
 same_filter : (f h : SortedName → Bool) → ((x : SortedName) → f x ≡ h x) → (xs : List SortedName) → filter f xs ≡ filter h xs
 same_filter f h e [] = refl

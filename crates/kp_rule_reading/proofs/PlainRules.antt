@@ -7,7 +7,7 @@ use Rattle.kp_kore.specs.Parts.{SortedName, free_variables}
 use Rattle.kp_kore.specs.Instance.{is_named}
 use Rattle.kp_kore.specs.Rules.{Rewrite, top_binders, new_variables_of}
 use Rattle.kp_rules.specs.Bodies.{IsTop, IsPlain}
-use Rattle.kp_rule_reading.specs.Reading.{is_binder, is_top_pattern, is_plain_by}
+use Rattle.kp_rule_reading.specs.ReadRules.{is_binder, is_top_pattern, is_plain_by}
 use Rattle.kp_rule_reading.proofs.ReadParts.{both_true, and_true}
 
 binders : (p : KorePattern) → MatchBool (is_binder p) (top_binders p ≡ [] → ⊥) (top_binders p ≡ [])

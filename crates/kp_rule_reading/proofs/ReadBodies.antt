@@ -20,7 +20,7 @@ use Rattle.kp_signature.specs.declared.error.VerifyError.{VerifyError}
 use Rattle.kp_compile.specs.Verified.{misapplies_injection}
 use Rattle.kp_rules.specs.Bodies.{IsBodyOf, IsReadAs, IsRewriteOf, IsVerifiedLeft, IsConstrained, HasFault, IsFaulty}
 use Rattle.kp_rule_reading.specs.Priorities.{Tells}
-use Rattle.kp_rule_reading.specs.Reading.{IsStatementRead, IsReadBody, IsMadeOf, IsSound, IsShapeRead, IsLeftSideRead, is_plain_by, rule_error}
+use Rattle.kp_rule_reading.specs.ReadRules.{IsStatementRead, IsReadBody, IsMadeOf, IsSound, IsShapeRead, IsLeftSideRead, is_plain_by, rule_error}
 use Rattle.kp_rule_reading.specs.declared.read.RuleError.TheVariants.{Fault}
 use Rattle.kp_rules.specs.Shapes.{seen}
 use Rattle.kp_rule_reading.specs.declared.priority.Priority.{Priority}

@@ -9,7 +9,7 @@ use Rattle.kp_kore.specs.Instance.{is_named}
 use Rattle.kp_kore.specs.Rules.{Rewrite, rewrite_of}
 use Rattle.kp_kore.specs.Limits.{most_depth}
 use Rattle.kp_kore.specs.Foreign.{IsRead, none_within, applies_foreign, has_interpreted_head, is_set_variable, is_wide_literal, is_quantifier, is_floor_of_term, repeats_literals_only}
-use Rattle.kp_rule_reading.specs.Reading.{is_part_read, is_condition_part, is_predicate_read, is_left_read, IsLeftSideRead, IsStatementRead}
+use Rattle.kp_rule_reading.specs.ReadRules.{is_part_read, is_condition_part, is_predicate_read, is_left_read, IsLeftSideRead, IsStatementRead}
 
 pub both_true : (a b : Bool) → a && b ≡ true → (a ≡ true) × (b ≡ true)
 both_true true b h = (refl, h)

@@ -12,7 +12,7 @@ use Rattle.kp_kore.specs.View.{view}
 use Rattle.kp_kore.specs.Instance.{is_named}
 use Rattle.kp_kore.specs.Rules.{Rewrite, rewrite_of}
 use Rattle.kp_kore.specs.Foreign.{LoneVariableSplits}
-use Rattle.kp_rule_reading.specs.Reading.{Names, IsShapeRead, IsLeftSideRead, is_left_read, is_predicate_read, is_side_read, is_binder, is_top_pattern, is_plain_by}
+use Rattle.kp_rule_reading.specs.ReadRules.{Names, IsShapeRead, IsLeftSideRead, is_left_read, is_predicate_read, is_side_read, is_binder, is_top_pattern, is_plain_by}
 use Rattle.kp_rules.specs.Shapes.{seen, rewrite_seen}
 use Rattle.kp_rules.specs.declared.shape.Shape.{Shape}
 use Rattle.kp_rule_reading.proofs.NameSets.{same_names, same_predicates}

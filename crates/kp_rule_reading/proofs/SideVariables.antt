@@ -26,7 +26,7 @@ use Rattle.kp_compile.specs.Verified.{misapplies_injection}
 use Rattle.kp_compile.proofs.Reading.{both_so}
 use Rattle.kp_rules.specs.Known.{is_among, is_known}
 use Rattle.kp_rules.specs.VerifiedSides.{is_old_or_new, IsOfLeft, IsOfBoth, AreVerifiedSides}
-use Rattle.kp_rule_reading.specs.Reading.{IsSound}
+use Rattle.kp_rule_reading.specs.ReadRules.{IsSound}
 use Rattle.kp_rule_reading.proofs.KnownSides.{neither, first_so, StandsBound, stands_bound, own_members, differ, named_in_both, known_variable, all_so, ensured_is}
 use Rattle.kp_rule_reading.proofs.Named.{conjuncts_pass}
 use Rattle.kp_rule_reading.proofs.VerifiedSides.{condition_is, sound, ensured_verified}

@@ -21,7 +21,7 @@ use Rattle.kp_signature.proofs.VerifiedMembers.{StandsVerified, conjuncts_stand,
 use Rattle.kp_signature.proofs.RuleSides.{sides_of, holds_of_term}
 use Rattle.kp_compile.specs.Verified.{misapplies_injection, IsVerified, IsVerifiedTerm, IsVerifiedPredicate}
 use Rattle.kp_rules.specs.VerifiedSides.{IsVerifiedEnsured}
-use Rattle.kp_rule_reading.specs.Reading.{IsSound}
+use Rattle.kp_rule_reading.specs.ReadRules.{IsSound}
 use Rattle.kp_rule_reading.proofs.Declared.{none_foreign}
 use Rattle.kp_rule_reading.proofs.KnownSides.{ensured_is}
 

@@ -2,5 +2,5 @@ pub mod Compiled
 pub mod LeftForms
 pub mod Lone
 pub mod Priorities
-pub mod Reading
+pub mod ReadRules
 pub mod Tests

@@ -4,8 +4,8 @@ use Rattle.std.specs.List.{Contains}
 use Rattle.kp_kore.specs.Syntax.{KoreSort}
 use Rattle.kp_kore.specs.Signature.{KoreSignature, Head}
 use Rattle.kp_kore.specs.Foreign.{IsCommonHead, Meet}
-use Rattle.kp_sort_index.specs.Index.{IsShared, NumberMeet, Under, Over}
-use Rattle.kp_sort_index.specs.declared.sort_index.SortIndex.{SortIndex}
+use Rattle.kp_rules.specs.Index.{IsShared, NumberMeet, Under, Over}
+use Rattle.kp_rules.specs.declared.sort_index.SortIndex.{SortIndex}
 
 -- each sort that has heads in common with this one has a meet with it
 abbrev pub SortSplits : KoreSignature → KoreSort → Type 0

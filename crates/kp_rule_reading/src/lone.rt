@@ -3,13 +3,13 @@ ghost use Rattle.std.specs.Prelude.{◌≡◌, ◌↔◌, ℕ, IfOk, IsTrue, Mat
 ghost use Rattle.kp_kore.specs.Foreign.{LoneVariableSplits};
 ghost use Rattle.kp_kore.specs.View.{view, sort_view};
 ghost use Rattle.kp_signature.specs.View.{signature_view};
-ghost use Rattle.kp_sort_index.specs.Index.{IsIndexOf, AreOpposite};
+ghost use Rattle.kp_rules.specs.Index.{IsIndexOf, AreOpposite};
 ghost use Rattle.kp_rule_reading.specs.Lone.{SortSplits, NumberSplits, AreBelow, AreAbove};
 
 use kp_kore::{Pattern, Sort};
+use kp_rules::sort_index::SortIndex;
 use kp_signature::Signature;
 use kp_signature::edges::Numbers;
-use kp_sort_index::sort_index::SortIndex;
 use std::alloc::{AllocError, Global};
 
 /// Whether the left term isn't a variable alone, or is one of a sort that has a meet with each sort that shares heads

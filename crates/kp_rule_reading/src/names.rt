@@ -6,7 +6,7 @@ ghost use Rattle.kp_kore.specs.Signature.{has_literals as literals_test};
 ghost use Rattle.kp_kore.specs.View.{sort_view, sorted_variable_view};
 ghost use Rattle.kp_kore.specs.Foreign.{repeats_literals_only as repeats_test};
 ghost use Rattle.kp_signature.specs.View.{signature_view};
-ghost use Rattle.kp_rule_reading.specs.Reading.{Names};
+ghost use Rattle.kp_rule_reading.specs.ReadRules.{Names};
 
 use indexmap::IndexSet;
 use kp_compile::NameSet;

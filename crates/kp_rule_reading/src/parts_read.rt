@@ -9,17 +9,17 @@ ghost use Rattle.std.specs.Str.Parse.{signed_digits_value};
 ghost use Rattle.kp_signature.specs.View.{signature_view};
 ghost use Rattle.kp_signature.specs.Meanings.{meaning_view};
 ghost use Rattle.kp_compile.specs.Verified.{is_injection_meaning, misapplies_injection as misapplied};
-ghost use Rattle.kp_sort_index.specs.Index.{IsIndexOf};
-ghost use Rattle.kp_rule_reading.specs.Reading.{is_part_read, is_condition_part};
+ghost use Rattle.kp_rules.specs.Index.{IsIndexOf};
+ghost use Rattle.kp_rule_reading.specs.ReadRules.{is_part_read, is_condition_part};
 ghost use Rattle.kp_rules.specs.Shapes.{seen};
 
 use crate::depth::is_within;
 use kp_compile::is_term;
 use kp_kore::{Name, Pattern};
+use kp_rules::inject::is_split;
+use kp_rules::sort_index::SortIndex;
 use kp_signature::rules::is_numeral;
 use kp_signature::{MOST_DEPTH, Meaning, Signature, meaning_of};
-use kp_sort_index::inject::is_split;
-use kp_sort_index::sort_index::SortIndex;
 use std::alloc::{AllocError, Global};
 use std::num::ParseIntError;
 

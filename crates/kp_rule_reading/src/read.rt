@@ -15,10 +15,10 @@ ghost use Rattle.kp_signature.specs.View.{signature_view};
 ghost use Rattle.kp_compile.specs.Verified.{misapplies_injection};
 ghost use Rattle.kp_compile.specs.declared.error.CompileError.TheVariants as compiling;
 ghost use Rattle.kp_rules.specs.Bodies.{IsReadAs, IsBodyOf, HasFault, IsFaulty};
-ghost use Rattle.kp_sort_index.specs.Index.{IsIndexOf};
+ghost use Rattle.kp_rules.specs.Index.{IsIndexOf};
 ghost use Rattle.kp_rule_reading.specs.Compiled.{IsKnownRight};
 ghost use Rattle.kp_rule_reading.specs.Priorities.{Tells};
-ghost use Rattle.kp_rule_reading.specs.Reading.{IsStatementRead, rule_error, IsReadBody, IsMadeOf, IsSound, IsShapeRead, IsLeftSideRead, is_left_read, is_predicate_read, is_side_read, RightPasses, is_binder as binder_test, is_top_pattern, is_plain_by, is_plain_over};
+ghost use Rattle.kp_rule_reading.specs.ReadRules.{IsStatementRead, rule_error, IsReadBody, IsMadeOf, IsSound, IsShapeRead, IsLeftSideRead, is_left_read, is_predicate_read, is_side_read, RightPasses, is_binder as binder_test, is_top_pattern, is_plain_by, is_plain_over};
 ghost use Rattle.kp_rules.specs.Shapes.{seen, rewrite_seen};
 ghost use Rattle.kp_rule_reading.specs.declared.read.RuleError.TheVariants.{Memory, Fault};
 ghost use Rattle.kp_rules.specs.declared.rule.RuleBody.TheVariants as body;
@@ -36,8 +36,8 @@ use kp_kore::{AxiomSentence, Pattern, Sort};
 use kp_rules::rule::{Rewrite, RuleBody};
 use kp_rules::shape::{RuleSide, Shape, shape_of};
 use kp_rules::skeleton::{Skeleton, skeleton_of_left};
+use kp_rules::sort_index::SortIndex;
 use kp_signature::{Signature, VerifyError, verify};
-use kp_sort_index::sort_index::SortIndex;
 use std::alloc::{AllocError, Global};
 
 /// Why a rewrite axiom makes no rule.

@@ -10,7 +10,7 @@ ghost use Rattle.kp_compile.specs.declared.error.CompileError.TheVariants as com
 ghost use Rattle.kp_rules.specs.Shapes.{seen, rewrite_seen};
 ghost use Rattle.kp_compile.specs.Exact.{are_named};
 ghost use Rattle.kp_rule_reading.specs.Compiled.{IsKnownRight, IsRightOf, ArePartsOf};
-ghost use Rattle.kp_rule_reading.specs.Reading.{IsMadeOf, IsSound};
+ghost use Rattle.kp_rule_reading.specs.ReadRules.{IsMadeOf, IsSound};
 
 use crate::choice::choice_of;
 use crate::sides::sides_of;

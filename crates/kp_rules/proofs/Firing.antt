@@ -13,7 +13,7 @@ use Rattle.kp_ground.specs.Matches.{IsSolvable}
 use Rattle.kp_ground.specs.Conditions.{condition_holds, condition_narrow}
 use Rattle.kp_ground.specs.ConditionView.{condition_view, GivesTruth}
 use Rattle.kp_ground.specs.declared.binding.Binding.{Binding}
-use Rattle.kp_ground.specs.declared.left.CompiledLeft.{CompiledLeft}
+use Rattle.kp_ground.specs.declared.left_side.CompiledLeft.{CompiledLeft}
 use Rattle.kp_ground.specs.declared.evaluate.EvaluationError.{EvaluationError}
 use Rattle.kp_ground.specs.declared.evaluate.EvaluationError.TheVariants.{Memory, Number}
 use Rattle.kp_rules.specs.declared.rule.Rewrite.{Rewrite}

@@ -1,6 +1,11 @@
+pub mod AloneLemmas
 pub mod Fired
 pub mod Firing
 pub mod HeadSorts
+pub mod IndexLemmas
+pub mod InjectLemmas
+pub mod MarkLemmas
 pub mod ShapeSides
 pub mod Showing
 pub mod SkeletonLemmas
+pub mod SplitLemmas

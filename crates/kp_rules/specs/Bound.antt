@@ -3,7 +3,7 @@ use Rattle.std.specs.Prelude.{Bool, ◌&&◌, ◌||◌, List, [], Option, Some, 
 use Rattle.std.specs.List.{list_all}
 use Rattle.kp_kore.specs.Syntax.{Text}
 use Rattle.kp_ground.specs.Slots.{stands_at, is_numbered, left_places, left_variables, term_reads, condition_reads}
-use Rattle.kp_ground.specs.declared.left.CompiledLeft.{CompiledLeft}
+use Rattle.kp_ground.specs.declared.left_side.CompiledLeft.{CompiledLeft}
 use Rattle.kp_ground.specs.declared.term.CompiledTerm.{CompiledTerm}
 use Rattle.kp_ground.specs.declared.condition.Condition.{Condition}
 use Rattle.kp_compile.specs.Names.{names_seen}

@@ -1,6 +1,7 @@
 pub mod Bodies
 pub mod Bound
 pub mod Heads
+pub mod Index
 pub mod Known
 pub mod LeftForms
 pub mod LeftSides

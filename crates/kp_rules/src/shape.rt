@@ -9,8 +9,7 @@ ghost use Rattle.kp_kore.specs.Instance.{is_named as named_among, is_predicate a
 ghost use Rattle.kp_kore.specs.Rules.{only_one, top_binders, under_binders as what_is_bound, have_distinct_names, rewrite_of, constrained_term, joined as joined_sides};
 ghost use Rattle.kp_rules.specs.Shapes.{seen, variables_seen, side_of, side_view, rewrite_seen};
 
-use kp_compile::is_term;
-use kp_forms::{conjuncts, is_predicate};
+use kp_compile::{conjuncts, is_predicate, is_term};
 use kp_kore::{Name, Pattern, Sort};
 use std::alloc::{AllocError, Global};
 

@@ -13,17 +13,17 @@ ghost use Rattle.kp_kore.specs.Limits.{writes_number, fits_number};
 ghost use Rattle.kp_kore.specs.Foreign.{IsSkeletonInstance};
 ghost use Rattle.kp_kore.specs.Rules.{constrained_term};
 ghost use Rattle.kp_ground.specs.View.{value_view};
-ghost use Rattle.kp_sort_index.specs.Index.{IsIndexOf};
+ghost use Rattle.kp_rules.specs.Index.{IsIndexOf};
 ghost use Rattle.kp_rules.specs.Skeletons.{skeleton_view, any_form, maybe_form, one_of, built as built_form, nothing as nothing_form, Writes, forms_of, StandsFor, StandForAll, StandsForFirst, IsAdmitted};
 
+use crate::inject::is_split;
 use crate::shape::constrained_side;
+use crate::sort_index::SortIndex;
 use kp_ground::Value;
 use kp_kore::{Name, Pattern, Sort};
 use kp_signature::instance::sort_at;
 use kp_signature::rules::is_numeral;
 use kp_signature::{MOST_DEPTH, Meaning, Signature, meaning_of};
-use kp_sort_index::inject::is_split;
-use kp_sort_index::sort_index::SortIndex;
 use std::alloc::{AllocError, Global};
 use std::sync::Arc;
 

@@ -12,8 +12,8 @@ use Rattle.kp_ground.specs.Solves.{bound_names}
 use Rattle.kp_ground.specs.Terms.{left_value, term_value}
 use Rattle.kp_ground.specs.TermView.{term_view}
 use Rattle.kp_ground.proofs.SlotLemmas.{first_so}
-use Rattle.kp_depths.specs.View.{AreDepthsOf, AreDepthsUnder}
-use Rattle.kp_depths.specs.declared.depths.Depths.{Depths}
+use Rattle.kp_run.specs.View.{AreDepthsOf, AreDepthsUnder}
+use Rattle.kp_run.specs.declared.depths.Depths.{Depths}
 use Rattle.kp_run.specs.declared.firing.GroundFiring.{GroundFiring}
 
 last_so : (a b c : Bool) → a ≡ false → (a && b) || c ≡ true → c ≡ true

@@ -7,7 +7,7 @@ use Rattle.kp_ground.specs.Terms.{left_built}
 use Rattle.kp_ground.specs.LeftView.{left_view, lefts_of}
 use Rattle.kp_ground.specs.View.{value_view, values_of}
 use Rattle.kp_ground.specs.Matches.{AreSame, IsSame}
-use Rattle.kp_ground.specs.declared.left.CompiledLeft.{CompiledLeft}
+use Rattle.kp_ground.specs.declared.left_side.CompiledLeft.{CompiledLeft}
 use Rattle.kp_ground.specs.declared.value.Value.{Value}
 use Rattle.kp_ground.proofs.MatchLemmas.{same_arguments}
 

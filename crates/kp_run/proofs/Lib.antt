@@ -5,8 +5,11 @@ pub mod Bound
 pub mod Causes
 pub mod Chosen
 pub mod Fitting
+pub mod Levels
+pub mod Listed
 pub mod Runs
 pub mod Shallow
+pub mod Slotted
 pub mod States
 pub mod Taking
 pub mod Theories

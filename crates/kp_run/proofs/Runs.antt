@@ -14,9 +14,9 @@ use Rattle.kp_kore.specs.Onward.{Leads, Passes}
 use Rattle.kp_kore.specs.Executions.{Options, listed_in, RunsTo, IsRightReason, IsRightExecuted}
 use Rattle.kp_kore.specs.Replies.{IsComputed, is_listed, variables_beyond, IsFreshName, IsAbsent}
 use Rattle.kp_ground.specs.View.{value_view}
-use Rattle.kp_run.specs.declared.run.RunEnd.{RunEnd}
-use Rattle.kp_run.specs.declared.run.Stop.{Stop}
-use Rattle.kp_run.specs.declared.run.Stop.TheVariants.{Stuck, DepthBound, ForeignRule}
+use Rattle.kp_run.specs.declared.run.GroundRun.{GroundRun}
+use Rattle.kp_run.specs.declared.run.GroundEnding.{GroundEnding}
+use Rattle.kp_run.specs.declared.run.GroundEnding.TheVariants.{Stuck, DepthBound, ForeignRule}
 use Rattle.kp_run.specs.Runs.{GoesOnlyTo, GoesOnlyIn, IsStuck, IsUnknownAs, IsFirstUnknown, kept_priority, IsRunOf, IsOnlyInstance, reason_of}
 use Rattle.kp_run.proofs.Among.{of_some, between_any}
 use Rattle.kp_run.proofs.Theories.{fires_first}
@@ -79,7 +79,7 @@ from_only : (t : Theory) (s : KorePattern) (c : Value) (v : Valuation) (at : Val
 from_only t s c v at n later only met steps = subst (λ x. StepsIn t n x later) ((only v at).0 met) steps
 
 -- the configurations after the state are those of the reply's state
-run_leads : (t : Theory) (s s' : KorePattern) (c : Value) (bound : ℕ) (e : RunEnd) → IsRunOf t c bound e →
+run_leads : (t : Theory) (s s' : KorePattern) (c : Value) (bound : ℕ) (e : GroundRun) → IsRunOf t c bound e →
     IsOnlyInstance t s c → IsOnlyInstance t s' (value_view e.state.value) → free_variables s' ≡ [] → Leads t s s' e.depth
 run_leads t s s' c bound e run only only' none' = record {
   found = λ v at given met later steps. record {
@@ -94,7 +94,7 @@ run_leads t s s' c bound e run only only' none' = record {
 }
 
 -- none before the last is final, where no rule is listed
-run_passes : (t : Theory) (s : KorePattern) (c : Value) (bound : ℕ) (e : RunEnd) → IsRunOf t c bound e → IsOnlyInstance t s c → Passes t [] s e.depth
+run_passes : (t : Theory) (s : KorePattern) (c : Value) (bound : ℕ) (e : GroundRun) → IsRunOf t c bound e → IsOnlyInstance t s c → Passes t [] s e.depth
 run_passes t s c bound e run only = record {
   not_final = λ v at given met n later less steps.
       let next = steps_before t e.depth n c (value_view e.state.value) later run.steps less (from_only t s c v at n later only met steps) in
@@ -112,7 +112,7 @@ of_only t known s c P only none given such =
     record { valuation = some_valuation; configuration = c; given = (without_sorts t s some_valuation none, given); met = (only some_valuation c).1 refl; such = such }
 
 -- some configuration is as far as the depth but one
-run_is_reached : (t : Theory) (s : KorePattern) (c : Value) (bound : ℕ) (e : RunEnd) → IsRunOf t c bound e → IsOnlyInstance t s c → free_variables s ≡ [] →
+run_is_reached : (t : Theory) (s : KorePattern) (c : Value) (bound : ℕ) (e : GroundRun) → IsRunOf t c bound e → IsOnlyInstance t s c → free_variables s ≡ [] →
     (n : ℕ) → e.depth ≡ suc n → OfSome t.signature [] s (λ v at. (later : Value) × StepsIn t n at later)
 run_is_reached t s c bound e run only none n is =
     let r = reached_before t n c (value_view e.state.value) (subst (λ d. GoesOnlyIn t d c (value_view e.state.value)) is run.steps) in
@@ -125,7 +125,7 @@ first_is_unknown t c id first =
     (λ r. IsUnknownBy t.signature r.body c) (λ r h. h.unknown) t.rules first.1
 
 -- and the reason is right
-run_has_reason : (t : Theory) (o : Options) (s s' : KorePattern) (c : Value) (e : RunEnd) → IsRunOf t c o.bound e → IsOnlyInstance t s' (value_view e.state.value) → free_variables s ≡ [] → free_variables s' ≡ [] →
+run_has_reason : (t : Theory) (o : Options) (s s' : KorePattern) (c : Value) (e : GroundRun) → IsRunOf t c o.bound e → IsOnlyInstance t s' (value_view e.state.value) → free_variables s ≡ [] → free_variables s' ≡ [] →
     IsRightReason t o s s' e.depth (reason_of e.stop)
 run_has_reason t o s s' c e run only none none' = by_stop e.stop refl
   where
@@ -135,7 +135,7 @@ run_has_reason t o s s' c e run only none none' = by_stop e.stop refl
     has_some : HasSome t.signature (s ∷ []) s'
     has_some = some (λ v at. ⊤) tt
 
-    by_stop : (r : Stop) → e.stop ≡ r → IsRightReason t o s s' e.depth (reason_of r)
+    by_stop : (r : GroundEnding) → e.stop ≡ r → IsRightReason t o s s' e.depth (reason_of r)
     by_stop Stuck is =
         let k = run.stuck is in
         (k.0, record { has = has_some; final = λ v u given met. subst (IsStuck t) (sym ((only v u).0 met)) k.1 })
@@ -153,22 +153,22 @@ run_has_reason t o s s' c e run only none none' = by_stop e.stop refl
 
 -- ---- the reply
 
-within_bound : (t : Theory) (c : Value) (bound : ℕ) (e : RunEnd) → IsRunOf t c bound e → e.depth ≤ bound
+within_bound : (t : Theory) (c : Value) (bound : ℕ) (e : GroundRun) → IsRunOf t c bound e → e.depth ≤ bound
 within_bound t c bound e run = by_stop e.stop refl
   where
-    by_stop : (s : Stop) → e.stop ≡ s → e.depth ≤ bound
+    by_stop : (s : GroundEnding) → e.stop ≡ s → e.depth ≤ bound
     by_stop Stuck is = let k = (run.stuck is).0 in omega arith
     by_stop DepthBound is = let k = run.at_bound is in omega arith
     by_stop (ForeignRule id) is = let k = (run.foreign id is).0 in omega arith
 
 -- how the run came to its end
-runs_to : (t : Theory) (o : Options) (s s' : KorePattern) (d : ℕ) (stop : Stop) → Leads t s s' d → Passes t (listed_in o) s d → RunsTo t o s s' d (reason_of stop)
+runs_to : (t : Theory) (o : Options) (s s' : KorePattern) (d : ℕ) (stop : GroundEnding) → Leads t s s' d → Passes t (listed_in o) s d → RunsTo t o s s' d (reason_of stop)
 runs_to t o s s' d Stuck leads passes = (leads, passes)
 runs_to t o s s' d DepthBound leads passes = (leads, passes)
 runs_to t o s s' d (ForeignRule id) leads passes = (leads, passes)
 
 -- between two states without variables, of which these are the only instances, where no rule is listed
-pub run_is_told : (t : Theory) (o : Options) (s s' : KorePattern) (c : Value) (e : RunEnd) → IsRunOf t c o.bound e → listed_in o ≡ [] →
+pub run_is_told : (t : Theory) (o : Options) (s s' : KorePattern) (c : Value) (e : GroundRun) → IsRunOf t c o.bound e → listed_in o ≡ [] →
     IsOnlyInstance t s c → IsOnlyInstance t s' (value_view e.state.value) → free_variables s ≡ [] → free_variables s' ≡ [] → IsComputed t.signature s' →
     IsRightExecuted t o s (record { depth = e.depth; reason = reason_of e.stop; state = s' })
 run_is_told t o s s' c e run unlisted only only' none none' computed = record {

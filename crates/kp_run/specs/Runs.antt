@@ -15,9 +15,9 @@ use Rattle.kp_kore.specs.Causes.{foreign}
 use Rattle.kp_kore.specs.Executions.{Reason, stuck, depth_bound, aborted}
 use Rattle.kp_ground.specs.View.{value_view}
 use Rattle.kp_compile.specs.declared.state.GroundState.{GroundState}
-use Rattle.kp_run.specs.declared.run.RunEnd.{RunEnd}
-use Rattle.kp_run.specs.declared.run.Stop.{Stop}
-use Rattle.kp_run.specs.declared.run.Stop.TheVariants.{Stuck, DepthBound, ForeignRule}
+use Rattle.kp_run.specs.declared.run.GroundRun.{GroundRun}
+use Rattle.kp_run.specs.declared.run.GroundEnding.{GroundEnding}
+use Rattle.kp_run.specs.declared.run.GroundEnding.TheVariants.{Stuck, DepthBound, ForeignRule}
 use Rattle.kp_run.specs.declared.step.GroundNext.{GroundNext}
 use Rattle.kp_run.specs.declared.step.GroundNext.TheVariants as after
 use Rattle.kp_run.specs.Causes.{Written, IsNextState}
@@ -77,7 +77,7 @@ GoesOnlyIn t (suc n) c later = (next : Value) × GoesOnlyTo t c next × GoesOnly
 
 -- the run from c for at most so many steps: it ends where it says, at its bound, where nothing fires, or where a foreign
 -- rule might rewrite the configuration
-pub record IsRunOf (t : Theory) (c : Value) (bound : ℕ) (e : RunEnd) : Type 0 where
+pub record IsRunOf (t : Theory) (c : Value) (bound : ℕ) (e : GroundRun) : Type 0 where
   pub steps : GoesOnlyIn t e.depth c (value_view e.state.value)
   pub sorted : IsAt t e.state
   pub stuck : e.stop ≡ Stuck → (e.depth < bound) × IsStuck t (value_view e.state.value)
@@ -89,7 +89,7 @@ abbrev pub IsOnlyInstance : Theory → KorePattern → Value → Type 0
 IsOnlyInstance t s c = (v : Valuation) (u : Value) → IsInstance t.signature v s u ↔ (u ≡ c)
 
 -- the reason of the reply
-abbrev pub reason_of : Stop → Reason
+abbrev pub reason_of : GroundEnding → Reason
 reason_of Stuck = stuck
 reason_of DepthBound = depth_bound
 reason_of (ForeignRule id) = aborted (foreign (string_bytes id))

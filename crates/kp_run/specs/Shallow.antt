@@ -9,7 +9,7 @@ use Rattle.kp_ground.specs.Solves.{Solves}
 use Rattle.kp_ground.specs.Terms.{left_value, term_value}
 use Rattle.kp_ground.specs.TermView.{term_view}
 use Rattle.kp_ground.specs.View.{value_view}
-use Rattle.kp_depths.specs.View.{AreDepthsOf}
+use Rattle.kp_run.specs.View.{AreDepthsOf}
 use Rattle.kp_run.specs.declared.firing.GroundFiring.{GroundFiring}
 use Rattle.kp_run.specs.declared.step.GroundNext.{GroundNext}
 use Rattle.kp_run.specs.declared.step.GroundNext.TheVariants as after

@@ -5,18 +5,18 @@ ghost use Rattle.kp_rule_sets.specs.RuleSets.{RunsAs};
 ghost use Rattle.kp_run.specs.Causes.{IsStateIn, StopsUntold};
 ghost use Rattle.kp_run.specs.Runs.{IsAt, IsRunOf, written_of};
 ghost use Rattle.kp_run.specs.declared.error.RunError.TheVariants.{NotAnswered};
-ghost use Rattle.kp_run.specs.declared.run.Stop.TheVariants.{Stuck, DepthBound, ForeignRule};
+ghost use Rattle.kp_run.specs.declared.run.GroundEnding.TheVariants.{Stuck, DepthBound, ForeignRule};
 
+use crate::depths_of;
 use crate::error::RunError;
 use crate::step::{GroundNext, next_of};
 use kp_compile::GroundState;
-use kp_depths::depths_of;
 use kp_rule_sets::RuleSet;
 use std::alloc::Global;
 
 /// Why a run ends.
 #[derive(Drop)]
-pub enum Stop {
+pub enum GroundEnding {
     /// No rule fires, and no foreign rule might.
     Stuck,
     /// So many steps were taken as may be.
@@ -27,9 +27,9 @@ pub enum Stop {
 
 /// The end of a run: the number of steps, why it ends, and the last state.
 #[derive(Drop)]
-pub struct RunEnd {
+pub struct GroundRun {
     pub depth: u64,
-    pub stop: Stop,
+    pub stop: GroundEnding,
     pub state: GroundState,
 }
 
@@ -39,7 +39,7 @@ pub fn execute(
     rules: &RuleSet,
     state: GroundState,
     bound: u64,
-) -> Result<RunEnd, RunError>
+) -> Result<GroundRun, RunError>
     ensures within { IfOk result (λ e. e.depth ≤ bound) }
     ensures stuck { IfOk result (λ e. e.stop ≡ Stuck → e.depth < bound) }
     ensures foreign { IfOk result (λ e. (id : String Global) → e.stop ≡ ForeignRule id → e.depth < bound) }
@@ -61,24 +61,24 @@ pub fn execute(
                 depths = levels;
             }
             GroundNext::Stuck => {
-                return Ok(RunEnd {
+                return Ok(GroundRun {
                     depth,
-                    stop: Stop::Stuck,
+                    stop: GroundEnding::Stuck,
                     state,
                 });
             }
             GroundNext::ForeignRule { id } => {
-                return Ok(RunEnd {
+                return Ok(GroundRun {
                     depth,
-                    stop: Stop::ForeignRule { id },
+                    stop: GroundEnding::ForeignRule { id },
                     state,
                 });
             }
         }
     }
-    Ok(RunEnd {
+    Ok(GroundRun {
         depth: bound,
-        stop: Stop::DepthBound,
+        stop: GroundEnding::DepthBound,
         state,
     })
 }

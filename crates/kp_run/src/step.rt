@@ -18,7 +18,7 @@ ghost use Rattle.kp_run.specs.Causes.{TwoAmong, IsWrittenAt, IsNotStepped, Stops
 ghost use Rattle.kp_run.specs.Runs.{IsNext, IsWrittenNext, written_of};
 ghost use Rattle.kp_run.specs.Shallow.{HasDepths, IsMatchOf, left_instance, right_instance};
 ghost use Rattle.kp_run.specs.Turns.{BodyFires, BodyIsWide, MightRewrite, IsFirstForeign, TellsForeign, GoesNotBefore, FiresAt, IsFiring, TellsFiring, TakesRuleAt, IsTurn, IsAfterFiring, IsFollowed, NotFollowed};
-ghost use Rattle.kp_depths.specs.View.{AreDepthsOf};
+ghost use Rattle.kp_run.specs.View.{AreDepthsOf};
 ghost use Rattle.kp_run.specs.declared.step.GroundNext.TheVariants.{Stepped};
 ghost use Rattle.kp_run.specs.declared.step.Turn.TheVariants.{One};
 ghost use Rattle.kp_run.specs.declared.error.RunError.TheVariants.{NotAnswered};
@@ -26,8 +26,8 @@ ghost use Rattle.kp_run.specs.declared.error.RunError.TheVariants.{NotAnswered};
 use crate::error::RunError;
 use crate::firing::GroundFiring;
 use crate::fit::parts_fit;
+use crate::{Depths, bound_depths, depths_of, is_shallow_at, right_depths};
 use kp_compile::GroundState;
-use kp_depths::{Depths, bound_depths, depths_of, is_shallow_at, right_depths};
 use kp_ground::Value;
 use kp_kore::Sort;
 use kp_rule_sets::{RuleSet, head_of};

@@ -22,15 +22,15 @@ use Rattle.kp_registry.specs.Passes.{MeansAt}
 use Rattle.kp_registry.specs.declared.book.Registry.{Registry}
 use Rattle.kp_registry.specs.declared.seen.Pass.{Pass}
 use Rattle.kp_conn.proofs.Conversing.{sees_same}
-use Rattle.kp_server.specs.Setting.{IsElsewhere, Setting}
-use Rattle.kp_simplify_reply.specs.Answered.{IsSimplifiedAs}
+use Rattle.kp_methods.specs.ServedTheory.{IsElsewhere, ServedTheory}
+use Rattle.kp_methods.specs.Simplified.{IsSimplifiedAs}
 use Rattle.kp_service.specs.Answered.{IsReplyIn, no_such_module, in_module}
 use Rattle.kp_service.specs.Answers.{AddsNothing, IsReplyTo}
 use Rattle.kp_service.specs.Batches.{FromEachBookSeen, IsEffect, adds_nothing, IsReplyLine, line_told, MayHaveDone, did_nothing}
 use Rattle.kp_service.specs.Meant.{IsServedAt, module_asked}
 use Rattle.kp_service.specs.Ready.{signature_over}
 use Rattle.kp_additions.specs.Served.{HasSeenAt}
-use Rattle.kp_service.specs.Told.{IsLineOf}
+use Rattle.kp_methods.specs.ImpliedLines.{IsLineOf}
 
 -- ---- the module that is asked
 
@@ -40,7 +40,7 @@ main_means o book registry t rules is = (t.axioms, ap (λ m. first_of m (rules_b
 
 -- what is served where a module is asked that means this rule set
 pub record Serves (o : Opening) (book : List Registration) (asked : Option Text) (rules : RuleSet) : Type 0 where
-  pub setting : Setting
+  pub setting : ServedTheory
   pub served : IsServedAt o book asked setting
   pub runs : RunsAs setting.theory rules
   pub here : ¬ IsElsewhere setting.main asked
@@ -62,7 +62,7 @@ serves o book asked rules m = record {
 -- ---- lines
 
 -- the line that is right over what is served
-pub in_module_line : (o : Opening) (book : List Registration) (asked : Option Text) (id : RequestId) (RightOver : Setting → Data → Type 0) (s : Setting) → IsServedAt o book asked s →
+pub in_module_line : (o : Opening) (book : List Registration) (asked : Option Text) (id : RequestId) (RightOver : ServedTheory → Data → Type 0) (s : ServedTheory) → IsServedAt o book asked s →
     (line : List ℕ) → IsLineOf (RightOver s) line → IsLineOf (IsReplyIn o book asked id RightOver) line
 in_module_line o book asked id RightOver s served line l = (l.0, in_module s l.0 served l.1, l.2)
 
@@ -71,7 +71,7 @@ pub line_over : {E : Type 0} (r : Result (Vec ℕ Global) E) (id : RequestId) (s
 line_over r id state same l = subst (λ k. IfOk r (λ line. IsLineOf (IsSimplifiedAs k id state) line.items)) same l
 
 -- the line with code 3, where the name that is asked means nothing
-pub no_module_line : (o : Opening) (book : List Registration) (asked : Option (String Global)) (id : RequestId) (RightOver : Setting → Data → Type 0) → IsSome asked → MeansAt o book (module_asked o (option_map string_bytes asked)) None →
+pub no_module_line : (o : Opening) (book : List Registration) (asked : Option (String Global)) (id : RequestId) (RightOver : ServedTheory → Data → Type 0) → IsSome asked → MeansAt o book (module_asked o (option_map string_bytes asked)) None →
     (line : List ℕ) → IfSome asked (λ name. line ≡ reply_bytes (error_reply id (no_module (string_bytes name)))) → IsLineOf (IsReplyIn o book (option_map string_bytes asked) id RightOver) line
 no_module_line o book None id RightOver some means line l = absurd (cc some)
 no_module_line o book (Some name) id RightOver some means line l = (error_reply id (no_module (string_bytes name)), no_such_module (string_bytes name) (refl, means), l)
@@ -128,9 +128,9 @@ line_stays registry before after id asked line same h = stays registry before af
 -- ---- what a call of a method is answered
 
 -- the line over the module that is asked
-pub served_line : {E : Type 0} (r : Result (Vec ℕ Global) E) (registry : Registry) (pass : Pass) (asked : Option Text) (found : Option RuleSet) (rules : RuleSet) (id : RequestId) (RightOver : Setting → Data → Type 0) → found ≡ Some rules →
+pub served_line : {E : Type 0} (r : Result (Vec ℕ Global) E) (registry : Registry) (pass : Pass) (asked : Option Text) (found : Option RuleSet) (rules : RuleSet) (id : RequestId) (RightOver : ServedTheory → Data → Type 0) → found ≡ Some rules →
     ((o : Opening) (book : List Registration) → HasSeenAt registry pass o book → MeansAt o book (module_asked o asked) found) →
-    ((s : Setting) → RunsAs s.theory rules → ¬ IsElsewhere s.main asked → signature_over registry ≡ s.theory.signature → IfOk r (λ line. IsLineOf (RightOver s) line.items)) →
+    ((s : ServedTheory) → RunsAs s.theory rules → ¬ IsElsewhere s.main asked → signature_over registry ≡ s.theory.signature → IfOk r (λ line. IsLineOf (RightOver s) line.items)) →
     IfOk r (λ line. (o : Opening) (book : List Registration) → HasSeenAt registry pass o book → IsLineOf (IsReplyIn o book asked id RightOver) line.items)
 served_line r registry pass asked found rules id RightOver is means right =
     for_all r (HasSeenAt registry pass) (λ o book line. IsLineOf (IsReplyIn o book asked id RightOver) line.items)
@@ -138,7 +138,7 @@ served_line r registry pass asked found rules id RightOver is means right =
     IfOk-weaker r _ _ (λ line l. in_module_line o book asked id RightOver s.setting s.served line.items l) (right s.setting s.runs s.here (seen.table.rules.signature ∙ s.over)))
 
 -- the line where no such module is there
-pub unserved_line : {E : Type 0} (r : Result (Vec ℕ Global) E) (registry : Registry) (pass : Pass) (asked : Option (String Global)) (found : Option RuleSet) (id : RequestId) (RightOver : Setting → Data → Type 0) → found ≡ None → IsSome asked →
+pub unserved_line : {E : Type 0} (r : Result (Vec ℕ Global) E) (registry : Registry) (pass : Pass) (asked : Option (String Global)) (found : Option RuleSet) (id : RequestId) (RightOver : ServedTheory → Data → Type 0) → found ≡ None → IsSome asked →
     ((o : Opening) (book : List Registration) → HasSeenAt registry pass o book → MeansAt o book (module_asked o (option_map string_bytes asked)) found) →
     IfOk r (λ line. IfSome asked (λ name. line.items ≡ reply_bytes (error_reply id (no_module (string_bytes name))))) →
     IfOk r (λ line. (o : Opening) (book : List Registration) → HasSeenAt registry pass o book → IsLineOf (IsReplyIn o book (option_map string_bytes asked) id RightOver) line.items)

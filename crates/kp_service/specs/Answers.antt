@@ -12,9 +12,10 @@ use Rattle.kp_requests.specs.Frames.{Asks}
 use Rattle.kp_requests.specs.Requests.{execute, implies, simplify, add_module, Asked, asks, refused, Call, single, batch, refused_whole}
 use Rattle.kp_book.specs.Books.{Opening, Registration}
 use Rattle.kp_additions.specs.Added.{IsAdded, IsRefusedFor}
-use Rattle.kp_service.specs.Answered.{IsImpliedAs, IsReplyIn}
-use Rattle.kp_simplify_reply.specs.Answered.{IsSimplifiedAs}
-use Rattle.kp_execute_reply.specs.Answered.{IsExecutedAs}
+use Rattle.kp_methods.specs.Implied.{IsImpliedAs}
+use Rattle.kp_service.specs.Answered.{IsReplyIn}
+use Rattle.kp_methods.specs.Simplified.{IsSimplifiedAs}
+use Rattle.kp_methods.specs.Executed.{IsExecutedAs}
 
 -- ---- one call
 

@@ -3,4 +3,3 @@ pub mod Answers
 pub mod Batches
 pub mod Meant
 pub mod Ready
-pub mod Told

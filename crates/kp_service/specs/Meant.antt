@@ -4,7 +4,7 @@ use Rattle.std.specs.Prelude.{◌≡◌, List, [], ◌∷◌, Option, Some, None
 use Rattle.kp_kore.specs.Syntax.{Text}
 use Rattle.kp_kore.specs.Theory.{NumberedAxiom, IsTheoryOfAxioms}
 use Rattle.kp_book.specs.Books.{Opening, Registration, meaning_in}
-use Rattle.kp_server.specs.Setting.{Setting}
+use Rattle.kp_methods.specs.ServedTheory.{ServedTheory}
 
 -- the module that a request names, main where it names none
 abbrev pub module_asked : Opening → Option Text → Text
@@ -16,7 +16,7 @@ abbrev pub IsUnbound : Opening → List Registration → Option Text → Text �
 IsUnbound o book asked name = (asked ≡ Some name) × (meaning_in o book name ≡ None)
 
 -- what is served where this module is asked: the theory of the axioms that its name means at the book
-pub record IsServedAt (o : Opening) (book : List Registration) (asked : Option Text) (s : Setting) : Type 0 where
+pub record IsServedAt (o : Opening) (book : List Registration) (asked : Option Text) (s : ServedTheory) : Type 0 where
   pub axioms : List NumberedAxiom
   pub bound : meaning_in o book (module_asked o asked) ≡ Some axioms
   pub means : IsTheoryOfAxioms o.signature axioms s.theory

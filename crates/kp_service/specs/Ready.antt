@@ -4,8 +4,8 @@ use Rattle.kp_kore.specs.Signature.{KoreSignature}
 use Rattle.kp_signature.specs.View.{signature_view}
 use Rattle.kp_modules.specs.Tables.{rule_set_of}
 use Rattle.kp_registry.specs.declared.book.Registry.{Registry}
-use Rattle.kp_simplify_reply.specs.Prepared.{IsPrepared, signature_in}
-use Rattle.kp_simplify_reply.specs.declared.prepared.Prepared.{Prepared}
+use Rattle.kp_methods.specs.Prepared.{IsPrepared, signature_in}
+use Rattle.kp_methods.specs.declared.prepared.Prepared.{Prepared}
 
 -- the one signature of all modules
 abbrev pub signature_over : Registry → KoreSignature

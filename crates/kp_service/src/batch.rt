@@ -7,9 +7,9 @@ ghost use Rattle.kp_service.specs.Batches.{FromEachBookSeen, AreMembersText, IsN
 ghost use Rattle.kp_service.specs.Ready.{IsReadyFor};
 
 use crate::member::answered;
+use kp_methods::Prepared;
 use kp_registry::{Pass, Registry};
 use kp_requests::Call;
-use kp_simplify_reply::Prepared;
 use std::alloc::{AllocError, Global};
 
 /// The text of the replies to a batch's calls in order, as one array; none where none of them has a reply.

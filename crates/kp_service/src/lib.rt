@@ -4,7 +4,6 @@
 
 mod added;
 mod batch;
-mod implied;
 pub mod laws;
 mod member;
 mod service;

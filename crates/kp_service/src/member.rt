@@ -6,23 +6,22 @@ ghost use Rattle.kp_requests.specs.Requests as requests;
 ghost use Rattle.kp_requests.specs.View.{asked_view, call_view, reading_view, request_view};
 ghost use Rattle.kp_registry.specs.Passes.{IsPass, MeansAt};
 ghost use Rattle.kp_service.specs.Answered.{IsReplyIn};
-ghost use Rattle.kp_simplify_reply.specs.Answered.{IsSimplifiedAs};
-ghost use Rattle.kp_execute_reply.specs.Answered.{IsExecutedAs};
+ghost use Rattle.kp_methods.specs.Simplified.{IsSimplifiedAs};
+ghost use Rattle.kp_methods.specs.Executed.{IsExecutedAs};
 ghost use Rattle.kp_service.specs.Answers.{IsFront, IsReplyTo};
 ghost use Rattle.kp_service.specs.Batches.{FromEachBookSeen, call_of, IsEffect, IsMemberText, IsReplyLine, MayHaveDone};
 ghost use Rattle.kp_service.specs.Meant.{module_asked};
 ghost use Rattle.kp_service.specs.Ready.{IsReadyFor};
 ghost use Rattle.kp_additions.specs.Served.{AtEachBookSeen};
-ghost use Rattle.kp_service.specs.Told.{IsLineOf};
+ghost use Rattle.kp_methods.specs.ImpliedLines.{IsLineOf};
 
 use crate::added::{add_silently, added_line};
-use crate::implied::implied_line;
-use kp_execute_reply::executed_line;
+use kp_methods::implies::implied_line;
+use kp_methods::{Prepared, executed_line, simplified_line};
 use kp_registry::{Pass, Registry};
 use kp_requests::{Asked, Call, Reading, Request};
 use kp_rpc::{ExecuteOptions, Id, StateFault, fault_text, refusal_text};
 use kp_rule_sets::RuleSet;
-use kp_simplify_reply::{Prepared, simplified_line};
 use std::alloc::{AllocError, Global};
 use std::sync::Arc;
 

@@ -7,11 +7,11 @@ ghost use Rattle.kp_service.specs.Ready.{IsReadyFor};
 use crate::batch::answered_batch;
 use crate::member::{answered, text_of};
 use kp_conn::Answerer;
+use kp_methods::Prepared;
 use kp_modules::ModuleTable;
 use kp_registry::{Pass, Registry};
 use kp_requests::{Parsed, request_of};
 use kp_rpc::{Id, refusal_text};
-use kp_simplify_reply::Prepared;
 use std::alloc::{AllocError, Global};
 
 /// Answers frames over a book of modules: each call at the book that the pass has seen, which grows by the modules that

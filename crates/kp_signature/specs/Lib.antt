@@ -1,6 +1,5 @@
 pub mod Alone
 pub mod Edges
-pub mod Examples
 pub mod Faults
 pub mod Kinds
 pub mod Meanings

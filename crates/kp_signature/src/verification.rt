@@ -12,7 +12,7 @@ use crate::applications::check_application;
 use crate::error::VerifyError;
 use crate::literals::check_literal;
 use crate::nodes::{check_binder, check_form, check_form_of_part, check_text, check_variable};
-use crate::own::own_sort;
+use crate::pattern_sort::own_sort;
 use crate::scope::{Scope, bind_variable, unbind_variable};
 use crate::signature::Signature;
 use indexmap::IndexMap;

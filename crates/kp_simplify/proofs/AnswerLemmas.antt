@@ -4,7 +4,7 @@ use Rattle.std.specs.Prelude.{min}
 use Rattle.std.specs.Option.{option_map}
 use Rattle.std.specs.declared.alloc.Global.{Global}
 use Rattle.kp_symbolic.specs.declared.clause.Clause.{Clause}
-use Rattle.kp_weights.specs.declared.weight.Weighed as told_weight
+use Rattle.kp_limits.specs.declared.weight.Weighed as told_weight
 use Rattle.kp_kore.specs.Syntax.{KorePattern}
 use Rattle.kp_kore.specs.Signature.{KoreSignature}
 use Rattle.kp_results.specs.View.{undecided_view}
@@ -14,12 +14,12 @@ use Rattle.kp_symbolic.specs.States.{Literal, SymbolicState}
 use Rattle.kp_symbolic.specs.Shown.{unknown_clauses, weight_passed, wide_number, deep, most_told}
 use Rattle.kp_symbolic.specs.Verdicts.{Verdict, some_valuation, no_valuation, undecided, Weighed, IsRightVerdict}
 use Rattle.kp_symbolic.specs.Writing.{InjectsWhereItStands, written_predicate, written_state}
-use Rattle.kp_symbolic.specs.Endings.{answered, left_open}
+use Rattle.kp_symbolic.specs.Endings.{answered, what_is_undecided}
 use Rattle.kp_symbolic.specs.View.{clauses_view}
-use Rattle.kp_decide.specs.Answers as decide
-use Rattle.kp_decide.specs.Answers.{IsRightAnswer, IsWeighedAs}
-use Rattle.kp_decide.specs.declared.verdict.Verdict.TheVariants as code
-use Rattle.kp_wide.specs.Wide.{WideCall, first_wide}
+use Rattle.kp_satisfiability.specs.Answers as decide
+use Rattle.kp_satisfiability.specs.Answers.{IsRightAnswer, IsWeighedAs}
+use Rattle.kp_satisfiability.specs.declared.verdict.Verdict.TheVariants as code
+use Rattle.kp_limits.specs.Wide.{WideCall, first_wide}
 use Rattle.kp_outward.specs.Arranged.{AreArranged, with_clauses}
 use Rattle.kp_outward.specs.Errors.{InjectsIfThere}
 use Rattle.kp_simplify.specs.Answers.{IsArrangedPredicate, empty, wide, rough, heavy, deeper, some, first_deep, state_sides}
@@ -40,11 +40,11 @@ if_ok (Err e) P Q f h = tt
 pub none_answered : (g : KoreSignature) (s : SymbolicState) → IsRightVerdict g s no_valuation → IsAnswered g s found.Nothing
 none_answered g s h = record { answer = answered (nothing s.sort); is = empty h; is_told = tt; spelled = tt }
 
-wide_here : (g : KoreSignature) (s : SymbolicState) (u : told.Undecided) (o : Option WideCall) → first_wide g s ≡ o → Some (undecided_view u) ≡ option_map parts_of_call o → IsAnswered g s (found.LeftOpen u)
-wide_here g s u (Some c) f k = record { answer = left_open (wide_number c.symbol c.first c.second); is = wide c f; is_told = inside k; spelled = tt }
+wide_here : (g : KoreSignature) (s : SymbolicState) (u : told.Undecided) (o : Option WideCall) → first_wide g s ≡ o → Some (undecided_view u) ≡ option_map parts_of_call o → IsAnswered g s (found.UndecidedStep u)
+wide_here g s u (Some c) f k = record { answer = what_is_undecided (wide_number c.symbol c.first c.second); is = wide c f; is_told = inside k; spelled = tt }
 wide_here g s u None f k = absurd (cc)
 
-pub wide_answered : (g : KoreSignature) (s : SymbolicState) (call : Option told.Undecided) (u : told.Undecided) → call ≡ Some u → option_map undecided_view call ≡ option_map parts_of_call (first_wide g s) → IsAnswered g s (found.LeftOpen u)
+pub wide_answered : (g : KoreSignature) (s : SymbolicState) (call : Option told.Undecided) (u : told.Undecided) → call ≡ Some u → option_map undecided_view call ≡ option_map parts_of_call (first_wide g s) → IsAnswered g s (found.UndecidedStep u)
 wide_answered g s call u is e = wide_here g s u (first_wide g s) refl (sym (ap (option_map undecided_view) is) ∙ e)
 
 no_wide : (o : Option WideCall) → None ≡ option_map parts_of_call o → o ≡ None
@@ -54,8 +54,8 @@ no_wide None k = refl
 pub none_wide : (g : KoreSignature) (s : SymbolicState) (call : Option told.Undecided) → call ≡ None → option_map undecided_view call ≡ option_map parts_of_call (first_wide g s) → first_wide g s ≡ None
 none_wide g s call is e = no_wide (first_wide g s) (sym (ap (option_map undecided_view) is) ∙ e)
 
-pub deep_answered : (g : KoreSignature) (s : SymbolicState) (n : ℕ) (u : told.Undecided) → (o : Option ℕ) → o ≡ Some n → o ≡ first_deep g (state_sides s) → undecided_view u ≡ parts_of_cause (deep n) → IsAnswered g s (found.LeftOpen u)
-deep_answered g s n u o is e k = record { answer = left_open (deep n); is = deeper n (sym e ∙ is); is_told = k; spelled = tt }
+pub deep_answered : (g : KoreSignature) (s : SymbolicState) (n : ℕ) (u : told.Undecided) → (o : Option ℕ) → o ≡ Some n → o ≡ first_deep g (state_sides s) → undecided_view u ≡ parts_of_cause (deep n) → IsAnswered g s (found.UndecidedStep u)
+deep_answered g s n u o is e k = record { answer = what_is_undecided (deep n); is = deeper n (sym e ∙ is); is_told = k; spelled = tt }
 
 pub written_answered : (g : KoreSignature) (s : SymbolicState) (p : KorePattern) (a : Simplified) → IsToldAs (answered (state p)) a → IsRightVerdict g s some_valuation → first_wide g s ≡ None → first_deep g (state_sides s) ≡ None →
     (ds : List (List Literal)) × AreArranged g s.sort s.clauses ds × (p ≡ written_state g (with_clauses s ds)) → IsSpelledState g s p → IsAnswered g s a
@@ -71,8 +71,8 @@ turned g s cs p (ds, arranged, is) = (ds, arranged, sym is)
 
 pub shown_answered : (g : KoreSignature) (s : SymbolicState) (cs : List (List Literal)) (p : KorePattern) (a : Simplified) (h : Option Weighed) → ShowsPredicate p h a →
     IsRightVerdict g s (undecided cs h) → IsShownPredicate g s cs p → IsAnswered g s a
-shown_answered g s cs p (found.LeftOpen u) None e right is = record { answer = left_open (unknown_clauses p); is = rough cs p right (turned g s cs p is); is_told = e; spelled = tt }
-shown_answered g s cs p (found.LeftOpen u) (Some h) e right is = record { answer = left_open (weight_passed p h.weight (min h.number most_told)); is = heavy cs h p right (turned g s cs p is); is_told = e; spelled = tt }
+shown_answered g s cs p (found.UndecidedStep u) None e right is = record { answer = what_is_undecided (unknown_clauses p); is = rough cs p right (turned g s cs p is); is_told = e; spelled = tt }
+shown_answered g s cs p (found.UndecidedStep u) (Some h) e right is = record { answer = what_is_undecided (weight_passed p h.weight (min h.number most_told)); is = heavy cs h p right (turned g s cs p is); is_told = e; spelled = tt }
 shown_answered g s cs p found.Nothing h e right is = absurd e
 shown_answered g s cs p (found.State q) h e right is = absurd e
 
@@ -88,8 +88,8 @@ state_wants g s (ds, arranged, wants) h w d = record {
 
 -- of some clauses that are shown
 predicate_is_wanted : (g : KoreSignature) (s : SymbolicState) (cs : List (List Literal)) (h : Option Weighed) (p : KorePattern) → IsRightVerdict g s (undecided cs h) → IsArrangedPredicate g s.sort cs p → (InjectsWhereItStands g p → ⊥) → WantsInjection g s
-predicate_is_wanted g s cs None p right is wants = record { answer = left_open (unknown_clauses p); is = rough cs p right is; wants = wants }
-predicate_is_wanted g s cs (Some h) p right is wants = record { answer = left_open (weight_passed p h.weight (min h.number most_told)); is = heavy cs h p right is; wants = wants }
+predicate_is_wanted g s cs None p right is wants = record { answer = what_is_undecided (unknown_clauses p); is = rough cs p right is; wants = wants }
+predicate_is_wanted g s cs (Some h) p right is wants = record { answer = what_is_undecided (weight_passed p h.weight (min h.number most_told)); is = heavy cs h p right is; wants = wants }
 
 pub predicate_wants : (g : KoreSignature) (s : SymbolicState) (cs : List (List Literal)) → (ds : List (List Literal)) × AreArranged g s.sort cs ds × (InjectsIfThere g (written_predicate g s.sort ds) → ⊥) →
     (h : Option Weighed) → IsRightVerdict g s (undecided cs h) → WantsInjection g s

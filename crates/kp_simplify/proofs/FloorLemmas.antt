@@ -9,7 +9,7 @@ use Rattle.kp_symbolic.specs.WellFormed.{AreAtHand}
 use Rattle.kp_symbolic.specs.Solving.{IsReadAs}
 use Rattle.kp_symbolic.specs.Verdicts.{Verdict, some_valuation, no_valuation, undecided, Weighed, IsRightVerdict, IsDecision, by_some, by_none}
 use Rattle.kp_symbolic.specs.Shown.{IsEasy, Undecided, IsLimitOfTerms}
-use Rattle.kp_symbolic.specs.Endings.{Result, left_open, IsSimplifyFloorKept}
+use Rattle.kp_symbolic.specs.Endings.{Result, what_is_undecided, IsSimplifyFloorKept}
 use Rattle.kp_symbolic.proofs.ReadOnce.{read_once}
 use Rattle.kp_symbolic_laws.proofs.Easy.{easy_decided}
 use Rattle.kp_simplify.specs.Answers.{IsAnswer, empty, wide, rough, heavy, deeper, some}
@@ -22,14 +22,14 @@ not_open cs o d = by (undecided cs o) d refl
     by no_valuation by_none e = absurd (cc)
     by (undecided _ _) d e = elim d [ ]
 
-same_cause : (a b : Undecided) (r : Result Simplified) → r ≡ left_open a → r ≡ left_open b → a ≡ b
+same_cause : (a b : Undecided) (r : Result Simplified) → r ≡ what_is_undecided a → r ≡ what_is_undecided b → a ≡ b
 same_cause a b r p q = cc
 
 -- the clauses of an easy state are decided
 abbrev IsDecided : KoreSignature → SymbolicState → Type 0
 IsDecided g s = (a : Verdict) → IsRightVerdict g s a → IsDecision a
 
-only_limits : (g : KoreSignature) (s : SymbolicState) (r : Result Simplified) (u : Undecided) → IsDecided g s → IsAnswer g s r → r ≡ left_open u → IsLimitOfTerms u
+only_limits : (g : KoreSignature) (s : SymbolicState) (r : Result Simplified) (u : Undecided) → IsDecided g s → IsAnswer g s r → r ≡ what_is_undecided u → IsLimitOfTerms u
 only_limits g s r u decided (empty h) e = absurd (cc)
 only_limits g s r u decided (wide c h) e = subst IsLimitOfTerms (same_cause _ u _ refl e) tt
 only_limits g s r u decided (rough cs p h w) e = absurd (not_open cs None (decided (undecided cs None) h))

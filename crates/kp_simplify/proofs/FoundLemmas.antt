@@ -24,13 +24,13 @@ use Rattle.kp_symbolic.specs.Endings.{IsRightOfSimplify}
 use Rattle.kp_symbolic_laws.specs.Runs.{IsSoundState}
 use Rattle.kp_clauses.specs.Faults.{state_fault}
 use Rattle.kp_clauses.proofs.StateLemmas.{nothing_misplaced}
-use Rattle.kp_computed.proofs.ReadStates.{reordered_is_computed}
+use Rattle.kp_symbolic_laws.proofs.ReadStates.{reordered_is_computed}
 use Rattle.kp_outward.specs.Arranged.{AreArranged, with_clauses}
 use Rattle.kp_outward.specs.Errors.{InjectsIfThere}
 use Rattle.kp_simplify.specs.Answers.{IsAnswer, IsArrangedPattern, empty, wide, rough, heavy, deeper, some}
 use Rattle.kp_simplify.specs.Told.{IsAnswered, IsFound, IsSpelled, LacksInjection, TellsNoInjection, WantsInjection}
 use Rattle.kp_simplify.specs.declared.answer.Simplified.{Simplified}
-use Rattle.kp_simplify.specs.declared.pattern.SimplifyError.{SimplifyError}
+use Rattle.kp_simplify.specs.declared.simplify_pattern.SimplifyError.{SimplifyError}
 use Rattle.kp_simplify.proofs.DeepLemmas.{deep_is_shown}
 use Rattle.kp_simplify.proofs.EmptyLemmas.{empty_is_right}
 use Rattle.kp_simplify.proofs.FloorLemmas.{floor_is_kept}

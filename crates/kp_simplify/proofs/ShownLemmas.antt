@@ -7,7 +7,7 @@ use Rattle.kp_kore.specs.Signature.{KoreSignature}
 use Rattle.kp_symbolic.specs.Plain.{rough_clauses}
 use Rattle.kp_symbolic.specs.Shown.{unknown_clauses, weight_passed, most_told}
 use Rattle.kp_symbolic.specs.States.{Literal, SymbolicState}
-use Rattle.kp_symbolic.specs.Verdicts.{Weighed, IsOpen, IsTooHeavy}
+use Rattle.kp_symbolic.specs.Verdicts.{Weighed, IsStateUndecided, IsTooHeavy}
 use Rattle.kp_symbolic.specs.Writing.{written_predicate}
 use Rattle.kp_symbolic.specs.Endings.{IsPredicateOf, IsShownAlone}
 use Rattle.kp_outward.specs.Arranged.{AreArranged}
@@ -36,10 +36,10 @@ some_of g sort (d ∷ ds) p arranged is = let from = arranged.from_these d (0, o
 some_clauses : (g : KoreSignature) (sort : KoreSort) (cs : List (List Literal)) (p : KorePattern) → IsArrangedPredicate g sort cs p → cs ≡ [] → ⊥
 some_clauses g sort cs p h none = let k = subst (λ xs. IsArrangedPredicate g sort xs p) none h in some_of g sort k.0 p k.1 k.2
 
-pub rough_is_shown : (g : KoreSignature) (p q : KorePattern) (s : SymbolicState) (cs : List (List Literal)) → IsOpen g s cs → IsArrangedPredicate g s.sort cs q → IsShownAlone g p s (unknown_clauses q)
+pub rough_is_shown : (g : KoreSignature) (p q : KorePattern) (s : SymbolicState) (cs : List (List Literal)) → IsStateUndecided g s cs → IsArrangedPredicate g s.sort cs q → IsShownAlone g p s (unknown_clauses q)
 rough_is_shown g p q s cs undecided h =
     let shown = subst (λ xs. IsArrangedPredicate g s.sort xs q) undecided.shown_are h in
-    (subst (IsOpen g s) undecided.shown_are undecided, (some_clauses g s.sort (rough_clauses g s) q shown, predicate_of g s.sort (rough_clauses g s) q shown))
+    (subst (IsStateUndecided g s) undecided.shown_are undecided, (some_clauses g s.sort (rough_clauses g s) q shown, predicate_of g s.sort (rough_clauses g s) q shown))
 
 pub heavy_is_shown : (g : KoreSignature) (p q : KorePattern) (s : SymbolicState) (cs : List (List Literal)) (h : Weighed) → IsTooHeavy g s cs h → IsArrangedPredicate g s.sort cs q →
     IsShownAlone g p s (weight_passed q h.weight (min h.number most_told))

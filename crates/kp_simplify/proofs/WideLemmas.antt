@@ -18,7 +18,7 @@ use Rattle.kp_symbolic.specs.Sources.{parts_of, all_parts_of, state_parts}
 use Rattle.kp_symbolic.specs.Shown.{Overflows, IsShown, wide_number}
 use Rattle.kp_symbolic.specs.Endings.{simplify_situation}
 use Rattle.kp_symbolic.specs.Sums.{whole_known}
-use Rattle.kp_wide.specs.Wide.{WideCall, is_wide_of, call_if, call_of, wide_call, first_of, first_wide_among, first_wide}
+use Rattle.kp_limits.specs.Wide.{WideCall, is_wide_of, call_if, call_of, wide_call, first_of, first_wide_among, first_wide}
 
 -- ---- what a wide call is
 

@@ -19,16 +19,16 @@ use Rattle.kp_symbolic.specs.Writing.{InjectsWhereItStands}
 use Rattle.kp_symbolic.specs.Solving.{IsReadAs}
 use Rattle.kp_symbolic.specs.Shown.{unknown_clauses, weight_passed, wide_number}
 use Rattle.kp_symbolic.specs.Verdicts.{Weighed, some_valuation, undecided, IsRightVerdict}
-use Rattle.kp_symbolic.specs.Endings.{Result, answered, left_open, IsRightOfSimplify, IsSimplifyFloorKept}
+use Rattle.kp_symbolic.specs.Endings.{Result, answered, what_is_undecided, IsRightOfSimplify, IsSimplifyFloorKept}
 use Rattle.kp_symbolic_laws.specs.Runs.{IsSoundState}
 use Rattle.kp_outward.specs.Errors.{InjectsIfThere}
-use Rattle.kp_wide.specs.Wide.{WideCall, first_wide}
+use Rattle.kp_limits.specs.Wide.{WideCall, first_wide}
 use Rattle.kp_simplify.specs.Spelled.{parts_of_cause, part_of_weight}
 use Rattle.kp_simplify.specs.Answers.{IsAnswer, first_deep, state_sides}
 use Rattle.kp_simplify.specs.declared.answer.Simplified.{Simplified}
 use Rattle.kp_simplify.specs.declared.answer.Simplified.TheVariants as found
-use Rattle.kp_simplify.specs.declared.pattern.SimplifyError.{SimplifyError}
-use Rattle.kp_simplify.specs.declared.pattern.SimplifyError.TheVariants as error
+use Rattle.kp_simplify.specs.declared.simplify_pattern.SimplifyError.{SimplifyError}
+use Rattle.kp_simplify.specs.declared.simplify_pattern.SimplifyError.TheVariants as error
 
 -- ---- the answer of a state
 
@@ -44,12 +44,12 @@ parts_of_weight h = parts.weighed (part_of_weight h.weight) (min h.number 184467
 abbrev pub IsToldAs : Result theory.Simplified → Simplified → Type 0
 IsToldAs (answered (state p)) (found.State q) = p ≡ view q.value
 IsToldAs (answered (nothing s)) found.Nothing = ⊤
-IsToldAs (left_open cause) (found.LeftOpen u) = undecided_view u ≡ parts_of_cause cause
+IsToldAs (what_is_undecided cause) (found.UndecidedStep u) = undecided_view u ≡ parts_of_cause cause
 IsToldAs r a = ⊥
 
 -- the predicate is shown, with the weight that is passed
 abbrev pub ShowsPredicate : KorePattern → Option Weighed → Simplified → Type 0
-ShowsPredicate p h (found.LeftOpen u) = undecided_view u ≡ parts.predicate p (option_map parts_of_weight h)
+ShowsPredicate p h (found.UndecidedStep u) = undecided_view u ≡ parts.predicate p (option_map parts_of_weight h)
 ShowsPredicate p h a = ⊥
 
 -- The pattern that is written for a state: inj stands in it only where it is what it should be; where the state's literals are
@@ -87,8 +87,8 @@ pub record IsFound (g : KoreSignature) (p : KorePattern) (a : Simplified) : Type
 -- the state, or the predicate of what isn't decided, that an answer would tell
 abbrev pub pattern_in : Result theory.Simplified → Option KorePattern
 pattern_in (answered (state p)) = Some p
-pattern_in (left_open (unknown_clauses p)) = Some p
-pattern_in (left_open (weight_passed p w n)) = Some p
+pattern_in (what_is_undecided (unknown_clauses p)) = Some p
+pattern_in (what_is_undecided (weight_passed p w n)) = Some p
 pattern_in r = None
 
 -- in an answer of the state an inj would stand that the signature hasn't

@@ -6,5 +6,5 @@ use kp_results::Undecided;
 pub enum Simplified {
     State { pattern: Box<Pattern> },
     Nothing,
-    LeftOpen { undecided: Undecided },
+    UndecidedStep { undecided: Undecided },
 }

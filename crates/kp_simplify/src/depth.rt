@@ -9,9 +9,9 @@ ghost use Rattle.kp_simplify.specs.Answers as model;
 
 use crate::shallow::is_shallow;
 use kp_kore::{Pattern, Sort};
+use kp_outward::term_out;
 use kp_signature::MOST_DEPTH;
 use kp_symbolic::{Atom, Clause, Language, Literal, State, Term};
-use kp_writing::term_out;
 use std::alloc::{AllocError, Global};
 
 /// Half as many levels as a term may have: each level of a term is written with at most one `inj` more, so a term of these isn't too deep.

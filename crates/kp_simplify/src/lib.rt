@@ -5,9 +5,9 @@
 pub mod answer;
 pub mod depth;
 pub mod limits;
-pub mod pattern;
 mod shallow;
-mod stated;
+pub mod simplify_pattern;
+mod state_answer;
 
 pub use answer::Simplified;
-pub use pattern::{SimplifyError, simplify};
+pub use simplify_pattern::{SimplifyError, simplify};

@@ -2,18 +2,17 @@
 ghost use Rattle.std.specs.Prelude.{◌≡◌, IfOk, Option, string_bytes};
 ghost use Rattle.std.specs.Fmt.{signed_decimal};
 ghost use Rattle.std.specs.Option.{option_map};
-ghost use Rattle.kp_decide.specs.Answers.{IsWeighedAs};
+ghost use Rattle.kp_satisfiability.specs.Answers.{IsWeighedAs};
 ghost use Rattle.kp_results.specs.View.{limit_view, undecided_view, weight_view};
 ghost use Rattle.kp_symbolic.specs.Shown as shown;
 ghost use Rattle.kp_symbolic.specs.Verdicts as model;
-ghost use Rattle.kp_weights.specs.Told as weights;
-ghost use Rattle.kp_wide.specs.Calls.{call_view};
+ghost use Rattle.kp_limits.specs.Told as weights;
+ghost use Rattle.kp_limits.specs.Calls.{call_view};
 ghost use Rattle.kp_simplify.specs.Spelled.{part_of_weight, parts_of_cause};
 ghost use Rattle.kp_simplify.specs.Told.{parts_of_call, parts_of_weight};
 
+use kp_limits::{Weighed, WideCall};
 use kp_results::{Limit, Undecided, Weight};
-use kp_weights::Weighed;
-use kp_wide::WideCall;
 use std::alloc::{AllocError, Global};
 
 /// The number's decimal digits.
@@ -55,13 +54,13 @@ pub fn deep_term(number: u64) -> Undecided
 }
 
 /// A weight as it is told.
-fn weight_of(weight: kp_weights::WeightKind) -> Weight
+fn weight_of(weight: kp_limits::WeightKind) -> Weight
     ensures { weight_view result ≡ part_of_weight (weights.weight_view weight) }
 {
     match weight {
-        kp_weights::WeightKind::Bits => Weight::Bits,
-        kp_weights::WeightKind::Literals => Weight::Literals,
-        kp_weights::WeightKind::Product => Weight::Product,
+        kp_limits::WeightKind::Bits => Weight::Bits,
+        kp_limits::WeightKind::Literals => Weight::Literals,
+        kp_limits::WeightKind::Product => Weight::Product,
     }
 }
 

@@ -11,9 +11,9 @@ use Rattle.kp_symbolic.specs.States.{Literal, clause_variables}
 use Rattle.kp_symbolic.specs.Writing.{written_clause}
 use Rattle.kp_symbolic.specs.Clauses.{distributed, is_too_large}
 use Rattle.kp_symbolic.specs.Solving.{Equation, replacement, opened_clause, solved_clause}
-use Rattle.kp_distribution.specs.Distribution.{Distribution, distribution_of}
-use Rattle.kp_replacing.specs.Replacing.{clause_under}
-use Rattle.kp_replacing.proofs.ClauseLemmas.{clause_solved}
+use Rattle.kp_formulas.specs.Distribution.{Distribution, distribution_of}
+use Rattle.kp_clause_substitution.specs.Replacing.{clause_under}
+use Rattle.kp_clause_substitution.proofs.ClauseLemmas.{clause_solved}
 use Rattle.kp_solving.specs.Solvables.{quoted_clause, solved_holding}
 
 at_most_so : (m n : ℕ) → nat_le m n ≡ true → m ≤ n

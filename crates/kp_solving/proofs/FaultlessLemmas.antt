@@ -15,13 +15,13 @@ use Rattle.kp_symbolic.specs.Solving.{solved_at, opened_state}
 use Rattle.kp_symbolic_laws.specs.Runs.{ComesBy, begins, goes_by, OfEachKept}
 use Rattle.kp_symbolic_laws.specs.Safe.{Formed, IsFormed, IsFormedState}
 use Rattle.kp_symbolic_laws.proofs.FormedSteps.{step_formed, opened_formed}
-use Rattle.kp_computed.proofs.Settled.{IsSettled, AreSettled, ArePutSettled}
-use Rattle.kp_computed.proofs.OpenedSettled.{IsSettledAtom, IsSettledLiteral, AreSettledClauses}
-use Rattle.kp_computed.proofs.SolvedSettled.{IsSettledState, step_settled}
-use Rattle.kp_computed.proofs.ReadStates.{opened_is_settled}
+use Rattle.kp_symbolic_laws.proofs.Settled.{IsSettled, AreSettled, ArePutSettled}
+use Rattle.kp_symbolic_laws.proofs.OpenedSettled.{IsSettledAtom, IsSettledLiteral, AreSettledClauses}
+use Rattle.kp_symbolic_laws.proofs.SolvedSettled.{IsSettledState, step_settled}
+use Rattle.kp_symbolic_laws.proofs.ReadStates.{opened_is_settled}
 use Rattle.kp_symbolic.specs.Faultless.{IsFaultless}
-use Rattle.kp_replacing.specs.Sums.{HasWrittenSums}
-use Rattle.kp_writing.specs.Parts.{IsFaultlessAtom}
+use Rattle.kp_clause_substitution.specs.Sums.{HasWrittenSums}
+use Rattle.kp_outward.specs.Parts.{IsFaultlessAtom}
 use Rattle.kp_solving.specs.Readable.{IsReadable, IsWrittenFaultless}
 
 -- ---- settled terms have sums that can be written

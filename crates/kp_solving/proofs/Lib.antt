@@ -7,5 +7,9 @@ pub mod RefinedLemmas
 pub mod RoomLemmas
 pub mod RoundLemmas
 pub mod SettleLemmas
+pub mod SubstitutedClauses
+pub mod SubstitutedInstances
+pub mod SubstitutedSorts
+pub mod SubstitutedStates
 pub mod WayLemmas
 pub mod WholeLemmas

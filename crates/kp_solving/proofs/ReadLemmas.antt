@@ -13,8 +13,8 @@ use Rattle.kp_symbolic.specs.States.{SymbolicState, HasInstancesOf}
 use Rattle.kp_symbolic.specs.Solving.{opened_state, Solving, IsReadAs}
 use Rattle.kp_symbolic.specs.WellFormed.{IsWellFormed}
 use Rattle.kp_symbolic_laws.proofs.FormedSteps.{read_well_formed}
-use Rattle.kp_kept.proofs.KeptCourse.{read_kept}
-use Rattle.kp_kept.specs.Kept.{CanBeWritten}
+use Rattle.kp_symbolic_laws.proofs.KeptCourse.{read_kept}
+use Rattle.kp_symbolic_laws.specs.Kept.{CanBeWritten}
 use Rattle.kp_symbolic_laws.specs.Runs.{ComesBy, IsSoundState, OfEachKept}
 use Rattle.kp_symbolic.specs.View.{state_view}
 use Rattle.kp_symbolic.specs.declared.state.State.{State}

@@ -11,7 +11,7 @@ use Rattle.kp_symbolic.specs.Writing.{InjectsWhereItStands, written_literal, wri
 use Rattle.kp_symbolic_laws.specs.Runs.{HasRoomClause}
 use Rattle.kp_symbolic.specs.View.{literal_view}
 use Rattle.kp_symbolic.specs.declared.clause.Literal.{Literal}
-use Rattle.kp_kept.specs.Kept.{CanBeWrittenAt}
+use Rattle.kp_symbolic_laws.specs.Kept.{CanBeWrittenAt}
 
 abbrev listed : List KorePattern → KorePatterns
 listed [] = no_patterns

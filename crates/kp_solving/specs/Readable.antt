@@ -6,8 +6,8 @@ use Rattle.kp_symbolic.specs.Folding.{AreWritten}
 use Rattle.kp_symbolic.specs.States.{Literal, SymbolicState}
 use Rattle.kp_symbolic.specs.Writing.{written_clause}
 use Rattle.kp_symbolic.specs.Faultless.{IsFaultless}
-use Rattle.kp_replacing.specs.Sums.{HasWrittenSums}
-use Rattle.kp_writing.specs.Parts.{IsFaultlessAtom}
+use Rattle.kp_clause_substitution.specs.Sums.{HasWrittenSums}
+use Rattle.kp_outward.specs.Parts.{IsFaultlessAtom}
 
 -- each sum in the state can be written, and no predicate that isn't opened has a verify fault
 pub record IsReadable (g : KoreSignature) (s : SymbolicState) : Type 0 where

@@ -8,8 +8,8 @@ use Rattle.kp_symbolic.specs.Writing.{written_clause}
 use Rattle.kp_symbolic.specs.Clauses.{distributed, is_too_large}
 use Rattle.kp_symbolic.specs.Solving as model
 use Rattle.kp_symbolic.specs.Solving.{Equation, replacement, opened_clause, solved_clause}
-use Rattle.kp_readings.specs.Equations.{equation_view}
-use Rattle.kp_solving.specs.declared.first.Solvable.{Solvable}
+use Rattle.kp_literals.specs.Equations.{equation_view}
+use Rattle.kp_solving.specs.declared.first_equation.Solvable.{Solvable}
 
 abbrev pub solvable_of : ℕ → Equation → model.Solvable
 solvable_of i e = record { place = i; equation = e }

@@ -3,14 +3,14 @@ ghost use Rattle.std.specs.Prelude.{◌≡◌, ◌∷◌, [], ◌++◌, IfOk, If
 ghost use Rattle.kp_compile.specs.declared.error.CompileError.TheVariants.{Memory};
 ghost use Rattle.kp_symbolic.specs.Languages.{language_view};
 ghost use Rattle.kp_symbolic.specs.View.{variable_view, term_view, clause_view, clauses_view, variables_view, state_view};
-ghost use Rattle.kp_readings.specs.Equations.{equation_view};
+ghost use Rattle.kp_literals.specs.Equations.{equation_view};
 ghost use Rattle.kp_solving.specs.Further as model;
 ghost use Rattle.kp_solving.specs.Readable.{IsReadable};
 
-use crate::round::solve_at;
+use crate::solved_equation::solve_at;
 use kp_compile::CompileError;
-use kp_distribution::joined::{kept_once, make_clause};
-use kp_readings::equation::Equation;
+use kp_formulas::joined::{kept_once, make_clause};
+use kp_literals::equation::Equation;
 use kp_symbolic::state::share_variables;
 use kp_symbolic::{Atom, Clause, Language, Literal, State, Term, Variable};
 use std::alloc::{AllocError, Global};

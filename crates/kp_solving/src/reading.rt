@@ -8,7 +8,7 @@ ghost use Rattle.kp_signature.specs.Verify.{VerifiesAs};
 ghost use Rattle.kp_symbolic.specs.Solving.{Solving, IsReadAs, opened_state};
 ghost use Rattle.kp_symbolic.specs.States.{SymbolicState, HasInstancesOf};
 ghost use Rattle.kp_symbolic.specs.WellFormed.{IsWellFormed};
-ghost use Rattle.kp_kept.specs.Kept.{CanBeWritten};
+ghost use Rattle.kp_symbolic_laws.specs.Kept.{CanBeWritten};
 ghost use Rattle.kp_symbolic_laws.specs.Runs.{ComesBy, IsSoundState, OfEachKept};
 ghost use Rattle.kp_solving.specs.Readable.{IsReadable, IsWrittenFaultless};
 ghost use Rattle.kp_symbolic.specs.Languages.{language_view};

@@ -6,13 +6,13 @@ ghost use Rattle.kp_symbolic.specs.Solving as model;
 ghost use Rattle.kp_symbolic.specs.Solving.{Solving};
 ghost use Rattle.kp_symbolic.specs.Languages.{language_view};
 ghost use Rattle.kp_symbolic.specs.View.{state_view};
-ghost use Rattle.kp_kept.specs.Kept.{CanBeWritten};
+ghost use Rattle.kp_symbolic_laws.specs.Kept.{CanBeWritten};
 ghost use Rattle.kp_symbolic.specs.States.{SymbolicState};
 ghost use Rattle.kp_symbolic_laws.specs.Runs.{ComesBy, OfKeptAt, OfEachKept};
 ghost use Rattle.kp_solving.specs.Readable.{IsReadable};
 
-use crate::first::first_solvable;
-use crate::round::solve_at;
+use crate::first_equation::first_solvable;
+use crate::solved_equation::solve_at;
 use kp_compile::CompileError;
 use kp_symbolic::{Language, State};
 use std::alloc::Global;

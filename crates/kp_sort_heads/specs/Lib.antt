@@ -1,3 +1,3 @@
 pub mod Views
-pub mod Left
+pub mod Remaining
 pub mod Live

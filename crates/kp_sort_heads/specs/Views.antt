@@ -4,10 +4,10 @@ use Rattle.std.specs.Prelude.{List, string_bytes}
 use Rattle.kp_kore.specs.Signature as model
 use Rattle.kp_kore.specs.View.{sort_view}
 use Rattle.kp_signature.specs.View.{signature_view}
-use Rattle.kp_sort_heads.specs.Left.{heads_left}
+use Rattle.kp_sort_heads.specs.Remaining.{remaining_heads}
 use Rattle.kp_sort_heads.specs.declared.head.SortHead.{SortHead}
 use Rattle.kp_sort_heads.specs.declared.head.SortHead.TheVariants as head
-use Rattle.kp_sort_heads.specs.declared.sequence.HeadsLeft.{HeadsLeft}
+use Rattle.kp_sort_heads.specs.declared.sequence.HeadSequence.{HeadSequence}
 
 abbrev pub head_view : SortHead → model.Head
 head_view head.Integers = model.integers
@@ -16,5 +16,5 @@ head_view (head.Tokens s) = model.tokens (sort_view s.now)
 head_view (head.Constructor d) = model.constructor_of (string_bytes d.now.name)
 
 -- the heads of the sort that are to come
-abbrev pub left_of : HeadsLeft → List model.Head
-left_of x = heads_left (signature_view x.signature.now) (sort_view x.sort.now) x.left
+abbrev pub left_of : HeadSequence → List model.Head
+left_of x = remaining_heads (signature_view x.signature.now) (sort_view x.sort.now) x.left

@@ -9,9 +9,9 @@ ghost use Rattle.kp_heads.specs.Heads.{IsLive};
 ghost use Rattle.kp_heads.specs.Made.{IsHeadTableOf};
 ghost use Rattle.kp_sort_heads.specs.Views.{head_view};
 
-use kp_deciding::kinds::{has_numbers, has_tokens_of, has_truths, lies_below};
 use kp_heads::HeadTable;
 use kp_kore::{Name, Sort, SymbolSentence};
+use kp_literals::value_kinds::{has_numbers, has_tokens_of, has_truths, lies_below};
 use kp_signature::Signature;
 use kp_signature::symbols::is_constructor;
 

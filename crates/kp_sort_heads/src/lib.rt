@@ -3,8 +3,8 @@
 #![tactic(auto)]
 
 mod head;
-mod left;
+mod remaining;
 mod sequence;
 
 pub use head::{SortHead, is_head};
-pub use sequence::{HeadsLeft, heads};
+pub use sequence::{HeadSequence, heads};

@@ -5,19 +5,19 @@ ghost use Rattle.kp_kore.specs.Signature.{heads_of};
 ghost use Rattle.kp_kore.specs.View.{sort_view};
 ghost use Rattle.kp_signature.specs.View.{signature_view};
 ghost use Rattle.kp_heads.specs.Made.{IsHeadTableOf};
-ghost use Rattle.kp_sort_heads.specs.Left.{IsNext, heads_left};
+ghost use Rattle.kp_sort_heads.specs.Remaining.{IsNext, remaining_heads};
 ghost use Rattle.kp_sort_heads.specs.Live.{IsNextLive};
 ghost use Rattle.kp_sort_heads.specs.Views.{head_view, left_of};
 
 use crate::head::{SortHead, is_head, is_live};
-use crate::left::{RemainingHeads, Stage};
+use crate::remaining::{RemainingHeads, Stage};
 use kp_heads::HeadTable;
 use kp_kore::Sort;
 use kp_signature::Signature;
 
 /// The heads of a sort that are still to come.
 #[derive(Drop)]
-pub struct HeadsLeft<'a> {
+pub struct HeadSequence<'a> {
     pub(crate) signature: &'a Signature,
     pub(crate) sort: &'a Sort,
     pub(crate) left: RemainingHeads<'a>,
@@ -25,7 +25,7 @@ pub struct HeadsLeft<'a> {
 
 /// The heads of a sort, in the order of the definition: whole numbers, truth values, tokens of the sort and of each that
 /// stands on the left of a subsort pair, constructors as they are declared.
-pub fn heads<'a>(signature: &'a Signature, sort: &'a Sort) -> HeadsLeft<'a>
+pub fn heads<'a>(signature: &'a Signature, sort: &'a Sort) -> HeadSequence<'a>
     ensures left { left_of result ≡ heads_of (signature_view signature.now) (sort_view sort.now) }
     ensures signature { result.signature.now ≡ signature.now }
 {
@@ -34,14 +34,14 @@ pub fn heads<'a>(signature: &'a Signature, sort: &'a Sort) -> HeadsLeft<'a>
         pairs: signature.subsorts(),
         symbols: signature.symbols(),
     };
-    HeadsLeft {
+    HeadSequence {
         signature,
         sort,
         left,
     }
 }
 
-impl<'a> HeadsLeft<'a> {
+impl<'a> HeadSequence<'a> {
     /// The next head, none where no more is left. Takes no memory.
     pub fn next(&mut self) -> Option<SortHead<'a>>
         ensures next { IsNext (option_map head_view result) (left_of self.old) (left_of self.new) }
@@ -66,7 +66,7 @@ fn next_head<'a>(
     sort: &'a Sort,
     left: &mut RemainingHeads<'a>,
 ) -> Option<SortHead<'a>>
-    ensures { let g = signature_view signature.now in let s = sort_view sort.now in IsNext (option_map head_view result) (heads_left g s left.old) (heads_left g s left.new) }
+    ensures { let g = signature_view signature.now in let s = sort_view sort.now in IsNext (option_map head_view result) (remaining_heads g s left.old) (remaining_heads g s left.new) }
 {
     while let Some(head) = left.next(sort) {
         if is_head(signature, sort, &head) {
@@ -83,7 +83,7 @@ fn next_live_head<'a>(
     sort: &'a Sort,
     left: &mut RemainingHeads<'a>,
 ) -> Option<SortHead<'a>>
-    ensures { let g = signature_view signature.now in let s = sort_view sort.now in IsHeadTableOf g table.now → IsNextLive g (option_map head_view result) (heads_left g s left.old) (heads_left g s left.new) }
+    ensures { let g = signature_view signature.now in let s = sort_view sort.now in IsHeadTableOf g table.now → IsNextLive g (option_map head_view result) (remaining_heads g s left.old) (remaining_heads g s left.new) }
 {
     while let Some(head) = next_head(signature, sort, left) {
         if is_live(table, signature, &head) {

@@ -6,13 +6,13 @@ use Rattle.kp_kore.specs.Rules.{RewriteRule}
 use Rattle.kp_kore.specs.Theory.{Theory}
 use Rattle.kp_kore.specs.Steps.{Fires}
 use Rattle.kp_symbolic.specs.States.{SymbolicState}
-use Rattle.kp_cases.specs.Parts.{StatePart, whole, OfEachInstance}
+use Rattle.kp_case_laws.specs.Parts.{StatePart, whole, OfEachInstance}
 use Rattle.kp_unify.specs.Narrowed.{NumberedPart}
-use Rattle.kp_step.specs.Left.{AreKept, OneTakesAll}
+use Rattle.kp_step.specs.Remainders.{AreKept, OneTakesAll}
 use Rattle.kp_step.specs.Found.{PlacedTurn, IsTurnAt}
 use Rattle.kp_step.specs.Follows.{PlacedNext, IsNextAt, AreNextsOf}
 use Rattle.kp_step.specs.Tries.{OneFiresOnAll}
-use Rattle.kp_step.proofs.LeftLemmas.{none_kept}
+use Rattle.kp_step.proofs.RemainderLemmas.{none_kept}
 
 -- where nothing of the whole state is kept, the one rule fires on all of it
 pub one_fires : (t : Theory) (s : SymbolicState) (q : NumberedPart) (found : List RewriteRule) (left kept : List NumberedPart) → q.part ≡ whole s → OneTakesAll t.signature found (q ∷ []) left → AreKept t.signature left kept → OneFiresOnAll t s found kept

@@ -16,31 +16,31 @@ use Rattle.kp_symbolic_laws.specs.Runs.{HasOneSortEach}
 use Rattle.kp_symbolic.specs.View.{clauses_view}
 use Rattle.kp_rules.specs.Skeletons.{Form, Admits, skeleton_view}
 use Rattle.kp_rules.specs.declared.skeleton.Skeleton.{Skeleton}
-use Rattle.kp_cases.specs.Parts.{StatePart, whole, with_clauses, IsSortedPart, OfEachInstance}
-use Rattle.kp_cases.specs.Cases.{MetPart}
-use Rattle.kp_cases.specs.Courses.{form_variables}
-use Rattle.kp_cases.proofs.PartLemmas.{clauses_restrict}
-use Rattle.kp_turns.specs.Firing.{AreWhere}
-use Rattle.kp_turns.proofs.AtHandLemmas.{sorts_of_hand}
+use Rattle.kp_case_laws.specs.Parts.{StatePart, whole, with_clauses, IsSortedPart, OfEachInstance}
+use Rattle.kp_case_laws.specs.Cases.{MetPart}
+use Rattle.kp_case_laws.specs.Courses.{form_variables}
+use Rattle.kp_case_laws.proofs.PartLemmas.{clauses_restrict}
+use Rattle.kp_case_laws.specs.Firing.{AreWhere}
+use Rattle.kp_case_laws.proofs.AtHandLemmas.{sorts_of_hand}
 use Rattle.kp_unify.specs.Comes.{IsNarrowedFrom}
 use Rattle.kp_unify.specs.Narrowed.{NumberedPart}
 use Rattle.kp_unify.specs.Way.{IsPartOn, IsMeetable, IsMeeting, IsAllApart}
-use Rattle.kp_decide.specs.Read.{HasSortedClauses}
-use Rattle.kp_firing.specs.Comes.{IsFormOf, ComesFrom, narrowed, fires, itself}
-use Rattle.kp_firing.specs.Ready.{IsReadyPart, HasInstance, parts_of}
-use Rattle.kp_firing.proofs.ComesLemmas.{clauses_of_foreign}
-use Rattle.kp_firing.proofs.ReadyLemmas.{equations_right}
-use Rattle.kp_firing.proofs.SilentLemmas.{right_ready, ready_on}
+use Rattle.kp_satisfiability.specs.Read.{HasSortedClauses}
+use Rattle.kp_step.specs.Comes.{IsFormOf, ComesFrom, narrowed, fires, itself}
+use Rattle.kp_step.specs.ReadyParts.{IsReadyPart, HasInstance, parts_of}
+use Rattle.kp_step.proofs.ComesLemmas.{clauses_of_foreign}
+use Rattle.kp_step.proofs.ReadyLemmas.{equations_right}
+use Rattle.kp_step.proofs.SilentLemmas.{right_ready, ready_on}
 use Rattle.kp_step.specs.Counted.{most_for}
 use Rattle.kp_step.specs.Meets.{MeetsRule}
 use Rattle.kp_step.proofs.CountLemmas.{counted_for, most_of_one}
-use Rattle.kp_step.specs.Left.{IsOneOf}
+use Rattle.kp_step.specs.Remainders.{IsOneOf}
 use Rattle.kp_step.specs.Places.{IsAt}
 use Rattle.kp_step.specs.Ready.{IsWholeReady}
 use Rattle.kp_step.specs.Rules.{IsForeignAt}
 use Rattle.kp_step.specs.Answers.{IsRightAnswerOf, TellsForeign, IsForeignAnswer}
-use Rattle.kp_step.specs.declared.answers.PartAnswer as answers
-use Rattle.kp_step.specs.declared.answers.PartAnswer.TheVariants as answer
+use Rattle.kp_step.specs.declared.part_answers.PartAnswer as answers
+use Rattle.kp_step.specs.declared.part_answers.PartAnswer.TheVariants as answer
 use Rattle.kp_step.proofs.CauseLemmas.{open_foreign}
 use Rattle.kp_step.proofs.MeetLemmas.{foreign_meets}
 use Rattle.kp_step.proofs.ForeignLemmas.{unknown_where, unknown_nowhere, nothing_unknown, meets_foreign}
@@ -99,7 +99,7 @@ tells_met t used s place k q m next apart answer.Nothing w f met h =
     let r = with_clauses m.part m.equations in
     λ rule at. subst (λ x. OfEachInstance t.signature (whole s) (λ v c. ¬ IsUnknownBy t.signature x.body c)) (one_at t place f.rule rule f.at at)
     (nothing_unknown t.signature (λ c. IsUnknownBy t.signature f.rule.body c) (whole s) r (met_where t used s place k q m next apart w f met) none)
-tells_met t used s place k q m next apart (answer.Open o) w f met h =
+tells_met t used s place k q m next apart (answer.UndecidedClauses o) w f met h =
     let shows = h.0.right in
     let own = subst (MeetsRule t.signature s) (sym f.body) (foreign_meets t.signature s f.left k f.stands (h.0.meets (λ e. absurd (cc)))) in
     let left = skeleton_view k in

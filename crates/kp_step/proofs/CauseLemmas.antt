@@ -9,19 +9,19 @@ use Rattle.kp_kore.specs.Steps.{Fires, IsUnknownBy}
 use Rattle.kp_kore.proofs.TurnLemmas.{of_member}
 use Rattle.kp_symbolic.specs.States.{Literal, SymbolicState}
 use Rattle.kp_symbolic.specs.Verdicts.{Weighed}
-use Rattle.kp_cases.specs.Parts.{StatePart, whole, IsTold}
-use Rattle.kp_turns.specs.Firing.{AreWhere}
-use Rattle.kp_turns.specs.Turns.{IsLeftTo}
-use Rattle.kp_turns.proofs.PartsWhere.{said_otherwise}
-use Rattle.kp_turns.proofs.TurnsFound.{left_to_none}
+use Rattle.kp_case_laws.specs.Parts.{StatePart, whole, IsTold}
+use Rattle.kp_case_laws.specs.Firing.{AreWhere}
+use Rattle.kp_case_laws.specs.Turns.{RemainsTo}
+use Rattle.kp_case_laws.proofs.PartsWhere.{said_otherwise}
+use Rattle.kp_case_laws.proofs.TurnsFound.{left_to_none}
 use Rattle.kp_unify.specs.Narrowed.{NumberedPart}
-use Rattle.kp_firing.specs.Comes.{ComesFrom, itself}
-use Rattle.kp_firing.specs.Ready.{parts_of}
+use Rattle.kp_step.specs.Comes.{ComesFrom, itself}
+use Rattle.kp_step.specs.ReadyParts.{parts_of}
 use Rattle.kp_step.specs.Meets.{MeetsRule, AllMeet}
 use Rattle.kp_step.specs.Counted.{ComparesWithin}
 use Rattle.kp_step.proofs.MeetLemmas.{one_of_these_meets, only_it}
-use Rattle.kp_step.specs.Left.{IsOneOf, IsOfThese, AreLeft}
-use Rattle.kp_step.specs.Causes.{MayRewrite, IsAsked, IsShownOf, IsLeftOpen}
+use Rattle.kp_step.specs.Remainders.{IsOneOf, IsOfThese, AreRemaining}
+use Rattle.kp_step.specs.Causes.{MayRewrite, IsAsked, IsShownOf, IsUndecidedStep}
 
 part_among : (ps : List NumberedPart) (q : NumberedPart) → Contains ps q → Contains (parts_of ps) q.part
 part_among [] q c = let none = c.1 in absurd (omega (arith, none))
@@ -41,7 +41,7 @@ part_among (p ∷ ps) q c = elim (Contains-append_cases (p ∷ []) ps q c) [
     first e = subst (λ x. Contains (p.part ∷ parts_of ps) x) (ap (λ x. x.part) e) (Contains-append_left (p.part ∷ []) (parts_of ps) p.part (Contains-push [] p.part))
 
 -- of the state itself
-pub open_state : (t : Theory) (s : SymbolicState) (shown : List (List Literal)) (over : Option Weighed) → IsTold t.signature (whole s) → IsShownOf t.signature s s shown over → ComparesWithin t.signature s s [] over → IsLeftOpen t s None shown over
+pub open_state : (t : Theory) (s : SymbolicState) (shown : List (List Literal)) (over : Option Weighed) → IsTold t.signature (whole s) → IsShownOf t.signature s s shown over → ComparesWithin t.signature s s [] over → IsUndecidedStep t s None shown over
 open_state t s shown over told shows compares = record {
   turns = [];
   of_theory = tt;
@@ -56,14 +56,14 @@ open_state t s shown over told shows compares = record {
 }
 
 -- of a part that rules leave to a rule
-pub open_rule : (t : Theory) (used : List Text) (s : SymbolicState) (m : StatePart) (r : RewriteRule) (read : Rewrite) (found : List RewriteRule) (parts : List NumberedPart) (q : NumberedPart) (shown : List (List Literal)) (over : Option Weighed) →
-    r.body ≡ rewrite read → AllByRecursion (Contains t.rules) found → MeetsRule t.signature s r.body → AllMeet t.signature s found → AreLeft t.signature used (Some r) found (whole s) m parts → Contains parts q → IsShownOf t.signature s q.part.state shown over → ComparesWithin t.signature s q.part.state (r ∷ found) over → IsLeftOpen t s (Some r) shown over
-open_rule t used s m r read found parts q shown over body members own all l c shows compares = record {
+pub undecided_rule : (t : Theory) (used : List Text) (s : SymbolicState) (m : StatePart) (r : RewriteRule) (read : Rewrite) (found : List RewriteRule) (parts : List NumberedPart) (q : NumberedPart) (shown : List (List Literal)) (over : Option Weighed) →
+    r.body ≡ rewrite read → AllByRecursion (Contains t.rules) found → MeetsRule t.signature s r.body → AllMeet t.signature s found → AreRemaining t.signature used (Some r) found (whole s) m parts → Contains parts q → IsShownOf t.signature s q.part.state shown over → ComparesWithin t.signature s q.part.state (r ∷ found) over → IsUndecidedStep t s (Some r) shown over
+undecided_rule t used s m r read found parts q shown over body members own all l c shows compares = record {
   turns = found;
   of_theory = members;
   meets = one_of_these_meets t.signature s (Some r) found (only_it t.signature s r own) all;
   parts = parts_of parts;
-  asked = said_otherwise t.signature (IsLeftTo t.signature (Some r) found) (IsAsked t.signature (Some r) found) (whole s) (parts_of parts)
+  asked = said_otherwise t.signature (RemainsTo t.signature (Some r) found) (IsAsked t.signature (Some r) found) (whole s) (parts_of parts)
       (λ w d h k. ((λ f. (subst (λ b. MayRewrite t.signature b d) (sym body) (subst (λ b. Fires t.signature b d) body f.0), f.1)), (λ a. (subst (λ b. Fires t.signature b d) (sym body) (subst (λ b. MayRewrite t.signature b d) body a.0), a.1)))) l.left;
   part = q.part;
   among = part_among parts q c;
@@ -74,7 +74,7 @@ open_rule t used s m r read found parts q shown over body members own all l c sh
 
 -- of a part that they leave to none
 pub open_remainder : (t : Theory) (used : List Text) (s : SymbolicState) (m : StatePart) (found : List RewriteRule) (parts : List NumberedPart) (q : NumberedPart) (shown : List (List Literal)) (over : Option Weighed) →
-    AllByRecursion (Contains t.rules) found → AllMeet t.signature s found → AreLeft t.signature used None found (whole s) m parts → Contains parts q → IsShownOf t.signature s q.part.state shown over → ComparesWithin t.signature s q.part.state found over → IsLeftOpen t s None shown over
+    AllByRecursion (Contains t.rules) found → AllMeet t.signature s found → AreRemaining t.signature used None found (whole s) m parts → Contains parts q → IsShownOf t.signature s q.part.state shown over → ComparesWithin t.signature s q.part.state found over → IsUndecidedStep t s None shown over
 open_remainder t used s m found parts q shown over members all l c shows compares = record {
   turns = found;
   of_theory = members;
@@ -90,7 +90,7 @@ open_remainder t used s m found parts q shown over members all l c shows compare
 
 -- of the part where a foreign rule might rewrite
 pub open_foreign : (t : Theory) (s : SymbolicState) (r : RewriteRule) (left : ForeignLeft) (p : StatePart) (shown : List (List Literal)) (over : Option Weighed) → r.body ≡ foreign_rule left → MeetsRule t.signature s r.body →
-    AreWhere t.signature (λ c. IsUnknownBy t.signature r.body c) (whole s) (p ∷ []) → ComesFrom t.signature (IsOneOf (Some r) []) (whole s) p → IsShownOf t.signature s p.state shown over → ComparesWithin t.signature s p.state (r ∷ []) over → IsLeftOpen t s (Some r) shown over
+    AreWhere t.signature (λ c. IsUnknownBy t.signature r.body c) (whole s) (p ∷ []) → ComesFrom t.signature (IsOneOf (Some r) []) (whole s) p → IsShownOf t.signature s p.state shown over → ComparesWithin t.signature s p.state (r ∷ []) over → IsUndecidedStep t s (Some r) shown over
 open_foreign t s r left p shown over body own d comes shows compares = record {
   turns = [];
   of_theory = tt;

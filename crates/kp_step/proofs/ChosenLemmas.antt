@@ -5,7 +5,7 @@ use Rattle.kp_kore.specs.Syntax.{Text}
 use Rattle.kp_kore.specs.Parts.{SortedName}
 use Rattle.kp_symbolic.specs.Terms.{unknown, replacement_for}
 use Rattle.kp_unify.specs.Names.{IsNextName}
-use Rattle.kp_step.specs.Rights.{ChosenNew, IsChosenNext, IsChosenOne}
+use Rattle.kp_step.specs.RightSides.{ChosenNew, IsChosenNext, IsChosenOne}
 
 pub is_chosen : (used : List Text) (y v : SortedName) (before after : ChosenNew) → is_some (replacement_for before.bindings y.name) ≡ false → IsNextName used before.next v.name after.next → v.sort ≡ y.sort →
     after.bindings ≡ before.bindings ++ record { name = y.name; term = unknown v } ∷ [] → after.new ≡ before.new ++ v ∷ [] → IsChosenOne used y before after

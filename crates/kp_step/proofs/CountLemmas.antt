@@ -7,11 +7,11 @@ use Rattle.kp_kore.specs.Theory.{Theory}
 use Rattle.kp_symbolic.specs.States.{SymbolicState}
 use Rattle.kp_symbolic.specs.Verdicts.{Weighed}
 use Rattle.kp_symbolic.specs.Shown.{whole_variables, sum_over}
-use Rattle.kp_weights.specs.declared.weight.Weighed as code
-use Rattle.kp_decide.specs.Answers.{IsWeighedAs}
+use Rattle.kp_limits.specs.declared.weight.Weighed as code
+use Rattle.kp_satisfiability.specs.Answers.{IsWeighedAs}
 use Rattle.kp_rules.specs.Skeletons.{Form}
-use Rattle.kp_compared.specs.Compared.{numeric_places}
-use Rattle.kp_firing.specs.Comes.{IsFormOf}
+use Rattle.kp_limits.specs.Compared.{numeric_places}
+use Rattle.kp_step.specs.Comes.{IsFormOf}
 use Rattle.kp_step.specs.Counted.{AreLeftsOf, has_numbers_above, counted_lefts, most_for, IsMost, ComparesWithin, IsCounted}
 
 -- what was counted is told of the weight that is meant

@@ -5,9 +5,9 @@ use Rattle.kp_symbolic.specs.Terms.{term_instance}
 use Rattle.kp_symbolic.specs.States.{Literal, SymbolicState, CanBeTrue}
 use Rattle.kp_symbolic.specs.Plain.{rough_clauses}
 use Rattle.kp_symbolic.specs.Verdicts.{Weighed, undecided, IsRightVerdict}
-use Rattle.kp_cases.specs.Parts.{whole}
-use Rattle.kp_turns.specs.Firing.{HasNoInstance}
-use Rattle.kp_firing.specs.Ready.{HasInstance}
+use Rattle.kp_case_laws.specs.Parts.{whole}
+use Rattle.kp_case_laws.specs.Firing.{HasNoInstance}
+use Rattle.kp_step.specs.ReadyParts.{HasInstance}
 use Rattle.kp_step.specs.Causes.{IsShownOf}
 
 pub some_instance : (g : KoreSignature) (s : SymbolicState) → CanBeTrue g s.variables s.clauses → HasInstance g (whole s)

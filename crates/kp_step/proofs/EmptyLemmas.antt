@@ -9,13 +9,13 @@ use Rattle.kp_kore.proofs.TurnLemmas.{each_member}
 use Rattle.kp_symbolic.specs.States.{IsClauseTrue, SymbolicState}
 use Rattle.kp_symbolic.proofs.Distribution.{all_second}
 use Rattle.kp_symbolic.proofs.Leaf.{once_says}
-use Rattle.kp_cases.specs.Parts.{StatePart, whole}
-use Rattle.kp_turns.specs.Firing.{HasNoInstance}
+use Rattle.kp_case_laws.specs.Parts.{StatePart, whole}
+use Rattle.kp_case_laws.specs.Firing.{HasNoInstance}
 use Rattle.kp_unify.specs.Narrowed.{NumberedPart}
-use Rattle.kp_firing.specs.Ready.{IsReadyPart, narrowed_by}
-use Rattle.kp_firing.proofs.SilentLemmas.{right_ready}
+use Rattle.kp_step.specs.ReadyParts.{IsReadyPart, narrowed_by}
+use Rattle.kp_step.proofs.SilentLemmas.{right_ready}
 use Rattle.kp_step.specs.Ready.{IsReadyState}
-use Rattle.kp_step.specs.Left.{IsPartIn}
+use Rattle.kp_step.specs.Remainders.{IsPartIn}
 use Rattle.kp_step.specs.Follows.{never as moves_nowhere, IsNextOf}
 use Rattle.kp_step.proofs.FollowLemmas.{nothing_follows}
 use Rattle.kp_step.proofs.NextStateLemmas.{with_these}

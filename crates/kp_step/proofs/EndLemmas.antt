@@ -12,15 +12,15 @@ use Rattle.kp_kore.proofs.TurnLemmas.{of_member}
 use Rattle.kp_kore.specs.Steps.{IsUnknown, AnyByRecursion}
 use Rattle.kp_symbolic.specs.States.{SymbolicState}
 use Rattle.kp_symbolic.specs.View.{clauses_view}
-use Rattle.kp_cases.specs.Parts.{StatePart, whole, OfEachInstance, IsTold}
-use Rattle.kp_turns.specs.Turns.{rules_of}
-use Rattle.kp_turns.specs.NextStates.{StepCase, HaveOwnIds}
+use Rattle.kp_case_laws.specs.Parts.{StatePart, whole, OfEachInstance, IsTold}
+use Rattle.kp_case_laws.specs.Turns.{rules_of}
+use Rattle.kp_case_laws.specs.NextStates.{StepCase, HaveOwnIds}
 use Rattle.kp_unify.specs.Narrowed.{NumberedPart}
 use Rattle.kp_unify.specs.declared.part.Part.{Part}
-use Rattle.kp_firing.specs.Ready.{IsReadyPart, HasInstance}
+use Rattle.kp_step.specs.ReadyParts.{IsReadyPart, HasInstance}
 use Rattle.kp_rule_sets.specs.declared.rule_set.RuleSet.{RuleSet}
-use Rattle.kp_decide.specs.Read.{HasSortedClauses}
-use Rattle.kp_wide.specs.Wide.{WideCall, first_wide}
+use Rattle.kp_satisfiability.specs.Read.{HasSortedClauses}
+use Rattle.kp_limits.specs.Wide.{WideCall, first_wide}
 use Rattle.kp_unify.specs.Views.{IsSetting}
 use Rattle.kp_unify.specs.declared.part.Setting.{Setting}
 use Rattle.kp_step.specs.Meets.{AllMeet}
@@ -28,24 +28,24 @@ use Rattle.kp_step.specs.Counted.{most_for, IsMost, IsCounted}
 use Rattle.kp_step.proofs.CountLemmas.{counted_for, most_of_none}
 use Rattle.kp_step.specs.Ready.{IsReadyState, IsWholeReady}
 use Rattle.kp_step.specs.Rules.{Steps, IsStepFrom}
-use Rattle.kp_step.specs.Left.{IsPartIn, AreLeft, OneTakesAll}
+use Rattle.kp_step.specs.Remainders.{IsPartIn, AreRemaining, OneTakesAll}
 use Rattle.kp_step.specs.Found.{PlacedTurn, IsRuleAt, AreAllFound}
 use Rattle.kp_step.specs.Follows.{AreNextsOf, IsSolvedPart}
 use Rattle.kp_step.specs.Limits.{TermLimit, number, Passes, PassesNone, IsCaseMade, told_state, IsPassed}
 use Rattle.kp_step.specs.Tries.{OneFiresOnAll, AreRemaining}
 use Rattle.kp_step.specs.Answers.{ShowsOf, IsRightAnswerOf, AreDecided, TellsRemainder}
-use Rattle.kp_step.specs.Outcomes.{IsCaseOf, IsRemainderOf, AreCasesOf, IsToldOpen}
+use Rattle.kp_step.specs.RightSteps.{IsCaseOf, IsRemainderOf, AreCasesOf, IsToldUndecided}
 use Rattle.kp_step.specs.Views.{numbered_views, next_view, next_told, part_told, limit_view}
-use Rattle.kp_step.specs.declared.answers.PartAnswer as answers
+use Rattle.kp_step.specs.declared.part_answers.PartAnswer as answers
 use Rattle.kp_step.specs.declared.outcome.StepLimit.{StepLimit}
-use Rattle.kp_step.specs.declared.answers.Open.{Open}
-use Rattle.kp_step.specs.declared.answers.Decided as decisions
-use Rattle.kp_step.specs.declared.answers.Decided.TheVariants as decided
+use Rattle.kp_step.specs.declared.part_answers.UndecidedClauses.{UndecidedClauses}
+use Rattle.kp_step.specs.declared.part_answers.Decided as decisions
+use Rattle.kp_step.specs.declared.part_answers.Decided.TheVariants as decided
 use Rattle.kp_step.specs.declared.outcome.Next.{Next}
 use Rattle.kp_step.proofs.AloneLemmas.{one_fires}
 use Rattle.kp_step.proofs.CauseLemmas.{open_state, open_remainder}
 use Rattle.kp_step.proofs.FoundLemmas.{one_at, turns_of}
-use Rattle.kp_step.proofs.LeftLemmas.{all_is_left, kept_is_left, kept_have}
+use Rattle.kp_step.proofs.RemainderLemmas.{all_is_left, kept_is_left, kept_have}
 use Rattle.kp_step.proofs.OutcomeLemmas.{cases_are, steps_are}
 use Rattle.kp_step.proofs.SortedLemmas.{sorted_clauses}
 use Rattle.kp_step.proofs.SolvedLemmas.{solved_left, solved_have}
@@ -64,19 +64,19 @@ is_whole g used s next q e f r = record { is = e; ready = subst (IsReadyPart g u
 
 -- ---- what is left open
 
-pub open_at_all : (t : Theory) (s : SymbolicState) (o : Open) → IsTold t.signature (whole s) → ShowsOf t.signature s s o → IsCounted t.signature s (most_for t.signature s []) o.over → IsToldOpen t s (clauses_view o.shown.items) o.over None
-open_at_all t s o told shows counted = record { rule = None; is_rule = tt; weight = shows.0; weighed = shows.1; left_open = open_state t s (clauses_view o.shown.items) shows.0 told shows.2 (counted_for t.signature s s [] (most_for t.signature s []) shows.0 o.over (most_of_none t.signature s) counted shows.1) }
+pub open_at_all : (t : Theory) (s : SymbolicState) (o : UndecidedClauses) → IsTold t.signature (whole s) → ShowsOf t.signature s s o → IsCounted t.signature s (most_for t.signature s []) o.over → IsToldUndecided t s (clauses_view o.shown.items) o.over None
+open_at_all t s o told shows counted = record { rule = None; is_rule = tt; weight = shows.0; weighed = shows.1; what_is_undecided = open_state t s (clauses_view o.shown.items) shows.0 told shows.2 (counted_for t.signature s s [] (most_for t.signature s []) shows.0 o.over (most_of_none t.signature s) counted shows.1) }
 
 -- ---- the remainder
 
-pub remainder_told : (t : Theory) (used : List Text) (s : SymbolicState) (q : NumberedPart) (found : List RewriteRule) (most : ℕ) (left : List NumberedPart) (d : decisions.Decided) → q.part ≡ whole s → AllByRecursion (Contains t.rules) found → AllMeet t.signature s found → IsMost t.signature s found most → AreLeft t.signature used None found (whole s) (whole s) left →
+pub remainder_told : (t : Theory) (used : List Text) (s : SymbolicState) (q : NumberedPart) (found : List RewriteRule) (most : ℕ) (left : List NumberedPart) (d : decisions.Decided) → q.part ≡ whole s → AllByRecursion (Contains t.rules) found → AllMeet t.signature s found → IsMost t.signature s found most → AreRemaining t.signature used None found (whole s) (whole s) left →
     OneTakesAll t.signature found (q ∷ []) left → AreDecided t.signature s most left d → TellsRemainder t used s found d
 remainder_told t used s q found most left (decided.Parts ks) e members meet m l o k = record {
   left = kept_is_left t.signature used None found (whole s) (whole s) left (numbered_views ks.items) k l;
   instances = kept_have t.signature left (numbered_views ks.items) k;
   alone = one_fires t s q found left (numbered_views ks.items) e o k;
 }
-remainder_told t used s q found most left (decided.Open o) e members meet m l all k =
+remainder_told t used s q found most left (decided.UndecidedClauses o) e members meet m l all k =
     let shows = k.2 in
     let compares = counted_for t.signature s k.0.part.state found most shows.0 o.over m k.3 shows.1 in
     (shows.0, shows.1, open_remainder t used s (whole s) found left k.0 (clauses_view o.shown.items) shows.0 members meet l k.1 shows.2 compares)
@@ -172,22 +172,22 @@ solved_by t used s g found qs rs e r k =
     remaining_solved t used s found qs rs (at (each_ready t.signature used (whole s) (whole s) qs r.left.each)) r
 
 -- all of the state is left to none
-pub all_left : (t : Theory) (used : List Text) (s : SymbolicState) (g : KoreSignature) (q : NumberedPart) (parts : List NumberedPart) → g ≡ t.signature → IsWholeReady t.signature used s q → parts ≡ q ∷ [] → AreLeft g used None [] (whole s) (whole s) parts
+pub all_left : (t : Theory) (used : List Text) (s : SymbolicState) (g : KoreSignature) (q : NumberedPart) (parts : List NumberedPart) → g ≡ t.signature → IsWholeReady t.signature used s q → parts ≡ q ∷ [] → AreRemaining g used None [] (whole s) (whole s) parts
 all_left t used s g q parts e w is =
-    subst (λ h. AreLeft h used None [] (whole s) (whole s) parts) (sym e)
-    (subst (AreLeft t.signature used None [] (whole s) (whole s)) (sym is) (subst (λ p. AreLeft t.signature used None [] p p (q ∷ [])) w.is (all_is_left t.signature used q w.ready)))
+    subst (λ h. AreRemaining h used None [] (whole s) (whole s) parts) (sym e)
+    (subst (AreRemaining t.signature used None [] (whole s) (whole s)) (sym is) (subst (λ p. AreRemaining t.signature used None [] p p (q ∷ [])) w.is (all_is_left t.signature used q w.ready)))
 
-pub ready_left : (g : KoreSignature) (used : List Text) (o : Option RewriteRule) (found : List RewriteRule) (s m : StatePart) (qs : List NumberedPart) → AreLeft g used o found s m qs → AllByRecursion (IsReadyPart g used) qs
+pub ready_left : (g : KoreSignature) (used : List Text) (o : Option RewriteRule) (found : List RewriteRule) (s m : StatePart) (qs : List NumberedPart) → AreRemaining g used o found s m qs → AllByRecursion (IsReadyPart g used) qs
 ready_left g used o found s m qs l = each_ready g used s m qs l.each
 
-pub remainder_by : (t : Theory) (used : List Text) (s : SymbolicState) (g : KoreSignature) (q : NumberedPart) (found : List RewriteRule) (most : ℕ) (parts left : List NumberedPart) (d : decisions.Decided) (turns : List PlacedTurn) → g ≡ t.signature → IsWholeReady t.signature used s q → AllZip (IsRuleAt t) turns found → AllMeet t.signature s found → IsMost t.signature q.part.state found most → parts ≡ q ∷ [] → AreLeft g used None found (whole s) (whole s) left →
+pub remainder_by : (t : Theory) (used : List Text) (s : SymbolicState) (g : KoreSignature) (q : NumberedPart) (found : List RewriteRule) (most : ℕ) (parts left : List NumberedPart) (d : decisions.Decided) (turns : List PlacedTurn) → g ≡ t.signature → IsWholeReady t.signature used s q → AllZip (IsRuleAt t) turns found → AllMeet t.signature s found → IsMost t.signature q.part.state found most → parts ≡ q ∷ [] → AreRemaining g used None found (whole s) (whole s) left →
     OneTakesAll g found parts left → AreDecided g q.part.state most left d → TellsRemainder t used s found d
 remainder_by t used s g q found most parts left d turns e w z meet m is l o k =
-    remainder_told t used s q found most left d w.is (rules_in_theory t turns found z) meet (subst (λ p. IsMost t.signature p.state found most) w.is m) (subst (λ h. AreLeft h used None found (whole s) (whole s) left) e l)
+    remainder_told t used s q found most left d w.is (rules_in_theory t turns found z) meet (subst (λ p. IsMost t.signature p.state found most) w.is m) (subst (λ h. AreRemaining h used None found (whole s) (whole s) left) e l)
     (subst (λ xs. OneTakesAll t.signature found xs left) is (subst (λ h. OneTakesAll h found parts left) e o)) (subst (λ p. AreDecided t.signature p.state most left d) w.is (subst (λ h. AreDecided h q.part.state most left d) e k))
 
-pub told_remainder_open : (t : Theory) (used : List Text) (s : SymbolicState) (found : List RewriteRule) (o : Open) → TellsRemainder t used s found (decided.Open o) → IsToldOpen t s (clauses_view o.shown.items) o.over None
-told_remainder_open t used s found o k = record { rule = None; is_rule = tt; weight = k.0; weighed = k.1; left_open = k.2 }
+pub told_remainder_open : (t : Theory) (used : List Text) (s : SymbolicState) (found : List RewriteRule) (o : UndecidedClauses) → TellsRemainder t used s found (decided.UndecidedClauses o) → IsToldUndecided t s (clauses_view o.shown.items) o.over None
+told_remainder_open t used s found o k = record { rule = None; is_rule = tt; weight = k.0; weighed = k.1; what_is_undecided = k.2 }
 
 -- ---- the state itself
 

@@ -17,30 +17,30 @@ use Rattle.kp_rules.specs.Skeletons.{skeleton_view}
 use Rattle.kp_rules.specs.Sides.{AreSidesOf}
 use Rattle.kp_rules.specs.VerifiedSides.{AreVerifiedSides}
 use Rattle.kp_rules.specs.declared.sides.ReadSides.{ReadSides}
-use Rattle.kp_cases.specs.Parts.{StatePart, whole, OfEachInstance, IsGrown}
-use Rattle.kp_cases.specs.Courses.{IsBoundTo, form_variables}
-use Rattle.kp_cases.proofs.PartLemmas.{below_itself}
-use Rattle.kp_turns.specs.Firing.{AreFiringCases}
-use Rattle.kp_turns.proofs.AtHandLemmas.{named_member}
+use Rattle.kp_case_laws.specs.Parts.{StatePart, whole, OfEachInstance, IsGrown}
+use Rattle.kp_case_laws.specs.Courses.{IsBoundTo, form_variables}
+use Rattle.kp_case_laws.proofs.PartLemmas.{below_itself}
+use Rattle.kp_case_laws.specs.Firing.{AreFiringCases}
+use Rattle.kp_case_laws.proofs.AtHandLemmas.{named_member}
 use Rattle.kp_unify.specs.Comes.{IsNarrowedFrom}
 use Rattle.kp_unify.specs.Way.{AreEquations}
 use Rattle.kp_unify.specs.Narrowed.{NumberedPart}
 use Rattle.kp_unify.specs.Views.{IsSetting}
 use Rattle.kp_unify.specs.declared.part.Setting.{Setting}
-use Rattle.kp_firing.specs.Comes.{ComesFrom, narrowed, fires, itself}
-use Rattle.kp_firing.specs.Ready.{IsReadyPart}
-use Rattle.kp_firing.specs.Firings.{met_of, FiresOn, IsFired}
-use Rattle.kp_firing.specs.declared.firing.Firing.{Firing}
-use Rattle.kp_firing.proofs.RuleLemmas.{left_variables}
-use Rattle.kp_firing.proofs.SilentLemmas.{fires_nowhere_there}
+use Rattle.kp_step.specs.Comes.{ComesFrom, narrowed, fires, itself}
+use Rattle.kp_step.specs.ReadyParts.{IsReadyPart}
+use Rattle.kp_step.specs.Firings.{met_of, FiresOn, IsFired}
+use Rattle.kp_step.specs.declared.firing.Firing.{Firing}
+use Rattle.kp_step.proofs.FiredRules.{left_variables}
+use Rattle.kp_step.proofs.SilentLemmas.{fires_nowhere_there}
 use Rattle.kp_step.specs.Places.{IsAt, IsReadAs}
 use Rattle.kp_step.specs.Ready.{IsWholeReady}
-use Rattle.kp_step.specs.Left.{IsPartIn}
+use Rattle.kp_step.specs.Remainders.{IsPartIn}
 use Rattle.kp_step.specs.Found.{IsMetIn}
 use Rattle.kp_step.specs.Tries.{narrowed_of, IsFiringOf}
 use Rattle.kp_step.specs.Answers.{firing_model}
 use Rattle.kp_step.proofs.FoundLemmas.{one_at}
-use Rattle.kp_step.proofs.LeftLemmas.{itself_at_hand}
+use Rattle.kp_step.proofs.RemainderLemmas.{itself_at_hand}
 
 inside : {a b : SymbolicTerm} → Some a ≡ Some b → a ≡ b
 inside e = cc

@@ -14,15 +14,15 @@ use Rattle.kp_symbolic.specs.States.{SymbolicState}
 use Rattle.kp_symbolic.specs.View.{clauses_view}
 use Rattle.kp_rule_sets.specs.RuleSets.{RunsAs}
 use Rattle.kp_rule_sets.specs.declared.rule_set.RuleSet.{RuleSet}
-use Rattle.kp_cases.specs.Parts.{whole, OfEachInstance}
+use Rattle.kp_case_laws.specs.Parts.{whole, OfEachInstance}
 use Rattle.kp_step.specs.Places.{IsAt}
-use Rattle.kp_step.specs.Causes.{IsPassedBy, IsFirstMet, IsLeftOpen}
-use Rattle.kp_step.specs.Answers.{TellsForeign, TellsKnown, IsOpenAt}
+use Rattle.kp_step.specs.Causes.{IsPassedBy, IsFirstMet, IsUndecidedStep}
+use Rattle.kp_step.specs.Answers.{TellsForeign, TellsKnown, IsUndecidedAt}
 use Rattle.kp_step.specs.declared.outcome.StepOutcome.{StepOutcome}
-use Rattle.kp_step.specs.Outcomes.{IsToldOpen, IsRightStep}
-use Rattle.kp_step.specs.declared.answers.Open.{Open}
-use Rattle.kp_step.specs.declared.answers.PartAnswer.TheVariants as answer
-use Rattle.kp_step.specs.declared.foreign.OpenAt.{OpenAt}
+use Rattle.kp_step.specs.RightSteps.{IsToldUndecided, IsRightStep}
+use Rattle.kp_step.specs.declared.part_answers.UndecidedClauses.{UndecidedClauses}
+use Rattle.kp_step.specs.declared.part_answers.PartAnswer.TheVariants as answer
+use Rattle.kp_step.specs.declared.foreign.UndecidedRule.{UndecidedRule}
 use Rattle.kp_step.proofs.ForeignLemmas.{all_known}
 use Rattle.kp_step.proofs.FoundLemmas.{one_at, contains_at}
 use Rattle.kp_step.proofs.LoopLemmas.{taken, all_taken, split_there}
@@ -59,54 +59,54 @@ passed_nothing t s before place p n = all_append (Passed t s) before (place ∷ 
 pub unknown_nothing : (t : Theory) (s : SymbolicState) (before : List ℕ) (place : ℕ) → AllByRecursion (NotUnknown t s) before → TellsForeign t s place answer.Nothing → AllByRecursion (NotUnknown t s) (before ++ place ∷ [])
 unknown_nothing t s before place p n = all_append (NotUnknown t s) before (place ∷ []) p (n, tt)
 
-pub passed_open : (t : Theory) (s : SymbolicState) (before : List ℕ) (place : ℕ) (o : Open) → AllByRecursion (Passed t s) before → TellsForeign t s place (answer.Open o) → AllByRecursion (Passed t s) (before ++ place ∷ [])
+pub passed_open : (t : Theory) (s : SymbolicState) (before : List ℕ) (place : ℕ) (o : UndecidedClauses) → AllByRecursion (Passed t s) before → TellsForeign t s place (answer.UndecidedClauses o) → AllByRecursion (Passed t s) (before ++ place ∷ [])
 passed_open t s before place o p x = all_append (Passed t s) before (place ∷ []) p
-    ((λ r at. inr (clauses_view o.shown.items, x.2, subst (λ q. IsLeftOpen t s (Some q) (clauses_view o.shown.items) x.2) (one_at t place x.0 r x.1 at) x.4)), tt)
+    ((λ r at. inr (clauses_view o.shown.items, x.2, subst (λ q. IsUndecidedStep t s (Some q) (clauses_view o.shown.items) x.2) (one_at t place x.0 r x.1 at) x.4)), tt)
 
-pub open_at : (t : Theory) (s : SymbolicState) (o : Open) (place : ℕ) (x : OpenAt) → x.told ≡ o → x.place ≡ place → TellsForeign t s place (answer.Open o) → IsOpenAt t s x
+pub open_at : (t : Theory) (s : SymbolicState) (o : UndecidedClauses) (place : ℕ) (x : UndecidedRule) → x.told ≡ o → x.place ≡ place → TellsForeign t s place (answer.UndecidedClauses o) → IsUndecidedAt t s x
 open_at t s o place x e f k = subst (λ d. AtWith d x.place) (sym e) (subst (λ p. AtWith o p) (sym f) k)
   where
-    AtWith : Open → ℕ → Type 0
-    AtWith d p = TellsForeign t s p (answer.Open d)
+    AtWith : UndecidedClauses → ℕ → Type 0
+    AtWith d p = TellsForeign t s p (answer.UndecidedClauses d)
 
 -- ---- in the end
 
 pub each_is_known : (t : Theory) (s : SymbolicState) (rules : RuleSet) (places : List ℕ) → RunsAs t rules → InTurn rules places → AllByRecursion (NotUnknown t s) places → OfEachInstance t.signature (whole s) (λ w c. ¬ IsUnknown t c)
 each_is_known t s rules places runs turn h = all_known t (whole s) (λ r member. let p = contains_at t.rules r member in of_member (NotUnknown t s) places p.0 h (each_is_there t rules places p.0 r runs turn p.1) r p.1)
 
-pub told_open : (t : Theory) (s : SymbolicState) (x : OpenAt) → IsOpenAt t s x → IsToldOpen t s (clauses_view x.told.shown.items) x.told.over (Some x.place)
-told_open t s x k = record { rule = Some k.0; is_rule = k.1; weight = k.2; weighed = k.3; left_open = k.4 }
+pub told_open : (t : Theory) (s : SymbolicState) (x : UndecidedRule) → IsUndecidedAt t s x → IsToldUndecided t s (clauses_view x.told.shown.items) x.told.over (Some x.place)
+told_open t s x k = record { rule = Some k.0; is_rule = k.1; weight = k.2; weighed = k.3; what_is_undecided = k.4 }
 
 -- ---- as the loop goes
 
-abbrev pub Asking : Theory → SymbolicState → List ℕ → ℕ → List OpenAt → Type 0
-Asking t s places i opened = AllByRecursion (Passed t s) (take i places) × AllByRecursion (IsOpenAt t s) opened × (opened ≡ [] → AllByRecursion (NotUnknown t s) (take i places))
+abbrev pub Asking : Theory → SymbolicState → List ℕ → ℕ → List UndecidedRule → Type 0
+Asking t s places i opened = AllByRecursion (Passed t s) (take i places) × AllByRecursion (IsUndecidedAt t s) opened × (opened ≡ [] → AllByRecursion (NotUnknown t s) (take i places))
 
-pub asks_none : (t : Theory) (s : SymbolicState) (places : List ℕ) (i place : ℕ) (opened : List OpenAt) → i < length places → place ≡ get_or places i place → TellsForeign t s place answer.Nothing → Asking t s places i opened → Asking t s places (i + 1) opened
+pub asks_none : (t : Theory) (s : SymbolicState) (places : List ℕ) (i place : ℕ) (opened : List UndecidedRule) → i < length places → place ≡ get_or places i place → TellsForeign t s place answer.Nothing → Asking t s places i opened → Asking t s places (i + 1) opened
 asks_none t s places i place opened h e n a = (
   subst (AllByRecursion (Passed t s)) (sym (taken places i place h e)) (passed_nothing t s (take i places) place a.0 n),
   a.1,
   (λ o. subst (AllByRecursion (NotUnknown t s)) (sym (taken places i place h e)) (unknown_nothing t s (take i places) place (a.2 o) n)),
 )
 
-some_opened : (xs : List OpenAt) (x : OpenAt) → xs ++ x ∷ [] ≡ [] → ⊥
+some_opened : (xs : List UndecidedRule) (x : UndecidedRule) → xs ++ x ∷ [] ≡ [] → ⊥
 some_opened [] x e = absurd (cc)
 some_opened (y ∷ xs) x e = absurd (cc)
 
-pub asks_open : (t : Theory) (s : SymbolicState) (places : List ℕ) (i place : ℕ) (opened new : List OpenAt) (x : OpenAt) (o : Open) → i < length places → place ≡ get_or places i place → new ≡ opened ++ x ∷ [] → x.told ≡ o → x.place ≡ place → TellsForeign t s place (answer.Open o) → Asking t s places i opened →
+pub asks_open : (t : Theory) (s : SymbolicState) (places : List ℕ) (i place : ℕ) (opened new : List UndecidedRule) (x : UndecidedRule) (o : UndecidedClauses) → i < length places → place ≡ get_or places i place → new ≡ opened ++ x ∷ [] → x.told ≡ o → x.place ≡ place → TellsForeign t s place (answer.UndecidedClauses o) → Asking t s places i opened →
     Asking t s places (i + 1) new
 asks_open t s places i place opened new x o h e n f p k a = (
   subst (AllByRecursion (Passed t s)) (sym (taken places i place h e)) (passed_open t s (take i places) place o a.0 k),
-  subst (AllByRecursion (IsOpenAt t s)) (sym n) (all_append (IsOpenAt t s) opened (x ∷ []) a.1 (open_at t s o place x f p k, tt)),
+  subst (AllByRecursion (IsUndecidedAt t s)) (sym n) (all_append (IsUndecidedAt t s) opened (x ∷ []) a.1 (open_at t s o place x f p k, tt)),
   (λ none. absurd (some_opened opened x (sym n ∙ none))),
 )
 
-pub asks_met : (t : Theory) (s : SymbolicState) (rules : RuleSet) (places : List ℕ) (i place : ℕ) (opened : List OpenAt) → RunsAs t rules → InTurn rules places → i < length places → place ≡ get_or places i place → TellsForeign t s place answer.Instance → Asking t s places i opened → IsFirstMet t s place
+pub asks_met : (t : Theory) (s : SymbolicState) (rules : RuleSet) (places : List ℕ) (i place : ℕ) (opened : List UndecidedRule) → RunsAs t rules → InTurn rules places → i < length places → place ≡ get_or places i place → TellsForeign t s place answer.Instance → Asking t s places i opened → IsFirstMet t s place
 asks_met t s rules places i place opened runs turn h e m a = first_met t s rules (take i places) (drop (i + 1) places) place runs (subst (InTurn rules) (split_there places i place h e) turn) a.0 m
 
-pub asks_all : (t : Theory) (s : SymbolicState) (rules : RuleSet) (places : List ℕ) (i : ℕ) (opened : List OpenAt) → RunsAs t rules → InTurn rules places → length places ≤ i → opened ≡ [] → Asking t s places i opened → OfEachInstance t.signature (whole s) (λ w c. ¬ IsUnknown t c)
+pub asks_all : (t : Theory) (s : SymbolicState) (rules : RuleSet) (places : List ℕ) (i : ℕ) (opened : List UndecidedRule) → RunsAs t rules → InTurn rules places → length places ≤ i → opened ≡ [] → Asking t s places i opened → OfEachInstance t.signature (whole s) (λ w c. ¬ IsUnknown t c)
 asks_all t s rules places i opened runs turn past none a = each_is_known t s rules places runs turn (subst (AllByRecursion (NotUnknown t s)) (all_taken places i past) (a.2 none))
 
-pub known_or_open : (t : Theory) (used : List Text) (s : SymbolicState) (rules : RuleSet) (places : List ℕ) (i : ℕ) (opened : List OpenAt) (o : Option StepOutcome) → RunsAs t rules → InTurn rules places → length places ≤ i → Asking t s places i opened → MatchOption o (opened ≡ []) (IsRightStep t used s) → TellsKnown t used s o
+pub known_or_open : (t : Theory) (used : List Text) (s : SymbolicState) (rules : RuleSet) (places : List ℕ) (i : ℕ) (opened : List UndecidedRule) (o : Option StepOutcome) → RunsAs t rules → InTurn rules places → length places ≤ i → Asking t s places i opened → MatchOption o (opened ≡ []) (IsRightStep t used s) → TellsKnown t used s o
 known_or_open t used s rules places i opened None runs turn past a none = asks_all t s rules places i opened runs turn past none a
 known_or_open t used s rules places i opened (Some x) runs turn past a right = right

@@ -18,15 +18,15 @@ use Rattle.kp_symbolic.specs.States.{SymbolicState, IsStateInstance, AreTrue}
 use Rattle.kp_symbolic.proofs.Distribution.{all_first}
 use Rattle.kp_symbolic.proofs.Folded.{for_instance}
 use Rattle.kp_rules.specs.Skeletons.{Form, Admits}
-use Rattle.kp_cases.specs.Parts.{StatePart, whole, OfEachInstance, IsPartBelow, IsSortedPart}
-use Rattle.kp_cases.specs.Cases.{IsBoundBy, MetPart, IsMetBy, left_side}
-use Rattle.kp_cases.specs.Nexts.{IsInstantiated, IsNextState}
-use Rattle.kp_cases.proofs.CaseLemmas.{gives_valuation}
-use Rattle.kp_cases.proofs.NextLemmas.{next_found, next_follows}
-use Rattle.kp_turns.specs.Firing.{HasNoInstance}
+use Rattle.kp_case_laws.specs.Parts.{StatePart, whole, OfEachInstance, IsPartBelow, IsSortedPart}
+use Rattle.kp_case_laws.specs.Cases.{IsBoundBy, MetPart, IsMetBy, left_side}
+use Rattle.kp_case_laws.specs.Nexts.{IsInstantiated, IsNextState}
+use Rattle.kp_case_laws.proofs.CaseLemmas.{gives_valuation}
+use Rattle.kp_case_laws.proofs.NextLemmas.{next_found, next_follows}
+use Rattle.kp_case_laws.specs.Firing.{HasNoInstance}
 use Rattle.kp_rules.specs.LeftSides.{IsLeftInstance, IsLeftSide, IsOverLeft}
-use Rattle.kp_turns.specs.NextStates.{FollowsBy}
-use Rattle.kp_turns.proofs.FiringLemmas.{same_condition}
+use Rattle.kp_case_laws.specs.NextStates.{FollowsBy}
+use Rattle.kp_case_laws.proofs.FiringLemmas.{same_condition}
 use Rattle.kp_step.specs.Follows.{kept_bindings}
 
 -- ---- bindings that new variables hide

@@ -15,17 +15,17 @@ use Rattle.kp_symbolic.specs.Terms.{Replaced}
 use Rattle.kp_symbolic.specs.States.{SymbolicState}
 use Rattle.kp_symbolic.specs.Solving.{Solving}
 use Rattle.kp_symbolic_laws.specs.Runs.{OfEachKept}
-use Rattle.kp_kept.specs.Kept.{CanBeWritten}
+use Rattle.kp_symbolic_laws.specs.Kept.{CanBeWritten}
 use Rattle.kp_rules.specs.declared.rule.Rewrite as code
 use Rattle.kp_solving.specs.Further.{constrained}
-use Rattle.kp_cases.specs.Parts.{StatePart, OfEachInstance}
+use Rattle.kp_case_laws.specs.Parts.{StatePart, OfEachInstance}
 use Rattle.kp_unify.specs.Narrowed.{NumberedPart}
-use Rattle.kp_firing.specs.Conditions.{condition_clauses}
+use Rattle.kp_step.specs.Conditions.{condition_clauses}
 use Rattle.kp_step.specs.Rules.{IsReadBy}
-use Rattle.kp_step.specs.Left.{IsPartIn}
+use Rattle.kp_step.specs.Remainders.{IsPartIn}
 use Rattle.kp_step.specs.Found.{IsMetIn}
 use Rattle.kp_step.specs.Follows.{IsNextOf, kept_bindings}
-use Rattle.kp_step.specs.Rights.{ChosenNew, AreChosen, written_at, moved_state}
+use Rattle.kp_step.specs.RightSides.{ChosenNew, AreChosen, written_at, moved_state}
 use Rattle.kp_step.proofs.FollowingLemmas.{right_state, following_is}
 use Rattle.kp_step.proofs.EmptyLemmas.{nothing_next}
 

@@ -15,25 +15,25 @@ use Rattle.kp_symbolic.specs.States.{SymbolicState}
 use Rattle.kp_symbolic.specs.Solving.{Solving}
 use Rattle.kp_symbolic.specs.WellFormed.{AreAtHand}
 use Rattle.kp_symbolic_laws.specs.Runs.{OfEachKept}
-use Rattle.kp_kept.specs.Kept.{CanBeWritten}
+use Rattle.kp_symbolic_laws.specs.Kept.{CanBeWritten}
 use Rattle.kp_heads.specs.Heads.{HasValue}
 use Rattle.kp_solving.specs.Further.{constrained}
 use Rattle.kp_rules.specs.VerifiedSides.{AreVerifiedSides}
 use Rattle.kp_rules.specs.declared.rule.Rewrite as code
-use Rattle.kp_cases.specs.Parts.{StatePart, whole, OfEachInstance}
-use Rattle.kp_turns.proofs.AtHandLemmas.{hand_in_hand}
+use Rattle.kp_case_laws.specs.Parts.{StatePart, whole, OfEachInstance}
+use Rattle.kp_case_laws.proofs.AtHandLemmas.{hand_in_hand}
 use Rattle.kp_unify.specs.Narrowed.{NumberedPart}
-use Rattle.kp_firing.specs.Conditions.{condition_clauses, AreRight}
-use Rattle.kp_firing.proofs.Excluded.{condition_right, condition_says}
-use Rattle.kp_step.specs.Left.{IsPartIn}
+use Rattle.kp_step.specs.Conditions.{condition_clauses, AreRight}
+use Rattle.kp_step.proofs.Excluded.{condition_right, condition_says}
+use Rattle.kp_step.specs.Remainders.{IsPartIn}
 use Rattle.kp_step.specs.Found.{IsMetIn}
 use Rattle.kp_step.specs.Follows.{IsNextOf, kept_bindings}
 use Rattle.kp_step.specs.Rules.{IsReadBy}
-use Rattle.kp_step.specs.Rights.{ChosenNew, AreChosen, written_at, moved_state}
+use Rattle.kp_step.specs.RightSides.{ChosenNew, AreChosen, written_at, moved_state}
 use Rattle.kp_step.proofs.EmptyLemmas.{nothing_next}
 use Rattle.kp_step.proofs.MadeLemmas.{AreBoundRight, all_of, all_normal, all_ensured, made_ready}
 use Rattle.kp_step.proofs.NewLemmas.{IsChosenFor, all_chosen}
-use Rattle.kp_step.proofs.RightLemmas.{made_state, next_of_part}
+use Rattle.kp_step.proofs.RightSideLemmas.{made_state, next_of_part}
 use Rattle.kp_step.proofs.SettledLemmas.{settled_part}
 use Rattle.kp_step.proofs.VerifiedLemmas.{over_both}
 

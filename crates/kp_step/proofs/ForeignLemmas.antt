@@ -13,15 +13,15 @@ use Rattle.kp_kore.proofs.TurnLemmas.{each_member}
 use Rattle.kp_symbolic.specs.Terms.{under_replaced}
 use Rattle.kp_symbolic.specs.States.{SymbolicState}
 use Rattle.kp_rules.specs.Skeletons.{Form, Admits}
-use Rattle.kp_cases.specs.Parts.{StatePart, whole, OfEachInstance, IsRestricted, HoldsWhere}
-use Rattle.kp_cases.specs.Cases.{MetPart, IsMetBy, IsApart, AreCases, left_side}
-use Rattle.kp_cases.proofs.CaseLemmas.{gives_valuation}
-use Rattle.kp_cases.proofs.Excluding.{holding_part}
-use Rattle.kp_cases.proofs.PartLemmas.{none_has}
-use Rattle.kp_turns.specs.Firing.{HasNoInstance, AreWhere}
-use Rattle.kp_turns.proofs.FiringLemmas.{same_hand}
-use Rattle.kp_turns.proofs.PartsWhere.{instance_above}
-use Rattle.kp_firing.specs.Ready.{HasInstance}
+use Rattle.kp_case_laws.specs.Parts.{StatePart, whole, OfEachInstance, IsRestricted, HoldsWhere}
+use Rattle.kp_case_laws.specs.Cases.{MetPart, IsMetBy, IsApart, AreCases, left_side}
+use Rattle.kp_case_laws.proofs.CaseLemmas.{gives_valuation}
+use Rattle.kp_case_laws.proofs.Excluding.{holding_part}
+use Rattle.kp_case_laws.proofs.PartLemmas.{none_has}
+use Rattle.kp_case_laws.specs.Firing.{HasNoInstance, AreWhere}
+use Rattle.kp_case_laws.proofs.FiringLemmas.{same_hand}
+use Rattle.kp_case_laws.proofs.PartsWhere.{instance_above}
+use Rattle.kp_step.specs.ReadyParts.{HasInstance}
 use Rattle.kp_step.specs.Causes.{MeetsForeign}
 
 -- of the sorted values, the form stands for the foreign rule's

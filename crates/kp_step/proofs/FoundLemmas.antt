@@ -9,14 +9,14 @@ use Rattle.kp_kore.specs.Theory.{Theory}
 use Rattle.kp_kore.specs.Steps.{HasTurn, AnyByRecursion}
 use Rattle.kp_kore.proofs.ListLemmas.{all_append, all_map, any_left}
 use Rattle.kp_kore.proofs.TurnLemmas.{of_member}
-use Rattle.kp_cases.specs.Parts.{StatePart, OfEachInstance}
-use Rattle.kp_turns.specs.Firing.{AreWhere}
-use Rattle.kp_turns.specs.Turns.{AreAllTurns, Turn, rules_of}
-use Rattle.kp_turns.specs.NextStates.{HaveOwnIds}
-use Rattle.kp_turns.proofs.TurnsFound.{no_part_no_turn, first_parts_are_turns}
+use Rattle.kp_case_laws.specs.Parts.{StatePart, OfEachInstance}
+use Rattle.kp_case_laws.specs.Firing.{AreWhere}
+use Rattle.kp_case_laws.specs.Turns.{AreAllTurns, Turn, rules_of}
+use Rattle.kp_case_laws.specs.NextStates.{HaveOwnIds}
+use Rattle.kp_case_laws.proofs.TurnsFound.{no_part_no_turn, first_parts_are_turns}
 use Rattle.kp_step.specs.Places.{IsAt}
-use Rattle.kp_firing.specs.Ready.{parts_of}
-use Rattle.kp_step.specs.Left.{AreLeft}
+use Rattle.kp_step.specs.ReadyParts.{parts_of}
+use Rattle.kp_step.specs.Remainders.{AreRemaining}
 use Rattle.kp_step.specs.Found.{PlacedTurn, IsTurnAt, IsTurnAmong, IsTried, HaveOwnPlaces, AreFound, AreAllFound}
 
 -- ---- rules at places
@@ -112,7 +112,7 @@ turn_found t used s places turns k f new le i before = record {
 }
 
 -- where nothing is left to a rule, it has no turn
-pub nothing_left : (t : Theory) (used : List Text) (s m : StatePart) (before : List RewriteRule) (r : RewriteRule) → AllByRecursion (Contains t.rules) before → AreLeft t.signature used (Some r) before s m [] → OfEachInstance t.signature s (λ w c. ¬ HasTurn t r c)
+pub nothing_left : (t : Theory) (used : List Text) (s m : StatePart) (before : List RewriteRule) (r : RewriteRule) → AllByRecursion (Contains t.rules) before → AreRemaining t.signature used (Some r) before s m [] → OfEachInstance t.signature s (λ w c. ¬ HasTurn t r c)
 nothing_left t used s m before r members l = no_part_no_turn t s before r members l.left
 
 -- all places were tried

@@ -9,19 +9,19 @@ use Rattle.kp_rules.specs.Skeletons.{Form, skeleton_view}
 use Rattle.kp_rules.specs.declared.skeleton.Skeleton.{Skeleton}
 use Rattle.kp_rule_sets.specs.RuleSets.{RunsAs}
 use Rattle.kp_rule_sets.specs.declared.rule_set.RuleSet.{RuleSet}
-use Rattle.kp_cases.specs.Parts.{StatePart, with_clauses, IsPartBelow, IsSortedPart}
-use Rattle.kp_cases.specs.Cases.{MetPart}
+use Rattle.kp_case_laws.specs.Parts.{StatePart, with_clauses, IsPartBelow, IsSortedPart}
+use Rattle.kp_case_laws.specs.Cases.{MetPart}
 use Rattle.kp_unify.specs.Narrowed.{NumberedPart}
 use Rattle.kp_unify.specs.Way.{IsMeeting, IsAllApart}
 use Rattle.kp_step.specs.Counted.{most_for, IsCounted}
-use Rattle.kp_step.specs.declared.answers.Open.{Open}
+use Rattle.kp_step.specs.declared.part_answers.UndecidedClauses.{UndecidedClauses}
 use Rattle.kp_step.specs.Ready.{IsWholeReady}
 use Rattle.kp_step.specs.Rules.{IsForeignAt}
 use Rattle.kp_step.specs.Answers.{IsMetAnswer, IsForeignAnswer, TellsWhereMet, TellsForeign, TellsKnown}
-use Rattle.kp_step.specs.Outcomes.{IsRightStep}
-use Rattle.kp_step.specs.declared.answers.PartAnswer as answers
-use Rattle.kp_step.specs.declared.answers.PartAnswer.TheVariants as answer
-use Rattle.kp_step.specs.declared.foreign.OpenAt.{OpenAt}
+use Rattle.kp_step.specs.RightSteps.{IsRightStep}
+use Rattle.kp_step.specs.declared.part_answers.PartAnswer as answers
+use Rattle.kp_step.specs.declared.part_answers.PartAnswer.TheVariants as answer
+use Rattle.kp_step.specs.declared.foreign.UndecidedRule.{UndecidedRule}
 use Rattle.kp_step.specs.declared.outcome.StepOutcome.{StepOutcome}
 use Rattle.kp_step.proofs.AskedLemmas.{met_sorted, tells_met, tells_apart}
 use Rattle.kp_step.proofs.MeetLemmas.{clauses_meet, met_answer}
@@ -38,10 +38,10 @@ answered_met g used s left q m next apart r a w met e told =
     (clauses_meet g s left m.part m.equations m.equations m.bindings sorted.state below met.cases.is_met (λ v h. h)) told
 
 -- where it is left open
-pub foreign_open : (g : KoreSignature) (used : List Text) (s : SymbolicState) (left : Form) (q : NumberedPart) (r x : StatePart) (told o : Open) (most : ℕ) → IsWholeReady g used s q → r ≡ x → IsMetAnswer g s x.state left (answer.Open told) → most ≡ most_for g q.part.state (left ∷ []) → o ≡ told → IsCounted g r.state most o.over →
-    IsForeignAnswer g s x.state left (answer.Open o)
+pub foreign_open : (g : KoreSignature) (used : List Text) (s : SymbolicState) (left : Form) (q : NumberedPart) (r x : StatePart) (told o : UndecidedClauses) (most : ℕ) → IsWholeReady g used s q → r ≡ x → IsMetAnswer g s x.state left (answer.UndecidedClauses told) → most ≡ most_for g q.part.state (left ∷ []) → o ≡ told → IsCounted g r.state most o.over →
+    IsForeignAnswer g s x.state left (answer.UndecidedClauses o)
 foreign_open g used s left q r x told o most w e m is same counted = (
-  subst (λ y. IsMetAnswer g s x.state left (answer.Open y)) (sym same) m,
+  subst (λ y. IsMetAnswer g s x.state left (answer.UndecidedClauses y)) (sym same) m,
   subst (λ n. IsCounted g x.state n o.over) (is ∙ ap (λ p. most_for g p.state (left ∷ [])) w.is) (subst (λ p. IsCounted g p.state most o.over) e counted),
 )
 
@@ -58,7 +58,7 @@ tells_all_apart t used s place k q g e w f apart = tells_apart t used s place k 
 -- ---- in the end
 
 -- what is told in the end: the first that is left open, or that none might rewrite an instance
-pub asks_known : (t : Theory) (used : List Text) (s : SymbolicState) (rules : RuleSet) (places : List ℕ) (i : ℕ) (opened : List OpenAt) (o : Option StepOutcome) → RunsAs t rules → InTurn rules places → length places ≤ i → Asking t s places i opened →
+pub asks_known : (t : Theory) (used : List Text) (s : SymbolicState) (rules : RuleSet) (places : List ℕ) (i : ℕ) (opened : List UndecidedRule) (o : Option StepOutcome) → RunsAs t rules → InTurn rules places → length places ≤ i → Asking t s places i opened →
     MatchOption o (opened ≡ []) (IsRightStep t used s) → TellsKnown t used s o
 asks_known t used s rules places i opened None runs turn past a none = asks_all t s rules places i opened runs turn past none a
 asks_known t used s rules places i opened (Some x) runs turn past a right = right

@@ -27,8 +27,8 @@ use Rattle.kp_symbolic_laws.specs.Runs.{IsSortedLiteral}
 use Rattle.kp_symbolic_laws.proofs.Step.{at_hand_given}
 use Rattle.kp_symbolic_laws.proofs.OpenedGood.{by_size}
 use Rattle.kp_solving.specs.Further.{constrained}
-use Rattle.kp_cases.specs.Courses.{Equality, equality_clauses}
-use Rattle.kp_decide.specs.Read.{HasSortedClauses}
+use Rattle.kp_case_laws.specs.Courses.{Equality, equality_clauses}
+use Rattle.kp_satisfiability.specs.Read.{HasSortedClauses}
 use Rattle.kp_unify.specs.Replaced.{equality_of}
 use Rattle.kp_unify.specs.Views.{signature_of}
 use Rattle.kp_unify.specs.declared.part.Setting.{Setting}

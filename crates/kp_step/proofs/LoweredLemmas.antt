@@ -13,7 +13,7 @@ use Rattle.kp_symbolic.proofs.HeadLemmas.{head_from_sort}
 use Rattle.kp_symbolic.proofs.HeadQuestions.{sort_from_head}
 use Rattle.kp_rules.specs.Skeletons.{Form, one_of, built, Forms, no_forms, next_form, Admits, skeleton_view, forms_of}
 use Rattle.kp_rules.specs.declared.skeleton.Skeleton.{Skeleton}
-use Rattle.kp_cases.specs.Courses.{IsMeet, form_variables, all_form_variables}
+use Rattle.kp_case_laws.specs.Courses.{IsMeet, form_variables, all_form_variables}
 use Rattle.kp_step.specs.OneSort.{HasEachOf, IsLowest, IsLowered, AreLowered}
 use Rattle.kp_step.specs.Rules.{IsForeignAt}
 use Rattle.kp_step.proofs.LoopLemmas.{waiting, none_waiting}

@@ -33,18 +33,18 @@ use Rattle.kp_symbolic_laws.proofs.NormalTerms.{folded_normal}
 use Rattle.kp_compile.specs.Verified.{IsVerifiedTerm}
 use Rattle.kp_rules.specs.Known.{is_among}
 use Rattle.kp_rules.specs.VerifiedSides.{IsVerifiedEnsured, is_old_or_new, IsOfBoth, AreVerifiedSides}
-use Rattle.kp_cases.specs.Parts.{StatePart}
-use Rattle.kp_cases.specs.Narrowings.{sorts_of_names}
-use Rattle.kp_cases.specs.Courses.{IsBoundTo}
-use Rattle.kp_cases.specs.Nexts.{fresh_bindings}
-use Rattle.kp_cases.proofs.CourseLemmas.{found_before, found_behind}
-use Rattle.kp_cases.proofs.OnNarrowed.{one_sort_still}
-use Rattle.kp_turns.proofs.AtHandLemmas.{hand_in_hand, member_named}
+use Rattle.kp_case_laws.specs.Parts.{StatePart}
+use Rattle.kp_case_laws.specs.Narrowings.{sorts_of_names}
+use Rattle.kp_case_laws.specs.Courses.{IsBoundTo}
+use Rattle.kp_case_laws.specs.Nexts.{fresh_bindings}
+use Rattle.kp_case_laws.proofs.CourseLemmas.{found_before, found_behind}
+use Rattle.kp_case_laws.proofs.OnNarrowed.{one_sort_still}
+use Rattle.kp_case_laws.proofs.AtHandLemmas.{hand_in_hand, member_named}
 use Rattle.kp_unify.specs.Narrowed.{NumberedPart}
-use Rattle.kp_firing.specs.Conditions.{IsVerifiedOver, AreRight}
-use Rattle.kp_firing.specs.Ready.{IsReadyPart}
+use Rattle.kp_step.specs.Conditions.{IsVerifiedOver, AreRight}
+use Rattle.kp_step.specs.ReadyParts.{IsReadyPart}
 use Rattle.kp_step.specs.Follows.{kept_bindings}
-use Rattle.kp_step.specs.Rights.{ChosenNew, written_at, moved_state}
+use Rattle.kp_step.specs.RightSides.{ChosenNew, written_at, moved_state}
 use Rattle.kp_step.specs.Ready.{IsReadyState}
 use Rattle.kp_step.proofs.FollowLemmas.{kept_at, hidden_at, kept_all}
 use Rattle.kp_step.proofs.NewLemmas.{IsChosenFor}

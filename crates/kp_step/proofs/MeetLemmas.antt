@@ -21,27 +21,27 @@ use Rattle.kp_symbolic.specs.Sources.{MayMean, AllMayMean}
 use Rattle.kp_symbolic.proofs.WellSorted.{term_sorted}
 use Rattle.kp_symbolic.proofs.Distribution.{all_first, all_second}
 use Rattle.kp_symbolic_laws.specs.Runs.{IsSortedState}
-use Rattle.kp_decide.specs.Read.{HasSortedClauses}
+use Rattle.kp_satisfiability.specs.Read.{HasSortedClauses}
 use Rattle.kp_rules.specs.LeftSides.{IsLeftSide}
 use Rattle.kp_rules.specs.Skeletons.{Form, skeleton_view, IsAdmitted}
 use Rattle.kp_rules.specs.declared.skeleton.Skeleton.{Skeleton}
 use Rattle.kp_overlap.specs.Overlaps.{MeetsForm}
-use Rattle.kp_cases.specs.Parts.{StatePart, whole, with_clauses, OfEachInstance, IsPartBelow}
-use Rattle.kp_cases.specs.Cases.{IsMetBy, left_side}
-use Rattle.kp_cases.proofs.CaseLemmas.{all_bound}
-use Rattle.kp_cases.proofs.PartLemmas.{clauses_restrict}
-use Rattle.kp_turns.specs.Turns.{FiresFirst, rules_of}
-use Rattle.kp_turns.proofs.AtHandLemmas.{sorts_of_hand}
-use Rattle.kp_turns.proofs.PartsWhere.{instance_above}
+use Rattle.kp_case_laws.specs.Parts.{StatePart, whole, with_clauses, OfEachInstance, IsPartBelow}
+use Rattle.kp_case_laws.specs.Cases.{IsMetBy, left_side}
+use Rattle.kp_case_laws.proofs.CaseLemmas.{all_bound}
+use Rattle.kp_case_laws.proofs.PartLemmas.{clauses_restrict}
+use Rattle.kp_case_laws.specs.Turns.{FiresFirst, rules_of}
+use Rattle.kp_case_laws.proofs.AtHandLemmas.{sorts_of_hand}
+use Rattle.kp_case_laws.proofs.PartsWhere.{instance_above}
 use Rattle.kp_unify.specs.Narrowed.{NumberedPart}
-use Rattle.kp_firing.specs.Ready.{HasInstance, parts_of}
+use Rattle.kp_step.specs.ReadyParts.{HasInstance, parts_of}
 use Rattle.kp_step.specs.Ready.{IsWholeReady}
-use Rattle.kp_step.specs.Left.{IsOneOf}
+use Rattle.kp_step.specs.Remainders.{IsOneOf}
 use Rattle.kp_step.specs.Found.{PlacedTurn, IsTurnAmong}
 use Rattle.kp_step.specs.Meets.{IsOfLeft, MeetsRule, AllMeet}
 use Rattle.kp_step.specs.Answers.{AreMet, IsMetAnswer, TellsWhereMet}
-use Rattle.kp_step.specs.declared.answers.PartAnswer as answers
-use Rattle.kp_step.specs.declared.answers.PartAnswer.TheVariants as answer
+use Rattle.kp_step.specs.declared.part_answers.PartAnswer as answers
+use Rattle.kp_step.specs.declared.part_answers.PartAnswer.TheVariants as answer
 use Rattle.kp_step.proofs.FoundLemmas.{turns_of}
 
 -- ---- an instance of a term is what the term may mean

@@ -18,16 +18,16 @@ use Rattle.kp_kore.proofs.TurnLemmas.{of_member, each_member}
 use Rattle.kp_symbolic.specs.Terms.{SymbolicTerm, unknown, term_variables, Replaced, replacement_for}
 use Rattle.kp_symbolic.specs.WellFormed.{AreAtHand}
 use Rattle.kp_symbolic_laws.specs.Runs.{HasOneSortEach}
-use Rattle.kp_cases.specs.Parts.{StatePart, AreNew, IsNewVariable}
-use Rattle.kp_cases.specs.Narrowings.{sorts_of_names}
-use Rattle.kp_cases.specs.Courses.{IsBoundTo}
-use Rattle.kp_cases.specs.Nexts.{fresh_bindings, AreRulesNew, AreBoundOrNew, IsInstantiated}
-use Rattle.kp_cases.proofs.GrownLemmas.{new_further}
-use Rattle.kp_turns.proofs.AtHandLemmas.{Named, named_member, member_named}
+use Rattle.kp_case_laws.specs.Parts.{StatePart, AreNew, IsNewVariable}
+use Rattle.kp_case_laws.specs.Narrowings.{sorts_of_names}
+use Rattle.kp_case_laws.specs.Courses.{IsBoundTo}
+use Rattle.kp_case_laws.specs.Nexts.{fresh_bindings, AreRulesNew, AreBoundOrNew, IsInstantiated}
+use Rattle.kp_case_laws.proofs.GrownLemmas.{new_further}
+use Rattle.kp_case_laws.proofs.AtHandLemmas.{Named, named_member, member_named}
 use Rattle.kp_unify.specs.Way.{IsInUse}
 use Rattle.kp_unify.proofs.WayLemmas.{all_later, not_named, new_one, later, last_in_use}
 use Rattle.kp_step.specs.Follows.{kept_bindings}
-use Rattle.kp_step.specs.Rights.{ChosenNew, IsChosenNext, IsChosenOne, AreChosenFrom, AreChosen, AreNamedIn, IsOverBoth}
+use Rattle.kp_step.specs.RightSides.{ChosenNew, IsChosenNext, IsChosenOne, AreChosenFrom, AreChosen, AreNamedIn, IsOverBoth}
 use Rattle.kp_step.proofs.FollowLemmas.{kept_at, hidden_at, kept_all}
 
 -- ---- names

@@ -17,12 +17,12 @@ use Rattle.kp_symbolic.specs.WellFormed.{AreAtHand}
 use Rattle.kp_symbolic.proofs.Distribution.{all_both, all_first, all_second}
 use Rattle.kp_symbolic.proofs.Folded.{folded_is}
 use Rattle.kp_symbolic.proofs.Leaf.{once_says}
-use Rattle.kp_cases.specs.Parts.{StatePart}
-use Rattle.kp_cases.specs.Narrowings.{sorts_of_names}
-use Rattle.kp_cases.specs.Nexts.{fresh_bindings, AreBoundOrNew, all_bindings, IsNextState, IsInstantiated}
-use Rattle.kp_cases.proofs.CourseLemmas.{found_before, found_behind}
-use Rattle.kp_turns.proofs.AtHandLemmas.{sorts_of_hand}
-use Rattle.kp_step.specs.Rights.{moved_state}
+use Rattle.kp_case_laws.specs.Parts.{StatePart}
+use Rattle.kp_case_laws.specs.Narrowings.{sorts_of_names}
+use Rattle.kp_case_laws.specs.Nexts.{fresh_bindings, AreBoundOrNew, all_bindings, IsNextState, IsInstantiated}
+use Rattle.kp_case_laws.proofs.CourseLemmas.{found_before, found_behind}
+use Rattle.kp_case_laws.proofs.AtHandLemmas.{sorts_of_hand}
+use Rattle.kp_step.specs.RightSides.{moved_state}
 use Rattle.kp_step.proofs.NewLemmas.{unbound_at}
 
 -- ---- terms that stand for variables have values of their sorts

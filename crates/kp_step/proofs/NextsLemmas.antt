@@ -8,14 +8,14 @@ use Rattle.kp_kore.specs.Rules.{Rewrite, rewrite}
 use Rattle.kp_kore.specs.Steps.{Fires}
 use Rattle.kp_kore.specs.Theory.{Theory}
 use Rattle.kp_rules.specs.declared.rule.Rewrite as code
-use Rattle.kp_cases.specs.Parts.{StatePart, OfEachInstance}
+use Rattle.kp_case_laws.specs.Parts.{StatePart, OfEachInstance}
 use Rattle.kp_unify.specs.Narrowed.{NumberedPart}
 use Rattle.kp_symbolic.specs.View.{state_view}
 use Rattle.kp_unify.specs.Views.{signature_of, part_view, numbered_view}
 use Rattle.kp_unify.specs.declared.part.Setting.{Setting}
 use Rattle.kp_unify.specs.declared.part.Part.{Part}
 use Rattle.kp_step.specs.Rules.{IsReadBy, IsReadAt}
-use Rattle.kp_step.specs.Left.{IsPartIn}
+use Rattle.kp_step.specs.Remainders.{IsPartIn}
 use Rattle.kp_step.specs.Found.{PlacedTurn, IsMetIn, IsTurnAt}
 use Rattle.kp_step.specs.Follows.{PlacedNext, IsNextOf, IsNextAt, AreNextsOf}
 use Rattle.kp_step.specs.Views.{numbered_views, turn_view, next_view}

@@ -11,7 +11,7 @@ use Rattle.kp_symbolic.proofs.Distribution.{all_both, all_first, all_second}
 use Rattle.kp_symbolic_laws.specs.Runs.{HasOneSortEach}
 use Rattle.kp_rules.specs.Skeletons.{skeleton_view, forms_of}
 use Rattle.kp_rules.specs.declared.skeleton.Skeleton.{Skeleton}
-use Rattle.kp_cases.specs.Courses.{form_variables, all_form_variables}
+use Rattle.kp_case_laws.specs.Courses.{form_variables, all_form_variables}
 use Rattle.kp_step.specs.OneSort.{HasOnly, HaveOnlySortsOf}
 use Rattle.kp_step.proofs.LoopLemmas.{waiting}
 use Rattle.kp_step.proofs.NewLemmas.{named_in_both}

@@ -21,7 +21,7 @@ use Rattle.kp_rule_sets.proofs.Chosen.{times, stands}
 use Rattle.kp_step.specs.Places.{IsAt}
 use Rattle.kp_step.specs.Found.{PlacedTurn, IsTurnAt, IsTurnAmong}
 use Rattle.kp_kore.specs.Syntax.{Text}
-use Rattle.kp_cases.specs.Parts.{StatePart}
+use Rattle.kp_case_laws.specs.Parts.{StatePart}
 use Rattle.kp_step.specs.Causes.{told_number, GoesBefore}
 use Rattle.kp_step.proofs.PlaceLemmas.{counted_is_there, none_again}
 use Rattle.kp_step.proofs.RuleLemmas.{code_of, read_number}

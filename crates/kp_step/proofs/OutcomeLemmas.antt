@@ -7,19 +7,19 @@ use Rattle.kp_kore.specs.Theory.{Theory}
 use Rattle.kp_kore.proofs.ListLemmas.{all_append}
 use Rattle.kp_kore.specs.Steps.{Fires, IsUnknown}
 use Rattle.kp_symbolic.specs.States.{SymbolicState}
-use Rattle.kp_cases.specs.Parts.{whole, OfEachInstance}
-use Rattle.kp_turns.specs.Turns.{rules_of}
-use Rattle.kp_turns.specs.NextStates.{StepCase, AreStepCases, HaveOwnIds}
+use Rattle.kp_case_laws.specs.Parts.{whole, OfEachInstance}
+use Rattle.kp_case_laws.specs.Turns.{rules_of}
+use Rattle.kp_case_laws.specs.NextStates.{StepCase, AreStepCases, HaveOwnIds}
 use Rattle.kp_unify.specs.declared.part.Part.{Part}
 use Rattle.kp_step.specs.Places.{IsAt}
-use Rattle.kp_firing.specs.Ready.{HasInstance}
+use Rattle.kp_step.specs.ReadyParts.{HasInstance}
 use Rattle.kp_step.specs.Found.{PlacedTurn, IsRuleAt, IsTurnAt, IsTurnAmong, AreAllFound}
 use Rattle.kp_step.specs.Follows.{AreNextsOf}
 use Rattle.kp_step.specs.Tries.{OneFiresOnAll, AreRemaining}
 use Rattle.kp_step.specs.Limits.{PassesNone, IsCaseMade}
 use Rattle.kp_step.specs.Views.{numbered_views, next_view, next_told}
-use Rattle.kp_step.specs.Left.{IsPartIn}
-use Rattle.kp_step.specs.Outcomes.{IsCaseOf, IsRemainderOf, GoesOnFrom, RemainsOf, FiresAlone, AreCasesOf}
+use Rattle.kp_step.specs.Remainders.{IsPartIn}
+use Rattle.kp_step.specs.RightSteps.{IsCaseOf, IsRemainderOf, GoesOnFrom, RemainsOf, FiresAlone, AreCasesOf}
 use Rattle.kp_step.specs.declared.outcome.Next.{Next}
 use Rattle.kp_step.proofs.FoundLemmas.{turns_of, one_at}
 use Rattle.kp_step.proofs.TryLemmas.{rules_in_theory, found_rules}

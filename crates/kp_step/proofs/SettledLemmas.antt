@@ -10,11 +10,11 @@ use Rattle.kp_symbolic.specs.Solving.{solved_at, Solving, finished, goes_on}
 use Rattle.kp_symbolic_laws.specs.Runs.{IsSortedLiteral, OfEachKept}
 use Rattle.kp_symbolic_laws.proofs.Course.{solving_instance}
 use Rattle.kp_symbolic_laws.specs.Safe.{IsSafe}
-use Rattle.kp_kept.specs.Kept.{CanBeWritten}
-use Rattle.kp_kept.proofs.KeptCourse.{each_of_these, each_right, solving_safe}
+use Rattle.kp_symbolic_laws.specs.Kept.{CanBeWritten}
+use Rattle.kp_symbolic_laws.proofs.KeptCourse.{each_of_these, each_right, solving_safe}
 use Rattle.kp_unify.specs.Narrowed.{NumberedPart}
 use Rattle.kp_unify.specs.Way.{IsInUse}
-use Rattle.kp_firing.specs.Ready.{IsReadyPart}
+use Rattle.kp_step.specs.ReadyParts.{IsReadyPart}
 use Rattle.kp_step.specs.Follows.{IsSolvedPart}
 
 pub same_variables : (g : KoreSignature) (s t : SymbolicState) → Solving g s t → t.variables ≡ s.variables

@@ -13,14 +13,14 @@ use Rattle.kp_symbolic.proofs.Distribution.{all_both}
 use Rattle.kp_symbolic.specs.States.{SymbolicState}
 use Rattle.kp_rules.specs.Skeletons.{Form, anything, nothing, any_of, one_of, fixed, built, Forms, no_forms, next_form, Admits, AdmitAll, skeleton_view, forms_of}
 use Rattle.kp_rules.specs.declared.skeleton.Skeleton.{Skeleton}
-use Rattle.kp_cases.specs.Courses.{form_variables, all_form_variables}
+use Rattle.kp_case_laws.specs.Courses.{form_variables, all_form_variables}
 use Rattle.kp_unify.specs.Heads.{ShareValues}
 use Rattle.kp_unify.specs.Narrowed.{NumberedPart}
 use Rattle.kp_step.specs.OneSort.{SharesWith, ShareWithAll}
 use Rattle.kp_step.specs.Ready.{IsWholeReady}
 use Rattle.kp_step.specs.Rules.{IsForeignAt}
 use Rattle.kp_step.specs.Answers.{TellsForeign}
-use Rattle.kp_step.specs.declared.answers.PartAnswer.TheVariants as answer
+use Rattle.kp_step.specs.declared.part_answers.PartAnswer.TheVariants as answer
 use Rattle.kp_step.proofs.AskedLemmas.{tells_never}
 use Rattle.kp_step.proofs.OneSortLemmas.{part_more, part_fails, so_false}
 

@@ -9,15 +9,15 @@ use Rattle.kp_kore.specs.Cases.{OfOneAlone}
 use Rattle.kp_kore.specs.Division.{IsHeldBy}
 use Rattle.kp_symbolic.specs.States.{AreTrue}
 use Rattle.kp_symbolic.specs.WellFormed.{AreAtHand}
-use Rattle.kp_cases.specs.Parts.{StatePart, state_reading, OfEachInstance, IsPartBelow}
-use Rattle.kp_turns.specs.Firing.{AreWhere}
-use Rattle.kp_turns.specs.Turns.{IsLeftTo}
+use Rattle.kp_case_laws.specs.Parts.{StatePart, state_reading, OfEachInstance, IsPartBelow}
+use Rattle.kp_case_laws.specs.Firing.{AreWhere}
+use Rattle.kp_case_laws.specs.Turns.{RemainsTo}
 use Rattle.kp_kore.specs.Rules.{RewriteRule}
 use Rattle.kp_unify.specs.Narrowed.{NumberedPart}
 use Rattle.std.proofs.Common.{Option}
-use Rattle.kp_firing.specs.Comes.{solved}
-use Rattle.kp_firing.specs.Ready.{HasInstance, parts_of}
-use Rattle.kp_step.specs.Left.{IsPartIn, IsOfThese, AreLeft}
+use Rattle.kp_step.specs.Comes.{solved}
+use Rattle.kp_step.specs.ReadyParts.{HasInstance, parts_of}
+use Rattle.kp_step.specs.Remainders.{IsPartIn, IsOfThese, AreRemaining}
 use Rattle.kp_step.specs.Follows.{IsSolvedPart}
 
 given : (g : KoreSignature) (used : List Text) (q r : NumberedPart) (w : Valuation) → IsSolvedPart g used q r → GivesSorts g w r.part.state.variables → GivesSorts g w q.part.state.variables
@@ -104,8 +104,8 @@ all_solved g used o turns s [] (r ∷ rs) k h = absurd k
 all_solved g used o turns s (q ∷ qs) [] k h = absurd k
 all_solved g used o turns s (q ∷ qs) (r ∷ rs) k h = (solved q.part r.part h.0 k.0.solving k.0.added, all_solved g used o turns s qs rs k.1 h.1)
 
-pub solved_left : (g : KoreSignature) (used : List Text) (o : Option RewriteRule) (turns : List RewriteRule) (s m : StatePart) (qs rs : List NumberedPart) → AllZip (IsSolvedPart g used) qs rs → AreLeft g used o turns s m qs → AreLeft g used o turns s m rs
-solved_left g used o turns s m qs rs k l = record { left = solved_where g used (IsLeftTo g o turns) s qs rs k l.left; each = each_in g used s m qs rs k l.each; comes = all_solved g used o turns s qs rs k l.comes }
+pub solved_left : (g : KoreSignature) (used : List Text) (o : Option RewriteRule) (turns : List RewriteRule) (s m : StatePart) (qs rs : List NumberedPart) → AllZip (IsSolvedPart g used) qs rs → AreRemaining g used o turns s m qs → AreRemaining g used o turns s m rs
+solved_left g used o turns s m qs rs k l = record { left = solved_where g used (RemainsTo g o turns) s qs rs k l.left; each = each_in g used s m qs rs k l.each; comes = all_solved g used o turns s qs rs k l.comes }
 
 pub solved_have : (g : KoreSignature) (used : List Text) (qs rs : List NumberedPart) → AllZip (IsSolvedPart g used) qs rs → AllByRecursion (HasInstance g) (parts_of qs) → AllByRecursion (HasInstance g) (parts_of rs)
 solved_have g used [] [] k h = tt

@@ -7,7 +7,7 @@ use Rattle.kp_kore.proofs.ListLemmas.{all_map, all_append}
 use Rattle.kp_symbolic.specs.States.{atom_variables, clause_variables, Literal, SymbolicState}
 use Rattle.kp_symbolic.specs.WellFormed.{IsWellSortedAtom, AreAtHand}
 use Rattle.kp_symbolic_laws.specs.Runs.{HasOneSortEach, IsSortedLiteral, IsSortedState}
-use Rattle.kp_decide.specs.Read.{HasSortedClauses}
+use Rattle.kp_satisfiability.specs.Read.{HasSortedClauses}
 
 at_hand : (g : KoreSignature) (hand : List SortedName) (c : List Literal) → AllByRecursion (IsSortedLiteral g hand) c → AreAtHand (clause_variables c) hand
 at_hand g hand [] h = tt

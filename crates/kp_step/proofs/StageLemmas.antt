@@ -9,26 +9,26 @@ use Rattle.kp_kore.specs.Theory.{Theory}
 use Rattle.kp_kore.specs.Steps.{HasTurn}
 use Rattle.kp_kore.proofs.TurnLemmas.{each_member}
 use Rattle.kp_symbolic.specs.States.{SymbolicState}
-use Rattle.kp_decide.specs.Read.{HasSortedClauses}
+use Rattle.kp_satisfiability.specs.Read.{HasSortedClauses}
 use Rattle.kp_rule_sets.specs.RuleSets.{RunsAs}
 use Rattle.kp_rule_sets.specs.declared.rule_set.RuleSet.{RuleSet}
-use Rattle.kp_cases.specs.Parts.{StatePart, whole, OfEachInstance}
-use Rattle.kp_turns.specs.Firing.{HasNoInstance}
+use Rattle.kp_case_laws.specs.Parts.{StatePart, whole, OfEachInstance}
+use Rattle.kp_case_laws.specs.Firing.{HasNoInstance}
 use Rattle.kp_unify.specs.Narrowed.{NumberedPart}
 use Rattle.kp_unify.specs.Views.{numbered_view}
 use Rattle.kp_unify.specs.declared.part.Part.{Part}
-use Rattle.kp_firing.specs.Ready.{IsReadyPart, HasInstance}
+use Rattle.kp_step.specs.ReadyParts.{IsReadyPart, HasInstance}
 use Rattle.kp_step.specs.Places.{IsAt}
-use Rattle.kp_step.specs.Left.{AreKept, none_left}
+use Rattle.kp_step.specs.Remainders.{AreKept, none_left}
 use Rattle.kp_step.specs.Found.{PlacedTurn, IsTurnAt, AreFound, AreAllFound}
 use Rattle.kp_step.specs.Answers.{ShowsOf}
 use Rattle.kp_step.specs.Counted.{IsCounted}
 use Rattle.kp_step.specs.Follows.{IsSolvedPart}
 use Rattle.kp_step.specs.Views.{numbered_views, turn_view}
 use Rattle.kp_step.specs.declared.turns.Turn.{Turn}
-use Rattle.kp_step.specs.declared.answers.Open.{Open}
+use Rattle.kp_step.specs.declared.part_answers.UndecidedClauses.{UndecidedClauses}
 use Rattle.kp_step.proofs.FoundLemmas.{no_turn_found, turn_found, all_found}
-use Rattle.kp_step.proofs.LeftLemmas.{kept_more, kept_less}
+use Rattle.kp_step.proofs.RemainderLemmas.{kept_more, kept_less}
 use Rattle.kp_step.proofs.LoopLemmas.{taken, all_taken, split_there}
 use Rattle.kp_step.proofs.OrderLemmas.{InTurn, each_is_there, none_comes_again, numbers_ahead}
 use Rattle.kp_step.proofs.SortedLemmas.{sorted_clauses}
@@ -72,7 +72,7 @@ next_sorted g used all kept items rest p e d =
     sorted_clauses g (numbered_view p).part.state h.0.0.safe.sorted
 
 -- what is left open of it
-pub decides_open : (g : KoreSignature) (used : List Text) (s : SymbolicState) (most : ℕ) (all kept items rest : List Part) (p : Part) (told o : Open) → items ≡ p ∷ rest → ShowsOf g s (numbered_view p).part.state told → o ≡ told → IsCounted g (numbered_view p).part.state most o.over →
+pub decides_open : (g : KoreSignature) (used : List Text) (s : SymbolicState) (most : ℕ) (all kept items rest : List Part) (p : Part) (told o : UndecidedClauses) → items ≡ p ∷ rest → ShowsOf g s (numbered_view p).part.state told → o ≡ told → IsCounted g (numbered_view p).part.state most o.over →
     Deciding g used (numbered_views all) (numbered_views items) (numbered_views kept) → (q : NumberedPart) × Contains (numbered_views all) q × ShowsOf g s q.part.state o × IsCounted g q.part.state most o.over
 decides_open g used s most all kept items rest p told o e shows same counted d =
     let h : Deciding g used (numbered_views all) (numbered_view p ∷ numbered_views rest) (numbered_views kept) = subst (λ xs. Deciding g used (numbered_views all) (numbered_views xs) (numbered_views kept)) e d in

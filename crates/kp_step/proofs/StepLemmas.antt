@@ -17,20 +17,20 @@ use Rattle.kp_symbolic.specs.States.{SymbolicState, IsStateInstance}
 use Rattle.kp_symbolic.specs.WellFormed.{AreAtHand}
 use Rattle.kp_symbolic_laws.specs.Runs.{HasOneSortEach}
 use Rattle.kp_symbolic.proofs.HeadQuestions.{assigned_all}
-use Rattle.kp_cases.specs.Parts.{StatePart, whole, OfEachInstance, IsNewVariable, IsGrown}
-use Rattle.kp_cases.specs.Narrowings.{sorts_of_names}
-use Rattle.kp_cases.proofs.NewVariables.{scope_stays, new_sorts}
-use Rattle.kp_turns.specs.Turns.{Turn, rules_of}
-use Rattle.kp_turns.specs.NextStates.{StepCase, IsNext, placed, HaveOwnIds, AreStepCases, HaveValues, IsWithinHand, FollowsBy}
-use Rattle.kp_turns.proofs.AtHandLemmas.{sorts_stay}
-use Rattle.kp_turns.proofs.TurnsFound.{remainder_fires_none}
+use Rattle.kp_case_laws.specs.Parts.{StatePart, whole, OfEachInstance, IsNewVariable, IsGrown}
+use Rattle.kp_case_laws.specs.Narrowings.{sorts_of_names}
+use Rattle.kp_case_laws.proofs.NewVariables.{scope_stays, new_sorts}
+use Rattle.kp_case_laws.specs.Turns.{Turn, rules_of}
+use Rattle.kp_case_laws.specs.NextStates.{StepCase, IsNext, placed, HaveOwnIds, AreStepCases, HaveValues, IsWithinHand, FollowsBy}
+use Rattle.kp_case_laws.proofs.AtHandLemmas.{sorts_stay}
+use Rattle.kp_case_laws.proofs.TurnsFound.{remainder_fires_none}
 use Rattle.kp_unify.specs.Narrowed.{NumberedPart}
 use Rattle.kp_step.specs.Places.{IsAt}
-use Rattle.kp_firing.specs.Ready.{HasInstance, parts_of}
-use Rattle.kp_step.specs.Left.{IsPartIn, AreLeft}
+use Rattle.kp_step.specs.ReadyParts.{HasInstance, parts_of}
+use Rattle.kp_step.specs.Remainders.{IsPartIn, AreRemaining}
 use Rattle.kp_step.specs.Found.{PlacedTurn, IsTurnAmong, AreAllFound}
 use Rattle.kp_step.specs.Follows.{PlacedNext, IsNextOf, IsNextAt, AreNextsOf}
-use Rattle.kp_step.proofs.LeftLemmas.{grown_hand}
+use Rattle.kp_step.proofs.RemainderLemmas.{grown_hand}
 use Rattle.kp_step.proofs.FoundLemmas.{turns_of, are_all_turns, turn_parts, turn_rules, own_ids}
 
 -- ---- variables at hand
@@ -155,7 +155,7 @@ rest_hand g used s (q ∷ qs) a i = (remains_at_hand g used s q a.0 i.0, rest_ha
 -- ---- the step
 
 pub step_cases : (t : Theory) (used : List Text) (s : SymbolicState) (turns : List PlacedTurn) (ns : List PlacedNext) (rest : List NumberedPart) (f : AreAllFound t used (whole s) turns) (z : AreNextsOf t used (whole s) turns ns) → HaveOwnIds t.rules → OfEachInstance t.signature (whole s) (λ w c. ¬ IsUnknown t c) →
-    AreLeft t.signature used None (rules_of (turns_of t used (whole s) turns turns f.each)) (whole s) (whole s) rest → AreStepCases t s (all_cases t used (whole s) turns turns ns f.each z ++ rest_cases rest)
+    AreRemaining t.signature used None (rules_of (turns_of t used (whole s) turns turns f.each)) (whole s) (whole s) rest → AreStepCases t s (all_cases t used (whole s) turns turns ns f.each z ++ rest_cases rest)
 step_cases t used s turns ns rest f z own known l = record {
   turns = turns_of t used (whole s) turns turns f.each;
   remainder = parts_of rest;

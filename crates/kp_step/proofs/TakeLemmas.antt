@@ -12,23 +12,23 @@ use Rattle.kp_rules.specs.Sides.{AreSidesOf}
 use Rattle.kp_rules.specs.VerifiedSides.{AreVerifiedSides}
 use Rattle.kp_rules.specs.declared.rule.Rewrite as code
 use Rattle.kp_rule_sets.specs.declared.rule_set.RuleSet.{RuleSet}
-use Rattle.kp_cases.specs.Parts.{StatePart, OfEachInstance}
-use Rattle.kp_turns.specs.Firing.{HasNoInstance}
-use Rattle.kp_turns.specs.Turns.{TakesFrom}
+use Rattle.kp_case_laws.specs.Parts.{StatePart, OfEachInstance}
+use Rattle.kp_case_laws.specs.Firing.{HasNoInstance}
+use Rattle.kp_case_laws.specs.Turns.{TakesFrom}
 use Rattle.kp_unify.specs.Narrowed.{NumberedPart}
 use Rattle.kp_unify.specs.Views.{signature_of, numbered_view}
 use Rattle.kp_unify.specs.declared.part.Setting.{Setting}
 use Rattle.kp_unify.specs.declared.part.Part.{Part}
-use Rattle.kp_firing.specs.Ready.{IsReadyPart, parts_of}
-use Rattle.kp_firing.specs.Silent.{IsExcluded}
+use Rattle.kp_step.specs.ReadyParts.{IsReadyPart, parts_of}
+use Rattle.kp_step.specs.Silent.{IsExcluded}
 use Rattle.kp_step.specs.Places.{IsAt}
 use Rattle.kp_step.specs.Rules.{Steps, IsReadAt}
-use Rattle.kp_step.specs.Left.{TakesBy, IsNumberOf, AreLeftSoFar, OneTakesAll}
+use Rattle.kp_step.specs.Remainders.{TakesBy, IsNumberOf, RemainSoFar, OneTakesAll}
 use Rattle.kp_step.specs.Answers.{AreWithout}
 use Rattle.kp_step.specs.Views.{numbered_views}
 use Rattle.kp_step.proofs.FoundLemmas.{one_at}
 use Rattle.kp_step.proofs.LoopLemmas.{taken_views, waiting_views, all_taken_views, none_waiting_views}
-use Rattle.kp_step.proofs.LeftLemmas.{rule_goes_on, rule_arrives, everywhere_more}
+use Rattle.kp_step.proofs.RemainderLemmas.{rule_goes_on, rule_arrives, everywhere_more}
 
 -- by numbers, as the code asks
 pub takes_by : (p : ℕ) (n : Option ℕ) (q : RewriteRule) (o : Option RewriteRule) → IsNumberOf n o → q.priority ≡ p → TakesBy p n ↔ TakesFrom q o
@@ -51,15 +51,15 @@ takes_all b p n k e = k.1 (subst (TakesBy p) (sym e) tt)
 
 -- one part more
 pub one_part_more : (g : KoreSignature) (used : List Text) (o : Option RewriteRule) (turns : List RewriteRule) (q : RewriteRule) (s m : StatePart) (before done waiting more : List NumberedPart) (r : NumberedPart) → IsExcluded g used q.body r.part more →
-    AreLeftSoFar g used o turns q s m done (r ∷ waiting) → (AllByRecursion (HasNoInstance g) (parts_of done) → AllByRecursion (λ p. OfEachInstance g p (λ w c. Fires g q.body c)) (parts_of before)) →
-    AreLeftSoFar g used o turns q s m (done ++ more) waiting × (AllByRecursion (HasNoInstance g) (parts_of (done ++ more)) → AllByRecursion (λ p. OfEachInstance g p (λ w c. Fires g q.body c)) (parts_of (before ++ r ∷ [])))
+    RemainSoFar g used o turns q s m done (r ∷ waiting) → (AllByRecursion (HasNoInstance g) (parts_of done) → AllByRecursion (λ p. OfEachInstance g p (λ w c. Fires g q.body c)) (parts_of before)) →
+    RemainSoFar g used o turns q s m (done ++ more) waiting × (AllByRecursion (HasNoInstance g) (parts_of (done ++ more)) → AllByRecursion (λ p. OfEachInstance g p (λ w c. Fires g q.body c)) (parts_of (before ++ r ∷ [])))
 one_part_more g used o turns q s m before done waiting more r x l f = (
   rule_goes_on g used o turns q s m done waiting more r l x.silent x.each,
   everywhere_more g q before done more r f x.everywhere,
 )
 
 -- all parts
-pub all_without : (g : KoreSignature) (used : List Text) (o : Option RewriteRule) (turns : List RewriteRule) (q : RewriteRule) (s m : StatePart) (parts left : List NumberedPart) → TakesFrom q o → AreLeftSoFar g used o turns q s m left [] →
+pub all_without : (g : KoreSignature) (used : List Text) (o : Option RewriteRule) (turns : List RewriteRule) (q : RewriteRule) (s m : StatePart) (parts left : List NumberedPart) → TakesFrom q o → RemainSoFar g used o turns q s m left [] →
     (AllByRecursion (HasNoInstance g) (parts_of left) → AllByRecursion (λ p. OfEachInstance g p (λ w c. Fires g q.body c)) (parts_of parts)) → AreWithout g used o turns q s m parts left
 all_without g used o turns q s m parts left t l f = record { are_left = rule_arrives g used o turns q s m left t l; everywhere = f }
 
@@ -78,12 +78,12 @@ some_found (y ∷ xs) x e = absurd (cc)
 
 abbrev pub Taking : KoreSignature → List Text → Option RewriteRule → List RewriteRule → RewriteRule → StatePart → StatePart → List Part → ℕ → List Part → Type 0
 Taking g used o turns q s m parts i found =
-    AreLeftSoFar g used o turns q s m (numbered_views found) (numbered_views (drop i parts))
+    RemainSoFar g used o turns q s m (numbered_views found) (numbered_views (drop i parts))
     × (AllByRecursion (HasNoInstance g) (parts_of (numbered_views found)) → AllByRecursion (λ r. OfEachInstance g r (λ w c. Fires g q.body c)) (parts_of (numbered_views (take i parts))))
 
 pub takes_ready : (g : KoreSignature) (used : List Text) (o : Option RewriteRule) (turns : List RewriteRule) (q : RewriteRule) (s m : StatePart) (parts : List Part) (i : ℕ) (p : Part) (found : List Part) → i < length parts → p ≡ get_or parts i p → Taking g used o turns q s m parts i found → IsReadyPart g used (numbered_view p)
 takes_ready g used o turns q s m parts i p found h e t =
-    let l : AreLeftSoFar g used o turns q s m (numbered_views found) (numbered_view p ∷ numbered_views (drop (i + 1) parts)) = subst (AreLeftSoFar g used o turns q s m (numbered_views found)) (waiting_views numbered_view parts i p h e) t.0 in
+    let l : RemainSoFar g used o turns q s m (numbered_views found) (numbered_view p ∷ numbered_views (drop (i + 1) parts)) = subst (RemainSoFar g used o turns q s m (numbered_views found)) (waiting_views numbered_view parts i p h e) t.0 in
     l.each_waiting.0.ready
 
 pub takes_part : (g : KoreSignature) (used : List Text) (o : Option RewriteRule) (turns : List RewriteRule) (q : RewriteRule) (s m : StatePart) (parts : List Part) (i : ℕ) (p : Part) (found new more : List Part) → i < length parts → p ≡ get_or parts i p → new ≡ found ++ more → IsExcluded g used q.body (numbered_view p).part (numbered_views more) →
@@ -91,11 +91,11 @@ pub takes_part : (g : KoreSignature) (used : List Text) (o : Option RewriteRule)
 takes_part g used o turns q s m parts i p found new more h e n x t =
     let rest = numbered_views (drop (i + 1) parts) in
     let before = numbered_views (take i parts) in
-    let l : AreLeftSoFar g used o turns q s m (numbered_views found) (numbered_view p ∷ rest) = subst (AreLeftSoFar g used o turns q s m (numbered_views found)) (waiting_views numbered_view parts i p h e) t.0 in
+    let l : RemainSoFar g used o turns q s m (numbered_views found) (numbered_view p ∷ rest) = subst (RemainSoFar g used o turns q s m (numbered_views found)) (waiting_views numbered_view parts i p h e) t.0 in
     let both = one_part_more g used o turns q s m before (numbered_views found) rest (numbered_views more) (numbered_view p) x l t.1 in
     let seen : numbered_views new ≡ numbered_views found ++ numbered_views more = ap numbered_views n ∙ map-append numbered_view found more in
     let ahead : numbered_views (take (i + 1) parts) ≡ before ++ numbered_view p ∷ [] = taken_views numbered_view parts i p h e in (
-      subst (λ ds. AreLeftSoFar g used o turns q s m ds rest) (sym seen) both.0,
+      subst (λ ds. RemainSoFar g used o turns q s m ds rest) (sym seen) both.0,
       subst (λ bs. AllByRecursion (HasNoInstance g) (parts_of (numbered_views new)) → AllByRecursion (λ r. OfEachInstance g r (λ w c. Fires g q.body c)) (parts_of bs)) (sym ahead)
           (subst (λ ds. AllByRecursion (HasNoInstance g) (parts_of ds) → AllByRecursion (λ r. OfEachInstance g r (λ w c. Fires g q.body c)) (parts_of (before ++ numbered_view p ∷ []))) (sym seen) both.1),
     )
@@ -103,7 +103,7 @@ takes_part g used o turns q s m parts i p found new more h e n x t =
 pub takes_end : (g : KoreSignature) (used : List Text) (o : Option RewriteRule) (turns : List RewriteRule) (q : RewriteRule) (s m : StatePart) (parts : List Part) (i : ℕ) (found : List Part) → length parts ≤ i → TakesFrom q o → Taking g used o turns q s m parts i found → AreWithout g used o turns q s m (numbered_views parts) (numbered_views found)
 takes_end g used o turns q s m parts i found past k t =
     all_without g used o turns q s m (numbered_views parts) (numbered_views found) k
-    (subst (AreLeftSoFar g used o turns q s m (numbered_views found)) (none_waiting_views numbered_view parts i past) t.0)
+    (subst (RemainSoFar g used o turns q s m (numbered_views found)) (none_waiting_views numbered_view parts i past) t.0)
     (subst (λ bs. AllByRecursion (HasNoInstance g) (parts_of (numbered_views found)) → AllByRecursion (λ r. OfEachInstance g r (λ w c. Fires g q.body c)) (parts_of bs)) (all_taken_views numbered_view parts i past) t.1)
 
 -- ---- as the loop over turns goes

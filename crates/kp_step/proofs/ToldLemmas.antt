@@ -7,15 +7,15 @@ use Rattle.kp_kore.specs.Rules.{RuleBody, RewriteRule}
 use Rattle.kp_kore.specs.Theory.{Theory}
 use Rattle.kp_kore.proofs.TurnLemmas.{of_member}
 use Rattle.kp_kore.proofs.ListLemmas.{all_append}
-use Rattle.kp_cases.specs.Parts.{StatePart, whole, IsSortedPart, IsGrown}
+use Rattle.kp_case_laws.specs.Parts.{StatePart, whole, IsSortedPart, IsGrown}
 use Rattle.kp_symbolic.specs.States.{SymbolicState}
-use Rattle.kp_turns.specs.NextStates.{StepCase}
+use Rattle.kp_case_laws.specs.NextStates.{StepCase}
 use Rattle.kp_unify.specs.Narrowed.{NumberedPart}
-use Rattle.kp_firing.specs.Comes.{ComesFrom}
-use Rattle.kp_firing.proofs.ComesLemmas.{comes_by_more}
+use Rattle.kp_step.specs.Comes.{ComesFrom}
+use Rattle.kp_step.proofs.ComesLemmas.{comes_by_more}
 use Rattle.kp_step.specs.Places.{IsAt}
 use Rattle.kp_step.specs.Ready.{IsReadyState}
-use Rattle.kp_step.specs.Left.{IsPartIn, IsOneOf, IsOfTheory, IsOfThese}
+use Rattle.kp_step.specs.Remainders.{IsPartIn, IsOneOf, IsOfTheory, IsOfThese}
 use Rattle.kp_step.specs.Found.{PlacedTurn, IsTurnAmong}
 use Rattle.kp_step.specs.Follows.{IsMovedBy, PlacedNext, IsNextAt, AreNextsOf}
 use Rattle.kp_step.specs.Meets.{MeetsRule, AllMeet}

@@ -19,39 +19,39 @@ use Rattle.kp_rules.specs.Skeletons.{Form, skeleton_view}
 use Rattle.kp_rules.specs.declared.skeleton.Skeleton.{Skeleton}
 use Rattle.kp_rules.specs.LeftSides.{IsLeftSide}
 use Rattle.kp_rules.specs.LeftForms.{left_form}
-use Rattle.kp_firing.specs.Comes.{IsFormOf}
+use Rattle.kp_step.specs.Comes.{IsFormOf}
 use Rattle.kp_step.specs.Counted.{IsMost}
 use Rattle.kp_overlap.specs.Overlaps.{MeetsForm}
 use Rattle.kp_rules.specs.Sides.{AreSidesOf}
 use Rattle.kp_rules.specs.VerifiedSides.{AreVerifiedSides}
 use Rattle.kp_rules.specs.declared.sides.ReadSides.{ReadSides}
-use Rattle.kp_wide.specs.Wide.{WideCall, first_wide}
-use Rattle.kp_cases.specs.Parts.{StatePart, whole, with_clauses, OfEachInstance}
-use Rattle.kp_cases.specs.Courses.{form_variables}
-use Rattle.kp_turns.specs.Firing.{HasNoInstance, FiresNowhere, AreFiringCases}
+use Rattle.kp_limits.specs.Wide.{WideCall, first_wide}
+use Rattle.kp_case_laws.specs.Parts.{StatePart, whole, with_clauses, OfEachInstance}
+use Rattle.kp_case_laws.specs.Courses.{form_variables}
+use Rattle.kp_case_laws.specs.Firing.{HasNoInstance, FiresNowhere, AreFiringCases}
 use Rattle.kp_unify.specs.Narrowed.{NumberedPart}
 use Rattle.kp_unify.specs.Views.{part_view, numbered_view}
 use Rattle.kp_unify.specs.declared.part.Part.{Part}
-use Rattle.kp_firing.specs.Ready.{IsReadyPart, parts_of}
-use Rattle.kp_firing.specs.Firings.{clauses_of_firing, FiresOn}
-use Rattle.kp_firing.specs.declared.firing.Firing.{Firing}
-use Rattle.kp_firing.proofs.SilentLemmas.{fires_nowhere_there}
+use Rattle.kp_step.specs.ReadyParts.{IsReadyPart, parts_of}
+use Rattle.kp_step.specs.Firings.{clauses_of_firing, FiresOn}
+use Rattle.kp_step.specs.declared.firing.Firing.{Firing}
+use Rattle.kp_step.proofs.SilentLemmas.{fires_nowhere_there}
 use Rattle.kp_step.specs.Places.{IsAt, IsReadAs, IsPriorityAt}
 use Rattle.kp_step.specs.Rules.{TellsRead}
 use Rattle.kp_step.specs.Ready.{IsWholeReady}
-use Rattle.kp_step.specs.Left.{IsPartIn, AreLeft}
+use Rattle.kp_step.specs.Remainders.{IsPartIn, AreRemaining}
 use Rattle.kp_step.specs.Found.{PlacedTurn, IsRuleAt, IsMetIn, IsTurnAt}
 use Rattle.kp_step.specs.Limits.{TermLimit, number, Passes, IsPassed}
 use Rattle.kp_step.specs.Meets.{MeetsRule, AllMeet}
 use Rattle.kp_step.specs.Tries.{PlacedFiring, narrowed_of, IsLeftAt, IsFiringOf, CanMeet, AreTurnParts}
 use Rattle.kp_step.specs.Views.{numbered_views, limit_view}
-use Rattle.kp_step.specs.Outcomes.{IsToldOpen}
+use Rattle.kp_step.specs.RightSteps.{IsToldUndecided}
 use Rattle.kp_step.specs.Answers.{IsRightAnswerOf, AreMet, IsMetAnswer, TellsWhereMet, firing_model, AreDecided, TellsParts}
-use Rattle.kp_step.specs.declared.answers.Open.{Open}
-use Rattle.kp_step.specs.declared.answers.PartAnswer as answers
-use Rattle.kp_step.specs.declared.answers.PartAnswer.TheVariants as answer
-use Rattle.kp_step.specs.declared.answers.Decided as decisions
-use Rattle.kp_step.specs.declared.answers.Decided.TheVariants as decided
+use Rattle.kp_step.specs.declared.part_answers.UndecidedClauses.{UndecidedClauses}
+use Rattle.kp_step.specs.declared.part_answers.PartAnswer as answers
+use Rattle.kp_step.specs.declared.part_answers.PartAnswer.TheVariants as answer
+use Rattle.kp_step.specs.declared.part_answers.Decided as decisions
+use Rattle.kp_step.specs.declared.part_answers.Decided.TheVariants as decided
 use Rattle.kp_step.specs.declared.outcome.StepLimit.{StepLimit}
 use Rattle.kp_step.proofs.AnswerLemmas.{MayBe, may_by_instance, may_by_open}
 use Rattle.kp_step.proofs.FiringLemmas.{is_firing}
@@ -65,11 +65,11 @@ use Rattle.kp_step.proofs.TurnLemmas.{can_meet, met_sorted, narrowed_sorted, not
 may_be : (g : KoreSignature) (s x : SymbolicState) (a : answers.PartAnswer) → ¬ (a ≡ answer.Nothing) → IsRightAnswerOf g s x a → MayBe g x
 may_be g s x answer.Instance some i = may_by_instance g x i
 may_be g s x answer.Nothing some i = absurd (some refl)
-may_be g s x (answer.Open o) some i = may_by_open g s x o i
+may_be g s x (answer.UndecidedClauses o) some i = may_by_open g s x o i
 
-pub some_answer : (a : answers.PartAnswer) → (a ≡ answer.Instance) ⊎ ((o : Open) × (a ≡ answer.Open o)) → ¬ (a ≡ answer.Nothing)
+pub some_answer : (a : answers.PartAnswer) → (a ≡ answer.Instance) ⊎ ((o : UndecidedClauses) × (a ≡ answer.UndecidedClauses o)) → ¬ (a ≡ answer.Nothing)
 some_answer a (inl i) e = let f : answer.Instance ≡ answer.Nothing = sym i ∙ e in absurd (cc)
-some_answer a (inr i) e = let f : answer.Open i.0 ≡ answer.Nothing = sym i.1 ∙ e in absurd (cc)
+some_answer a (inr i) e = let f : answer.UndecidedClauses i.0 ≡ answer.Nothing = sym i.1 ∙ e in absurd (cc)
 
 same_read : {m n : Rewrite} → rewrite m ≡ rewrite n → m ≡ n
 same_read e = cc
@@ -157,8 +157,8 @@ nothing_told t used s place found f left a parts i m nothing none =
     subst (λ ps. AreTurnParts t used s place found f.part.part (numbered_views ps)) (sym none) (nothing_there t used s place found f i there)
 
 -- where it fires, with nothing left out
-pub fires_at : (t : Theory) (used : List Text) (s : SymbolicState) (place : ℕ) (f : PlacedFiring) (g : KoreSignature) (q : NumberedPart) (i : IsFiringOf t used s place f) → g ≡ t.signature → q ≡ narrowed_of f → AreLeft g used (Some i.rule) [] (whole s) f.part.part (q ∷ [])
-fires_at t used s place f g q i e same = subst (λ h. AreLeft h used (Some i.rule) [] (whole s) f.part.part (q ∷ [])) (sym e) (subst (λ u. AreLeft t.signature used (Some i.rule) [] (whole s) f.part.part (u ∷ [])) (sym same) (fires_there t used s place f i))
+pub fires_at : (t : Theory) (used : List Text) (s : SymbolicState) (place : ℕ) (f : PlacedFiring) (g : KoreSignature) (q : NumberedPart) (i : IsFiringOf t used s place f) → g ≡ t.signature → q ≡ narrowed_of f → AreRemaining g used (Some i.rule) [] (whole s) f.part.part (q ∷ [])
+fires_at t used s place f g q i e same = subst (λ h. AreRemaining h used (Some i.rule) [] (whole s) f.part.part (q ∷ [])) (sym e) (subst (λ u. AreRemaining t.signature used (Some i.rule) [] (whole s) f.part.part (u ∷ [])) (sym same) (fires_there t used s place f i))
 
 all_ready : (g : KoreSignature) (used : List Text) (s m : StatePart) (parts : List NumberedPart) → AllByRecursion (IsPartIn g used s m) parts → AllByRecursion (IsReadyPart g used) parts
 all_ready g used s m [] h = tt
@@ -166,10 +166,10 @@ all_ready g used s m (p ∷ parts) h = (h.0.ready, all_ready g used s m parts h.
 
 -- those that are left, as far as that is decided
 pub left_told : (t : Theory) (used : List Text) (s y : SymbolicState) (place : ℕ) (found : List RewriteRule) (f : PlacedFiring) (g : KoreSignature) (i : IsFiringOf t used s place f) (turns : List PlacedTurn) (most : ℕ) (parts : List NumberedPart) (d : decisions.Decided) → g ≡ t.signature → y ≡ s → AllZip (IsRuleAt t) turns found → MeetsRule t.signature s i.rule.body → AllMeet t.signature s found → IsMost t.signature y (i.rule ∷ found) most →
-    AreLeft g used (Some i.rule) found (whole s) f.part.part parts → (AllByRecursion (IsReadyPart g used) parts → AreDecided g y most parts d) → TellsParts t used s place found f.part.part d
+    AreRemaining g used (Some i.rule) found (whole s) f.part.part parts → (AllByRecursion (IsReadyPart g used) parts → AreDecided g y most parts d) → TellsParts t used s place found f.part.part d
 left_told t used s y place found f g i turns most parts d e same z own all m l told =
     let k : AreDecided g y most parts d = told (all_ready g used (whole s) f.part.part parts l.each) in
-    parts_told t used s place found f i turns most parts d z own all (subst (λ x. IsMost t.signature x (i.rule ∷ found) most) same m) (subst (λ h. AreLeft h used (Some i.rule) found (whole s) f.part.part parts) e l)
+    parts_told t used s place found f i turns most parts d z own all (subst (λ x. IsMost t.signature x (i.rule ∷ found) most) same m) (subst (λ h. AreRemaining h used (Some i.rule) found (whole s) f.part.part parts) e l)
     (subst (λ h. AreDecided h s most parts d) e (subst (λ x. AreDecided g x most parts d) same k))
 
 -- ---- its turn
@@ -218,8 +218,8 @@ pub some_views : (parts : List Part) → ¬ (parts ≡ []) → ¬ (numbered_view
 some_views parts some e = some (no_views parts e)
 
 -- what is left open of a part
-pub open_told : (t : Theory) (used : List Text) (s : SymbolicState) (place : ℕ) (found : List RewriteRule) (p : StatePart) (o : Open) → TellsParts t used s place found p (decided.Open o) → IsToldOpen t s (clauses_view o.shown.items) o.over (Some place)
-open_told t used s place found p o k = record { rule = Some k.0; is_rule = k.1; weight = k.2; weighed = k.3; left_open = k.4 }
+pub open_told : (t : Theory) (used : List Text) (s : SymbolicState) (place : ℕ) (found : List RewriteRule) (p : StatePart) (o : UndecidedClauses) → TellsParts t used s place found p (decided.UndecidedClauses o) → IsToldUndecided t s (clauses_view o.shown.items) o.over (Some place)
+open_told t used s place found p o k = record { rule = Some k.0; is_rule = k.1; weight = k.2; weighed = k.3; what_is_undecided = k.4 }
 
 -- ---- a rule that doesn't fire
 

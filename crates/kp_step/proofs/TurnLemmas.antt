@@ -7,30 +7,30 @@ use Rattle.kp_kore.specs.Theory.{Theory}
 use Rattle.kp_kore.specs.Steps.{Fires, HasTurn}
 use Rattle.kp_symbolic.specs.States.{SymbolicState}
 use Rattle.kp_symbolic.specs.View.{clauses_view}
-use Rattle.kp_cases.specs.Parts.{StatePart, whole, with_clauses, OfEachInstance}
-use Rattle.kp_turns.specs.Firing.{HasNoInstance, AreFiringCases}
-use Rattle.kp_turns.specs.Turns.{FiresFirst}
+use Rattle.kp_case_laws.specs.Parts.{StatePart, whole, with_clauses, OfEachInstance}
+use Rattle.kp_case_laws.specs.Firing.{HasNoInstance, AreFiringCases}
+use Rattle.kp_case_laws.specs.Turns.{FiresFirst}
 use Rattle.kp_unify.specs.Narrowed.{NumberedPart}
 use Rattle.kp_unify.specs.declared.part.Part.{Part}
-use Rattle.kp_decide.specs.Read.{HasSortedClauses}
-use Rattle.kp_firing.specs.Ready.{parts_of}
+use Rattle.kp_satisfiability.specs.Read.{HasSortedClauses}
+use Rattle.kp_step.specs.ReadyParts.{parts_of}
 use Rattle.kp_step.specs.Meets.{MeetsRule, AllMeet}
 use Rattle.kp_step.specs.Counted.{IsMost}
 use Rattle.kp_step.proofs.CountLemmas.{counted_for}
-use Rattle.kp_firing.specs.Comes.{ComesFrom}
+use Rattle.kp_step.specs.Comes.{ComesFrom}
 use Rattle.kp_step.specs.Places.{IsAt}
-use Rattle.kp_step.specs.Left.{IsPartIn, AreLeft, falls_away, none_left}
+use Rattle.kp_step.specs.Remainders.{IsPartIn, AreRemaining, falls_away, none_left}
 use Rattle.kp_step.specs.Found.{PlacedTurn, IsRuleAt, IsTurnAt}
 use Rattle.kp_step.specs.Limits.{TermLimit, Passes, IsPassed}
 use Rattle.kp_step.specs.Tries.{PlacedFiring, narrowed_of, IsFiringOf, CanMeet, AreTurnParts}
 use Rattle.kp_step.specs.Answers.{AreDecided, TellsParts}
 use Rattle.kp_step.specs.Views.{numbered_views}
-use Rattle.kp_step.specs.declared.answers.Decided as decisions
-use Rattle.kp_step.specs.declared.answers.Decided.TheVariants as decided
+use Rattle.kp_step.specs.declared.part_answers.Decided as decisions
+use Rattle.kp_step.specs.declared.part_answers.Decided.TheVariants as decided
 use Rattle.kp_step.proofs.AnswerLemmas.{MayBe}
-use Rattle.kp_step.proofs.CauseLemmas.{open_rule}
+use Rattle.kp_step.proofs.CauseLemmas.{undecided_rule}
 use Rattle.kp_step.proofs.FoundLemmas.{at_contains}
-use Rattle.kp_step.proofs.LeftLemmas.{kept_is_left, kept_have}
+use Rattle.kp_step.proofs.RemainderLemmas.{kept_is_left, kept_have}
 use Rattle.kp_step.proofs.SortedLemmas.{sorted_clauses}
 use Rattle.kp_step.proofs.TryLemmas.{rules_in_theory, fires_there, nothing_for_it, no_turn_at}
 
@@ -81,17 +81,17 @@ nothing_there t used s place found f i none =
 
 -- the parts that are left to it, as far as that is decided
 pub parts_told : (t : Theory) (used : List Text) (s : SymbolicState) (place : ℕ) (found : List RewriteRule) (f : PlacedFiring) (i : IsFiringOf t used s place f) (turns : List PlacedTurn) (most : ℕ) (parts : List NumberedPart) (d : decisions.Decided) → AllZip (IsRuleAt t) turns found → MeetsRule t.signature s i.rule.body → AllMeet t.signature s found → IsMost t.signature s (i.rule ∷ found) most →
-    AreLeft t.signature used (Some i.rule) found (whole s) f.part.part parts → AreDecided t.signature s most parts d → TellsParts t used s place found f.part.part d
+    AreRemaining t.signature used (Some i.rule) found (whole s) f.part.part parts → AreDecided t.signature s most parts d → TellsParts t used s place found f.part.part d
 parts_told t used s place found f i turns most parts (decided.Parts ks) z own all m l k = record {
   rule = i.rule;
   at = i.at;
   left = kept_is_left t.signature used (Some i.rule) found (whole s) f.part.part parts (numbered_views ks.items) k l;
   instances = kept_have t.signature parts (numbered_views ks.items) k;
 }
-parts_told t used s place found f i turns most parts (decided.Open o) z own all m l k =
+parts_told t used s place found f i turns most parts (decided.UndecidedClauses o) z own all m l k =
     let shows = k.2 in
     let compares = counted_for t.signature s k.0.part.state (i.rule ∷ found) most shows.0 o.over m k.3 shows.1 in
-    (i.rule, i.at, shows.0, shows.1, open_rule t used s f.part.part i.rule i.read found parts k.0 (clauses_view o.shown.items) shows.0 i.body (rules_in_theory t turns found z) own all l k.1 shows.2 compares)
+    (i.rule, i.at, shows.0, shows.1, undecided_rule t used s f.part.part i.rule i.read found parts k.0 (clauses_view o.shown.items) shows.0 i.body (rules_in_theory t turns found z) own all l k.1 shows.2 compares)
 
 -- ---- the parts of a turn
 

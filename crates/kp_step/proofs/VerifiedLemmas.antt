@@ -14,7 +14,7 @@ use Rattle.kp_kore.proofs.TurnLemmas.{of_member}
 use Rattle.kp_symbolic_laws.specs.Runs.{HasOneSortEach}
 use Rattle.kp_rules.specs.Known.{is_among}
 use Rattle.kp_rules.specs.VerifiedSides.{IsOfBoth, is_old_or_new, AreVerifiedSides}
-use Rattle.kp_step.specs.Rights.{AreNamedIn, IsOverBoth}
+use Rattle.kp_step.specs.RightSides.{AreNamedIn, IsOverBoth}
 
 -- a variable that is among others is named among them
 named_among : (x : SortedName) (xs : List SortedName) → is_among x xs ≡ true → is_named x.name xs ≡ true

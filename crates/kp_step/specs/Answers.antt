@@ -8,31 +8,31 @@ use Rattle.kp_kore.specs.Theory.{Theory}
 use Rattle.kp_kore.specs.Steps.{Fires, HasTurn, IsUnknownBy, IsUnknown}
 use Rattle.kp_symbolic.specs.States.{SymbolicState}
 use Rattle.kp_symbolic.specs.Verdicts.{Weighed, undecided, IsRightVerdict}
-use Rattle.kp_decide.specs.Answers.{IsWeighedAs}
-use Rattle.kp_decide.specs.Read.{HasSortedClauses}
+use Rattle.kp_satisfiability.specs.Answers.{IsWeighedAs}
+use Rattle.kp_satisfiability.specs.Read.{HasSortedClauses}
 use Rattle.kp_rules.specs.Skeletons.{Form}
 use Rattle.kp_symbolic.specs.View.{clauses_view, replaced_view}
-use Rattle.kp_cases.specs.Parts.{StatePart, whole, OfEachInstance}
-use Rattle.kp_turns.specs.Firing.{HasNoInstance}
+use Rattle.kp_case_laws.specs.Parts.{StatePart, whole, OfEachInstance}
+use Rattle.kp_case_laws.specs.Firing.{HasNoInstance}
 use Rattle.kp_unify.specs.Narrowed.{NumberedPart}
 use Rattle.kp_unify.specs.Views.{numbered_view}
 use Rattle.kp_overlap.specs.Overlaps.{MeetsForm}
 use Rattle.kp_step.specs.Counted.{most_for, IsCounted}
-use Rattle.kp_firing.specs.declared.firing.Firing.{Firing}
+use Rattle.kp_step.specs.declared.firing.Firing.{Firing}
 use Rattle.kp_step.specs.Places.{IsAt}
-use Rattle.kp_firing.specs.Ready.{HasInstance, parts_of}
-use Rattle.kp_step.specs.Left.{AreLeft, AreKept}
+use Rattle.kp_step.specs.ReadyParts.{HasInstance, parts_of}
+use Rattle.kp_step.specs.Remainders.{AreRemaining, AreKept}
 use Rattle.kp_step.specs.Found.{PlacedTurn, IsTurnAt, AreAllFound}
 use Rattle.kp_step.specs.Tries.{PlacedFiring, AreTurnParts, AreRemaining}
-use Rattle.kp_step.specs.Causes.{IsShownOf, IsLeftOpen, MeetsForeign}
+use Rattle.kp_step.specs.Causes.{IsShownOf, IsUndecidedStep, MeetsForeign}
 use Rattle.kp_step.specs.Views.{numbered_views, turn_view}
-use Rattle.kp_step.specs.Outcomes.{IsRightStep}
-use Rattle.kp_step.specs.declared.answers.Open.{Open}
-use Rattle.kp_step.specs.declared.foreign.OpenAt.{OpenAt}
-use Rattle.kp_step.specs.declared.answers.PartAnswer as answers
-use Rattle.kp_step.specs.declared.answers.PartAnswer.TheVariants as answer
-use Rattle.kp_step.specs.declared.answers.Decided as decisions
-use Rattle.kp_step.specs.declared.answers.Decided.TheVariants as decided
+use Rattle.kp_step.specs.RightSteps.{IsRightStep}
+use Rattle.kp_step.specs.declared.part_answers.UndecidedClauses.{UndecidedClauses}
+use Rattle.kp_step.specs.declared.foreign.UndecidedRule.{UndecidedRule}
+use Rattle.kp_step.specs.declared.part_answers.PartAnswer as answers
+use Rattle.kp_step.specs.declared.part_answers.PartAnswer.TheVariants as answer
+use Rattle.kp_step.specs.declared.part_answers.Decided as decisions
+use Rattle.kp_step.specs.declared.part_answers.Decided.TheVariants as decided
 use Rattle.kp_step.specs.declared.turns.Tried as trials
 use Rattle.kp_step.specs.declared.turns.Tried.TheVariants as tried
 use Rattle.kp_step.specs.declared.turns.Searched as searches
@@ -42,17 +42,17 @@ use Rattle.kp_step.specs.declared.outcome.StepOutcome.{StepOutcome}
 -- ---- parts
 
 -- the clauses of the part are left undecided, and these are told
-abbrev pub IsRightOpen : KoreSignature → SymbolicState → Open → Type 0
-IsRightOpen g p o = (h : Option Weighed) × IsWeighedAs h o.over × IsRightVerdict g p (undecided (clauses_view o.shown.items) h)
+abbrev pub IsRightUndecided : KoreSignature → SymbolicState → UndecidedClauses → Type 0
+IsRightUndecided g p o = (h : Option Weighed) × IsWeighedAs h o.over × IsRightVerdict g p (undecided (clauses_view o.shown.items) h)
 
 -- these are shown of the part p of the state s
-abbrev pub ShowsOf : KoreSignature → SymbolicState → SymbolicState → Open → Type 0
+abbrev pub ShowsOf : KoreSignature → SymbolicState → SymbolicState → UndecidedClauses → Type 0
 ShowsOf g s p o = (h : Option Weighed) × IsWeighedAs h o.over × IsShownOf g s p (clauses_view o.shown.items) h
 
 abbrev pub IsRightAnswerOf : KoreSignature → SymbolicState → SymbolicState → answers.PartAnswer → Type 0
 IsRightAnswerOf g s p answer.Instance = HasInstance g (whole p)
 IsRightAnswerOf g s p answer.Nothing = HasNoInstance g (whole p)
-IsRightAnswerOf g s p (answer.Open o) = ShowsOf g s p o
+IsRightAnswerOf g s p (answer.UndecidedClauses o) = ShowsOf g s p o
 
 -- the left side meets the state where the part has an instance
 abbrev pub AreMet : KoreSignature → SymbolicState → Form → SymbolicState → Type 0
@@ -68,7 +68,7 @@ TellsWhereMet g s p left a = HasSortedClauses g p → AreMet g s left p → IsMe
 
 -- where it is left open with a weight, it compares no more whole-number variables than so many
 abbrev pub IsCountedAnswer : KoreSignature → SymbolicState → ℕ → answers.PartAnswer → Type 0
-IsCountedAnswer g p most (answer.Open o) = IsCounted g p most o.over
+IsCountedAnswer g p most (answer.UndecidedClauses o) = IsCounted g p most o.over
 IsCountedAnswer g p most a = ⊤
 
 -- what is answered where a foreign rule's left side is met
@@ -78,13 +78,13 @@ IsForeignAnswer g s p left a = IsMetAnswer g s p left a × IsCountedAnswer g p (
 -- those of the parts that have an instance, or what is shown of one of them, where so many whole-number variables may be compared
 abbrev pub AreDecided : KoreSignature → SymbolicState → ℕ → List NumberedPart → decisions.Decided → Type 0
 AreDecided g s most ps (decided.Parts ks) = AreKept g ps (numbered_views ks.items)
-AreDecided g s most ps (decided.Open o) = (q : NumberedPart) × Contains ps q × ShowsOf g s q.part.state o × IsCounted g q.part.state most o.over
+AreDecided g s most ps (decided.UndecidedClauses o) = (q : NumberedPart) × Contains ps q × ShowsOf g s q.part.state o × IsCounted g q.part.state most o.over
 
 -- ---- what rules leave
 
 -- Without the instances on which the rule q fires; where none is left, it fires on each.
 pub record AreWithout (g : KoreSignature) (used : List Text) (o : Option RewriteRule) (turns : List RewriteRule) (q : RewriteRule) (s m : StatePart) (parts left : List NumberedPart) : Type 0 where
-  pub are_left : AreLeft g used o (turns ++ q ∷ []) s m left
+  pub are_left : AreRemaining g used o (turns ++ q ∷ []) s m left
   pub everywhere : AllByRecursion (HasNoInstance g) (parts_of left) → AllByRecursion (λ p. OfEachInstance g p (λ w c. Fires g q.body c)) (parts_of parts)
 
 -- ---- rules
@@ -93,11 +93,11 @@ pub record AreWithout (g : KoreSignature) (used : List Text) (o : Option Rewrite
 abbrev pub TellsForeign : Theory → SymbolicState → ℕ → answers.PartAnswer → Type 0
 TellsForeign t s place answer.Instance = (r : RewriteRule) × IsAt t place r × MeetsForeign t s r
 TellsForeign t s place answer.Nothing = (r : RewriteRule) → IsAt t place r → OfEachInstance t.signature (whole s) (λ w c. ¬ IsUnknownBy t.signature r.body c)
-TellsForeign t s place (answer.Open o) = (r : RewriteRule) × IsAt t place r × (h : Option Weighed) × IsWeighedAs h o.over × IsLeftOpen t s (Some r) (clauses_view o.shown.items) h
+TellsForeign t s place (answer.UndecidedClauses o) = (r : RewriteRule) × IsAt t place r × (h : Option Weighed) × IsWeighedAs h o.over × IsUndecidedStep t s (Some r) (clauses_view o.shown.items) h
 
 -- what is left open of the foreign rule of a place
-abbrev pub IsOpenAt : Theory → SymbolicState → OpenAt → Type 0
-IsOpenAt t s o = (r : RewriteRule) × IsAt t o.place r × (h : Option Weighed) × IsWeighedAs h o.told.over × IsLeftOpen t s (Some r) (clauses_view o.told.shown.items) h
+abbrev pub IsUndecidedAt : Theory → SymbolicState → UndecidedRule → Type 0
+IsUndecidedAt t s o = (r : RewriteRule) × IsAt t o.place r × (h : Option Weighed) × IsWeighedAs h o.told.over × IsUndecidedStep t s (Some r) (clauses_view o.told.shown.items) h
 
 -- of each foreign rule: none might rewrite an instance, or the step ends
 abbrev pub TellsKnown : Theory → List Text → SymbolicState → Option StepOutcome → Type 0
@@ -119,12 +119,12 @@ TellsTurns t used s (searched.Ended o) = IsRightStep t used s o
 -- the parts of a rule's turn, or what is left open of one
 abbrev pub TellsParts : Theory → List Text → SymbolicState → ℕ → List RewriteRule → StatePart → decisions.Decided → Type 0
 TellsParts t used s place found m (decided.Parts ks) = AreTurnParts t used s place found m (numbered_views ks.items)
-TellsParts t used s place found m (decided.Open o) = (r : RewriteRule) × IsAt t place r × (h : Option Weighed) × IsWeighedAs h o.over × IsLeftOpen t s (Some r) (clauses_view o.shown.items) h
+TellsParts t used s place found m (decided.UndecidedClauses o) = (r : RewriteRule) × IsAt t place r × (h : Option Weighed) × IsWeighedAs h o.over × IsUndecidedStep t s (Some r) (clauses_view o.shown.items) h
 
 -- the parts where none of the rules found fires, or what is left open of one
 abbrev pub TellsRemainder : Theory → List Text → SymbolicState → List RewriteRule → decisions.Decided → Type 0
 TellsRemainder t used s found (decided.Parts ks) = AreRemaining t used s found (numbered_views ks.items)
-TellsRemainder t used s found (decided.Open o) = (h : Option Weighed) × IsWeighedAs h o.over × IsLeftOpen t s None (clauses_view o.shown.items) h
+TellsRemainder t used s found (decided.UndecidedClauses o) = (h : Option Weighed) × IsWeighedAs h o.over × IsUndecidedStep t s None (clauses_view o.shown.items) h
 
 -- what the code's firing of a rule is
 abbrev pub firing_model : Firing → PlacedFiring

@@ -10,12 +10,12 @@ use Rattle.kp_kore.specs.Theory.{Theory}
 use Rattle.kp_kore.specs.Steps.{Fires, IsUnknownBy}
 use Rattle.kp_symbolic.specs.States.{Literal, SymbolicState, IsStateInstance}
 use Rattle.kp_symbolic.specs.Plain.{rough_clauses}
-use Rattle.kp_symbolic.specs.Verdicts.{Weighed, IsOpen, IsTooHeavy}
-use Rattle.kp_cases.specs.Parts.{StatePart, whole, OfEachInstance}
-use Rattle.kp_turns.specs.Firing.{AreWhere}
-use Rattle.kp_turns.specs.Turns.{NoneGoesBefore, NoneOfThese}
-use Rattle.kp_firing.specs.Comes.{ComesFrom}
-use Rattle.kp_step.specs.Left.{IsOneOf}
+use Rattle.kp_symbolic.specs.Verdicts.{Weighed, IsStateUndecided, IsTooHeavy}
+use Rattle.kp_case_laws.specs.Parts.{StatePart, whole, OfEachInstance}
+use Rattle.kp_case_laws.specs.Firing.{AreWhere}
+use Rattle.kp_case_laws.specs.Turns.{NoneGoesBefore, NoneOfThese}
+use Rattle.kp_step.specs.Comes.{ComesFrom}
+use Rattle.kp_step.specs.Remainders.{IsOneOf}
 use Rattle.kp_step.specs.Meets.{MeetsRule}
 use Rattle.kp_step.specs.Counted.{these_rules, ComparesWithin}
 use Rattle.kp_step.specs.Places.{IsAt}
@@ -35,14 +35,14 @@ IsAsked g None turns c = NoneOfThese g turns c
 -- What is shown of a part that isn't decided: its clauses that aren't plain. Where a weight is passed, the state's own that
 -- aren't plain, if there are any; else all clauses of the part, with the weight.
 abbrev pub IsShownOf : KoreSignature → SymbolicState → SymbolicState → List (List Literal) → Option Weighed → Type 0
-IsShownOf g s p shown None = IsOpen g p shown
+IsShownOf g s p shown None = IsStateUndecided g p shown
     ⊎ ((h : Weighed) × (all : List (List Literal)) × IsTooHeavy g p all h × (¬ (rough_clauses g s ≡ [])) × (shown ≡ rough_clauses g s))
 IsShownOf g s p shown (Some h) = IsTooHeavy g p shown h × (rough_clauses g s ≡ [])
 
 -- It isn't decided whether one of the parts where something is asked has an instance. That part comes of the state, of the rule
 -- and of those that take from it, and nothing else stands in it; each of these rules meets the state. Where a
 -- weight is told, no more whole-number variables are compared than stand in the state and in these rules' left sides.
-pub record IsLeftOpen (t : Theory) (s : SymbolicState) (rule : Option RewriteRule) (shown : List (List Literal)) (over : Option Weighed) : Type 0 where
+pub record IsUndecidedStep (t : Theory) (s : SymbolicState) (rule : Option RewriteRule) (shown : List (List Literal)) (over : Option Weighed) : Type 0 where
   pub turns : List RewriteRule
   pub of_theory : AllByRecursion (Contains t.rules) turns
   pub meets : (body : RuleBody) → IsOneOf rule turns body → MeetsRule t.signature s body
@@ -68,7 +68,7 @@ pub record MeetsForeign (t : Theory) (s : SymbolicState) (r : RewriteRule) : Typ
 -- it might rewrite none, or that isn't decided
 abbrev pub IsPassedBy : Theory → SymbolicState → RewriteRule → Type 0
 IsPassedBy t s r = OfEachInstance t.signature (whole s) (λ w c. ¬ IsUnknownBy t.signature r.body c)
-    ⊎ ((shown : List (List Literal)) × (over : Option Weighed) × IsLeftOpen t s (Some r) shown over)
+    ⊎ ((shown : List (List Literal)) × (over : Option Weighed) × IsUndecidedStep t s (Some r) shown over)
 
 -- a foreign rule's number, up to the greatest that a rule may have
 abbrev pub told_number : RewriteRule → ℕ

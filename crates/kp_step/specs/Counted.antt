@@ -6,10 +6,10 @@ use Rattle.kp_kore.specs.Signature.{KoreSignature, has_only_numbers}
 use Rattle.kp_kore.specs.Rules.{RewriteRule}
 use Rattle.kp_symbolic.specs.States.{SymbolicState}
 use Rattle.kp_symbolic.specs.Verdicts.{Weighed}
-use Rattle.kp_weights.specs.declared.weight.Weighed as code
+use Rattle.kp_limits.specs.declared.weight.Weighed as code
 use Rattle.kp_rules.specs.Skeletons.{Form}
-use Rattle.kp_compared.specs.Compared.{compared_count, most_compared}
-use Rattle.kp_firing.specs.Comes.{IsFormOf}
+use Rattle.kp_limits.specs.Compared.{compared_count, most_compared}
+use Rattle.kp_step.specs.Comes.{IsFormOf}
 
 -- the rule that is asked for, if there is one, and those that take from it
 abbrev pub these_rules : Option RewriteRule → List RewriteRule → List RewriteRule

@@ -13,17 +13,17 @@ use Rattle.kp_symbolic.specs.Terms.{Replaced}
 use Rattle.kp_symbolic.specs.States.{SymbolicState, IsStateInstance}
 use Rattle.kp_symbolic.specs.Solving.{Solving}
 use Rattle.kp_symbolic.specs.WellFormed.{AreAtHand}
-use Rattle.kp_cases.specs.Parts.{StatePart, whole, IsGrown}
-use Rattle.kp_turns.specs.NextStates.{FollowsBy}
+use Rattle.kp_case_laws.specs.Parts.{StatePart, whole, IsGrown}
+use Rattle.kp_case_laws.specs.NextStates.{FollowsBy}
 use Rattle.kp_unify.specs.Narrowed.{NumberedPart}
 use Rattle.kp_solving.specs.Further.{constrained}
-use Rattle.kp_firing.specs.Conditions.{condition_clauses}
+use Rattle.kp_step.specs.Conditions.{condition_clauses}
 use Rattle.kp_step.specs.Meets.{IsLaidBy}
 use Rattle.kp_step.specs.Places.{IsAt}
-use Rattle.kp_firing.specs.Ready.{IsReadyPart}
+use Rattle.kp_step.specs.ReadyParts.{IsReadyPart}
 use Rattle.kp_step.specs.Ready.{IsReadyState}
 use Rattle.kp_step.specs.Found.{PlacedTurn}
-use Rattle.kp_step.specs.Rights.{ChosenNew, AreChosen, moved_state}
+use Rattle.kp_step.specs.RightSides.{ChosenNew, AreChosen, moved_state}
 
 -- what a rule's variables stand for behind it, but for those of the name of a new one, which hide them
 abbrev pub kept_bindings : List SortedName → List Replaced → List Replaced

@@ -12,15 +12,15 @@ use Rattle.kp_symbolic.specs.WellFormed.{AreAtHand, AreWellPlaced}
 use Rattle.kp_symbolic.specs.States.{Literal}
 use Rattle.kp_symbolic_laws.specs.Safe.{PutNormal}
 use Rattle.kp_rules.specs.Skeletons.{Form}
-use Rattle.kp_cases.specs.Parts.{StatePart, OfEachInstance}
-use Rattle.kp_cases.specs.Cases.{IsMetBy, left_side}
-use Rattle.kp_cases.specs.Courses.{IsBoundTo}
+use Rattle.kp_case_laws.specs.Parts.{StatePart, OfEachInstance}
+use Rattle.kp_case_laws.specs.Cases.{IsMetBy, left_side}
+use Rattle.kp_case_laws.specs.Courses.{IsBoundTo}
 use Rattle.kp_rules.specs.LeftSides.{IsLeftSide, IsOverLeft}
 use Rattle.kp_unify.specs.Narrowed.{NumberedPart}
 use Rattle.kp_step.specs.Meets.{MeetsRule, AllMeet, IsLaidBy}
 use Rattle.kp_step.specs.Places.{IsAt}
-use Rattle.kp_firing.specs.Ready.{HasInstance, parts_of}
-use Rattle.kp_step.specs.Left.{AreLeft}
+use Rattle.kp_step.specs.ReadyParts.{HasInstance, parts_of}
+use Rattle.kp_step.specs.Remainders.{AreRemaining}
 
 -- the rule of a place, its number, its parts, and what its variables stand for there
 pub record PlacedTurn : Type 0 where
@@ -61,7 +61,7 @@ pub record IsTurnAt (t : Theory) (used : List Text) (s : StatePart) (k : PlacedT
   pub of_theory : AllByRecursion (Contains t.rules) before
   pub meets : MeetsRule t.signature s.state rule.body
   pub before_meet : AllMeet t.signature s.state before
-  pub left : AreLeft t.signature used (Some rule) before s met_part k.parts
+  pub left : AreRemaining t.signature used (Some rule) before s met_part k.parts
   pub some : ¬ (k.parts ≡ [])
   pub instances : AllByRecursion (HasInstance t.signature) (parts_of k.parts)
 

@@ -15,14 +15,14 @@ use Rattle.kp_symbolic.specs.View.{term_view, clauses_view, state_view}
 use Rattle.kp_symbolic.specs.declared.clause.Clause.{Clause}
 use Rattle.kp_symbolic.specs.declared.state.State.{State}
 use Rattle.kp_symbolic_laws.specs.Runs.{IsSortedLiteral}
-use Rattle.kp_cases.specs.Courses.{Equality}
-use Rattle.kp_decide.specs.Read.{HasSortedClauses}
+use Rattle.kp_case_laws.specs.Courses.{Equality}
+use Rattle.kp_satisfiability.specs.Read.{HasSortedClauses}
 use Rattle.kp_unify.specs.Views.{signature_of}
 use Rattle.kp_unify.specs.declared.part.Setting.{Setting}
 use Rattle.kp_step.specs.Answers.{ShowsOf, IsRightAnswerOf}
-use Rattle.kp_step.specs.declared.answers.PartAnswer.{PartAnswer}
-use Rattle.kp_step.specs.declared.answers.Open.{Open}
-use Rattle.kp_step.specs.declared.implied.EqualSides.{EqualSides}
+use Rattle.kp_step.specs.declared.part_answers.PartAnswer.{PartAnswer}
+use Rattle.kp_step.specs.declared.part_answers.UndecidedClauses.{UndecidedClauses}
+use Rattle.kp_step.specs.declared.call_equalities.EqualSides.{EqualSides}
 
 -- ---- what clauses say
 
@@ -79,7 +79,7 @@ TellsNever setting state result =
     IfOk result (λ b. HasSortedClauses g s → IsTrue b → ¬ CanBeTrue g s.variables s.clauses)
 
 -- whether the part has an instance, where this is left open of it
-abbrev pub TellsOfOpen : {E : Type 0} → Setting → State → Open → Result PartAnswer E → Type 0
-TellsOfOpen setting part told result =
+abbrev pub TellsOfUndecided : {E : Type 0} → Setting → State → UndecidedClauses → Result PartAnswer E → Type 0
+TellsOfUndecided setting part told result =
     let g = signature_of setting in let p = state_view part in
     IfOk result (λ a. (s : SymbolicState) → HasSortedClauses g p → ShowsOf g s p told → IsRightAnswerOf g s p a)

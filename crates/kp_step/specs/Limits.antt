@@ -8,14 +8,14 @@ use Rattle.kp_kore.specs.Rules.{Rewrite, RuleBody, rewrite, RewriteRule}
 use Rattle.kp_kore.specs.Theory.{Theory}
 use Rattle.kp_symbolic.specs.States.{Literal, SymbolicState}
 use Rattle.kp_symbolic.specs.Verdicts.{Verdict, no_valuation, IsRightVerdict}
-use Rattle.kp_wide.specs.Wide.{WideCall, first_wide}
+use Rattle.kp_limits.specs.Wide.{WideCall, first_wide}
 use Rattle.kp_simplify.specs.Answers.{first_deep, state_sides}
-use Rattle.kp_cases.specs.Parts.{StatePart, whole, with_clauses}
-use Rattle.kp_turns.specs.Firing.{FiringPart, AreFiringCases}
-use Rattle.kp_turns.specs.NextStates.{StepCase, AreStepCases}
-use Rattle.kp_firing.specs.Comes.{ComesFrom}
+use Rattle.kp_case_laws.specs.Parts.{StatePart, whole, with_clauses}
+use Rattle.kp_case_laws.specs.Firing.{FiringPart, AreFiringCases}
+use Rattle.kp_case_laws.specs.NextStates.{StepCase, AreStepCases}
+use Rattle.kp_step.specs.Comes.{ComesFrom}
 use Rattle.kp_step.specs.Meets.{MeetsRule}
-use Rattle.kp_step.specs.Left.{IsOfTheory}
+use Rattle.kp_step.specs.Remainders.{IsOfTheory}
 use Rattle.kp_step.specs.Follows.{IsMovedBy}
 
 -- the first call of two numbers in the state whose number leaves 128 bits, or the levels of its first term that has too many

@@ -12,7 +12,7 @@ use Rattle.kp_symbolic.specs.States.{Literal, SymbolicState}
 use Rattle.kp_symbolic.specs.Sources.{MayMean}
 use Rattle.kp_rules.specs.LeftForms.{left_form}
 use Rattle.kp_rules.specs.LeftSides.{IsLeftInstance}
-use Rattle.kp_cases.specs.Parts.{StatePart}
+use Rattle.kp_case_laws.specs.Parts.{StatePart}
 use Rattle.kp_unify.specs.Way.{AreEquations}
 
 -- the value is an instance of the rule's left side; a foreign one's skeleton stands for it

@@ -22,44 +22,44 @@ use Rattle.kp_rules.specs.Sides.{AreSidesOf}
 use Rattle.kp_rules.specs.VerifiedSides.{AreVerifiedSides}
 use Rattle.kp_rules.specs.Skeletons.{Form, skeleton_view}
 use Rattle.kp_symbolic.specs.Shown.{sum_over}
-use Rattle.kp_compared.specs.Compared.{numeric_places}
+use Rattle.kp_limits.specs.Compared.{numeric_places}
 use Rattle.kp_step.specs.Counted.{AreLeftsOf, IsMost}
-use Rattle.kp_firing.specs.Comes.{IsFormOf}
+use Rattle.kp_step.specs.Comes.{IsFormOf}
 use Rattle.kp_rules.specs.declared.rule.Rewrite as code
 use Rattle.kp_rules.specs.declared.sides.ReadSides.{ReadSides}
 use Rattle.kp_rules.specs.declared.skeleton.Skeleton.{Skeleton}
 use Rattle.kp_rule_sets.specs.declared.rule_set.RuleSet.{RuleSet}
-use Rattle.kp_cases.specs.Parts.{StatePart, whole, with_clauses, OfEachInstance, IsTold}
-use Rattle.kp_turns.specs.Turns.{TakesFrom}
+use Rattle.kp_case_laws.specs.Parts.{StatePart, whole, with_clauses, OfEachInstance, IsTold}
+use Rattle.kp_case_laws.specs.Turns.{TakesFrom}
 use Rattle.kp_unify.specs.Narrowed.{NumberedPart}
 use Rattle.kp_unify.specs.Views.{signature_of, part_view, numbered_view, met_view, IsSetting}
 use Rattle.kp_unify.specs.Way.{IsMeeting}
 use Rattle.kp_unify.specs.declared.part.Part.{Part}
 use Rattle.kp_unify.specs.declared.part.MetPart.{MetPart}
 use Rattle.kp_unify.specs.declared.part.Setting.{Setting}
-use Rattle.kp_firing.specs.Conditions.{condition_clauses}
-use Rattle.kp_firing.specs.Ready.{IsReadyPart, HasInstance}
-use Rattle.kp_firing.specs.declared.firing.Firing.{Firing}
+use Rattle.kp_step.specs.Conditions.{condition_clauses}
+use Rattle.kp_step.specs.ReadyParts.{IsReadyPart, HasInstance}
+use Rattle.kp_step.specs.declared.firing.Firing.{Firing}
 use Rattle.kp_step.specs.Rules.{Steps, IsReadBy, IsReadAt, IsForeignAt, IsStepFrom}
 use Rattle.kp_step.specs.Places.{IsReadAs, IsPriorityAt}
 use Rattle.kp_step.specs.Meets.{MeetsRule, AllMeet}
 use Rattle.kp_step.specs.Ready.{IsReadyState, IsWholeReady}
 use Rattle.kp_step.specs.Limits.{Passes, PassesNone, IsPassed}
-use Rattle.kp_step.specs.Left.{IsPartIn, AreLeft, IsNumberOf, OneTakesAll}
+use Rattle.kp_step.specs.Remainders.{IsPartIn, AreRemaining, IsNumberOf, OneTakesAll}
 use Rattle.kp_step.specs.Found.{PlacedTurn, IsRuleAt, IsMetIn, IsTurnAt, AreAllFound}
 use Rattle.kp_step.specs.Tries.{PlacedFiring, narrowed_of, IsLeftAt, IsFiringOf, CanMeet, AreTurnParts, AreRemaining}
 use Rattle.kp_step.specs.Follows.{IsNextOf, IsNextAt, AreNextsOf, IsSolvedPart}
-use Rattle.kp_step.specs.Rights.{moved_state}
+use Rattle.kp_step.specs.RightSides.{moved_state}
 use Rattle.kp_step.specs.Answers.{IsForeignAnswer, ShowsOf, AreDecided, AreWithout, TellsForeign, TellsTurn, TellsParts, TellsRemainder, firing_model}
 use Rattle.kp_step.specs.Views.{numbered_views, turn_view, next_view, limit_view}
-use Rattle.kp_step.specs.Outcomes.{IsRightStep}
-use Rattle.kp_step.specs.declared.answers.PartAnswer.{PartAnswer}
-use Rattle.kp_step.specs.declared.answers.Decided.{Decided}
-use Rattle.kp_step.specs.declared.answers.Open.{Open}
+use Rattle.kp_step.specs.RightSteps.{IsRightStep}
+use Rattle.kp_step.specs.declared.part_answers.PartAnswer.{PartAnswer}
+use Rattle.kp_step.specs.declared.part_answers.Decided.{Decided}
+use Rattle.kp_step.specs.declared.part_answers.UndecidedClauses.{UndecidedClauses}
 use Rattle.kp_step.specs.declared.outcome.StepLimit.{StepLimit}
 use Rattle.kp_step.specs.declared.outcome.Next.{Next}
 use Rattle.kp_step.specs.declared.outcome.StepOutcome.{StepOutcome}
-use Rattle.kp_step.specs.declared.right.Following.{Following}
+use Rattle.kp_step.specs.declared.right_side.Following.{Following}
 use Rattle.kp_step.specs.declared.turns.Turn.{Turn}
 use Rattle.kp_step.specs.declared.turns.Tried.{Tried}
 
@@ -127,43 +127,43 @@ TellsSkeletonMeets setting p k result =
 abbrev pub LeavesWithout : {E : Type 0} → Setting → List Part → ReadSides → Result (Vec Part Global) E → Type 0
 LeavesWithout setting parts sides result =
     (used : List Text) (o : Option RewriteRule) (turns : List RewriteRule) (q : RewriteRule) (m : Rewrite) (s p : StatePart) → let g = signature_of setting in
-    IsSetting used setting → q.body ≡ rewrite m → AreSidesOf g m sides → AreVerifiedSides g m → TakesFrom q o → AreLeft g used o turns s p (numbered_views parts) →
+    IsSetting used setting → q.body ≡ rewrite m → AreSidesOf g m sides → AreVerifiedSides g m → TakesFrom q o → AreRemaining g used o turns s p (numbered_views parts) →
     IfOk result (λ left. AreWithout g used o turns q s p (numbered_views parts) (numbered_views left.items))
 
 -- what the rule of one more turn leaves of the parts
 abbrev pub LeavesBy : {E : Type 0} → Setting → RuleSet → Turn → Option ℕ → Vec Part Global → Result (Vec Part Global) E → Type 0
 LeavesBy setting rules turn priority parts result =
     (t : Theory) (used : List Text) (o : Option RewriteRule) (found : List RewriteRule) (q : RewriteRule) (s p : StatePart) → let g = signature_of setting in
-    Steps t setting rules → IsSetting used setting → IsNumberOf priority o → IsRuleAt t (turn_view turn) q → AreLeft g used o found s p (numbered_views parts.items) →
-    IfOk result (λ left. AreLeft g used o (found ++ q ∷ []) s p (numbered_views left.items))
+    Steps t setting rules → IsSetting used setting → IsNumberOf priority o → IsRuleAt t (turn_view turn) q → AreRemaining g used o found s p (numbered_views parts.items) →
+    IfOk result (λ left. AreRemaining g used o (found ++ q ∷ []) s p (numbered_views left.items))
 
 -- it fires on all of them, where it alone takes from them and leaves nothing
 abbrev pub TakesAllBy : {E : Type 0} → Setting → RuleSet → Turn → Option ℕ → Vec Part Global → Result (Vec Part Global) E → Type 0
 TakesAllBy setting rules turn priority parts result =
     (t : Theory) (used : List Text) (found : List RewriteRule) (q : RewriteRule) (s p : StatePart) → let g = signature_of setting in
-    Steps t setting rules → IsSetting used setting → priority ≡ None → IsRuleAt t (turn_view turn) q → AreLeft g used None found s p (numbered_views parts.items) →
+    Steps t setting rules → IsSetting used setting → priority ≡ None → IsRuleAt t (turn_view turn) q → AreRemaining g used None found s p (numbered_views parts.items) →
     IfOk result (λ left. OneTakesAll g (q ∷ []) (numbered_views parts.items) (numbered_views left.items))
 
 -- what the rules of all turns leave of the parts
 abbrev pub LeavesAfter : {E : Type 0} → Setting → RuleSet → List Turn → Option ℕ → Vec Part Global → Result (Vec Part Global) E → Type 0
 LeavesAfter setting rules turns priority parts result =
     (t : Theory) (used : List Text) (o : Option RewriteRule) (found : List RewriteRule) (s p : StatePart) → let g = signature_of setting in
-    Steps t setting rules → IsSetting used setting → IsNumberOf priority o → AllZip (IsRuleAt t) (map turn_view turns) found → AreLeft g used o [] s p (numbered_views parts.items) →
-    IfOk result (λ left. AreLeft g used o found s p (numbered_views left.items))
+    Steps t setting rules → IsSetting used setting → IsNumberOf priority o → AllZip (IsRuleAt t) (map turn_view turns) found → AreRemaining g used o [] s p (numbered_views parts.items) →
+    IfOk result (λ left. AreRemaining g used o found s p (numbered_views left.items))
 
 -- the rule of the only turn fires on all of them, where it leaves nothing
 abbrev pub TakesAllAfter : {E : Type 0} → Setting → RuleSet → List Turn → Option ℕ → Vec Part Global → Result (Vec Part Global) E → Type 0
 TakesAllAfter setting rules turns priority parts result =
     (t : Theory) (used : List Text) (found : List RewriteRule) (s p : StatePart) → let g = signature_of setting in
-    Steps t setting rules → IsSetting used setting → priority ≡ None → AllZip (IsRuleAt t) (map turn_view turns) found → AreLeft g used None [] s p (numbered_views parts.items) →
+    Steps t setting rules → IsSetting used setting → priority ≡ None → AllZip (IsRuleAt t) (map turn_view turns) found → AreRemaining g used None [] s p (numbered_views parts.items) →
     IfOk result (λ left. OneTakesAll g found (numbered_views parts.items) (numbered_views left.items))
 
 -- what they leave of the part to the rule of this number
 abbrev pub LeavesTo : {E : Type 0} → Setting → RuleSet → List Turn → ℕ → Part → Result (Vec Part Global) E → Type 0
 LeavesTo setting rules turns priority part result =
     (t : Theory) (used : List Text) (r : RewriteRule) (found : List RewriteRule) (s p : StatePart) → let g = signature_of setting in
-    Steps t setting rules → IsSetting used setting → r.priority ≡ priority → AllZip (IsRuleAt t) (map turn_view turns) found → AreLeft g used (Some r) [] s p (numbered_view part ∷ []) →
-    IfOk result (λ left. AreLeft g used (Some r) found s p (numbered_views left.items))
+    Steps t setting rules → IsSetting used setting → r.priority ≡ priority → AllZip (IsRuleAt t) (map turn_view turns) found → AreRemaining g used (Some r) [] s p (numbered_view part ∷ []) →
+    IfOk result (λ left. AreRemaining g used (Some r) found s p (numbered_views left.items))
 
 -- ---- turns
 
@@ -199,8 +199,8 @@ TellsTurnParts setting rules turns p k priority part result =
     BehindTurns setting rules turns p (λ t used s found. (place : ℕ) (f : PlacedFiring) → IsLeftAt t place k → IsFiringOf t used s place f → IsTurnToldBy priority part result t used s found place f)
 
 -- and meets the state
-abbrev pub TellsPartsLeft : {E : Type 0} → Setting → RuleSet → List Turn → Part → Skeleton → ℕ → Part → Result Decided E → Type 0
-TellsPartsLeft setting rules turns p k priority part result =
+abbrev pub TellsRemainingParts : {E : Type 0} → Setting → RuleSet → List Turn → Part → Skeleton → ℕ → Part → Result Decided E → Type 0
+TellsRemainingParts setting rules turns p k priority part result =
     BehindTurns setting rules turns p (λ t used s found. (place : ℕ) (f : PlacedFiring) → IsLeftAt t place k → (i : IsFiringOf t used s place f) → MeetsRule t.signature s i.rule.body → IsTurnToldBy priority part result t used s found place f)
 
 -- the turn of the rule that is read at the place, if these parts are some
@@ -296,8 +296,8 @@ StepsFromInstance setting rules s next result =
     IfOk result (IsRightStep t used s)
 
 -- the same, where the state's clauses aren't decided and these are shown
-abbrev pub StepsFromOpen : {E : Type 0} → Setting → SymbolicState → Open → Result StepOutcome E → Type 0
-StepsFromOpen setting s told result =
+abbrev pub StepsFromUndecided : {E : Type 0} → Setting → SymbolicState → UndecidedClauses → Result StepOutcome E → Type 0
+StepsFromUndecided setting s told result =
     (t : Theory) (used : List Text) → signature_of setting ≡ t.signature → IsTold t.signature (whole s) → ShowsOf t.signature s s told → IfOk result (IsRightStep t used s)
 
 -- each step from the whole of a state is right, where that has an instance

@@ -4,9 +4,9 @@ use Rattle.std.specs.Prelude.{◌≡◌, ℕ, List}
 use Rattle.kp_kore.specs.Syntax.{Text}
 use Rattle.kp_kore.specs.Signature.{KoreSignature}
 use Rattle.kp_symbolic.specs.States.{SymbolicState}
-use Rattle.kp_cases.specs.Parts.{whole}
+use Rattle.kp_case_laws.specs.Parts.{whole}
 use Rattle.kp_unify.specs.Narrowed.{NumberedPart}
-use Rattle.kp_firing.specs.Ready.{IsReadyPart}
+use Rattle.kp_step.specs.ReadyParts.{IsReadyPart}
 
 -- a rule can be tried on the whole state, whose names are in use below the next one
 abbrev pub IsReadyState : KoreSignature → List Text → SymbolicState → ℕ → Type 0

@@ -17,7 +17,7 @@ use Rattle.kp_rules.specs.declared.rule.Rewrite as code
 use Rattle.kp_rules.specs.declared.skeleton.Skeleton.{Skeleton}
 use Rattle.kp_rule_sets.specs.RuleSets.{RunsAs}
 use Rattle.kp_rule_sets.specs.declared.rule_set.RuleSet.{RuleSet}
-use Rattle.kp_turns.specs.NextStates.{HaveOwnIds}
+use Rattle.kp_case_laws.specs.NextStates.{HaveOwnIds}
 use Rattle.kp_unify.specs.Narrowed.{NumberedPart}
 use Rattle.kp_unify.specs.Views.{signature_of, IsSetting}
 use Rattle.kp_unify.specs.declared.part.Setting.{Setting}

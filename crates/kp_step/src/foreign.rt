@@ -6,22 +6,22 @@ ghost use Rattle.kp_kore.specs.Theory.{Theory};
 ghost use Rattle.kp_symbolic.specs.States.{SymbolicState};
 ghost use Rattle.kp_symbolic_laws.specs.Runs.{HasOneSortEach};
 ghost use Rattle.kp_rules.specs.Skeletons.{skeleton_view};
-ghost use Rattle.kp_cases.specs.Courses.{form_variables};
+ghost use Rattle.kp_case_laws.specs.Courses.{form_variables};
 ghost use Rattle.kp_unify.specs.Views.{signature_of, HasItsTable};
-ghost use Rattle.kp_step.specs.Answers.{TellsForeign, TellsKnown, IsOpenAt};
-ghost use Rattle.kp_step.specs.Outcomes.{IsRightStep};
+ghost use Rattle.kp_step.specs.Answers.{TellsForeign, TellsKnown, IsUndecidedAt};
+ghost use Rattle.kp_step.specs.RightSteps.{IsRightStep};
 ghost use Rattle.kp_step.specs.Promises.{TellsMet, TellsSkeletonMeets, OfEachStep};
 
-use crate::answers::{Open, PartAnswer};
-use crate::counted::{most_of_left, told_within};
-use crate::lowered::lowered;
-use crate::met::answer_where_met;
+use crate::constrained;
+use crate::counted_variables::{most_of_left, told_within};
+use crate::left_variables::has_one_sort_each;
+use crate::lowered_sides::lowered;
+use crate::met_rules::answer_where_met;
 use crate::outcome::StepOutcome;
+use crate::part_answers::{PartAnswer, UndecidedClauses};
 use crate::rules::foreign_at;
-use crate::shared::has_shared_sorts;
-use crate::variables::has_one_sort_each;
+use crate::shared_sorts::has_shared_sorts;
 use kp_compile::CompileError;
-use kp_firing::constrained;
 use kp_rule_sets::RuleSet;
 use kp_rules::Skeleton;
 use kp_unify::{MetPart, Part, Setting, meet};
@@ -43,10 +43,10 @@ fn met_answer(
     match answer_where_met(alloc, setting, &whole.state, &part.state, skeleton)? {
         PartAnswer::Instance => Ok(PartAnswer::Instance),
         PartAnswer::Nothing => Ok(PartAnswer::Nothing),
-        PartAnswer::Open { told } => {
+        PartAnswer::UndecidedClauses { told } => {
             let most = most_of_left(alloc, setting, &whole.state, skeleton)?;
             let told = told_within(alloc, setting, most, &part.state, told)?;
-            Ok(PartAnswer::Open { told })
+            Ok(PartAnswer::UndecidedClauses { told })
         }
     }
 }
@@ -124,13 +124,13 @@ fn answer_at(
 
 /// What is left open of a foreign rule, with its place.
 #[derive(Drop)]
-pub struct OpenAt {
-    pub told: Open,
+pub struct UndecidedRule {
+    pub told: UndecidedClauses,
     pub place: usize,
 }
 
 /// The first of these, if there is one.
-fn first_open(opened: Vec<OpenAt>) -> Option<OpenAt>
+fn first_undecided(opened: Vec<UndecidedRule>) -> Option<UndecidedRule>
     ensures { MatchOption result (opened.items ≡ []) (Contains opened.items) }
 {
     for open in opened {
@@ -140,11 +140,11 @@ fn first_open(opened: Vec<OpenAt>) -> Option<OpenAt>
 }
 
 /// Of the foreign rules none of which is known to rewrite an instance, the first for which that isn't decided.
-fn open_rule(opened: Vec<OpenAt>) -> Option<StepOutcome>
-    ensures { (t : Theory) (used : List Text) (s : SymbolicState) → AllByRecursion (IsOpenAt t s) opened.items → MatchOption result (opened.items ≡ []) (IsRightStep t used s) }
+fn undecided_rule(opened: Vec<UndecidedRule>) -> Option<StepOutcome>
+    ensures { let all = opened.items in (t : Theory) (used : List Text) (s : SymbolicState) → AllByRecursion (IsUndecidedAt t s) all → MatchOption result (all ≡ []) (IsRightStep t used s) }
 {
-    match first_open(opened) {
-        Some(OpenAt { told, place }) => {
+    match first_undecided(opened) {
+        Some(UndecidedRule { told, place }) => {
             let rule = Some(place);
             Some(StepOutcome::Undecided { told, rule })
         }
@@ -168,8 +168,8 @@ pub fn foreign(
         match answer_at(alloc, setting, rules, whole, place)? {
             PartAnswer::Instance => return Ok(Some(StepOutcome::Foreign { rule: place })),
             PartAnswer::Nothing => {}
-            PartAnswer::Open { told } => opened.push(OpenAt { told, place })?,
+            PartAnswer::UndecidedClauses { told } => opened.push(UndecidedRule { told, place })?,
         }
     }
-    Ok(open_rule(opened))
+    Ok(undecided_rule(opened))
 }

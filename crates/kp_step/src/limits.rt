@@ -4,18 +4,18 @@ ghost use Rattle.std.specs.Option.{option_map};
 ghost use Rattle.kp_symbolic.specs.View.{clauses_view, state_view};
 ghost use Rattle.kp_simplify.specs.Answers.{first_deep, state_sides};
 ghost use Rattle.kp_unify.specs.Views.{signature_of};
-ghost use Rattle.kp_wide.specs.Calls.{call_view};
-ghost use Rattle.kp_wide.specs.Wide as wide;
+ghost use Rattle.kp_limits.specs.Calls.{call_view};
+ghost use Rattle.kp_limits.specs.Wide as wide;
 ghost use Rattle.kp_step.specs.Limits as model;
 ghost use Rattle.kp_step.specs.Views.{limit_view, next_told, part_told};
 ghost use Rattle.kp_step.specs.Promises.{TellsLimit, TellsLimitAmong};
 
 use crate::outcome::{Next, StepLimit};
+use kp_limits::{WideCall, first_wide};
 use kp_simplify::depth::deep_in;
 use kp_symbolic::state::share_variables;
 use kp_symbolic::{Clause, State};
 use kp_unify::{Part, Setting};
-use kp_wide::{WideCall, first_wide};
 use std::alloc::{AllocError, Global};
 
 /// A call as it is told.

@@ -1,6 +1,6 @@
 // What one symbolic step finds.
 
-use crate::answers::Open;
+use crate::part_answers::UndecidedClauses;
 use kp_symbolic::State;
 use kp_unify::Part;
 use std::sync::Arc;
@@ -40,7 +40,7 @@ pub enum StepOutcome {
         remainder: Vec<Part>,
     },
     Undecided {
-        told: Open,
+        told: UndecidedClauses,
         rule: Option<usize>,
     },
     Foreign {

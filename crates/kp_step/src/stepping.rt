@@ -1,15 +1,15 @@
 // One symbolic step.
 ghost use Rattle.kp_symbolic.specs.View.{state_view};
-ghost use Rattle.kp_step.specs.Promises.{StepsFrom, StepsFromInstance, StepsFromOpen, StepsByRules, StepsBySearch, StepsByTurns, StepsByCases, LeavesRemainder};
+ghost use Rattle.kp_step.specs.Promises.{StepsFrom, StepsFromInstance, StepsFromUndecided, StepsByRules, StepsBySearch, StepsByTurns, StepsByCases, LeavesRemainder};
 ghost use Rattle.kp_unify.specs.Views.{HasItsTable};
 
-use crate::answers::{Decided, Open, PartAnswer, answer_of, decided_parts};
-use crate::counted::{most_alone, most_left, told_within};
+use crate::counted_variables::{most_alone, most_left, told_within};
 use crate::foreign::foreign;
-use crate::left::left_after;
 use crate::limits::{first_limit, limit_of, wide_in};
-use crate::nexts::{all_settled, nexts_of};
+use crate::next_states::{all_settled, nexts_of};
 use crate::outcome::StepOutcome;
+use crate::part_answers::{Decided, PartAnswer, UndecidedClauses, answer_of, decided_parts};
+use crate::remainders::left_after;
 use crate::turns::{Searched, Turn, find_turns};
 use kp_compile::CompileError;
 use kp_rule_sets::RuleSet;
@@ -68,7 +68,7 @@ fn by_turns(
 {
     match remainder_of(alloc, setting, rules, part, turns)? {
         Decided::Parts { parts } => cases(alloc, setting, rules, turns, parts),
-        Decided::Open { told } => Ok(StepOutcome::Undecided { told, rule: None }),
+        Decided::UndecidedClauses { told } => Ok(StepOutcome::Undecided { told, rule: None }),
     }
 }
 
@@ -126,9 +126,9 @@ fn open_alone(
     alloc: Global,
     setting: Setting<'_>,
     state: &State,
-    told: Open,
+    told: UndecidedClauses,
 ) -> Result<StepOutcome, AllocError>
-    ensures { StepsFromOpen setting.entry (state_view state.now) told result }
+    ensures { StepsFromUndecided setting.entry (state_view state.now) told result }
 {
     let most = most_alone(alloc, setting, state)?;
     let told = told_within(alloc, setting, most, state, told)?;
@@ -140,9 +140,9 @@ fn from_open(
     alloc: Global,
     setting: Setting<'_>,
     state: &State,
-    told: Open,
+    told: UndecidedClauses,
 ) -> Result<StepOutcome, AllocError>
-    ensures { StepsFromOpen setting.entry (state_view state.now) told result }
+    ensures { StepsFromUndecided setting.entry (state_view state.now) told result }
 {
     match wide_in(setting, state)? {
         Some(limit) => Ok(StepOutcome::Limited { limit }),
@@ -166,6 +166,6 @@ pub fn step(
     match answer_of(alloc, setting, state, state)? {
         PartAnswer::Nothing => Ok(StepOutcome::Empty),
         PartAnswer::Instance => from_state(alloc, setting, rules, state, next),
-        PartAnswer::Open { told } => Ok(from_open(alloc, setting, state, told)?),
+        PartAnswer::UndecidedClauses { told } => Ok(from_open(alloc, setting, state, told)?),
     }
 }

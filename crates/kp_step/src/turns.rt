@@ -3,18 +3,18 @@ ghost use Rattle.std.specs.Prelude.{◌≡◌, IfOk};
 ghost use Rattle.kp_unify.specs.Views.{numbered_view, HasItsTable};
 ghost use Rattle.kp_step.specs.Tries.{narrowed_of};
 ghost use Rattle.kp_step.specs.Answers.{TellsTurns, firing_model};
-ghost use Rattle.kp_step.specs.Promises.{LeavesTo, TellsMayMeet, TellsWideCondition, TellsPartsLeft, TellsTurnParts, MakesTurn, TriesRule, TriesSides, TriesFiring, OfEachStep};
+ghost use Rattle.kp_step.specs.Promises.{LeavesTo, TellsMayMeet, TellsWideCondition, TellsRemainingParts, TellsTurnParts, MakesTurn, TriesRule, TriesSides, TriesFiring, OfEachStep};
 
-use crate::answers::{Decided, PartAnswer, decided_parts};
-use crate::counted::most_with;
-use crate::left::left_after;
+use crate::counted_variables::most_with;
+use crate::left_variables::are_of_left;
 use crate::limits::wide_in;
-use crate::met::answer_where_met;
+use crate::met_rules::answer_where_met;
 use crate::outcome::{StepLimit, StepOutcome};
+use crate::part_answers::{Decided, PartAnswer, decided_parts};
+use crate::remainders::left_after;
 use crate::rules::{priority_at, read_at};
-use crate::variables::are_of_left;
+use crate::{Firing, all_clauses, constrained, fire};
 use kp_compile::CompileError;
-use kp_firing::{Firing, all_clauses, constrained, fire};
 use kp_rule_sets::RuleSet;
 use kp_rules::{ReadSides, Skeleton};
 use kp_solving::constrain;
@@ -60,7 +60,7 @@ fn may_meet(
     let met = constrain(alloc, &firing.part.state, &firing.equations)?;
     match answer_where_met(alloc, setting, &whole.state, &met, left)? {
         PartAnswer::Nothing => Ok(false),
-        PartAnswer::Instance | PartAnswer::Open { .. } => Ok(true),
+        PartAnswer::Instance | PartAnswer::UndecidedClauses { .. } => Ok(true),
     }
 }
 
@@ -124,7 +124,7 @@ fn parts_left(
     part: Part,
 ) -> Result<Decided, CompileError>
     requires { HasItsTable setting }
-    ensures { TellsPartsLeft setting.entry rules.now turns.now whole.now left.now priority part result }
+    ensures { TellsRemainingParts setting.entry rules.now turns.now whole.now left.now priority part result }
 {
     let most = most_with(alloc, setting, rules, turns, &whole.state, left)?;
     let parts = left_to(alloc, setting, rules, turns, priority, part)?;
@@ -150,7 +150,7 @@ fn turn_parts(
             let parts = Vec::new(alloc);
             Ok(Decided::Parts { parts })
         }
-        PartAnswer::Instance | PartAnswer::Open { .. } => parts_left(
+        PartAnswer::Instance | PartAnswer::UndecidedClauses { .. } => parts_left(
             alloc, setting, rules, turns, whole, left, priority, part,
         ),
     }
@@ -196,7 +196,7 @@ fn try_firing(
         alloc, setting, rules, turns, whole, left, priority, narrowed,
     )? {
         Decided::Parts { parts } => Ok(turn_of(place, priority, parts, firing.bindings)),
-        Decided::Open { told } => {
+        Decided::UndecidedClauses { told } => {
             let rule = Some(place);
             let outcome = StepOutcome::Undecided { told, rule };
             Ok(Tried::Ended { outcome })

@@ -17,9 +17,9 @@ use Rattle.kp_kore.specs.Steps.{LeadsTo}
 use Rattle.kp_kore.proofs.InstanceLemmas.{same_instance, agrees_first, agrees_second}
 use Rattle.kp_kore.proofs.TruthLemmas.{same_truth}
 use Rattle.kp_rules.specs.Bodies.{IsLonePredicate, IsConstrained}
-use Rattle.kp_substitution.specs.Substitution.{ReplacedName, substituted, is_replaced, AreClosed, with_replaced}
-use Rattle.kp_substitution.proofs.Substituted.{substituted_instance, substituted_truth, substituted_is_term}
-use Rattle.kp_substitution.proofs.SubstitutedForms.{staying, substituted_free}
+use Rattle.kp_pattern_substitution.specs.Substitution.{ReplacedName, substituted, is_replaced, AreClosed, with_replaced}
+use Rattle.kp_pattern_substitution.proofs.Substituted.{substituted_instance, substituted_truth, substituted_is_term}
+use Rattle.kp_pattern_substitution.proofs.SubstitutedForms.{staying, substituted_free}
 use Rattle.kp_rules.specs.Known.{is_among, free_beside, is_known}
 use Rattle.kp_successors.specs.Choices.{is_top, equal_to_itself, unused, ensured_with, chosen_pattern, AreNamed, SpellUnder, IsPutIn}
 use Rattle.kp_successors.specs.Instances.{IsSomeInstance}

@@ -10,8 +10,8 @@ use Rattle.kp_kore.specs.Value.{Value}
 use Rattle.kp_kore.specs.Instance.{Valuation, instance, IsTrueUnder, conjuncts, all_conjuncts, conjoined_terms, conjoined_predicates, IsInstanceOfOne, IsInstance}
 use Rattle.kp_kore.proofs.InstanceLemmas.{one_instance}
 use Rattle.kp_rules.specs.Bodies.{IsLonePredicate, is_conjunction}
-use Rattle.kp_substitution.specs.Substitution.{ReplacedName, substituted, AreClosed}
-use Rattle.kp_substitution.proofs.Substituted.{substituted_is_term}
+use Rattle.kp_pattern_substitution.specs.Substitution.{ReplacedName, substituted, AreClosed}
+use Rattle.kp_pattern_substitution.proofs.Substituted.{substituted_is_term}
 use Rattle.kp_rules.specs.Known.{free_beside}
 use Rattle.kp_successors.specs.Choices.{constrained_by, equal_to_itself}
 

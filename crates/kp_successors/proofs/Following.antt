@@ -21,7 +21,7 @@ use Rattle.kp_rules.proofs.Fired.{fired_under}
 use Rattle.kp_compile.specs.Spelled.{IsSpellingOf}
 use Rattle.kp_run.specs.Turns.{BodyFires}
 use Rattle.kp_run.proofs.Theories.{leads_to, leads_only_to}
-use Rattle.kp_substitution.specs.Substitution.{is_replaced}
+use Rattle.kp_pattern_substitution.specs.Substitution.{is_replaced}
 use Rattle.kp_rules.specs.Known.{are_known}
 use Rattle.kp_successors.specs.Choices.{chosen_pattern, IsPutIn}
 use Rattle.kp_successors.specs.Nexts.{left_of, new_of, ensured_of, PlainBy, ChosenBy, IsNextBy}

@@ -11,8 +11,8 @@ use Rattle.kp_kore.specs.Signature.{KoreSignature}
 use Rattle.kp_kore.specs.Value.{HasSort}
 use Rattle.kp_kore.specs.Instance.{Valuation, instance, GivesSorts, AgreesOff, AgreesOn, is_named}
 use Rattle.kp_kore.proofs.SameLemmas.{same_sorts_decide}
-use Rattle.kp_substitution.specs.Substitution.{ReplacedName, is_replaced, AreClosed, with_replaced}
-use Rattle.kp_substitution.proofs.SubstitutedForms.{staying}
+use Rattle.kp_pattern_substitution.specs.Substitution.{ReplacedName, is_replaced, AreClosed, with_replaced}
+use Rattle.kp_pattern_substitution.proofs.SubstitutedForms.{staying}
 use Rattle.kp_rules.specs.Known.{is_among, is_known}
 use Rattle.kp_successors.specs.Choices.{AreNamed, SpellUnder}
 use Rattle.kp_successors.proofs.Lists.{both_true, either_true, either_second, not_false, true_isnt_false, by_either}

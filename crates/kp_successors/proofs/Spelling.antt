@@ -17,7 +17,7 @@ use Rattle.kp_ground.specs.Solves.{Solves}
 use Rattle.kp_ground.specs.declared.binding.Binding.{Binding}
 use Rattle.kp_compile.specs.Exact.{are_named}
 use Rattle.kp_compile.specs.Spelled.{IsSpellingOf}
-use Rattle.kp_substitution.specs.Substitution.{ReplacedName, is_replaced}
+use Rattle.kp_pattern_substitution.specs.Substitution.{ReplacedName, is_replaced}
 use Rattle.kp_run.proofs.Among.{all_and_last}
 use Rattle.kp_successors.specs.Nexts.{Spell}
 

@@ -11,7 +11,7 @@ use Rattle.kp_kore.specs.Rules.{Rewrite}
 use Rattle.kp_rules.specs.Bodies.{IsConstrained}
 use Rattle.kp_rules.specs.Known.{is_among, free_beside, are_known}
 use Rattle.kp_compile.specs.Spelled.{IsSpellingOf}
-use Rattle.kp_substitution.specs.Substitution.{ReplacedName, substituted, is_replaced}
+use Rattle.kp_pattern_substitution.specs.Substitution.{ReplacedName, substituted, is_replaced}
 
 -- \equals{T,S}(x:T, x:T): nothing but that x stands for a value of its sort
 abbrev pub equal_to_itself : KoreSort → SortedName → KorePattern

@@ -12,7 +12,7 @@ use Rattle.kp_rules.specs.declared.rule.Rewrite.{Rewrite}
 use Rattle.kp_rules.specs.declared.right_side.RightSide.{RightSide}
 use Rattle.kp_rules.specs.WideParts.{all_narrow}
 use Rattle.kp_compile.specs.Spelled.{IsSpellingOf}
-use Rattle.kp_substitution.specs.Substitution.{ReplacedName}
+use Rattle.kp_pattern_substitution.specs.Substitution.{ReplacedName}
 use Rattle.kp_successors.specs.Choices.{AreNamed, SpellUnder, chosen_pattern}
 
 abbrev pub left_of : RightSide → List SortedName

@@ -14,7 +14,7 @@ use Rattle.kp_kore.specs.Steps.{AnyByRecursion, FiresUnder, HasTurn, StepsBy}
 use Rattle.kp_rules.specs.Bodies.{IsPlain}
 use Rattle.kp_compile.specs.Spelled.{IsSpellingOf}
 use Rattle.kp_run.specs.Causes.{HasWideCondition}
-use Rattle.kp_substitution.specs.Substitution.{ReplacedName}
+use Rattle.kp_pattern_substitution.specs.Substitution.{ReplacedName}
 use Rattle.kp_successors.specs.Instances.{IsSomeInstance}
 use Rattle.kp_successors.specs.Choices.{AreNamed, SpellUnder, chosen_pattern}
 use Rattle.kp_rules.specs.WideParts.{part_computes_wide}

@@ -3,15 +3,15 @@ ghost use Rattle.std.specs.Prelude.{◌≡◌, ◌++◌, not, IfOk, OnOk, map, s
 ghost use Rattle.kp_kore.specs.Syntax.{variable as variable_at, equals, conjunction};
 ghost use Rattle.std.specs.List.{filter};
 ghost use Rattle.kp_kore.specs.View.{view, sort_view, patterns_view, sorted_variable_view};
-ghost use Rattle.kp_substitution.specs.Seen.{replacements_view};
+ghost use Rattle.kp_pattern_substitution.specs.Seen.{replacements_view};
 ghost use Rattle.kp_rules.specs.Known.{is_among as member_of};
 ghost use Rattle.kp_successors.specs.Choices.{is_top as top_test, equal_to_itself as equality_of, constrained_by, ensured_with, unused, chosen_pattern};
 ghost use Rattle.kp_successors.specs.Nexts.{new_of, ensured_of};
 
 use crate::member::{free_beside, is_among};
 use kp_kore::{Pattern, Sort, SortedVariable};
+use kp_pattern_substitution::{Replacement, substitute};
 use kp_rules::RightSide;
-use kp_substitution::{Replacement, substitute};
 use std::alloc::{AllocError, Global};
 
 /// The right side with these terms put in: the term beside the ensured condition, and beside the equalities of the new

@@ -6,7 +6,7 @@ ghost use Rattle.kp_kore.specs.Value.{Value};
 ghost use Rattle.kp_kore.specs.Instance.{Valuation};
 ghost use Rattle.kp_kore.specs.Rules.{Rewrite};
 ghost use Rattle.kp_kore.specs.Steps.{LeadsTo};
-ghost use Rattle.kp_substitution.specs.Substitution.{ReplacedName};
+ghost use Rattle.kp_pattern_substitution.specs.Substitution.{ReplacedName};
 ghost use Rattle.kp_successors.specs.Choices.{IsPutIn, SpellUnder, chosen_pattern};
 ghost use Rattle.kp_successors.specs.Instances.{IsSomeInstance};
 

@@ -8,7 +8,7 @@ ghost use Rattle.kp_ground.specs.Solves.{Solves, bound_names};
 ghost use Rattle.kp_ground.specs.Slots.{is_one_of};
 ghost use Rattle.kp_compile.specs.Names.{names_seen};
 ghost use Rattle.kp_compile.specs.Spelled.{IsSpellingOf};
-ghost use Rattle.kp_substitution.specs.Seen.{replacements_view, replacement_view};
+ghost use Rattle.kp_pattern_substitution.specs.Seen.{replacements_view, replacement_view};
 ghost use Rattle.kp_successors.specs.Errors.{IsCausedBy};
 ghost use Rattle.kp_successors.specs.Nexts.{left_of, AreForLeft, Spell};
 
@@ -17,9 +17,9 @@ use kp_compile::{NameSet, slot_of, spelled};
 use kp_ground::Binding;
 use kp_ground::binding::bound_at;
 use kp_kore::SortedVariable;
+use kp_pattern_substitution::Replacement;
 use kp_rules::{RightSide, is_named};
 use kp_signature::Signature;
-use kp_substitution::Replacement;
 use std::alloc::{AllocError, Global};
 
 /// The spelled values of the left term's variables but those that are new.

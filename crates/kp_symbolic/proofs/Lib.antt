@@ -22,7 +22,6 @@ pub mod Replacing
 pub mod SeenLemmas
 pub mod Shifts
 pub mod SideLemmas
-pub mod ShownExamples
 pub mod Solved
 pub mod SortedFolding
 pub mod Stable

@@ -27,7 +27,7 @@ use Rattle.kp_symbolic.specs.Solving.{Equation, equation_of, IsReadAs}
 use Rattle.kp_symbolic.specs.Writing.{written_clause, written_predicate}
 use Rattle.kp_symbolic.specs.Plain.{has_only_tokens, IsPlainState, read_clauses, rough_clauses}
 use Rattle.kp_symbolic.specs.Weights.{IsOver, IsWithinLimits}
-use Rattle.kp_symbolic.specs.Verdicts.{IsOpen}
+use Rattle.kp_symbolic.specs.Verdicts.{IsStateUndecided}
 use Rattle.kp_symbolic.specs.Sources.{SymbolicRule, rule_beside, TermsMeet, IsMatch}
 use Rattle.kp_symbolic.specs.Shown.{Situation, AreDifferent, question_of, is_rough, IsMetButRough, RuleShape, IsEasy, Undecided, unknown_clauses, weight_passed, most_told, IsShown, IsLimitOfTerms}
 
@@ -272,7 +272,7 @@ simplify_situation p s = record { hand = p ∷ []; state = s; rules = []; put = 
 -- Exactly the clauses of the state that aren't plain, where the plain ones can be true and don't decide; or all clauses, with
 -- a weight of them that is over its limit; or a limit of its terms.
 abbrev pub IsShownAlone : KoreSignature → KorePattern → SymbolicState → Undecided → Type 0
-IsShownAlone g p s (unknown_clauses q) = IsOpen g s (rough_clauses g s) × (¬ (rough_clauses g s ≡ []) × IsPredicateOf g s.sort (rough_clauses g s) q)
+IsShownAlone g p s (unknown_clauses q) = IsStateUndecided g s (rough_clauses g s) × (¬ (rough_clauses g s ≡ []) × IsPredicateOf g s.sort (rough_clauses g s) q)
 IsShownAlone g p s (weight_passed q w n) = (m : ℕ) × IsOver w (read_clauses g s) m × ((n ≡ min m most_told) × IsPredicateOf g s.sort s.clauses q)
 IsShownAlone g p s cause = IsShown g (simplify_situation p s) [] (λ v. ⊥) cause
 
@@ -292,11 +292,11 @@ pub record IsEasyAlone (g : KoreSignature) (p : KorePattern) : Type 0 where
 
 pub data Result (R : Type 0) : Type 0 where
   answered : R → Result R
-  left_open : Undecided → Result R
+  what_is_undecided : Undecided → Result R
 
 abbrev pub IsRightOr : {R : Type 0} → (R → Type 0) → (Undecided → Type 0) → Result R → Type 0
 IsRightOr IsRight IsCause (answered r) = IsRight r
-IsRightOr IsRight IsCause (left_open u) = IsCause u
+IsRightOr IsRight IsCause (what_is_undecided u) = IsCause u
 
 abbrev pub IsRightOfImplies : KoreSignature → KorePattern → KorePattern → Result Implied → Type 0
 IsRightOfImplies g a c = IsRightOr (IsRightImplied g a c) (IsShownOfImplication g a c)
@@ -305,7 +305,7 @@ abbrev pub IsRightOfSimplify : KoreSignature → KorePattern → Result Simplifi
 IsRightOfSimplify g p = IsRightOr (IsRightSimplified g p) (IsShownOfState g p)
 
 abbrev pub IsSimplifyFloorKept : KoreSignature → KorePattern → Result Simplified → Type 0
-IsSimplifyFloorKept g p r = IsEasyAlone g p → (u : Undecided) → r ≡ left_open u → IsLimitOfTerms u
+IsSimplifyFloorKept g p r = IsEasyAlone g p → (u : Undecided) → r ≡ what_is_undecided u → IsLimitOfTerms u
 
 abbrev pub IsImpliesFloorKept : KoreSignature → KorePattern → KorePattern → Result Implied → Type 0
-IsImpliesFloorKept g a c r = IsEasyImplication g a c → (u : Undecided) → r ≡ left_open u → IsLimitOfTerms u
+IsImpliesFloorKept g a c r = IsEasyImplication g a c → (u : Undecided) → r ≡ what_is_undecided u → IsLimitOfTerms u

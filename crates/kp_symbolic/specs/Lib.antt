@@ -2,7 +2,6 @@ pub mod Alike
 pub mod Calls
 pub mod Clauses
 pub mod Endings
-pub mod Examples
 pub mod Faultless
 pub mod Folding
 pub mod Formulas
@@ -10,7 +9,6 @@ pub mod Heads
 pub mod Languages
 pub mod Opening
 pub mod Plain
-pub mod Rows
 pub mod Shown
 pub mod Solving
 pub mod Sources
@@ -19,7 +17,6 @@ pub mod Sums
 pub mod Terms
 pub mod Verdicts
 pub mod View
-pub mod Weighing
 pub mod Weights
 pub mod WellFormed
 pub mod Writing

@@ -87,7 +87,7 @@ pub record IsMetButRough (g : KoreSignature) (b : Situation) (v : Valuation) (r 
   pub others : AllByRecursion (λ c. IsTrue (is_rough g b c) ⊎ IsClauseTrue g v c) (question_of g b r)
 
 -- Some valuation makes the state's plain clauses true; where the state has no others, something is asked there.
-pub record IsOpenAt (g : KoreSignature) (b : Situation) (IsAsked : Valuation → Type 0) : Type 0 where
+pub record IsUndecidedAt (g : KoreSignature) (b : Situation) (IsAsked : Valuation → Type 0) : Type 0 where
   pub valuation : Valuation
   pub sorts : GivesSorts g valuation b.state.variables
   pub plain : AreTrue g valuation (plain_clauses g b.state)
@@ -254,7 +254,7 @@ pub record IsDepthOfPart (g : KoreSignature) (b : Situation) (n : ℕ) : Type 0 
   pub is_depth : n ≡ term_depth (written_term g sort part)
 
 abbrev pub IsShown : KoreSignature → Situation → List RuleShape → (Valuation → Type 0) → Undecided → Type 0
-IsShown g b rules IsAsked (unknown_clauses p) = IsUnknownPredicate g b (shown_clauses g p) × IsOpenAt g b IsAsked
+IsShown g b rules IsAsked (unknown_clauses p) = IsUnknownPredicate g b (shown_clauses g p) × IsUndecidedAt g b IsAsked
 IsShown g b rules IsAsked (weight_passed p w n) = IsHeavyPredicate g b rules (shown_clauses g p) w n
 IsShown g b rules IsAsked (wide_number f m n) =
     Overflows (meaning_of g f) m n × IsSourcedPart g b.state b.rules b.put (headed f (next_term (known (whole m)) (next_term (known (whole n)) no_terms)))

@@ -141,13 +141,13 @@ abbrev pub names_of : List Replaced → List Text
 names_of put = map (λ r. r.name) put
 
 -- no variable of these is replaced
-abbrev pub AreLeft : List Replaced → List SortedName → Type 0
-AreLeft put xs = AllByRecursion (λ x. replacement_for put x.name ≡ None) xs
+abbrev pub AreRemaining : List Replaced → List SortedName → Type 0
+AreRemaining put xs = AllByRecursion (λ x. replacement_for put x.name ≡ None) xs
 
 -- One replacement for the state and all rules, in which no replaced variable is left.
 pub record IsMatch (g : KoreSignature) (hand : List KorePattern) (s : SymbolicState) (rules : List SymbolicRule) (put : List Replaced) : Type 0 where
   pub made : AreMadeOf g (IsNewVariable hand s) (all_parts s rules) put
-  pub solved : AllByRecursion (λ r. AreLeft put (term_variables r.term)) put
+  pub solved : AllByRecursion (λ r. AreRemaining put (term_variables r.term)) put
 
 -- ---- parts and literals under a match
 

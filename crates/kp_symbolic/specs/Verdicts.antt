@@ -17,7 +17,7 @@ pub data Verdict : Type 0 where
   undecided : List (List Literal) → Option Weighed → Verdict
 
 -- The plain clauses can be true, but no valuation makes each clause true by a plain literal; the others are shown.
-pub record IsOpen (g : KoreSignature) (s : SymbolicState) (shown : List (List Literal)) : Type 0 where
+pub record IsStateUndecided (g : KoreSignature) (s : SymbolicState) (shown : List (List Literal)) : Type 0 where
   pub plain : CanBeTrue g s.variables (plain_clauses g s)
   pub none_by_plain : ¬ CanBeTrue g s.variables (map plain_part (read_clauses g s))
   pub shown_are : shown ≡ rough_clauses g s
@@ -30,7 +30,7 @@ pub record IsTooHeavy (g : KoreSignature) (s : SymbolicState) (shown : List (Lis
 abbrev pub IsRightVerdict : KoreSignature → SymbolicState → Verdict → Type 0
 IsRightVerdict g s some_valuation = CanBeTrue g s.variables s.clauses
 IsRightVerdict g s no_valuation = ¬ CanBeTrue g s.variables s.clauses
-IsRightVerdict g s (undecided shown None) = IsOpen g s shown
+IsRightVerdict g s (undecided shown None) = IsStateUndecided g s shown
 IsRightVerdict g s (undecided shown (Some h)) = IsTooHeavy g s shown h
 
 pub data IsDecision : Verdict → Type 0 where

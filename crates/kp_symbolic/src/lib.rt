@@ -10,21 +10,17 @@
 
 pub mod atom;
 pub mod clause;
-pub mod examples;
 pub mod fold;
 pub mod language;
 pub mod laws;
 pub mod made;
 mod occurs;
 pub mod replaced;
-pub mod rows;
-pub mod sourced;
 pub mod state;
 pub mod sum;
 pub mod term;
 pub mod variable;
 pub mod verdicts;
-pub mod weighed;
 
 pub use atom::{Atom, HeadTest, Replaced};
 pub use clause::{Clause, Literal};

@@ -28,7 +28,7 @@ use Rattle.kp_symbolic.proofs.Distribution.{all_both, all_first, all_second}
 use Rattle.kp_symbolic.proofs.WellSorted.{number_sort_is}
 use Rattle.kp_symbolic.proofs.SortedFolding.{fits_signed, replaced_sorted}
 use Rattle.kp_symbolic_laws.specs.Runs.{IsSoundTerm}
-use Rattle.kp_symbolic_laws.proofs.Right.{value_at}
+use Rattle.kp_symbolic_laws.proofs.RightEquations.{value_at}
 use Rattle.kp_symbolic_laws.proofs.SoundTerms.{within_placed}
 use Rattle.kp_symbolic_laws.proofs.WrittenUnder.{written_is_term}
 

@@ -27,7 +27,7 @@ use Rattle.kp_symbolic.proofs.WellSorted.{sorted_written}
 use Rattle.kp_symbolic.proofs.SortedFolding.{replaced_sorted}
 use Rattle.kp_symbolic.proofs.Facts.{AllFacts, AllIn, clauses_have, Good, GoodTerm, opened_same_good}
 use Rattle.kp_symbolic_laws.specs.Runs.{HasOneSortEach, kept_whole, IfKeptWhole, OfKeptWhole}
-use Rattle.kp_symbolic_laws.proofs.Right.{IsRightEquation}
+use Rattle.kp_symbolic_laws.proofs.RightEquations.{IsRightEquation}
 
 -- ---- what is put in a variable's place
 

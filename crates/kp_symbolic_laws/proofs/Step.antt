@@ -31,7 +31,7 @@ use Rattle.kp_symbolic.proofs.Leaf.{formula_says, one_literal, once_says, then_s
 use Rattle.kp_symbolic.proofs.Equations.{IsMet, met_clause}
 use Rattle.kp_symbolic.proofs.Facts.{Good, GoodTerm}
 use Rattle.kp_symbolic_laws.specs.Runs.{HasOneSortEach, IsSortedState, kept_whole, IfKeptWhole, OfKeptWhole, OfKeptAt, IsWrittenRight}
-use Rattle.kp_symbolic_laws.proofs.Right.{IsRightEquation, right_clause}
+use Rattle.kp_symbolic_laws.proofs.RightEquations.{IsRightEquation, right_clause}
 use Rattle.kp_symbolic_laws.proofs.Keeping.{IsPut, all_given, put_in, put_into, by_case}
 use Rattle.kp_symbolic_laws.proofs.Found.{at_place, at_place_still, found_in}
 

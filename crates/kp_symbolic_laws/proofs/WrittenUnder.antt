@@ -28,7 +28,7 @@ use Rattle.kp_symbolic.proofs.Distribution.{all_first, all_second}
 use Rattle.kp_symbolic.proofs.Folded.{folded_is}
 use Rattle.kp_symbolic.proofs.Written.{written_is}
 use Rattle.kp_symbolic_laws.specs.Runs.{HasRoom, AllHaveRoom, IsSoundTerm, IsSoundPair, IsSoundPredicate, AreSoundPredicates}
-use Rattle.kp_symbolic_laws.proofs.Right.{value_at}
+use Rattle.kp_symbolic_laws.proofs.RightEquations.{value_at}
 use Rattle.kp_symbolic_laws.proofs.Binders.{IsUnder, bound_apart, all_under, under_placed, under_given, under_agrees}
 
 -- ---- what is written for a term is a term

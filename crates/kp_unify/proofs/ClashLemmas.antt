@@ -19,8 +19,8 @@ use Rattle.kp_symbolic.specs.Opening.{head_of_call}
 use Rattle.kp_symbolic.proofs.Distribution.{all_first, all_second}
 use Rattle.kp_symbolic.specs.View.{terms_of}
 use Rattle.kp_rules.specs.Skeletons.{Form, anything, nothing, any_of, one_of, fixed, built, Forms, no_forms, next_form, forms_of, Admits, AdmitAll}
-use Rattle.kp_cases.specs.Rows.{HasMembers, IsHeadOfSymbol}
-use Rattle.kp_cases.proofs.RowLemmas.{admits_members, head_admitted, value_head}
+use Rattle.kp_case_laws.specs.Rows.{HasMembers, IsHeadOfSymbol}
+use Rattle.kp_case_laws.proofs.RowLemmas.{admits_members, head_admitted, value_head}
 use Rattle.kp_unify.specs.Clash.{IsNeverOf, AsksOtherHead, asks_literal, on_literal, on_other, through_members, AskOtherHeads, too_few, too_many, through_first, through_later, AsksOtherHeadOf, on_value, on_sum, on_other_of, through_members_of, AskOtherHeadsOf, too_few_of, too_many_of, through_first_of, through_later_of, AreAsMany, HoldsOfOne, StandsOn, as_variable, as_member, StandsOnOther, StandsOnTwo, Differs}
 use Rattle.kp_unify.specs.Literals.{IsLiteral}
 use Rattle.kp_unify.specs.Matched.{HaveOnePlace, first, later}

@@ -10,15 +10,15 @@ use Rattle.kp_symbolic_laws.specs.Runs.{HasOneSortEach}
 use Rattle.kp_symbolic_laws.specs.Safe.{IsFormedState, IsSoundQuote}
 use Rattle.kp_symbolic_laws.proofs.Step.{at_hand_given}
 use Rattle.kp_rules.specs.Skeletons.{Form, Admits}
-use Rattle.kp_cases.specs.Parts.{StatePart, IsTold, IsSortedPart}
-use Rattle.kp_cases.specs.Narrowings.{are_never}
-use Rattle.kp_cases.specs.Cases.{MetPart}
-use Rattle.kp_cases.specs.Courses.{FormPair, beginning, all_equality_clauses, met_part, form_variables}
-use Rattle.kp_cases.proofs.NarrowingLemmas.{never_true}
-use Rattle.kp_cases.proofs.CourseLemmas.{equalities_say}
-use Rattle.kp_cases.proofs.OnCourse.{on_begins, on_ends, on_ends_never}
-use Rattle.kp_cases.proofs.OnRows.{all_bound}
-use Rattle.kp_cases.proofs.GrownLemmas.{grown_itself}
+use Rattle.kp_case_laws.specs.Parts.{StatePart, IsTold, IsSortedPart}
+use Rattle.kp_case_laws.specs.Narrowings.{are_never}
+use Rattle.kp_case_laws.specs.Cases.{MetPart}
+use Rattle.kp_case_laws.specs.Courses.{FormPair, beginning, all_equality_clauses, met_part, form_variables}
+use Rattle.kp_case_laws.proofs.NarrowingLemmas.{never_true}
+use Rattle.kp_case_laws.proofs.CourseLemmas.{equalities_say}
+use Rattle.kp_case_laws.proofs.OnCourse.{on_begins, on_ends, on_ends_never}
+use Rattle.kp_case_laws.proofs.OnRows.{all_bound}
+use Rattle.kp_case_laws.proofs.GrownLemmas.{grown_itself}
 use Rattle.kp_symbolic.specs.States.{Literal}
 use Rattle.kp_unify.specs.Clash.{IsNeverOf}
 use Rattle.kp_unify.specs.Matched.{IsLaid}

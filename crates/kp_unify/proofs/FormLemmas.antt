@@ -6,8 +6,8 @@ use Rattle.kp_ground.specs.View.{value_view, values_of}
 use Rattle.kp_ground.specs.declared.value.Value.{Value}
 use Rattle.kp_symbolic.specs.Terms.{SymbolicTerm}
 use Rattle.kp_rules.specs.Skeletons.{Form, fixed, forms_of, next_form}
-use Rattle.kp_cases.specs.Courses.{all_fixed}
-use Rattle.kp_cases.specs.Rows.{HasMembers}
+use Rattle.kp_case_laws.specs.Courses.{all_fixed}
+use Rattle.kp_case_laws.specs.Rows.{HasMembers}
 use Rattle.kp_unify.specs.Replaced.{pairs_of}
 
 -- values as forms

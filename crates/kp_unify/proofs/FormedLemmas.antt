@@ -25,9 +25,9 @@ use Rattle.kp_symbolic_laws.proofs.NormalTerms.{applied_normal, replaced_normal}
 use Rattle.kp_symbolic_laws.proofs.FormedFacts.{test_formed}
 use Rattle.kp_symbolic_laws.proofs.FormedSteps.{literals_formed}
 use Rattle.kp_rules.specs.Skeletons.{Forms, no_forms, next_form}
-use Rattle.kp_cases.specs.Parts.{StatePart, with_clauses}
-use Rattle.kp_cases.specs.Narrowings.{head_clauses, are_never, has_other_head, test_of, tested, shared_heads, other_heads, heads_outside, heads_inside, all_unknown, constructor_term, equates, put_clause, part_with_term}
-use Rattle.kp_cases.specs.Courses.{FormPair, Equality, Course, with_pair, with_binding, with_equality, with_pairs, replaced_course, course_in, put_in, paired, all_known}
+use Rattle.kp_case_laws.specs.Parts.{StatePart, with_clauses}
+use Rattle.kp_case_laws.specs.Narrowings.{head_clauses, are_never, has_other_head, test_of, tested, shared_heads, other_heads, heads_outside, heads_inside, all_unknown, constructor_term, equates, put_clause, part_with_term}
+use Rattle.kp_case_laws.specs.Courses.{FormPair, Equality, Course, with_pair, with_binding, with_equality, with_pairs, replaced_course, course_in, put_in, paired, all_known}
 use Rattle.kp_unify.specs.Way.{IsNormalEquality, IsFormedCourse}
 
 -- each literal has normal terms, or asks for a head that is meant, or quotes what is written right

@@ -21,10 +21,10 @@ use Rattle.kp_symbolic_laws.specs.Safe.{AreNormal, IsNormal}
 use Rattle.kp_symbolic_laws.proofs.NormalTerms.{normal_folded}
 use Rattle.kp_symbolic.proofs.Distribution.{all_both, all_first, all_second}
 use Rattle.kp_rules.specs.Skeletons.{Form, one_of, fixed, Forms, no_forms, next_form}
-use Rattle.kp_cases.specs.Parts.{StatePart, with_clauses}
-use Rattle.kp_cases.specs.Narrowings.{part_with_term}
-use Rattle.kp_cases.specs.Courses.{FormPair, Equality, Course, beginning, with_pair, with_binding, with_equality, with_pairs, paired, all_known, put_in, replaced_course, course_in}
-use Rattle.kp_cases.specs.Rows.{HasMembers}
+use Rattle.kp_case_laws.specs.Parts.{StatePart, with_clauses}
+use Rattle.kp_case_laws.specs.Narrowings.{part_with_term}
+use Rattle.kp_case_laws.specs.Courses.{FormPair, Equality, Course, beginning, with_pair, with_binding, with_equality, with_pairs, paired, all_known, put_in, replaced_course, course_in}
+use Rattle.kp_case_laws.specs.Rows.{HasMembers}
 use Rattle.kp_unify.specs.Replaced.{binding_put, equality_put, pair_put}
 use Rattle.kp_unify.specs.Matched.{AreMembers, HaveOnePlace, first, later, LiesOn, itself, inside, Matches, to_come, by_any, by_sort, by_binding, by_equality, by_value, by_equal_value, by_members, AllMatch, no_members, next_members, IsBindingAt, IsEqualityAt, of_variable, of_value, IsLaid}
 

@@ -18,12 +18,12 @@ use Rattle.kp_symbolic.specs.Heads.{is_construction}
 use Rattle.kp_symbolic.specs.Opening.{head_of_call}
 use Rattle.kp_symbolic.proofs.HeadLemmas.{head_from_sort}
 use Rattle.kp_rules.specs.Skeletons.{Form, Forms, forms_of}
-use Rattle.kp_cases.specs.Parts.{StatePart}
-use Rattle.kp_cases.specs.Narrowings.{has_other_head, all_unknown, constructor_term, part_with_term}
-use Rattle.kp_cases.specs.Courses.{FormPair, Course, with_pairs, paired, all_known, replaced_course}
-use Rattle.kp_cases.specs.Rows.{HasMembers, IsHeadOfSymbol, IsOfHead}
-use Rattle.kp_cases.proofs.OnRows.{of_left, of_headed, of_known, terms_of_headed, terms_of_known}
-use Rattle.kp_cases.proofs.RowLemmas.{other_number_never, constructor_never, no_such_head}
+use Rattle.kp_case_laws.specs.Parts.{StatePart}
+use Rattle.kp_case_laws.specs.Narrowings.{has_other_head, all_unknown, constructor_term, part_with_term}
+use Rattle.kp_case_laws.specs.Courses.{FormPair, Course, with_pairs, paired, all_known, replaced_course}
+use Rattle.kp_case_laws.specs.Rows.{HasMembers, IsHeadOfSymbol, IsOfHead}
+use Rattle.kp_case_laws.proofs.OnRows.{of_left, of_headed, of_known, terms_of_headed, terms_of_known}
+use Rattle.kp_case_laws.proofs.RowLemmas.{other_number_never, constructor_never, no_such_head}
 use Rattle.kp_symbolic.specs.View.{terms_of}
 use Rattle.kp_unify.specs.Narrowed.{with_split}
 use Rattle.kp_unify.specs.Replaced.{pair_of, pairs_of}

@@ -13,9 +13,9 @@ use Rattle.kp_symbolic.specs.Terms.{SymbolicTerm, unknown, offset, known, headed
 use Rattle.kp_symbolic.specs.View.{variable_view, variables_view, terms_of}
 use Rattle.kp_symbolic.specs.declared.variable.Variable.{Variable}
 use Rattle.kp_symbolic.specs.States.{one_head, head_of_sort, Literal}
-use Rattle.kp_cases.specs.Parts.{with_clauses}
-use Rattle.kp_cases.specs.Narrowings.{are_never, head_clauses, has_other_head, heads_inside, heads_outside, constructor_term, all_unknown, part_with_term}
-use Rattle.kp_cases.specs.Courses.{Course, replaced_course, course_in}
+use Rattle.kp_case_laws.specs.Parts.{with_clauses}
+use Rattle.kp_case_laws.specs.Narrowings.{are_never, head_clauses, has_other_head, heads_inside, heads_outside, constructor_term, all_unknown, part_with_term}
+use Rattle.kp_case_laws.specs.Courses.{Course, replaced_course, course_in}
 use Rattle.kp_unify.specs.Heads.{ShareValues, variable_in}
 use Rattle.kp_unify.specs.Names.{IsNextName, AreNextVariables}
 use Rattle.kp_unify.specs.Narrowed.{NumberedPart, with_split, another}

@@ -11,10 +11,10 @@ use Rattle.kp_symbolic.specs.Heads.{head_answer}
 use Rattle.kp_symbolic.specs.Opening.{literal_fact, fixed_or, opened_test, opened_same}
 use Rattle.kp_symbolic.specs.Clauses.{distributed, is_too_large}
 use Rattle.kp_symbolic.specs.Solving.{Equation, replacement, opened_clause}
-use Rattle.kp_distribution.specs.Distribution.{Distribution, distribution_of}
-use Rattle.kp_replacing.specs.Replacing.{clause_under}
-use Rattle.kp_replacing.proofs.ClauseLemmas.{clause_solved}
-use Rattle.kp_cases.specs.Courses.{Equality, equality_clauses}
+use Rattle.kp_formulas.specs.Distribution.{Distribution, distribution_of}
+use Rattle.kp_clause_substitution.specs.Replacing.{clause_under}
+use Rattle.kp_clause_substitution.proofs.ClauseLemmas.{clause_solved}
+use Rattle.kp_case_laws.specs.Courses.{Equality, equality_clauses}
 use Rattle.kp_unify.specs.Narrowed.{put_opened}
 
 under_so : (m n : ℕ) → nat_lt m n ≡ false → n ≤ m

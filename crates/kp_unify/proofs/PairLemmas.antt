@@ -13,12 +13,12 @@ use Rattle.kp_symbolic_laws.specs.Runs.{HasOneSortEach}
 use Rattle.kp_symbolic_laws.specs.Safe.{AreNormal}
 use Rattle.kp_symbolic_laws.proofs.Step.{at_hand_given}
 use Rattle.kp_rules.specs.Skeletons.{Form, anything, nothing, any_of, one_of, fixed, Forms}
-use Rattle.kp_cases.specs.Parts.{StatePart}
-use Rattle.kp_cases.specs.Courses.{FormPair, Course, with_pair, with_binding, with_equality, with_pairs, AsksNever, IsTermOf, paired, form_variables}
-use Rattle.kp_cases.specs.Rows.{HasMembers, IsMadeOf, AreTermsOf}
-use Rattle.kp_cases.proofs.OnCourse.{on_never}
-use Rattle.kp_cases.proofs.OnRows.{on_anything, on_any, on_same_value, of_left, on_first, on_again, on_value, on_members}
-use Rattle.kp_cases.proofs.RowLemmas.{nothing_never, other_value_never, any_asks_sort, variable_asks_sort, value_asks_sort}
+use Rattle.kp_case_laws.specs.Parts.{StatePart}
+use Rattle.kp_case_laws.specs.Courses.{FormPair, Course, with_pair, with_binding, with_equality, with_pairs, AsksNever, IsTermOf, paired, form_variables}
+use Rattle.kp_case_laws.specs.Rows.{HasMembers, IsMadeOf, AreTermsOf}
+use Rattle.kp_case_laws.proofs.OnCourse.{on_never}
+use Rattle.kp_case_laws.proofs.OnRows.{on_anything, on_any, on_same_value, of_left, on_first, on_again, on_value, on_members}
+use Rattle.kp_case_laws.proofs.RowLemmas.{nothing_never, other_value_never, any_asks_sort, variable_asks_sort, value_asks_sort}
 use Rattle.kp_unify.specs.Narrowed.{NumberedPart}
 use Rattle.kp_unify.specs.Replaced.{equality_of, pair_of}
 use Rattle.kp_unify.specs.Matched.{AreMembers, Matches, by_any, by_sort, by_value}

@@ -19,9 +19,9 @@ use Rattle.kp_symbolic.proofs.SideLemmas.{construction_is_meant}
 use Rattle.kp_symbolic_laws.specs.Runs.{HasOneSortEach}
 use Rattle.kp_symbolic.specs.View.{terms_of}
 use Rattle.kp_rules.specs.Skeletons.{Form, one_of, fixed, forms_of}
-use Rattle.kp_cases.specs.Parts.{StatePart, IsTold}
-use Rattle.kp_cases.specs.Courses.{form_variables, all_known}
-use Rattle.kp_cases.specs.Rows.{HasMembers}
+use Rattle.kp_case_laws.specs.Parts.{StatePart, IsTold}
+use Rattle.kp_case_laws.specs.Courses.{form_variables, all_known}
+use Rattle.kp_case_laws.specs.Rows.{HasMembers}
 use Rattle.kp_unify.specs.Literals.{IsLiteral}
 use Rattle.kp_unify.specs.Replaced.{pairs_of}
 use Rattle.kp_unify.specs.Way.{Stage, IsNarrowedToConstructor, IsNextPair, IsPlaced, IsAllApart, IsGone, GoesOnIf, bound_stage, equal_stage, members_stage}

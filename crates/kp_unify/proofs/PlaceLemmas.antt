@@ -15,14 +15,14 @@ use Rattle.kp_symbolic.specs.Opening.{head_of_call}
 use Rattle.kp_symbolic.proofs.HeadLemmas.{head_from_sort}
 use Rattle.kp_symbolic.proofs.HeadQuestions.{sort_from_head}
 use Rattle.kp_rules.specs.Skeletons.{Form}
-use Rattle.kp_cases.specs.Parts.{StatePart, with_clauses}
-use Rattle.kp_cases.specs.Narrowings.{heads_inside, part_with_term}
-use Rattle.kp_cases.specs.Courses.{Course, with_pair, AsksNever, IsTermOf, IsOfSort, IsMeet, HasMeets, replaced_course, course_in}
-use Rattle.kp_cases.specs.Rows.{AsksSort, IsHeadOfSymbol, IsOfHead}
-use Rattle.kp_cases.proofs.OnCourse.{on_never}
-use Rattle.kp_cases.proofs.OnRows.{of_left}
-use Rattle.kp_cases.proofs.RowLemmas.{sort_never, no_shared_value, of_head}
-use Rattle.kp_cases.proofs.SortLemmas.{by_form}
+use Rattle.kp_case_laws.specs.Parts.{StatePart, with_clauses}
+use Rattle.kp_case_laws.specs.Narrowings.{heads_inside, part_with_term}
+use Rattle.kp_case_laws.specs.Courses.{Course, with_pair, AsksNever, IsTermOf, IsOfSort, IsMeet, HasMeets, replaced_course, course_in}
+use Rattle.kp_case_laws.specs.Rows.{AsksSort, IsHeadOfSymbol, IsOfHead}
+use Rattle.kp_case_laws.proofs.OnCourse.{on_never}
+use Rattle.kp_case_laws.proofs.OnRows.{of_left}
+use Rattle.kp_case_laws.proofs.RowLemmas.{sort_never, no_shared_value, of_head}
+use Rattle.kp_case_laws.proofs.SortLemmas.{by_form}
 use Rattle.kp_unify.specs.Heads.{ShareValues, variable_in}
 use Rattle.kp_unify.specs.Way.{Stage, IsOnWay, IsNarrowedToSort, IsAsked, IsGoing, IsPlaced, IsAllApart}
 use Rattle.kp_unify.proofs.WayLemmas.{sort_on_way, heads_on_way}

@@ -9,9 +9,9 @@ use Rattle.kp_signature.proofs.Below.{is_below-Decides}
 use Rattle.kp_signature.proofs.HeadLemmas.{is_head-Decides}
 use Rattle.kp_symbolic.specs.Terms.{SymbolicTerm, unknown}
 use Rattle.kp_symbolic.specs.WellFormed.{IsWellSorted}
-use Rattle.kp_cases.specs.Courses.{IsTermOf}
-use Rattle.kp_cases.specs.Rows.{IsOfHead}
-use Rattle.kp_cases.proofs.RowLemmas.{sorted_by_head}
+use Rattle.kp_case_laws.specs.Courses.{IsTermOf}
+use Rattle.kp_case_laws.specs.Rows.{IsOfHead}
+use Rattle.kp_case_laws.proofs.RowLemmas.{sorted_by_head}
 use Rattle.kp_unify.proofs.PlaceLemmas.{term_head}
 
 pub placed_by_test : (g : KoreSignature) (hand : List SortedName) (s : KoreSort) (t : SymbolicTerm) (b : Bool) → ((x : SortedName) → t ≡ unknown x → b ≡ is_below g.subsorts x.sort s) → ((h : Head) → IsOfHead g t h → b ≡ is_head g s h) → IsTermOf g hand t → b ≡ true → IsWellSorted g s t

@@ -3,8 +3,8 @@ use Rattle.std.proofs.Common.{◌≡◌, subst, ap, ap₂, ◌∙◌, List, map}
 use Rattle.kp_kore.specs.Signature.{KoreSignature}
 use Rattle.kp_symbolic.specs.Terms.{Replaced}
 use Rattle.kp_symbolic.specs.Solving.{Equation, replacement}
-use Rattle.kp_cases.specs.Parts.{StatePart}
-use Rattle.kp_cases.specs.Courses.{FormPair, Equality, Course, replaced_course}
+use Rattle.kp_case_laws.specs.Parts.{StatePart}
+use Rattle.kp_case_laws.specs.Courses.{FormPair, Equality, Course, replaced_course}
 use Rattle.kp_unify.specs.Replaced.{binding_put, equality_put, pair_put}
 
 abbrev made : StatePart → List Equality → List Replaced → List FormPair → Course

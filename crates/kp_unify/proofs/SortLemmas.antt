@@ -8,7 +8,7 @@ use Rattle.kp_kore.specs.Signature.{KoreSignature, Head, is_head, possible_heads
 use Rattle.kp_signature.proofs.HeadLemmas.{is_head-Decides, passed_by_heads}
 use Rattle.kp_signature.proofs.Below.{is_below-Decides}
 use Rattle.kp_kore.proofs.InstanceLemmas.{first_true, second_true}
-use Rattle.kp_cases.specs.Courses.{IsMeet}
+use Rattle.kp_case_laws.specs.Courses.{IsMeet}
 use Rattle.kp_unify.specs.Heads.{is_common_in, has_common_heads, is_meet}
 
 true_false : true ≡ false → ⊥

@@ -21,14 +21,14 @@ use Rattle.kp_symbolic.specs.WellFormed.{IsWellSorted}
 use Rattle.kp_symbolic.specs.Writing.{fresh_name}
 use Rattle.kp_symbolic.proofs.Distribution.{all_both}
 use Rattle.kp_rules.specs.Skeletons.{Form, Forms}
-use Rattle.kp_cases.specs.Parts.{StatePart, AreNew, IsGrown, IsNewVariable, IsSortedPart, with_clauses}
-use Rattle.kp_cases.specs.Narrowings.{are_never, head_clauses, has_other_head, heads_inside, heads_outside, all_unknown, constructor_term, sorts_of_names, part_with_term}
-use Rattle.kp_cases.specs.Courses as courses
-use Rattle.kp_cases.specs.Courses.{Equality, put_in, Course, with_pair, IsOnCourse, IsOfSort, IsMeet, HasMeets, replaced_course, course_in}
-use Rattle.kp_cases.specs.Rows.{HasMembers, AsksSort, IsMadeOf, AreTermsOf}
-use Rattle.kp_cases.proofs.GrownLemmas.{grown_further}
-use Rattle.kp_cases.proofs.SortedParts.{sorted_with, head_clauses_sorted, other_head_sorted, outside_sorted}
-use Rattle.kp_cases.proofs.OnNarrowed.{step_sort, step_constructor, step_heads}
+use Rattle.kp_case_laws.specs.Parts.{StatePart, AreNew, IsGrown, IsNewVariable, IsSortedPart, with_clauses}
+use Rattle.kp_case_laws.specs.Narrowings.{are_never, head_clauses, has_other_head, heads_inside, heads_outside, all_unknown, constructor_term, sorts_of_names, part_with_term}
+use Rattle.kp_case_laws.specs.Courses as courses
+use Rattle.kp_case_laws.specs.Courses.{Equality, put_in, Course, with_pair, IsOnCourse, IsOfSort, IsMeet, HasMeets, replaced_course, course_in}
+use Rattle.kp_case_laws.specs.Rows.{HasMembers, AsksSort, IsMadeOf, AreTermsOf}
+use Rattle.kp_case_laws.proofs.GrownLemmas.{grown_further}
+use Rattle.kp_case_laws.proofs.SortedParts.{sorted_with, head_clauses_sorted, other_head_sorted, outside_sorted}
+use Rattle.kp_case_laws.proofs.OnNarrowed.{step_sort, step_constructor, step_heads}
 use Rattle.kp_unify.specs.Matched.{LiesOn}
 use Rattle.kp_unify.specs.Comes.{of_sort, of_members, TellsHead, beyond, another, inside, outside, with_term, with_head}
 use Rattle.kp_unify.specs.Names.{IsNextName, AreNextVariables}

@@ -9,7 +9,7 @@ use Rattle.kp_kore.specs.Instance.{Valuation, GivesSorts}
 use Rattle.kp_symbolic.specs.Terms.{SymbolicTerm, offset, known, headed, SymbolicTerms, no_terms, next_term, term_instance, term_variables}
 use Rattle.kp_symbolic.specs.WellFormed.{IsWellSorted}
 use Rattle.kp_rules.specs.Skeletons.{Form, one_of, fixed, Forms, no_forms, next_form, Admits}
-use Rattle.kp_cases.specs.Rows.{HasMembers}
+use Rattle.kp_case_laws.specs.Rows.{HasMembers}
 use Rattle.kp_unify.specs.Literals.{IsLiteral}
 use Rattle.kp_unify.specs.Matched.{HaveOnePlace}
 

@@ -7,10 +7,10 @@ use Rattle.kp_kore.specs.Signature.{KoreSignature}
 use Rattle.kp_symbolic.specs.Terms.{SymbolicTerm, unknown}
 use Rattle.kp_symbolic.specs.States.{head_of_sort, Literal}
 use Rattle.kp_rules.specs.Skeletons.{Form, Forms}
-use Rattle.kp_cases.specs.Parts.{StatePart, with_clauses}
-use Rattle.kp_cases.specs.Narrowings.{head_clauses, has_other_head, heads_inside, heads_outside, constructor_term, part_with_term}
-use Rattle.kp_cases.specs.Courses.{IsMeet}
-use Rattle.kp_cases.specs.Rows.{HasMembers, AsksSort}
+use Rattle.kp_case_laws.specs.Parts.{StatePart, with_clauses}
+use Rattle.kp_case_laws.specs.Narrowings.{head_clauses, has_other_head, heads_inside, heads_outside, constructor_term, part_with_term}
+use Rattle.kp_case_laws.specs.Courses.{IsMeet}
+use Rattle.kp_case_laws.specs.Rows.{HasMembers, AsksSort}
 use Rattle.kp_unify.specs.Matched.{LiesOn}
 
 -- what the form asks the variable to be: a new one of the sort below its own and the form's; the form's constructor of new ones

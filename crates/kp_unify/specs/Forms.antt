@@ -5,14 +5,14 @@ use Rattle.kp_kore.specs.View.{sort_view}
 use Rattle.kp_ground.specs.View.{value_view}
 use Rattle.kp_rules.specs.Skeletons as model
 use Rattle.kp_rules.specs.Skeletons.{skeleton_view, forms_of}
-use Rattle.kp_cases.specs.Rows.{HasMembers}
+use Rattle.kp_case_laws.specs.Rows.{HasMembers}
 use Rattle.kp_unify.specs.Literals.{IsLiteral}
-use Rattle.kp_unify.specs.declared.forms.LeftPart.{LeftPart}
-use Rattle.kp_unify.specs.declared.forms.LeftPart.TheVariants as form
-use Rattle.kp_unify.specs.declared.forms.Ask.{Ask}
-use Rattle.kp_unify.specs.declared.forms.Ask.TheVariants as ask
-use Rattle.kp_unify.specs.declared.forms.Members.{Members}
-use Rattle.kp_unify.specs.declared.forms.Members.TheVariants as members
+use Rattle.kp_unify.specs.declared.left_parts.LeftPart.{LeftPart}
+use Rattle.kp_unify.specs.declared.left_parts.LeftPart.TheVariants as form
+use Rattle.kp_unify.specs.declared.left_parts.Ask.{Ask}
+use Rattle.kp_unify.specs.declared.left_parts.Ask.TheVariants as ask
+use Rattle.kp_unify.specs.declared.left_parts.Members.{Members}
+use Rattle.kp_unify.specs.declared.left_parts.Members.TheVariants as members
 
 abbrev pub form_view : LeftPart → model.Form
 form_view (form.Skeleton k) = skeleton_view k.now

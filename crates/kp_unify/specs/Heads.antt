@@ -9,7 +9,7 @@ use Rattle.kp_kore.specs.Value.{Value, HasSort}
 use Rattle.kp_symbolic.specs.Terms.{SymbolicTerm, unknown, offset, known, headed}
 use Rattle.kp_symbolic.specs.Heads.{passes_head}
 use Rattle.kp_symbolic.specs.States.{Literal}
-use Rattle.kp_cases.specs.Narrowings.{test_of, tested, shared_heads}
+use Rattle.kp_case_laws.specs.Narrowings.{test_of, tested, shared_heads}
 
 -- some value has both sorts
 abbrev pub ShareValues : KoreSignature → KoreSort → KoreSort → Type 0

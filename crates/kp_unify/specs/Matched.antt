@@ -9,8 +9,8 @@ use Rattle.kp_compile.specs.Spelled.{own_sort}
 use Rattle.kp_symbolic.specs.Terms.{SymbolicTerm, known, SymbolicTerms, no_terms, next_term, Replaced, replacement_for}
 use Rattle.kp_symbolic.specs.Folding.{applied_term}
 use Rattle.kp_rules.specs.Skeletons.{Form, anything, any_of, one_of, fixed, Forms, no_forms, next_form}
-use Rattle.kp_cases.specs.Courses.{FormPair, Equality, Course}
-use Rattle.kp_cases.specs.Rows.{HasMembers}
+use Rattle.kp_case_laws.specs.Courses.{FormPair, Equality, Course}
+use Rattle.kp_case_laws.specs.Rows.{HasMembers}
 
 -- ---- places
 

@@ -10,9 +10,9 @@ use Rattle.kp_symbolic.specs.Terms.{SymbolicTerm, unknown, known}
 use Rattle.kp_symbolic.specs.States.{same, Literal, SymbolicState}
 use Rattle.kp_symbolic.specs.Clauses.{distributed, is_too_large, without_repeats}
 use Rattle.kp_symbolic.specs.Solving.{Equation, opened_clause}
-use Rattle.kp_cases.specs.Parts.{StatePart, with_clauses}
-use Rattle.kp_cases.specs.Narrowings.{put_clause, are_never}
-use Rattle.kp_cases.specs.Courses.{put_in}
+use Rattle.kp_case_laws.specs.Parts.{StatePart, with_clauses}
+use Rattle.kp_case_laws.specs.Narrowings.{put_clause, are_never}
+use Rattle.kp_case_laws.specs.Courses.{put_in}
 
 abbrev pub equation_of : SortedName → SymbolicTerm → Equation
 equation_of x t = record { variable = x; term = t }

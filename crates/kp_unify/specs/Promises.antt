@@ -20,12 +20,12 @@ use Rattle.kp_symbolic.specs.Terms.{SymbolicTerm, replacement_for}
 use Rattle.kp_symbolic.specs.View.{term_view, terms_of, variables_view, clauses_view}
 use Rattle.kp_symbolic.specs.declared.term.Term.{Term}
 use Rattle.kp_symbolic.specs.declared.clause.Clause.{Clause}
-use Rattle.kp_cases.specs.Parts.{StatePart}
-use Rattle.kp_cases.specs.Cases as cases
-use Rattle.kp_cases.specs.Courses as courses
-use Rattle.kp_cases.specs.Courses.{FormPair, IsSortedEquality, replaced_course}
-use Rattle.kp_cases.specs.Narrowings.{tested, shared_heads, has_other_head, all_unknown, constructor_term, part_with_term}
-use Rattle.kp_cases.specs.Rows.{HasMembers}
+use Rattle.kp_case_laws.specs.Parts.{StatePart}
+use Rattle.kp_case_laws.specs.Cases as cases
+use Rattle.kp_case_laws.specs.Courses as courses
+use Rattle.kp_case_laws.specs.Courses.{FormPair, IsSortedEquality, replaced_course}
+use Rattle.kp_case_laws.specs.Narrowings.{tested, shared_heads, has_other_head, all_unknown, constructor_term, part_with_term}
+use Rattle.kp_case_laws.specs.Rows.{HasMembers}
 use Rattle.kp_unify.specs.Narrowed.{NumberedPart, equation_of, with_split}
 use Rattle.kp_unify.specs.Replaced.{pair_of, pairs_of}
 use Rattle.kp_unify.specs.Views.{signature_of, part_view, numbered_view, met_view, course_view, stage_view, IsSetting}
@@ -34,7 +34,7 @@ use Rattle.kp_unify.specs.declared.part.Part.{Part}
 use Rattle.kp_unify.specs.declared.part.Meeting.{Meeting}
 use Rattle.kp_unify.specs.declared.part.Setting.{Setting}
 use Rattle.kp_unify.specs.declared.course.Course.{Course}
-use Rattle.kp_unify.specs.declared.names.New.{New}
+use Rattle.kp_unify.specs.declared.new_names.New.{New}
 
 -- ---- values and heads
 

@@ -6,7 +6,7 @@ use Rattle.kp_kore.specs.Signature.{KoreSignature}
 use Rattle.kp_symbolic.specs.Terms.{SymbolicTerm, Replaced}
 use Rattle.kp_symbolic.specs.Folding.{replaced}
 use Rattle.kp_rules.specs.Skeletons.{Form}
-use Rattle.kp_cases.specs.Courses.{FormPair, Equality}
+use Rattle.kp_case_laws.specs.Courses.{FormPair, Equality}
 
 abbrev pub equality_of : KoreSort → SymbolicTerm → SymbolicTerm → Equality
 equality_of s t u = record { sort = s; left = t; right = u }

@@ -1,4 +1,4 @@
--- Which parts, courses and met parts of kp_cases the code's are.
+-- Which parts, courses and met parts of kp_case_laws the code's are.
 use Rattle.std.specs.Prelude.{List, map}
 use Rattle.kp_kore.specs.Syntax.{Text}
 use Rattle.kp_kore.specs.Signature.{KoreSignature}
@@ -7,9 +7,9 @@ use Rattle.kp_names.specs.Met.{Lists}
 use Rattle.kp_heads.specs.Made.{IsHeadTableOf}
 use Rattle.kp_symbolic.specs.Languages.{language_view}
 use Rattle.kp_symbolic.specs.View.{term_view, replaced_view, clauses_view, state_view}
-use Rattle.kp_cases.specs.Parts.{StatePart}
-use Rattle.kp_cases.specs.Cases as cases
-use Rattle.kp_cases.specs.Courses as model
+use Rattle.kp_case_laws.specs.Parts.{StatePart}
+use Rattle.kp_case_laws.specs.Cases as cases
+use Rattle.kp_case_laws.specs.Courses as model
 use Rattle.kp_unify.specs.Forms.{form_view}
 use Rattle.kp_unify.specs.Narrowed.{NumberedPart}
 use Rattle.kp_unify.specs.Way.{Stage}

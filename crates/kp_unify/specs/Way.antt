@@ -13,11 +13,11 @@ use Rattle.kp_symbolic.specs.States.{head_of_sort}
 use Rattle.kp_symbolic.specs.WellFormed.{IsWellSorted}
 use Rattle.kp_symbolic.specs.Writing.{fresh_name}
 use Rattle.kp_rules.specs.Skeletons.{Form}
-use Rattle.kp_cases.specs.Parts.{StatePart, IsTold, IsSortedPart, IsGrown, with_clauses}
-use Rattle.kp_cases.specs.Narrowings.{head_clauses, has_other_head, heads_inside, heads_outside, constructor_term, all_unknown, part_with_term}
-use Rattle.kp_cases.specs.Cases.{MetPart, AreCases, left_side}
-use Rattle.kp_cases.specs.Courses.{FormPair, Equality, Course, with_pair, with_binding, with_equality, with_pairs, IsOnCourse, IsOfSort, replaced_course, course_in, form_variables, all_equality_clauses, IsBoundTo, IsSortedEquality}
-use Rattle.kp_cases.specs.Rows.{AsksSort}
+use Rattle.kp_case_laws.specs.Parts.{StatePart, IsTold, IsSortedPart, IsGrown, with_clauses}
+use Rattle.kp_case_laws.specs.Narrowings.{head_clauses, has_other_head, heads_inside, heads_outside, constructor_term, all_unknown, part_with_term}
+use Rattle.kp_case_laws.specs.Cases.{MetPart, AreCases, left_side}
+use Rattle.kp_case_laws.specs.Courses.{FormPair, Equality, Course, with_pair, with_binding, with_equality, with_pairs, IsOnCourse, IsOfSort, replaced_course, course_in, form_variables, all_equality_clauses, IsBoundTo, IsSortedEquality}
+use Rattle.kp_case_laws.specs.Rows.{AsksSort}
 use Rattle.kp_symbolic_laws.specs.Runs.{HasOneSortEach}
 use Rattle.kp_symbolic_laws.specs.Safe.{IsNormal, PutNormal, IsFormedState, IsSoundQuote}
 use Rattle.kp_unify.specs.Comes.{IsNarrowedFrom}

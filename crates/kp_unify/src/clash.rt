@@ -5,12 +5,12 @@ ghost use Rattle.kp_ground.specs.View.{value_view, values_of};
 ghost use Rattle.kp_rules.specs.Skeletons as model;
 ghost use Rattle.kp_rules.specs.Skeletons.{forms_of};
 ghost use Rattle.kp_symbolic.specs.View.{term_view, terms_of};
-ghost use Rattle.kp_cases.specs.Rows.{HasMembers};
+ghost use Rattle.kp_case_laws.specs.Rows.{HasMembers};
 ghost use Rattle.kp_unify.specs.Forms.{form_view, members_view};
 ghost use Rattle.kp_unify.specs.Clash.{AsksOtherHead, AskOtherHeads, AsksOtherHeadOf, AskOtherHeadsOf};
 ghost use Rattle.kp_unify.specs.Literals.{IsLiteral};
 
-use crate::forms::{Ask, LeftPart, Members, ask_of};
+use crate::left_parts::{Ask, LeftPart, Members, ask_of};
 use kp_ground::Value;
 use kp_symbolic::Term;
 

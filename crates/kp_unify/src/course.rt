@@ -3,17 +3,17 @@ ghost use Rattle.std.specs.Prelude.{◌≡◌, ◌∷◌, ◌++◌, [], IfOk, On
 ghost use Rattle.kp_rules.specs.Skeletons.{skeleton_view};
 ghost use Rattle.kp_symbolic.specs.Languages.{language_view};
 ghost use Rattle.kp_symbolic.specs.View.{term_view, replaced_view};
-ghost use Rattle.kp_cases.specs.Courses as model;
+ghost use Rattle.kp_case_laws.specs.Courses as model;
 ghost use Rattle.kp_unify.specs.Forms.{form_view, members_view};
 ghost use Rattle.kp_unify.specs.Replaced.{binding_put, equality_put, pair_put, pairs_of};
 ghost use Rattle.kp_unify.specs.Views.{part_view, pair_view, equality_view, course_view};
 
-use crate::forms::{LeftPart, Members};
+use crate::left_parts::{LeftPart, Members};
 use crate::part::Part;
-use crate::put::replacement;
+use crate::refined::replacement;
 use kp_compile::CompileError;
 use kp_kore::Sort;
-use kp_readings::equation::Equation;
+use kp_literals::equation::Equation;
 use kp_rules::skeleton::Skeleton;
 use kp_symbolic::{Language, Replaced, Term};
 use std::alloc::{AllocError, Global};
@@ -198,7 +198,7 @@ fn replaced_pairs<'a>(
 impl<'a> Course<'a> {
     ghost use Rattle.std.specs.Prelude.{◌≡◌, OnOk};
     ghost use Rattle.kp_symbolic.specs.Languages.{language_view};
-    ghost use Rattle.kp_readings.specs.Equations.{equation_view};
+    ghost use Rattle.kp_literals.specs.Equations.{equation_view};
     ghost use Rattle.kp_unify.specs.Promises.{IsReplacedBy};
 
     /// A term in the variable's place in all that was found and is to come.

@@ -3,21 +3,21 @@
 // name in specs/Promises.
 #![tactic(auto)]
 
-pub mod asked;
 pub mod clash;
 pub mod course;
-pub mod forms;
-pub mod heads;
+pub mod head_clauses;
+pub mod head_sorts;
+pub mod left_parts;
 pub mod literals;
 pub mod meeting;
-pub mod names;
 pub mod narrow;
+pub mod new_names;
 pub mod pairs;
 pub mod part;
-pub mod place;
-pub mod put;
+pub mod refined;
 pub mod repeats;
-pub mod sorts;
+pub mod shared_sorts;
+pub mod term_sorts;
 
 pub use meeting::{cases, meet};
 pub use part::{Meeting, MetPart, Part, Setting};

@@ -3,14 +3,14 @@ ghost use Rattle.std.specs.Prelude.{◌≡◌, IfOk, map};
 ghost use Rattle.kp_signature.specs.View.{signature_view};
 ghost use Rattle.kp_rules.specs.Skeletons.{skeleton_view};
 ghost use Rattle.kp_symbolic.specs.View.{clauses_view, state_view};
-ghost use Rattle.kp_cases.specs.Parts as parts;
-ghost use Rattle.kp_cases.specs.Courses.{all_equality_clauses};
+ghost use Rattle.kp_case_laws.specs.Parts as parts;
+ghost use Rattle.kp_case_laws.specs.Courses.{all_equality_clauses};
 ghost use Rattle.kp_unify.specs.Views.{signature_of, numbered_view, met_view, equality_view, stage_view, HasItsTable};
 ghost use Rattle.kp_unify.specs.Promises.{RunsToItsEnd, IsPlacedIf, ArePlacedIf, met_at_end, MeetsAtEnd, MeetsPart};
 
 use crate::course::{Course, Equality, begin};
-use crate::forms::LeftPart;
-use crate::heads::has_sort;
+use crate::head_sorts::has_sort;
+use crate::left_parts::LeftPart;
 use crate::literals::{are_never, equal_clauses};
 use crate::part::{Meeting, MetPart, Part, Setting, whole};
 use crate::repeats::differs;

@@ -8,25 +8,25 @@ ghost use Rattle.kp_symbolic.specs.States.{one_head, head_of_sort};
 ghost use Rattle.kp_symbolic.specs.Terms.{unknown, known};
 ghost use Rattle.kp_symbolic.specs.Languages.{language_view};
 ghost use Rattle.kp_symbolic.specs.View.{variable_view, term_view, clauses_view};
-ghost use Rattle.kp_readings.specs.Equations.{equation_view};
-ghost use Rattle.kp_cases.specs.Parts.{with_clauses};
-ghost use Rattle.kp_cases.specs.Narrowings as model;
+ghost use Rattle.kp_literals.specs.Equations.{equation_view};
+ghost use Rattle.kp_case_laws.specs.Parts.{with_clauses};
+ghost use Rattle.kp_case_laws.specs.Narrowings as model;
 ghost use Rattle.kp_unify.specs.Narrowed.{equation_of, another};
 ghost use Rattle.kp_unify.specs.Views.{part_view};
 ghost use Rattle.kp_unify.specs.Promises.{IsPartWith, TellsOtherHead, BuildsOfNew};
 
-use crate::asked::{inside, outside};
 use crate::course::Course;
+use crate::head_clauses::{inside, outside};
 use crate::literals::{
     are_never, constructor_test, head_clauses, make_unknown, sort_test, variable_is,
 };
-use crate::names::{New, alone, new_variable, new_variables};
+use crate::new_names::{New, alone, new_variable, new_variables};
 use crate::part::{Part, Setting};
-use crate::put::{behind, kept_with, put_term};
+use crate::refined::{behind, kept_with, put_term};
 use kp_compile::CompileError;
+use kp_formulas::equality_sides::places_of;
 use kp_kore::Sort;
-use kp_opening::sides::places_of;
-use kp_readings::equation::Equation;
+use kp_literals::equation::Equation;
 use kp_signature::Signature;
 use kp_symbolic::state::share_variables;
 use kp_symbolic::{Clause, Language, State, Term, Variable, apply};

@@ -14,8 +14,8 @@ ghost use Rattle.kp_unify.specs.Views.{equality_view, signature_of, HasItsTable}
 ghost use Rattle.kp_unify.specs.Promises.{built_of, HasOtherHead, HasValueBuiltBy};
 
 use crate::course::{Course, Equality, Pair, add_members};
-use crate::forms::{Ask, Members, ask_of};
-use crate::heads::{is_constructor, is_own_literal, makes};
+use crate::head_sorts::{is_constructor, is_own_literal, makes};
+use crate::left_parts::{Ask, Members, ask_of};
 use crate::part::Setting;
 use kp_compile::{CompileError, own_sort};
 use kp_ground::Value;

@@ -1,7 +1,7 @@
 // Parts of a state, and what a left side makes of one.
 ghost use Rattle.std.specs.Prelude.{◌≡◌, IfOk};
 ghost use Rattle.kp_symbolic.specs.View.{state_view};
-ghost use Rattle.kp_cases.specs.Parts as model;
+ghost use Rattle.kp_case_laws.specs.Parts as model;
 ghost use Rattle.kp_unify.specs.Views.{part_view};
 
 use kp_heads::HeadTable;

@@ -8,12 +8,12 @@ ghost use Rattle.kp_ground.specs.View.{value_view};
 ghost use Rattle.kp_rules.specs.Skeletons as model;
 ghost use Rattle.kp_rules.specs.Skeletons.{one_of, forms_of};
 ghost use Rattle.kp_symbolic.specs.View.{term_view, terms_of};
-ghost use Rattle.kp_cases.specs.Rows.{HasMembers};
+ghost use Rattle.kp_case_laws.specs.Rows.{HasMembers};
 ghost use Rattle.kp_unify.specs.Clash.{IsNeverOf, HoldsOfOne, StandsOnOther, StandsOnTwo, Differs};
 ghost use Rattle.kp_unify.specs.Forms.{form_view, members_view};
 
 use crate::clash::clashes;
-use crate::forms::{Ask, LeftPart, Members, ask_of};
+use crate::left_parts::{Ask, LeftPart, Members, ask_of};
 use kp_ground::Value;
 use kp_symbolic::Term;
 

@@ -1,5 +1,5 @@
 use Rattle.std.proofs.Common.{ap, sym}
-use Rattle.kp_extensions.specs.Extending.{declaration, extend_fault, rule_fault}
+use Rattle.kp_modules.specs.Extending.{declaration, extend_fault, rule_fault}
 use Rattle.kp_replies.specs.Failures.{bad_axiom, bad_module, bad_sentence}
 use Rattle.kp_additions.proofs.Telling.{inside}
 use Rattle.kp_additions.proofs.adding.extension_fault.Goals as goal

@@ -5,7 +5,7 @@ use Rattle.kp_text.specs.Spelling.{IsFaultOf, IsModuleText, SpellsModule}
 use Rattle.kp_signature.specs.View.{signature_view}
 use Rattle.kp_kore.specs.Theory.{imports_in}
 use Rattle.kp_book.specs.Books.{Opening, Registration}
-use Rattle.kp_extensions.specs.Extending.{AreSetsOf}
+use Rattle.kp_modules.specs.Extending.{AreSetsOf}
 use Rattle.kp_modules.specs.Tables.{rule_set_of}
 use Rattle.kp_registry.specs.Legal.{id_of}
 use Rattle.kp_registry.proofs.Ascii.{id_is_text}

@@ -4,7 +4,7 @@ use Rattle.kp_compile.specs.Parts.{seen}
 use Rattle.kp_kore.specs.View.{view}
 use Rattle.kp_symbolic.specs.Faultless.{IsFaultless}
 use Rattle.kp_symbolic.specs.Languages.{language_view}
-use Rattle.kp_leaves.proofs.FaultlessLemmas.{handed}
+use Rattle.kp_formulas.proofs.FaultlessLemmas.{handed}
 use Rattle.kp_clauses.proofs.FaultlessLemmas.{of_conjuncts}
 use Rattle.kp_clauses.proofs.conjunct.clauses_of.Goals as goal
 

@@ -15,9 +15,9 @@ returns-in-Result-clause-answered c = λ t o p runs same is.
       written = subst (IsEnded t r) c.in-Result.is (c.in_ok-executed.ensures.written t runs same);
     })
 
-pub returns-in-Open-clause-answered : goal.returns-in-Open-clause-answered
-returns-in-Open-clause-answered c = λ t o p runs same is.
-    c.open_end.ensures.answered t o p runs same is (subst (IsEnded t c.args.run.now) c.in-Open.is (c.in_ok-executed.ensures.written t runs same)).0
+pub returns-in-Undecided-clause-answered : goal.returns-in-Undecided-clause-answered
+returns-in-Undecided-clause-answered c = λ t o p runs same is.
+    c.undecided_end.ensures.answered t o p runs same is (subst (IsEnded t c.args.run.now) c.in-Undecided.is (c.in_ok-executed.ensures.written t runs same)).0
 
 pub returns-in_err-executed-clause-wants : goal.returns-in_err-executed-clause-wants
 returns-in_err-executed-clause-wants c =
@@ -27,5 +27,5 @@ returns-in_err-executed-clause-wants c =
 pub returns-in-Result-clause-wants : goal.returns-in-Result-clause-wants
 returns-in-Result-clause-wants c = IfErr-weaker c.ended.result _ _ (λ e no is. absurd (no is)) c.ended.ensures.refused
 
-pub returns-in-Open-clause-wants : goal.returns-in-Open-clause-wants
-returns-in-Open-clause-wants c = IfErr-weaker c.open_end.result _ _ (λ e w is. in_end (w is)) c.open_end.ensures.wants
+pub returns-in-Undecided-clause-wants : goal.returns-in-Undecided-clause-wants
+returns-in-Undecided-clause-wants c = IfErr-weaker c.undecided_end.result _ _ (λ e w is. in_end (w is)) c.undecided_end.ensures.wants

@@ -1,6 +1,6 @@
 use Rattle.std.proofs.Common.{subst, sym}
 use Rattle.kp_symbolic.specs.View.{state_view}
-use Rattle.kp_step.specs.Outcomes.{IsRightStep}
+use Rattle.kp_step.specs.RightSteps.{IsRightStep}
 use Rattle.std.specs.Prelude.{IfErr}
 use Rattle.kp_outward.specs.Errors.{IsNoInjection}
 use Rattle.kp_symbolic.specs.Languages.{language_view}

@@ -9,5 +9,5 @@ returns-in-Nothing c g s right = subst (IsRightAnswerOf g s s) c.in-Nothing.is r
 pub returns-in-Instance : goal.returns-in-Instance
 returns-in-Instance c g s right = inl (subst (IsRightAnswerOf g s s) c.in-Instance.is right)
 
-pub returns-in-Open : goal.returns-in-Open
-returns-in-Open c g s right = inr (open_undecided g s c.args.answer.now _ c.in-Open.is right)
+pub returns-in-UndecidedClauses : goal.returns-in-UndecidedClauses
+returns-in-UndecidedClauses c g s right = inr (open_undecided g s c.args.answer.now _ c.in-UndecidedClauses.is right)

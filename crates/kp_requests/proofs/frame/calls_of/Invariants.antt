@@ -1,6 +1,6 @@
 use Rattle.std.proofs.Common.{◌≡◌, ◌++◌, drop}
 use Rattle.serde_json.specs.View.{items_view}
-use Rattle.kp_requests.specs.Read.{read_calls}
+use Rattle.kp_requests.specs.Calls.{read_calls}
 use Rattle.kp_requests.specs.View.{calls_view}
 use Rattle.kp_requests.proofs.frame.calls_of.Given as goal
 

@@ -4,7 +4,7 @@ use Rattle.indexmap.specs.IndexSet.{contains_text}
 use Rattle.kp_kore.specs.Parts.{free_variables}
 use Rattle.kp_kore.specs.View.{view, sorted_variable_view}
 use Rattle.kp_kore.specs.Rules.{top_binders, new_variables_of}
-use Rattle.kp_rule_reading.specs.Reading.{Names}
+use Rattle.kp_rule_reading.specs.ReadRules.{Names}
 use Rattle.kp_rule_reading.proofs.NewVariables.{new_named, seen_also}
 use Rattle.kp_rule_reading.proofs.choice.new_beside.Goals as goal
 

@@ -1,6 +1,6 @@
 use Rattle.std.proofs.Common.{◌↔◌, ℕ, List, sym, subst, Contains}
 use Rattle.std.proofs.lemmas.Result.{IfOk-weaker}
-use Rattle.kp_sort_index.specs.Index.{OwnsHeads}
+use Rattle.kp_rules.specs.Index.{OwnsHeads}
 use Rattle.kp_rule_reading.proofs.LoneVariables.{all_split, all_settle}
 use Rattle.kp_rule_reading.proofs.lone.is_settled.Goals as goal
 

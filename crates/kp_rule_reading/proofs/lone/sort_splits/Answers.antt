@@ -5,7 +5,7 @@ use Rattle.kp_signature.specs.Numbering.{TellsNumber}
 use Rattle.kp_signature.specs.Order.{sorts_of}
 use Rattle.kp_signature.specs.View.{signature_view}
 use Rattle.kp_signature.proofs.OrderLemmas.{opposite}
-use Rattle.kp_sort_index.proofs.IndexLemmas.{matched}
+use Rattle.kp_rules.proofs.IndexLemmas.{matched}
 use Rattle.kp_rule_reading.proofs.LoneVariables.{unnamed_splits, sort_splits, number_splits, alone_splits}
 use Rattle.kp_rule_reading.proofs.lone.sort_splits.Goals as goal
 

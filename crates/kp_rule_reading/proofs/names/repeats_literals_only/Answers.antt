@@ -5,7 +5,7 @@ use Rattle.indexmap.specs.IndexSet.{contains_text}
 use Rattle.kp_kore.specs.Syntax.{Text}
 use Rattle.kp_kore.specs.Foreign.{repeats_literals_only}
 use Rattle.kp_signature.specs.View.{signature_view}
-use Rattle.kp_rule_reading.specs.Reading.{Names}
+use Rattle.kp_rule_reading.specs.ReadRules.{Names}
 use Rattle.kp_rule_reading.proofs.NameSets.{names_from, named_more, repeats_more, repeats_not}
 use Rattle.kp_rule_reading.proofs.names.repeats_literals_only.Goals as goal
 

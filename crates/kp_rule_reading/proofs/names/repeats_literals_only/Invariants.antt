@@ -1,7 +1,7 @@
 use Rattle.std.proofs.Common.{◌≡◌, ◌-◌, length, true}
 use Rattle.kp_kore.specs.Foreign.{repeats_literals_only}
 use Rattle.kp_signature.specs.View.{signature_view}
-use Rattle.kp_rule_reading.specs.Reading.{Names}
+use Rattle.kp_rule_reading.specs.ReadRules.{Names}
 use Rattle.kp_rule_reading.proofs.NameSets.{names_from}
 use Rattle.kp_rule_reading.proofs.names.repeats_literals_only.Given as goal
 

@@ -1,6 +1,6 @@
 use Rattle.std.proofs.Common.{◌≡◌, drop}
 use Rattle.std.specs.List.{list_all}
-use Rattle.kp_rule_reading.specs.Reading.{is_condition_part}
+use Rattle.kp_rule_reading.specs.ReadRules.{is_condition_part}
 use Rattle.kp_rules.specs.Shapes.{seen}
 use Rattle.kp_rule_reading.proofs.parts_read.are_condition_parts.Given as goal
 

@@ -1,6 +1,6 @@
 use Rattle.std.proofs.Common.{◌≡◌, drop}
 use Rattle.std.specs.List.{list_all}
-use Rattle.kp_rule_reading.specs.Reading.{is_top_pattern}
+use Rattle.kp_rule_reading.specs.ReadRules.{is_top_pattern}
 use Rattle.kp_rules.specs.Shapes.{seen}
 use Rattle.kp_rule_reading.proofs.read.are_tops.Given as goal
 

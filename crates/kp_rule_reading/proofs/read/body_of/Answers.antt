@@ -10,7 +10,7 @@ use Rattle.kp_signature.specs.View.{signature_view}
 use Rattle.kp_rules.specs.Bodies.{IsFaulty}
 use Rattle.kp_kore.specs.Parts.{free_variables}
 use Rattle.kp_kore.specs.Instance.{is_named}
-use Rattle.kp_rule_reading.specs.Reading.{IsStatementRead, is_left_read}
+use Rattle.kp_rule_reading.specs.ReadRules.{IsStatementRead, is_left_read}
 use Rattle.kp_rule_reading.proofs.KnownSides.{known_right}
 use Rattle.kp_rule_reading.proofs.Named.{conditions_named, right_passes}
 use Rattle.kp_rules.specs.Shapes.{rewrite_seen}

@@ -3,7 +3,7 @@ use Rattle.std.proofs.lemmas.Result.{IfOk-weaker}
 use Rattle.indexmap.specs.IndexSet.{contains_text}
 use Rattle.kp_kore.specs.Parts.{free_variables}
 use Rattle.kp_kore.specs.View.{view, sorted_variable_view}
-use Rattle.kp_rule_reading.specs.Reading.{Names, is_plain_by}
+use Rattle.kp_rule_reading.specs.ReadRules.{Names, is_plain_by}
 use Rattle.kp_rules.specs.Shapes.{seen}
 use Rattle.kp_rule_reading.proofs.ReadShapes.{plain_same}
 use Rattle.kp_rule_reading.proofs.read.chooses_beside.Goals as goal

@@ -1,7 +1,7 @@
 use Rattle.std.proofs.Common.{◌≡◌, drop}
 use Rattle.std.specs.List.{list_all}
 use Rattle.indexmap.specs.IndexSet.{contains_text}
-use Rattle.kp_rule_reading.specs.Reading.{is_predicate_read}
+use Rattle.kp_rule_reading.specs.ReadRules.{is_predicate_read}
 use Rattle.kp_rules.specs.Shapes.{seen}
 use Rattle.kp_rule_reading.proofs.read.is_read_condition.Given as goal
 

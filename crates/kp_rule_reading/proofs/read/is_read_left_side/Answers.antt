@@ -1,7 +1,7 @@
 use Rattle.std.proofs.Common.{rules, ◌≡◌, true, false}
 use Rattle.kp_kore.specs.View.{view}
 use Rattle.kp_signature.specs.View.{signature_view}
-use Rattle.kp_rule_reading.specs.Reading.{is_side_read}
+use Rattle.kp_rule_reading.specs.ReadRules.{is_side_read}
 use Rattle.kp_rules.specs.Shapes.{seen}
 use Rattle.kp_rule_reading.proofs.ReadShapes.{side_refused, side_by_lone}
 use Rattle.kp_rule_reading.proofs.read.is_read_left_side.Goals as goal

@@ -4,7 +4,7 @@ use Rattle.std.proofs.lemmas.Result.{IfOk-weaker}
 use Rattle.indexmap.specs.IndexSet.{contains_text}
 use Rattle.kp_kore.specs.View.{view, sorted_variable_view}
 use Rattle.kp_signature.specs.View.{signature_view}
-use Rattle.kp_rule_reading.specs.Reading.{Names, is_left_read, is_predicate_read}
+use Rattle.kp_rule_reading.specs.ReadRules.{Names, is_left_read, is_predicate_read}
 use Rattle.kp_rules.specs.Shapes.{seen}
 use Rattle.kp_rule_reading.proofs.ReadShapes.{side_read_from}
 use Rattle.kp_rule_reading.proofs.read.is_read_side.Goals as goal

@@ -3,7 +3,7 @@ use Rattle.std.proofs.lemmas.Bool.{MatchBool-at_true, MatchBool-at_false}
 use Rattle.kp_kore.specs.Syntax.{rewriting}
 use Rattle.kp_kore.specs.View.{view}
 use Rattle.kp_signature.specs.View.{signature_view}
-use Rattle.kp_rule_reading.specs.Reading.{IsLeftSideRead}
+use Rattle.kp_rule_reading.specs.ReadRules.{IsLeftSideRead}
 use Rattle.kp_rules.specs.Shapes.{seen}
 use Rattle.kp_rule_reading.proofs.ReadShapes.{shape_refused, shape_read, no_shape}
 use Rattle.kp_rule_reading.proofs.read.read_shape.Goals as goal

@@ -3,7 +3,7 @@ use Rattle.std.specs.List.{list_all}
 use Rattle.kp_kore.specs.Parts.{free_variables}
 use Rattle.kp_kore.specs.View.{view}
 use Rattle.kp_kore.specs.Instance.{is_named}
-use Rattle.kp_rule_reading.specs.Reading.{is_plain_over, is_binder, is_top_pattern}
+use Rattle.kp_rule_reading.specs.ReadRules.{is_plain_over, is_binder, is_top_pattern}
 use Rattle.kp_rule_reading.proofs.Named.{plain_parts}
 use Rattle.kp_rules.specs.Shapes.{seen}
 use Rattle.kp_rule_reading.proofs.read.rewrite_from.Goals as goal

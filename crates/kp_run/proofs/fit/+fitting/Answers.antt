@@ -3,7 +3,7 @@ use Rattle.kp_kore.specs.Value.{constructed}
 use Rattle.kp_ground.specs.Terms.{left_value, left_built}
 use Rattle.kp_ground.specs.LeftView.{left_view, lefts_of}
 use Rattle.kp_ground.specs.View.{value_view, values_of}
-use Rattle.kp_ground.specs.declared.left.CompiledLeft.{the_lemmas}
+use Rattle.kp_ground.specs.declared.left_side.CompiledLeft.{the_lemmas}
 use Rattle.kp_ground.specs.declared.value.Value.{the_lemmas as value_lemmas}
 use Rattle.kp_ground.proofs.MatchLemmas.{front_of_same, same_arguments, same_front_more}
 use Rattle.kp_run.proofs.fit.+fitting.Goals as goal

@@ -1,7 +1,7 @@
 use Rattle.kp_signature.specs.View.{signature_view}
 use Rattle.kp_kore.specs.Theory.{Theory}
 use Rattle.kp_ground.specs.View.{value_view}
-use Rattle.kp_depths.specs.View.{AreDepthsOf}
+use Rattle.kp_run.specs.View.{AreDepthsOf}
 use Rattle.kp_rule_sets.specs.RuleSets.{RunsAs}
 use Rattle.kp_run.specs.Causes.{IsStateIn, StopsUntold}
 use Rattle.kp_run.specs.Runs.{IsAt, GoesOnlyIn, written_of}

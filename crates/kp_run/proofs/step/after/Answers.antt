@@ -12,7 +12,7 @@ use Rattle.kp_kore.specs.Parts.{term_depth}
 use Rattle.kp_kore.specs.View.{sort_view}
 use Rattle.kp_signature.specs.View.{signature_view}
 use Rattle.kp_compile.specs.Spelled.{spelling}
-use Rattle.kp_depths.specs.View.{AreDepthsOf}
+use Rattle.kp_run.specs.View.{AreDepthsOf}
 use Rattle.kp_run.specs.Turns.{deep}
 use Rattle.kp_compile.specs.declared.state.GroundState.{GroundState}
 use Rattle.kp_run.proofs.Turning.{is_beyond}

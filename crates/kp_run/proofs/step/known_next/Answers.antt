@@ -3,7 +3,7 @@ use Rattle.std.proofs.lemmas.Result.{err_from_is_err_and}
 use Rattle.kp_kore.specs.View.{sort_view}
 use Rattle.kp_signature.specs.View.{signature_view}
 use Rattle.kp_ground.specs.View.{value_view}
-use Rattle.kp_depths.specs.View.{AreDepthsOf}
+use Rattle.kp_run.specs.View.{AreDepthsOf}
 use Rattle.kp_run.specs.Causes.{IsWrittenAt}
 use Rattle.kp_run.specs.Runs.{IsNext, IsWrittenNext, written_of}
 use Rattle.kp_run.specs.Shallow.{HasDepths}

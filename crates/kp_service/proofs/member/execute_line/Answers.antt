@@ -3,7 +3,7 @@ use Rattle.std.specs.Option.{option_map}
 use Rattle.kp_rule_sets.specs.RuleSets.{RunsAs}
 use Rattle.kp_rpc.specs.View.{id_view, options_view}
 use Rattle.kp_requests.specs.View.{reading_view}
-use Rattle.kp_execute_reply.specs.Answered.{IsExecutedAs}
+use Rattle.kp_methods.specs.Executed.{IsExecutedAs}
 use Rattle.kp_service.proofs.Serving.{served_line, unserved_line, was_asked}
 use Rattle.kp_service.proofs.member.execute_line.Goals as goal
 

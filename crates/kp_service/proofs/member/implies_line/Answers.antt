@@ -3,7 +3,7 @@ use Rattle.std.specs.Option.{option_map}
 use Rattle.kp_signature.specs.View.{signature_view}
 use Rattle.kp_rpc.specs.View.{id_view, name_view}
 use Rattle.kp_requests.specs.View.{reading_view}
-use Rattle.kp_service.specs.Answered.{IsImpliedAs}
+use Rattle.kp_methods.specs.Implied.{IsImpliedAs}
 use Rattle.kp_service.proofs.Serving.{served_line, unserved_line, was_asked}
 use Rattle.kp_service.proofs.member.implies_line.Goals as goal
 

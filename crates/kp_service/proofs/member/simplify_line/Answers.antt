@@ -2,7 +2,7 @@ use Rattle.std.proofs.Common.{ap, ◌∙◌}
 use Rattle.std.specs.Option.{option_map}
 use Rattle.kp_rpc.specs.View.{id_view, name_view}
 use Rattle.kp_requests.specs.View.{reading_view}
-use Rattle.kp_simplify_reply.specs.Answered.{IsSimplifiedAs}
+use Rattle.kp_methods.specs.Simplified.{IsSimplifiedAs}
 use Rattle.kp_service.proofs.Serving.{line_over, served_line, unserved_line, was_asked}
 use Rattle.kp_service.proofs.member.simplify_line.Goals as goal
 

@@ -2,7 +2,7 @@ use Rattle.std.proofs.Common.{rules, ◌≡◌, false}
 use Rattle.kp_kore.specs.Instance.{is_named}
 use Rattle.kp_symbolic.specs.States.{clause_variables}
 use Rattle.kp_symbolic.specs.View.{clause_view}
-use Rattle.kp_readings.specs.Equations.{equation_view}
+use Rattle.kp_literals.specs.Equations.{equation_view}
 use Rattle.kp_outward.proofs.RoomLemmas.{on_ok}
 use Rattle.kp_solving.proofs.clause.solve_clause.Goals as goal
 

@@ -4,10 +4,10 @@ use Rattle.kp_kore.specs.View.{sort_view}
 use Rattle.kp_symbolic.specs.Clauses.{is_too_large}
 use Rattle.kp_symbolic.specs.Languages.{language_view}
 use Rattle.kp_symbolic.specs.View.{clause_view, clauses_view, replaced_view}
-use Rattle.kp_distribution.specs.Distribution.{distribution_of}
-use Rattle.kp_distribution.specs.View.{distributed_view}
-use Rattle.kp_readings.specs.Equations.{equation_view}
-use Rattle.kp_replacing.specs.Replacing.{clause_under}
+use Rattle.kp_formulas.specs.Distribution.{distribution_of}
+use Rattle.kp_formulas.specs.DistributionView.{distributed_view}
+use Rattle.kp_literals.specs.Equations.{equation_view}
+use Rattle.kp_clause_substitution.specs.Replacing.{clause_under}
 use Rattle.kp_solving.proofs.ClauseLemmas.{holding_opened, holding_quoted, never_too_large}
 use Rattle.kp_outward.proofs.RoomLemmas.{on_ok}
 use Rattle.kp_solving.proofs.clause.solve_holding.Goals as goal

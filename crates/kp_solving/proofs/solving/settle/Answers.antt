@@ -3,7 +3,7 @@ use Rattle.std.specs.Option.{option_map}
 use Rattle.std.proofs.lemmas.Result.{err_from_is_err_and}
 use Rattle.kp_symbolic.specs.Languages.{language_view}
 use Rattle.kp_symbolic.specs.View.{state_view}
-use Rattle.kp_kept.specs.Kept.{CanBeWritten}
+use Rattle.kp_symbolic_laws.specs.Kept.{CanBeWritten}
 use Rattle.kp_symbolic_laws.specs.Runs.{begins}
 use Rattle.kp_solving.proofs.RoomLemmas.{kept_back, kept_at_last}
 use Rattle.kp_solving.proofs.SettleLemmas.{first_solved, ends_like_itself, goes_further, is_settled}

@@ -1,7 +1,7 @@
 use Rattle.kp_symbolic.specs.Languages.{language_view}
 use Rattle.kp_symbolic.specs.View.{state_view}
 use Rattle.kp_symbolic_laws.specs.Runs.{ComesBy, OfEachKept}
-use Rattle.kp_kept.specs.Kept.{CanBeWritten}
+use Rattle.kp_symbolic_laws.specs.Kept.{CanBeWritten}
 use Rattle.kp_solving.proofs.SettleLemmas.{EndsLike}
 use Rattle.kp_solving.proofs.solving.settle.Given as goal
 

@@ -3,7 +3,7 @@ use Rattle.std.specs.Option.{option_map}
 use Rattle.kp_symbolic.specs.Languages.{language_view}
 use Rattle.kp_symbolic.specs.View.{state_view}
 use Rattle.kp_symbolic.specs.Solving.{first_solvable}
-use Rattle.kp_kept.specs.Kept.{CanBeWritten}
+use Rattle.kp_symbolic_laws.specs.Kept.{CanBeWritten}
 use Rattle.kp_solving.specs.Solvables.{solvable_view}
 use Rattle.kp_solving.proofs.RoomLemmas.{kept_at_first, none_at_first}
 use Rattle.kp_solving.proofs.solving.solve_first.Goals as goal

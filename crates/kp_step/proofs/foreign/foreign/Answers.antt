@@ -1,10 +1,10 @@
 use Rattle.std.proofs.Common.{arith, sym, subst, refl, ℕ, ◌+◌, ◌≤◌, length, get_or}
 use Rattle.std.proofs.lemmas.List.{get_or_default}
 use Rattle.kp_step.specs.Answers.{TellsForeign}
-use Rattle.kp_step.specs.declared.answers.PartAnswer.TheVariants as answer
+use Rattle.kp_step.specs.declared.part_answers.PartAnswer.TheVariants as answer
 use Rattle.kp_step.proofs.FirstLemmas.{Asking, asks_none, asks_open, asks_met}
 use Rattle.kp_step.proofs.HeardLemmas.{asks_known}
-use Rattle.kp_step.proofs.foreign.foreign.Goals.{in-Nothing, in-Open+in_ok-push-in-Open}
+use Rattle.kp_step.proofs.foreign.foreign.Goals.{in-Nothing, in-UndecidedClauses+in_ok-push-in-UndecidedClauses}
 use Rattle.kp_step.proofs.foreign.foreign.Goals as goal
 
 pub returns-in-Instance : goal.returns-in-Instance
@@ -25,10 +25,10 @@ loop-place-preserved c t used s k =
       | in-Nothing w ↦
           subst (λ o. Asking t s places (i + 1) o.items) (sym w.opened-is)
           (asks_none t s places i place c.loop-place.opened.items c.loop-place-test.true there (subst (TellsForeign t s place) w.in-Nothing.is (c.in_ok-answer_at.ensures t used s k)) (c.loop-place.invariant t used s k))
-      | in-Open+in_ok-push-in-Open w ↦
+      | in-UndecidedClauses+in_ok-push-in-UndecidedClauses w ↦
           subst (λ o. Asking t s places (i + 1) o.items) (sym w.opened-is)
-          (asks_open t s places i place c.loop-place.opened.items w.push.new.self.items (record { told = w.in-Open.told; place = place }) w.in-Open.told c.loop-place-test.true there w.in_ok-push-in-Open.ensures.items refl refl
-          (subst (TellsForeign t s place) w.in-Open.is (c.in_ok-answer_at.ensures t used s k)) (c.loop-place.invariant t used s k))
+          (asks_open t s places i place c.loop-place.opened.items w.push.new.self.items (record { told = w.in-UndecidedClauses.told; place = place }) w.in-UndecidedClauses.told c.loop-place-test.true there w.in_ok-push-in-UndecidedClauses.ensures.items refl refl
+          (subst (TellsForeign t s place) w.in-UndecidedClauses.is (c.in_ok-answer_at.ensures t used s k)) (c.loop-place.invariant t used s k))
     ]
 
 pub returns : goal.returns
@@ -36,4 +36,4 @@ returns c t used s k =
     let places = c.in_turn-place-items.result.now in
     let past : length places ≤ c.loop-place.place-index = omega (arith, c.loop-place-test.false) in
     let all = c.loop-place.invariant t used s k in
-    asks_known t used s c.args.rules.now places c.loop-place.place-index c.loop-place.opened.items c.open_rule.result k.steps.runs c.in_turn-place-items.ensures past all (c.open_rule.ensures t used s all.1)
+    asks_known t used s c.args.rules.now places c.loop-place.place-index c.loop-place.opened.items c.undecided_rule.result k.steps.runs c.in_turn-place-items.ensures past all (c.undecided_rule.ensures t used s all.1)

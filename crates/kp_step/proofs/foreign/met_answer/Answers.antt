@@ -1,7 +1,7 @@
 use Rattle.std.proofs.Common.{◌≡◌, ◌∙◌, ap, subst}
 use Rattle.kp_symbolic.specs.View.{clauses_view}
 use Rattle.kp_rules.specs.Skeletons.{skeleton_view}
-use Rattle.kp_cases.specs.Parts.{with_clauses}
+use Rattle.kp_case_laws.specs.Parts.{with_clauses}
 use Rattle.kp_unify.specs.Views.{signature_of, part_view, numbered_view, met_view}
 use Rattle.kp_step.specs.Answers.{IsMetAnswer}
 use Rattle.kp_step.proofs.HeardLemmas.{answered_met, foreign_open}
@@ -32,4 +32,4 @@ returns c used s apart w met =
     let g = signature_of c.args.setting in
     let left = skeleton_view c.args.skeleton.now in
     let all = answered_met g used s left (numbered_view c.args.whole.now) m c.args.met.now.part.next apart (part_view c.in_ok-part.part) c.in_ok-answer_where_met.field-0 w met same c.in_ok-answer_where_met.ensures in
-    foreign_open g used s left (numbered_view c.args.whole.now) (part_view c.in_ok-part.part) (with_clauses m.part m.equations) c.in-Open.told c.in_ok-told-in-Open.told c.in_ok-most-in-Open.most w same (subst (IsMetAnswer g s (with_clauses m.part m.equations).state left) c.in-Open.is all) c.in_ok-most-in-Open.ensures c.in_ok-told-in-Open.ensures.same c.in_ok-told-in-Open.ensures.counted
+    foreign_open g used s left (numbered_view c.args.whole.now) (part_view c.in_ok-part.part) (with_clauses m.part m.equations) c.in-UndecidedClauses.told c.in_ok-told-in-UndecidedClauses.told c.in_ok-most-in-UndecidedClauses.most w same (subst (IsMetAnswer g s (with_clauses m.part m.equations).state left) c.in-UndecidedClauses.is all) c.in_ok-most-in-UndecidedClauses.ensures c.in_ok-told-in-UndecidedClauses.ensures.same c.in_ok-told-in-UndecidedClauses.ensures.counted

@@ -1,5 +1,5 @@
 use Rattle.std.proofs.Common.{sym, subst, map}
-use Rattle.kp_cases.specs.Parts.{whole}
+use Rattle.kp_case_laws.specs.Parts.{whole}
 use Rattle.kp_step.specs.Answers.{TellsTurns}
 use Rattle.kp_step.specs.Found.{AreAllFound}
 use Rattle.kp_step.specs.Views.{turn_view}

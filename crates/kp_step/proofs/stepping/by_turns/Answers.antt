@@ -1,6 +1,6 @@
 use Rattle.std.proofs.Common.{subst, map}
-use Rattle.kp_cases.specs.Parts.{whole}
-use Rattle.kp_turns.specs.Turns.{rules_of}
+use Rattle.kp_case_laws.specs.Parts.{whole}
+use Rattle.kp_case_laws.specs.Turns.{rules_of}
 use Rattle.kp_step.specs.Answers.{TellsRemainder}
 use Rattle.kp_step.specs.Views.{turn_view}
 use Rattle.kp_step.proofs.FoundLemmas.{turns_of}
@@ -17,10 +17,10 @@ returns-in-Parts c t used s from some known f =
     let meet = turns_meet t used s ks ks f.each in
     c.cases.ensures t used s found from.steps from.setting some known f z (subst (TellsRemainder t used s found) c.in-Parts.is (c.in_ok-parts.ensures t used s found from z meet some))
 
-pub returns-in-Open : goal.returns-in-Open
-returns-in-Open c t used s from some known f =
+pub returns-in-UndecidedClauses : goal.returns-in-UndecidedClauses
+returns-in-UndecidedClauses c t used s from some known f =
     let ks = map turn_view c.args.turns.now in
     let found = rules_of (turns_of t used (whole s) ks ks f.each) in
     let z = found_rules t used (whole s) ks ks f.each in
     let meet = turns_meet t used s ks ks f.each in
-    told_remainder_open t used s found c.in-Open.told (subst (TellsRemainder t used s found) c.in-Open.is (c.in_ok-parts.ensures t used s found from z meet some))
+    told_remainder_open t used s found c.in-UndecidedClauses.told (subst (TellsRemainder t used s found) c.in-UndecidedClauses.is (c.in_ok-parts.ensures t used s found from z meet some))

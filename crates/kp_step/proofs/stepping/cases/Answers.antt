@@ -1,6 +1,6 @@
 use Rattle.std.proofs.Common.{map, Some, None}
 use Rattle.kp_symbolic.proofs.Distribution.{all_first}
-use Rattle.kp_cases.specs.Parts.{whole}
+use Rattle.kp_case_laws.specs.Parts.{whole}
 use Rattle.kp_unify.specs.Views.{signature_of}
 use Rattle.kp_step.specs.Limits.{PassesNone}
 use Rattle.kp_step.specs.Views.{numbered_views, turn_view, next_told, part_told, limit_view}

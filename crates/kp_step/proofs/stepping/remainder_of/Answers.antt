@@ -1,5 +1,5 @@
 use Rattle.std.proofs.Common.{rules, ◌≡◌, refl, [], ◌∷◌, None, map}
-use Rattle.kp_cases.specs.Parts.{whole}
+use Rattle.kp_case_laws.specs.Parts.{whole}
 use Rattle.kp_unify.specs.Views.{signature_of, numbered_view}
 use Rattle.kp_step.specs.Views.{numbered_views, turn_view}
 use Rattle.kp_step.proofs.EndLemmas.{all_left, ready_left, remainder_by}

@@ -15,7 +15,7 @@ returns-in-Instance c t used steps setting ready =
     let s = state_view c.args.state.now in
     c.from_state.ensures t used steps setting ready (subst (IsRightAnswerOf t.signature s s) c.in-Instance.is (answer_at t used s (signature_of c.args.setting) c.args.next c.in_ok-answer_of.field-0 steps.signature ready c.in_ok-answer_of.ensures))
 
-pub returns-in_ok-from_open-in-Open : goal.returns-in_ok-from_open-in-Open
-returns-in_ok-from_open-in-Open c t used steps setting ready =
+pub returns-in_ok-from_open-in-UndecidedClauses : goal.returns-in_ok-from_open-in-UndecidedClauses
+returns-in_ok-from_open-in-UndecidedClauses c t used steps setting ready =
     let s = state_view c.args.state.now in
-    c.in_ok-from_open-in-Open.ensures t used steps.signature ready.told (subst (IsRightAnswerOf t.signature s s) c.in-Open.is (answer_at t used s (signature_of c.args.setting) c.args.next c.in_ok-answer_of.field-0 steps.signature ready c.in_ok-answer_of.ensures))
+    c.in_ok-from_open-in-UndecidedClauses.ensures t used steps.signature ready.told (subst (IsRightAnswerOf t.signature s s) c.in-UndecidedClauses.is (answer_at t used s (signature_of c.args.setting) c.args.next c.in_ok-answer_of.field-0 steps.signature ready c.in_ok-answer_of.ensures))

@@ -1,8 +1,8 @@
 use Rattle.std.proofs.Common.{arith, sym, subst, ℕ, ◌+◌, ◌≤◌, map, length, get_or}
 use Rattle.std.proofs.lemmas.List.{get_or_default}
 use Rattle.std.specs.List.{AllZip}
-use Rattle.kp_cases.specs.Parts.{whole}
-use Rattle.kp_turns.specs.Turns.{rules_of}
+use Rattle.kp_case_laws.specs.Parts.{whole}
+use Rattle.kp_case_laws.specs.Turns.{rules_of}
 use Rattle.kp_step.specs.Found.{IsRuleAt}
 use Rattle.kp_step.specs.Answers.{TellsTurn}
 use Rattle.kp_step.specs.Views.{turn_view}

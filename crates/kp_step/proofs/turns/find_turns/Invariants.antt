@@ -2,7 +2,7 @@ use Rattle.std.proofs.Common.{List, map, take}
 use Rattle.kp_kore.specs.Syntax.{Text}
 use Rattle.kp_kore.specs.Theory.{Theory}
 use Rattle.kp_symbolic.specs.States.{SymbolicState}
-use Rattle.kp_cases.specs.Parts.{whole}
+use Rattle.kp_case_laws.specs.Parts.{whole}
 use Rattle.kp_unify.specs.Views.{numbered_view}
 use Rattle.kp_step.specs.Rules.{IsStepFrom}
 use Rattle.kp_step.specs.Found.{AreFound}

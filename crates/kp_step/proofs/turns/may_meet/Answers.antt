@@ -1,6 +1,6 @@
 use Rattle.std.proofs.Common.{◌≡◌, ◌∙◌, ap}
 use Rattle.kp_symbolic.specs.View.{clauses_view, state_view}
-use Rattle.kp_cases.specs.Parts.{with_clauses}
+use Rattle.kp_case_laws.specs.Parts.{with_clauses}
 use Rattle.kp_unify.specs.Views.{signature_of, numbered_view}
 use Rattle.kp_step.specs.Answers.{firing_model}
 use Rattle.kp_step.proofs.MeetLemmas.{whole_sorted}

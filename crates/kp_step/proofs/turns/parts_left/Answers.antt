@@ -1,6 +1,6 @@
 use Rattle.std.proofs.Common.{ap, map}
 use Rattle.kp_symbolic.specs.View.{state_view}
-use Rattle.kp_cases.specs.Parts.{whole}
+use Rattle.kp_case_laws.specs.Parts.{whole}
 use Rattle.kp_unify.specs.Views.{signature_of, numbered_view}
 use Rattle.kp_step.specs.Views.{numbered_views, turn_view}
 use Rattle.kp_step.proofs.TriedLemmas.{fires_at, form_here, left_told}

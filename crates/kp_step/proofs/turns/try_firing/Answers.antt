@@ -21,8 +21,8 @@ returns-in-Parts c t used s found k z all at i =
     let told = c.in_ok-parts.ensures t used s found k z all c.args.place f at i number c.in_ok-narrowed.ensures in
     c.turn_of.ensures t used s (map turn_view c.args.turns.now) found i.read f.part.part z (whole_sorted t.signature used s (numbered_view c.args.whole.now) k.whole) all (i.rule, i.at, i.body) number i.is_met (subst (TellsParts t used s c.args.place found f.part.part) c.in-Parts.is told)
 
-pub returns-in-Open : goal.returns-in-Open
-returns-in-Open c t used s found k z all at i =
+pub returns-in-UndecidedClauses : goal.returns-in-UndecidedClauses
+returns-in-UndecidedClauses c t used s found k z all at i =
     let f = firing_model c.args.firing in
     let told = c.in_ok-parts.ensures t used s found k z all c.args.place f at i (c.priority_at-priority.ensures t k.steps.runs) c.in_ok-narrowed.ensures in
-    open_told t used s c.args.place found f.part.part c.in-Open.told (subst (TellsParts t used s c.args.place found f.part.part) c.in-Open.is told)
+    open_told t used s c.args.place found f.part.part c.in-UndecidedClauses.told (subst (TellsParts t used s c.args.place found f.part.part) c.in-UndecidedClauses.is told)

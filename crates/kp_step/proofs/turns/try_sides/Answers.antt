@@ -4,8 +4,8 @@ use Rattle.kp_rules.specs.Skeletons.{skeleton_view}
 use Rattle.kp_rules.specs.Sides.{AreSidesOf}
 use Rattle.kp_rules.specs.VerifiedSides.{AreVerifiedSides}
 use Rattle.kp_unify.specs.Views.{signature_of, numbered_view}
-use Rattle.kp_firing.specs.Ready.{IsReadyPart}
-use Rattle.kp_firing.specs.Firings.{IsFired}
+use Rattle.kp_step.specs.ReadyParts.{IsReadyPart}
+use Rattle.kp_step.specs.Firings.{IsFired}
 use Rattle.kp_step.proofs.TriedLemmas.{left_at, is_fired, unmet_no_turn}
 use Rattle.kp_step.proofs.turns.try_sides.Goals as goal
 

@@ -1,6 +1,6 @@
 use Rattle.std.proofs.Common.{◌≡◌, ◌++◌, map, drop}
 use Rattle.kp_kore.specs.View.{view}
-use Rattle.kp_substitution.specs.Seen.{replacements_view}
+use Rattle.kp_pattern_substitution.specs.Seen.{replacements_view}
 use Rattle.kp_successors.specs.Choices.{ensured_with}
 use Rattle.kp_successors.proofs.chosen.ensured.Given as goal
 

@@ -4,7 +4,7 @@ use Rattle.kp_kore.specs.View.{sorted_variable_view}
 use Rattle.kp_signature.specs.View.{signature_view}
 use Rattle.kp_kore.specs.Instance.{is_named}
 use Rattle.kp_compile.specs.Names.{names_seen}
-use Rattle.kp_substitution.specs.Seen.{replacement_view, replacements_view}
+use Rattle.kp_pattern_substitution.specs.Seen.{replacement_view, replacements_view}
 use Rattle.kp_successors.specs.Nexts.{left_of, new_of}
 use Rattle.kp_successors.proofs.Spelling.{IsSpelled, names_of, all_named, left_named, put_added, put_passed, replaced_names, spell_all, spelled_added}
 use Rattle.kp_successors.proofs.left_replacements.left_replacements.Goals.{then-not-is_named+in_ok-replacement+in_ok-add, else-not-is_named}

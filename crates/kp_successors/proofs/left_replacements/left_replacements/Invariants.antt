@@ -1,7 +1,7 @@
 use Rattle.std.proofs.Common.{◌≡◌, ◌++◌, map, drop}
 use Rattle.std.specs.List.{AllByRecursion}
 use Rattle.kp_signature.specs.View.{signature_view}
-use Rattle.kp_substitution.specs.Seen.{replacements_view}
+use Rattle.kp_pattern_substitution.specs.Seen.{replacements_view}
 use Rattle.kp_kore.specs.View.{sorted_variable_view}
 use Rattle.kp_successors.specs.Nexts.{left_of, new_of}
 use Rattle.kp_successors.proofs.Spelling.{IsSpelled, names_of}

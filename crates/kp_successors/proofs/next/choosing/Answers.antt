@@ -2,7 +2,7 @@ use Rattle.std.proofs.Common.{◌≡◌, subst}
 use Rattle.std.proofs.lemmas.Result.{err_from_is_err_and}
 use Rattle.kp_kore.specs.View.{view, sort_view}
 use Rattle.kp_signature.specs.View.{signature_view}
-use Rattle.kp_substitution.specs.Seen.{replacements_view}
+use Rattle.kp_pattern_substitution.specs.Seen.{replacements_view}
 use Rattle.kp_successors.specs.Choices.{chosen_pattern}
 use Rattle.kp_successors.specs.Nexts.{new_of, ensured_of}
 use Rattle.kp_successors.proofs.Refused.{caused_by, from_evaluation}

@@ -5,7 +5,7 @@ use Rattle.kp_symbolic.specs.Terms.{unknown, offset, known, headed}
 use Rattle.kp_rules.specs.Skeletons.{forms_of}
 use Rattle.kp_symbolic.specs.View.{variable_view, term_view, terms_of}
 use Rattle.kp_symbolic.specs.declared.term.Term.{the_lemmas}
-use Rattle.kp_cases.specs.Rows.{HasMembers}
+use Rattle.kp_case_laws.specs.Rows.{HasMembers}
 use Rattle.kp_unify.specs.Clash.{AsksOtherHeadOf, AskOtherHeadsOf}
 use Rattle.kp_unify.specs.Forms.{form_view, members_view, IsAsked}
 use Rattle.kp_unify.proofs.ClashLemmas.{other_name, same_name, never_true, never_on_unknown, differs_on_value, differs_on_sum, differs_by_name_of, differs_by_members_of, other_number_of, TermsDiffer, terms_side_by_side, pair_more, pair_found, pair_none}

@@ -5,7 +5,7 @@ use Rattle.kp_kore.specs.View.{sort_view}
 use Rattle.kp_ground.specs.View.{value_view, values_of}
 use Rattle.kp_ground.specs.declared.value.Value.{the_lemmas}
 use Rattle.kp_rules.specs.Skeletons.{forms_of}
-use Rattle.kp_cases.specs.Rows.{HasMembers}
+use Rattle.kp_case_laws.specs.Rows.{HasMembers}
 use Rattle.kp_unify.specs.Clash.{AsksOtherHead, AskOtherHeads}
 use Rattle.kp_unify.specs.Forms.{form_view, members_view, IsAsked}
 use Rattle.kp_unify.specs.Literals.{IsLiteral}

@@ -5,9 +5,9 @@ use Rattle.kp_signature.specs.View.{signature_view}
 use Rattle.kp_symbolic.specs.Clauses.{is_too_large}
 use Rattle.kp_symbolic.specs.Opening.{opened_same}
 use Rattle.kp_symbolic.specs.View.{term_view, clauses_view}
-use Rattle.kp_distribution.specs.Distribution.{distribution_of}
-use Rattle.kp_distribution.specs.View.{distributed_view}
-use Rattle.kp_cases.specs.Courses.{Equality}
+use Rattle.kp_formulas.specs.Distribution.{distribution_of}
+use Rattle.kp_formulas.specs.DistributionView.{distributed_view}
+use Rattle.kp_case_laws.specs.Courses.{Equality}
 use Rattle.kp_unify.proofs.OpenedLemmas.{equal_is, equal_kept}
 use Rattle.kp_unify.proofs.literals.equal_clauses.Goals as goal
 

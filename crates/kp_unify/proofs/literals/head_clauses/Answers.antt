@@ -4,8 +4,8 @@ use Rattle.kp_symbolic.specs.Opening.{literal_fact, opened_test}
 use Rattle.kp_symbolic.specs.States.{has_head}
 use Rattle.kp_symbolic.specs.Terms.{unknown}
 use Rattle.kp_symbolic.specs.View.{variable_view, test_view}
-use Rattle.kp_distribution.specs.Distribution.{distribution_of}
-use Rattle.kp_distribution.specs.View.{distributed_view}
+use Rattle.kp_formulas.specs.Distribution.{distribution_of}
+use Rattle.kp_formulas.specs.DistributionView.{distributed_view}
 use Rattle.kp_unify.proofs.OpenedLemmas.{test_kept}
 use Rattle.kp_unify.proofs.literals.head_clauses.Goals as goal
 

@@ -1,6 +1,6 @@
 use Rattle.std.proofs.Common.{rules, ◌≡◌, ◌≤◌, length}
 use Rattle.kp_signature.specs.View.{signature_view}
-use Rattle.kp_cases.specs.Courses.{IsSortedEquality}
+use Rattle.kp_case_laws.specs.Courses.{IsSortedEquality}
 use Rattle.kp_unify.specs.Views.{equality_view}
 use Rattle.kp_unify.specs.Way.{IsPlacedEquality}
 use Rattle.kp_unify.proofs.PlacedLemmas.{one_more, all_past}

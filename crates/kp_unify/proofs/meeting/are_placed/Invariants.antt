@@ -1,8 +1,8 @@
 use Rattle.std.proofs.Common.{map, drop}
 use Rattle.std.specs.List.{AllByRecursion}
 use Rattle.kp_signature.specs.View.{signature_view}
-use Rattle.kp_cases.specs.Parts.{StatePart}
-use Rattle.kp_cases.specs.Courses.{IsSortedEquality}
+use Rattle.kp_case_laws.specs.Parts.{StatePart}
+use Rattle.kp_case_laws.specs.Courses.{IsSortedEquality}
 use Rattle.kp_unify.specs.Views.{equality_view}
 use Rattle.kp_unify.specs.Way.{IsPlacedEquality}
 use Rattle.kp_unify.proofs.meeting.are_placed.Given as goal

@@ -2,7 +2,7 @@ use Rattle.std.proofs.Common.{◌≡◌, sym, subst, map}
 use Rattle.std.specs.Prelude.{IfOk, MatchOption}
 use Rattle.kp_rules.specs.Skeletons.{skeleton_view}
 use Rattle.kp_symbolic.specs.View.{state_view}
-use Rattle.kp_cases.specs.Parts.{whole}
+use Rattle.kp_case_laws.specs.Parts.{whole}
 use Rattle.kp_unify.specs.Views.{signature_of, numbered_view, met_view}
 use Rattle.kp_unify.specs.Way.{IsMeetable, IsAllApart, IsMeeting}
 use Rattle.kp_unify.proofs.EndLemmas.{numbered_as}

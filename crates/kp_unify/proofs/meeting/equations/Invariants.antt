@@ -1,6 +1,6 @@
 use Rattle.std.proofs.Common.{◌≡◌, ◌++◌, map, drop}
 use Rattle.kp_symbolic.specs.View.{clauses_view}
-use Rattle.kp_cases.specs.Courses.{all_equality_clauses}
+use Rattle.kp_case_laws.specs.Courses.{all_equality_clauses}
 use Rattle.kp_unify.specs.Views.{signature_of, equality_view}
 use Rattle.kp_unify.proofs.meeting.equations.Given as goal
 

@@ -1,8 +1,8 @@
 use Rattle.std.proofs.Common.{rules, ◌≡◌, sym, subst, true, map}
 use Rattle.std.specs.List.{AllByRecursion}
 use Rattle.kp_symbolic.specs.View.{clauses_view}
-use Rattle.kp_cases.specs.Narrowings as model
-use Rattle.kp_cases.specs.Courses.{all_equality_clauses, IsSortedEquality}
+use Rattle.kp_case_laws.specs.Narrowings as model
+use Rattle.kp_case_laws.specs.Courses.{all_equality_clauses, IsSortedEquality}
 use Rattle.kp_unify.specs.Views.{signature_of, met_view, numbered_view, equality_view, stage_view}
 use Rattle.kp_unify.specs.Way.{IsPlacedEquality}
 use Rattle.kp_unify.proofs.EndLemmas.{ended_never, met_so}

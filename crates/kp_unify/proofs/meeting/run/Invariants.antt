@@ -1,7 +1,7 @@
 use Rattle.std.proofs.Common.{List}
 use Rattle.kp_kore.specs.Syntax.{Text}
 use Rattle.kp_rules.specs.Skeletons.{Form}
-use Rattle.kp_cases.specs.Parts.{StatePart}
+use Rattle.kp_case_laws.specs.Parts.{StatePart}
 use Rattle.kp_unify.specs.Views.{signature_of, stage_view, IsSetting}
 use Rattle.kp_unify.specs.Way.{IsGone}
 use Rattle.kp_unify.proofs.meeting.run.Given as goal

@@ -2,7 +2,7 @@ use Rattle.std.proofs.Common.{◌≡◌, sym, ◌∙◌, ap, subst, length, arit
 use Rattle.std.specs.Prelude.{IfOk, string_bytes}
 use Rattle.kp_symbolic.specs.Languages.{language_view}
 use Rattle.kp_symbolic.specs.View.{variable_view, clauses_view}
-use Rattle.kp_cases.specs.Narrowings.{are_never}
+use Rattle.kp_case_laws.specs.Narrowings.{are_never}
 use Rattle.kp_unify.proofs.NarrowedLemmas.{other_of_some, other_of_none, other_is_another}
 use Rattle.kp_unify.proofs.narrow.other_head.Goals as goal
 

@@ -5,7 +5,7 @@ use Rattle.kp_symbolic.specs.Terms.{unknown, offset, known, headed}
 use Rattle.kp_symbolic.specs.View.{variable_view, term_view, terms_of}
 use Rattle.kp_symbolic.specs.declared.term.Term.{the_lemmas}
 use Rattle.kp_rules.specs.Skeletons.{forms_of}
-use Rattle.kp_cases.specs.Rows.{HasMembers}
+use Rattle.kp_case_laws.specs.Rows.{HasMembers}
 use Rattle.kp_unify.specs.Forms.{members_view}
 use Rattle.kp_unify.specs.Replaced.{pair_of}
 use Rattle.kp_unify.specs.Views.{signature_of, stage_view}

@@ -6,7 +6,7 @@ use Rattle.kp_symbolic.specs.Terms.{unknown}
 use Rattle.kp_compile.specs.Spelled.{places_of}
 use Rattle.kp_symbolic.specs.Languages.{language_view}
 use Rattle.kp_symbolic.specs.View.{variable_view, variables_view, term_view, terms_of, clauses_view}
-use Rattle.kp_cases.specs.Narrowings.{all_unknown}
+use Rattle.kp_case_laws.specs.Narrowings.{all_unknown}
 use Rattle.kp_unify.specs.Names.{AreNextVariables}
 use Rattle.kp_unify.specs.Views.{numbered_view, course_view, stage_view}
 use Rattle.kp_unify.proofs.NarrowedLemmas.{constructor_record, next_length, map_length, listed_sorts, unknown_terms}

@@ -1,7 +1,7 @@
 use Rattle.std.proofs.Common.{rules, ◌≡◌, map}
 use Rattle.kp_symbolic.specs.Languages.{language_view}
 use Rattle.kp_symbolic.specs.View.{replaced_view}
-use Rattle.kp_readings.specs.Equations.{equation_view}
+use Rattle.kp_literals.specs.Equations.{equation_view}
 use Rattle.kp_unify.specs.Replaced.{binding_put, equality_put, pair_put}
 use Rattle.kp_unify.specs.Views.{part_view, pair_view, equality_view, course_view}
 use Rattle.kp_unify.proofs.ReplacedLemmas.{replaced_is}

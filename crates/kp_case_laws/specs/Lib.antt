@@ -1,0 +1,14 @@
+pub mod CaseLaws
+pub mod Cases
+pub mod Courses
+pub mod EndLaws
+pub mod Firing
+pub mod Narrowings
+pub mod NextStates
+pub mod Nexts
+pub mod Parts
+pub mod Rows
+pub mod RunLaws
+pub mod Runs
+pub mod TurnLaws
+pub mod Turns

@@ -1,8 +1,0 @@
-use Rattle.kp_cases.proofs.OnCourse.{on_goes, on_never}
-use Rattle.kp_cases.proofs.courses.a_pair_goes_on.Goals as goal
-
-pub returns-clause-asked : goal.returns-clause-asked
-returns-clause-asked c = on_goes
-
-pub returns-clause-never : goal.returns-clause-never
-returns-clause-never c = on_never

@@ -1,6 +1,0 @@
-use Rattle.kp_cases.specs.Cases.{left_side}
-use Rattle.kp_cases.proofs.CaseLemmas.{gives_valuation}
-use Rattle.kp_cases.proofs.laws.a_met_part_gives_the_rules_valuation.Goals as goal
-
-pub returns : goal.returns
-returns c = λ g left. gives_valuation g (left_side g left)

@@ -1,8 +1,0 @@
-use Rattle.kp_cases.proofs.NextLemmas.{next_found, next_follows}
-use Rattle.kp_cases.proofs.laws.a_rule_leads_to_its_next_state.Goals as goal
-
-pub returns-clause-found : goal.returns-clause-found
-returns-clause-found c = next_found
-
-pub returns-clause-only : goal.returns-clause-only
-returns-clause-only c = next_follows

@@ -1,7 +1,0 @@
-use Rattle.std.proofs.Common.{◌≡◌, ◌++◌, map, drop}
-use Rattle.kp_deciding.specs.Forms.{token_part_view}
-use Rattle.kp_choices.specs.Numbers.{all_tokens}
-use Rattle.kp_choices.proofs.unknowns.add_all_tokens.Given as goal
-
-abbrev pub invariant-loop-clause : goal.invariant-loop-clause
-invariant-loop-clause l = map token_part_view l.parts.items ++ all_tokens l.written (drop l.clause-index l.clauses) ≡ map token_part_view l.fn.parts.items ++ all_tokens l.written l.clauses

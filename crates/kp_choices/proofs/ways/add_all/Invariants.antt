@@ -1,6 +1,0 @@
-use Rattle.std.proofs.Common.{◌≡◌, ◌++◌}
-use Rattle.kp_choices.specs.Ways.{items_of_ways}
-use Rattle.kp_choices.proofs.ways.add_all.Given as goal
-
-abbrev pub invariant-loop-way : goal.invariant-loop-way
-invariant-loop-way l = items_of_ways l.ways.items ++ items_of_ways l.way-iterator.rest.items ≡ items_of_ways l.fn.ways.items ++ items_of_ways l.fn.more.items

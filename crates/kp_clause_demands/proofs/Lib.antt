@@ -1,0 +1,14 @@
+pub mod Agreeing
+pub mod AskedLemmas
+pub mod FormLemmas
+pub mod FromNumbers
+pub mod NameLemmas
+pub mod PlaceLemmas
+pub mod Placing
+pub mod Sides
+pub mod Sized
+pub mod ToNumbers
+pub mod Together
+pub mod TokenSorts
+pub mod WayLemmas
+pub mod Written

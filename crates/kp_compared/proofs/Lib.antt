@@ -1,3 +1,0 @@
-pub mod NameCounts
-pub mod SumLemmas
-pub mod WeightNames

@@ -1,5 +1,0 @@
-use Rattle.std.specs.Prelude.{⊤}
-use Rattle.kp_decide.proofs.heads.asks.Given as goal
-
-abbrev pub invariant-loop-literal : goal.invariant-loop-literal
-invariant-loop-literal l = ⊤

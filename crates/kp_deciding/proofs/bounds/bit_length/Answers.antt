@@ -1,5 +1,0 @@
-use Rattle.kp_deciding.proofs.LengthLemmas.{leading_is}
-use Rattle.kp_deciding.proofs.bounds.bit_length.Goals as goal
-
-pub returns : goal.returns
-returns c = leading_is c.args.number c.ranges.number.fits

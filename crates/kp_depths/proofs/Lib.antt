@@ -1,3 +1,0 @@
-pub mod Levels
-pub mod Listed
-pub mod Slotted

@@ -1,3 +1,0 @@
-pub mod Distribution
-pub mod Keys
-pub mod View

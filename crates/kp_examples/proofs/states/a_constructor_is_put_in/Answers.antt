@@ -1,0 +1,9 @@
+use Rattle.std.proofs.Common.{refl}
+use Rattle.kp_symbolic.specs.Solving.{finished, goes_on}
+use Rattle.kp_examples.proofs.states.a_constructor_is_put_in.Goals as goal
+
+pub returns-clause-read : goal.returns-clause-read
+returns-clause-read c = record { opened = _; is_opened = refl; solving = goes_on _ _ _ refl (finished _ refl) }
+
+pub returns-clause-other : goal.returns-clause-other
+returns-clause-other c = record { opened = _; is_opened = refl; solving = finished _ refl }

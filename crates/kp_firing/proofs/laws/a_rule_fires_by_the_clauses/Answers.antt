@@ -1,5 +1,0 @@
-use Rattle.kp_firing.proofs.Excluded.{fires_by_clauses}
-use Rattle.kp_firing.proofs.laws.a_rule_fires_by_the_clauses.Goals as goal
-
-pub returns : goal.returns
-returns c = fires_by_clauses

@@ -1,5 +1,0 @@
-use Rattle.kp_firing.proofs.Excluded.{excluded_by_opposite}
-use Rattle.kp_firing.proofs.laws.a_rule_is_excluded_by_the_opposite.Goals as goal
-
-pub returns : goal.returns
-returns c = excluded_by_opposite

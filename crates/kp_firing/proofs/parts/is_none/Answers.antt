@@ -1,7 +1,0 @@
-use Rattle.std.proofs.Common.{subst}
-use Rattle.kp_decide.specs.Answers.{IsRightAnswer}
-use Rattle.kp_firing.proofs.PartLemmas.{none_right}
-use Rattle.kp_firing.proofs.parts.is_none.Goals as goal
-
-pub returns-in-NoValuation : goal.returns-in-NoValuation
-returns-in-NoValuation c g s right none = none_right g s (subst (IsRightAnswer g s) c.in-NoValuation.is right)

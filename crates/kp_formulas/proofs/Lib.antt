@@ -1,0 +1,13 @@
+pub mod AgreeLemmas
+pub mod AlikeItself
+pub mod Counting
+pub mod DistributionLemmas
+pub mod FaultlessLemmas
+pub mod Firsts
+pub mod KeptLemmas
+pub mod KeyLemmas
+pub mod LeafLemmas
+pub mod QuestionLemmas
+pub mod SameLemmas
+pub mod SeenLemmas
+pub mod Sizes

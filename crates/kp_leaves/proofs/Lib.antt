@@ -1,4 +1,0 @@
-pub mod AgreeLemmas
-pub mod FaultlessLemmas
-pub mod LeafLemmas
-pub mod QuestionLemmas

@@ -1,0 +1,4 @@
+pub mod Calls
+pub mod Compared
+pub mod Told
+pub mod Wide

@@ -1,0 +1,11 @@
+pub mod BoundEnds
+pub mod BoundLemmas
+pub mod CallLemmas
+pub mod FormLemmas
+pub mod KindLemmas
+pub mod LengthLemmas
+pub mod NameLemmas
+pub mod ReadLemmas
+pub mod ResultSorts
+pub mod UnknownLemmas
+pub mod Unknowns

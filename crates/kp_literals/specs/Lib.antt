@@ -1,0 +1,10 @@
+pub mod Bounds
+pub mod Each
+pub mod Equations
+pub mod Forms
+pub mod Kinds
+pub mod Names
+pub mod Own
+pub mod Parts
+pub mod Readings
+pub mod Unknowns

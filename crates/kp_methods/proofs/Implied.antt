@@ -1,0 +1,163 @@
+-- Two ground terms of one sort imply one another exactly where their values are one; from what was read of a request of
+-- implies to its reply.
+use Rattle.std.proofs.Common.{◌≡◌, ◌≢◌, true, List, ℕ, [], ◌∷◌, Option, Some, None, Vec, refl, sym, ap, subst, ◌∙◌, inl}
+use Rattle.std.specs.Option.{option_map}
+use Rattle.std.specs.declared.alloc.Global.{Global}
+use Rattle.serde_json.specs.Data.{Data}
+use Rattle.kp_kore.specs.Syntax.{Text, KoreSort, KorePattern, variable, set_variable, application, string_literal, literal, top, bottom, negation, next, conjunction, disjunction, implication, equivalence, rewriting, exists, forall, ceil, floor, equals, membership, mu, nu}
+use Rattle.kp_kore.specs.Parts.{SortedName, is_term, free_variables}
+use Rattle.kp_kore.specs.Signature.{KoreSignature}
+use Rattle.kp_kore.specs.View.{sort_view}
+use Rattle.kp_kore.specs.Value.{Value, truth}
+use Rattle.kp_kore.specs.Instance.{Valuation, GivesSorts, IsInstance}
+use Rattle.kp_kore.specs.Rules.{top_binders, under_binders}
+use Rattle.kp_kore.specs.AtHand.{GivesAll, HasSome}
+use Rattle.kp_kore.specs.Implied.{Implied, DoesImply, HasCounterexample, IsOfSort, IsWitness, witnessed, IsRightImplied}
+use Rattle.kp_kore.specs.Implied as sides
+use Rattle.kp_kore.proofs.InstanceLemmas.{one_instance}
+use Rattle.kp_ground.specs.View.{value_view}
+use Rattle.kp_signature.specs.Places.{own_sort}
+use Rattle.kp_signature.specs.Verify.{VerifiesAs}
+use Rattle.kp_compile.specs.Spelled.{IsGroundState}
+use Rattle.kp_compile.specs.declared.state.GroundState.{GroundState}
+use Rattle.kp_rpc.specs.Reply.{reply_bytes, result_reply}
+use Rattle.kp_replies.specs.Written.{implied_tree}
+use Rattle.kp_rpc.specs.Request.{RequestId}
+use Rattle.kp_rpc.specs.declared.fault.StateFault.TheVariants as fault
+use Rattle.kp_methods.specs.Ends.{IsStateAt}
+use Rattle.kp_methods.specs.ServedTheory.{IsElsewhere, ServedTheory}
+use Rattle.kp_methods.specs.Untold.{IsImpliesUntold, asked_elsewhere, no_antecedent, no_consequent, other_sorts}
+use Rattle.kp_methods.specs.Sides.{AreCompared, result_at}
+use Rattle.kp_methods.specs.declared.failure.PatternFailure.TheVariants as failure
+
+-- ---- ground terms
+
+some_valuation : Valuation
+some_valuation x = truth true
+
+-- a term binds nothing
+pub record BindsNothing (p : KorePattern) : Type 0 where
+  pub variables : top_binders p ≡ []
+  pub body : under_binders p ≡ p
+
+pub binds_nothing : (p : KorePattern) → is_term p ≡ true → BindsNothing p
+binds_nothing (variable x s) h = record { variables = refl; body = refl }
+binds_nothing (set_variable x s) h = record { variables = refl; body = refl }
+binds_nothing (application f ss ps) h = record { variables = refl; body = refl }
+binds_nothing (string_literal t) h = record { variables = refl; body = refl }
+binds_nothing (literal s t) h = record { variables = refl; body = refl }
+binds_nothing (top s) h = record { variables = refl; body = refl }
+binds_nothing (bottom s) h = record { variables = refl; body = refl }
+binds_nothing (negation s q) h = record { variables = refl; body = refl }
+binds_nothing (next s q) h = record { variables = refl; body = refl }
+binds_nothing (conjunction s qs) h = record { variables = refl; body = refl }
+binds_nothing (disjunction s qs) h = record { variables = refl; body = refl }
+binds_nothing (implication s q r) h = record { variables = refl; body = refl }
+binds_nothing (equivalence s q r) h = record { variables = refl; body = refl }
+binds_nothing (rewriting s q r) h = record { variables = refl; body = refl }
+binds_nothing (exists s x t q) h = absurd (cc h)
+binds_nothing (forall s x t q) h = record { variables = refl; body = refl }
+binds_nothing (ceil a s q) h = record { variables = refl; body = refl }
+binds_nothing (floor a s q) h = record { variables = refl; body = refl }
+binds_nothing (equals a s q r) h = record { variables = refl; body = refl }
+binds_nothing (membership a s q r) h = record { variables = refl; body = refl }
+binds_nothing (mu x s q) h = record { variables = refl; body = refl }
+binds_nothing (nu x s q) h = record { variables = refl; body = refl }
+
+-- its only instance is its value
+value_of : (g : KoreSignature) (p : KorePattern) (s : KoreSort) (u : Value) → IsGroundState g p s u → (v : Valuation) (x : Value) → IsInstance g v p x → x ≡ u
+value_of g p s u h v x i = (one_instance g v p x h.term).0 i ∙ h.meant v
+
+has_value : (g : KoreSignature) (p : KorePattern) (s : KoreSort) (u : Value) → IsGroundState g p s u → (v : Valuation) (x : Value) → x ≡ u → IsInstance g v p x
+has_value g p s u h v x e = (one_instance g v p x h.term).1 (e ∙ sym (h.meant v))
+
+gives_none : (g : KoreSignature) (v : Valuation) (xs : List SortedName) → xs ≡ [] → GivesSorts g v xs
+gives_none g v xs e = subst (GivesSorts g v) (sym e) tt
+
+gives_both : (g : KoreSignature) (a c : KorePattern) (s t : KoreSort) (u w : Value) → IsGroundState g a s u → IsGroundState g c t w → (v : Valuation) → GivesAll g (a ∷ c ∷ []) v
+gives_both g a c s t u w ha hc v = (gives_none g v (free_variables a) ha.closed, (gives_none g v (free_variables c) hc.closed, tt))
+
+-- a term's own sort is the sort of its one term
+of_own_sort : (g : KoreSignature) (p : KorePattern) (s : KoreSort) → is_term p ≡ true → own_sort g p ≡ Some s → IsOfSort g s p
+of_own_sort g (variable x k) s t e = inl e
+of_own_sort g (literal k text) s t e = inl e
+of_own_sort g (application f ss ps) s t e = rw t (inl e)
+of_own_sort g _ s t e = absurd (cc)
+
+has_instance : (g : KoreSignature) (a c : KorePattern) (s t : KoreSort) (u w : Value) → IsGroundState g a s u → IsGroundState g c t w → HasSome g (c ∷ []) a
+has_instance g a c s t u w ha hc = record {
+  valuation = some_valuation;
+  configuration = u;
+  given = gives_both g a c s t u w ha hc some_valuation;
+  met = has_value g a s u ha some_valuation u refl;
+  such = tt;
+}
+
+does_imply : (g : KoreSignature) (a c : KorePattern) (s : KoreSort) (u : Value) → IsGroundState g a s u → IsGroundState g c s u → DoesImply g a c
+does_imply g a c s u ha hc v x given i = has_value g c s u hc v x (value_of g a s u ha v x i)
+
+-- \top tells the values of no variables
+witness : (g : KoreSignature) (a c : KorePattern) (s : KoreSort) (u : Value) → IsGroundState g a s u → IsGroundState g c s u → IsWitness g a c (top s)
+witness g a c s u ha hc =
+    let none = binds_nothing c hc.term in
+    record {
+      chosen = λ v x given i. (v, record { agrees = λ y e. refl; sorts = gives_none g v (top_binders c) none.variables }, tt);
+      met = λ v x given i w chooses t. subst (λ (q : KorePattern). IsInstance g w q x) (sym none.body) (has_value g c s u hc w x (value_of g a s u ha v x i));
+    }
+
+-- where both have the value, the antecedent implies the consequent
+pub valid_is_right : (g : KoreSignature) (a c : KorePattern) (s : KoreSort) (u : Value) → IsOfSort g s a → IsGroundState g a s u → IsGroundState g c s u → IsRightImplied g a c (sides.valid (top s) (top s))
+valid_is_right g a c s u sorted ha hc = (
+  does_imply g a c s u ha hc,
+  witnessed s sorted (has_instance g a c s s u u ha hc) refl (witness g a c s u ha hc) (λ none. refl),
+)
+
+-- where they differ, the antecedent's value is a counterexample
+pub not_valid_is_right : (g : KoreSignature) (a c : KorePattern) (s t : KoreSort) (u w : Value) → IsGroundState g a s u → IsGroundState g c t w → u ≢ w → HasCounterexample g a c
+not_valid_is_right g a c s t u w ha hc apart = record {
+  valuation = some_valuation;
+  configuration = u;
+  given = gives_both g a c s t u w ha hc some_valuation;
+  met = has_value g a s u ha some_valuation u refl;
+  such = λ i. apart (value_of g c t w hc some_valuation u i);
+}
+
+-- ---- results
+
+-- the sort that is verified is that of the side's term
+pub sort_of_side : (g : KoreSignature) (p : KorePattern) (sort : KoreSort) (a : GroundState) → VerifiesAs g p sort → IsStateAt g p sort a → IsOfSort g (sort_view a.sort) p
+sort_of_side g p sort a verifies at = subst (λ (s : KoreSort). IsOfSort g s p) (sym at.sort_is) (of_own_sort g p sort (at.ground verifies).term verifies.1)
+
+-- the state of a side is its value
+pub ground_of : (g : KoreSignature) (p : KorePattern) (sort : KoreSort) (a : GroundState) → VerifiesAs g p sort → IsStateAt g p sort a → IsGroundState g p (sort_view a.sort) (value_view a.value)
+ground_of g p sort a verifies at = at.ground verifies
+
+pub right_result : (g : KoreSignature) (p q : KorePattern) (a c : GroundState) (o : Option KoreSort) → IsOfSort g (sort_view a.sort) p → IsGroundState g p (sort_view a.sort) (value_view a.value) → IsGroundState g q (sort_view c.sort) (value_view c.value)
+    → AreCompared a c o → IsRightImplied g p q (result_at o)
+right_result g p q a c None sorted x y k = not_valid_is_right g p q (sort_view a.sort) (sort_view c.sort) (value_view a.value) (value_view c.value) x y k.compared
+right_result g p q a c (Some at) sorted x y k =
+    let there : IsGroundState g q (sort_view a.sort) (value_view c.value) = subst (λ (t : KoreSort). IsGroundState g q t (value_view c.value)) (sym k.same_sort) y in
+    let same : IsGroundState g q (sort_view a.sort) (value_view a.value) = subst (λ (w : Value). IsGroundState g q (sort_view a.sort) w) (sym k.compared.1) there in
+    subst (λ (t : KoreSort). IsRightImplied g p q (sides.valid (top t) (top t))) (sym k.compared.0) (valid_is_right g p q (sort_view a.sort) (value_view a.value) sorted x same)
+
+pub is_told : (s : ServedTheory) (name : Option Text) (p q : KorePattern) (sort other : KoreSort) (a c : GroundState) → ¬ IsElsewhere s.main name
+    → IsStateAt s.theory.signature p sort a → IsStateAt s.theory.signature q other c → sort_view a.sort ≡ sort_view c.sort → ¬ IsImpliesUntold s name p q sort other
+is_told s name p q sort other a c here x y same (asked_elsewhere z) = here z
+is_told s name p q sort other a c here x y same (no_antecedent z) = x.shape z
+is_told s name p q sort other a c here x y same (no_consequent z) = y.shape z
+is_told s name p q sort other a c here x y same (other_sorts z) = z (sym x.sort_is ∙ (same ∙ y.sort_is))
+
+-- ---- lines of results
+
+result_tree_of : (o : Option KoreSort) → (tree : Data) × (implied_tree (result_at o) ≡ Some tree)
+result_tree_of None = (_, refl)
+result_tree_of (Some sort) = (_, refl)
+
+pub has_line : (id : RequestId) (o : Option KoreSort) (r : Implied) (x : Option (Vec ℕ Global)) → r ≡ result_at o
+    → option_map (λ (b : Vec ℕ Global). b.items) x ≡ option_map (λ (t : Data). reply_bytes (result_reply id t)) (implied_tree r) → x ≡ None → ⊥
+has_line id o r x same told none =
+    let t = result_tree_of o in
+    let line : option_map (λ (b : Vec ℕ Global). b.items) x ≡ Some (reply_bytes (result_reply id t.0)) =
+    told ∙ (ap (λ (y : Implied). option_map (λ (d : Data). reply_bytes (result_reply id d)) (implied_tree y)) same ∙ ap (option_map (λ (d : Data). reply_bytes (result_reply id d))) t.1) in
+    let both : None ≡ Some (reply_bytes (result_reply id t.0)) = sym (ap (option_map (λ (b : Vec ℕ Global). b.items)) none) ∙ line in
+    absurd (cc both)

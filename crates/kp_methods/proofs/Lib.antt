@@ -1,0 +1,8 @@
+pub mod Ended
+pub mod ExecutedEnds
+pub mod ExecutedLines
+pub mod Implied
+pub mod Implying
+pub mod Runs
+pub mod SimplifiedLines
+pub mod Sorts

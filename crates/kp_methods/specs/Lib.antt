@@ -1,0 +1,13 @@
+pub mod Ends
+pub mod Executed
+pub mod ExecutedByValues
+pub mod ExecutedLines
+pub mod Implied
+pub mod ImpliedLines
+pub mod Normal
+pub mod Prepared
+pub mod RightResults
+pub mod ServedTheory
+pub mod Sides
+pub mod Simplified
+pub mod Untold

@@ -1,4 +1,0 @@
-pub mod Firsts
-pub mod SameLemmas
-pub mod SeenLemmas
-pub mod Sizes

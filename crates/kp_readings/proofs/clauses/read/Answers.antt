@@ -1,4 +1,0 @@
-use Rattle.kp_readings.proofs.clauses.read.Goals as goal
-
-pub returns-clause-kinds : goal.returns-clause-kinds
-returns-clause-kinds c g h = h

@@ -1,7 +1,0 @@
-use Rattle.std.proofs.Common.{◌≡◌, map, drop}
-use Rattle.kp_symbolic.specs.Plain.{is_plain_clause}
-use Rattle.kp_deciding.specs.Readings.{read_view}
-use Rattle.kp_readings.proofs.parts.is_plain.Given as goal
-
-abbrev pub invariant-loop-literal : goal.invariant-loop-literal
-invariant-loop-literal l = is_plain_clause (map read_view l.clause) ≡ is_plain_clause (map read_view (drop l.literal-index l.clause))

@@ -1,5 +1,0 @@
-pub mod Each
-pub mod Equations
-pub mod Names
-pub mod Own
-pub mod Parts

@@ -1,5 +1,0 @@
-use Rattle.kp_replacing.proofs.StateLemmas.{substituted_instance}
-use Rattle.kp_replacing.proofs.laws.substituted_states_have_the_instances.Goals as goal
-
-pub returns : goal.returns
-returns c = substituted_instance

@@ -1,0 +1,5 @@
+use Rattle.std.proofs.Common.{ℕ, take, Contains}
+use Rattle.kp_rules.proofs.splits.has_all.Given as goal
+
+abbrev pub invariant-loop-number : goal.invariant-loop-number
+invariant-loop-number l = (j : ℕ) → Contains (take l.number-index l.numbers) j → Contains l.found.keys j

@@ -1,5 +1,0 @@
-pub mod AloneLemmas
-pub mod IndexLemmas
-pub mod InjectLemmas
-pub mod MarkLemmas
-pub mod SplitLemmas

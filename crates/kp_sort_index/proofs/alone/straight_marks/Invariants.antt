@@ -1,6 +1,0 @@
-use Rattle.std.proofs.Common.{◌≡◌, length}
-use Rattle.kp_sort_index.specs.Index.{AreStraightBy}
-use Rattle.kp_sort_index.proofs.alone.straight_marks.Given as goal
-
-abbrev pub invariant-loop-number : goal.invariant-loop-number
-invariant-loop-number l = (length l.marks.items ≡ l.number) × AreStraightBy l.below l.narrow l.marks.items

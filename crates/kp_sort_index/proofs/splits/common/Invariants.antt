@@ -1,5 +1,0 @@
-use Rattle.std.proofs.Common.{ℕ, ◌↔◌, take, Contains}
-use Rattle.kp_sort_index.proofs.splits.common.Given as goal
-
-abbrev pub invariant-loop-number : goal.invariant-loop-number
-invariant-loop-number l = (j : ℕ) → Contains l.found.keys j ↔ (Contains (take l.number-index l.numbers) j × Contains l.others.keys j)

@@ -1,0 +1,5 @@
+use Rattle.kp_step.proofs.ImpliedLemmas.{never_through}
+use Rattle.kp_step.proofs.call_equalities.never_further.Goals as goal
+
+pub returns : goal.returns
+returns c = never_through c.args.setting c.args.state c.in_ok-all.all c.is_empty.result c.in_ok-all.ensures c.is_empty.ensures

@@ -1,0 +1,109 @@
+// Whether parts have instances, and what is shown where that isn't decided.
+ghost use Rattle.std.specs.Prelude.{IfOk};
+ghost use Rattle.kp_symbolic.specs.States.{SymbolicState};
+ghost use Rattle.kp_symbolic.specs.View.{state_view};
+ghost use Rattle.kp_satisfiability.specs.Read.{HasSortedClauses};
+ghost use Rattle.kp_unify.specs.Views.{signature_of, HasItsTable};
+ghost use Rattle.kp_step.specs.Views.{numbered_views};
+ghost use Rattle.kp_step.specs.Answers.{IsRightUndecided, ShowsOf, IsRightAnswerOf};
+ghost use Rattle.kp_step.specs.Promises.{DecidesParts};
+
+use crate::counted_variables::told_within;
+use kp_limits::Weighed;
+use kp_literals::clauses::read_clauses;
+use kp_literals::plain_clauses::rough_clauses;
+use kp_satisfiability::{Verdict, decide};
+use kp_symbolic::{Clause, State};
+use kp_unify::{Part, Setting};
+use std::alloc::{AllocError, Global};
+
+/// Clauses that aren't decided, with the weight that is passed, if one is.
+#[derive(Drop)]
+pub struct UndecidedClauses {
+    pub shown: Vec<Clause>,
+    pub over: Option<Weighed>,
+}
+
+/// Whether a part has an instance.
+#[derive(Drop)]
+pub enum PartAnswer {
+    Instance,
+    Nothing,
+    UndecidedClauses { told: UndecidedClauses },
+}
+
+/// Parts each of which has an instance, or what is left open of one.
+#[derive(Drop)]
+pub enum Decided {
+    Parts { parts: Vec<Part> },
+    UndecidedClauses { told: UndecidedClauses },
+}
+
+/// What is shown where clauses of a part of the state aren't decided: where a weight is passed, the state's own that have
+/// literals which aren't decided, if there are any.
+fn shown_of(
+    alloc: Global,
+    setting: Setting<'_>,
+    state: &State,
+    told: UndecidedClauses,
+) -> Result<UndecidedClauses, AllocError>
+    ensures { let g = signature_of setting.entry in IfOk result (λ o. (p : SymbolicState) → IsRightUndecided g p told → ShowsOf g (state_view state.now) p o) }
+{
+    if told.over.is_none() {
+        return Ok(told);
+    }
+    let shown = rough_clauses(
+        alloc,
+        &read_clauses(alloc, setting.language.signature, state)?,
+    )?;
+    if shown.is_empty() {
+        return Ok(told);
+    }
+    Ok(UndecidedClauses { shown, over: None })
+}
+
+/// Whether a part of the state has an instance.
+pub fn answer_of(
+    alloc: Global,
+    setting: Setting<'_>,
+    state: &State,
+    part: &State,
+) -> Result<PartAnswer, AllocError>
+    requires { HasItsTable setting }
+    ensures { let g = signature_of setting.entry in let p = state_view part.now in IfOk result (λ a. HasSortedClauses g p → IsRightAnswerOf g (state_view state.now) p a) }
+{
+    match decide(alloc, setting.language.signature, setting.table, part)? {
+        Verdict::SomeValuation => Ok(PartAnswer::Instance),
+        Verdict::NoValuation => Ok(PartAnswer::Nothing),
+        Verdict::Undecided { shown, over } => {
+            let told = shown_of(alloc, setting, state, UndecidedClauses { shown, over })?;
+            Ok(PartAnswer::UndecidedClauses { told })
+        }
+    }
+}
+
+/// The parts of these that have an instance; what is left open of the first of which that isn't decided. With a weight, that compares no
+/// more whole-number variables than so many.
+pub fn decided_parts(
+    alloc: Global,
+    setting: Setting<'_>,
+    state: &State,
+    most: usize,
+    parts: Vec<Part>,
+) -> Result<Decided, AllocError>
+    requires { HasItsTable setting }
+    ensures { IfOk result (DecidesParts (signature_of setting.entry) (state_view state.now) most (numbered_views parts.items)) }
+{
+    let mut found = Vec::new(alloc);
+    for part in parts {
+        match answer_of(alloc, setting, state, &part.state)? {
+            PartAnswer::Instance => found.push(part)?,
+            PartAnswer::Nothing => {}
+            PartAnswer::UndecidedClauses { told } => {
+                let told = told_within(alloc, setting, most, &part.state, told)?;
+                return Ok(Decided::UndecidedClauses { told });
+            }
+        }
+    }
+    Ok(Decided::Parts { parts: found })
+}

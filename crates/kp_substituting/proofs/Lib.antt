@@ -1,4 +1,0 @@
-pub mod ClauseLemmas
-pub mod InstanceLemmas
-pub mod SortedLemmas
-pub mod StateLemmas

@@ -1,5 +1,0 @@
-use Rattle.kp_substituting.proofs.SortedLemmas.{sorted_kept}
-use Rattle.kp_substituting.proofs.laws.a_state_with_terms_in_place_of_variables_keeps_its_sorts.Goals as goal
-
-pub returns : goal.returns
-returns c = sorted_kept

@@ -1,8 +1,0 @@
-use Rattle.kp_turns.proofs.LoneRule.{leads_on, has_turn_alone}
-use Rattle.kp_turns.proofs.laws.a_rule_alone_leads_on.Goals as goal
-
-pub returns-clause-leads : goal.returns-clause-leads
-returns-clause-leads c = leads_on
-
-pub returns-clause-turn : goal.returns-clause-turn
-returns-clause-turn c = has_turn_alone

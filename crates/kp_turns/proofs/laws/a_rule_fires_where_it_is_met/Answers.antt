@@ -1,8 +1,0 @@
-use Rattle.kp_turns.proofs.FiringLemmas.{fires_where_met, fires_nowhere_else}
-use Rattle.kp_turns.proofs.laws.a_rule_fires_where_it_is_met.Goals as goal
-
-pub returns-clause-met : goal.returns-clause-met
-returns-clause-met c = fires_where_met
-
-pub returns-clause-apart : goal.returns-clause-apart
-returns-clause-apart c = fires_nowhere_else

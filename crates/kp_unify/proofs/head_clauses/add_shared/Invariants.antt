@@ -1,0 +1,20 @@
+use Rattle.std.proofs.Common.{◌≡◌, ◌++◌, map, length, true, ◌&&◌}
+use Rattle.std.specs.List.{filter}
+use Rattle.kp_kore.specs.Signature.{is_head, heads_of}
+use Rattle.kp_kore.specs.View.{sort_view}
+use Rattle.kp_signature.specs.View.{signature_view}
+use Rattle.kp_symbolic.specs.Heads.{passes_head}
+use Rattle.kp_sort_heads.specs.Views.{left_of}
+use Rattle.kp_symbolic.specs.View.{variable_view, test_view, literal_view}
+use Rattle.kp_case_laws.specs.Narrowings.{tested}
+use Rattle.kp_unify.proofs.head_clauses.add_shared.Given as goal
+
+-- what was found, and what is left of the heads
+abbrev pub invariant-loop-head : goal.invariant-loop-head
+invariant-loop-head l =
+    let g = signature_view l.signature in
+    let x = variable_view l.variable.value in
+    (map literal_view l.found.items ++ map (tested g true x) (filter (λ h. is_head g (sort_view l.sort) h && passes_head g (test_view l.test) h) (left_of l.left)) ≡ map literal_view l.fn.found.items ++ map (tested g true x) (filter (λ h. is_head g (sort_view l.sort) h && passes_head g (test_view l.test) h) (heads_of g x.sort))) × (l.left.signature.now ≡ l.signature)
+
+abbrev pub decreases-loop-head : goal.decreases-loop-head
+decreases-loop-head l = length (left_of l.left)

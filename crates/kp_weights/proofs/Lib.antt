@@ -1,4 +1,0 @@
-pub mod NameLemmas
-pub mod OverLemmas
-pub mod ToldLemmas
-pub mod WeightLemmas

@@ -1,5 +1,0 @@
-use Rattle.kp_weights.proofs.WeightLemmas.{LiteralsLeft}
-use Rattle.kp_weights.proofs.weight.clause_length.Given as goal
-
-abbrev pub invariant-loop-literal : goal.invariant-loop-literal
-invariant-loop-literal l = LiteralsLeft l.clause l.literal-index l.length

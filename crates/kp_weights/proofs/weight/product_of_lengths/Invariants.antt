@@ -1,5 +1,0 @@
-use Rattle.kp_weights.proofs.WeightLemmas.{ChoicesLeft}
-use Rattle.kp_weights.proofs.weight.product_of_lengths.Given as goal
-
-abbrev pub invariant-loop-clause : goal.invariant-loop-clause
-invariant-loop-clause l = ChoicesLeft l.clauses l.clause-index l.product
